@@ -1,2 +1,3 @@
+pub mod Target
+pub mod Texts
 pub mod Types
-pub mod Names

@@ -6,7 +6,7 @@
 
 ghost use Rattle.std.specs.Prelude.{◌≡◌, ◌≢◌, ◌*◌, ◌↔◌, ℕ, Some, None, IsTrue, SomeIff, List};
 ghost use Rattle.clif_types.specs.Types.{int_of, lane_bits_of, lanes_of, bits_of, bytes_of, lane_type_of, lane_count_of, is_int, is_vector, is_type, least_of, greatest_of};
-ghost use Rattle.clif_types.specs.Names.{lane_text, type_text};
+ghost use Rattle.clif_types.specs.Texts.{lane_text, type_text};
 
 use std::fmt;
 
