@@ -1,5 +1,5 @@
 -- The texts of types and of plain data, as the printer writes them.
-use Rattle.std.specs.Prelude.{◌++◌, List, ℕ, codes}
+use Rattle.std.specs.Prelude.{◌++◌, ◌==◌, List, [], ℕ, Option, Some, None, codes, if◌then◌else◌}
 use Rattle.std.specs.Fmt.{decimal}
 use Rattle.clif_types.specs.declared.types.LaneType.{LaneType}
 use Rattle.clif_types.specs.declared.types.LaneType.TheVariants as lane
@@ -18,6 +18,15 @@ use Rattle.clif_types.specs.declared.extname.UserFuncName.TheVariants as func_na
 use Rattle.clif_types.specs.declared.extname.ExternalName.{ExternalName}
 use Rattle.clif_types.specs.declared.extname.ExternalName.TheVariants as name
 use Rattle.clif_types.specs.declared.extname.UserExternalName.{UserExternalName}
+use Rattle.clif_types.specs.declared.error.BuildError.{BuildError}
+use Rattle.clif_types.specs.declared.error.BuildError.TheVariants as build_error
+use Rattle.clif_types.specs.declared.globalvalue.GlobalValueData.{GlobalValueData}
+use Rattle.clif_types.specs.declared.globalvalue.GlobalValueData.TheVariants as global
+use Rattle.clif_types.specs.declared.extfunc.AbiParam.{AbiParam}
+use Rattle.clif_types.specs.declared.extfunc.ExtFuncData.{ExtFuncData}
+use Rattle.clif_types.specs.declared.stackmap.UserStackMapEntry.{UserStackMapEntry}
+use Rattle.clif_types.specs.StackSlot.{StackSlotShape, align_of}
+use Rattle.clif_types.specs.MemFlags.{MemFlagsShape}
 use Rattle.clif_types.specs.Types.{lanes_of}
 
 -- `i8`, `f32`
@@ -87,5 +96,40 @@ user_func_name_text (func_name.Testcase text) = testcase_text text
 -- the name of an imported function or symbol, `%Memcpy` for one of the C library
 abbrev pub external_name_text : ExternalName → List ℕ
 external_name_text (name.User n) = user_external_name_text n
-external_name_text (name.Testcase text) = testcase_text text
+external_name_text (name.TestCase text) = testcase_text text
 external_name_text (name.LibCall c) = codes "%" ++ lib_call_text c
+
+-- a parameter is shown by its type
+abbrev pub abi_param_text : AbiParam → List ℕ
+abi_param_text p = type_text p.value_type
+
+-- what an imported function's line says after `=`
+abbrev pub ext_func_text : ExtFuncData → List ℕ
+ext_func_text x = (if x.colocated then codes "colocated " else []) ++ (if x.patchable then codes "patchable " else []) ++ external_name_text x.name ++ codes " sig" ++ decimal x.signature
+
+-- the alignment is left out where it is 1
+abbrev pub stack_slot_text : StackSlotShape → List ℕ
+stack_slot_text s = codes "explicit_slot " ++ decimal s.size ++ (if s.align_shift == 0 then [] else codes ", align = " ++ decimal (align_of s))
+
+-- what a global value's line says after `=`
+abbrev pub global_value_text : GlobalValueData → List ℕ
+global_value_text global.VMContext = codes "vmctx"
+global_value_text (global.Symbol n) = codes "symbol " ++ external_name_text n
+
+-- each flag after a space, in this order
+abbrev pub mem_flags_text : MemFlagsShape → List ℕ
+mem_flags_text m = (if m.notrap then codes " notrap" else []) ++ (if m.aligned then codes " aligned" else []) ++ region_text m.alias_region
+  where
+    region_text : Option ℕ → List ℕ
+    region_text None = []
+    region_text (Some r) = codes " region" ++ decimal r
+
+-- `i32 @ ss0+0`
+abbrev pub stack_map_entry_text : UserStackMapEntry → List ℕ
+stack_map_entry_text e = type_text e.ty ++ codes " @ ss" ++ decimal e.slot ++ codes "+" ++ decimal e.offset
+
+-- the texts of refusals
+abbrev pub build_error_text : BuildError → List ℕ
+build_error_text build_error.Memory = codes "no memory"
+build_error_text build_error.Full = codes "table full"
+build_error_text build_error.Failed = codes "failed before"

@@ -132,7 +132,7 @@ impl fmt::Display for UserFuncName {
 #[derive(Debug, Drop)]
 pub enum ExternalName {
     User(UserExternalName),
-    Testcase(TestcaseName),
+    TestCase(TestcaseName),
     /// A function of the C library. It prints as `%Memcpy`.
     LibCall(LibCall),
 }
@@ -147,9 +147,9 @@ impl ExternalName {
 
     /// The name by a text, as `%sample`.
     pub fn testcase(text: String) -> ExternalName
-        ensures { result ≡ ExternalName.Testcase (string_bytes text) }
+        ensures { result ≡ ExternalName.TestCase (string_bytes text) }
     {
-        ExternalName::Testcase(TestcaseName::new(text))
+        ExternalName::TestCase(TestcaseName::new(text))
     }
 }
 
@@ -159,7 +159,7 @@ impl Clone for ExternalName {
     fn clone(&self) -> Result<ExternalName, AllocError> {
         match self {
             ExternalName::User(name) => Ok(ExternalName::User(*name)),
-            ExternalName::Testcase(name) => Ok(ExternalName::Testcase(name.clone()?)),
+            ExternalName::TestCase(name) => Ok(ExternalName::Testcase(name.clone()?)),
             ExternalName::LibCall(call) => Ok(ExternalName::LibCall(*call)),
         }
     }
@@ -171,7 +171,7 @@ impl fmt::Display for ExternalName {
     fn fmt<W: fmt::Write>(&self, f: &mut fmt::Formatter<W>) -> fmt::Result {
         match self {
             ExternalName::User(name) => write!(f, "{name}"),
-            ExternalName::Testcase(name) => write!(f, "{name}"),
+            ExternalName::TestCase(name) => write!(f, "{name}"),
             ExternalName::LibCall(call) => write!(f, "%{call}"),
         }
     }

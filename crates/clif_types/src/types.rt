@@ -226,6 +226,20 @@ impl fmt::Display for Type {
     }
 }
 
+/// As Cranelift writes it: `types::I8X16`.
+impl fmt::Debug for Type {
+    fn fmt<W: fmt::Write>(&self, f: &mut fmt::Formatter<W>) -> fmt::Result {
+        match self {
+            Type::Invalid => f.write_str("types::INVALID"),
+            Type::Lane(lane) => write!(f, "types::{lane:?}"),
+            Type::Vector(lane, count) => {
+                let lanes = count.lanes();
+                write!(f, "types::{lane:?}X{lanes}")
+            }
+        }
+    }
+}
+
 /// No type: it stands where an instruction has no controlling type.
 pub const INVALID: Type = Type::Invalid;
 
