@@ -159,7 +159,7 @@ impl Clone for ExternalName {
     fn clone(&self) -> Result<ExternalName, AllocError> {
         match self {
             ExternalName::User(name) => Ok(ExternalName::User(*name)),
-            ExternalName::TestCase(name) => Ok(ExternalName::Testcase(name.clone()?)),
+            ExternalName::TestCase(name) => Ok(ExternalName::TestCase(name.clone()?)),
             ExternalName::LibCall(call) => Ok(ExternalName::LibCall(*call)),
         }
     }
