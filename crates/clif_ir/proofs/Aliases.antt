@@ -139,32 +139,37 @@ follow-set values v target node steps u leads inside v_inside v_none target_none
   where
     at_v : alias_of (set values v node) v ≡ Some target
     at_v = alias_of-set_same values v node v_inside ∙ is_target
+
     at_target : alias_of (set values v node) target ≡ None
     at_target = alias_of-set_other values v node target apart ∙ target_none
+
     from_end : (n w : ℕ) → alias_of values w ≡ None → MovesOn values v target node n w
     from_end n w none = record {
-        moved = λ same.
+      moved = λ same.
           ap (λ x. follow (suc n) (set values v node) x) (sym (follow_end values n w none) ∙ same)
           ∙ follow_on (set values v node) (suc n) n v target (omega arith) at_v ∙ follow_end (set values v node) n target at_target;
-        stayed = λ other.
+      stayed = λ other.
           follow_end (set values v node) (suc n) w (alias_of-set_other values v node w (λ same. other (follow_end values n w none ∙ same)) ∙ none)
-          ∙ sym (follow_end values n w none)
-      }
+          ∙ sym (follow_end values n w none);
+    }
+
     along : (n w o : ℕ) → alias_of values w ≡ Some o → MovesOn values v target node n o → MovesOn values v target node (suc n) w
     along n w o some next =
         let apart_w : w ≢ v = λ same. not_both (sym some ∙ ap (alias_of values) same ∙ v_none) in
         let old : follow (suc n) values w ≡ follow n values o = follow_on values (suc n) n w o (omega arith) some in
         let new : follow (suc (suc n)) (set values v node) w ≡ follow (suc n) (set values v node) o =
-            follow_on (set values v node) (suc (suc n)) (suc n) w o (omega arith) (alias_of-set_other values v node w apart_w ∙ some) in
+        follow_on (set values v node) (suc (suc n)) (suc n) w o (omega arith) (alias_of-set_other values v node w apart_w ∙ some) in
         record {
           moved = λ same. new ∙ next.moved (sym old ∙ same);
-          stayed = λ other. new ∙ next.stayed (λ same. other (old ∙ same)) ∙ sym old
+          stayed = λ other. new ∙ next.stayed (λ same. other (old ∙ same)) ∙ sym old;
         }
+
     by_link : (n w : ℕ) → ((o : ℕ) → o < length values → alias_of values (follow n values o) ≡ None → MovesOn values v target node n o)
         → w < length values → alias_of values (follow (suc n) values w) ≡ None → (link : Option ℕ) → alias_of values w ≡ link → MovesOn values v target node (suc n) w
     by_link n w induction here there None is = from_end (suc n) w is
     by_link n w induction here there (Some o) is =
         along n w o is (induction o (leads w o here is) (ap (alias_of values) (sym (follow_on values (suc n) n w o (omega arith) is)) ∙ there))
+
     by_steps : (n w : ℕ) → w < length values → alias_of values (follow n values w) ≡ None → MovesOn values v target node n w
     by_steps zero w here there = from_end zero w (ap (alias_of values) (sym (follow_nothing values zero w refl)) ∙ there)
     by_steps (suc n) w here there = by_link n w (λ o o_here o_there. by_steps n o o_here o_there) here there (alias_of values w) refl
@@ -175,12 +180,12 @@ pub ways_end-set : (values : List ValueNode) (v target : ℕ) (node : ValueNode)
     → EachWayEnds values → EachWayEnds (set values v node)
 ways_end-set values v target node leads v_inside v_none target_none apart is_target ends u inside =
     let count : alias_count (set values v node) ≡ suc (alias_count values) =
-        alias_count-set values v node v_inside v_none (ap is_some is_target) ∙ (let one : alias_count values + 1 ≡ suc (alias_count values) = omega arith in one) in
+    alias_count-set values v node v_inside v_none (ap is_some is_target) ∙ (let one : alias_count values + 1 ≡ suc (alias_count values) = omega arith in one) in
     let here : u < length values = grind (arith, common_steps, inside) in
     let last : ℕ = follow (alias_count values) values u in
     let goes : MovesOn values v target node (alias_count values) u = follow-set values v target node (alias_count values) u leads here v_inside v_none target_none apart is_target (ends u here) in
     ap (λ n. alias_of (set values v node) (follow n (set values v node) u)) count
     ∙ elim (cases_eq last v) [
-        inl same ↦ ap (alias_of (set values v node)) (goes.moved same) ∙ alias_of-set_other values v node target apart ∙ target_none
+      | inl same ↦ ap (alias_of (set values v node)) (goes.moved same) ∙ alias_of-set_other values v node target apart ∙ target_none
       | inr other ↦ ap (alias_of (set values v node)) (goes.stayed other) ∙ alias_of-set_other values v node last other ∙ ends u here
-      ]
+    ]

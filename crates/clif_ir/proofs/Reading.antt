@@ -69,10 +69,10 @@ Stands-without x v (y ∷ ys) other (zero, inside, at) =
 Stands-without x v (y ∷ ys) other (suc k, inside, at) =
     let behind : Stands x ys = (k, omega (arith, inside), at) in
     elim (cases_eq y v) [
-      inl same ↦ subst (λ zs. Stands x zs) (sym (if_true y v ys (y ∷ without v ys) same)) behind
-    | inr differs ↦
-        let rest : Stands x (without v ys) = Stands-without x v ys other behind in
-        subst (λ zs. Stands x zs) (sym (if_false y v ys (y ∷ without v ys) differs)) (suc rest.0, omega (arith, rest.1), rest.2)
+      | inl same ↦ subst (λ zs. Stands x zs) (sym (if_true y v ys (y ∷ without v ys) same)) behind
+      | inr differs ↦
+          let rest : Stands x (without v ys) = Stands-without x v ys other behind in
+          subst (λ zs. Stands x zs) (sym (if_false y v ys (y ∷ without v ys) differs)) (suc rest.0, omega (arith, rest.1), rest.2)
     ]
 
 -- what stands without `v` stood there, and is another number
@@ -80,11 +80,11 @@ pub without-stood : (v : ℕ) (xs : List ℕ) (k : ℕ) → Once xs → k < leng
 without-stood v [] k once = λ inside. absurd (omega (arith, inside))
 without-stood v (y ∷ ys) k once =
     elim (cases_eq y v) [
-      inl same ↦
-        subst (λ zs. k < length zs → Stands (slice_index zs k) (y ∷ ys) × (slice_index zs k ≢ v)) (sym (if_true y v ys (y ∷ without v ys) same))
+      | inl same ↦
+          subst (λ zs. k < length zs → Stands (slice_index zs k) (y ∷ ys) × (slice_index zs k ≢ v)) (sym (if_true y v ys (y ∷ without v ys) same))
           (λ inside. ((suc k, omega (arith, inside), refl), λ equal. once 0 (suc k) (omega arith) (omega (arith, inside)) (same ∙ sym equal)))
-    | inr differs ↦
-        subst (λ zs. k < length zs → Stands (slice_index zs k) (y ∷ ys) × (slice_index zs k ≢ v)) (sym (if_false y v ys (y ∷ without v ys) differs))
+      | inr differs ↦
+          subst (λ zs. k < length zs → Stands (slice_index zs k) (y ∷ ys) × (slice_index zs k ≢ v)) (sym (if_false y v ys (y ∷ without v ys) differs))
           (head_or_rest (λ j inside. without-stood v ys j (Once-tail y ys once) inside) differs k)
     ]
   where
@@ -100,9 +100,9 @@ pub Once-without : (v : ℕ) (xs : List ℕ) → Once xs → Once (without v xs)
 Once-without v [] once = once
 Once-without v (y ∷ ys) once =
     elim (cases_eq y v) [
-      inl same ↦ subst (λ zs. Once zs) (sym (if_true y v ys (y ∷ without v ys) same)) (Once-tail y ys once)
-    | inr differs ↦
-        subst (λ zs. Once zs) (sym (if_false y v ys (y ∷ without v ys) differs))
+      | inl same ↦ subst (λ zs. Once zs) (sym (if_true y v ys (y ∷ without v ys) same)) (Once-tail y ys once)
+      | inr differs ↦
+          subst (λ zs. Once zs) (sym (if_false y v ys (y ∷ without v ys) differs))
           (pairs (Once-without v ys (Once-tail y ys once)) (λ k inside. (without-stood v ys k (Once-tail y ys once) inside).0))
     ]
   where

@@ -65,5 +65,5 @@ with_alias f v original =
     let b : ℕ = home_of (value_at f v).origin in
     record f {
       values = slice_set f.values v (record (value_at f v) { origin = Alias (resolved f original) });
-      blocks = slice_set f.blocks b (record (block_at f b) { params = without v (block_at f b).params })
+      blocks = slice_set f.blocks b (record (block_at f b) { params = without v (block_at f b).params });
     }
