@@ -1,3 +1,4 @@
+pub mod EntitySet
 pub mod MemFlags
 pub mod Signature
 pub mod StackSlot

@@ -5,6 +5,7 @@ pub mod call_conv;
 pub mod condcodes;
 pub mod entities;
 pub mod entity;
+pub mod entity_set;
 pub mod error;
 pub mod extfunc;
 pub mod extname;
@@ -25,6 +26,7 @@ pub use entities::tables::{
     AliasRegion, Constant, DynamicStackSlot, FuncRef, GlobalValue, SigRef, StackSlot, ValueLabel,
 };
 pub use entity::EntityRef;
+pub use entity_set::EntitySet;
 pub use error::BuildError;
 pub use extfunc::{AbiParam, ExtFuncData, Signature};
 pub use extname::{ExternalName, TestcaseName, UserExternalName, UserFuncName};
