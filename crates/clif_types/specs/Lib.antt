@@ -1,3 +1,4 @@
+pub mod AliasRegions
 pub mod EntitySet
 pub mod MemFlags
 pub mod Signature

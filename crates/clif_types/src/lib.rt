@@ -1,6 +1,7 @@
 //! Types, numbers and plain data of the IR.
 #![tactic(auto)]
 
+pub mod alias_region;
 pub mod call_conv;
 pub mod condcodes;
 pub mod entities;
@@ -19,6 +20,7 @@ pub mod target;
 pub mod trapcode;
 pub mod types;
 
+pub use alias_region::{AliasRegionData, AliasRegionSet};
 pub use call_conv::CallConv;
 pub use condcodes::IntCC;
 pub use entities::code::{Block, ExceptionTable, Inst, JumpTable, Value};
