@@ -41,3 +41,6 @@ pub use stackslot::{DynamicStackSlotData, StackSlotData};
 pub use target::{PointerWidth, TargetFrontendConfig};
 pub use trapcode::TrapCode;
 pub use types::{LaneCount, LaneType, Type};
+
+#[cfg(test)]
+mod tests;
