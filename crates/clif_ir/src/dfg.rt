@@ -1,10 +1,10 @@
 //! The calls that make blocks, parameters and instructions.
 //!
 //! Each call first makes room and then changes, so that after an error the function is as it was.
-ghost use Rattle.std.specs.Prelude.{◌≡◌, ◌≢◌, [], ◌∷◌, ◌++◌, length, ◌+◌, ◌-◌, ◌^◌, ◌≤◌, ◌<◌, ◌⊎◌, ℕ, slice_index, EachIndex, vec_len, vec_capacity, IfOk, OnOk, OnErr};
+ghost use Rattle.std.specs.Prelude.{◌≡◌, ◌≢◌, [], ◌∷◌, ◌++◌, length, ◌+◌, ◌-◌, ◌^◌, ◌≤◌, ◌<◌, ◌⊎◌, ℕ, true, slice_index, EachIndex, vec_len, vec_capacity, IfOk, OnOk, OnErr};
 ghost use Rattle.clif_ir.specs.Body.{Body, value_at, block_at, resolved};
 ghost use Rattle.clif_ir.specs.Consistent.{Stands};
-ghost use Rattle.clif_ir.specs.Instruction.{operands, result_types};
+ghost use Rattle.clif_ir.specs.Instruction.{operands, has_result, result_types};
 ghost use Rattle.clif_ir.specs.Whole.{next_slot, placed_at};
 ghost use Rattle.clif_ir.specs.Changes.{with_block, with_param, with_inst, with_alias, home_of, result_nodes};
 ghost use Rattle.std.specs.List.{range_with_len};
@@ -140,6 +140,7 @@ impl Function {
         requires operands_exist { EachIndex (operands shape) (λ k. slice_index (operands shape) k < length self.old.values) }
         ensures ok { OnOk result (self.new ≡ with_inst self.old block end shape (result_types shape ctrl_type) srcloc) }
         ensures number { IfOk result (λ i. i ≡ length self.old.insts) }
+        ensures unaliased { OnOk result (has_result shape ≡ true → resolved self.new (length self.old.values) ≡ length self.old.values) }
         ensures full { result ≡ Err BuildError.Full → (length self.old.insts ≡ 2 ^ 32 - 1) ⊎ (length self.old.values ≡ 2 ^ 32 - 1) }
         ensures never_failed { result ≢ Err BuildError.Failed }
         ensures err { OnErr result (self.new ≡ self.old) }

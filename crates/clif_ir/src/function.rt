@@ -1,8 +1,8 @@
 //! Functions: their tables, and the calls that read them.
-ghost use Rattle.std.specs.Prelude.{◌≡◌, [], ◌∷◌, ◌++◌, length, ◌+◌, ◌-◌, ◌^◌, ◌≤◌, ◌<◌, IfSome, None, EachIndex, slice_index};
+ghost use Rattle.std.specs.Prelude.{◌≡◌, [], ◌∷◌, ◌++◌, length, ◌+◌, ◌-◌, ◌^◌, ◌≤◌, ◌<◌, IfSome, IsSome, None, EachIndex, slice_index};
 ghost use Rattle.clif_ir.specs.Body.{empty_body, value_at, inst_at, block_at, resolved, alias_of};
 ghost use Rattle.clif_ir.specs.Instruction.{operands};
-ghost use Rattle.clif_ir.specs.Reading.{def_of, DefExists};
+ghost use Rattle.clif_ir.specs.Reading.{def_of, DefExists, param_home};
 
 use crate::inst_list::InstList;
 use crate::instructions::InstructionData;
@@ -215,5 +215,18 @@ impl Function {
         ensures { result.now ≡ self.now.signature }
     {
         &self.signature
+    }
+
+    /// The block of which `value` is a parameter, if there is such a value and it is one.
+    pub fn param_home(&self, value: Value) -> Option<Block>
+        ensures exact { result ≡ param_home self.now value }
+        ensures known { IsSome result → value < length self.now.values }
+        ensures exists { IfSome result (λ block. block < length self.now.blocks) }
+    {
+        let node = self.values.get(value.index())?;
+        match node.origin {
+            ValueOrigin::Param(block) => Some(block),
+            ValueOrigin::Result(..) | ValueOrigin::Alias(_) => None,
+        }
     }
 }
