@@ -5,3 +5,12 @@ pub mod Instruction
 pub mod Event
 pub mod World
 pub mod Outcome
+pub mod Machine
+pub mod SameMeaning
+pub mod Store
+pub mod Name
+pub mod Request
+pub mod Program
+pub mod ScriptMachine
+pub mod FunctionView
+pub mod FunctionMachine
