@@ -1,1 +1,4 @@
 pub mod BitLists
+pub mod Simulation
+pub mod Endings
+pub mod Stuttering

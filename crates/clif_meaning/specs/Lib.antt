@@ -24,3 +24,4 @@ pub mod Typing
 pub mod Access
 pub mod Premises
 pub mod Headline
+pub mod Laws

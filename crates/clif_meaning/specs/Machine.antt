@@ -1,6 +1,6 @@
 -- A machine: where it starts, its next state, and what a state shows. Its step is total, a state that ended stays as
 -- it is, and it never chooses, so a run is a function of the number of steps. Own.
-use Rattle.std.specs.Prelude.{◌≡◌, ℕ, zero, suc, ◌+◌, List, [], Option, Some, None}
+use Rattle.std.specs.Prelude.{◌≡◌, ℕ, zero, suc, ◌≤◌, List}
 use Rattle.clif_meaning.specs.Memory.{Memory}
 use Rattle.clif_meaning.specs.Event.{Event}
 use Rattle.clif_meaning.specs.Outcome.{TrapReason}
@@ -45,3 +45,14 @@ ending_of (At rest) memory = NotYet
 ending_of (HasReturned results) memory = Returned results memory
 ending_of (HasTrapped reason) memory = Trapped reason memory
 ending_of IsStuck memory = Stuck
+
+-- it is an end
+abbrev pub IsEnd : Ending → Type 0
+IsEnd NotYet = ⊥
+IsEnd (Returned results memory) = Unit {0}
+IsEnd (Trapped reason memory) = Unit {0}
+IsEnd Stuck = Unit {0}
+
+-- what a run shows once it has ended it shows from then on
+abbrev pub EndStays : (ℕ → Observation) → Type 0
+EndStays run = (n m : ℕ) → n ≤ m → IsEnd (run n).ending → run m ≡ run n

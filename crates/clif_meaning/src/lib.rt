@@ -3,3 +3,5 @@
 #![tactic(auto)]
 
 pub mod bits;
+pub mod machines;
+pub mod scripts;
