@@ -2,3 +2,8 @@ pub mod BitLists
 pub mod Simulation
 pub mod Endings
 pub mod Stuttering
+pub mod WorkedExamples
+pub mod StraightLine
+pub mod FirstRow
+pub mod SampleWorld
+pub mod FirstPremises

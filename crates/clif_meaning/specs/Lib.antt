@@ -25,3 +25,4 @@ pub mod Access
 pub mod Premises
 pub mod Headline
 pub mod Laws
+pub mod Examples

@@ -3,5 +3,6 @@
 #![tactic(auto)]
 
 pub mod bits;
+pub mod examples;
 pub mod machines;
 pub mod scripts;
