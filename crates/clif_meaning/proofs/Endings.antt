@@ -1,7 +1,7 @@
 -- A machine that ended stays.
-use Rattle.std.proofs.Common.{◌≡◌, ◌+◌, ◌<◌, ◌≤◌, ℕ, zero, suc, refl, sym, ◌∙◌, ap, arith, ◌⊎◌, inl, inr}
+use Rattle.std.proofs.Common.{◌≡◌, ◌≤◌, ℕ, zero, suc, refl, ◌∙◌, ap, arith, ◌⊎◌, inl, inr}
 use Rattle.clif_meaning.specs.Memory.{Memory}
-use Rattle.clif_meaning.specs.Machine.{Machine, Observation, Control, At, HasReturned, HasTrapped, IsStuck, Ending, ending_of, IsEnd, state_after, observed, EndStays}
+use Rattle.clif_meaning.specs.Machine.{Machine, Observation, Control, At, HasReturned, HasTrapped, IsStuck, ending_of, IsEnd, state_after, observed, EndStays}
 use Rattle.clif_meaning.specs.Program.{Item}
 use Rattle.clif_meaning.specs.FunctionView.{Placed}
 use Rattle.clif_meaning.specs.ScriptMachine as script
@@ -9,8 +9,8 @@ use Rattle.clif_meaning.specs.FunctionMachine as function
 
 -- If a state that shows an end is its own next state, an end stays.
 pub stays : {State : Type 0} (machine : Machine State Observation)
-  → ((state : State) → IsEnd (machine.shown state).ending → machine.next state ≡ state)
-  → EndStays (observed machine)
+    → ((state : State) → IsEnd (machine.shown state).ending → machine.next state ≡ state)
+    → EndStays (observed machine)
 stays machine still n zero h end = ap (λ (k : ℕ). observed machine k) (zero_below n h)
   where
     zero_below : (n : ℕ) → n ≤ 0 → 0 ≡ n
@@ -21,7 +21,7 @@ stays {State} machine still n (suc m) h end = by (split n m h) (stays machine st
     split n m h = grind arith
 
     by : (suc m ≡ n) ⊎ (n ≤ m) → (n ≤ m → IsEnd (observed machine n).ending → observed machine m ≡ observed machine n)
-      → observed machine (suc m) ≡ observed machine n
+        → observed machine (suc m) ≡ observed machine n
     by (inl same) earlier = ap (λ (k : ℕ). observed machine k) same
     by (inr before) earlier =
         let shown = earlier before end in
@@ -29,7 +29,7 @@ stays {State} machine still n (suc m) h end = by (split n m h) (stays machine st
         ap (λ (state : State). machine.shown state) (still (state_after machine m) ended) ∙ shown
 
 script_still : (run : script.ScriptRun) (state : script.ScriptState) (control : Control Item) (memory : Memory)
-  → IsEnd (ending_of control memory) → script.step_at run state control ≡ state
+    → IsEnd (ending_of control memory) → script.step_at run state control ≡ state
 script_still run state (At rest) memory end = absurd end
 script_still run state (HasReturned results) memory end = refl
 script_still run state (HasTrapped reason) memory end = refl
@@ -39,7 +39,7 @@ pub script_stays : (run : script.ScriptRun) → EndStays (observed (script.scrip
 script_stays run = stays (script.script_machine run) (λ state end. script_still run state state.control _ end)
 
 function_still : (run : function.FunctionRun) (state : function.FunctionState) (control : Control Placed) (memory : Memory)
-  → IsEnd (ending_of control memory) → function.step_at run state control ≡ state
+    → IsEnd (ending_of control memory) → function.step_at run state control ≡ state
 function_still run state (At rest) memory end = absurd end
 function_still run state (HasReturned results) memory end = refl
 function_still run state (HasTrapped reason) memory end = refl

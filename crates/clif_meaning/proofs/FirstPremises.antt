@@ -1,19 +1,19 @@
 -- The row `first` meets the premises in every world, and its function means what its script means.
-use Rattle.std.proofs.Common.{◌≡◌, ◌≢◌, ◌+◌, ◌<◌, ◌≤◌, ℕ, zero, suc, List, [], ◌∷◌, refl, sym, ◌∙◌, ap, arith, ◌⊎◌, inl, inr, subst, Bool, Some, None}
+use Rattle.std.proofs.Common.{◌≡◌, ◌<◌, ◌≤◌, ℕ, zero, suc, List, [], ◌∷◌, refl, sym, ◌∙◌, arith, ◌⊎◌, inl, inr, subst, Bool}
 use Rattle.std.specs.List.{AllByRecursion}
 use Rattle.clif_types.specs.declared.types.«Type».{«Type»}
 use Rattle.clif_meaning.specs.Access.{touched_ranges, claims_of}
 use Rattle.clif_meaning.specs.Instruction.{Operation, Compute, Return}
 use Rattle.clif_meaning.specs.Event.{CallShape, Event}
-use Rattle.clif_meaning.specs.World.{World, Slot, PlacesSlots}
-use Rattle.clif_meaning.specs.Machine.{Observation, Control, At, HasReturned, HasTrapped, IsStuck, state_after, IsEnd, EndStays}
-use Rattle.clif_meaning.specs.SameMeaning.{Behaviour, ShowsAllOf, SameMeaning}
-use Rattle.clif_meaning.specs.Program.{Item, Instruct, Use, Assign, program_of}
+use Rattle.clif_meaning.specs.World.{World, PlacesSlots}
+use Rattle.clif_meaning.specs.Machine.{Control, At, HasReturned, HasTrapped, IsStuck, state_after, IsEnd, EndStays}
+use Rattle.clif_meaning.specs.SameMeaning.{Behaviour, ShowsAllOf}
+use Rattle.clif_meaning.specs.Program.{Item, Instruct, Use, Assign}
 use Rattle.clif_meaning.specs.ScriptMachine.{ScriptRun, ScriptState, script_machine}
-use Rattle.clif_meaning.specs.Premises.{Premises, EachItem, OfNextItem, InEachStep, SparesSpillSlots, ClaimsAreTrue, CallsLibraryAsNamed}
+use Rattle.clif_meaning.specs.Premises.{Premises, OfNextItem, InEachStep, SparesSpillSlots, ClaimsAreTrue}
 use Rattle.clif_meaning.specs.Headline.{script_run, function_run, script_behaviour, function_behaviour, pointer_type, IsWorldOf, MeansTheSame}
 use Rattle.clif_meaning.specs.FunctionMachine.{ByMaps}
-use Rattle.clif_meaning.specs.Examples.{first_script, first_function, ended_with, moved_by_16, FirstMeansTheSame}
+use Rattle.clif_meaning.specs.Examples.{first_script, first_function, moved_by_16}
 use Rattle.clif_meaning.proofs.FirstRow
 use Rattle.clif_meaning.proofs.SampleWorld
 use Rattle.clif_meaning.proofs.Endings
@@ -54,28 +54,37 @@ each_step P run each n = next_item _ (each (state_after (script_machine run) n))
 
 pub first_premises : (world : World) → Premises first_script first_function.signature (pointer_type 64) (script_run first_script first_function world)
 first_premises world = record {
-    targets_filled = FirstRow.first_items _ (tt, (tt, (tt, (tt, (tt, (tt, tt))))));
-    tables_once = tt;
-    well_typed = record {
-        items = FirstRow.first_items _ (
-            tt,
-            (record { made_at = refl; operands = refl; edges = tt },
-            (record { made_at = refl; operands = refl; edges = tt },
-            (refl,
-            (tt,
-            (record { made_at = refl; operands = refl; edges = tt }, tt))))));
-        entry = refl
-    };
-    given_before = FirstRow.script_well_placed;
-    tracked_apart = FirstRow.first_items _ ((λ h. h), (tt, (tt, ((λ h. h), ((λ h. h), (tt, tt))))));
-    spares_spill_slots = each_step _ (script_run first_script first_function world) (spares (script_run first_script first_function world).hidden);
-    claims_true = each_step _ (script_run first_script first_function world) (claims (script_run first_script first_function world));
-    libc_as_named = FirstRow.first_items _ (tt, (tt, (tt, (tt, (tt, (tt, tt))))))
+  targets_filled = FirstRow.first_items _ (tt, (tt, (tt, (tt, (tt, (tt, tt))))));
+  tables_once = tt;
+  well_typed = record {
+    items = FirstRow.first_items _ (
+      tt,
+      (
+        record { made_at = refl; operands = refl; edges = tt },
+        (
+          record { made_at = refl; operands = refl; edges = tt },
+          (
+            refl,
+            (
+              tt,
+              (record { made_at = refl; operands = refl; edges = tt }, tt),
+            ),
+          ),
+        ),
+      ),
+    );
+    entry = refl;
+  };
+  given_before = FirstRow.script_well_placed;
+  tracked_apart = FirstRow.first_items _ ((λ h. h), (tt, (tt, ((λ h. h), ((λ h. h), (tt, tt))))));
+  spares_spill_slots = each_step _ (script_run first_script first_function world) (spares (script_run first_script first_function world).hidden);
+  claims_true = each_step _ (script_run first_script first_function world) (claims (script_run first_script first_function world));
+  libc_as_named = FirstRow.first_items _ (tt, (tt, (tt, (tt, (tt, (tt, tt))))));
 }
 
 -- a run that shows what the other begins with until it ends as the other does
 shows_all : (left right : Behaviour) (a b : ℕ) → EndStays left → IsEnd (left a).ending
-  → ((n : ℕ) → n < a → left n ≡ right 0) → left a ≡ right b → ShowsAllOf left right
+    → ((n : ℕ) → n < a → left n ≡ right 0) → left a ≡ right b → ShowsAllOf left right
 shows_all left right a b stays end before same n = by (order n a)
   where
     order : (n a : ℕ) → (n < a) ⊎ (a ≤ n)
@@ -103,19 +112,19 @@ function_before world (suc (suc (suc (suc n)))) h = absurd (omega arith)
 
 pub first_same : MeansTheSame first_script 64 first_function
 first_same world fits premises = record {
-    there = shows_all (script_behaviour first_script first_function world) (function_behaviour first_script first_function 64 world) 6 4
-        (Endings.script_stays (script_run first_script first_function world)) tt (script_before world) refl;
-    back = shows_all (function_behaviour first_script first_function 64 world) (script_behaviour first_script first_function world) 4 6
-        (Endings.function_stays (function_run first_script first_function 64 world ByMaps)) tt (function_before world) refl
+  there = shows_all (script_behaviour first_script first_function world) (function_behaviour first_script first_function 64 world) 6 4
+      (Endings.script_stays (script_run first_script first_function world)) tt (script_before world) refl;
+  back = shows_all (function_behaviour first_script first_function 64 world) (script_behaviour first_script first_function world) 4 6
+      (Endings.function_stays (function_run first_script first_function 64 world ByMaps)) tt (function_before world) refl;
 }
 
 -- of no slots nothing is asked
 no_slots : (world : World) → PlacesSlots world [] 64
 no_slots world = record {
-    aligned = λ s slot h. cc;
-    accessible = λ s slot k h below. cc;
-    within = λ s slot h. cc;
-    apart = λ s t slot other h. cc
+  aligned = λ s slot h. cc;
+  accessible = λ s slot k h below. cc;
+  within = λ s slot h. cc;
+  apart = λ s t slot other h. cc;
 }
 
 pub a_world : (world : World) × IsWorldOf first_function 64 world × ((events : List Event) (call : CallShape) → world.moved events call ≡ moved_by_16)

@@ -1,11 +1,11 @@
 -- The row `first` meets the premises, and its function means what its script means.
-use Rattle.std.proofs.Common.{◌≡◌, ◌+◌, ◌<◌, ◌≤◌, ℕ, zero, suc, List, [], ◌∷◌, refl, sym, ◌∙◌, ap, arith, ◌⊎◌, inl, inr, subst, length, slice_index_or, Bool, true, false}
+use Rattle.std.proofs.Common.{◌≡◌, ◌<◌, ℕ, zero, suc, List, [], ◌∷◌, refl, sym, ◌∙◌, ap, arith, ◌⊎◌, inl, inr, subst, slice_index_or, Bool, true, false}
 use Rattle.std.specs.Prelude.{Contains, slice_get}
 use Rattle.std.specs.List.{AllByRecursion}
 use Rattle.clif_meaning.specs.Name.{Name, answer_of, same_name}
-use Rattle.clif_meaning.specs.Program.{Item, Program, program_of}
-use Rattle.clif_meaning.specs.Path.{Place, Flow, IsPath}
-use Rattle.clif_meaning.specs.WellPlaced.{Code, item_targets, item_gives, item_names, program_code, function_code, IsWellPlaced, WellPlaced, IsGivenAlong, given_on_entry}
+use Rattle.clif_meaning.specs.Program.{Item, program_of}
+use Rattle.clif_meaning.specs.Path.{Place, IsPath}
+use Rattle.clif_meaning.specs.WellPlaced.{Code, item_targets, item_gives, item_names, program_code, function_code, IsWellPlaced, WellPlaced, IsGivenAlong}
 use Rattle.clif_meaning.specs.Typing.{EdgesMatch}
 use Rattle.clif_meaning.specs.Premises.{EachItem}
 use Rattle.clif_meaning.specs.Examples.{first_script, first_function, block0}
@@ -64,7 +64,7 @@ function_well_placed q x names path walk = inr (by q.block q.index names path wa
     code = function_code first_function
 
     by : (b i : ℕ) → Contains (code.names (record { block = b; index = i })) x
-      → (path : List (Place ℕ)) → IsPath code.flow (record { block = b; index = i } ∷ path) → IsGivenAlong code x path
+        → (path : List (Place ℕ)) → IsPath code.flow (record { block = b; index = i } ∷ path) → IsGivenAlong code x path
     by zero zero names path walk = absurd (StraightLine.nothing_contained x names)
     by zero (suc zero) names path walk = absurd (StraightLine.nothing_contained x names)
     by zero (suc (suc zero)) names path walk = either (two_of 3 1 x names)
@@ -98,7 +98,7 @@ program_straight : (p : Place Name) → (program_code (program_of first_script))
 program_straight p = by (items_of p.block)
   where
     by : ((program_of first_script).items p.block ≡ first_list) ⊎ ((program_of first_script).items p.block ≡ [])
-      → item_targets (slice_get ((program_of first_script).items p.block) p.index) ≡ []
+        → item_targets (slice_get ((program_of first_script).items p.block) p.index) ≡ []
     by (inl full) = ap (λ (items : List Item). item_targets (slice_get items p.index)) full ∙ first_targets p.index
     by (inr empty) = ap (λ (items : List Item). item_targets (slice_get items p.index)) empty
 
@@ -120,10 +120,10 @@ pub script_well_placed : IsWellPlaced (program_code (program_of first_script))
 script_well_placed q x names path walk = inr (by (items_of q.block))
   where
     by : ((program_of first_script).items q.block ≡ first_list) ⊎ ((program_of first_script).items q.block ≡ [])
-      → IsGivenAlong (program_code (program_of first_script)) x path
+        → IsGivenAlong (program_code (program_of first_script)) x path
     by (inl full) =
         let giver = givers x q.index (subst (λ (items : List Item). Contains (item_names (slice_get items q.index)) x) full names) in
         StraightLine.given_along (program_code (program_of first_script)) program_straight path q giver.0 x walk giver.1
-            (subst (λ (items : List Item). Contains (item_gives (slice_get items giver.0)) x) (sym full) giver.2)
+        (subst (λ (items : List Item). Contains (item_gives (slice_get items giver.0)) x) (sym full) giver.2)
     by (inr empty) =
         absurd (StraightLine.nothing_contained x (subst (λ (items : List Item). Contains (item_names (slice_get items q.index)) x) empty names))

@@ -1,5 +1,5 @@
 -- A world with a collector that moves: every answer is zeros, and each number but zero is moved by 16.
-use Rattle.std.proofs.Common.{◌≡◌, ◌≢◌, ◌+◌, ◌-◌, ◌*◌, ◌%◌, ◌^◌, ◌<◌, ◌≤◌, ◌==◌, ℕ, zero, suc, List, [], ◌∷◌, refl, sym, ◌∙◌, ap, arith, ◌⊎◌, inl, inr, subst, map, Bool, true, false, if◌then◌else◌}
+use Rattle.std.proofs.Common.{◌+◌, ◌%◌, ◌^◌, ◌<◌, ◌==◌, ℕ, zero, suc, List, [], ◌∷◌, refl, arith, map, Bool, true, false, if◌then◌else◌}
 use Rattle.std.proofs.Math.Nat.{pow-suc, mod-lt}
 use Rattle.std.specs.declared.cmp.Ordering.{Ordering}
 use Rattle.std.specs.declared.cmp.Ordering.TheVariants.{Less, Equal, Greater}
@@ -7,8 +7,8 @@ use Rattle.clif_types.specs.declared.types.«Type».{«Type»}
 use Rattle.clif_types.specs.Types.{bits_of}
 use Rattle.clif_meaning.specs.Bits.{IsValue, AreValues}
 use Rattle.clif_meaning.specs.Memory.{byte_order}
-use Rattle.clif_meaning.specs.Event.{CallShape, Event, Results}
-use Rattle.clif_meaning.specs.World.{World, HasSignOf, PlacesSlots}
+use Rattle.clif_meaning.specs.Event.{Results}
+use Rattle.clif_meaning.specs.World.{World, HasSignOf}
 use Rattle.clif_meaning.specs.Examples.{sign_number, moved_by_16}
 
 pub pow_pos : (k : ℕ) → 0 < 2 ^ k
@@ -33,18 +33,18 @@ moves_inside ty bits inside = by (bits == 0)
 
 abbrev pub sample_world : World
 sample_world = record {
-    arguments = [];
-    memory = λ address. 0;
-    is_accessible = λ address. true;
-    slot_place = λ slot. 0;
-    memcmp_number = λ left right. sign_number (byte_order left right);
-    answer = λ events call. Results (map (λ ty. 0) call.signature.returns);
-    memory_after = λ events call address. 0;
-    moved = λ events call. moved_by_16;
-    holds_bytes = λ address. omega arith;
-    keeps_bytes = λ events call address. omega arith;
-    memcmp_sign = λ left right. signed (byte_order left right);
-    answers_fit = λ events call. zeros_fit call.signature.returns;
-    moved_fits = λ events call. moves_inside;
-    moved_zero = λ events call ty. refl
+  arguments = [];
+  memory = λ address. 0;
+  is_accessible = λ address. true;
+  slot_place = λ slot. 0;
+  memcmp_number = λ left right. sign_number (byte_order left right);
+  answer = λ events call. Results (map (λ ty. 0) call.signature.returns);
+  memory_after = λ events call address. 0;
+  moved = λ events call. moved_by_16;
+  holds_bytes = λ address. omega arith;
+  keeps_bytes = λ events call address. omega arith;
+  memcmp_sign = λ left right. signed (byte_order left right);
+  answers_fit = λ events call. zeros_fit call.signature.returns;
+  moved_fits = λ events call. moves_inside;
+  moved_zero = λ events call ty. refl;
 }

@@ -1,5 +1,5 @@
 -- Same meaning from runs of which one keeps up with the other.
-use Rattle.std.proofs.Common.{◌≡◌, ◌+◌, ◌<◌, ◌≤◌, ℕ, zero, suc, refl, sym, ◌∙◌, ap, arith, ◌⊎◌, inl, inr, add-one}
+use Rattle.std.proofs.Common.{◌≡◌, ◌+◌, ◌<◌, ◌≤◌, ℕ, zero, suc, sym, ◌∙◌, arith, ◌⊎◌, inl, inr, add-one}
 use Rattle.clif_meaning.specs.SameMeaning.{Behaviour, ShowsAllOf, SameMeaning, KeepsUp}
 
 pub symmetric : (a b : Behaviour) → SameMeaning a b → SameMeaning b a
@@ -13,22 +13,21 @@ shows_all_through a b c first second n =
 
 pub transitive : (a b c : Behaviour) → SameMeaning a b → SameMeaning b c → SameMeaning a c
 transitive a b c first second = record {
-    there = shows_all_through a b c first.there second.there;
-    back = shows_all_through c b a second.back first.back
+  there = shows_all_through a b c first.there second.there;
+  back = shows_all_through c b a second.back first.back;
 }
 
 le_or_le : (a b : ℕ) → (a ≤ b) ⊎ (b ≤ a)
 le_or_le a b = grind arith
 
 module _ (left right : Behaviour) (position measure : ℕ → ℕ) (keeps : KeepsUp left right position measure) where
-
   -- the position rises sooner or later
   rises : (fuel n : ℕ) → measure n < fuel → (m : ℕ) × (position n < position m)
   rises zero n h = absurd (omega arith)
   rises (suc fuel) n h = by (keeps.gets_on n) (rises fuel (n + 1))
     where
       by : (position n < position (n + 1)) ⊎ (measure (n + 1) < measure n)
-        → (measure (n + 1) < fuel → (m : ℕ) × (position (n + 1) < position m)) → (m : ℕ) × (position n < position m)
+          → (measure (n + 1) < fuel → (m : ℕ) × (position (n + 1) < position m)) → (m : ℕ) × (position n < position m)
       by (inl risen) later = (n + 1, risen)
       by (inr fallen) later =
           let on = keeps.goes_on n in
@@ -49,7 +48,7 @@ module _ (left right : Behaviour) (position measure : ℕ → ℕ) (keeps : Keep
   lies (suc n) j below above = by (le_or_le (position n) j) (lies n j)
     where
       by : (position n ≤ j) ⊎ (j ≤ position n) → (j ≤ position n → position 0 ≤ j → (m : ℕ) × (position m ≤ j) × (j ≤ position (m + 1)))
-        → (m : ℕ) × (position m ≤ j) × (j ≤ position (m + 1))
+          → (m : ℕ) × (position m ≤ j) × (j ≤ position (m + 1))
       by (inl passed) earlier = (n, passed, rw add-one below)
       by (inr ahead) earlier = earlier ahead above
 

@@ -1,6 +1,6 @@
 -- The stuttering simulation: a relation between the states of two machines that every step of the left one keeps, by
 -- any number of steps of the right one, gives the same meaning.
-use Rattle.std.proofs.Common.{◌≡◌, ◌+◌, ◌<◌, ◌≤◌, ◌-◌, ℕ, zero, suc, refl, sym, ◌∙◌, ap, arith, ◌⊎◌, inl, inr, add-one, subst}
+use Rattle.std.proofs.Common.{◌≡◌, ◌+◌, ◌<◌, ◌≤◌, ◌-◌, ℕ, zero, suc, sym, ◌∙◌, ap, arith, ◌⊎◌, inl, inr, add-one, subst}
 use Rattle.clif_meaning.specs.Machine.{Machine, Observation, state_after, observed}
 use Rattle.clif_meaning.specs.SameMeaning.{SameMeaning, KeepsUp}
 use Rattle.clif_meaning.proofs.Simulation
@@ -15,7 +15,7 @@ abbrev pub ShowsOnlyEnds : {State : Type 0} → Machine State Observation → �
 ShowsOnlyEnds machine steps state =
     (j : ℕ) → j ≤ steps
     → (machine.shown (steps_from machine j state) ≡ machine.shown state)
-      ⊎ (machine.shown (steps_from machine j state) ≡ machine.shown (steps_from machine steps state))
+    ⊎ (machine.shown (steps_from machine j state) ≡ machine.shown (steps_from machine steps state))
 
 -- one step of the left machine is matched by some steps of the right one, and if by none a measure falls
 pub record Matched {S T : Type 0} (left : Machine S Observation) (right : Machine T Observation) (Related : S → T → Type 0) (measure : S → ℕ) (s : S) (t : T) : Type 0 where
@@ -34,7 +34,7 @@ pub record Simulates {S T : Type 0} (left : Machine S Observation) (right : Mach
 
 -- steps after steps
 state_after-+ : {State : Type 0} (machine : Machine State Observation) (p k : ℕ)
-  → steps_from machine k (state_after machine p) ≡ state_after machine (p + k)
+    → steps_from machine k (state_after machine p) ≡ state_after machine (p + k)
 state_after-+ machine p zero = ap (λ (n : ℕ). state_after machine n) (omega arith)
 state_after-+ machine p (suc k) =
     ap machine.next (state_after-+ machine p k) ∙ ap (λ (n : ℕ). state_after machine n) (more p k)
@@ -43,15 +43,15 @@ state_after-+ machine p (suc k) =
     more p k = omega arith
 
 module _ {S T : Type 0} (left : Machine S Observation) (right : Machine T Observation) (Related : S → T → Type 0) (measure : S → ℕ) (sim : Simulates left right Related measure) where
-
   -- where the right machine stands after each step of the left, and that the states are related there
   abbrev stands : (n : ℕ) → (p : ℕ) × Related (state_after left n) (state_after right p)
   stands zero = (sim.ahead, sim.starts)
   stands (suc n) =
       let before = stands n in
-      let step = sim.step (state_after left n) (state_after right before.0) before.1 in
-      (before.0 + step.steps,
-       subst (λ (t : T). Related (state_after left (suc n)) t) (state_after-+ right before.0 step.steps) step.related)
+      let step = sim.step (state_after left n) (state_after right before.0) before.1 in (
+        before.0 + step.steps,
+        subst (λ (t : T). Related (state_after left (suc n)) t) (state_after-+ right before.0 step.steps) step.related,
+      )
 
   abbrev step_at : (n : ℕ) → Matched left right Related measure (state_after left n) (state_after right (stands n).0)
   step_at n = sim.step (state_after left n) (state_after right (stands n).0) (stands n).1
@@ -60,7 +60,7 @@ module _ {S T : Type 0} (left : Machine S Observation) (right : Machine T Observ
   goes_on n = omega arith
 
   between : (n k : ℕ) → k ≤ (step_at n).steps
-    → (observed right ((stands n).0 + k) ≡ observed right (stands n).0) ⊎ (observed right ((stands n).0 + k) ≡ observed right (stands (suc n)).0)
+      → (observed right ((stands n).0 + k) ≡ observed right (stands n).0) ⊎ (observed right ((stands n).0 + k) ≡ observed right (stands (suc n)).0)
   between n k h = by ((step_at n).quiet k h)
     where
       p : ℕ
@@ -71,32 +71,32 @@ module _ {S T : Type 0} (left : Machine S Observation) (right : Machine T Observ
 
       by : (right.shown (steps_from right k (state_after right p)) ≡ observed right p)
           ⊎ (right.shown (steps_from right k (state_after right p)) ≡ right.shown (steps_from right (step_at n).steps (state_after right p)))
-        → (observed right (p + k) ≡ observed right p) ⊎ (observed right (p + k) ≡ observed right (p + (step_at n).steps))
+          → (observed right (p + k) ≡ observed right p) ⊎ (observed right (p + k) ≡ observed right (p + (step_at n).steps))
       by (inl before) = inl (sym (after k) ∙ before)
       by (inr behind) = inr (sym (after k) ∙ behind ∙ after (step_at n).steps)
 
   between_places : (n j : ℕ) → (stands n).0 ≤ j → j ≤ (stands (suc n)).0
-    → (observed right j ≡ observed right (stands n).0) ⊎ (observed right j ≡ observed right (stands (suc n)).0)
+      → (observed right j ≡ observed right (stands n).0) ⊎ (observed right j ≡ observed right (stands (suc n)).0)
   between_places n j above below =
       let whole : (stands n).0 + (j - (stands n).0) ≡ j = omega arith in
       subst (λ (i : ℕ). (observed right i ≡ observed right (stands n).0) ⊎ (observed right i ≡ observed right (stands (suc n)).0)) whole
-          (between n (j - (stands n).0) (omega arith))
+      (between n (j - (stands n).0) (omega arith))
 
   gets_on : (n : ℕ) → ((stands n).0 < (stands (suc n)).0) ⊎ (measure (state_after left (suc n)) < measure (state_after left n))
   gets_on n = by (step_at n).gets_on
     where
       by : (0 < (step_at n).steps) ⊎ (measure (left.next (state_after left n)) < measure (state_after left n))
-        → ((stands n).0 < (stands (suc n)).0) ⊎ (measure (state_after left (suc n)) < measure (state_after left n))
+          → ((stands n).0 < (stands (suc n)).0) ⊎ (measure (state_after left (suc n)) < measure (state_after left n))
       by (inl some) = inl (omega arith)
       by (inr fallen) = inr fallen
 
   keeps_up : KeepsUp (observed left) (observed right) (λ n. (stands n).0) (λ n. measure (state_after left n))
   keeps_up = record {
-      at_first = sim.at_first;
-      shows = λ n. sim.shows (state_after left n) (state_after right (stands n).0) (stands n).1;
-      goes_on = λ n. rw add-one (goes_on n);
-      between = λ n. rw add-one (between_places n);
-      gets_on = λ n. rw add-one (gets_on n)
+    at_first = sim.at_first;
+    shows = λ n. sim.shows (state_after left n) (state_after right (stands n).0) (stands n).1;
+    goes_on = λ n. rw add-one (goes_on n);
+    between = λ n. rw add-one (between_places n);
+    gets_on = λ n. rw add-one (gets_on n);
   }
 
   pub same_meaning : SameMeaning (observed left) (observed right)

@@ -7,7 +7,7 @@ use Rattle.clif_types.specs.declared.types.«Type».TheVariants as type
 use Rattle.clif_types.specs.declared.types.LaneType.TheVariants as lane
 use Rattle.clif_types.specs.Types.{is_int}
 use Rattle.clif_meaning.specs.SameType.{same_type}
-use Rattle.clif_meaning.specs.Instruction.{Arithmetic, Iconst, Iadd, Operation, Compute, Return, Argument, Known, CallResult, CallPayload, Edge, Instruction}
+use Rattle.clif_meaning.specs.Instruction.{Iconst, Iadd, Operation, Compute, Return, Argument, Known, CallResult, CallPayload, Edge}
 use Rattle.clif_meaning.specs.Name.{Name}
 use Rattle.clif_meaning.specs.Request.{Request, CreateBlock, SwitchToBlock, SealBlock, DeclareVar, DefVar, UseVar, Build, Finalize, Script}
 use Rattle.clif_meaning.specs.Ledger.{BlockState, Ledger, empty_ledger, type_of, or_invalid, has_value, has_block, is_filled, is_sealed, is_pristine, is_unreachable, variable_type, ledger_with}

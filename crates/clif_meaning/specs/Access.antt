@@ -1,6 +1,6 @@
 -- What an item of a script does to memory by itself, and what it claims: the ranges that it may touch, and what its
 -- flags, alignments and overlap promise. After the documentation of Cranelift's memory flags and memory helpers.
-use Rattle.std.specs.Prelude.{◌≡◌, ℕ, ◌%◌, ◌^◌, ◌<◌, Bool, false, List, [], IsTrue, ◌&&◌, Option, None}
+use Rattle.std.specs.Prelude.{◌≡◌, ℕ, ◌%◌, ◌^◌, ◌<◌, false, List, [], IsTrue, ◌&&◌, Option, None}
 use Rattle.clif_types.specs.declared.types.«Type».{«Type»}
 use Rattle.clif_meaning.specs.Memory.{Range, address_in, lies_in}
 use Rattle.clif_meaning.specs.Instruction.{Operation, Compute, Return}

@@ -1,26 +1,26 @@
 -- Worked examples of the definitions. The rows, their texts and their answers are those of the crate's documentation
 -- and of its hostile scripts.
-use Rattle.std.specs.Prelude.{◌≡◌, ℕ, zero, suc, ◌+◌, ◌-◌, ◌%◌, ◌^◌, ◌==◌, nat_lt, if◌then◌else◌, Bool, true, false, List, [], ◌∷◌, map, Option, Some, None, pos, negsuc}
+use Rattle.std.specs.Prelude.{◌≡◌, ℕ, zero, suc, ◌+◌, ◌-◌, ◌%◌, ◌^◌, ◌==◌, nat_lt, if◌then◌else◌, List, [], ◌∷◌, Some, None, pos, negsuc}
 use Rattle.std.specs.declared.cmp.Ordering.{Ordering}
 use Rattle.std.specs.declared.cmp.Ordering.TheVariants.{Less, Equal, Greater}
 use Rattle.clif_types.specs.declared.types.«Type».{«Type»}
 use Rattle.clif_types.specs.declared.types.«Type».TheVariants as type
 use Rattle.clif_types.specs.declared.types.LaneType.TheVariants as lane
 use Rattle.clif_types.specs.Types.{bits_of}
-use Rattle.clif_meaning.specs.Bits.{wrapped, value_bytes, value_of_bytes}
-use Rattle.clif_meaning.specs.Memory.{Memory, Range, bytes_in, copied, filled, written, byte_order}
+use Rattle.clif_meaning.specs.Bits.{value_bytes, value_of_bytes}
+use Rattle.clif_meaning.specs.Memory.{Memory, bytes_in, copied, filled, written, byte_order}
 use Rattle.clif_meaning.specs.Switch.{switch_target}
-use Rattle.clif_meaning.specs.Instruction.{Arithmetic, Iconst, Iadd, Operation, Compute, Return, Instruction}
-use Rattle.clif_meaning.specs.Event.{CallSignature, SystemV, Fast, CallShape, Answer, Results, Event, Named, Text}
+use Rattle.clif_meaning.specs.Instruction.{Iconst, Iadd, Operation, Compute, Return}
+use Rattle.clif_meaning.specs.Event.{SystemV, Fast, CallShape, Event}
 use Rattle.clif_meaning.specs.World.{World}
 use Rattle.clif_meaning.specs.Outcome.{Values, Undefined, computed}
-use Rattle.clif_meaning.specs.Machine.{Observation, Ending, NotYet, Returned, Stuck, Control, At}
+use Rattle.clif_meaning.specs.Machine.{Observation, Returned, Stuck}
 use Rattle.clif_meaning.specs.SameMeaning.{SameMeaning}
 use Rattle.clif_meaning.specs.Name.{Name, answer_of}
-use Rattle.clif_meaning.specs.Request.{Request, CreateBlock, SwitchToBlock, SealBlock, DeclareVar, DefVar, UseVar, Build, Script}
-use Rattle.clif_meaning.specs.Ledger.{Ledger, empty_ledger, ledger_after, type_of}
-use Rattle.clif_meaning.specs.Acceptance.{iconst, iadd, return_, Verdict, Accepted, Misuse, Refused, verdict_on}
-use Rattle.clif_meaning.specs.FunctionView.{MapEntry, Placed, BlockView, FunctionView}
+use Rattle.clif_meaning.specs.Request.{CreateBlock, SwitchToBlock, SealBlock, DeclareVar, DefVar, UseVar, Script}
+use Rattle.clif_meaning.specs.Ledger.{ledger_after}
+use Rattle.clif_meaning.specs.Acceptance.{iconst, iadd, return_, Accepted, Misuse, Refused, verdict_on}
+use Rattle.clif_meaning.specs.FunctionView.{Placed, BlockView, FunctionView}
 use Rattle.clif_meaning.specs.WellPlaced.{WellPlaced}
 use Rattle.clif_meaning.specs.Typing.{EdgesMatch}
 use Rattle.clif_meaning.specs.Premises.{Premises}
@@ -54,11 +54,11 @@ pub record ByteExamples : Type 0 where
   pub little_endian : value_of_bytes (0x34 ∷ 0x12 ∷ []) ≡ 4660
   pub back : value_bytes 2 4660 ≡ 0x34 ∷ 0x12 ∷ []
   pub copy : bytes_in (copied (counting_from 100) (record { width = 64; start = 104; size = 12 }) 100) (record { width = 64; start = 100; size = 16 })
-    ≡ 1 ∷ 2 ∷ 3 ∷ 4 ∷ 1 ∷ 2 ∷ 3 ∷ 4 ∷ 5 ∷ 6 ∷ 7 ∷ 8 ∷ 9 ∷ 10 ∷ 11 ∷ 12 ∷ []
+      ≡ 1 ∷ 2 ∷ 3 ∷ 4 ∷ 1 ∷ 2 ∷ 3 ∷ 4 ∷ 5 ∷ 6 ∷ 7 ∷ 8 ∷ 9 ∷ 10 ∷ 11 ∷ 12 ∷ []
   pub fill : bytes_in (filled (counting_from 100) (record { width = 64; start = 101; size = 2 }) 0xab) (record { width = 64; start = 100; size = 4 })
-    ≡ 1 ∷ 0xab ∷ 0xab ∷ 4 ∷ []
+      ≡ 1 ∷ 0xab ∷ 0xab ∷ 4 ∷ []
   pub round_the_end : bytes_in (written (λ address. 0) (record { width = 16; start = 65535; size = 2 }) (5 ∷ 6 ∷ [])) (record { width = 16; start = 65535; size = 3 })
-    ≡ 5 ∷ 6 ∷ 0 ∷ []
+      ≡ 5 ∷ 6 ∷ 0 ∷ []
   pub less : byte_order (1 ∷ 200 ∷ 3 ∷ []) (1 ∷ 201 ∷ 0 ∷ []) ≡ Less
   pub equal : byte_order (1 ∷ 2 ∷ []) (1 ∷ 2 ∷ []) ≡ Equal
 
@@ -86,9 +86,9 @@ first_script =
 -- an instruction without edges and stack map
 abbrev pub placed : Operation → List ℕ → List ℕ → Placed
 placed operation operands results = record {
-    instruction = record { operation = operation; controlling = i32; operands = operands; edges = [] };
-    results = results;
-    stack_map = []
+  instruction = record { operation = operation; controlling = i32; operands = operands; edges = [] };
+  results = results;
+  stack_map = [];
 }
 
 -- the blocks of a function with one block
@@ -104,17 +104,17 @@ one_block items (suc block) = record { parameters = []; items = [] }
 --     return v2
 abbrev pub first_function_with : ℕ → FunctionView
 first_function_with number = record {
-    signature = record { parameters = []; returns = i32 ∷ []; convention = SystemV };
-    entry = Some 0;
-    blocks = one_block (
-        placed (Compute (Iconst (pos 0))) [] (3 ∷ [])
-        ∷ placed (Compute (Iconst (pos number))) [] (1 ∷ [])
-        ∷ placed (Compute Iadd) (0 ∷ 1 ∷ []) (2 ∷ [])
-        ∷ placed Return (2 ∷ []) []
-        ∷ []);
-    resolved = λ v. if v == 0 then 3 else v;
-    value_type = λ v. i32;
-    slots = []
+  signature = record { parameters = []; returns = i32 ∷ []; convention = SystemV };
+  entry = Some 0;
+  blocks = one_block (
+      placed (Compute (Iconst (pos 0))) [] (3 ∷ [])
+      ∷ placed (Compute (Iconst (pos number))) [] (1 ∷ [])
+      ∷ placed (Compute Iadd) (0 ∷ 1 ∷ []) (2 ∷ [])
+      ∷ placed Return (2 ∷ []) []
+      ∷ []);
+  resolved = λ v. if v == 0 then 3 else v;
+  value_type = λ v. i32;
+  slots = [];
 }
 
 abbrev pub first_function : FunctionView
@@ -149,12 +149,12 @@ EightIsNotSeven = (world : World) →
 -- the row `empty`: no calls, and a function without blocks
 abbrev pub empty_function : FunctionView
 empty_function = record {
-    signature = record { parameters = []; returns = []; convention = Fast };
-    entry = None;
-    blocks = λ block. record { parameters = []; items = [] };
-    resolved = λ v. v;
-    value_type = λ v. type.Invalid;
-    slots = []
+  signature = record { parameters = []; returns = []; convention = Fast };
+  entry = None;
+  blocks = λ block. record { parameters = []; items = [] };
+  resolved = λ v. v;
+  value_type = λ v. type.Invalid;
+  slots = [];
 }
 
 abbrev pub stuck : Observation

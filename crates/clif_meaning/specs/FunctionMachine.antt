@@ -1,11 +1,11 @@
 -- The function machine: it steps over the blocks of a finished function. It has the bits of all values, all zero at
 -- first, and memory with spill slots. From the documentation of Cranelift's IR; the collectors are own.
-use Rattle.std.specs.Prelude.{ℕ, suc, ◌+◌, if◌then◌else◌, ◌==◌, ◌&&◌, Bool, List, [], ◌∷◌, map, Option, Some, None, slice_get}
+use Rattle.std.specs.Prelude.{ℕ, ◌+◌, if◌then◌else◌, ◌==◌, ◌&&◌, Bool, List, [], ◌∷◌, map, Option, Some, None, slice_get}
 use Rattle.clif_types.specs.declared.types.«Type».{«Type»}
 use Rattle.clif_types.specs.Types.{bytes_of}
 use Rattle.clif_meaning.specs.Bits.{value_bytes, value_of_bytes}
 use Rattle.clif_meaning.specs.Memory.{Memory, Range, bytes_in, written}
-use Rattle.clif_meaning.specs.Instruction.{Instruction, Edge}
+use Rattle.clif_meaning.specs.Instruction.{Edge}
 use Rattle.clif_meaning.specs.Event.{Callee, CallShape, Event, Answer, Results, Exception}
 use Rattle.clif_meaning.specs.World.{World}
 use Rattle.clif_meaning.specs.Outcome.{Outcome, Gives, Goes, Returns, Traps, Calls, NoStep, outcome_of}
@@ -47,8 +47,8 @@ value_bits run state value = state.values (run.function.resolved value)
 -- Entering a block gives its parameters their arguments, all at once.
 abbrev pub enter_block : FunctionRun → FunctionState → ℕ → List ℕ → FunctionState
 enter_block run state block arguments = record state {
-    values = assigned same_value (run.function.blocks block).parameters arguments state.values;
-    control = At (run.function.blocks block).items
+  values = assigned same_value (run.function.blocks block).parameters arguments state.values;
+  control = At (run.function.blocks block).items;
 }
 
 -- along an edge, with what the call at its start gave
@@ -91,9 +91,9 @@ abbrev pub call_outside : FunctionRun → FunctionState → List MapEntry → Ca
 call_outside run state entries callee call arguments =
     let events = record { callee = callee; arguments = arguments; memory = shown_memory run.hidden state.memory } ∷ state.events in
     record state {
-        values = values_after run (run.world.moved events call) run.collector state.values;
-        memory = memory_beside run.hidden (slots_after run (run.world.moved events call) entries run.collector state.memory) (run.world.memory_after events call);
-        events = events
+      values = values_after run (run.world.moved events call) run.collector state.values;
+      memory = memory_beside run.hidden (slots_after run (run.world.moved events call) entries run.collector state.memory) (run.world.memory_after events call);
+      events = events;
     }
 
 -- A plain call goes on with its results. A try call takes its normal edge, the first, or that of an item.
@@ -120,7 +120,7 @@ carry_out run state placed rest NoStep = record state { control = IsStuck }
 abbrev pub run_placed : FunctionRun → FunctionState → Placed → List Placed → FunctionState
 run_placed run state placed rest =
     carry_out run state placed rest
-        (outcome_of run.world placed.instruction.operation placed.instruction.controlling (map (value_bits run state) placed.instruction.operands) state.memory)
+    (outcome_of run.world placed.instruction.operation placed.instruction.controlling (map (value_bits run state) placed.instruction.operands) state.memory)
 
 -- A block that ends without a terminator leaves the machine stuck. What ended stays.
 abbrev pub step_at : FunctionRun → FunctionState → Control Placed → FunctionState

@@ -2,9 +2,8 @@
 -- return or trap the function shows within n steps the script's variable program shows within some number of steps,
 -- and the other way round, though the script's collector moves every tracked variable and name at each outside call,
 -- and the function's only what lies in the slots that the call's stack map names. Own.
-use Rattle.std.specs.Prelude.{ℕ, Bool, drop, unwrap_or}
+use Rattle.std.specs.Prelude.{ℕ, Bool, drop}
 use Rattle.clif_types.specs.declared.types.«Type».{«Type»}
-use Rattle.clif_types.specs.declared.types.«Type».TheVariants as type
 use Rattle.clif_types.specs.Types.{int_of}
 use Rattle.clif_meaning.specs.Bits.{AreValues}
 use Rattle.clif_meaning.specs.World.{World, PlacesSlots}
@@ -12,7 +11,7 @@ use Rattle.clif_meaning.specs.Machine.{observed}
 use Rattle.clif_meaning.specs.SameMeaning.{SameMeaning, Behaviour}
 use Rattle.clif_meaning.specs.Store.{in_slots_from}
 use Rattle.clif_meaning.specs.Request.{Script}
-use Rattle.clif_meaning.specs.Ledger.{Ledger, ledger_after, type_of, or_invalid, variable_type, is_marked}
+use Rattle.clif_meaning.specs.Ledger.{ledger_after, type_of, or_invalid, variable_type, is_marked}
 use Rattle.clif_meaning.specs.Program.{program_of}
 use Rattle.clif_meaning.specs.Tracked.{is_tracked}
 use Rattle.clif_meaning.specs.ScriptMachine.{ScriptRun, script_machine}
@@ -28,23 +27,23 @@ in_spill_slot script function world address =
 -- the run of a script's variable program, beside the finished function
 abbrev pub script_run : Script → FunctionView → World → ScriptRun
 script_run script function world = record {
-    program = program_of script;
-    variable_type = λ v. or_invalid (variable_type (ledger_after script) v);
-    name_type = λ x. or_invalid (type_of (ledger_after script) x);
-    is_marked = is_marked (ledger_after script);
-    is_tracked = is_tracked script;
-    hidden = in_spill_slot script function world;
-    world = world
+  program = program_of script;
+  variable_type = λ v. or_invalid (variable_type (ledger_after script) v);
+  name_type = λ x. or_invalid (type_of (ledger_after script) x);
+  is_marked = is_marked (ledger_after script);
+  is_tracked = is_tracked script;
+  hidden = in_spill_slot script function world;
+  world = world;
 }
 
 -- the run of the finished function
 abbrev pub function_run : Script → FunctionView → ℕ → World → Collector → FunctionRun
 function_run script function pointer_width world collector = record {
-    function = function;
-    collector = collector;
-    pointer_width = pointer_width;
-    hidden = in_spill_slot script function world;
-    world = world
+  function = function;
+  collector = collector;
+  pointer_width = pointer_width;
+  hidden = in_spill_slot script function world;
+  world = world;
 }
 
 -- a world in which the function can run: arguments by its signature, and places for its slots

@@ -1,5 +1,5 @@
 -- Laws of the definitions, as the contracts of this crate's functions state them.
-use Rattle.std.specs.Prelude.{◌≡◌, List, [], ◌∷◌, ◌++◌}
+use Rattle.std.specs.Prelude.{◌≡◌, [], ◌∷◌, ◌++◌}
 use Rattle.clif_meaning.specs.Machine.{observed, EndStays}
 use Rattle.clif_meaning.specs.Request.{Request, Script}
 use Rattle.clif_meaning.specs.Ledger.{ledger_after, ledger_with}

@@ -1,11 +1,11 @@
 -- The ledger of a script: what its calls alone tell. Which answers there are and of which kind and type, the state of
 -- each block, the layout, variables with their types, and which tables serve. The conditions on calls speak of it.
 -- After the documentation of Cranelift's `FunctionBuilder`.
-use Rattle.std.specs.Prelude.{ℕ, zero, suc, ◌+◌, ◌==◌, not, ◌&&◌, ◌||◌, if◌then◌else◌, Bool, true, false, List, [], ◌∷◌, ◌++◌, length, map, fold, find, slice_get, slice_set, Option, Some, None, option_and_then, option_map, is_some}
-use Rattle.std.specs.List.{list_any, list_all}
+use Rattle.std.specs.Prelude.{ℕ, zero, suc, not, ◌&&◌, if◌then◌else◌, Bool, true, false, List, [], ◌∷◌, ◌++◌, length, map, fold, find, slice_get, Option, Some, None, option_and_then, option_map, is_some}
+use Rattle.std.specs.List.{list_any}
 use Rattle.clif_types.specs.declared.types.«Type».{«Type»}
 use Rattle.clif_types.specs.declared.types.«Type».TheVariants as type
-use Rattle.clif_meaning.specs.Instruction.{Operation, Compute, Return, Argument, Known, CallResult, CallPayload, Edge, Instruction}
+use Rattle.clif_meaning.specs.Instruction.{Operation, Compute, Return, Edge}
 use Rattle.clif_meaning.specs.Name.{Name, answer_of, same_name}
 use Rattle.clif_meaning.specs.Request.{Request, CreateBlock, SwitchToBlock, SealBlock, DeclareVar, DefVar, UseVar, Build, Finalize, Script}
 use Rattle.clif_meaning.specs.Program.{result_types}

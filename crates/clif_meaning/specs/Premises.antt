@@ -1,12 +1,12 @@
 -- The premises of the theorem on whole scripts: what is asked of a script and of a world. Own; they say what a front
 -- end has to keep for its variables to mean what it wants.
-use Rattle.std.specs.Prelude.{◌≡◌, ℕ, ◌+◌, false, Bool, List, [], ◌∷◌, map, Option, Some, None, IsTrue, ◌≢◌, unwrap_or}
+use Rattle.std.specs.Prelude.{◌≡◌, ℕ, false, Bool, List, [], ◌∷◌, map, Option, Some, None, IsTrue, ◌≢◌}
 use Rattle.std.specs.List.{AllByRecursion}
 use Rattle.clif_types.specs.declared.types.«Type».{«Type»}
 use Rattle.clif_types.specs.declared.types.«Type».TheVariants as type
 use Rattle.clif_types.specs.declared.types.LaneType.TheVariants as lane
 use Rattle.clif_meaning.specs.Memory.{Range, lies_in}
-use Rattle.clif_meaning.specs.Instruction.{Edge, Instruction}
+use Rattle.clif_meaning.specs.Instruction.{Edge}
 use Rattle.clif_meaning.specs.Event.{LibraryFunction, Memcpy, Memmove, Memset, Memcmp, CallSignature}
 use Rattle.clif_meaning.specs.Machine.{Control, At, HasReturned, HasTrapped, IsStuck, state_after}
 use Rattle.clif_meaning.specs.Name.{Name}
@@ -17,7 +17,7 @@ use Rattle.clif_meaning.specs.Tracked.{is_tracked}
 use Rattle.clif_meaning.specs.ScriptMachine.{ScriptRun, ScriptState, script_machine}
 use Rattle.clif_meaning.specs.WellPlaced.{program_code, IsWellPlaced}
 use Rattle.clif_meaning.specs.Typing.{IsWellTyped}
-use Rattle.clif_meaning.specs.Access.{Claim, Holds, touched_ranges, claims_of, LibraryCall, library_call}
+use Rattle.clif_meaning.specs.Access.{Holds, touched_ranges, claims_of, LibraryCall, library_call}
 
 -- it holds of each item of each block
 abbrev pub EachItem : (Item → Type 0) → Program → Type 0

@@ -1,9 +1,9 @@
 -- The script machine: it runs the variable program of a script. It has variables and names of answers, all zero at
 -- first, and memory. From the documentation of Cranelift's variables; what a moving collector does to them is own.
-use Rattle.std.specs.Prelude.{ℕ, suc, ◌+◌, if◌then◌else◌, ◌==◌, Bool, List, [], ◌∷◌, map, Option, Some, None, slice_get}
+use Rattle.std.specs.Prelude.{ℕ, if◌then◌else◌, ◌==◌, Bool, List, [], ◌∷◌, map, Option, Some, None, slice_get}
 use Rattle.clif_types.specs.declared.types.«Type».{«Type»}
 use Rattle.clif_meaning.specs.Memory.{Memory}
-use Rattle.clif_meaning.specs.Instruction.{Instruction, Edge}
+use Rattle.clif_meaning.specs.Instruction.{Edge}
 use Rattle.clif_meaning.specs.Event.{Callee, CallShape, Event, Answer, Results, Exception}
 use Rattle.clif_meaning.specs.World.{World}
 use Rattle.clif_meaning.specs.Outcome.{Outcome, Gives, Goes, Returns, Traps, Calls, NoStep, outcome_of}
@@ -38,8 +38,8 @@ same_variable a b = a == b
 -- Entering a block gives its parameters their arguments, all at once; other names keep their bits.
 abbrev pub enter_block : ScriptRun → ScriptState → Name → List ℕ → ScriptState
 enter_block run state block arguments = record state {
-    names = assigned same_name (run.program.parameters block) arguments state.names;
-    control = At (run.program.items block)
+  names = assigned same_name (run.program.parameters block) arguments state.names;
+  control = At (run.program.items block);
 }
 
 -- along an edge, with what the call at its start gave
@@ -57,10 +57,10 @@ abbrev pub call_outside : ScriptRun → ScriptState → Callee → CallShape →
 call_outside run state callee call arguments =
     let events = record { callee = callee; arguments = arguments; memory = shown_memory run.hidden state.memory } ∷ state.events in
     record state {
-        variables = λ v. if run.is_marked v then run.world.moved events call (run.variable_type v) (state.variables v) else state.variables v;
-        names = λ x. if run.is_tracked x then run.world.moved events call (run.name_type x) (state.names x) else state.names x;
-        memory = memory_beside run.hidden state.memory (run.world.memory_after events call);
-        events = events
+      variables = λ v. if run.is_marked v then run.world.moved events call (run.variable_type v) (state.variables v) else state.variables v;
+      names = λ x. if run.is_tracked x then run.world.moved events call (run.name_type x) (state.names x) else state.names x;
+      memory = memory_beside run.hidden state.memory (run.world.memory_after events call);
+      events = events;
     }
 
 -- A plain call goes on with its results. A try call takes its normal edge, the first, or that of an item.
@@ -87,7 +87,7 @@ carry_out run state edges results rest NoStep = record state { control = IsStuck
 abbrev pub run_item : ScriptRun → ScriptState → Item → List Item → ScriptState
 run_item run state (Instruct place instruction results) rest =
     carry_out run state instruction.edges results rest
-        (outcome_of run.world instruction.operation instruction.controlling (map state.names instruction.operands) state.memory)
+    (outcome_of run.world instruction.operation instruction.controlling (map state.names instruction.operands) state.memory)
 run_item run state (Use variable name) rest =
     record state { names = assigned same_name (name ∷ []) (state.variables variable ∷ []) state.names; control = At rest }
 run_item run state (Assign variable name) rest =

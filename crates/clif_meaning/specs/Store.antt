@@ -1,5 +1,5 @@
 -- Places that hold bits, as functions, and memory with spill slots left out. Shared by both machines. Own.
-use Rattle.std.specs.Prelude.{ℕ, zero, suc, ◌+◌, nat_lt, nat_le, ◌&&◌, ◌||◌, if◌then◌else◌, Bool, true, false, List, [], ◌∷◌}
+use Rattle.std.specs.Prelude.{ℕ, suc, ◌+◌, nat_lt, nat_le, ◌&&◌, ◌||◌, if◌then◌else◌, Bool, false, List, [], ◌∷◌}
 use Rattle.clif_meaning.specs.Memory.{Memory}
 use Rattle.clif_meaning.specs.Instruction.{Argument, Known, CallResult, CallPayload}
 use Rattle.clif_meaning.specs.World.{World, Slot}

@@ -1,14 +1,14 @@
 -- Types of operands and of what edges pass. After the documentation of Cranelift's instructions.
-use Rattle.std.specs.Prelude.{◌≡◌, ℕ, Bool, true, List, [], ◌∷◌, map, Option, Some, None, option_and_then, slice_get, IsTrue}
+use Rattle.std.specs.Prelude.{◌≡◌, ℕ, Bool, true, List, [], ◌∷◌, map, Option, Some, None, slice_get, IsTrue}
 use Rattle.std.specs.List.{AllByRecursion}
 use Rattle.clif_types.specs.declared.types.«Type».{«Type»}
 use Rattle.clif_types.specs.declared.types.«Type».TheVariants as type
 use Rattle.clif_types.specs.declared.types.LaneType.TheVariants as lane
 use Rattle.clif_types.specs.Types.{is_int}
-use Rattle.clif_meaning.specs.Instruction.{Arithmetic, Iconst, Iadd, Operation, Compute, Return, Argument, Known, CallResult, CallPayload, Edge, Instruction}
-use Rattle.clif_meaning.specs.Event.{CallSignature, CallShape}
+use Rattle.clif_meaning.specs.Instruction.{Iconst, Iadd, Operation, Compute, Return, Argument, Known, CallResult, CallPayload, Edge, Instruction}
+use Rattle.clif_meaning.specs.Event.{CallShape}
 use Rattle.clif_meaning.specs.Ledger.{or_invalid}
-use Rattle.clif_meaning.specs.FunctionView.{Placed, FunctionView}
+use Rattle.clif_meaning.specs.FunctionView.{FunctionView}
 
 -- The table of operations: whether the operation is there at the controlling type. Arithmetic is on integers only.
 abbrev pub is_made_at : Operation → «Type» → Bool
@@ -51,5 +51,5 @@ pub record IsWellTyped {Block Operand : Type 0} (type_of : Operand → «Type»)
 abbrev pub EdgesMatch : FunctionView → Type 0
 EdgesMatch function =
     (block : ℕ) → AllByRecursion (λ placed. AllByRecursion
-        (EdgeMatches function.value_type (λ target. map function.value_type (function.blocks target).parameters) (returns_of (call_shape placed.instruction.operation)))
-        placed.instruction.edges) (function.blocks block).items
+    (EdgeMatches function.value_type (λ target. map function.value_type (function.blocks target).parameters) (returns_of (call_shape placed.instruction.operation)))
+    placed.instruction.edges) (function.blocks block).items

@@ -1,8 +1,8 @@
 -- Well placed: what an item names was given before, on every path from the entry. The usual dominance of uses by
 -- definitions, said by paths. An item names its operands before its results are given, and its edges' arguments
 -- after; parameters are given as their block is entered.
-use Rattle.std.specs.Prelude.{◌≡◌, ℕ, zero, suc, ◌⊎◌, List, [], ◌∷◌, ◌++◌, length, map, flat_map, Option, Some, None, slice_get, Contains}
-use Rattle.clif_meaning.specs.Instruction.{Argument, Known, CallResult, CallPayload, Edge, Instruction}
+use Rattle.std.specs.Prelude.{ℕ, zero, suc, ◌⊎◌, List, [], ◌∷◌, ◌++◌, length, map, flat_map, Option, Some, None, slice_get, Contains}
+use Rattle.clif_meaning.specs.Instruction.{Argument, Known, CallResult, CallPayload, Instruction}
 use Rattle.clif_meaning.specs.Name.{Name}
 use Rattle.clif_meaning.specs.Program.{Item, Instruct, Use, Assign, Program}
 use Rattle.clif_meaning.specs.FunctionView.{Placed, FunctionView}
@@ -72,18 +72,18 @@ item_at program p = slice_get (program.items p.block) p.index
 
 abbrev pub program_flow : Program → Flow Name
 program_flow program = record {
-    entry = program.entry;
-    size = λ block. length (program.items block);
-    targets = λ p. item_targets (item_at program p)
+  entry = program.entry;
+  size = λ block. length (program.items block);
+  targets = λ p. item_targets (item_at program p);
 }
 
 -- the code of a variable program
 abbrev pub program_code : Program → Code Name Name
 program_code program = record {
-    flow = program_flow program;
-    parameters = program.parameters;
-    gives = λ p. item_gives (item_at program p);
-    names = λ p. item_names (item_at program p)
+  flow = program_flow program;
+  parameters = program.parameters;
+  gives = λ p. item_gives (item_at program p);
+  names = λ p. item_names (item_at program p);
 }
 
 -- Of an instruction of a function: the same, operands after their aliases.
@@ -104,18 +104,18 @@ placed_at function p = slice_get (function.blocks p.block).items p.index
 
 abbrev pub function_flow : FunctionView → Flow ℕ
 function_flow function = record {
-    entry = function.entry;
-    size = λ block. length (function.blocks block).items;
-    targets = λ p. placed_targets (placed_at function p)
+  entry = function.entry;
+  size = λ block. length (function.blocks block).items;
+  targets = λ p. placed_targets (placed_at function p);
 }
 
 -- the code of a function
 abbrev pub function_code : FunctionView → Code ℕ ℕ
 function_code function = record {
-    flow = function_flow function;
-    parameters = λ block. (function.blocks block).parameters;
-    gives = λ p. placed_gives (placed_at function p);
-    names = λ p. placed_names function.resolved (placed_at function p)
+  flow = function_flow function;
+  parameters = λ block. (function.blocks block).parameters;
+  gives = λ p. placed_gives (placed_at function p);
+  names = λ p. placed_names function.resolved (placed_at function p);
 }
 
 -- in a function: on every path from the entry a value, after aliases, is defined before each operand and each

@@ -7,11 +7,9 @@ ghost use Rattle.clif_meaning.specs.Laws.{OneMoreCall};
 /// The test for equal types answers whether they are equal.
 pub fn same_type_decides()
     ensures { SameTypeDecides }
-{
-}
+{}
 
 /// A call at the end of a script changes program and ledger by that call alone.
 pub fn one_more_call()
     ensures { OneMoreCall }
-{
-}
+{}
