@@ -1,2 +1,6 @@
+pub mod MemFlags
+pub mod Signature
+pub mod StackSlot
+pub mod Target
+pub mod Texts
 pub mod Types
-pub mod Names

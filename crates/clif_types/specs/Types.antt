@@ -1,7 +1,6 @@
 -- Types of the IR: a lane, or a vector of 2, 4, 8, 16, 32 or 64 equal lanes.
 -- After the documentation of Cranelift's `ir::Type`.
-use Rattle.std.specs.Prelude.{ℕ, ◌*◌, ◌/◌, ◌-◌, ◌^◌, ◌≤◌, ◌++◌, Bool, true, false, List, codes, nat_le, IsTrue, Option, Some, None, ◌==◌, if◌then◌else◌}
-use Rattle.std.specs.Fmt.{decimal}
+use Rattle.std.specs.Prelude.{ℕ, ◌*◌, ◌/◌, ◌-◌, ◌^◌, Bool, true, false, nat_le, IsTrue, Option, Some, None, ◌==◌, if◌then◌else◌}
 use Rattle.clif_types.specs.declared.types.LaneType.{LaneType}
 use Rattle.clif_types.specs.declared.types.LaneType.TheVariants as lane
 use Rattle.clif_types.specs.declared.types.LaneCount.{LaneCount}

@@ -6,7 +6,7 @@
 
 ghost use Rattle.std.specs.Prelude.{◌≡◌, ◌≢◌, ◌*◌, ◌↔◌, ℕ, Some, None, IsTrue, SomeIff, List};
 ghost use Rattle.clif_types.specs.Types.{int_of, lane_bits_of, lanes_of, bits_of, bytes_of, lane_type_of, lane_count_of, is_int, is_vector, is_type, least_of, greatest_of};
-ghost use Rattle.clif_types.specs.Names.{lane_text, type_text};
+ghost use Rattle.clif_types.specs.Texts.{lane_text, type_text};
 
 use std::fmt;
 
@@ -221,6 +221,20 @@ impl fmt::Display for Type {
             Type::Vector(lane, count) => {
                 let lanes = count.lanes();
                 write!(f, "{lane}x{lanes}")
+            }
+        }
+    }
+}
+
+/// As Cranelift writes it: `types::I8X16`.
+impl fmt::Debug for Type {
+    fn fmt<W: fmt::Write>(&self, f: &mut fmt::Formatter<W>) -> fmt::Result {
+        match self {
+            Type::Invalid => f.write_str("types::INVALID"),
+            Type::Lane(lane) => write!(f, "types::{lane:?}"),
+            Type::Vector(lane, count) => {
+                let lanes = count.lanes();
+                write!(f, "types::{lane:?}X{lanes}")
             }
         }
     }
