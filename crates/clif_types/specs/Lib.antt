@@ -1,3 +1,5 @@
+pub mod AliasRegions
+pub mod EntitySet
 pub mod MemFlags
 pub mod Signature
 pub mod StackSlot

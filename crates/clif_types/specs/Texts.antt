@@ -1,6 +1,8 @@
 -- The texts of types and of plain data, as the printer writes them.
-use Rattle.std.specs.Prelude.{◌++◌, ◌==◌, List, [], ℕ, Option, Some, None, codes, if◌then◌else◌}
+use Rattle.std.specs.Prelude.{◌++◌, ◌==◌, List, [], ◌∷◌, ℕ, Option, Some, None, codes, if◌then◌else◌}
 use Rattle.std.specs.Fmt.{decimal}
+use Rattle.std.specs.List.{join_by}
+use Rattle.clif_types.specs.Signature.{SignatureShape}
 use Rattle.clif_types.specs.declared.types.LaneType.{LaneType}
 use Rattle.clif_types.specs.declared.types.LaneType.TheVariants as lane
 use Rattle.clif_types.specs.declared.types.«Type».{«Type»}
@@ -102,6 +104,19 @@ external_name_text (name.LibCall c) = codes "%" ++ lib_call_text c
 -- a parameter is shown by its type
 abbrev pub abi_param_text : AbiParam → List ℕ
 abi_param_text p = type_text p.value_type
+
+-- `i32, i64`
+abbrev pub types_text : List AbiParam → List ℕ
+types_text params = join_by abi_param_text (codes ", ") params
+
+-- ` -> i32`, and nothing where nothing is returned
+abbrev pub returns_text : List AbiParam → List ℕ
+returns_text [] = []
+returns_text (first ∷ others) = codes " -> " ++ types_text (first ∷ others)
+
+-- `(i32, i64) -> i32 system_v`
+abbrev pub signature_text : SignatureShape → List ℕ
+signature_text s = codes "(" ++ types_text s.params ++ codes ")" ++ returns_text s.returns ++ codes " " ++ call_conv_text s.call_conv
 
 -- what an imported function's line says after `=`
 abbrev pub ext_func_text : ExtFuncData → List ℕ

@@ -1,7 +1,9 @@
 //! Signatures, and what a function says of the functions that it calls.
 #![tactic(auto)]
 
-ghost use Rattle.std.specs.Prelude.{◌≡◌, Some, []};
+ghost use Rattle.std.specs.Prelude.{◌≡◌, ◌++◌, Some, [], codes, flat_map};
+ghost use Rattle.std.specs.Fmt.{WritesOnOk};
+ghost use Rattle.clif_types.specs.Texts.{abi_param_text, types_text, returns_text, signature_text, ext_func_text};
 
 use crate::call_conv::CallConv;
 use crate::entities::tables::SigRef;
@@ -27,9 +29,6 @@ impl AbiParam {
 }
 
 impl fmt::Display for AbiParam {
-    ghost use Rattle.std.specs.Prelude.{Some};
-    ghost use Rattle.clif_types.specs.Texts.{abi_param_text};
-
     ghost output = { λ p. Some (abi_param_text p) };
 
     fn fmt<W: fmt::Write>(&self, f: &mut fmt::Formatter<W>) -> fmt::Result {
@@ -85,27 +84,49 @@ impl Clone for Signature {
     }
 }
 
-/// Writes the types of parameters, joined by `, `.
-fn write_types<W: fmt::Write>(f: &mut fmt::Formatter<W>, params: &[AbiParam]) -> fmt::Result {
-    for (place, param) in params.iter().enumerate() {
-        if place > 0 {
-            f.write_str(", ")?;
-        }
-        write!(f, "{param}")?;
+/// Writes each type after `, `.
+fn write_more_types<W: fmt::Write>(f: &mut fmt::Formatter<W>, params: &[AbiParam]) -> fmt::Result
+    ensures { WritesOnOk W.write_str_gives f.old result (flat_map (λ p. codes ", " ++ abi_param_text p) params.now) f.new }
+{
+    for param in params {
+        write!(f, ", {param}")?;
     }
     Ok(())
 }
 
+/// Writes the types, joined by `, `.
+fn write_types<W: fmt::Write>(f: &mut fmt::Formatter<W>, params: &[AbiParam]) -> fmt::Result
+    ensures { WritesOnOk W.write_str_gives f.old result (types_text params.now) f.new }
+{
+    match params.split_first() {
+        Some((first, others)) => {
+            write!(f, "{first}")?;
+            write_more_types(f, others)
+        }
+        None => Ok(()),
+    }
+}
+
+/// Writes ` -> ` and the types, or nothing where there are none.
+fn write_returns<W: fmt::Write>(f: &mut fmt::Formatter<W>, returns: &[AbiParam]) -> fmt::Result
+    ensures { WritesOnOk W.write_str_gives f.old result (returns_text returns.now) f.new }
+{
+    if returns.is_empty() {
+        return Ok(());
+    }
+    f.write_str(" -> ")?;
+    write_types(f, returns)
+}
+
 impl fmt::Display for Signature {
+    ghost output = { λ s. Some (signature_text s) };
+
     fn fmt<W: fmt::Write>(&self, f: &mut fmt::Formatter<W>) -> fmt::Result {
+        let call_conv = self.call_conv;
         f.write_str("(")?;
         write_types(f, self.params.as_slice())?;
         f.write_str(")")?;
-        if !self.returns.is_empty() {
-            f.write_str(" -> ")?;
-            write_types(f, self.returns.as_slice())?;
-        }
-        let call_conv = self.call_conv;
+        write_returns(f, self.returns.as_slice())?;
         write!(f, " {call_conv}")
     }
 }
@@ -137,9 +158,6 @@ impl Clone for ExtFuncData {
 }
 
 impl fmt::Display for ExtFuncData {
-    ghost use Rattle.std.specs.Prelude.{Some};
-    ghost use Rattle.clif_types.specs.Texts.{ext_func_text};
-
     ghost output = { λ x. Some (ext_func_text x) };
 
     fn fmt<W: fmt::Write>(&self, f: &mut fmt::Formatter<W>) -> fmt::Result {

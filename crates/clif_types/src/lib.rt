@@ -1,10 +1,12 @@
 //! Types, numbers and plain data of the IR.
 #![tactic(auto)]
 
+pub mod alias_region;
 pub mod call_conv;
 pub mod condcodes;
 pub mod entities;
 pub mod entity;
+pub mod entity_set;
 pub mod error;
 pub mod extfunc;
 pub mod extname;
@@ -18,6 +20,7 @@ pub mod target;
 pub mod trapcode;
 pub mod types;
 
+pub use alias_region::{AliasRegionData, AliasRegionSet};
 pub use call_conv::CallConv;
 pub use condcodes::IntCC;
 pub use entities::code::{Block, ExceptionTable, Inst, JumpTable, Value};
@@ -25,6 +28,7 @@ pub use entities::tables::{
     AliasRegion, Constant, DynamicStackSlot, FuncRef, GlobalValue, SigRef, StackSlot, ValueLabel,
 };
 pub use entity::EntityRef;
+pub use entity_set::EntitySet;
 pub use error::BuildError;
 pub use extfunc::{AbiParam, ExtFuncData, Signature};
 pub use extname::{ExternalName, TestcaseName, UserExternalName, UserFuncName};
@@ -37,3 +41,6 @@ pub use stackslot::{DynamicStackSlotData, StackSlotData};
 pub use target::{PointerWidth, TargetFrontendConfig};
 pub use trapcode::TrapCode;
 pub use types::{LaneCount, LaneType, Type};
+
+#[cfg(test)]
+mod tests;
