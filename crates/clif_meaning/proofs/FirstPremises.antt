@@ -2,6 +2,8 @@
 use Rattle.std.proofs.Common.{◌≡◌, ◌<◌, ◌≤◌, ℕ, zero, suc, List, [], ◌∷◌, refl, sym, ◌∙◌, arith, ◌⊎◌, inl, inr, subst, Bool}
 use Rattle.std.specs.List.{AllByRecursion}
 use Rattle.clif_types.specs.declared.types.«Type».{«Type»}
+use Rattle.clif_types.specs.declared.target.PointerWidth.TheVariants.{U64}
+use Rattle.clif_types.specs.Target.{pointer_type_of}
 use Rattle.clif_meaning.specs.Access.{touched_ranges, claims_of}
 use Rattle.clif_meaning.specs.Instruction.{Operation, Compute, Return}
 use Rattle.clif_meaning.specs.Event.{CallShape, Event}
@@ -11,7 +13,7 @@ use Rattle.clif_meaning.specs.SameMeaning.{Behaviour, ShowsAllOf}
 use Rattle.clif_meaning.specs.Program.{Item, Instruct, Use, Assign}
 use Rattle.clif_meaning.specs.ScriptMachine.{ScriptRun, ScriptState, script_machine}
 use Rattle.clif_meaning.specs.Premises.{Premises, OfNextItem, InEachStep, SparesSpillSlots, ClaimsAreTrue}
-use Rattle.clif_meaning.specs.Headline.{script_run, function_run, script_behaviour, function_behaviour, pointer_type, IsWorldOf, MeansTheSame}
+use Rattle.clif_meaning.specs.Headline.{script_run, function_run, script_behaviour, function_behaviour, IsWorldOf, MeansTheSame}
 use Rattle.clif_meaning.specs.FunctionMachine.{ByMaps}
 use Rattle.clif_meaning.specs.Examples.{first_script, first_function, moved_by_16}
 use Rattle.clif_meaning.proofs.FirstRow
@@ -52,7 +54,7 @@ next_item P each IsStuck = tt
 each_step : (P : ScriptState → Item → Type 0) (run : ScriptRun) → ((state : ScriptState) (item : Item) → P state item) → InEachStep P run
 each_step P run each n = next_item _ (each (state_after (script_machine run) n)) (state_after (script_machine run) n).control
 
-pub first_premises : (world : World) → Premises first_script first_function.signature (pointer_type 64) (script_run first_script first_function world)
+pub first_premises : (world : World) → Premises first_script first_function.signature (pointer_type_of U64) (script_run first_script first_function world)
 first_premises world = record {
   targets_filled = FirstRow.first_items _ (tt, (tt, (tt, (tt, (tt, (tt, tt))))));
   tables_once = tt;
@@ -94,7 +96,7 @@ shows_all left right a b stays end before same n = by (order n a)
     by (inl early) = (0, before n early)
     by (inr late) = (b, stays a n late end ∙ same)
 
-script_before : (world : World) (n : ℕ) → n < 6 → script_behaviour first_script first_function world n ≡ function_behaviour first_script first_function 64 world 0
+script_before : (world : World) (n : ℕ) → n < 6 → script_behaviour first_script first_function world n ≡ function_behaviour first_script first_function U64 world 0
 script_before world zero h = refl
 script_before world (suc zero) h = refl
 script_before world (suc (suc zero)) h = refl
@@ -103,19 +105,19 @@ script_before world (suc (suc (suc (suc zero)))) h = refl
 script_before world (suc (suc (suc (suc (suc zero))))) h = refl
 script_before world (suc (suc (suc (suc (suc (suc n)))))) h = absurd (omega arith)
 
-function_before : (world : World) (n : ℕ) → n < 4 → function_behaviour first_script first_function 64 world n ≡ script_behaviour first_script first_function world 0
+function_before : (world : World) (n : ℕ) → n < 4 → function_behaviour first_script first_function U64 world n ≡ script_behaviour first_script first_function world 0
 function_before world zero h = refl
 function_before world (suc zero) h = refl
 function_before world (suc (suc zero)) h = refl
 function_before world (suc (suc (suc zero))) h = refl
 function_before world (suc (suc (suc (suc n)))) h = absurd (omega arith)
 
-pub first_same : MeansTheSame first_script 64 first_function
+pub first_same : MeansTheSame first_script U64 first_function
 first_same world fits premises = record {
-  there = shows_all (script_behaviour first_script first_function world) (function_behaviour first_script first_function 64 world) 6 4
+  there = shows_all (script_behaviour first_script first_function world) (function_behaviour first_script first_function U64 world) 6 4
       (Endings.script_stays (script_run first_script first_function world)) tt (script_before world) refl;
-  back = shows_all (function_behaviour first_script first_function 64 world) (script_behaviour first_script first_function world) 4 6
-      (Endings.function_stays (function_run first_script first_function 64 world ByMaps)) tt (function_before world) refl;
+  back = shows_all (function_behaviour first_script first_function U64 world) (script_behaviour first_script first_function world) 4 6
+      (Endings.function_stays (function_run first_script first_function U64 world ByMaps)) tt (function_before world) refl;
 }
 
 -- of no slots nothing is asked
@@ -127,5 +129,5 @@ no_slots world = record {
   apart = λ s t slot other h. cc;
 }
 
-pub a_world : (world : World) × IsWorldOf first_function 64 world × ((events : List Event) (call : CallShape) → world.moved events call ≡ moved_by_16)
+pub a_world : (world : World) × IsWorldOf first_function U64 world × ((events : List Event) (call : CallShape) → world.moved events call ≡ moved_by_16)
 a_world = (SampleWorld.sample_world, record { arguments = tt; slots = no_slots SampleWorld.sample_world }, λ events call. refl)

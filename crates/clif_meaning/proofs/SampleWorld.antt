@@ -7,7 +7,7 @@ use Rattle.clif_types.specs.declared.types.«Type».{«Type»}
 use Rattle.clif_types.specs.Types.{bits_of}
 use Rattle.clif_meaning.specs.Bits.{IsValue, AreValues}
 use Rattle.clif_meaning.specs.Memory.{byte_order}
-use Rattle.clif_meaning.specs.Event.{Results}
+use Rattle.clif_meaning.specs.Event.{Results, types_of}
 use Rattle.clif_meaning.specs.World.{World, HasSignOf}
 use Rattle.clif_meaning.specs.Examples.{sign_number, moved_by_16}
 
@@ -38,13 +38,13 @@ sample_world = record {
   is_accessible = λ address. true;
   slot_place = λ slot. 0;
   memcmp_number = λ left right. sign_number (byte_order left right);
-  answer = λ events call. Results (map (λ ty. 0) call.signature.returns);
+  answer = λ events call. Results (map (λ ty. 0) (types_of call.signature.returns));
   memory_after = λ events call address. 0;
   moved = λ events call. moved_by_16;
   holds_bytes = λ address. omega arith;
   keeps_bytes = λ events call address. omega arith;
   memcmp_sign = λ left right. signed (byte_order left right);
-  answers_fit = λ events call. zeros_fit call.signature.returns;
+  answers_fit = λ events call. zeros_fit (types_of call.signature.returns);
   moved_fits = λ events call. moves_inside;
   moved_zero = λ events call ty. refl;
 }

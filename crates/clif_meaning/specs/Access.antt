@@ -2,9 +2,10 @@
 -- flags, alignments and overlap promise. After the documentation of Cranelift's memory flags and memory helpers.
 use Rattle.std.specs.Prelude.{◌≡◌, ℕ, ◌%◌, ◌^◌, ◌<◌, false, List, [], IsTrue, ◌&&◌, Option, None}
 use Rattle.clif_types.specs.declared.types.«Type».{«Type»}
+use Rattle.clif_types.specs.Signature.{SignatureShape}
+use Rattle.clif_types.specs.declared.libcall.LibCall.{LibCall}
 use Rattle.clif_meaning.specs.Memory.{Range, address_in, lies_in}
 use Rattle.clif_meaning.specs.Instruction.{Operation, Compute, Return}
-use Rattle.clif_meaning.specs.Event.{LibraryFunction, CallSignature}
 use Rattle.clif_meaning.specs.World.{World}
 
 -- a claim: each byte of the range may be read and written; the address is a multiple of the alignment, which is a
@@ -32,8 +33,8 @@ claims_of Return ty operands = []
 
 -- a call of a function of the C library, by the signature that it gives
 pub record LibraryCall : Type 0 where
-  pub callee : LibraryFunction
-  pub signature : CallSignature
+  pub callee : LibCall
+  pub signature : SignatureShape
 
 -- The table of operations: the call of a library function that it makes, if it makes one. No operation does so far.
 abbrev pub library_call : Operation → Option LibraryCall

@@ -1,40 +1,22 @@
 -- Outside calls as they are seen from outside, and what may be answered to them. Own.
-use Rattle.std.specs.Prelude.{ℕ, ◌+◌, ◌<◌, List, [], ◌∷◌}
+use Rattle.std.specs.Prelude.{ℕ, ◌+◌, ◌<◌, List, [], ◌∷◌, map}
 use Rattle.clif_types.specs.declared.types.«Type».{«Type»}
+use Rattle.clif_types.specs.Signature.{SignatureShape}
+use Rattle.clif_types.specs.declared.extfunc.AbiParam.{AbiParam}
+use Rattle.clif_types.specs.declared.extname.ExternalName.{ExternalName}
 use Rattle.clif_types.specs.declared.types.«Type».TheVariants as type
 use Rattle.clif_types.specs.declared.types.LaneType.TheVariants as lane
 use Rattle.clif_meaning.specs.Bits.{AreValues}
 use Rattle.clif_meaning.specs.Memory.{Memory}
 
--- how a function is called
-pub data Convention : Type 0 where
-  Fast : Convention
-  SystemV : Convention
-  Tail : Convention
-
--- what a function takes and gives
-pub record CallSignature : Type 0 where
-  pub parameters : List «Type»
-  pub returns : List «Type»
-  pub convention : Convention
-
--- the functions of the C library that the builder itself calls
-pub data LibraryFunction : Type 0 where
-  Memcpy : LibraryFunction
-  Memmove : LibraryFunction
-  Memset : LibraryFunction
-  Memcmp : LibraryFunction
-
--- the name of a function
-pub data FunctionName : Type 0 where
-  User : (namespace index : ℕ) → FunctionName
-  Text : (text : List ℕ) → FunctionName
-  Library : LibraryFunction → FunctionName
+-- the types of parameters or of what is returned
+abbrev pub types_of : List AbiParam → List «Type»
+types_of params = map (λ param. param.value_type) params
 
 -- what is called: a function by its name, or whatever lies at an address, by the signature that the call gives
 pub data Callee : Type 0 where
-  Named : FunctionName → Callee
-  AtAddress : (address : ℕ) (signature : CallSignature) → Callee
+  Named : ExternalName → Callee
+  AtAddress : (address : ℕ) (signature : SignatureShape) → Callee
 
 -- an item of a try call's exception table, its edge or context value aside
 pub data CallItem : Type 0 where
@@ -45,7 +27,7 @@ pub data CallItem : Type 0 where
 -- what the answer to a call depends on beside what was shown: the signature, and a try call's items (other calls have
 -- none)
 pub record CallShape : Type 0 where
-  pub signature : CallSignature
+  pub signature : SignatureShape
   pub items : List CallItem
 
 -- an outside call as it is shown: the callee, the bits of the arguments, and memory outside spill slots
@@ -73,5 +55,5 @@ payload_types = type.Lane lane.I64 ∷ type.Lane lane.I64 ∷ []
 
 -- the answer is well typed: results by the signature, an exception on the edge of an item
 abbrev pub IsAnswerTo : CallShape → Answer → Type 0
-IsAnswerTo call (Results results) = AreValues call.signature.returns results
+IsAnswerTo call (Results results) = AreValues (types_of call.signature.returns) results
 IsAnswerTo call (Exception edge payload) = (edge < edge_count call.items) × AreValues payload_types payload

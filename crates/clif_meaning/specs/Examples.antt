@@ -4,14 +4,17 @@ use Rattle.std.specs.Prelude.{◌≡◌, ℕ, zero, suc, ◌+◌, ◌-◌, ◌%�
 use Rattle.std.specs.declared.cmp.Ordering.{Ordering}
 use Rattle.std.specs.declared.cmp.Ordering.TheVariants.{Less, Equal, Greater}
 use Rattle.clif_types.specs.declared.types.«Type».{«Type»}
+use Rattle.clif_types.specs.declared.call_conv.CallConv.TheVariants.{SystemV, Fast}
 use Rattle.clif_types.specs.declared.types.«Type».TheVariants as type
 use Rattle.clif_types.specs.declared.types.LaneType.TheVariants as lane
 use Rattle.clif_types.specs.Types.{bits_of}
+use Rattle.clif_types.specs.declared.target.PointerWidth.TheVariants.{U64}
+use Rattle.clif_types.specs.Target.{pointer_type_of}
 use Rattle.clif_meaning.specs.Bits.{value_bytes, value_of_bytes}
 use Rattle.clif_meaning.specs.Memory.{Memory, bytes_in, copied, filled, written, byte_order}
 use Rattle.clif_meaning.specs.Switch.{switch_target}
 use Rattle.clif_meaning.specs.Instruction.{Iconst, Iadd, Operation, Compute, Return}
-use Rattle.clif_meaning.specs.Event.{SystemV, Fast, CallShape, Event}
+use Rattle.clif_meaning.specs.Event.{CallShape, Event}
 use Rattle.clif_meaning.specs.World.{World}
 use Rattle.clif_meaning.specs.Outcome.{Values, Undefined, computed}
 use Rattle.clif_meaning.specs.Machine.{Observation, Returned, Stuck}
@@ -24,7 +27,7 @@ use Rattle.clif_meaning.specs.FunctionView.{Placed, BlockView, FunctionView}
 use Rattle.clif_meaning.specs.WellPlaced.{WellPlaced}
 use Rattle.clif_meaning.specs.Typing.{EdgesMatch}
 use Rattle.clif_meaning.specs.Premises.{Premises}
-use Rattle.clif_meaning.specs.Headline.{script_run, IsWorldOf, pointer_type, script_behaviour, function_behaviour, MeansTheSame}
+use Rattle.clif_meaning.specs.Headline.{script_run, IsWorldOf, script_behaviour, function_behaviour, MeansTheSame}
 
 abbrev pub i8 : «Type»
 i8 = type.Lane lane.I8
@@ -104,7 +107,7 @@ one_block items (suc block) = record { parameters = []; items = [] }
 --     return v2
 abbrev pub first_function_with : ℕ → FunctionView
 first_function_with number = record {
-  signature = record { parameters = []; returns = i32 ∷ []; convention = SystemV };
+  signature = record { params = []; returns = record { value_type = i32 } ∷ []; call_conv = SystemV };
   entry = Some 0;
   blocks = one_block (
       placed (Compute (Iconst (pos 0))) [] (3 ∷ [])
@@ -126,7 +129,7 @@ ended_with results world = record { events = []; ending = Returned results world
 
 pub record FirstAnswersSeven : Type 0 where
   pub script : (world : World) → script_behaviour first_script first_function world 6 ≡ ended_with (7 ∷ []) world
-  pub function : (world : World) → function_behaviour first_script first_function 64 world 4 ≡ ended_with (7 ∷ []) world
+  pub function : (world : World) → function_behaviour first_script first_function U64 world 4 ≡ ended_with (7 ∷ []) world
   pub accepted : verdict_on first_script ≡ Accepted
   pub well_placed : WellPlaced first_function
   pub edges_match : EdgesMatch first_function
@@ -144,12 +147,12 @@ moved_by_16 ty bits = if bits == 0 then 0 else (bits + 16) % 2 ^ bits_of ty
 -- a function that answers 8 in place of 7
 abbrev pub EightIsNotSeven : Type 0
 EightIsNotSeven = (world : World) →
-    SameMeaning (script_behaviour first_script (first_function_with 8) world) (function_behaviour first_script (first_function_with 8) 64 world) → ⊥
+    SameMeaning (script_behaviour first_script (first_function_with 8) world) (function_behaviour first_script (first_function_with 8) U64 world) → ⊥
 
 -- the row `empty`: no calls, and a function without blocks
 abbrev pub empty_function : FunctionView
 empty_function = record {
-  signature = record { parameters = []; returns = []; convention = Fast };
+  signature = record { params = []; returns = []; call_conv = Fast };
   entry = None;
   blocks = λ block. record { parameters = []; items = [] };
   resolved = λ v. v;
@@ -163,8 +166,8 @@ stuck = record { events = []; ending = Stuck }
 -- Both machines are stuck at once, and stay so; a function that is stuck is no function for the row `first`.
 pub record EmptyIsStuck : Type 0 where
   pub script : (world : World) (n : ℕ) → script_behaviour [] empty_function world n ≡ stuck
-  pub function : (world : World) (n : ℕ) → function_behaviour [] empty_function 64 world n ≡ stuck
-  pub not_first : (world : World) → SameMeaning (script_behaviour first_script empty_function world) (function_behaviour first_script empty_function 64 world) → ⊥
+  pub function : (world : World) (n : ℕ) → function_behaviour [] empty_function U64 world n ≡ stuck
+  pub not_first : (world : World) → SameMeaning (script_behaviour first_script empty_function world) (function_behaviour first_script empty_function U64 world) → ⊥
 
 -- Which calls are a misuse, and which are refused.
 pub record VerdictExamples : Type 0 where
@@ -190,6 +193,6 @@ pub record VerdictExamples : Type 0 where
 -- There is a world in which the function of the row `first` can run, with a collector that moves; every world meets the
 -- premises for the row; and the function means what the script means.
 pub record FirstMeansTheSame : Type 0 where
-  pub a_world : (world : World) × IsWorldOf first_function 64 world × ((events : List Event) (call : CallShape) → world.moved events call ≡ moved_by_16)
-  pub premises : (world : World) → Premises first_script first_function.signature (pointer_type 64) (script_run first_script first_function world)
-  pub same : MeansTheSame first_script 64 first_function
+  pub a_world : (world : World) × IsWorldOf first_function U64 world × ((events : List Event) (call : CallShape) → world.moved events call ≡ moved_by_16)
+  pub premises : (world : World) → Premises first_script first_function.signature (pointer_type_of U64) (script_run first_script first_function world)
+  pub same : MeansTheSame first_script U64 first_function

@@ -2,6 +2,7 @@
 -- first, and memory with spill slots. From the documentation of Cranelift's IR; the collectors are own.
 use Rattle.std.specs.Prelude.{ℕ, ◌+◌, if◌then◌else◌, ◌==◌, ◌&&◌, Bool, List, [], ◌∷◌, map, Option, Some, None, slice_get}
 use Rattle.clif_types.specs.declared.types.«Type».{«Type»}
+use Rattle.clif_types.specs.declared.stackmap.UserStackMapEntry.{UserStackMapEntry}
 use Rattle.clif_types.specs.Types.{bytes_of}
 use Rattle.clif_meaning.specs.Bits.{value_bytes, value_of_bytes}
 use Rattle.clif_meaning.specs.Memory.{Memory, Range, bytes_in, written}
@@ -11,7 +12,7 @@ use Rattle.clif_meaning.specs.World.{World}
 use Rattle.clif_meaning.specs.Outcome.{Outcome, Gives, Goes, Returns, Traps, Calls, NoStep, outcome_of}
 use Rattle.clif_meaning.specs.Machine.{Machine, Control, At, HasReturned, HasTrapped, IsStuck, Observation, ending_of}
 use Rattle.clif_meaning.specs.Store.{assigned, argument_bits, shown_memory, memory_beside}
-use Rattle.clif_meaning.specs.FunctionView.{MapEntry, Placed, FunctionView}
+use Rattle.clif_meaning.specs.FunctionView.{Placed, FunctionView}
 
 -- what moves at an outside call
 pub data Collector : Type 0 where
@@ -61,21 +62,21 @@ abbrev pub give_results : FunctionState → List ℕ → List Placed → List �
 give_results state results rest values = record state { values = assigned same_value results values state.values; control = At rest }
 
 -- the bytes of an entry of a stack map
-abbrev pub entry_range : FunctionRun → MapEntry → Range
+abbrev pub entry_range : FunctionRun → UserStackMapEntry → Range
 entry_range run entry = record { width = run.pointer_width; start = run.world.slot_place entry.slot + entry.offset; size = bytes_of entry.ty }
 
 -- the value in a slot is moved, by the entry's type
-abbrev pub entry_moved : FunctionRun → («Type» → ℕ → ℕ) → MapEntry → Memory → Memory
+abbrev pub entry_moved : FunctionRun → («Type» → ℕ → ℕ) → UserStackMapEntry → Memory → Memory
 entry_moved run moved entry memory =
     written memory (entry_range run entry) (value_bytes (bytes_of entry.ty) (moved entry.ty (value_of_bytes (bytes_in memory (entry_range run entry)))))
 
 -- each value in a slot that the stack map names is moved, in order
-abbrev pub entries_moved : FunctionRun → («Type» → ℕ → ℕ) → List MapEntry → Memory → Memory
+abbrev pub entries_moved : FunctionRun → («Type» → ℕ → ℕ) → List UserStackMapEntry → Memory → Memory
 entries_moved run moved [] memory = memory
 entries_moved run moved (entry ∷ entries) memory = entries_moved run moved entries (entry_moved run moved entry memory)
 
 -- the collector by maps moves what lies in the slots, and leaves all values
-abbrev pub slots_after : FunctionRun → («Type» → ℕ → ℕ) → List MapEntry → Collector → Memory → Memory
+abbrev pub slots_after : FunctionRun → («Type» → ℕ → ℕ) → List UserStackMapEntry → Collector → Memory → Memory
 slots_after run moved entries ByMaps memory = entries_moved run moved entries memory
 slots_after run moved entries (OverSet members) memory = memory
 
@@ -87,7 +88,7 @@ values_after run moved (OverSet members) values =
 
 -- an outside call shows itself; then the collector moves what it moves; memory outside spill slots is what the world
 -- says
-abbrev pub call_outside : FunctionRun → FunctionState → List MapEntry → Callee → CallShape → List ℕ → FunctionState
+abbrev pub call_outside : FunctionRun → FunctionState → List UserStackMapEntry → Callee → CallShape → List ℕ → FunctionState
 call_outside run state entries callee call arguments =
     let events = record { callee = callee; arguments = arguments; memory = shown_memory run.hidden state.memory } ∷ state.events in
     record state {

@@ -2,28 +2,23 @@
 -- aliases, types of values, stack slots and stack maps. Own.
 use Rattle.std.specs.Prelude.{ℕ, List, Option}
 use Rattle.clif_types.specs.declared.types.«Type».{«Type»}
+use Rattle.clif_types.specs.Signature.{SignatureShape}
+use Rattle.clif_types.specs.StackSlot.{StackSlotShape}
+use Rattle.clif_types.specs.declared.stackmap.UserStackMapEntry.{UserStackMapEntry}
 use Rattle.clif_meaning.specs.Instruction.{Instruction}
-use Rattle.clif_meaning.specs.Event.{CallSignature}
-use Rattle.clif_meaning.specs.World.{Slot}
-
--- an entry of a call's stack map: a value of this type lies in this slot, at this offset
-pub record MapEntry : Type 0 where
-  pub ty : «Type»
-  pub slot : ℕ
-  pub offset : ℕ
 
 -- an instruction of the function, with its results and its stack map
 pub record Placed : Type 0 where
   pub instruction : Instruction ℕ ℕ
   pub results : List ℕ
-  pub stack_map : List MapEntry
+  pub stack_map : List UserStackMapEntry
 
 pub record BlockView : Type 0 where
   pub parameters : List ℕ
   pub items : List Placed
 
 pub record FunctionView : Type 0 where
-  pub signature : CallSignature
+  pub signature : SignatureShape
   -- the first block of the layout
   pub entry : Option ℕ
   -- by the number of a block; a block that stands outside the layout has no items
@@ -31,4 +26,4 @@ pub record FunctionView : Type 0 where
   -- the value at the end of a value's aliases
   pub resolved : ℕ → ℕ
   pub value_type : ℕ → «Type»
-  pub slots : List Slot
+  pub slots : List StackSlotShape

@@ -3,9 +3,11 @@
 -- and the other way round, though the script's collector moves every tracked variable and name at each outside call,
 -- and the function's only what lies in the slots that the call's stack map names. Own.
 use Rattle.std.specs.Prelude.{ℕ, Bool, drop}
-use Rattle.clif_types.specs.declared.types.«Type».{«Type»}
-use Rattle.clif_types.specs.Types.{int_of}
+use Rattle.clif_types.specs.Types.{bits_of}
+use Rattle.clif_types.specs.declared.target.PointerWidth.{PointerWidth}
+use Rattle.clif_types.specs.Target.{pointer_type_of}
 use Rattle.clif_meaning.specs.Bits.{AreValues}
+use Rattle.clif_meaning.specs.Event.{types_of}
 use Rattle.clif_meaning.specs.World.{World, PlacesSlots}
 use Rattle.clif_meaning.specs.Machine.{observed}
 use Rattle.clif_meaning.specs.SameMeaning.{SameMeaning, Behaviour}
@@ -36,35 +38,35 @@ script_run script function world = record {
   world = world;
 }
 
+-- how many bits a pointer has
+abbrev pub pointer_bits : PointerWidth → ℕ
+pointer_bits width = bits_of (pointer_type_of width)
+
 -- the run of the finished function
-abbrev pub function_run : Script → FunctionView → ℕ → World → Collector → FunctionRun
-function_run script function pointer_width world collector = record {
+abbrev pub function_run : Script → FunctionView → PointerWidth → World → Collector → FunctionRun
+function_run script function width world collector = record {
   function = function;
   collector = collector;
-  pointer_width = pointer_width;
+  pointer_width = pointer_bits width;
   hidden = in_spill_slot script function world;
   world = world;
 }
 
 -- a world in which the function can run: arguments by its signature, and places for its slots
-pub record IsWorldOf (function : FunctionView) (pointer_width : ℕ) (world : World) : Type 0 where
-  pub arguments : AreValues function.signature.parameters world.arguments
-  pub slots : PlacesSlots world function.slots pointer_width
-
--- the integer type as wide as pointers
-abbrev pub pointer_type : ℕ → «Type»
-pointer_type width = or_invalid (int_of width)
+pub record IsWorldOf (function : FunctionView) (width : PointerWidth) (world : World) : Type 0 where
+  pub arguments : AreValues (types_of function.signature.params) world.arguments
+  pub slots : PlacesSlots world function.slots (pointer_bits width)
 
 -- what the script shows, and what the function shows under the collector by maps
 abbrev pub script_behaviour : Script → FunctionView → World → Behaviour
 script_behaviour script function world = observed (script_machine (script_run script function world))
 
-abbrev pub function_behaviour : Script → FunctionView → ℕ → World → Behaviour
-function_behaviour script function pointer_width world = observed (function_machine (function_run script function pointer_width world ByMaps))
+abbrev pub function_behaviour : Script → FunctionView → PointerWidth → World → Behaviour
+function_behaviour script function width world = observed (function_machine (function_run script function width world ByMaps))
 
 -- The finished function means what the script means, in every world under the premises.
-abbrev pub MeansTheSame : Script → ℕ → FunctionView → Type 0
-MeansTheSame script pointer_width function =
-    (world : World) → IsWorldOf function pointer_width world
-    → Premises script function.signature (pointer_type pointer_width) (script_run script function world)
-    → SameMeaning (script_behaviour script function world) (function_behaviour script function pointer_width world)
+abbrev pub MeansTheSame : Script → PointerWidth → FunctionView → Type 0
+MeansTheSame script width function =
+    (world : World) → IsWorldOf function width world
+    → Premises script function.signature (pointer_type_of width) (script_run script function world)
+    → SameMeaning (script_behaviour script function world) (function_behaviour script function width world)

@@ -1,9 +1,9 @@
 -- A machine: where it starts, its next state, and what a state shows. Its step is total, a state that ended stays as
 -- it is, and it never chooses, so a run is a function of the number of steps. Own.
 use Rattle.std.specs.Prelude.{◌≡◌, ℕ, zero, suc, ◌≤◌, List}
+use Rattle.clif_types.specs.declared.trapcode.TrapCode.{TrapCode}
 use Rattle.clif_meaning.specs.Memory.{Memory}
 use Rattle.clif_meaning.specs.Event.{Event}
-use Rattle.clif_meaning.specs.Outcome.{TrapReason}
 
 pub record Machine (State Seen : Type 0) : Type 0 where
   pub start : State
@@ -23,7 +23,7 @@ observed machine n = machine.shown (state_after machine n)
 pub data Control (Item : Type 0) : Type 0 where
   At : (rest : List Item) → Control Item
   HasReturned : (results : List ℕ) → Control Item
-  HasTrapped : TrapReason → Control Item
+  HasTrapped : TrapCode → Control Item
   IsStuck : Control Item
 
 -- how a run ended, as it is shown: with bits or a trap, each with memory outside spill slots; or it can't step; or
@@ -31,7 +31,7 @@ pub data Control (Item : Type 0) : Type 0 where
 pub data Ending : Type 0 where
   NotYet : Ending
   Returned : (results : List ℕ) (memory : Memory) → Ending
-  Trapped : TrapReason → (memory : Memory) → Ending
+  Trapped : TrapCode → (memory : Memory) → Ending
   Stuck : Ending
 
 -- what is seen of a run: the outside calls so far, newest first, and the end

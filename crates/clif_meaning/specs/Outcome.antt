@@ -2,19 +2,13 @@
 -- operation. Both machines read it. After the documentation of Cranelift's instructions.
 use Rattle.std.specs.Prelude.{ℕ, ◌+◌, ◌%◌, ◌^◌, List, [], ◌∷◌}
 use Rattle.clif_types.specs.declared.types.«Type».{«Type»}
+use Rattle.clif_types.specs.declared.trapcode.TrapCode.{TrapCode}
 use Rattle.clif_types.specs.Types.{bits_of}
 use Rattle.clif_meaning.specs.Bits.{wrapped}
 use Rattle.clif_meaning.specs.Memory.{Memory}
 use Rattle.clif_meaning.specs.Instruction.{Arithmetic, Iconst, Iadd, Operation, Compute, Return}
 use Rattle.clif_meaning.specs.Event.{Callee, CallShape}
 use Rattle.clif_meaning.specs.World.{World}
-
--- why a run was ended
-pub data TrapReason : Type 0 where
-  User : (code : ℕ) → TrapReason
-  IntegerOverflow : TrapReason
-  DivisionByZero : TrapReason
-  HeapOutOfBounds : TrapReason
 
 pub data Outcome : Type 0 where
   -- the results get these bits, memory is this, and control goes to the next place
@@ -24,7 +18,7 @@ pub data Outcome : Type 0 where
   -- the run ends with these bits
   Returns : (results : List ℕ) → Outcome
   -- the run ends so
-  Traps : TrapReason → Outcome
+  Traps : TrapCode → Outcome
   -- an outside call with these arguments
   Calls : Callee → CallShape → (arguments : List ℕ) → Outcome
   -- there is no meaning: the machine can't step
@@ -33,7 +27,7 @@ pub data Outcome : Type 0 where
 -- what arithmetic makes of bits
 pub data Computed : Type 0 where
   Values : (results : List ℕ) → Computed
-  Fault : TrapReason → Computed
+  Fault : TrapCode → Computed
   Undefined : Computed
 
 -- the table of arithmetic, at the controlling type

@@ -3,11 +3,14 @@
 use Rattle.std.specs.Prelude.{◌≡◌, ℕ, false, Bool, List, [], ◌∷◌, map, Option, Some, None, IsTrue, ◌≢◌}
 use Rattle.std.specs.List.{AllByRecursion}
 use Rattle.clif_types.specs.declared.types.«Type».{«Type»}
+use Rattle.clif_types.specs.Signature.{SignatureShape}
+use Rattle.clif_types.specs.declared.libcall.LibCall.{LibCall}
+use Rattle.clif_types.specs.declared.libcall.LibCall.TheVariants.{Memcpy, Memmove, Memset, Memcmp}
 use Rattle.clif_types.specs.declared.types.«Type».TheVariants as type
 use Rattle.clif_types.specs.declared.types.LaneType.TheVariants as lane
 use Rattle.clif_meaning.specs.Memory.{Range, lies_in}
 use Rattle.clif_meaning.specs.Instruction.{Edge}
-use Rattle.clif_meaning.specs.Event.{LibraryFunction, Memcpy, Memmove, Memset, Memcmp, CallSignature}
+use Rattle.clif_meaning.specs.Event.{types_of}
 use Rattle.clif_meaning.specs.Machine.{Control, At, HasReturned, HasTrapped, IsStuck, state_after}
 use Rattle.clif_meaning.specs.Name.{Name}
 use Rattle.clif_meaning.specs.Request.{Script}
@@ -54,9 +57,9 @@ abbrev pub EntryTakes : Ledger → Program → List «Type» → Option Name →
 EntryTakes ledger program types None = Unit {0}
 EntryTakes ledger program types (Some entry) = parameter_types ledger program entry ≡ types
 
-pub record WellTyped (ledger : Ledger) (program : Program) (signature : CallSignature) : Type 0 where
-  pub items : EachItem (IsItemWellTyped ledger program signature.returns) program
-  pub entry : EntryTakes ledger program signature.parameters program.entry
+pub record WellTyped (ledger : Ledger) (program : Program) (signature : SignatureShape) : Type 0 where
+  pub items : EachItem (IsItemWellTyped ledger program (types_of signature.returns)) program
+  pub entry : EntryTakes ledger program (types_of signature.params) program.entry
 
 -- No tracked name is assigned to an unmarked variable or answered by a use of one.
 abbrev pub KeepsTrackedApart : Ledger → (Name → Bool) → Item → Type 0
@@ -95,21 +98,21 @@ abbrev pub InEachStep : (ScriptState → Item → Type 0) → ScriptRun → Type
 InEachStep P run = (n : ℕ) → OfNextItem (P (state_after (script_machine run) n)) (state_after (script_machine run) n).control
 
 -- what the functions of the C library take and give, with pointers of this type
-abbrev pub library_parameters : «Type» → LibraryFunction → List «Type»
+abbrev pub library_parameters : «Type» → LibCall → List «Type»
 library_parameters pointer Memcpy = pointer ∷ pointer ∷ pointer ∷ []
 library_parameters pointer Memmove = pointer ∷ pointer ∷ pointer ∷ []
 library_parameters pointer Memset = pointer ∷ type.Lane lane.I32 ∷ pointer ∷ []
 library_parameters pointer Memcmp = pointer ∷ pointer ∷ pointer ∷ []
 
-abbrev pub library_returns : «Type» → LibraryFunction → List «Type»
+abbrev pub library_returns : «Type» → LibCall → List «Type»
 library_returns pointer Memcpy = pointer ∷ []
 library_returns pointer Memmove = pointer ∷ []
 library_returns pointer Memset = pointer ∷ []
 library_returns pointer Memcmp = type.Lane lane.I32 ∷ []
 
 pub record HasLibrarySignature (pointer : «Type») (call : LibraryCall) : Type 0 where
-  pub parameters : call.signature.parameters ≡ library_parameters pointer call.callee
-  pub returns : call.signature.returns ≡ library_returns pointer call.callee
+  pub parameters : types_of call.signature.params ≡ library_parameters pointer call.callee
+  pub returns : types_of call.signature.returns ≡ library_returns pointer call.callee
 
 abbrev pub IfLibraryCall : «Type» → Option LibraryCall → Type 0
 IfLibraryCall pointer None = Unit {0}
@@ -121,7 +124,7 @@ CallsLibraryAsNamed pointer (Use variable name) = Unit {0}
 CallsLibraryAsNamed pointer (Assign variable name) = Unit {0}
 
 -- The premises on a script, in a function of this signature with pointers of this type, and on the run of it.
-pub record Premises (script : Script) (signature : CallSignature) (pointer : «Type») (run : ScriptRun) : Type 0 where
+pub record Premises (script : Script) (signature : SignatureShape) (pointer : «Type») (run : ScriptRun) : Type 0 where
   -- every target of a branch is filled, and isn't the entry
   pub targets_filled : EachItem (HasGoodTargets (ledger_after script) (program_of script)) (program_of script)
   -- a table serves one instruction

@@ -1,8 +1,9 @@
 -- Places that hold bits, as functions, and memory with spill slots left out. Shared by both machines. Own.
 use Rattle.std.specs.Prelude.{ℕ, suc, ◌+◌, nat_lt, nat_le, ◌&&◌, ◌||◌, if◌then◌else◌, Bool, false, List, [], ◌∷◌}
+use Rattle.clif_types.specs.StackSlot.{StackSlotShape}
 use Rattle.clif_meaning.specs.Memory.{Memory}
 use Rattle.clif_meaning.specs.Instruction.{Argument, Known, CallResult, CallPayload}
-use Rattle.clif_meaning.specs.World.{World, Slot}
+use Rattle.clif_meaning.specs.World.{World}
 use Rattle.std.specs.List.{slice_index}
 
 -- these places, told apart by the test, get these bits, all at once; the others keep theirs
@@ -18,11 +19,11 @@ argument_bits bits given (CallResult index) = slice_index given index
 argument_bits bits given (CallPayload index) = slice_index given index
 
 -- the address is that of a byte of the slot with this number
-abbrev pub in_slot : World → ℕ → Slot → ℕ → Bool
+abbrev pub in_slot : World → ℕ → StackSlotShape → ℕ → Bool
 in_slot world number slot address = nat_le (world.slot_place number) address && nat_lt address (world.slot_place number + slot.size)
 
 -- the address is that of a byte of a slot of the list, whose first has this number
-abbrev pub in_slots_from : World → ℕ → List Slot → ℕ → Bool
+abbrev pub in_slots_from : World → ℕ → List StackSlotShape → ℕ → Bool
 in_slots_from world number [] address = false
 in_slots_from world number (slot ∷ slots) address = in_slot world number slot address || in_slots_from world (suc number) slots address
 

@@ -6,7 +6,7 @@ use Rattle.clif_types.specs.declared.types.«Type».TheVariants as type
 use Rattle.clif_types.specs.declared.types.LaneType.TheVariants as lane
 use Rattle.clif_types.specs.Types.{is_int}
 use Rattle.clif_meaning.specs.Instruction.{Iconst, Iadd, Operation, Compute, Return, Argument, Known, CallResult, CallPayload, Edge, Instruction}
-use Rattle.clif_meaning.specs.Event.{CallShape}
+use Rattle.clif_meaning.specs.Event.{CallShape, types_of}
 use Rattle.clif_meaning.specs.Ledger.{or_invalid}
 use Rattle.clif_meaning.specs.FunctionView.{FunctionView}
 
@@ -29,7 +29,7 @@ call_shape Return = None
 -- the types that a call returns
 abbrev pub returns_of : Option CallShape → List «Type»
 returns_of None = []
-returns_of (Some call) = call.signature.returns
+returns_of (Some call) = types_of call.signature.returns
 
 -- the type of what an edge passes: a part of an exception's payload is an integer of 64 bits
 abbrev pub argument_type : {Operand : Type 0} → (Operand → «Type») → List «Type» → Argument Operand → «Type»

@@ -4,6 +4,7 @@ use Rattle.std.specs.Prelude.{◌≡◌, ℕ, ◌+◌, ◌%◌, ◌^◌, ◌<◌
 use Rattle.std.specs.declared.cmp.Ordering.{Ordering}
 use Rattle.std.specs.declared.cmp.Ordering.TheVariants.{Less, Equal, Greater}
 use Rattle.clif_types.specs.declared.types.«Type».{«Type»}
+use Rattle.clif_types.specs.StackSlot.{StackSlotShape}
 use Rattle.clif_meaning.specs.Bits.{IsValue}
 use Rattle.clif_meaning.specs.Memory.{Memory, byte_order}
 use Rattle.clif_meaning.specs.Event.{CallShape, Event, Answer, IsAnswerTo}
@@ -42,15 +43,10 @@ pub record World : Type 0 where
   pub moved_fits : (events : List Event) (call : CallShape) (ty : «Type») (bits : ℕ) → IsValue ty bits → IsValue ty (moved events call ty bits)
   pub moved_zero : (events : List Event) (call : CallShape) (ty : «Type») → moved events call ty 0 ≡ 0
 
--- a stack slot: its size in bytes, and the power of two that its place is a multiple of
-pub record Slot : Type 0 where
-  pub size : ℕ
-  pub align_shift : ℕ
-
 -- the places of the slots are what was asked: aligned, accessible, within the width of pointers, and apart
-pub record PlacesSlots (world : World) (slots : List Slot) (pointer_width : ℕ) : Type 0 where
-  pub aligned : (s : ℕ) (slot : Slot) → slice_get slots s ≡ Some slot → world.slot_place s % 2 ^ slot.align_shift ≡ 0
-  pub accessible : (s : ℕ) (slot : Slot) (k : ℕ) → slice_get slots s ≡ Some slot → k < slot.size → IsTrue (world.is_accessible (world.slot_place s + k))
-  pub within : (s : ℕ) (slot : Slot) → slice_get slots s ≡ Some slot → world.slot_place s + slot.size ≤ 2 ^ pointer_width
-  pub apart : (s t : ℕ) (slot other : Slot) → slice_get slots s ≡ Some slot → slice_get slots t ≡ Some other → s ≢ t
+pub record PlacesSlots (world : World) (slots : List StackSlotShape) (pointer_width : ℕ) : Type 0 where
+  pub aligned : (s : ℕ) (slot : StackSlotShape) → slice_get slots s ≡ Some slot → world.slot_place s % 2 ^ slot.align_shift ≡ 0
+  pub accessible : (s : ℕ) (slot : StackSlotShape) (k : ℕ) → slice_get slots s ≡ Some slot → k < slot.size → IsTrue (world.is_accessible (world.slot_place s + k))
+  pub within : (s : ℕ) (slot : StackSlotShape) → slice_get slots s ≡ Some slot → world.slot_place s + slot.size ≤ 2 ^ pointer_width
+  pub apart : (s t : ℕ) (slot other : StackSlotShape) → slice_get slots s ≡ Some slot → slice_get slots t ≡ Some other → s ≢ t
       → (world.slot_place s + slot.size ≤ world.slot_place t) ⊎ (world.slot_place t + other.size ≤ world.slot_place s)
