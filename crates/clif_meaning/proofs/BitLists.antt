@@ -1,5 +1,5 @@
 -- Bits and bytes as digits of numbers.
-use Rattle.std.proofs.Common.{◌≡◌, ◌+◌, ◌*◌, ◌/◌, ◌%◌, ◌^◌, ◌<◌, ◌==◌, ℕ, zero, suc, List, [], ◌∷◌, length, Bool, true, false, refl, ap, arith, ◌∙◌, if◌then◌else◌}
+use Rattle.std.proofs.Common.{◌≡◌, ◌+◌, ◌*◌, ◌/◌, ◌%◌, ◌^◌, ◌<◌, ◌==◌, ℕ, zero, suc, List, [], ◌∷◌, length, replicate, Bool, true, false, refl, ap, arith, ◌∙◌, if◌then◌else◌}
 use Rattle.std.proofs.Math.Nat.{pow-suc}
 use Rattle.std.proofs.lemmas.Nat.{pow-add}
 use Rattle.clif_meaning.specs.Bits.{HasWidth, number_of_bits, low_bits, value_bytes, value_of_bytes, AreBytes}
@@ -83,3 +83,7 @@ value_in_range (byte ∷ bytes) h =
     let rest = value_in_range bytes h.1 in
     let wide = byte_pow (length bytes) in
     omega arith
+
+pub zero_has_none : (width : ℕ) → low_bits width 0 ≡ replicate width false
+zero_has_none zero = refl
+zero_has_none (suc width) = ap (λ (rest : List Bool). false ∷ rest) (zero_has_none width)

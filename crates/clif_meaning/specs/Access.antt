@@ -4,6 +4,7 @@ use Rattle.std.specs.Prelude.{◌≡◌, ℕ, ◌%◌, ◌^◌, ◌<◌, false, 
 use Rattle.clif_types.specs.declared.types.«Type».{«Type»}
 use Rattle.clif_types.specs.Signature.{SignatureShape}
 use Rattle.clif_types.specs.declared.libcall.LibCall.{LibCall}
+use Rattle.clif_meaning.specs.Bits.{Bits}
 use Rattle.clif_meaning.specs.Memory.{Range, address_in, lies_in}
 use Rattle.clif_meaning.specs.Instruction.{Operation, Compute, Return}
 use Rattle.clif_meaning.specs.World.{World}
@@ -22,12 +23,12 @@ Holds world (Apart left right) = (address : ℕ) → (lies_in left address && li
 
 -- The table of operations, from the bits of the operands: the ranges that the instruction touches. No operation
 -- reaches memory so far.
-abbrev pub touched_ranges : Operation → «Type» → List ℕ → List Range
+abbrev pub touched_ranges : Operation → «Type» → List Bits → List Range
 touched_ranges (Compute arithmetic) ty operands = []
 touched_ranges Return ty operands = []
 
 -- The table of operations: what the instruction claims.
-abbrev pub claims_of : Operation → «Type» → List ℕ → List Claim
+abbrev pub claims_of : Operation → «Type» → List Bits → List Claim
 claims_of (Compute arithmetic) ty operands = []
 claims_of Return ty operands = []
 

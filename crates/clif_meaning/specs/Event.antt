@@ -6,7 +6,7 @@ use Rattle.clif_types.specs.declared.extfunc.AbiParam.{AbiParam}
 use Rattle.clif_types.specs.declared.extname.ExternalName.{ExternalName}
 use Rattle.clif_types.specs.declared.types.«Type».TheVariants as type
 use Rattle.clif_types.specs.declared.types.LaneType.TheVariants as lane
-use Rattle.clif_meaning.specs.Bits.{AreValues}
+use Rattle.clif_meaning.specs.Bits.{Bits, AreValues}
 use Rattle.clif_meaning.specs.Memory.{Memory}
 
 -- the types of parameters or of what is returned
@@ -33,14 +33,14 @@ pub record CallShape : Type 0 where
 -- an outside call as it is shown: the callee, the bits of the arguments, and memory outside spill slots
 pub record Event : Type 0 where
   pub callee : Callee
-  pub arguments : List ℕ
+  pub arguments : List Bits
   pub memory : Memory
 
 -- the answer to an outside call: results, or for a try call the edge of an item, counted among the items that have
 -- one, with the payload of the exception
 pub data Answer : Type 0 where
-  Results : (results : List ℕ) → Answer
-  Exception : (edge : ℕ) (payload : List ℕ) → Answer
+  Results : (results : List Bits) → Answer
+  Exception : (edge : ℕ) (payload : List Bits) → Answer
 
 -- how many items have an edge: a context has none
 abbrev pub edge_count : List CallItem → ℕ

@@ -4,7 +4,7 @@ use Rattle.std.specs.Prelude.{ℕ, ◌+◌, if◌then◌else◌, ◌==◌, ◌&&
 use Rattle.clif_types.specs.declared.types.«Type».{«Type»}
 use Rattle.clif_types.specs.declared.stackmap.UserStackMapEntry.{UserStackMapEntry}
 use Rattle.clif_types.specs.Types.{bytes_of}
-use Rattle.clif_meaning.specs.Bits.{value_bytes, value_of_bytes}
+use Rattle.clif_meaning.specs.Bits.{Bits, value_bytes, value_of_bytes}
 use Rattle.clif_meaning.specs.Memory.{Memory, Range, bytes_in, written}
 use Rattle.clif_meaning.specs.Instruction.{Edge}
 use Rattle.clif_meaning.specs.Event.{Callee, CallShape, Event, Answer, Results, Exception}
@@ -32,7 +32,7 @@ pub record FunctionRun : Type 0 where
   pub world : World
 
 pub record FunctionState : Type 0 where
-  pub values : ℕ → ℕ
+  pub values : ℕ → Bits
   pub memory : Memory
   -- newest first
   pub events : List Event
@@ -42,23 +42,23 @@ abbrev pub same_value : ℕ → ℕ → Bool
 same_value a b = a == b
 
 -- the bits of an operand: aliases are followed to their end
-abbrev pub value_bits : FunctionRun → FunctionState → ℕ → ℕ
+abbrev pub value_bits : FunctionRun → FunctionState → ℕ → Bits
 value_bits run state value = state.values (run.function.resolved value)
 
 -- Entering a block gives its parameters their arguments, all at once.
-abbrev pub enter_block : FunctionRun → FunctionState → ℕ → List ℕ → FunctionState
+abbrev pub enter_block : FunctionRun → FunctionState → ℕ → List Bits → FunctionState
 enter_block run state block arguments = record state {
   values = assigned same_value (run.function.blocks block).parameters arguments state.values;
   control = At (run.function.blocks block).items;
 }
 
 -- along an edge, with what the call at its start gave
-abbrev pub follow_edge : FunctionRun → FunctionState → List ℕ → Option (Edge ℕ ℕ) → FunctionState
+abbrev pub follow_edge : FunctionRun → FunctionState → List Bits → Option (Edge ℕ ℕ) → FunctionState
 follow_edge run state given None = record state { control = IsStuck }
 follow_edge run state given (Some edge) = enter_block run state edge.target (map (argument_bits (value_bits run state) given) edge.arguments)
 
 -- on to the next place, the results with their bits
-abbrev pub give_results : FunctionState → List ℕ → List Placed → List ℕ → FunctionState
+abbrev pub give_results : FunctionState → List ℕ → List Placed → List Bits → FunctionState
 give_results state results rest values = record state { values = assigned same_value results values state.values; control = At rest }
 
 -- the bytes of an entry of a stack map
@@ -66,29 +66,29 @@ abbrev pub entry_range : FunctionRun → UserStackMapEntry → Range
 entry_range run entry = record { width = run.pointer_width; start = run.world.slot_place entry.slot + entry.offset; size = bytes_of entry.ty }
 
 -- the value in a slot is moved, by the entry's type
-abbrev pub entry_moved : FunctionRun → («Type» → ℕ → ℕ) → UserStackMapEntry → Memory → Memory
+abbrev pub entry_moved : FunctionRun → («Type» → Bits → Bits) → UserStackMapEntry → Memory → Memory
 entry_moved run moved entry memory =
     written memory (entry_range run entry) (value_bytes (bytes_of entry.ty) (moved entry.ty (value_of_bytes (bytes_in memory (entry_range run entry)))))
 
 -- each value in a slot that the stack map names is moved, in order
-abbrev pub entries_moved : FunctionRun → («Type» → ℕ → ℕ) → List UserStackMapEntry → Memory → Memory
+abbrev pub entries_moved : FunctionRun → («Type» → Bits → Bits) → List UserStackMapEntry → Memory → Memory
 entries_moved run moved [] memory = memory
 entries_moved run moved (entry ∷ entries) memory = entries_moved run moved entries (entry_moved run moved entry memory)
 
 -- the collector by maps moves what lies in the slots, and leaves all values
-abbrev pub slots_after : FunctionRun → («Type» → ℕ → ℕ) → List UserStackMapEntry → Collector → Memory → Memory
+abbrev pub slots_after : FunctionRun → («Type» → Bits → Bits) → List UserStackMapEntry → Collector → Memory → Memory
 slots_after run moved entries ByMaps memory = entries_moved run moved entries memory
 slots_after run moved entries (OverSet members) memory = memory
 
 -- the collector over a set moves each value of the set that isn't an alias, once, and leaves all slots
-abbrev pub values_after : FunctionRun → («Type» → ℕ → ℕ) → Collector → (ℕ → ℕ) → ℕ → ℕ
+abbrev pub values_after : FunctionRun → («Type» → Bits → Bits) → Collector → (ℕ → Bits) → ℕ → Bits
 values_after run moved ByMaps values = values
 values_after run moved (OverSet members) values =
     λ v. if members v && (run.function.resolved v == v) then moved (run.function.value_type v) (values v) else values v
 
 -- an outside call shows itself; then the collector moves what it moves; memory outside spill slots is what the world
 -- says
-abbrev pub call_outside : FunctionRun → FunctionState → List UserStackMapEntry → Callee → CallShape → List ℕ → FunctionState
+abbrev pub call_outside : FunctionRun → FunctionState → List UserStackMapEntry → Callee → CallShape → List Bits → FunctionState
 call_outside run state entries callee call arguments =
     let events = record { callee = callee; arguments = arguments; memory = shown_memory run.hidden state.memory } ∷ state.events in
     record state {

@@ -2,6 +2,7 @@
 -- it is, and it never chooses, so a run is a function of the number of steps. Own.
 use Rattle.std.specs.Prelude.{◌≡◌, ℕ, zero, suc, ◌≤◌, List}
 use Rattle.clif_types.specs.declared.trapcode.TrapCode.{TrapCode}
+use Rattle.clif_meaning.specs.Bits.{Bits}
 use Rattle.clif_meaning.specs.Memory.{Memory}
 use Rattle.clif_meaning.specs.Event.{Event}
 
@@ -22,7 +23,7 @@ observed machine n = machine.shown (state_after machine n)
 -- where a run of items stands: before the rest of a block, or at an end
 pub data Control (Item : Type 0) : Type 0 where
   At : (rest : List Item) → Control Item
-  HasReturned : (results : List ℕ) → Control Item
+  HasReturned : (results : List Bits) → Control Item
   HasTrapped : TrapCode → Control Item
   IsStuck : Control Item
 
@@ -30,7 +31,7 @@ pub data Control (Item : Type 0) : Type 0 where
 -- none of these yet
 pub data Ending : Type 0 where
   NotYet : Ending
-  Returned : (results : List ℕ) (memory : Memory) → Ending
+  Returned : (results : List Bits) (memory : Memory) → Ending
   Trapped : TrapCode → (memory : Memory) → Ending
   Stuck : Ending
 

@@ -4,7 +4,7 @@ use Rattle.std.specs.Prelude.{ℕ, ◌+◌, ◌%◌, ◌^◌, List, [], ◌∷�
 use Rattle.clif_types.specs.declared.types.«Type».{«Type»}
 use Rattle.clif_types.specs.declared.trapcode.TrapCode.{TrapCode}
 use Rattle.clif_types.specs.Types.{bits_of}
-use Rattle.clif_meaning.specs.Bits.{wrapped}
+use Rattle.clif_meaning.specs.Bits.{Bits, wrapped}
 use Rattle.clif_meaning.specs.Memory.{Memory}
 use Rattle.clif_meaning.specs.Instruction.{Arithmetic, Iconst, Iadd, Operation, Compute, Return}
 use Rattle.clif_meaning.specs.Event.{Callee, CallShape}
@@ -12,26 +12,26 @@ use Rattle.clif_meaning.specs.World.{World}
 
 pub data Outcome : Type 0 where
   -- the results get these bits, memory is this, and control goes to the next place
-  Gives : (results : List ℕ) (memory : Memory) → Outcome
+  Gives : (results : List Bits) (memory : Memory) → Outcome
   -- control goes along this edge
   Goes : (edge : ℕ) → Outcome
   -- the run ends with these bits
-  Returns : (results : List ℕ) → Outcome
+  Returns : (results : List Bits) → Outcome
   -- the run ends so
   Traps : TrapCode → Outcome
   -- an outside call with these arguments
-  Calls : Callee → CallShape → (arguments : List ℕ) → Outcome
+  Calls : Callee → CallShape → (arguments : List Bits) → Outcome
   -- there is no meaning: the machine can't step
   NoStep : Outcome
 
 -- what arithmetic makes of bits
 pub data Computed : Type 0 where
-  Values : (results : List ℕ) → Computed
+  Values : (results : List Bits) → Computed
   Fault : TrapCode → Computed
   Undefined : Computed
 
 -- the table of arithmetic, at the controlling type
-abbrev pub computed : Arithmetic → «Type» → List ℕ → Computed
+abbrev pub computed : Arithmetic → «Type» → List Bits → Computed
 -- the low bits of the constant, or its sign repeated
 computed (Iconst number) ty [] = Values (wrapped (bits_of ty) number ∷ [])
 -- the sum modulo 2 to the width
@@ -49,6 +49,6 @@ outcome_of_computed (Fault reason) memory = Traps reason
 outcome_of_computed Undefined memory = NoStep
 
 -- the table of operations: world, controlling type, the operands' bits, memory
-abbrev pub outcome_of : World → Operation → «Type» → List ℕ → Memory → Outcome
+abbrev pub outcome_of : World → Operation → «Type» → List Bits → Memory → Outcome
 outcome_of world (Compute arithmetic) ty operands memory = outcome_of_computed (computed arithmetic ty operands) memory
 outcome_of world Return ty operands memory = Returns operands

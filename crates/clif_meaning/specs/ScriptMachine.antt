@@ -2,6 +2,7 @@
 -- first, and memory. From the documentation of Cranelift's variables; what a moving collector does to them is own.
 use Rattle.std.specs.Prelude.{ℕ, if◌then◌else◌, ◌==◌, Bool, List, [], ◌∷◌, map, Option, Some, None, slice_get}
 use Rattle.clif_types.specs.declared.types.«Type».{«Type»}
+use Rattle.clif_meaning.specs.Bits.{Bits}
 use Rattle.clif_meaning.specs.Memory.{Memory}
 use Rattle.clif_meaning.specs.Instruction.{Edge}
 use Rattle.clif_meaning.specs.Event.{Callee, CallShape, Event, Answer, Results, Exception}
@@ -25,8 +26,8 @@ pub record ScriptRun : Type 0 where
   pub world : World
 
 pub record ScriptState : Type 0 where
-  pub variables : ℕ → ℕ
-  pub names : Name → ℕ
+  pub variables : ℕ → Bits
+  pub names : Name → Bits
   pub memory : Memory
   -- newest first
   pub events : List Event
@@ -36,24 +37,24 @@ abbrev pub same_variable : ℕ → ℕ → Bool
 same_variable a b = a == b
 
 -- Entering a block gives its parameters their arguments, all at once; other names keep their bits.
-abbrev pub enter_block : ScriptRun → ScriptState → Name → List ℕ → ScriptState
+abbrev pub enter_block : ScriptRun → ScriptState → Name → List Bits → ScriptState
 enter_block run state block arguments = record state {
   names = assigned same_name (run.program.parameters block) arguments state.names;
   control = At (run.program.items block);
 }
 
 -- along an edge, with what the call at its start gave
-abbrev pub follow_edge : ScriptRun → ScriptState → List ℕ → Option (Edge Name Name) → ScriptState
+abbrev pub follow_edge : ScriptRun → ScriptState → List Bits → Option (Edge Name Name) → ScriptState
 follow_edge run state given None = record state { control = IsStuck }
 follow_edge run state given (Some edge) = enter_block run state edge.target (map (argument_bits state.names given) edge.arguments)
 
 -- on to the next place, the results with their bits
-abbrev pub give_results : ScriptState → List Name → List Item → List ℕ → ScriptState
+abbrev pub give_results : ScriptState → List Name → List Item → List Bits → ScriptState
 give_results state results rest values = record state { names = assigned same_name results values state.names; control = At rest }
 
 -- an outside call shows itself; then all marked variables and all tracked names are moved; memory is what the world
 -- says
-abbrev pub call_outside : ScriptRun → ScriptState → Callee → CallShape → List ℕ → ScriptState
+abbrev pub call_outside : ScriptRun → ScriptState → Callee → CallShape → List Bits → ScriptState
 call_outside run state callee call arguments =
     let events = record { callee = callee; arguments = arguments; memory = shown_memory run.hidden state.memory } ∷ state.events in
     record state {

@@ -1,19 +1,20 @@
 -- Places that hold bits, as functions, and memory with spill slots left out. Shared by both machines. Own.
 use Rattle.std.specs.Prelude.{ℕ, suc, ◌+◌, nat_lt, nat_le, ◌&&◌, ◌||◌, if◌then◌else◌, Bool, false, List, [], ◌∷◌}
 use Rattle.clif_types.specs.StackSlot.{StackSlotShape}
+use Rattle.clif_meaning.specs.Bits.{Bits}
 use Rattle.clif_meaning.specs.Memory.{Memory}
 use Rattle.clif_meaning.specs.Instruction.{Argument, Known, CallResult, CallPayload}
 use Rattle.clif_meaning.specs.World.{World}
 use Rattle.std.specs.List.{slice_index}
 
 -- these places, told apart by the test, get these bits, all at once; the others keep theirs
-abbrev pub assigned : {Place : Type 0} → (Place → Place → Bool) → List Place → List ℕ → (Place → ℕ) → Place → ℕ
+abbrev pub assigned : {Place : Type 0} → (Place → Place → Bool) → List Place → List Bits → (Place → Bits) → Place → Bits
 assigned same [] values old = old
 assigned same (place ∷ places) [] old = old
 assigned same (place ∷ places) (bits ∷ values) old = λ other. if same other place then bits else assigned same places values old other
 
 -- the bits that an edge passes. What a try call gives is there on its own edges alone.
-abbrev pub argument_bits : {Operand : Type 0} → (Operand → ℕ) → List ℕ → Argument Operand → ℕ
+abbrev pub argument_bits : {Operand : Type 0} → (Operand → Bits) → List Bits → Argument Operand → Bits
 argument_bits bits given (Known operand) = bits operand
 argument_bits bits given (CallResult index) = slice_index given index
 argument_bits bits given (CallPayload index) = slice_index given index

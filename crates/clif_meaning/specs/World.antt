@@ -5,19 +5,19 @@ use Rattle.std.specs.declared.cmp.Ordering.{Ordering}
 use Rattle.std.specs.declared.cmp.Ordering.TheVariants.{Less, Equal, Greater}
 use Rattle.clif_types.specs.declared.types.«Type».{«Type»}
 use Rattle.clif_types.specs.StackSlot.{StackSlotShape}
-use Rattle.clif_meaning.specs.Bits.{IsValue}
+use Rattle.clif_meaning.specs.Bits.{Bits, IsValue}
 use Rattle.clif_meaning.specs.Memory.{Memory, byte_order}
 use Rattle.clif_meaning.specs.Event.{CallShape, Event, Answer, IsAnswerTo}
 
--- a number of 32 bits is negative, zero or positive, read as a signed one, as the order says
-abbrev pub HasSignOf : Ordering → ℕ → Type 0
-HasSignOf Less number = (2 ^ 31 ≤ number) × (number < 2 ^ 32)
-HasSignOf Equal number = number ≡ 0
-HasSignOf Greater number = (0 < number) × (number < 2 ^ 31)
+-- 32 bits, read as a signed number, are negative, zero or positive as the order says
+abbrev pub HasSignOf : Ordering → Bits → Type 0
+HasSignOf Less bits = (2 ^ 31 ≤ bits) × (bits < 2 ^ 32)
+HasSignOf Equal bits = bits ≡ 0
+HasSignOf Greater bits = (0 < bits) × (bits < 2 ^ 31)
 
 pub record World : Type 0 where
   -- the bits of the arguments
-  pub arguments : List ℕ
+  pub arguments : List Bits
   -- memory as the run begins
   pub memory : Memory
   -- which addresses may be read and written
@@ -25,13 +25,13 @@ pub record World : Type 0 where
   -- the place of each stack slot
   pub slot_place : ℕ → ℕ
   -- the number that `Memcmp` answers for two lists of bytes
-  pub memcmp_number : List ℕ → List ℕ → ℕ
+  pub memcmp_number : List ℕ → List ℕ → Bits
   -- Of the events so far, newest first, and the shape of the last call: what is answered,
   pub answer : List Event → CallShape → Answer
   -- what memory holds after it, outside spill slots,
   pub memory_after : List Event → CallShape → Memory
   -- and what the collector makes of the bits of each value that it moves
-  pub moved : List Event → CallShape → «Type» → ℕ → ℕ
+  pub moved : List Event → CallShape → «Type» → Bits → Bits
   -- memory holds bytes
   pub holds_bytes : (address : ℕ) → memory address < 256
   pub keeps_bytes : (events : List Event) (call : CallShape) (address : ℕ) → memory_after events call address < 256
@@ -40,7 +40,7 @@ pub record World : Type 0 where
   -- answers are well typed
   pub answers_fit : (events : List Event) (call : CallShape) → IsAnswerTo call (answer events call)
   -- what is moved keeps its type, and the collector leaves zero
-  pub moved_fits : (events : List Event) (call : CallShape) (ty : «Type») (bits : ℕ) → IsValue ty bits → IsValue ty (moved events call ty bits)
+  pub moved_fits : (events : List Event) (call : CallShape) (ty : «Type») (bits : Bits) → IsValue ty bits → IsValue ty (moved events call ty bits)
   pub moved_zero : (events : List Event) (call : CallShape) (ty : «Type») → moved events call ty 0 ≡ 0
 
 -- the places of the slots are what was asked: aligned, accessible, within the width of pointers, and apart

@@ -7,4 +7,5 @@ returns c = record {
   listed = BitLists.listed;
   as_many = BitLists.as_many;
   in_range = BitLists.in_range;
+  zero_has_none = BitLists.zero_has_none;
 }
