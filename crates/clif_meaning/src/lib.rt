@@ -6,3 +6,5 @@ pub mod bits;
 pub mod examples;
 pub mod machines;
 pub mod scripts;
+#[cfg(test)]
+mod tests;
