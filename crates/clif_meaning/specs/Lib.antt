@@ -26,3 +26,4 @@ pub mod Premises
 pub mod Headline
 pub mod Laws
 pub mod Examples
+pub mod CallExamples

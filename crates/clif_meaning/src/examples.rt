@@ -1,6 +1,7 @@
 //! Worked examples of the definitions, by computation.
 #![tactic(auto)]
 
+ghost use Rattle.clif_meaning.specs.CallExamples.{CallExamples};
 ghost use Rattle.clif_meaning.specs.Examples.{ArithmeticExamples, ByteExamples, SwitchExamples, FirstAnswersSeven, FirstMeansTheSame, EightIsNotSeven, EmptyIsStuck, VerdictExamples};
 
 /// Constants and sums.
@@ -37,6 +38,12 @@ pub fn eight_is_not_seven()
 pub fn empty_is_stuck()
     ensures { EmptyIsStuck }
 {}
+
+/// An outside call under a collector that moves, on both machines.
+pub fn call_examples()
+    ensures { CallExamples }
+{
+}
 
 /// Scripts that are a misuse, and scripts that are refused.
 pub fn verdict_examples()
