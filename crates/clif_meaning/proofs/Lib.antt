@@ -7,3 +7,4 @@ pub mod StraightLine
 pub mod FirstRow
 pub mod SampleWorld
 pub mod FirstPremises
+pub mod LoopPaths

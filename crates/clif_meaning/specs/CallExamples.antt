@@ -1,24 +1,21 @@
 -- Worked examples of outside calls: a collector that adds 16 to each number but zero, on both machines.
-use Rattle.std.specs.Prelude.{◌≡◌, ℕ, ◌+◌, ◌*◌, ◌==◌, nat_lt, nat_le, ◌&&◌, if◌then◌else◌, Bool, true, false, List, [], ◌∷◌, map, Option, Some, None, slice_get}
+use Rattle.std.specs.Prelude.{◌≡◌, ℕ, ◌==◌, nat_lt, nat_le, ◌&&◌, if◌then◌else◌, Bool, true, List, [], ◌∷◌, map}
 use Rattle.clif_types.specs.declared.types.«Type».{«Type»}
 use Rattle.clif_types.specs.declared.types.«Type».TheVariants as type
 use Rattle.clif_types.specs.declared.types.LaneType.TheVariants as lane
 use Rattle.clif_types.specs.declared.call_conv.CallConv.TheVariants.{SystemV}
-use Rattle.clif_types.specs.declared.libcall.LibCall.TheVariants.{Memcpy}
 use Rattle.clif_types.specs.declared.stackmap.UserStackMapEntry.{UserStackMapEntry}
-use Rattle.clif_types.specs.Target.{pointer_type_of}
 use Rattle.clif_meaning.specs.Bits.{Bits, value_of_bytes}
 use Rattle.clif_meaning.specs.Memory.{Memory, bytes_in}
 use Rattle.clif_meaning.specs.Instruction.{Edge, Known, CallResult, CallPayload}
-use Rattle.clif_meaning.specs.Event.{Callee, AtAddress, CallShape, Default, Event, Answer, Results, Exception}
+use Rattle.clif_meaning.specs.Event.{Callee, AtAddress, CallShape, Default, Answer, Results, Exception}
 use Rattle.clif_meaning.specs.World.{World}
-use Rattle.clif_meaning.specs.Machine.{Control, At}
+use Rattle.clif_meaning.specs.Machine.{At}
 use Rattle.clif_meaning.specs.Name.{Name, answer_of, same_name}
-use Rattle.clif_meaning.specs.Program.{empty_program, Program, Item}
+use Rattle.clif_meaning.specs.Program.{empty_program}
 use Rattle.clif_meaning.specs.ScriptMachine as script
-use Rattle.clif_meaning.specs.FunctionView.{FunctionView}
 use Rattle.clif_meaning.specs.FunctionMachine as function
-use Rattle.clif_meaning.specs.Examples.{i32, moved_by_16, empty_function}
+use Rattle.clif_meaning.specs.Examples.{i32, empty_function}
 
 abbrev pub i64 : «Type»
 i64 = type.Lane lane.I64
@@ -26,8 +23,8 @@ i64 = type.Lane lane.I64
 -- a call of what lies at address 500, which takes an `i64` and gives an `i32`, with one item of an exception table
 abbrev pub sample_call : CallShape
 sample_call = record {
-    signature = record { params = record { value_type = i64 } ∷ []; returns = record { value_type = i32 } ∷ []; call_conv = SystemV };
-    items = Default ∷ []
+  signature = record { params = record { value_type = i64 } ∷ []; returns = record { value_type = i32 } ∷ []; call_conv = SystemV };
+  items = Default ∷ [];
 }
 
 abbrev pub sample_callee : Callee
@@ -40,13 +37,13 @@ slot_bytes address = nat_le 1000 address && nat_lt address 1008
 -- variable 0 is marked, and answer 0 of the call at place 3 is tracked
 abbrev pub sample_script_run : World → script.ScriptRun
 sample_script_run world = record {
-    program = record empty_program { parameters = λ block. answer_of 9 0 ∷ answer_of 9 1 ∷ [] };
-    variable_type = λ v. i64;
-    name_type = λ x. i64;
-    is_marked = λ v. v == 0;
-    is_tracked = same_name (answer_of 3 0);
-    hidden = slot_bytes;
-    world = world
+  program = record empty_program { parameters = λ block. answer_of 9 0 ∷ answer_of 9 1 ∷ [] };
+  variable_type = λ v. i64;
+  name_type = λ x. i64;
+  is_marked = λ v. v == 0;
+  is_tracked = same_name (answer_of 3 0);
+  hidden = slot_bytes;
+  world = world;
 }
 
 -- every variable and name holds 64, and every byte of memory is 7
@@ -70,11 +67,11 @@ script_answered world answer = script.take_answer (sample_script_run world) (scr
 -- value 4 lies in the slot, value 5 is an alias of value 4
 abbrev pub sample_function_run : World → function.Collector → function.FunctionRun
 sample_function_run world collector = record {
-    function = record empty_function { resolved = λ v. if v == 5 then 4 else v; value_type = λ v. i64 };
-    collector = collector;
-    pointer_width = 64;
-    hidden = slot_bytes;
-    world = world
+  function = record empty_function { resolved = λ v. if v == 5 then 4 else v; value_type = λ v. i64 };
+  collector = collector;
+  pointer_width = 64;
+  hidden = slot_bytes;
+  world = world;
 }
 
 abbrev pub sample_entry : UserStackMapEntry
@@ -83,10 +80,10 @@ sample_entry = record { ty = i64; slot = 0; offset = 0 }
 -- every value is 64, the slot holds 64 too, and every other byte is 7
 abbrev pub sample_function_state : function.FunctionState
 sample_function_state = record {
-    values = λ v. 64;
-    memory = λ address. if address == 1000 then 64 else (if slot_bytes address then 0 else 7);
-    events = [];
-    control = At []
+  values = λ v. 64;
+  memory = λ address. if address == 1000 then 64 else (if slot_bytes address then 0 else 7);
+  events = [];
+  control = At [];
 }
 
 abbrev pub function_called : World → function.Collector → function.FunctionState

@@ -27,3 +27,4 @@ pub mod Headline
 pub mod Laws
 pub mod Examples
 pub mod CallExamples
+pub mod ScriptExamples

@@ -3,6 +3,7 @@
 
 ghost use Rattle.clif_meaning.specs.CallExamples.{CallExamples};
 ghost use Rattle.clif_meaning.specs.Examples.{ArithmeticExamples, ByteExamples, SwitchExamples, FirstAnswersSeven, FirstMeansTheSame, EightIsNotSeven, EmptyIsStuck, VerdictExamples};
+ghost use Rattle.clif_meaning.specs.ScriptExamples.{LedgerExamples, PathExamples};
 
 /// Constants and sums.
 pub fn arithmetic_examples()
@@ -39,11 +40,20 @@ pub fn empty_is_stuck()
     ensures { EmptyIsStuck }
 {}
 
+/// What the ledger of the row `first` tells.
+pub fn ledger_examples()
+    ensures { LedgerExamples }
+{}
+
+/// Paths of an irreducible loop.
+pub fn path_examples()
+    ensures { PathExamples }
+{}
+
 /// An outside call under a collector that moves, on both machines.
 pub fn call_examples()
     ensures { CallExamples }
-{
-}
+{}
 
 /// Scripts that are a misuse, and scripts that are refused.
 pub fn verdict_examples()

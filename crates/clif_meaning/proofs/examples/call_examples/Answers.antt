@@ -1,4 +1,4 @@
-use Rattle.std.proofs.Common.{◌≡◌, ◌==◌, ℕ, Bool, true, false, refl, sym, ◌∙◌, ap, List, [], ◌∷◌, if◌then◌else◌}
+use Rattle.std.proofs.Common.{◌≡◌, ◌==◌, ℕ, Bool, true, false, refl, sym, ◌∙◌, ap, List, [], ◌∷◌}
 use Rattle.std.proofs.Math.Path.{fun_ext}
 use Rattle.std.proofs.lemmas.Bool.{eqb-true}
 use Rattle.clif_meaning.specs.Memory.{Memory}
@@ -13,7 +13,7 @@ same_byte : (address : ℕ) → shown_memory slot_bytes sample_script_state.memo
 same_byte address = by (slot_bytes address) refl (address == 1000) refl
   where
     by : (in_slot : Bool) → slot_bytes address ≡ in_slot → (first : Bool) → (address == 1000) ≡ first
-      → shown_memory slot_bytes sample_script_state.memory address ≡ shown_memory slot_bytes sample_function_state.memory address
+        → shown_memory slot_bytes sample_script_state.memory address ≡ shown_memory slot_bytes sample_function_state.memory address
     by true inside first is_first = rw inside refl
     by false outside false other = rw (outside, other) refl
     by false outside true is_first =
@@ -26,7 +26,9 @@ seen memory = record { callee = sample_callee; arguments = 64 ∷ []; memory = m
 
 pub returns : goal.returns
 unfolding seen
-returns c = (sample_world, record {
+returns c = (
+  sample_world,
+  record {
     marked = refl;
     unmarked = refl;
     tracked = refl;
@@ -44,5 +46,6 @@ returns c = (sample_world, record {
     alias_stays = refl;
     other_stays = refl;
     slot_stays = refl;
-    same_events = ap seen (fun_ext same_byte)
-})
+    same_events = ap seen (fun_ext same_byte);
+  },
+)
