@@ -109,7 +109,8 @@ impl AliasRegionSet {
     pub fn refusal(&self) -> Option<BuildError>
         ensures { result ≡ self.now.refusal }
     {
-        self.refusal
+        let AliasRegionSet { refusal, .. } = self;
+        *refusal
     }
 
     /// The data of a region, if the set has it.
@@ -123,6 +124,6 @@ impl AliasRegionSet {
     pub fn as_slice(&self) -> &[AliasRegionData]
         ensures { result.now ≡ self.now.regions }
     {
-        self.regions.as_slice()
+        &self.regions[..]
     }
 }

@@ -61,9 +61,11 @@ impl Signature {
     pub fn new(alloc: Global, call_conv: CallConv) -> Signature
         ensures { result ≡ record { params = []; returns = []; call_conv = call_conv } }
     {
+        let params = Vec::new(alloc);
+        let returns = Vec::new(alloc);
         Signature {
-            params: Vec::new(alloc),
-            returns: Vec::new(alloc),
+            params,
+            returns,
             call_conv,
         }
     }

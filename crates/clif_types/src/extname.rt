@@ -29,7 +29,8 @@ impl fmt::Display for UserExternalName {
     ghost output = { λ n. Some (user_external_name_text n) };
 
     fn fmt<W: fmt::Write>(&self, f: &mut fmt::Formatter<W>) -> fmt::Result {
-        let UserExternalName { namespace, index } = self;
+        let namespace = self.namespace;
+        let index = self.index;
         write!(f, "u{namespace}:{index}")
     }
 }

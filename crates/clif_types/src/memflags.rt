@@ -54,21 +54,24 @@ impl MemFlagsData {
     pub fn notrap(self) -> bool
         ensures { result ≡ self.notrap }
     {
-        self.notrap
+        let MemFlagsData { notrap, .. } = self;
+        notrap
     }
 
     /// Whether the address is known to have the alignment of the accessed type.
     pub fn aligned(self) -> bool
         ensures { result ≡ self.aligned }
     {
-        self.aligned
+        let MemFlagsData { aligned, .. } = self;
+        aligned
     }
 
     /// The region of memory that the access stays in, if one is named.
     pub fn alias_region(self) -> Option<AliasRegion>
         ensures { result ≡ self.alias_region }
     {
-        self.alias_region
+        let MemFlagsData { alias_region, .. } = self;
+        alias_region
     }
 
     /// Says that the access doesn't trap.

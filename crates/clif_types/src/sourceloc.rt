@@ -36,6 +36,6 @@ impl SourceLoc {
     pub fn is_default(self) -> bool
         ensures { result ≡ (self == 2 ^ 32 - 1) }
     {
-        self.0 == u32::MAX
+        self.bits() == u32::MAX
     }
 }

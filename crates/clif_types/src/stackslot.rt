@@ -43,7 +43,8 @@ impl StackSlotData {
     pub fn size(self) -> u32
         ensures { result ≡ self.size }
     {
-        self.size
+        let StackSlotData { size, .. } = self;
+        size
     }
 
     /// The number of low bits that are zero in the slot's address.
@@ -51,7 +52,8 @@ impl StackSlotData {
         ensures shift { result ≡ self.align_shift }
         ensures bounded { result < 32 }
     {
-        self.align_shift
+        let StackSlotData { align_shift, .. } = self;
+        align_shift
     }
 
     /// The alignment in bytes.

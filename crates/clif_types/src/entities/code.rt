@@ -38,7 +38,8 @@ impl Block {
         ensures number { result ≡ self }
         ensures bounded { result < 2 ^ 32 - 1 }
     {
-        self.0
+        let Block(own_number) = self;
+        own_number
     }
 }
 
@@ -52,7 +53,7 @@ impl EntityRef for Block {
     }
 
     fn index(self) -> usize {
-        self.0 as usize
+        Block::as_u32(self) as usize
     }
 }
 
@@ -69,8 +70,8 @@ impl fmt::Debug for Block {
     ghost debug_output = { λ e. Some (codes "block" ++ decimal e) };
 
     fn fmt<W: fmt::Write>(&self, f: &mut fmt::Formatter<W>) -> fmt::Result {
-        let number = self.0;
-        write!(f, "block{number}")
+        let block = *self;
+        write!(f, "{block}")
     }
 }
 
@@ -102,7 +103,8 @@ impl Value {
         ensures number { result ≡ self }
         ensures bounded { result < 2 ^ 32 - 1 }
     {
-        self.0
+        let Value(own_number) = self;
+        own_number
     }
 }
 
@@ -116,7 +118,7 @@ impl EntityRef for Value {
     }
 
     fn index(self) -> usize {
-        self.0 as usize
+        Value::as_u32(self) as usize
     }
 }
 
@@ -133,8 +135,8 @@ impl fmt::Debug for Value {
     ghost debug_output = { λ e. Some (codes "v" ++ decimal e) };
 
     fn fmt<W: fmt::Write>(&self, f: &mut fmt::Formatter<W>) -> fmt::Result {
-        let number = self.0;
-        write!(f, "v{number}")
+        let value = *self;
+        write!(f, "{value}")
     }
 }
 
@@ -166,7 +168,8 @@ impl Inst {
         ensures number { result ≡ self }
         ensures bounded { result < 2 ^ 32 - 1 }
     {
-        self.0
+        let Inst(own_number) = self;
+        own_number
     }
 }
 
@@ -180,7 +183,7 @@ impl EntityRef for Inst {
     }
 
     fn index(self) -> usize {
-        self.0 as usize
+        Inst::as_u32(self) as usize
     }
 }
 
@@ -197,8 +200,8 @@ impl fmt::Debug for Inst {
     ghost debug_output = { λ e. Some (codes "inst" ++ decimal e) };
 
     fn fmt<W: fmt::Write>(&self, f: &mut fmt::Formatter<W>) -> fmt::Result {
-        let number = self.0;
-        write!(f, "inst{number}")
+        let inst = *self;
+        write!(f, "{inst}")
     }
 }
 
@@ -230,7 +233,8 @@ impl JumpTable {
         ensures number { result ≡ self }
         ensures bounded { result < 2 ^ 32 - 1 }
     {
-        self.0
+        let JumpTable(own_number) = self;
+        own_number
     }
 }
 
@@ -244,7 +248,7 @@ impl EntityRef for JumpTable {
     }
 
     fn index(self) -> usize {
-        self.0 as usize
+        JumpTable::as_u32(self) as usize
     }
 }
 
@@ -261,8 +265,8 @@ impl fmt::Debug for JumpTable {
     ghost debug_output = { λ e. Some (codes "jt" ++ decimal e) };
 
     fn fmt<W: fmt::Write>(&self, f: &mut fmt::Formatter<W>) -> fmt::Result {
-        let number = self.0;
-        write!(f, "jt{number}")
+        let jump_table = *self;
+        write!(f, "{jump_table}")
     }
 }
 
@@ -294,7 +298,8 @@ impl ExceptionTable {
         ensures number { result ≡ self }
         ensures bounded { result < 2 ^ 32 - 1 }
     {
-        self.0
+        let ExceptionTable(own_number) = self;
+        own_number
     }
 }
 
@@ -308,7 +313,7 @@ impl EntityRef for ExceptionTable {
     }
 
     fn index(self) -> usize {
-        self.0 as usize
+        ExceptionTable::as_u32(self) as usize
     }
 }
 
@@ -325,7 +330,7 @@ impl fmt::Debug for ExceptionTable {
     ghost debug_output = { λ e. Some (codes "extable" ++ decimal e) };
 
     fn fmt<W: fmt::Write>(&self, f: &mut fmt::Formatter<W>) -> fmt::Result {
-        let number = self.0;
-        write!(f, "extable{number}")
+        let exception_table = *self;
+        write!(f, "{exception_table}")
     }
 }

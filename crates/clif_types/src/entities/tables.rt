@@ -38,7 +38,8 @@ impl StackSlot {
         ensures number { result ≡ self }
         ensures bounded { result < 2 ^ 32 - 1 }
     {
-        self.0
+        let StackSlot(own_number) = self;
+        own_number
     }
 }
 
@@ -52,7 +53,7 @@ impl EntityRef for StackSlot {
     }
 
     fn index(self) -> usize {
-        self.0 as usize
+        StackSlot::as_u32(self) as usize
     }
 }
 
@@ -69,8 +70,8 @@ impl fmt::Debug for StackSlot {
     ghost debug_output = { λ e. Some (codes "ss" ++ decimal e) };
 
     fn fmt<W: fmt::Write>(&self, f: &mut fmt::Formatter<W>) -> fmt::Result {
-        let number = self.0;
-        write!(f, "ss{number}")
+        let stack_slot = *self;
+        write!(f, "{stack_slot}")
     }
 }
 
@@ -94,7 +95,7 @@ impl DynamicStackSlot {
         requires { number < 2 ^ 32 - 1 }
         ensures { result ≡ number }
     {
-        DynamicStackSlot(number)
+        Self(number)
     }
 
     /// The number of the entry.
@@ -102,7 +103,8 @@ impl DynamicStackSlot {
         ensures number { result ≡ self }
         ensures bounded { result < 2 ^ 32 - 1 }
     {
-        self.0
+        let Self(own_number) = self;
+        own_number
     }
 }
 
@@ -112,11 +114,11 @@ impl EntityRef for DynamicStackSlot {
     ghost same = { λ x y h. h };
 
     fn new(index: usize) -> DynamicStackSlot {
-        DynamicStackSlot(index as u32)
+        Self(index as u32)
     }
 
     fn index(self) -> usize {
-        self.0 as usize
+        Self::as_u32(self) as usize
     }
 }
 
@@ -133,8 +135,8 @@ impl fmt::Debug for DynamicStackSlot {
     ghost debug_output = { λ e. Some (codes "dss" ++ decimal e) };
 
     fn fmt<W: fmt::Write>(&self, f: &mut fmt::Formatter<W>) -> fmt::Result {
-        let number = self.0;
-        write!(f, "dss{number}")
+        let dynamic_stack_slot = *self;
+        write!(f, "{dynamic_stack_slot}")
     }
 }
 
@@ -166,7 +168,8 @@ impl GlobalValue {
         ensures number { result ≡ self }
         ensures bounded { result < 2 ^ 32 - 1 }
     {
-        self.0
+        let GlobalValue(own_number) = self;
+        own_number
     }
 }
 
@@ -180,7 +183,7 @@ impl EntityRef for GlobalValue {
     }
 
     fn index(self) -> usize {
-        self.0 as usize
+        GlobalValue::as_u32(self) as usize
     }
 }
 
@@ -197,8 +200,8 @@ impl fmt::Debug for GlobalValue {
     ghost debug_output = { λ e. Some (codes "gv" ++ decimal e) };
 
     fn fmt<W: fmt::Write>(&self, f: &mut fmt::Formatter<W>) -> fmt::Result {
-        let number = self.0;
-        write!(f, "gv{number}")
+        let global_value = *self;
+        write!(f, "{global_value}")
     }
 }
 
@@ -230,7 +233,8 @@ impl AliasRegion {
         ensures number { result ≡ self }
         ensures bounded { result < 2 ^ 32 - 1 }
     {
-        self.0
+        let AliasRegion(own_number) = self;
+        own_number
     }
 }
 
@@ -244,7 +248,7 @@ impl EntityRef for AliasRegion {
     }
 
     fn index(self) -> usize {
-        self.0 as usize
+        AliasRegion::as_u32(self) as usize
     }
 }
 
@@ -261,8 +265,8 @@ impl fmt::Debug for AliasRegion {
     ghost debug_output = { λ e. Some (codes "region" ++ decimal e) };
 
     fn fmt<W: fmt::Write>(&self, f: &mut fmt::Formatter<W>) -> fmt::Result {
-        let number = self.0;
-        write!(f, "region{number}")
+        let alias_region = *self;
+        write!(f, "{alias_region}")
     }
 }
 
@@ -294,7 +298,8 @@ impl SigRef {
         ensures number { result ≡ self }
         ensures bounded { result < 2 ^ 32 - 1 }
     {
-        self.0
+        let SigRef(own_number) = self;
+        own_number
     }
 }
 
@@ -308,7 +313,7 @@ impl EntityRef for SigRef {
     }
 
     fn index(self) -> usize {
-        self.0 as usize
+        SigRef::as_u32(self) as usize
     }
 }
 
@@ -325,8 +330,8 @@ impl fmt::Debug for SigRef {
     ghost debug_output = { λ e. Some (codes "sig" ++ decimal e) };
 
     fn fmt<W: fmt::Write>(&self, f: &mut fmt::Formatter<W>) -> fmt::Result {
-        let number = self.0;
-        write!(f, "sig{number}")
+        let sig_ref = *self;
+        write!(f, "{sig_ref}")
     }
 }
 
@@ -358,7 +363,8 @@ impl FuncRef {
         ensures number { result ≡ self }
         ensures bounded { result < 2 ^ 32 - 1 }
     {
-        self.0
+        let FuncRef(own_number) = self;
+        own_number
     }
 }
 
@@ -372,7 +378,7 @@ impl EntityRef for FuncRef {
     }
 
     fn index(self) -> usize {
-        self.0 as usize
+        FuncRef::as_u32(self) as usize
     }
 }
 
@@ -389,8 +395,8 @@ impl fmt::Debug for FuncRef {
     ghost debug_output = { λ e. Some (codes "fn" ++ decimal e) };
 
     fn fmt<W: fmt::Write>(&self, f: &mut fmt::Formatter<W>) -> fmt::Result {
-        let number = self.0;
-        write!(f, "fn{number}")
+        let func_ref = *self;
+        write!(f, "{func_ref}")
     }
 }
 
@@ -422,7 +428,8 @@ impl Constant {
         ensures number { result ≡ self }
         ensures bounded { result < 2 ^ 32 - 1 }
     {
-        self.0
+        let Constant(own_number) = self;
+        own_number
     }
 }
 
@@ -436,7 +443,7 @@ impl EntityRef for Constant {
     }
 
     fn index(self) -> usize {
-        self.0 as usize
+        Constant::as_u32(self) as usize
     }
 }
 
@@ -453,8 +460,8 @@ impl fmt::Debug for Constant {
     ghost debug_output = { λ e. Some (codes "const" ++ decimal e) };
 
     fn fmt<W: fmt::Write>(&self, f: &mut fmt::Formatter<W>) -> fmt::Result {
-        let number = self.0;
-        write!(f, "const{number}")
+        let constant = *self;
+        write!(f, "{constant}")
     }
 }
 
@@ -486,7 +493,8 @@ impl ValueLabel {
         ensures number { result ≡ self }
         ensures bounded { result < 2 ^ 32 - 1 }
     {
-        self.0
+        let ValueLabel(own_number) = self;
+        own_number
     }
 }
 
@@ -500,7 +508,7 @@ impl EntityRef for ValueLabel {
     }
 
     fn index(self) -> usize {
-        self.0 as usize
+        ValueLabel::as_u32(self) as usize
     }
 }
 
@@ -517,7 +525,7 @@ impl fmt::Debug for ValueLabel {
     ghost debug_output = { λ e. Some (codes "val" ++ decimal e) };
 
     fn fmt<W: fmt::Write>(&self, f: &mut fmt::Formatter<W>) -> fmt::Result {
-        let number = self.0;
-        write!(f, "val{number}")
+        let value_label = *self;
+        write!(f, "{value_label}")
     }
 }
