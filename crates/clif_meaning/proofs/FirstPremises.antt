@@ -85,7 +85,7 @@ first_premises world = record {
 }
 
 -- a run that shows what the other begins with until it ends as the other does
-shows_all : (left right : Behaviour) (a b : ℕ) → EndStays left → IsEnd (left a).ending
+pub shows_all : (left right : Behaviour) (a b : ℕ) → EndStays left → IsEnd (left a).ending
     → ((n : ℕ) → n < a → left n ≡ right 0) → left a ≡ right b → ShowsAllOf left right
 shows_all left right a b stays end before same n = by (order n a)
   where

@@ -8,3 +8,4 @@ pub mod FirstRow
 pub mod SampleWorld
 pub mod FirstPremises
 pub mod LoopPaths
+pub mod ViewRow

@@ -87,9 +87,9 @@ first_script =
     ∷ return_ (answer_of 7 0 ∷ []) ∷ SealBlock block0 ∷ []
 
 -- an instruction without edges and stack map
-abbrev pub placed : Operation → List ℕ → List ℕ → Placed
-placed operation operands results = record {
-  instruction = record { operation = operation; controlling = i32; operands = operands; edges = [] };
+abbrev pub placed : Operation → «Type» → List ℕ → List ℕ → Placed
+placed operation ty operands results = record {
+  instruction = record { operation = operation; controlling = ty; operands = operands; edges = [] };
   results = results;
   stack_map = [];
 }
@@ -110,10 +110,10 @@ first_function_with number = record {
   signature = record { params = []; returns = record { value_type = i32 } ∷ []; call_conv = SystemV };
   entry = Some 0;
   blocks = one_block (
-      placed (Compute (Iconst (pos 0))) [] (3 ∷ [])
-      ∷ placed (Compute (Iconst (pos number))) [] (1 ∷ [])
-      ∷ placed (Compute Iadd) (0 ∷ 1 ∷ []) (2 ∷ [])
-      ∷ placed Return (2 ∷ []) []
+      placed (Compute (Iconst (pos 0))) i32 [] (3 ∷ [])
+      ∷ placed (Compute (Iconst (pos number))) i32 [] (1 ∷ [])
+      ∷ placed (Compute Iadd) i32 (0 ∷ 1 ∷ []) (2 ∷ [])
+      ∷ placed Return type.Invalid (2 ∷ []) []
       ∷ []);
   resolved = λ v. if v == 0 then 3 else v;
   value_type = λ v. i32;

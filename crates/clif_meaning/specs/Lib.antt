@@ -17,6 +17,7 @@ pub mod Program
 pub mod ScriptMachine
 pub mod FunctionView
 pub mod FunctionMachine
+pub mod View
 pub mod Tracked
 pub mod Path
 pub mod WellPlaced
@@ -28,3 +29,4 @@ pub mod Laws
 pub mod Examples
 pub mod CallExamples
 pub mod ScriptExamples
+pub mod ViewExamples

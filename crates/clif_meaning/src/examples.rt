@@ -4,6 +4,7 @@
 ghost use Rattle.clif_meaning.specs.CallExamples.{CallExamples};
 ghost use Rattle.clif_meaning.specs.Examples.{ArithmeticExamples, ByteExamples, SwitchExamples, FirstAnswersSeven, FirstMeansTheSame, EightIsNotSeven, EmptyIsStuck, VerdictExamples};
 ghost use Rattle.clif_meaning.specs.ScriptExamples.{LedgerExamples, PathExamples};
+ghost use Rattle.clif_meaning.specs.ViewExamples.{ViewExamples};
 
 /// Constants and sums.
 pub fn arithmetic_examples()
@@ -48,6 +49,11 @@ pub fn ledger_examples()
 /// Paths of an irreducible loop.
 pub fn path_examples()
     ensures { PathExamples }
+{}
+
+/// What the machines see of the function of the row `first`.
+pub fn view_examples()
+    ensures { ViewExamples }
 {}
 
 /// An outside call under a collector that moves, on both machines.
