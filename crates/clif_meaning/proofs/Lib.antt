@@ -9,3 +9,4 @@ pub mod SampleWorld
 pub mod FirstPremises
 pub mod LoopPaths
 pub mod ViewRow
+pub mod Ranges

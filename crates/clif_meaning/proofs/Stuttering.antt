@@ -32,8 +32,14 @@ pub record Simulates {S T : Type 0} (left : Machine S Observation) (right : Mach
   pub shows : (s : S) (t : T) → Related s t → left.shown s ≡ right.shown t
   pub step : (s : S) (t : T) → Related s t → Matched left right Related measure s t
 
+-- what holds at the start and is kept by each step holds of all states
+pub always : {State : Type 0} (machine : Machine State Observation) (P : State → Type 0)
+    → P machine.start → ((state : State) → P state → P (machine.next state)) → (n : ℕ) → P (state_after machine n)
+always machine P start keeps zero = start
+always machine P start keeps (suc n) = keeps (state_after machine n) (always machine P start keeps n)
+
 -- steps after steps
-state_after-+ : {State : Type 0} (machine : Machine State Observation) (p k : ℕ)
+pub state_after-+ : {State : Type 0} (machine : Machine State Observation) (p k : ℕ)
     → steps_from machine k (state_after machine p) ≡ state_after machine (p + k)
 state_after-+ machine p zero = ap (λ (n : ℕ). state_after machine n) (omega arith)
 state_after-+ machine p (suc k) =

@@ -1,6 +1,6 @@
 -- Memory, and what copying, filling and comparing bytes mean. Own; the meanings are those of C's `memmove`, `memset`
 -- and `memcmp`.
-use Rattle.std.specs.Prelude.{ℕ, zero, suc, ◌+◌, ◌-◌, ◌%◌, ◌^◌, nat_lt, ◌&&◌, if◌then◌else◌, Bool, List, [], ◌∷◌, slice_index}
+use Rattle.std.specs.Prelude.{ℕ, zero, suc, ◌+◌, ◌-◌, ◌%◌, ◌^◌, nat_lt, ◌&&◌, if◌then◌else◌, Bool, List, [], ◌∷◌, slice_index, ◌≡◌, ◌<◌, ◌≤◌, length, replicate, false}
 use Rattle.std.specs.Ordering.{nat_cmp, ordering_then}
 use Rattle.std.specs.declared.cmp.Ordering.{Ordering}
 use Rattle.std.specs.declared.cmp.Ordering.TheVariants.{Equal}
@@ -55,3 +55,18 @@ abbrev pub byte_order : List ℕ → List ℕ → Ordering
 byte_order [] right = Equal
 byte_order (a ∷ left) [] = Equal
 byte_order (a ∷ left) (b ∷ right) = ordering_then (nat_cmp a b) (byte_order left right)
+
+-- the range begins at an address, and isn't longer than there are addresses
+pub record IsProper (range : Range) : Type 0 where
+  pub start : range.start < 2 ^ range.width
+  pub size : range.size ≤ 2 ^ range.width
+
+-- What was written is read, what was copied is what the source held before, what was filled holds the byte; and each
+-- leaves every address outside the range.
+pub record MemoryLaws : Type 0 where
+  pub written_read : (memory : Memory) (range : Range) (bytes : List ℕ) → IsProper range → length bytes ≡ range.size → bytes_in (written memory range bytes) range ≡ bytes
+  pub copied_read : (memory : Memory) (target : Range) (source : ℕ) → IsProper target → bytes_in (copied memory target source) target ≡ bytes_in memory (record target { start = source })
+  pub filled_read : (memory : Memory) (range : Range) (byte : ℕ) → IsProper range → bytes_in (filled memory range byte) range ≡ replicate range.size byte
+  pub written_leaves : (memory : Memory) (range : Range) (bytes : List ℕ) (address : ℕ) → lies_in range address ≡ false → written memory range bytes address ≡ memory address
+  pub copied_leaves : (memory : Memory) (target : Range) (source address : ℕ) → lies_in target address ≡ false → copied memory target source address ≡ memory address
+  pub filled_leaves : (memory : Memory) (range : Range) (byte address : ℕ) → lies_in range address ≡ false → filled memory range byte address ≡ memory address
