@@ -10,3 +10,4 @@ pub mod FirstPremises
 pub mod LoopPaths
 pub mod ViewRow
 pub mod Ranges
+pub mod CallLists

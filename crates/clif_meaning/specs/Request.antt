@@ -1,6 +1,6 @@
 -- The calls of a script, as the builder sees them: what is asked, with earlier answers by their names. After the
 -- methods of Cranelift's `FunctionBuilder`. A variable is known by its number, and by nothing else.
-use Rattle.std.specs.Prelude.{ℕ, List, Option, slice_get, option_and_then}
+use Rattle.std.specs.Prelude.{ℕ, List, map, Option, slice_get, option_and_then}
 use Rattle.clif_types.specs.declared.types.«Type».{«Type»}
 use Rattle.clif_meaning.specs.Instruction.{Instruction}
 use Rattle.clif_meaning.specs.Name.{Name}
@@ -25,6 +25,10 @@ Script = List Request
 pub record AnsweredCall : Type 0 where
   pub request : Request
   pub numbers : List ℕ
+
+-- the script of answered calls
+abbrev pub script_of : List AnsweredCall → Script
+script_of calls = map (λ call. call.request) calls
 
 -- the number that answered a name
 abbrev pub number_of : List AnsweredCall → Name → Option ℕ

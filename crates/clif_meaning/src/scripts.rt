@@ -3,7 +3,7 @@
 
 ghost use Rattle.clif_meaning.specs.Name.{SameNameDecides};
 ghost use Rattle.clif_meaning.specs.SameType.{SameTypeDecides};
-ghost use Rattle.clif_meaning.specs.Laws.{OneMoreCall};
+ghost use Rattle.clif_meaning.specs.Laws.{OneMoreCall, PlacesCount, NumbersStay};
 
 /// The test for equal types answers whether they are equal.
 pub fn same_type_decides()
@@ -18,4 +18,14 @@ pub fn same_name_decides()
 /// A call at the end of a script changes program and ledger by that call alone.
 pub fn one_more_call()
     ensures { OneMoreCall }
+{}
+
+/// The place of the next call is how many calls there were.
+pub fn places_count()
+    ensures { PlacesCount }
+{}
+
+/// A call at the end leaves the numbers that answered earlier calls.
+pub fn numbers_stay()
+    ensures { NumbersStay }
 {}
