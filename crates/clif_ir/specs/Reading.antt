@@ -1,5 +1,5 @@
 -- What the calls that read a function answer. Source: own, after the crate's documentation.
-use Rattle.std.specs.Prelude.{ℕ, ◌==◌, ◌+◌, List, [], ◌∷◌, length, Option, Some, None, if◌then◌else◌, slice_get}
+use Rattle.std.specs.Prelude.{ℕ, ◌==◌, ◌+◌, ◌<◌, List, [], ◌∷◌, length, Option, Some, None, if◌then◌else◌, slice_get}
 use Rattle.clif_ir.specs.declared.function.ValueDef.{ValueDef}
 use Rattle.clif_ir.specs.declared.function.ValueDef.TheVariants as def
 use Rattle.clif_ir.specs.declared.function.ValueOrigin.{ValueOrigin}
@@ -26,3 +26,8 @@ abbrev pub def_of : Body → ℕ → ValueOrigin → ValueDef
 def_of f v (Result i k) = def.Result i k
 def_of f v (Param b) = def.Param b (place_of v (block_at f b).params)
 def_of f v (Alias original) = def.Param 0 0
+
+-- what defines a value exists
+abbrev pub DefExists : Body → ValueDef → Type 0
+DefExists f (def.Result i k) = i < length f.insts
+DefExists f (def.Param b k) = b < length f.blocks
