@@ -90,6 +90,7 @@ impl Function {
         ensures ok { OnOk result (self.new ≡ with_block self.old) }
         ensures number { IfOk result (λ b. b ≡ length self.old.blocks) }
         ensures full { result ≡ Err BuildError.Full → length self.old.blocks ≡ 2 ^ 32 - 1 }
+        ensures at_limit { length self.old.blocks ≡ 2 ^ 32 - 1 → result ≡ Err BuildError.Full }
         ensures never_failed { result ≢ Err BuildError.Failed }
         ensures err { OnErr result (self.new ≡ self.old) }
     {
@@ -114,6 +115,7 @@ impl Function {
         ensures ok { OnOk result (self.new ≡ with_param self.old block ty) }
         ensures number { IfOk result (λ v. v ≡ length self.old.values) }
         ensures full { result ≡ Err BuildError.Full → length self.old.values ≡ 2 ^ 32 - 1 }
+        ensures at_limit { length self.old.values ≡ 2 ^ 32 - 1 → result ≡ Err BuildError.Full }
         ensures never_failed { result ≢ Err BuildError.Failed }
         ensures err { OnErr result (self.new ≡ self.old) }
     {
@@ -142,6 +144,8 @@ impl Function {
         ensures number { IfOk result (λ i. i ≡ length self.old.insts) }
         ensures unaliased { OnOk result (has_result shape ≡ true → resolved self.new (length self.old.values) ≡ length self.old.values) }
         ensures full { result ≡ Err BuildError.Full → (length self.old.insts ≡ 2 ^ 32 - 1) ⊎ (length self.old.values ≡ 2 ^ 32 - 1) }
+        ensures insts_at_limit { length self.old.insts ≡ 2 ^ 32 - 1 → result ≡ Err BuildError.Full }
+        ensures values_at_limit { length self.old.values ≡ 2 ^ 32 - 1 → result ≡ Err BuildError.Full }
         ensures never_failed { result ≢ Err BuildError.Failed }
         ensures err { OnErr result (self.new ≡ self.old) }
     {

@@ -1,6 +1,7 @@
 //! Functions: their tables, and the calls that read them.
 ghost use Rattle.std.specs.Prelude.{◌≡◌, [], ◌∷◌, ◌++◌, length, ◌+◌, ◌-◌, ◌^◌, ◌≤◌, ◌<◌, IfSome, IsSome, None, EachIndex, slice_index};
 ghost use Rattle.clif_ir.specs.Body.{empty_body, value_at, inst_at, block_at, resolved, alias_of};
+ghost use Rattle.clif_ir.specs.Consistent.{IsConsistent};
 ghost use Rattle.clif_ir.specs.Instruction.{operands};
 ghost use Rattle.clif_ir.specs.Reading.{def_of, DefExists, param_home};
 
@@ -112,6 +113,16 @@ impl Function {
             block_places: Vec::new(alloc),
             aliases: BTreeSet::new(alloc),
         }
+    }
+
+    /// The law that every function is consistent: its numbers name what exists, a value knows where
+    /// it comes from, an instruction stands in one block and a block in the layout at most once, and
+    /// each way along aliases ends.
+    pub fn law_consistent(&self)
+        ensures { IsConsistent self.now }
+    {
+        // The invariant is known where a field is read.
+        let _ = &self.alloc;
     }
 
     /// The parameters of a block, in order.

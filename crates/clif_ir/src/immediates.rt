@@ -1,17 +1,35 @@
 //! Numbers in instructions, and how they are printed.
+ghost use Rattle.std.specs.Prelude.{◌≡◌, ◌*◌, ◌^◌, ◌≤◌, ◌<◌};
+ghost use Rattle.clif_ir.specs.Immediates.{centred, signed_at};
+ghost use Rattle.clif_types.specs.Types.{bits_of};
+
 use clif_types::Type;
 use std::fmt;
+
+// The number from `-half` up to `half - 1` that is `low` modulo twice `half`.
+fn centred(half: u64, low: u64) -> i64
+    requires narrow { half ≤ 2 ^ 62 }
+    requires fits { low < 2 * half }
+    ensures { result ≡ centred half low }
+{
+    if low < half {
+        low.cast_signed()
+    } else {
+        -(2 * half - low).cast_signed()
+    }
+}
 
 /// The number that the low bits of `imm` mean as a signed number of the width of `ty`.
 ///
 /// A width of 64 bits or more, or none, keeps the number.
-pub fn signed_at(imm: i64, ty: Type) -> i64 {
+pub fn signed_at(imm: i64, ty: Type) -> i64
+    ensures { result ≡ signed_at (bits_of ty) imm }
+{
     let bits = ty.bits();
     if bits == 0 || bits >= 64 {
         return imm;
     }
-    let unused = 64 - bits;
-    (imm << unused) >> unused
+    centred(1 << (bits - 1), imm.cast_unsigned() % (1 << bits))
 }
 
 /// A 64-bit number as it is printed: decimal from -9999 to 9999; else `0x` and its bits in groups of
