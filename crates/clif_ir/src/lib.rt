@@ -17,3 +17,6 @@ pub mod write;
 pub use function::{BlockNode, Function, InstNode, ValueNode, ValueOrigin};
 pub use instructions::{BinaryOpcode, InstructionData};
 pub use value_list::ValueList;
+
+#[cfg(test)]
+mod tests;
