@@ -1,6 +1,7 @@
 //! Numbers in instructions, and how they are printed.
-ghost use Rattle.std.specs.Prelude.{◌≡◌, ◌*◌, ◌^◌, ◌≤◌, ◌<◌};
-ghost use Rattle.clif_ir.specs.Immediates.{centred, signed_at};
+ghost use Rattle.std.specs.Prelude.{◌≡◌, ◌*◌, ◌^◌, ◌≤◌, ◌<◌, ◌++◌, ◌∷◌, [], Some, codes};
+ghost use Rattle.std.specs.Fmt.{WritesOnOk};
+ghost use Rattle.clif_ir.specs.Immediates.{centred, signed_at, hex_groups, significant, imm64_text};
 ghost use Rattle.clif_types.specs.Types.{bits_of};
 
 use clif_types::Type;
@@ -37,22 +38,42 @@ pub fn signed_at(imm: i64, ty: Type) -> i64
 #[derive(Clone, Copy, Debug, PartialEq, Eq)]
 pub struct Imm64(pub i64);
 
+// Writes `0x` and the groups, without those at the head that are zero.
+fn write_groups<W: fmt::Write>(
+    f: &mut fmt::Formatter<W>,
+    first: u64,
+    second: u64,
+    third: u64,
+    last: u64,
+) -> fmt::Result
+    ensures { WritesOnOk W.write_str_gives f.old result (codes "0x" ++ hex_groups (significant (first ∷ second ∷ third ∷ last ∷ []))) f.new }
+{
+    if first != 0 {
+        write!(f, "0x{first:04x}_{second:04x}_{third:04x}_{last:04x}")
+    } else if second != 0 {
+        write!(f, "0x{second:04x}_{third:04x}_{last:04x}")
+    } else if third != 0 {
+        write!(f, "0x{third:04x}_{last:04x}")
+    } else {
+        write!(f, "0x{last:04x}")
+    }
+}
+
 impl fmt::Display for Imm64 {
+    ghost output = { λ n. Some (imm64_text n.0) };
+
     fn fmt<W: fmt::Write>(&self, f: &mut fmt::Formatter<W>) -> fmt::Result {
         let number = self.0;
-        if number >= -9999 && number <= 9999 {
+        if number.unsigned_abs() <= 9999 {
             return write!(f, "{number}");
         }
         let bits = number.cast_unsigned();
-        let groups = [bits >> 48, bits >> 32, bits >> 16, bits];
-        let mut separator = "0x";
-        for (place, group) in groups.iter().enumerate() {
-            if separator == "_" || place == 3 || *group != 0 {
-                let digits = *group & 0xffff;
-                write!(f, "{separator}{digits:04x}")?;
-                separator = "_";
-            }
-        }
-        Ok(())
+        write_groups(
+            f,
+            bits >> 48,
+            (bits >> 32) % 0x1_0000,
+            (bits >> 16) % 0x1_0000,
+            bits % 0x1_0000,
+        )
     }
 }
