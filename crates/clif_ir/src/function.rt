@@ -13,7 +13,7 @@ use std::alloc::Global;
 use std::collections::BTreeSet;
 use std::marker::Model;
 
-/// Where a value comes from.
+/// Where a value comes from, as its table says it.
 #[derive(Clone, Copy, Debug, PartialEq, Eq)]
 pub enum ValueOrigin {
     /// The result of an instruction, at this place among its results.
@@ -24,7 +24,7 @@ pub enum ValueOrigin {
     Alias(Value),
 }
 
-/// What defines a value.
+/// What defines the value that a value stands for.
 #[derive(Clone, Copy, Debug, PartialEq, Eq)]
 pub enum ValueDef {
     /// It is the result of an instruction, at this place among its results.
@@ -125,7 +125,7 @@ impl Function {
         let _ = &self.alloc;
     }
 
-    /// The parameters of a block, in order.
+    /// The parameters of a block, in order, without those that became aliases.
     pub fn block_params(&self, block: Block) -> &[Value]
         requires { block < length self.now.blocks }
         ensures exact { result.now ≡ (block_at self.now block).params }
@@ -134,7 +134,7 @@ impl Function {
         self.blocks[block.index()].params.as_slice()
     }
 
-    /// The results of an instruction, in order.
+    /// The results of an instruction, in order; none where it is a terminator.
     pub fn inst_results(&self, inst: Inst) -> &[Value]
         requires { inst < length self.now.insts }
         ensures exact { result.now ≡ (inst_at self.now inst).results }
@@ -143,7 +143,7 @@ impl Function {
         self.insts[inst.index()].results.as_slice()
     }
 
-    /// The instruction itself.
+    /// What an instruction does, and with which operands.
     pub fn inst_data(&self, inst: Inst) -> &InstructionData
         requires { inst < length self.now.insts }
         ensures exact { result.now ≡ (inst_at self.now inst).shape }
@@ -152,7 +152,7 @@ impl Function {
         &self.insts[inst.index()].shape
     }
 
-    /// The type of a value.
+    /// The type of a value, which it has for good.
     pub fn value_type(&self, value: Value) -> Type
         requires { value < length self.now.values }
         ensures { result ≡ (value_at self.now value).ty }
@@ -206,7 +206,7 @@ impl Function {
         }
     }
 
-    /// The source place of an instruction.
+    /// The source place that was given where an instruction was made.
     pub fn srcloc(&self, inst: Inst) -> SourceLoc
         requires { inst < length self.now.insts }
         ensures { result ≡ (inst_at self.now inst).srcloc }
