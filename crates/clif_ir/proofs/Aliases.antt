@@ -1,6 +1,6 @@
 -- Laws of the way along aliases.
-use Rattle.std.proofs.Common.{◌≡◌, ℕ, zero, suc, ◌+◌, ◌-◌, ◌<◌, ◌≤◌, List, length, ◌++◌, refl, ap, arith, rules, sym, ◌∙◌, ◌⊎◌, inl, inr, set, ◌≢◌, get_or-set_same, get_or-set_other, [], ◌∷◌}
-use Rattle.std.specs.Prelude.{Option, Some, None, is_some, Bool, true, cond, unwrap_or}
+use Rattle.std.proofs.Common.{◌≡◌, ℕ, zero, suc, ◌+◌, ◌<◌, ◌≤◌, List, length, ◌++◌, refl, ap, arith, sym, ◌∙◌, inl, inr, set, ◌≢◌, get_or-set_same, get_or-set_other, [], ◌∷◌}
+use Rattle.std.specs.Prelude.{Option, Some, None, is_some, true, cond}
 use Rattle.clif_ir.specs.declared.function.ValueNode.{ValueNode}
 use Rattle.std.proofs.Math.ListN.{get_or-append}
 use Rattle.std.proofs.lemmas.List.Sums.{count_by-le-length, sum_by-cons}

@@ -1,16 +1,14 @@
 -- What the changes of a function have in common in keeping it consistent.
-use Rattle.std.proofs.Common.{◌≡◌, ◌≢◌, ℕ, zero, suc, ◌+◌, ◌<◌, ◌≤◌, List, [], ◌∷◌, ◌++◌, length, get_or, refl, ap, arith, sym, ◌∙◌, subst, ◌⊎◌, inl, inr}
+use Rattle.std.proofs.Common.{◌≡◌, ℕ, zero, suc, ◌+◌, ◌<◌, ◌≤◌, List, [], ◌∷◌, ◌++◌, length, refl, ap, arith, sym, ◌∙◌, subst, inl, inr}
 use Rattle.std.specs.Prelude.{slice_index, Option, Some, None, unwrap_or}
 use Rattle.std.proofs.Math.ListN.{get_or-append}
-use Rattle.std.proofs.lemmas.Bool.{cases_eq}
 use Rattle.std.proofs.lemmas.Grind.{common_steps}
 use Rattle.clif_ir.specs.declared.function.ValueOrigin.{ValueOrigin}
 use Rattle.clif_ir.specs.declared.function.ValueOrigin.TheVariants.{Result, Param, Alias}
-use Rattle.clif_ir.specs.declared.function.ValueNode.{ValueNode}
-use Rattle.clif_ir.specs.Body.{Body, value_at, inst_at, block_at, alias_of, alias_of_origin}
+use Rattle.clif_ir.specs.Body.{Body, value_at, inst_at, block_at, alias_of_origin}
 use Rattle.clif_ir.specs.Consistent.{IsConsistent, IsOrigin, Stands, Once}
 use Rattle.clif_ir.proofs.Aliases.{LeadsInside}
-use Rattle.clif_ir.proofs.Lists.{at_push, at_set, at_append, at_past, below_or_not}
+use Rattle.clif_ir.proofs.Lists.{below_or_not}
 
 not_some : {x : ℕ} → ◌≡◌ {A = Option ℕ} None (Some x) → ⊥
 not_some same = cc

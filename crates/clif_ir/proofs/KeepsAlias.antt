@@ -1,13 +1,12 @@
 -- A parameter that becomes another name of a value keeps a function consistent.
-use Rattle.std.proofs.Common.{◌≡◌, ◌≢◌, ℕ, zero, suc, ◌+◌, ◌-◌, ◌^◌, ◌<◌, ◌≤◌, List, [], ◌∷◌, ◌++◌, length, get_or, set, refl, ap, arith, sym, ◌∙◌, subst}
-use Rattle.std.specs.Prelude.{slice_index, slice_index_or, Option, Some, None}
+use Rattle.std.proofs.Common.{◌≡◌, ◌≢◌, ℕ, ◌+◌, ◌^◌, ◌<◌, List, length, refl, ap, arith, sym, ◌∙◌, subst}
+use Rattle.std.specs.Prelude.{slice_index, slice_index_or}
 use Rattle.std.proofs.lemmas.Grind.{common_steps}
 use Rattle.clif_ir.specs.declared.function.BlockNode.{BlockNode}
 use Rattle.clif_ir.specs.declared.function.BlockPlace.{BlockPlace}
 use Rattle.clif_ir.specs.declared.function.ValueNode.{ValueNode}
-use Rattle.clif_ir.specs.declared.function.ValueOrigin.{ValueOrigin}
 use Rattle.clif_ir.specs.declared.function.ValueOrigin.TheVariants.{Result, Param, Alias}
-use Rattle.clif_ir.specs.Body.{Body, value_at, inst_at, block_at, empty_block, no_value, alias_of, alias_of_origin, resolved}
+use Rattle.clif_ir.specs.Body.{Body, value_at, inst_at, block_at, empty_block, no_value, alias_of_origin, resolved}
 use Rattle.clif_ir.specs.Changes.{with_alias, home_of}
 use Rattle.clif_ir.specs.Reading.{without}
 use Rattle.clif_ir.specs.Consistent.{IsConsistent, IsOrigin, Stands, Once}

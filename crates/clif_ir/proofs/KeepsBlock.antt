@@ -1,13 +1,13 @@
 -- A new block keeps a function consistent, and so does a block that enters the layout.
-use Rattle.std.proofs.Common.{◌≡◌, ℕ, ◌+◌, ◌-◌, ◌^◌, ◌<◌, ◌≤◌, List, [], ◌∷◌, ◌++◌, length, get_or, refl, arith, sym, ◌∙◌, subst}
+use Rattle.std.proofs.Common.{◌≡◌, ℕ, ◌+◌, ◌-◌, ◌^◌, ◌<◌, [], ◌∷◌, length, refl, arith, sym, subst}
 use Rattle.std.specs.Prelude.{slice_index}
 use Rattle.std.proofs.Math.ListN.{get_or-append}
 use Rattle.std.proofs.lemmas.Grind.{common_steps}
 use Rattle.clif_ir.specs.Body.{Body, value_at, inst_at, block_at, empty_block}
-use Rattle.clif_ir.specs.Changes.{with_block, with_layout}
-use Rattle.clif_ir.specs.Consistent.{IsConsistent, IsOrigin, Stands, Once}
+use Rattle.clif_ir.specs.Changes.{with_block}
+use Rattle.clif_ir.specs.Consistent.{IsConsistent, Stands, Once}
 use Rattle.clif_ir.proofs.Lists.{at_push}
-use Rattle.clif_ir.proofs.Keeps.{larger_origin, Once-push}
+use Rattle.clif_ir.proofs.Keeps.{larger_origin}
 use Rattle.clif_ir.specs.declared.function.BlockNode.{BlockNode}
 use Rattle.clif_ir.specs.declared.function.ValueOrigin.TheVariants.{Param}
 

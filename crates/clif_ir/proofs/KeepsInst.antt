@@ -1,6 +1,6 @@
 -- A new instruction keeps a function consistent.
-use Rattle.std.proofs.Common.{◌≡◌, ◌≢◌, ℕ, zero, suc, ◌+◌, ◌-◌, ◌^◌, ◌<◌, ◌≤◌, List, [], ◌∷◌, ◌++◌, length, get_or, set, refl, ap, arith, sym, ◌∙◌, subst}
-use Rattle.std.specs.Prelude.{slice_index, EachIndex, Option, Some, None}
+use Rattle.std.proofs.Common.{◌≡◌, ℕ, zero, suc, ◌+◌, ◌-◌, ◌^◌, ◌<◌, ◌≤◌, List, [], ◌∷◌, ◌++◌, length, get_or, refl, ap, arith, sym, ◌∙◌, subst}
+use Rattle.std.specs.Prelude.{slice_index, EachIndex, None}
 use Rattle.std.specs.List.{range_with_len}
 use Rattle.std.proofs.Math.ListN.{get_or-append}
 use Rattle.std.proofs.Math.Seq.{get_or-append_right}
@@ -10,7 +10,6 @@ use Rattle.clif_types.specs.declared.types.«Type».{«Type»}
 use Rattle.clif_ir.specs.declared.function.BlockNode.{BlockNode}
 use Rattle.clif_ir.specs.declared.function.InstNode.{InstNode}
 use Rattle.clif_ir.specs.declared.function.ValueNode.{ValueNode}
-use Rattle.clif_ir.specs.declared.function.ValueOrigin.{ValueOrigin}
 use Rattle.clif_ir.specs.declared.function.ValueOrigin.TheVariants.{Result, Param}
 use Rattle.clif_ir.specs.declared.inst_list.BlockEnd.{BlockEnd}
 use Rattle.clif_ir.specs.declared.inst_list.BlockEnd.TheVariants.{Front, Back}
@@ -20,7 +19,7 @@ use Rattle.clif_ir.specs.Instruction.{operands, result_types}
 use Rattle.clif_ir.specs.Body.{Body, value_at, inst_at, block_at, empty_block, no_value, no_inst, alias_of_origin, resolved}
 use Rattle.clif_ir.specs.Changes.{with_inst, inst_node, put_at, result_nodes}
 use Rattle.clif_ir.specs.Consistent.{IsConsistent, IsOrigin, Stands, Once, alias_count}
-use Rattle.clif_ir.proofs.Lists.{at_push, at_set, at_append, at_past}
+use Rattle.clif_ir.proofs.Lists.{at_push, at_set, at_append}
 use Rattle.clif_ir.proofs.Keeps.{leads_inside, larger_origin, Stands-append, Stands-push, Stands-cons, Once-push, Once-cons}
 use Rattle.clif_ir.proofs.Aliases.{ways_end-append, follow_end}
 

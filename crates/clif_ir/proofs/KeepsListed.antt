@@ -1,6 +1,6 @@
 -- The pairs of aliases stay in step with the values.
-use Rattle.std.proofs.Common.{◌≡◌, ◌≢◌, ℕ, zero, suc, ◌-◌, ◌<◌, ◌≤◌, List, [], ◌∷◌, ◌++◌, length, get_or, set, refl, ap, arith, sym, ◌∙◌, subst, inl, inr, ◌⊎◌}
-use Rattle.std.specs.Prelude.{slice_index_or, Option, Some, None, All, Contains}
+use Rattle.std.proofs.Common.{◌≡◌, ℕ, zero, suc, ◌-◌, ◌<◌, List, [], ◌∷◌, ◌++◌, length, set, refl, ap, sym, ◌∙◌, subst, inl, inr}
+use Rattle.std.specs.Prelude.{Some, None, Contains}
 use Rattle.std.specs.declared.cmp.Ordering.{Ordering}
 use Rattle.std.specs.declared.cmp.Ordering.TheVariants.{Less, Equal, Greater}
 use Rattle.std.specs.Ordering.{match_ordering}
@@ -45,9 +45,9 @@ insert_key-old {K} cmp k (x ∷ xs) q stood = by (cmp k x) (λ t. insert_key-old
     by Less rest = there k (x ∷ xs) q stood
     by Equal rest = stood
     by Greater rest = elim (Contains-append_cases (x ∷ []) xs q stood) [
-        | inl first ↦ Contains-append_left (x ∷ []) (insert_key cmp xs k) q first
-        | inr later ↦ there x (insert_key cmp xs k) q (rest later)
-      ]
+      | inl first ↦ Contains-append_left (x ∷ []) (insert_key cmp xs k) q first
+      | inr later ↦ there x (insert_key cmp xs k) q (rest later)
+    ]
 
 none_is_no_some : {v : ℕ} → None ≡ Some v → ⊥
 none_is_no_some same = cc
@@ -62,10 +62,10 @@ listed_with values' values pairs' pairs same_values same_pairs listed =
 pub listed_same : (values values' : List ValueNode) (pairs : List (ℕ × ℕ)) → ((v : ℕ) → alias_of values' v ≡ alias_of values v)
     → IsListed values pairs → IsListed values' pairs
 listed_same values values' pairs same listed = record {
-    sound = All-weaker (λ (pair : ℕ × ℕ). alias_of values pair.1 ≡ Some pair.0) (λ (pair : ℕ × ℕ). alias_of values' pair.1 ≡ Some pair.0)
-        (λ (pair : ℕ × ℕ) was. same pair.1 ∙ was) pairs listed.sound;
-    complete = λ v original is. listed.complete v original (sym (same v) ∙ is);
-  }
+  sound = All-weaker (λ (pair : ℕ × ℕ). alias_of values pair.1 ≡ Some pair.0) (λ (pair : ℕ × ℕ). alias_of values' pair.1 ≡ Some pair.0)
+      (λ (pair : ℕ × ℕ) was. same pair.1 ∙ was) pairs listed.sound;
+  complete = λ v original is. listed.complete v original (sym (same v) ∙ is);
+}
 
 -- more values, none of which is an alias
 pub listed_more : (values more : List ValueNode) (pairs : List (ℕ × ℕ)) → ((k : ℕ) → alias_of more k ≡ None)
@@ -104,15 +104,15 @@ listed_alias values v target node pairs cmp exact inside none is_target listed =
           (λ same. absurd (none_is_no_some (sym none ∙ ap (alias_of values) (sym same) ∙ was))) (λ _. was)) pairs listed.sound)
           at_v;
       complete = λ u original is. elim (cases_eq u v) [
-          | inl same ↦
+        | inl same ↦
             let one : Some target ≡ Some original = sym at_v ∙ ap (alias_of (set values v node)) (sym same) ∙ is in
             let equal : target ≡ original = cc in
             subst (λ (o : ℕ). Contains (insert_key cmp pairs (target, v)) (o, u)) equal
             (subst (λ (w : ℕ). Contains (insert_key cmp pairs (target, v)) (target, w)) (sym same) (insert_key-new cmp exact (target, v) pairs))
-          | inr other ↦
+        | inr other ↦
             insert_key-old cmp (target, v) pairs (original, u) (listed.complete u original
             (at_set (λ (n : ValueNode). alias_of_origin n.origin ≡ Some original → alias_of values u ≡ Some original) values v node u no_value inside (λ same. absurd (other same)) (λ _ was. was) is))
-        ];
+      ];
     }
 
 -- the same, with what a function's call ensures

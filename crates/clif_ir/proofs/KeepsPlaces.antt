@@ -1,8 +1,7 @@
 -- The changes of a function keep the places of its instructions and blocks right.
-use Rattle.std.proofs.Common.{◌≡◌, ◌≢◌, ℕ, zero, suc, ◌+◌, ◌-◌, ◌^◌, ◌<◌, ◌≤◌, List, [], ◌∷◌, ◌++◌, length, get_or, set, refl, ap, arith, sym, ◌∙◌, subst}
+use Rattle.std.proofs.Common.{◌≡◌, ℕ, zero, suc, ◌+◌, ◌-◌, ◌^◌, ◌<◌, ◌≤◌, List, [], ◌∷◌, ◌++◌, length, get_or, set, refl, ap, arith, sym, ◌∙◌, subst}
 use Rattle.std.specs.Prelude.{slice_index, slice_index_or, slice_get, Option, Some, None, is_some, unwrap_or, IsTrue, ◌↔◌}
 use Rattle.std.proofs.Math.ListN.{get_or-append}
-use Rattle.std.proofs.lemmas.List.{get_or_default}
 use Rattle.std.proofs.lemmas.Grind.{common_steps}
 use Rattle.clif_types.specs.declared.types.«Type».{«Type»}
 use Rattle.clif_ir.specs.declared.function.BlockNode.{BlockNode}
@@ -10,10 +9,9 @@ use Rattle.clif_ir.specs.declared.function.BlockPlace.{BlockPlace}
 use Rattle.clif_ir.specs.declared.inst_list.BlockEnd.{BlockEnd}
 use Rattle.clif_ir.specs.declared.inst_list.BlockEnd.TheVariants.{Front, Back}
 use Rattle.clif_ir.specs.declared.instructions.InstructionData.{InstructionData}
-use Rattle.clif_ir.specs.Body.{Body, block_at, inst_at, empty_block, no_inst}
+use Rattle.clif_ir.specs.Body.{Body, block_at, empty_block}
 use Rattle.clif_ir.specs.Changes.{with_block, with_layout, with_param, with_inst, put_at}
-use Rattle.clif_ir.specs.declared.function.InstNode.{InstNode}
-use Rattle.clif_ir.specs.Consistent.{IsConsistent, Stands, Once}
+use Rattle.clif_ir.specs.Consistent.{IsConsistent, Stands}
 use Rattle.clif_ir.specs.Whole.{IsPlaced, no_place, next_slot, placed_at}
 use Rattle.clif_ir.specs.Reading.{next_in}
 use Rattle.clif_ir.proofs.Lists.{at_push, at_set}

@@ -1,6 +1,6 @@
 -- Laws of the words for what the reading calls answer.
-use Rattle.std.proofs.Common.{◌≡◌, ◌≢◌, ℕ, zero, suc, ◌+◌, ◌-◌, ◌<◌, ◌≤◌, List, [], ◌∷◌, ◌++◌, length, get_or, take, drop, refl, ap, arith, sym, ◌∙◌, subst, inl, inr, eqb, ◌==◌}
-use Rattle.std.specs.Prelude.{slice_index, slice_get, Option, Some, None, if◌then◌else◌, Bool, true, false, remove}
+use Rattle.std.proofs.Common.{◌≡◌, ◌≢◌, ℕ, zero, suc, ◌+◌, ◌<◌, List, [], ◌∷◌, length, refl, ap, arith, sym, ◌∙◌, subst, inl, inr, ◌==◌}
+use Rattle.std.specs.Prelude.{slice_index, slice_get, None, if◌then◌else◌, remove}
 use Rattle.std.proofs.lemmas.Grind.{common_steps}
 use Rattle.std.proofs.lemmas.Bool.{cases_eq}
 use Rattle.clif_ir.specs.Consistent.{Stands, Once}

@@ -1,10 +1,8 @@
 -- A function as contracts see it: tables by number, and the order of the blocks. Source: own.
 use Rattle.std.specs.Prelude.{ℕ, zero, suc, List, [], length, slice_index_or, Option, Some, None}
-use Rattle.clif_types.specs.declared.types.«Type».{«Type»}
 use Rattle.clif_types.specs.declared.types.«Type».TheVariants.{Invalid}
 use Rattle.clif_types.specs.Signature.{SignatureShape}
 use Rattle.clif_types.specs.declared.extname.UserFuncName.{UserFuncName}
-use Rattle.clif_ir.specs.declared.instructions.InstructionData.{InstructionData}
 use Rattle.clif_ir.specs.declared.instructions.InstructionData.TheVariants.{MultiAry}
 use Rattle.clif_ir.specs.declared.function.ValueOrigin.{ValueOrigin}
 use Rattle.clif_ir.specs.declared.function.ValueOrigin.TheVariants.{Result, Param, Alias}

@@ -5,7 +5,7 @@ use Rattle.clif_ir.specs.declared.function.ValueDef.TheVariants as def
 use Rattle.clif_ir.specs.declared.function.ValueOrigin.{ValueOrigin}
 use Rattle.clif_ir.specs.declared.function.ValueOrigin.TheVariants.{Result, Param, Alias}
 use Rattle.clif_ir.specs.declared.function.ValueNode.{ValueNode}
-use Rattle.clif_ir.specs.Body.{Body, value_at, inst_at, block_at, resolved}
+use Rattle.clif_ir.specs.Body.{Body, block_at}
 
 -- the entry of a list that follows the first `x`
 abbrev pub next_in : List ℕ → ℕ → Option ℕ

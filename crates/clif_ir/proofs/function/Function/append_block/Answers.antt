@@ -1,4 +1,4 @@
-use Rattle.std.proofs.Common.{◌≡◌, rules, arith, subst, sym}
+use Rattle.std.proofs.Common.{rules, arith, subst, sym}
 use Rattle.std.proofs.lemmas.Grind.{common_steps}
 use Rattle.clif_ir.specs.Body.{Body}
 use Rattle.clif_ir.specs.Changes.{with_layout}

@@ -1,7 +1,7 @@
 use Rattle.std.proofs.Common.{rules, arith}
 use Rattle.std.proofs.lemmas.Grind.{common_steps}
 use Rattle.clif_ir.specs.Changes.{with_param}
-use Rattle.clif_ir.specs.Whole.{body_of, IsListed}
+use Rattle.clif_ir.specs.Whole.{body_of}
 use Rattle.clif_ir.proofs.KeepsListed.{listed_push}
 use Rattle.std.proofs.Common.{refl}
 use Rattle.clif_ir.specs.declared.function.ValueOrigin.TheVariants.{Param}

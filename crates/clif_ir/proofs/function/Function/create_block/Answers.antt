@@ -1,4 +1,4 @@
-use Rattle.std.proofs.Common.{rules, subst, arith, refl}
+use Rattle.std.proofs.Common.{rules, arith}
 use Rattle.std.proofs.lemmas.Grind.{common_steps}
 use Rattle.clif_ir.specs.Changes.{with_block}
 use Rattle.clif_ir.specs.Whole.{body_of}

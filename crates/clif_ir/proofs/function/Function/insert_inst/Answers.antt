@@ -4,7 +4,7 @@ use Rattle.clif_ir.specs.Body.{Body, resolved}
 use Rattle.std.proofs.lemmas.Grind.{common_steps}
 use Rattle.clif_ir.specs.Changes.{with_inst}
 use Rattle.clif_ir.specs.Instruction.{operands, result_types}
-use Rattle.clif_ir.specs.Whole.{body_of, IsListed}
+use Rattle.clif_ir.specs.Whole.{body_of}
 use Rattle.clif_ir.proofs.KeepsListed.{listed_results}
 use Rattle.clif_ir.proofs.Keeps.{consistent_at}
 use Rattle.clif_ir.proofs.KeepsInst.{with_inst_consistent, length-result_types-le, with_inst-unaliased}

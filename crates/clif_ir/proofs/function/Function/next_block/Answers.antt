@@ -1,10 +1,9 @@
-use Rattle.std.proofs.Common.{rules, ◌≡◌, ◌∙◌, ◌+◌, ◌<◌, ap, sym, subst, arith, length}
-use Rattle.std.specs.Prelude.{slice_index_or, slice_get, Option, Some, None}
-use Rattle.std.proofs.lemmas.Grind.{common_steps}
+use Rattle.std.proofs.Common.{◌≡◌, ◌∙◌, ◌+◌, ◌<◌, ap, sym, subst, arith, length}
+use Rattle.std.specs.Prelude.{slice_index_or, slice_get, Some, None}
 use Rattle.clif_ir.specs.declared.function.BlockPlace.{BlockPlace}
 use Rattle.clif_ir.specs.Body.{Body}
 use Rattle.clif_ir.specs.Reading.{next_in}
-use Rattle.clif_ir.specs.Whole.{body_of, no_place}
+use Rattle.clif_ir.specs.Whole.{no_place}
 use Rattle.clif_ir.proofs.KeepsPlaces.{next_block_none, next_block_some}
 use Rattle.clif_ir.proofs.function.Function.next_block.Goals as goal
 

@@ -1,4 +1,4 @@
-use Rattle.std.proofs.Common.{◌≡◌, ◌+◌, ◌-◌, ◌∙◌, sym, arith, ap, length, subst}
+use Rattle.std.proofs.Common.{◌≡◌, ◌+◌, ◌-◌, ◌∙◌, sym, arith, ap, subst}
 use Rattle.clif_ir.specs.Body.{Body, follow, alias_of}
 use Rattle.clif_ir.proofs.Aliases.{follow_nothing, follow_end, follow_on, resolved-no_alias, EachWayEnds}
 use Rattle.clif_ir.proofs.function.Function.resolve_aliases.Goals as goal

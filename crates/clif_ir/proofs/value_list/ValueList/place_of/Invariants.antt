@@ -1,4 +1,4 @@
-use Rattle.std.proofs.Common.{◌≡◌, ◌≢◌, ℕ, ◌<◌, get_or}
+use Rattle.std.proofs.Common.{◌≢◌, ℕ, ◌<◌, get_or}
 use Rattle.clif_ir.proofs.value_list.ValueList.place_of.Given as goal
 
 abbrev pub invariant-loop-place : goal.invariant-loop-place
