@@ -1,0 +1,12 @@
+//! A front end's way to Cranelift's IR: cranelift-frontend 0.137.1, proved.
+#![tactic(auto)]
+
+pub mod context;
+pub mod frontend;
+
+pub use clif_ssa::Variable;
+pub use context::FunctionBuilderContext;
+pub use frontend::FunctionBuilder;
+
+/// The version of the crate whose behaviour this one has.
+pub const VERSION: &str = "0.137.1";
