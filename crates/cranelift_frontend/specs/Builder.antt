@@ -1,8 +1,12 @@
 -- What clauses see of a builder. Source: the crate's documentation of `FunctionBuilder`.
-use Rattle.std.specs.Prelude.{◌≡◌, ℕ, List, [], ◌∷◌, Bool, true, false, not, ◌&&◌, ◌||◌, ◌==◌, Option, Some, None}
+use Rattle.std.specs.Prelude.{◌≡◌, ◌≢◌, ◌<◌, ◌+◌, length, slice_get, ℕ, List, [], ◌∷◌, Bool, true, false, not, ◌&&◌, ◌||◌, ◌==◌, Option, Some, None}
+use Rattle.clif_types.specs.declared.types.LaneType.TheVariants.{I8, I16, I32, I64}
+use Rattle.clif_types.specs.declared.types.«Type».{«Type»}
+use Rattle.clif_types.specs.declared.types.«Type».TheVariants.{Lane}
 use Rattle.clif_ir.specs.Body.{Body}
+use Rattle.clif_ir.specs.Changes.{inserted_in}
 use Rattle.clif_ssa.specs.Tables.{is_yes}
-use Rattle.clif_ssa.specs.Ssa.{sealed_of}
+use Rattle.clif_ssa.specs.Ssa.{record_of, sealed_of, Waits, Zeroes}
 use Rattle.cranelift_frontend.specs.declared.context.BlockStatus.{BlockStatus}
 use Rattle.cranelift_frontend.specs.declared.context.BlockStatus.TheVariants.{Empty, Partial, Filled}
 use Rattle.cranelift_frontend.specs.declared.frontend.FunctionBuilder.{FunctionBuilder}
@@ -38,3 +42,31 @@ is_free_at (Some block) f c = may_be_left (status_of c block) || is_unreachable 
 
 abbrev pub is_free : FunctionBuilder → Bool
 is_free b = is_free_at b.position b.func.now b.ctx.now
+
+-- the types that a variable may have so far
+abbrev pub is_declarable : «Type» → Bool
+is_declarable (Lane I8) = true
+is_declarable (Lane I16) = true
+is_declarable (Lane I32) = true
+is_declarable (Lane I64) = true
+is_declarable ty = false
+
+-- there is a current block, and no terminator was appended to it
+abbrev pub HasCurrent : FunctionBuilder → Type 0
+HasCurrent b = (block : ℕ) × (b.position ≡ Some block) × (block < length b.func.now.blocks) × (status_of b.ctx.now block ≢ Filled)
+
+-- a use of a variable of type `ty` in a block answers `value`: the recorded value, or else a new
+-- parameter of the block, or a zero where the block is sealed
+pub record UsesIn (f : Body) (c : ContextState) (g : Body) (d : ContextState) (variable : ℕ) (ty : «Type») (block value : ℕ) : Type 0 where
+  pub known : (v : ℕ) → record_of c.ssa variable block ≡ Some v
+      → (g ≡ inserted_in f block) × (d.ssa ≡ c.ssa) × (value ≡ v)
+  pub waits : record_of c.ssa variable block ≡ None → is_yes (sealed_of c.ssa block) ≡ false
+      → Waits c.ssa d.ssa (inserted_in f block) g variable ty block × (value ≡ length f.values)
+  pub zero : record_of c.ssa variable block ≡ None → is_yes (sealed_of c.ssa block) ≡ true
+      → Zeroes c.ssa d.ssa (inserted_in f block) g variable ty block × (value ≡ length f.values + 1)
+
+-- the same in a builder, for the type of the variable
+abbrev pub Uses : FunctionBuilder → FunctionBuilder → ℕ → ℕ → ℕ → Type 0
+Uses old new variable block value =
+    (ty : «Type») → slice_get old.ctx.now.variables variable ≡ Some ty
+    → UsesIn old.func.now old.ctx.now new.func.now new.ctx.now variable ty block value

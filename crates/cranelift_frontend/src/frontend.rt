@@ -1,7 +1,7 @@
 //! The builder of a function.
 ghost use Rattle.std.specs.Prelude.{◌≡◌, ◌≢◌, ◌<◌, ◌-◌, ◌^◌, ◌+◌, ◌++◌, ◌∷◌, [], ◌==◌, ◌⊎◌, ℕ, IsTrue, ◌↔◌, OnOk, OnErr, IfOk, IfSome, IsSome, is_err, Some, None, true, false, length, slice_index, slice_get, EachIndex};
-ghost use Rattle.cranelift_frontend.specs.Context.{empty_context, status_of, SetsStatus};
-ghost use Rattle.cranelift_frontend.specs.Builder.{SameLoans, with_position, is_unreachable, is_free};
+ghost use Rattle.cranelift_frontend.specs.Context.{empty_context, status_of, begun, SetsStatus};
+ghost use Rattle.cranelift_frontend.specs.Builder.{SameLoans, with_position, is_unreachable, is_free, is_declarable, HasCurrent, Uses, UsesIn};
 ghost use Rattle.clif_ssa.specs.Tables.{is_yes, pending_of};
 ghost use Rattle.clif_ssa.specs.Ssa.{record_of, sealed_of, completed, Records, SameBlocks, Seals, Waits, Zeroes};
 ghost use Rattle.clif_ir.specs.Body.{empty_body, inst_at, block_at, value_at};
@@ -150,6 +150,7 @@ impl<'a> FunctionBuilder<'a> {
 
     /// Makes a variable. So far its type is one of I8 to I64.
     pub fn declare_var(&mut self, ty: Type) -> Result<Variable, BuildError>
+        requires { IsTrue (is_declarable ty) }
         ensures loans { SameLoans self.old self.new }
         ensures function { self.new.func.now ≡ self.old.func.now }
         ensures variables { OnOk result (self.new.ctx.now ≡ record self.old.ctx.now { variables = self.old.ctx.now.variables ++ ty ∷ [] }) }
@@ -166,6 +167,96 @@ impl<'a> FunctionBuilder<'a> {
         self.failed = declared.is_err();
         declared
     }
+
+    /// Assigns a value to a variable of its type, in the current block.
+    pub fn def_var(&mut self, variable: Variable, value: Value) -> Result<(), BuildError>
+        requires current { HasCurrent self.old }
+        requires declared { variable < length self.old.ctx.now.variables }
+        requires value_exists { value < length self.old.func.now.values }
+        requires same_type { slice_get self.old.ctx.now.variables variable ≡ Some (value_at self.old.func.now value).ty }
+        ensures loans { SameLoans self.old self.new }
+        ensures function { self.new.func.now ≡ self.old.func.now }
+        ensures records { IfSome self.old.position (λ block. OnOk result (Records self.old.ctx.now.ssa self.new.ctx.now.ssa variable block value)) }
+        ensures sealed { self.new.ctx.now.ssa.blocks ≡ self.old.ctx.now.ssa.blocks }
+        ensures status { self.new.ctx.now.status ≡ self.old.ctx.now.status }
+        ensures variables { self.new.ctx.now.variables ≡ self.old.ctx.now.variables }
+        ensures position { self.new.position ≡ self.old.position }
+        ensures never_full { result ≢ Err BuildError.Full }
+        ensures failed { (result ≡ Err BuildError.Failed) ↔ IsTrue self.old.failed }
+        ensures fails { self.new.failed ≡ is_err result }
+    {
+        if self.failed {
+            return Err(BuildError::Failed);
+        }
+        let Some(block) = self.position else {
+            unreachable!();
+        };
+        let recorded = self.ctx.def_var(variable, value, block);
+        self.failed = recorded.is_err();
+        recorded
+    }
+
+    /// The value of a variable at this point of the current block.
+    pub fn use_var(&mut self, variable: Variable) -> Result<Value, BuildError>
+        requires current { HasCurrent self.old }
+        requires declared { variable < length self.old.ctx.now.variables }
+        ensures loans { SameLoans self.old self.new }
+        ensures uses { IfSome self.old.position (λ block. IfOk result (Uses self.old self.new variable block)) }
+        ensures variables { self.new.ctx.now.variables ≡ self.old.ctx.now.variables }
+        ensures position { self.new.position ≡ self.old.position }
+        ensures failed { (result ≡ Err BuildError.Failed) ↔ IsTrue self.old.failed }
+        ensures fails { self.new.failed ≡ is_err result }
+    {
+        if self.failed {
+            return Err(BuildError::Failed);
+        }
+        let Some(block) = self.position else {
+            unreachable!();
+        };
+        let Some(ty) = self.ctx.var_type(variable) else {
+            unreachable!();
+        };
+        let used = use_variable(self.func, self.ctx, variable, ty, block);
+        self.failed = used.is_err();
+        used
+    }
+}
+
+// Brings a block into the layout, where something is made in it.
+fn begin_block(
+    func: &mut Function,
+    ctx: &mut FunctionBuilderContext,
+    block: Block,
+) -> Result<(), BuildError>
+    requires { block < length func.old.blocks }
+    ensures function { OnOk result (func.new ≡ inserted_in func.old block) }
+    ensures status { OnOk result (SetsStatus ctx.old ctx.new block (begun (status_of ctx.old block))) }
+    ensures ssa { ctx.new.ssa ≡ ctx.old.ssa }
+    ensures variables { ctx.new.variables ≡ ctx.old.variables }
+    ensures only_memory { OnErr result (result ≡ Err BuildError.Memory) }
+{
+    func.ensure_block_inserted(block)?;
+    match ctx.block_status(block) {
+        BlockStatus::Empty => ctx.set_status(block, BlockStatus::Partial),
+        BlockStatus::Partial | BlockStatus::Filled => Ok(()),
+    }
+}
+
+// The value of a variable of type `ty` in a block.
+fn use_variable(
+    func: &mut Function,
+    ctx: &mut FunctionBuilderContext,
+    variable: Variable,
+    ty: Type,
+    block: Block,
+) -> Result<Value, BuildError>
+    requires { block < length func.old.blocks }
+    ensures uses { IfOk result (UsesIn func.old ctx.old func.new ctx.new variable ty block) }
+    ensures variables { ctx.new.variables ≡ ctx.old.variables }
+    ensures never_failed { result ≢ Err BuildError.Failed }
+{
+    begin_block(func, ctx, block)?;
+    ctx.use_var(func, variable, ty, block)
 }
 
 // Makes a block, and makes it known to the construction of SSA form.
