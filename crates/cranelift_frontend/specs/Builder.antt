@@ -1,16 +1,19 @@
 -- What clauses see of a builder. Source: the crate's documentation of `FunctionBuilder`.
-use Rattle.std.specs.Prelude.{◌≡◌, ◌≢◌, ◌<◌, ◌+◌, length, slice_get, ℕ, List, [], ◌∷◌, Bool, true, false, not, ◌&&◌, ◌||◌, ◌==◌, Option, Some, None}
+use Rattle.std.specs.Prelude.{◌≡◌, ◌≢◌, ◌<◌, ◌+◌, length, slice_get, ℕ, List, [], ◌∷◌, Bool, true, false, not, ◌&&◌, ◌||◌, ◌==◌, Option, Some, None, if◌then◌else◌}
 use Rattle.clif_types.specs.declared.types.LaneType.TheVariants.{I8, I16, I32, I64}
 use Rattle.clif_types.specs.declared.types.«Type».{«Type»}
 use Rattle.clif_types.specs.declared.types.«Type».TheVariants.{Lane}
 use Rattle.clif_ir.specs.Body.{Body}
-use Rattle.clif_ir.specs.Changes.{inserted_in}
+use Rattle.clif_ir.specs.declared.inst_list.BlockEnd.TheVariants.{Back}
+use Rattle.clif_ir.specs.declared.instructions.InstructionData.{InstructionData}
+use Rattle.clif_ir.specs.Instruction.{is_terminator, result_types}
+use Rattle.clif_ir.specs.Changes.{inserted_in, with_inst}
 use Rattle.clif_ssa.specs.Tables.{is_yes}
-use Rattle.clif_ssa.specs.Ssa.{record_of, sealed_of, Waits, Zeroes}
+use Rattle.clif_ssa.specs.Ssa.{no_srcloc, record_of, sealed_of, Waits, Zeroes}
 use Rattle.cranelift_frontend.specs.declared.context.BlockStatus.{BlockStatus}
 use Rattle.cranelift_frontend.specs.declared.context.BlockStatus.TheVariants.{Empty, Partial, Filled}
 use Rattle.cranelift_frontend.specs.declared.frontend.FunctionBuilder.{FunctionBuilder}
-use Rattle.cranelift_frontend.specs.Context.{ContextState, status_of}
+use Rattle.cranelift_frontend.specs.Context.{ContextState, status_of, begun, SetsStatus}
 
 -- both builders hold the same function and the same context
 pub record SameLoans (old new : FunctionBuilder) : Type 0 where
@@ -70,3 +73,21 @@ abbrev pub Uses : FunctionBuilder → FunctionBuilder → ℕ → ℕ → ℕ �
 Uses old new variable block value =
     (ty : «Type») → slice_get old.ctx.now.variables variable ≡ Some ty
     → UsesIn old.func.now old.ctx.now new.func.now new.ctx.now variable ty block value
+
+-- a function with an instruction at the end of a block, which is in the layout then
+abbrev pub with_appended : Body → ℕ → InstructionData → «Type» → Body
+with_appended f block shape ty = with_inst (inserted_in f block) block Back shape (result_types shape ty) no_srcloc
+
+-- the status of a block to which an instruction was appended
+abbrev pub status_after : InstructionData → BlockStatus → BlockStatus
+status_after shape status = if is_terminator shape then Filled else begun status
+
+-- an instruction was appended to a block: `inst` is its number
+pub record AppendsIn (f : Body) (c : ContextState) (g : Body) (d : ContextState) (block : ℕ) (shape : InstructionData) (ty : «Type») (inst : ℕ) : Type 0 where
+  pub function : g ≡ with_appended f block shape ty
+  pub number : inst ≡ length f.insts
+  pub status : SetsStatus c d block (status_after shape (status_of c block))
+
+abbrev pub Appends : FunctionBuilder → FunctionBuilder → ℕ → InstructionData → «Type» → ℕ → Type 0
+Appends old new block shape ty inst =
+    AppendsIn old.func.now old.ctx.now new.func.now new.ctx.now block shape ty inst

@@ -223,7 +223,7 @@ impl<'a> FunctionBuilder<'a> {
 }
 
 // Brings a block into the layout, where something is made in it.
-fn begin_block(
+pub(crate) fn begin_block(
     func: &mut Function,
     ctx: &mut FunctionBuilderContext,
     block: Block,

@@ -3,10 +3,12 @@
 
 pub mod context;
 pub mod frontend;
+pub mod instructions;
 
 pub use clif_ssa::Variable;
 pub use context::FunctionBuilderContext;
 pub use frontend::FunctionBuilder;
+pub use instructions::FuncInstBuilder;
 
 /// The version of the crate whose behaviour this one has.
 pub const VERSION: &str = "0.137.1";
