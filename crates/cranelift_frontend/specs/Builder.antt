@@ -1,5 +1,7 @@
 -- What clauses see of a builder. Source: the crate's documentation of `FunctionBuilder`.
-use Rattle.std.specs.Prelude.{◌≡◌, ◌≢◌, ◌<◌, ◌+◌, length, slice_get, ℕ, List, [], ◌∷◌, Bool, true, false, not, ◌&&◌, ◌||◌, ◌==◌, Option, Some, None, if◌then◌else◌}
+use Rattle.std.specs.Prelude.{◌≡◌, ◌≢◌, ◌<◌, ◌+◌, length, slice_get, ℕ, List, [], ◌∷◌, Bool, true, false, not, ◌&&◌, ◌||◌, ◌==◌, Option, Some, None, if◌then◌else◌, zero, suc, Result, Ok, Err}
+use Rattle.cranelift_frontend.specs.declared.error.FinalizeError.{FinalizeError}
+use Rattle.cranelift_frontend.specs.declared.error.FinalizeError.TheVariants.{Unsealed, Unfilled, Failed}
 use Rattle.clif_types.specs.declared.types.LaneType.TheVariants.{I8, I16, I32, I64}
 use Rattle.clif_types.specs.declared.types.«Type».{«Type»}
 use Rattle.clif_types.specs.declared.types.«Type».TheVariants.{Lane}
@@ -54,6 +56,16 @@ is_declarable (Lane I32) = true
 is_declarable (Lane I64) = true
 is_declarable ty = false
 
+abbrev pub is_empty_status : BlockStatus → Bool
+is_empty_status Empty = true
+is_empty_status Partial = false
+is_empty_status Filled = false
+
+abbrev pub is_filled_status : BlockStatus → Bool
+is_filled_status Empty = false
+is_filled_status Partial = false
+is_filled_status Filled = true
+
 -- there is a current block, and no terminator was appended to it
 abbrev pub HasCurrent : FunctionBuilder → Type 0
 HasCurrent b = (block : ℕ) × (b.position ≡ Some block) × (block < length b.func.now.blocks) × (status_of b.ctx.now block ≢ Filled)
@@ -91,3 +103,31 @@ pub record AppendsIn (f : Body) (c : ContextState) (g : Body) (d : ContextState)
 abbrev pub Appends : FunctionBuilder → FunctionBuilder → ℕ → InstructionData → «Type» → ℕ → Type 0
 Appends old new block shape ty inst =
     AppendsIn old.func.now old.ctx.now new.func.now new.ctx.now block shape ty inst
+
+-- the same for an instruction with a result, which is the value `v`
+abbrev pub AppendsValue : FunctionBuilder → FunctionBuilder → ℕ → InstructionData → «Type» → ℕ → Type 0
+AppendsValue old new block shape ty v =
+    Appends old new block shape ty (length old.func.now.insts) × (v ≡ length old.func.now.values)
+
+-- the first block from `block` on, among `count` ones, that isn't finished, and what it lacks
+abbrev pub block_fault : ContextState → ℕ → Option FinalizeError
+block_fault c block =
+    if is_empty_status (status_of c block) then None
+    else if is_yes (sealed_of c.ssa block) then (if is_filled_status (status_of c block) then None else Some (Unfilled block))
+    else Some (Unsealed block)
+
+abbrev pub or_else : Option FinalizeError → Option FinalizeError → Option FinalizeError
+or_else None next = next
+or_else (Some fault) next = Some fault
+
+unfoldable pub first_fault : ContextState → ℕ → ℕ → Option FinalizeError
+first_fault c block zero = None
+first_fault c block (suc count) = or_else (block_fault c block) (first_fault c (block + 1) count)
+
+-- what `finalize` answers
+abbrev pub answer_of : Option FinalizeError → Result (Unit {0}) FinalizeError
+answer_of None = Ok tt
+answer_of (Some fault) = Err fault
+
+abbrev pub verdict_of : Bool → ContextState → ℕ → Result (Unit {0}) FinalizeError
+verdict_of failed c count = if failed then Err Failed else answer_of (first_fault c 0 count)

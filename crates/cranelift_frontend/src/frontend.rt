@@ -15,6 +15,7 @@ use clif_types::{Block, BuildError, Inst, Type, Value};
 /// Builds one function.
 ///
 /// After a call that answers `Memory` or `Full` each later call that may take memory answers `Failed`.
+#[derive(Drop)]
 pub struct FunctionBuilder<'a> {
     pub(crate) func: &'a mut Function,
     pub(crate) ctx: &'a mut FunctionBuilderContext,

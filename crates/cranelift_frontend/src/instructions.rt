@@ -4,7 +4,7 @@ ghost use Rattle.clif_types.specs.Types.{is_int};
 ghost use Rattle.clif_ir.specs.Body.{value_at};
 ghost use Rattle.clif_ir.specs.Instruction.{operands, is_terminator, has_result};
 ghost use Rattle.cranelift_frontend.specs.Context.{SetsStatus, status_of, begun};
-ghost use Rattle.cranelift_frontend.specs.Builder.{SameLoans, HasCurrent, Appends, AppendsIn, with_appended};
+ghost use Rattle.cranelift_frontend.specs.Builder.{SameLoans, HasCurrent, Appends, AppendsIn, AppendsValue};
 
 use crate::context::{BlockStatus, FunctionBuilderContext};
 use crate::frontend::{FunctionBuilder, begin_block};
@@ -49,6 +49,66 @@ impl<'a> FunctionBuilder<'a> {
         let built = append(self.func, self.ctx, block, shape, ctrl_type);
         self.failed = built.is_err();
         built
+    }
+
+    /// `iconst.ty imm`: the low bits of a 64-bit number, at an integer type.
+    pub fn iconst(&mut self, ty: Type, imm: i64) -> Result<Value, BuildError>
+        requires current { HasCurrent self.old }
+        requires integer { IsTrue (is_int ty) }
+        ensures loans { SameLoans self.old self.new }
+        ensures appends { IfSome self.old.position (λ block. IfOk result (AppendsValue self.old self.new block (InstructionData.UnaryImm imm) ty)) }
+        ensures ssa { self.new.ctx.now.ssa ≡ self.old.ctx.now.ssa }
+        ensures variables { self.new.ctx.now.variables ≡ self.old.ctx.now.variables }
+        ensures position { self.new.position ≡ self.old.position }
+        ensures failed { (result ≡ Err BuildError.Failed) ↔ IsTrue self.old.failed }
+        ensures fails { self.new.failed ≡ is_err result }
+    {
+        let inst = self.build(InstructionData::UnaryImm { imm }, ty)?;
+        Ok(self.func.inst_results(inst)[0])
+    }
+
+    /// `iadd x, y`: the sum, modulo two to the width of the type.
+    pub fn iadd(&mut self, x: Value, y: Value) -> Result<Value, BuildError>
+        requires current { HasCurrent self.old }
+        requires x_exists { x < length self.old.func.now.values }
+        requires y_exists { y < length self.old.func.now.values }
+        ensures loans { SameLoans self.old self.new }
+        ensures appends { IfSome self.old.position (λ block. IfOk result (AppendsValue self.old self.new block (InstructionData.Binary BinaryOpcode.Iadd (x ∷ y ∷ [])) (value_at self.old.func.now x).ty)) }
+        ensures ssa { self.new.ctx.now.ssa ≡ self.old.ctx.now.ssa }
+        ensures variables { self.new.ctx.now.variables ≡ self.old.ctx.now.variables }
+        ensures position { self.new.position ≡ self.old.position }
+        ensures failed { (result ≡ Err BuildError.Failed) ↔ IsTrue self.old.failed }
+        ensures fails { self.new.failed ≡ is_err result }
+    {
+        let ty = self.func.value_type(x);
+        let opcode = BinaryOpcode::Iadd;
+        let args = [x, y];
+        let inst = self.build(InstructionData::Binary { opcode, args }, ty)?;
+        Ok(self.func.inst_results(inst)[0])
+    }
+
+    /// `return x, ..`: ends the function with these values.
+    pub fn return_(&mut self, values: &[Value]) -> Result<Inst, BuildError>
+        requires current { HasCurrent self.old }
+        requires values_exist { EachIndex values.now (λ k. slice_index values.now k < length self.old.func.now.values) }
+        ensures loans { SameLoans self.old self.new }
+        ensures appends { IfSome self.old.position (λ block. IfOk result (Appends self.old self.new block (InstructionData.MultiAry values.now) Type.Invalid)) }
+        ensures ssa { self.new.ctx.now.ssa ≡ self.old.ctx.now.ssa }
+        ensures variables { self.new.ctx.now.variables ≡ self.old.ctx.now.variables }
+        ensures position { self.new.position ≡ self.old.position }
+        ensures failed { (result ≡ Err BuildError.Failed) ↔ IsTrue self.old.failed }
+        ensures fails { self.new.failed ≡ is_err result }
+    {
+        if self.failed {
+            return Err(BuildError::Failed);
+        }
+        match ValueList::from_slice(self.ctx.allocator(), values) {
+            Ok(args) => self.build(InstructionData::MultiAry { args }, Type::Invalid),
+            Err(error) => {
+                self.failed = true;
+                Err(error)
+            }
+        }
     }
 }
 

@@ -2,11 +2,14 @@
 #![tactic(auto)]
 
 pub mod context;
+pub mod error;
+pub mod finalize;
 pub mod frontend;
 pub mod instructions;
 
 pub use clif_ssa::Variable;
 pub use context::FunctionBuilderContext;
+pub use error::FinalizeError;
 pub use frontend::FunctionBuilder;
 pub use instructions::FuncInstBuilder;
 
