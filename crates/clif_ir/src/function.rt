@@ -237,4 +237,9 @@ impl Function {
     {
         self.blocks.len()
     }
+
+    /// The allocator of the function.
+    pub fn allocator(&self) -> Global {
+        self.alloc
+    }
 }

@@ -136,6 +136,7 @@ impl<'a> FunctionBuilder<'a> {
         ensures loans { SameLoans self.old self.new }
         ensures function { OnOk result (self.new.func.now ≡ completed self.old.func.now (pending_of (sealed_of self.old.ctx.now.ssa block))) }
         ensures sealed { OnOk result (Seals self.old.ctx.now.ssa self.new.ctx.now.ssa block) }
+        ensures records { self.new.ctx.now.ssa.records ≡ self.old.ctx.now.ssa.records }
         ensures variables { self.new.ctx.now.variables ≡ self.old.ctx.now.variables }
         ensures position { self.new.position ≡ self.old.position }
         ensures failed { (result ≡ Err BuildError.Failed) ↔ IsTrue self.old.failed }
