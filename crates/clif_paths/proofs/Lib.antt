@@ -1,0 +1,4 @@
+pub mod PathLemmas
+pub mod Executing
+pub mod Keep
+pub mod Refine

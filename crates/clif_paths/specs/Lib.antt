@@ -1,0 +1,6 @@
+-- Variables on paths: what a variable, a name and a value denote along each path of control.
+pub mod Places
+pub mod State
+pub mod Denotation
+pub mod Sound
+pub mod Steps

@@ -1,0 +1,2 @@
+//! Variables on paths.
+#![tactic(auto)]
