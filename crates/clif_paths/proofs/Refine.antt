@@ -3,7 +3,7 @@ use Rattle.std.proofs.Common.{◌≡◌, ◌≢◌, ℕ, true, false, Option, No
 use Rattle.clif_paths.specs.Places.{Place, start, Arm, Edges, Path, end_of, Follows, Visits, Dominates}
 use Rattle.clif_paths.specs.State.{Program, Kind, unborn, born, pending, complete, zero_of, Definition, Function, State, home_of}
 use Rattle.clif_paths.specs.Denotation.{Instance, Holder, instances, defined, denotes, denotation}
-use Rattle.clif_paths.specs.Sound.{Allowed, Holds, SoundUnder}
+use Rattle.clif_paths.specs.Sound.{Allowed, ArgumentsThere, Holds}
 use Rattle.clif_paths.proofs.PathLemmas.{dec_place, dominates_before}
 use Rattle.clif_paths.proofs.Executing.{denotes-past, denotes-here}
 
@@ -31,15 +31,6 @@ dominator_written {edges} {h} r path f d e =
 pub start_dominates_nothing : {edges : Edges} {h c : Place} → Rooted edges → h ≡ start → Dominates edges h c → (path : Path) → Follows edges path → end_of path ≡ c → ⊥
 start_dominates_nothing {edges} {h} r e d path f at_end =
     never_visits_start r path f (subst (λ p. Visits p path) e (d.on_every_path path f at_end))
-
--- each complete parameter's argument is there where its arm leaves
-pub record ArgumentsThere (edges : Edges) (function : Function) : Type 0 where
-  pub at_source :
-    (u : ℕ) (arm : Arm) →
-    (function.definition (function.resolve u)).kind ≡ complete →
-    home_of function u ≡ arm.target →
-    edges arm ≡ true →
-    Dominates edges (home_of function (function.argument (function.resolve u) arm)) arm.source
 
 -- values that are there keep their denotation, at the end of this path
 pub record SameAt (edges : Edges) (program : Program) (function function' : Function) (path : Path) : Type 0 where

@@ -19,14 +19,18 @@ pub record Holds (edges : Edges) (program : Program) (function : Function) (valu
   pub agrees :
     (path : Path) → Follows edges path → end_of path ≡ place → denotation program function path value ≡ instances program path holder
 
--- under these edges: arguments are there where their arms leave, records hold their variables, answers their names
-pub record SoundUnder (edges : Edges) (s : State) : Type 0 where
-  pub arguments :
+-- each argument of a complete parameter is there where its arm leaves
+pub record ArgumentsThere (edges : Edges) (function : Function) : Type 0 where
+  pub at_source :
     (u : ℕ) (arm : Arm) →
-    (s.function.definition (s.function.resolve u)).kind ≡ complete →
-    home_of s.function u ≡ arm.target →
+    (function.definition (function.resolve u)).kind ≡ complete →
+    home_of function u ≡ arm.target →
     edges arm ≡ true →
-    Dominates edges (home_of s.function (s.function.argument (s.function.resolve u) arm)) arm.source
+    Dominates edges (home_of function (function.argument (function.resolve u) arm)) arm.source
+
+-- under these edges: arguments are there, records hold their variables, answers hold their names
+pub record SoundUnder (edges : Edges) (s : State) : Type 0 where
+  pub arguments : ArgumentsThere edges s.function
   pub records :
     (place : Place) (x v : ℕ) → s.recorded place x ≡ Some v → Holds edges s.program s.function v (variable x) place
   pub answers :
