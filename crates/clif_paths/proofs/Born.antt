@@ -27,7 +27,7 @@ refines_new {edges} program function v new r arguments unborn_before =
       same_home = λ u there.
         ap (λ (d : Definition). d.home) (updated-other function.definition v new (function.resolve u) (other_value function v u unborn_before there));
       same_visit = λ u arm path f e before.
-        alike_visit edges program function (with_definition function v new) (λ w. refl) arguments u arm path f e before
+        alike_visit edges program function (with_definition function v new) arguments u arm path f e before
         (updated-other function.definition v new (function.resolve u)
           (other_value function v u unborn_before (λ h. never_at_start r arm f.0 (sym e ∙ h))))
         refl

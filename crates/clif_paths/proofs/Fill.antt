@@ -78,9 +78,9 @@ fill_same_visit s x v given can allowed sound u arm path f at before (yes e) =
     (sym e)
     (fill_visit s x v given can allowed sound arm path f (ap (λ w. (s.function.definition w).home) (sym e) ∙ at) before)
 fill_same_visit {edges} s x v given can allowed sound u arm path f at before (no ne) =
-    alike_visit edges s.program s.function (with_arguments s v given).function (λ w. refl) sound.arguments u arm path f at before
+    alike_visit edges s.program s.function (with_arguments s v given).function sound.arguments u arm path f at before
     (updated-other s.function.definition v (record { home = (s.function.definition v).home; kind = complete }) (s.function.resolve u) ne)
-    (ap (λ (t : Arm → ℕ). t arm) (updated-other s.function.argument v given (s.function.resolve u) ne))
+    (ap (λ (t : Arm → ℕ). s.function.resolve (t arm)) (updated-other s.function.argument v given (s.function.resolve u) ne))
 
 fill_home :
   (s : State) (v : ℕ) (given : Arm → ℕ) (u : ℕ) → Dec (s.function.resolve u ≡ v) →

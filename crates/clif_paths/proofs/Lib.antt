@@ -6,3 +6,5 @@ pub mod Tables
 pub mod Born
 pub mod Fill
 pub mod Alias
+pub mod Recording
+pub mod Naming

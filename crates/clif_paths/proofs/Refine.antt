@@ -78,37 +78,37 @@ same_at {edges} {program} {function} {function'} r alike (arm ∷ path) f =
 -- a value whose definition and arguments stay is defined alike
 alike_by_kind :
   (edges : Edges) (program : Program) (function function' : Function) →
-  ((w : ℕ) → function'.resolve w ≡ function.resolve w) → ArgumentsThere edges function →
+  ArgumentsThere edges function →
   (u : ℕ) (arm : Arm) (path : Path) → Follows edges (arm ∷ path) → home_of function u ≡ arm.target →
   SameAt edges program function function' path →
-  function'.argument (function.resolve u) arm ≡ function.argument (function.resolve u) arm →
+  function'.resolve (function'.argument (function.resolve u) arm) ≡ function.resolve (function.argument (function.resolve u) arm) →
   (kind : Kind) → (function.definition (function.resolve u)).kind ≡ kind →
   defined program function' arm path (λ w. denotes program function' path w) (function.resolve u) kind ≡
   defined program function arm path (λ w. denotes program function path w) (function.resolve u) kind
-alike_by_kind edges program function function' resolve there u arm path f e before same unborn k = refl
-alike_by_kind edges program function function' resolve there u arm path f e before same (born n) k = refl
-alike_by_kind edges program function function' resolve there u arm path f e before same (pending x) k = refl
-alike_by_kind edges program function function' resolve there u arm path f e before same complete k =
+alike_by_kind edges program function function' there u arm path f e before same unborn k = refl
+alike_by_kind edges program function function' there u arm path f e before same (born n) k = refl
+alike_by_kind edges program function function' there u arm path f e before same (pending x) k = refl
+alike_by_kind edges program function function' there u arm path f e before same complete k =
     let a : ℕ = function.argument (function.resolve u) arm in
     let d : Dominates edges (home_of function a) (end_of path) =
         subst (λ p. Dominates edges (home_of function a) p) f.1 (there.at_source u arm k e f.0) in
-    ap (λ w. denotes program function' path w) (resolve (function'.argument (function.resolve u) arm) ∙ ap function.resolve same) ∙ before.same a d
-alike_by_kind edges program function function' resolve there u arm path f e before same (zero_of x) k = refl
+    ap (λ w. denotes program function' path w) same ∙ before.same a d
+alike_by_kind edges program function function' there u arm path f e before same (zero_of x) k = refl
 
 pub alike_visit :
   (edges : Edges) (program : Program) (function function' : Function) →
-  ((w : ℕ) → function'.resolve w ≡ function.resolve w) → ArgumentsThere edges function →
+  ArgumentsThere edges function →
   (u : ℕ) (arm : Arm) (path : Path) → Follows edges (arm ∷ path) → home_of function u ≡ arm.target →
   SameAt edges program function function' path →
   function'.definition (function.resolve u) ≡ function.definition (function.resolve u) →
-  function'.argument (function.resolve u) arm ≡ function.argument (function.resolve u) arm →
+  function'.resolve (function'.argument (function.resolve u) arm) ≡ function.resolve (function.argument (function.resolve u) arm) →
   defined program function' arm path (λ w. denotes program function' path w) (function.resolve u) (function'.definition (function.resolve u)).kind ≡
   defined program function arm path (λ w. denotes program function path w) (function.resolve u) (function.definition (function.resolve u)).kind
-alike_visit edges program function function' resolve there u arm path f e before same_definition same =
+alike_visit edges program function function' there u arm path f e before same_definition same =
     ap
     (λ (d : Definition). defined program function' arm path (λ w. denotes program function' path w) (function.resolve u) d.kind)
     same_definition ∙
-    alike_by_kind edges program function function' resolve there u arm path f e before same (function.definition (function.resolve u)).kind refl
+    alike_by_kind edges program function function' there u arm path f e before same (function.definition (function.resolve u)).kind refl
 
 -- The new function refines the old one: where a value was there, it is there, and denotes the same.
 pub record Refines (edges : Edges) (program : Program) (function function' : Function) : Type 0 where

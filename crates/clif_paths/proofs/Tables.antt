@@ -79,3 +79,51 @@ pub record_cases :
   ((q ≡ p) × (y ≡ x) × (v ≡ w)) ⊎ ((q ≡ p → y ≢ x) × (records q y ≡ Some w))
 record_cases records p x v q y w here =
     record_by records p x v q y w here (updated_at_cases records p (updated (records p) x (Some v)) q)
+
+record_kept_here :
+  (records : Place → ℕ → Option ℕ) (p : Place) (x v : ℕ) (q : Place) (y w : ℕ) → records p x ≡ None → records q y ≡ Some w → q ≡ p →
+  ((y ≡ x) × (updated (records p) x (Some v) y ≡ Some v)) ⊎ ((y ≢ x) × (updated (records p) x (Some v) y ≡ records p y)) →
+  updated (records p) x (Some v) y ≡ Some w
+record_kept_here records p x v q y w none here e (inl c) =
+    let both : records p x ≡ Some w = ap (λ z. records p z) (sym c.0) ∙ ap (λ r. records r y) (sym e) ∙ here in
+    let none_here : records p x ≡ None = none in
+    cc
+record_kept_here records p x v q y w none here e (inr c) = c.1 ∙ ap (λ r. records r y) (sym e) ∙ here
+
+record_kept_by :
+  (records : Place → ℕ → Option ℕ) (p : Place) (x v : ℕ) (q : Place) (y w : ℕ) → records p x ≡ None → records q y ≡ Some w →
+  ((q ≡ p) × (updated_at records p (updated (records p) x (Some v)) q ≡ updated (records p) x (Some v))) ⊎
+  ((q ≢ p) × (updated_at records p (updated (records p) x (Some v)) q ≡ records q)) →
+  updated_at records p (updated (records p) x (Some v)) q y ≡ Some w
+record_kept_by records p x v q y w none here (inl c) =
+    ap (λ t. t y) c.1 ∙ record_kept_here records p x v q y w none here c.0 (updated_cases (records p) x (Some v) y)
+record_kept_by records p x v q y w none here (inr c) = ap (λ t. t y) c.1 ∙ here
+
+-- an entry that stands is kept, where only an empty one is changed
+pub record_kept :
+  (records : Place → ℕ → Option ℕ) (p : Place) (x v : ℕ) (q : Place) (y w : ℕ) → records p x ≡ None → records q y ≡ Some w →
+  updated_at records p (updated (records p) x (Some v)) q y ≡ Some w
+record_kept records p x v q y w none here =
+    record_kept_by records p x v q y w none here (updated_at_cases records p (updated (records p) x (Some v)) q)
+
+-- the changed entry
+pub record_new :
+  (records : Place → ℕ → Option ℕ) (p : Place) (x v : ℕ) → updated_at records p (updated (records p) x (Some v)) p x ≡ Some v
+record_new records p x v =
+    ap (λ t. t x) (updated_at-same records p (updated (records p) x (Some v)) p refl) ∙ updated-same (records p) x (Some v) x refl
+
+record_other_here :
+  (records : Place → ℕ → Option ℕ) (p : Place) (x v : ℕ) (q : Place) (y : ℕ) → (q ≡ p → y ≢ x) →
+  ((q ≡ p) × (updated_at records p (updated (records p) x (Some v)) q ≡ updated (records p) x (Some v))) ⊎
+  ((q ≢ p) × (updated_at records p (updated (records p) x (Some v)) q ≡ records q)) →
+  updated_at records p (updated (records p) x (Some v)) q y ≡ records q y
+record_other_here records p x v q y ne (inl c) =
+    ap (λ t. t y) c.1 ∙ updated-other (records p) x (Some v) y (ne c.0) ∙ ap (λ r. records r y) (sym c.0)
+record_other_here records p x v q y ne (inr c) = ap (λ t. t y) c.1
+
+-- every other entry
+pub record_other :
+  (records : Place → ℕ → Option ℕ) (p : Place) (x v : ℕ) (q : Place) (y : ℕ) → (q ≡ p → y ≢ x) →
+  updated_at records p (updated (records p) x (Some v)) q y ≡ records q y
+record_other records p x v q y ne =
+    record_other_here records p x v q y ne (updated_at_cases records p (updated (records p) x (Some v)) q)

@@ -54,6 +54,7 @@ with_records s records = record s { recorded = records }
 
 -- along each arm into a sealed place that does not assign the variable, the record resolves as this value does
 pub record Comes (s : State) (place : Place) (x v : ℕ) : Type 0 where
+  pub written : place ≢ start
   pub is_sealed : s.program.is_sealed place ≡ true
   pub unassigned : s.program.assigned place x ≡ None
   pub along :
