@@ -8,3 +8,6 @@ pub mod Fill
 pub mod Alias
 pub mod Recording
 pub mod Naming
+pub mod Assigning
+pub mod Sealing
+pub mod Restating
