@@ -8,7 +8,8 @@ use Rattle.clif_paths.specs.Steps.{aliased, Incoming, Waits, with_alias, CanDrop
 use Rattle.clif_paths.proofs.Tables.{aliased_cases}
 use Rattle.clif_paths.proofs.PathLemmas.{dec_place, dominates_trans, unvisited}
 use Rattle.clif_paths.proofs.Executing.{denotes-here, denotes-past}
-use Rattle.clif_paths.proofs.Keep.{ChangesOnlyAt, AgreeAtVisits, keep}
+use Rattle.clif_paths.specs.Laws.{ChangesOnlyAt, AgreeAtVisits}
+use Rattle.clif_paths.proofs.Keep.{keep}
 use Rattle.clif_paths.proofs.Refine.{Rooted, rooted_allowed, never_at_start, dominator_written, SameAt, DefinedAlike, same_at, Refines, holds_refined}
 use Rattle.clif_paths.proofs.Born.{dominates_itself}
 use Rattle.clif_paths.proofs.Fill.{known_arm, incoming_there, incoming_agrees, waiting_takes}

@@ -11,3 +11,4 @@ pub mod Naming
 pub mod Assigning
 pub mod Sealing
 pub mod Restating
+pub mod Concluding

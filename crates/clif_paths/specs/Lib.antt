@@ -4,3 +4,4 @@ pub mod State
 pub mod Denotation
 pub mod Sound
 pub mod Steps
+pub mod Laws

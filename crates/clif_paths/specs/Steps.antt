@@ -205,3 +205,22 @@ pub record CanRestate (s : State) (definition : ℕ → Definition) (argument : 
     (u : ℕ) (arm : Arm) → home_of s.function u ≡ arm.target →
     (s.program.is_sealed arm.target ≡ true → s.program.arms arm ≡ true) →
     s.function.resolve (argument (s.function.resolve u) arm) ≡ s.function.resolve (s.function.argument (s.function.resolve u) arm)
+
+-- One step of construction, with what it needs.
+pub data Step : State → State → Type 0 where
+  seal : {s : State} (place : Place) (into : Edges) → CanSeal s place → Step s (with_sealed s place into)
+  record_values : {s : State} (records : Place → ℕ → Option ℕ) → CanRecord s records → Step s (with_records s records)
+  wait : {s : State} (place : Place) (x v : ℕ) → CanWait s place x v → Step s (with_pending s place x v)
+  fill : {s : State} (x v : ℕ) (given : Arm → ℕ) → CanFill s x v given → Step s (with_arguments s v given)
+  drop : {s : State} (x v target : ℕ) → CanDrop s x v target → Step s (with_alias s v target)
+  put_zero : {s : State} (place : Place) (x z : ℕ) → CanPutZero s place z → Step s (with_zero s place x z)
+  undefine : {s : State} (x v z : ℕ) → CanUndefine s x v z → Step s (with_alias s v z)
+  give : {s : State} (place : Place) (n v : ℕ) → CanGive s place n v → Step s (with_given s place n v)
+  use_variable : {s : State} (place : Place) (n x v : ℕ) → CanUse s place n x v → Step s (with_use s place n x v)
+  assign : {s : State} (place : Place) (x n : ℕ) → CanAssign s place x n → Step s (with_assigned s place x n)
+  restate : {s : State} (definition : ℕ → Definition) (argument : ℕ → Arm → ℕ) → CanRestate s definition argument → Step s (with_tables s definition argument)
+
+-- Any number of steps, the first at the left.
+pub data Steps : State → State → Type 0 where
+  done : {s : State} → Steps s s
+  then : {s s' s'' : State} → Steps s s' → Step s' s'' → Steps s s''

@@ -1,2 +1,12 @@
-//! Variables on paths.
+//! Variables on paths: why the values that SSA construction answers are right.
+//!
+//! This crate holds laws alone. Each public function has an empty body; its contract names a statement of
+//! `specs/`, and the check proves it. Read `specs/` in this order: `Places` (places, arms, paths, domination),
+//! `State` (the tables of a program and of a function under construction), `Denotation` (what variables, names and
+//! values denote on a path), `Sound` (when the one side stands for the other), `Steps` (how a state grows) and
+//! `Laws` (what holds after any steps).
 #![tactic(auto)]
+
+pub mod conclusion;
+pub mod engine;
+pub mod steps;

@@ -1,0 +1,130 @@
+-- What is proved of the steps, each statement named by the contract of a public function.
+-- Source: own; the last one is what Braun et al. 2013 prove of their construction, said along paths.
+use Rattle.std.specs.Prelude.{◌≡◌, ◌≢◌, ℕ, Bool, true, Option, None, Some, [], ◌∷◌}
+use Rattle.clif_paths.specs.Places.{Place, start, Arm, Edges, Path, Follows, end_of, Dominates, StrictlyBefore}
+use Rattle.clif_paths.specs.State.{Program, pending, Definition, Function, State, home_of}
+use Rattle.clif_paths.specs.Denotation.{Instance, Holder, variable, name, instances, denotation}
+use Rattle.clif_paths.specs.Sound.{Allowed, ArgumentsThere, Holds, Sound}
+use Rattle.clif_paths.specs.Steps.{initial, with_sealed, CanSeal, with_records, CanRecord, with_pending, CanWait, with_arguments, CanFill, with_alias, CanDrop, with_zero, CanPutZero, CanUndefine, with_given, CanGive, with_use, CanUse, with_assigned, CanAssign, with_tables, CanRestate, Step, Steps}
+
+-- what is read of a path changes only as the path arrives at the place
+pub record ChangesOnlyAt (place : Place) (f : Path → Instance) : Type 0 where
+  pub past : (arm : Arm) (path : Path) → place ≢ arm.target → f (arm ∷ path) ≡ f path
+
+-- the two agree at each visit of the place, where one may use that they agreed at the end of the path before, if
+-- the place dominates that end
+pub record AgreeAtVisits (edges : Edges) (place : Place) (f f' : Path → Instance) : Type 0 where
+  pub at_visit :
+    (arm : Arm) (path : Path) → Follows edges (arm ∷ path) → place ≡ arm.target →
+    (Dominates edges place (end_of path) → f path ≡ f' path) → f (arm ∷ path) ≡ f' (arm ∷ path)
+
+-- The engine. Let f change only at h and f' only at g, and let g dominate h: if they agree at each visit of h,
+-- they agree wherever h dominates.
+abbrev pub AgreementIsKept : Type 0
+AgreementIsKept =
+    (edges : Edges) (h g : Place) (f f' : Path → Instance) → ChangesOnlyAt h f → ChangesOnlyAt g f' → Dominates edges g h →
+    AgreeAtVisits edges h f f' →
+    (path : Path) → Follows edges path → Dominates edges h (end_of path) → f path ≡ f' path
+
+-- two different places that dominate one another are reached by no path
+abbrev pub DominationIsAntisymmetric : Type 0
+DominationIsAntisymmetric =
+    (edges : Edges) (g h : Place) → Dominates edges g h → Dominates edges h g → g ≢ h →
+    (path : Path) → Follows edges path → end_of path ≢ h
+
+abbrev pub FirstIsSound : Type 0
+FirstIsSound = Sound initial
+
+abbrev pub SealKeeps : Type 0
+SealKeeps = (s : State) (place : Place) (into : Edges) → CanSeal s place → Sound s → Sound (with_sealed s place into)
+
+abbrev pub RecordKeeps : Type 0
+RecordKeeps = (s : State) (records : Place → ℕ → Option ℕ) → CanRecord s records → Sound s → Sound (with_records s records)
+
+abbrev pub WaitKeeps : Type 0
+WaitKeeps = (s : State) (place : Place) (x v : ℕ) → CanWait s place x v → Sound s → Sound (with_pending s place x v)
+
+abbrev pub FillKeeps : Type 0
+FillKeeps = (s : State) (x v : ℕ) (given : Arm → ℕ) → CanFill s x v given → Sound s → Sound (with_arguments s v given)
+
+abbrev pub DropKeeps : Type 0
+DropKeeps = (s : State) (x v target : ℕ) → CanDrop s x v target → Sound s → Sound (with_alias s v target)
+
+abbrev pub ZeroKeeps : Type 0
+ZeroKeeps = (s : State) (place : Place) (x z : ℕ) → CanPutZero s place z → Sound s → Sound (with_zero s place x z)
+
+abbrev pub UndefineKeeps : Type 0
+UndefineKeeps = (s : State) (x v z : ℕ) → CanUndefine s x v z → Sound s → Sound (with_alias s v z)
+
+abbrev pub GiveKeeps : Type 0
+GiveKeeps = (s : State) (place : Place) (n v : ℕ) → CanGive s place n v → Sound s → Sound (with_given s place n v)
+
+abbrev pub UseKeeps : Type 0
+UseKeeps = (s : State) (place : Place) (n x v : ℕ) → CanUse s place n x v → Sound s → Sound (with_use s place n x v)
+
+abbrev pub AssignKeeps : Type 0
+AssignKeeps = (s : State) (place : Place) (x n : ℕ) → CanAssign s place x n → Sound s → Sound (with_assigned s place x n)
+
+abbrev pub RestateKeeps : Type 0
+RestateKeeps =
+    (s : State) (definition : ℕ → Definition) (argument : ℕ → Arm → ℕ) → CanRestate s definition argument → Sound s →
+    Sound (with_tables s definition argument)
+
+abbrev pub StepsKeep : Type 0
+StepsKeep = (s s' : State) → Steps s s' → Sound s → Sound s'
+
+-- While construction goes on: whatever edges are still allowed, a name's answer holds the name wherever the name's
+-- home dominates.
+abbrev pub AnswersHold : Type 0
+AnswersHold =
+    (s : State) → Steps initial s → (edges : Edges) → Allowed s.program edges →
+    (n : ℕ) → (s.program.naming n).home ≢ start →
+    (place : Place) → Dominates edges (s.program.naming n).home place →
+    Holds edges s.program s.function (s.answer n) (name n) place
+
+-- While construction goes on: a value recorded for a variable holds it there.
+abbrev pub RecordsHold : Type 0
+RecordsHold =
+    (s : State) → Steps initial s → (edges : Edges) → Allowed s.program edges →
+    (place : Place) (x v : ℕ) → s.recorded place x ≡ Some v → Holds edges s.program s.function v (variable x) place
+
+-- No parameter waits.
+pub record NothingPending (function : Function) : Type 0 where
+  pub none : (u x : ℕ) → (function.definition (function.resolve u)).kind ≢ pending x
+
+-- A name that is assigned somewhere is given before that place, on every path along the known arms.
+pub record AssignsGiven (program : Program) : Type 0 where
+  pub given_before :
+    (place : Place) (x n : ℕ) → program.assigned place x ≡ Some n →
+    StrictlyBefore program.arms (program.naming n).home place
+
+-- the program as if all its places were sealed: a plain program, in which no variable is ever unknown
+abbrev pub all_sealed : Program → Program
+all_sealed program = record program { is_sealed = λ place. true }
+
+-- Where no parameter waits, what a value denotes is read off the function alone, whatever the program.
+abbrev pub FunctionStandsAlone : Type 0
+FunctionStandsAlone =
+    (function : Function) → NothingPending function → (program program' : Program) (path : Path) (v : ℕ) →
+    denotation program function path v ≡ denotation program' function path v
+
+-- The value stands for the name at the place: it is there, and on every path there the function alone gives it what
+-- the plain program gives the name.
+pub record StandsFor (program : Program) (function : Function) (v n : ℕ) (place : Place) : Type 0 where
+  pub there : Dominates program.arms (home_of function v) place
+  pub denotes_name :
+    (any : Program) (path : Path) → Follows program.arms path → end_of path ≡ place →
+    denotation any function path v ≡ instances (all_sealed program) path (name n)
+
+-- The conclusion. After any steps, where every edge is a known arm and no parameter waits, each name's answer
+-- stands for the name wherever the name's home dominates; and each parameter's argument is there where its arm
+-- leaves.
+pub record IsCorrect (s : State) : Type 0 where
+  pub answers :
+    (n : ℕ) → (s.program.naming n).home ≢ start →
+    (place : Place) → Dominates s.program.arms (s.program.naming n).home place →
+    StandsFor s.program s.function (s.answer n) n place
+  pub arguments : ArgumentsThere s.program.arms s.function
+
+abbrev pub ConstructionIsCorrect : Type 0
+ConstructionIsCorrect = (s : State) → Steps initial s → NothingPending s.function → AssignsGiven s.program → IsCorrect s
