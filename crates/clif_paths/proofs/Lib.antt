@@ -12,3 +12,6 @@ pub mod Assigning
 pub mod Sealing
 pub mod Restating
 pub mod Concluding
+pub mod BlockTables
+pub mod BlockSteps
+pub mod Links

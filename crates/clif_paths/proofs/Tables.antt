@@ -6,10 +6,10 @@ use Rattle.clif_paths.specs.Places.{Place, same_place}
 use Rattle.clif_paths.specs.Steps.{updated, updated_at, aliased}
 use Rattle.clif_paths.proofs.PathLemmas.{same_place-equal, same_place-other, dec_place}
 
-number_equal : (a b : ℕ) → a ≡ b → (a == b) ≡ true
+pub number_equal : (a b : ℕ) → a ≡ b → (a == b) ≡ true
 number_equal a b e = grind (arith, nat_tests)
 
-number_other : (a b : ℕ) → a ≢ b → (a == b) ≡ false
+pub number_other : (a b : ℕ) → a ≢ b → (a == b) ≡ false
 number_other a b ne = grind (arith, nat_tests)
 
 pub updated-same : {A : Type 0} → (table : ℕ → A) (k : ℕ) (new : A) (i : ℕ) → i ≡ k → updated table k new i ≡ new

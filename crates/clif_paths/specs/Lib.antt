@@ -5,3 +5,5 @@ pub mod Denotation
 pub mod Sound
 pub mod Steps
 pub mod Laws
+pub mod Blocks
+pub mod BlockLaws

@@ -7,6 +7,7 @@
 //! `Laws` (what holds after any steps).
 #![tactic(auto)]
 
+pub mod blocks;
 pub mod conclusion;
 pub mod engine;
 pub mod steps;
