@@ -15,3 +15,6 @@ pub mod Concluding
 pub mod BlockTables
 pub mod BlockSteps
 pub mod Links
+pub mod Checked
+pub mod Moving
+pub mod Finishing

@@ -128,3 +128,15 @@ pub record IsCorrect (s : State) : Type 0 where
 
 abbrev pub ConstructionIsCorrect : Type 0
 ConstructionIsCorrect = (s : State) → Steps initial s → NothingPending s.function → AssignsGiven s.program → IsCorrect s
+
+-- the same for any sound state
+abbrev pub SoundIsCorrect : Type 0
+SoundIsCorrect = (s : State) → Sound s → NothingPending s.function → AssignsGiven s.program → IsCorrect s
+
+-- the same for any sound state while construction goes on
+abbrev pub SoundAnswersHold : Type 0
+SoundAnswersHold =
+    (s : State) → Sound s → (edges : Edges) → Allowed s.program edges →
+    (n : ℕ) → (s.program.naming n).home ≢ start →
+    (place : Place) → Dominates edges (s.program.naming n).home place →
+    Holds edges s.program s.function (s.answer n) (name n) place

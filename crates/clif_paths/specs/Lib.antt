@@ -7,3 +7,5 @@ pub mod Steps
 pub mod Laws
 pub mod Blocks
 pub mod BlockLaws
+pub mod Moves
+pub mod MoveLaws
