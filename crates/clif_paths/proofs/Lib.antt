@@ -18,3 +18,4 @@ pub mod Links
 pub mod Checked
 pub mod Moving
 pub mod Finishing
+pub mod ExampleProofs

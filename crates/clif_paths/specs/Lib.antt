@@ -9,3 +9,4 @@ pub mod Blocks
 pub mod BlockLaws
 pub mod Moves
 pub mod MoveLaws
+pub mod Examples
