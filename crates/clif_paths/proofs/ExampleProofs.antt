@@ -8,7 +8,7 @@ use Rattle.clif_paths.specs.Examples.{loop_moves, loop_witnesses, LoopSealedLate
 use Rattle.clif_paths.proofs.Finishing.{finished_moves}
 
 -- all that the examples compute with
-computing : Bool
+unfoldable pub computing : Bool
 unfolding same_place instances denotes updated updated_at aliased same_arm listed each_arm each_write each_place differs is_none_at says is_pending is_zero none_below assigns_not resolves_to carries_from each_into is_new_name is_new_value waits_in allows after after_all allows_all in_places next_within holds_all_before shown_by is_settled each_settled is_finished
 computing = true
 

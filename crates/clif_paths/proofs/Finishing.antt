@@ -204,7 +204,7 @@ shown_told sheet fits (w ∷ witnesses) write e =
         (differs_place home write.place (second_of_and (differs (in_places w.before write.place)) (differs (same_place home write.place)) both))
     by_first (inr later) rest = rest later
 
-assigns_given :
+pub assigns_given :
   (sheet : Sheet) (witnesses : List Witness) → SheetFits sheet → each_write (shown_by sheet witnesses) sheet.writes ≡ true →
   AssignsGiven (state_of sheet.blocks).program
 assigns_given sheet witnesses fits e = record {

@@ -19,3 +19,4 @@ pub mod Checked
 pub mod Moving
 pub mod Finishing
 pub mod ExampleProofs
+pub mod FailureProofs

@@ -46,7 +46,7 @@ write_told :
 write_told writes place x n p y m assigned old (inl new) = inl (λ i. record { place = new.0 i; name = sym new.2 i })
 write_told writes place x n p y m assigned old (inr kept) = inr (old p y m kept.1)
 
-fits_written : (sheet : Sheet) (b x n : ℕ) → SheetFits sheet → SheetFits (after sheet (write_variable b x n))
+pub fits_written : (sheet : Sheet) (b x n : ℕ) → SheetFits sheet → SheetFits (after sheet (write_variable b x n))
 unfolding after
 fits_written sheet b x n fits = record {
   arms = fits.arms;

@@ -10,3 +10,4 @@ pub mod BlockLaws
 pub mod Moves
 pub mod MoveLaws
 pub mod Examples
+pub mod Failures

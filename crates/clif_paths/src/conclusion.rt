@@ -1,10 +1,16 @@
 //! What holds after any steps.
 
-ghost use Rattle.clif_paths.specs.Laws.{AnswersHold, RecordsHold, FunctionStandsAlone, ConstructionIsCorrect};
+ghost use Rattle.clif_paths.specs.Laws.{AnswersHold, RecordsHold, FunctionStandsAlone, SoundAnswersHold, SoundIsCorrect, ConstructionIsCorrect};
 
 /// While construction goes on, a name's answer holds the name wherever the name's home dominates.
 pub fn answers_hold()
     ensures { AnswersHold }
+{
+}
+
+/// The same in any sound state.
+pub fn sound_answers_hold()
+    ensures { SoundAnswersHold }
 {
 }
 
@@ -24,5 +30,11 @@ pub fn function_stands_alone()
 /// denotes, wherever the name's home dominates.
 pub fn construction_is_correct()
     ensures { ConstructionIsCorrect }
+{
+}
+
+/// The same in any sound state.
+pub fn sound_is_correct()
+    ensures { SoundIsCorrect }
 {
 }

@@ -10,4 +10,6 @@
 pub mod blocks;
 pub mod conclusion;
 pub mod engine;
+pub mod examples;
+pub mod failures;
 pub mod steps;
