@@ -20,3 +20,5 @@ pub mod Moving
 pub mod Finishing
 pub mod ExampleProofs
 pub mod FailureProofs
+pub mod ShapeLemmas
+pub mod ShapeSteps

@@ -11,3 +11,4 @@ pub mod Moves
 pub mod MoveLaws
 pub mod Examples
 pub mod Failures
+pub mod Shape
