@@ -7,7 +7,8 @@ use Rattle.clif_paths.specs.Sound.{Allowed, Holds, SoundUnder, Sound}
 use Rattle.clif_paths.specs.Steps.{updated, updated_at, with_assigned, CanAssign}
 use Rattle.clif_paths.proofs.Tables.{record_cases, record_kept, record_new, record_other}
 use Rattle.clif_paths.proofs.PathLemmas.{dec_place, dominates_trans, dominates_from_before, unvisited}
-use Rattle.clif_paths.proofs.Executing.{entered, entered-sealed, entered-unsealed, instances-variable, variable-assigned, name-past, name-here}
+use Rattle.clif_paths.specs.Laws.{entered}
+use Rattle.clif_paths.proofs.Executing.{entered-sealed, entered-unsealed, instances-variable, variable-assigned, name-past, name-here}
 use Rattle.clif_paths.specs.Laws.{ChangesOnlyAt, AgreeAtVisits}
 use Rattle.clif_paths.proofs.Keep.{keep}
 use Rattle.clif_paths.proofs.Alias.{denotes_changes}

@@ -8,7 +8,8 @@ use Rattle.clif_paths.specs.Sound.{Allowed, ArgumentsThere, Holds, SoundUnder, S
 use Rattle.clif_paths.specs.Steps.{updated, updated_at, with_pending, CanWait, with_zero, CanPutZero}
 use Rattle.clif_paths.proofs.Tables.{updated-same, updated-other, updated_cases, record_cases}
 use Rattle.clif_paths.proofs.PathLemmas.{dec_place, dominates_before}
-use Rattle.clif_paths.proofs.Executing.{entered, denotes-past, denotes-here, variable-entered}
+use Rattle.clif_paths.specs.Laws.{entered}
+use Rattle.clif_paths.proofs.Executing.{denotes-past, denotes-here, variable-entered}
 use Rattle.clif_paths.proofs.Refine.{Rooted, rooted_allowed, never_at_start, SameAt, DefinedAlike, alike_visit, Refines, refines_alike, holds_refined}
 
 -- the function with one value defined anew
@@ -30,7 +31,7 @@ refines_new {edges} program function v new r arguments unborn_before =
         alike_visit edges program function (with_definition function v new) arguments u arm path f e before
         (updated-other function.definition v new (function.resolve u)
           (other_value function v u unborn_before (λ h. never_at_start r arm f.0 (sym e ∙ h))))
-        refl
+        (λ k. refl)
     })
 
 arguments_new_by :

@@ -7,7 +7,8 @@ use Rattle.clif_paths.specs.Sound.{Allowed, Holds, SoundUnder, Sound}
 use Rattle.clif_paths.specs.Steps.{initial, Step, seal, record_values, wait, fill, drop, put_zero, undefine, give, use_variable, assign, restate, Steps, done, then}
 use Rattle.clif_paths.specs.Laws.{NothingPending, AssignsGiven, all_sealed, StandsFor, IsCorrect}
 use Rattle.clif_paths.proofs.PathLemmas.{dec_place, unvisited_pair}
-use Rattle.clif_paths.proofs.Executing.{entered, entered-sealed, instances-variable, name-here, name-past, denotes-here, denotes-past}
+use Rattle.clif_paths.specs.Laws.{entered}
+use Rattle.clif_paths.proofs.Executing.{entered-sealed, instances-variable, name-here, name-past, denotes-here, denotes-past}
 use Rattle.clif_paths.proofs.Born.{wait_keeps, zero_keeps}
 use Rattle.clif_paths.proofs.Fill.{fill_keeps}
 use Rattle.clif_paths.proofs.Alias.{drop_keeps, undefine_keeps}

@@ -1,13 +1,10 @@
 -- One step of each side: at a home, and past it.
 use Rattle.std.proofs.Common.{◌≡◌, ◌≢◌, ℕ, Bool, true, false, cond, Option, None, Some, [], ◌∷◌, refl, sym, ◌∙◌, ap}
 use Rattle.clif_paths.specs.Places.{Place, start, same_place, Arm, Path, end_of}
-use Rattle.clif_paths.specs.State.{Origin, fresh, reads, Program, Kind, Function}
+use Rattle.clif_paths.specs.State.{fresh, reads, Naming, Program, born, pending, complete, zero_of, Definition, Function}
 use Rattle.clif_paths.specs.Denotation.{Instance, absent, zero, given, unknown, Holder, variable, name, entering, after_assignment, at_home, instances, defined, denotes}
+use Rattle.clif_paths.specs.Laws.{entered, ProgramSteps, FunctionSteps}
 use Rattle.clif_paths.proofs.PathLemmas.{same_place-equal, same_place-other}
-
--- what a variable is as a path enters an arm's target
-abbrev pub entered : Program → Arm → Path → ℕ → Instance
-entered program arm path x = entering program arm path (λ h. instances program path h) x
 
 pub entered-sealed : (program : Program) (arm : Arm) (path : Path) (x : ℕ) → program.is_sealed arm.target ≡ true → entered program arm path x ≡ instances program path (variable x)
 entered-sealed program arm path x e = rw e refl
@@ -62,3 +59,36 @@ pub denotes-here :
   denotes program function (arm ∷ path) v ≡ defined program function arm path (λ w. denotes program function path w) v (function.definition v).kind
 unfolding denotes
 denotes-here program function arm path v e = rw (same_place-equal (function.definition v).home arm.target e) refl
+
+-- the program's side, after one arm more
+pub program_steps : (program : Program) (arm : Arm) (path : Path) → ProgramSteps program arm path
+program_steps program arm path = record {
+  known_place = λ e x. entered-sealed program arm path x e;
+  unknown_place = λ e x. entered-unsealed program arm path x e;
+  unassigned = λ x e. variable-entered program arm path x e;
+  assigned = λ x n e. variable-assigned program arm path x n e;
+  elsewhere = λ n ne. name-past program arm path n ne;
+  given_here = λ n e.
+    name-here program arm path n (ap (λ (k : Naming). k.home) e) ∙
+    ap (λ (k : Naming). at_home program arm path (λ h. instances program path h) n k.origin) e;
+  read_here = λ n x e.
+    name-here program arm path n (ap (λ (k : Naming). k.home) e) ∙
+    ap (λ (k : Naming). at_home program arm path (λ h. instances program path h) n k.origin) e
+}
+
+at_home_defined :
+  (program : Program) (function : Function) (arm : Arm) (path : Path) (v : ℕ) (d : Definition) → function.definition v ≡ d → d.home ≡ arm.target →
+  denotes program function (arm ∷ path) v ≡ defined program function arm path (λ w. denotes program function path w) v d.kind
+at_home_defined program function arm path v d e home =
+    denotes-here program function arm path v (ap (λ (k : Definition). k.home) e ∙ home) ∙
+    ap (λ (k : Definition). defined program function arm path (λ w. denotes program function path w) v k.kind) e
+
+-- the function's side, after one arm more
+pub function_steps : (program : Program) (function : Function) (arm : Arm) (path : Path) → FunctionSteps program function arm path
+function_steps program function arm path = record {
+  elsewhere = λ v ne. denotes-past program function arm path v ne;
+  born_here = λ v n e. at_home_defined program function arm path v (record { home = arm.target; kind = born n }) e refl;
+  zero_here = λ v x e. at_home_defined program function arm path v (record { home = arm.target; kind = zero_of x }) e refl;
+  pending_here = λ v x e. at_home_defined program function arm path v (record { home = arm.target; kind = pending x }) e refl;
+  complete_here = λ v e. at_home_defined program function arm path v (record { home = arm.target; kind = complete }) e refl
+}

@@ -7,7 +7,8 @@ use Rattle.clif_paths.specs.Denotation.{Instance, Holder, variable, name, instan
 use Rattle.clif_paths.specs.Sound.{Allowed, ArgumentsThere, Holds, SoundUnder, Sound}
 use Rattle.clif_paths.specs.Steps.{updated, Incoming, Waits, with_arguments, CanFill}
 use Rattle.clif_paths.proofs.Tables.{updated-same, updated-other, updated_cases}
-use Rattle.clif_paths.proofs.Executing.{entered, entered-sealed}
+use Rattle.clif_paths.specs.Laws.{entered}
+use Rattle.clif_paths.proofs.Executing.{entered-sealed}
 use Rattle.clif_paths.proofs.Refine.{Rooted, rooted_allowed, SameAt, DefinedAlike, alike_visit, Refines, refines_alike, holds_refined}
 
 -- an edge into a waiting parameter's place is a known arm
@@ -80,7 +81,7 @@ fill_same_visit s x v given can allowed sound u arm path f at before (yes e) =
 fill_same_visit {edges} s x v given can allowed sound u arm path f at before (no ne) =
     alike_visit edges s.program s.function (with_arguments s v given).function sound.arguments u arm path f at before
     (updated-other s.function.definition v (record { home = (s.function.definition v).home; kind = complete }) (s.function.resolve u) ne)
-    (ap (λ (t : Arm → ℕ). s.function.resolve (t arm)) (updated-other s.function.argument v given (s.function.resolve u) ne))
+    (λ k. ap (λ (t : Arm → ℕ). s.function.resolve (t arm)) (updated-other s.function.argument v given (s.function.resolve u) ne))
 
 fill_home :
   (s : State) (v : ℕ) (given : Arm → ℕ) (u : ℕ) → Dec (s.function.resolve u ≡ v) →

@@ -22,3 +22,4 @@ pub mod ExampleProofs
 pub mod FailureProofs
 pub mod ShapeLemmas
 pub mod ShapeSteps
+pub mod BlockRestating

@@ -8,7 +8,8 @@ use Rattle.clif_paths.specs.Sound.{Allowed, ArgumentsThere, Holds, SoundUnder, S
 use Rattle.clif_paths.specs.Steps.{updated, IsNewName, with_given, CanGive, with_use, CanUse}
 use Rattle.clif_paths.proofs.Tables.{updated-same, updated-other, updated_cases}
 use Rattle.clif_paths.proofs.PathLemmas.{dec_place}
-use Rattle.clif_paths.proofs.Executing.{entered, instances-variable, name-past, name-here, variable-entered, denotes-past, denotes-here}
+use Rattle.clif_paths.specs.Laws.{entered}
+use Rattle.clif_paths.proofs.Executing.{instances-variable, name-past, name-here, variable-entered, denotes-past, denotes-here}
 use Rattle.clif_paths.proofs.Refine.{Rooted, rooted_allowed, Refines, holds_refined}
 use Rattle.clif_paths.proofs.Born.{with_definition, refines_new, arguments_new, dominates_itself}
 

@@ -20,10 +20,11 @@ initial_sound = record {
 
 unseen_arguments :
   {edges : Edges} (s : State) (definition : ℕ → Definition) (argument : ℕ → Arm → ℕ) → CanRestate s definition argument →
-  Allowed s.program edges → (u : ℕ) (arm : Arm) → home_of s.function u ≡ arm.target → edges arm ≡ true →
+  Allowed s.program edges → (u : ℕ) (arm : Arm) → (s.function.definition (s.function.resolve u)).kind ≡ complete →
+  home_of s.function u ≡ arm.target → edges arm ≡ true →
   s.function.resolve (argument (s.function.resolve u) arm) ≡ s.function.resolve (s.function.argument (s.function.resolve u) arm)
-unseen_arguments s definition argument can allowed u arm at e =
-    can.arguments u arm at (λ sealed. sym (allowed.known arm sealed) ∙ e)
+unseen_arguments s definition argument can allowed u arm k at e =
+    can.arguments u arm k at (λ sealed. sym (allowed.known arm sealed) ∙ e)
 
 restate_refines :
   {edges : Edges} (s : State) (definition : ℕ → Definition) (argument : ℕ → Arm → ℕ) → CanRestate s definition argument →
@@ -33,7 +34,7 @@ restate_refines {edges} s definition argument can allowed sound =
       same_home = λ u there. ap (λ (d : Definition). d.home) (can.seen u);
       same_visit = λ u arm path f at before.
         alike_visit edges s.program s.function (with_tables s definition argument).function sound.arguments u arm path f at before
-        (can.seen u) (unseen_arguments s definition argument can allowed u arm at f.0)
+        (can.seen u) (λ k. unseen_arguments s definition argument can allowed u arm k at f.0)
     })
 
 restate_under :
@@ -46,10 +47,11 @@ restate_under {edges} s definition argument can allowed sound =
       arguments = record {
         at_source = λ u arm k at e.
           let at_old : home_of s.function u ≡ arm.target = sym (ap (λ (d : Definition). d.home) (can.seen u)) ∙ at in
-          let there = sound.arguments.at_source u arm (sym (ap (λ (d : Definition). d.kind) (can.seen u)) ∙ k) at_old e in
+          let k_old : (s.function.definition (s.function.resolve u)).kind ≡ complete = sym (ap (λ (d : Definition). d.kind) (can.seen u)) ∙ k in
+          let there = sound.arguments.at_source u arm k_old at_old e in
           refines.there (argument (s.function.resolve u) arm) arm.source
           (subst (λ r. Dominates edges (s.function.definition r).home arm.source)
-            (sym (unseen_arguments s definition argument can allowed u arm at_old e))
+            (sym (unseen_arguments s definition argument can allowed u arm k_old at_old e))
             there)
       };
       records = λ place x v e. holds_refined refines (sound.records place x v e);

@@ -7,7 +7,8 @@ use Rattle.clif_paths.specs.Sound.{Allowed, Holds, SoundUnder, Sound}
 use Rattle.clif_paths.specs.Steps.{updated, updated_at, with_sealed, CanSeal}
 use Rattle.clif_paths.proofs.Tables.{updated_at-same, updated_at-other, updated_at_cases}
 use Rattle.clif_paths.proofs.PathLemmas.{dec_place, same_place-equal, same_place-other}
-use Rattle.clif_paths.proofs.Executing.{entered, entered-sealed, entered-unsealed, instances-variable, name-past, name-here, denotes-past, denotes-here}
+use Rattle.clif_paths.specs.Laws.{entered}
+use Rattle.clif_paths.proofs.Executing.{entered-sealed, entered-unsealed, instances-variable, name-past, name-here, denotes-past, denotes-here}
 
 abbrev with_arms : Program → Place → Edges → Program
 with_arms program place into = record program {

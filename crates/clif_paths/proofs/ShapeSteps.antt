@@ -2,7 +2,7 @@
 use Rattle.std.proofs.Common.{◌≡◌, ◌≢◌, ℕ, zero, suc, ◌+◌, ◌<◌, ◌≤◌, Bool, true, false, cond, ◌==◌, Option, None, Some, List, [], ◌∷◌, ◌++◌, length, ◌⊎◌, inl, inr, refl, sym, ◌∙◌, ap, subst, arith, append_assoc}
 use Rattle.std.proofs.Math.Decide.{ℕ_discrete}
 use Rattle.clif_paths.specs.Steps.{updated}
-use Rattle.clif_paths.specs.Shape.{Types, Parameter, BlockShape, EdgeShape, Shape, values_of, HasParameter, Apart, GivesEach, SameTypes, IsBlockShape, IsEdgeShape, Structured, no_shape, with_block, caller_added, waiting_added, lookup_begun, first_completed, first_dropped, value_recorded, variable_used, variable_assigned, leads_to, appended_if, arguments_appended, ShapeStep, new_edge, retarget, declare, seal_shape, add_caller, add_waiting, begin_lookup, complete_first, drop_first, record_value, use_recorded, assign_value}
+use Rattle.clif_paths.specs.Shape.{Types, Parameter, BlockShape, EdgeShape, Shape, values_of, HasParameter, Apart, GivesEach, SameTypes, IsBlockShape, IsEdgeShape, Structured, no_shape, with_block, caller_added, waiting_added, lookup_begun, first_completed, first_dropped, value_recorded, variable_used, variable_assigned, leads_to, appended_if, arguments_appended, ShapeStep, new_edge, retarget, declare, seal_shape, add_caller, add_waiting, begin_lookup, complete_first, drop_first, record_value, use_recorded, assign_value, ShapeSteps, no_step, and_then}
 use Rattle.clif_paths.proofs.Tables.{updated-same, updated-other, updated_cases, number_equal, number_other}
 use Rattle.clif_paths.proofs.ShapeLemmas.{values-append, length-values, append_nil, has_first, apart_more, gives_more, gives_none, gives_types, types_append, remove_behind}
 
@@ -493,6 +493,11 @@ structure_kept types shape shape' (assign_value b x v typed) before =
     block_changed types shape b (variable_assigned (shape.block b) x v) before
     (used_shape types (value_recorded (shape.block b) x v) x (just_recorded (shape.block b).recorded x v)
       (recorded_shape types (shape.block b) x v typed (before.blocks b))) refl
+
+pub shapes_structured : (types : Types) (shape shape' : Shape) → ShapeSteps types shape shape' → Structured types shape → Structured types shape'
+shapes_structured types shape shape' no_step before = before
+shapes_structured types shape shape' (and_then {shape' = middle} steps step) before =
+    structure_kept types middle shape' step (shapes_structured types shape middle steps before)
 
 -- What follows ----------------------------------------------------------------------------------------------------
 

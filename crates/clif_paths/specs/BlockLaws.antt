@@ -5,7 +5,7 @@ use Rattle.clif_paths.specs.Places.{Place, start, Arm, Edges}
 use Rattle.clif_paths.specs.State.{State}
 use Rattle.clif_paths.specs.Sound.{Sound}
 use Rattle.clif_paths.specs.Steps.{updated, aliased, CanGive}
-use Rattle.clif_paths.specs.Blocks.{Blocks, state_of, no_blocks, front, last_place, with_block_sealed, with_item, CanAppend, with_born, with_read, CanRead, with_record, with_write, CanWrite, CanCopy, IsChain, with_chain, with_parameter, CanAddParameter, with_filled, CanFillIn, with_dropped, CanDropIn, with_zero_in, CanUndefineIn, Resolves, FallsAlong}
+use Rattle.clif_paths.specs.Blocks.{Blocks, state_of, no_blocks, front, last_place, with_block_sealed, with_item, CanAppend, with_born, with_read, CanRead, with_record, with_write, CanWrite, CanCopy, IsChain, with_chain, with_parameter, CanAddParameter, with_filled, CanFillIn, with_dropped, CanDropIn, with_zero_in, CanUndefineIn, SaysTheSame, CompleteAtFronts, Role, Birth, result_of, place_of, home_by, Resolves, FallsAlong}
 
 -- the state of the tables is sound
 pub record BlocksSound (blocks : Blocks) : Type 0 where
@@ -70,6 +70,25 @@ abbrev pub UndefinedKeeps : Type 0
 UndefinedKeeps =
     (blocks : Blocks) (block x v z : ℕ) → CanUndefineIn blocks block x v z → BlocksSound blocks →
     BlocksSound (with_dropped blocks v z)
+
+-- tables that say the same of all that a path can see are as sound
+abbrev pub RestatedKeeps : Type 0
+RestatedKeeps =
+    (blocks blocks' : Blocks) → CompleteAtFronts blocks → SaysTheSame blocks blocks' → BlocksSound blocks → BlocksSound blocks'
+
+-- records may be forgotten
+abbrev pub ForgetKeeps : Type 0
+ForgetKeeps =
+    (blocks : Blocks) (recorded : ℕ → ℕ → Option ℕ) →
+    ((b x v : ℕ) → recorded b x ≡ Some v → blocks.recorded b x ≡ Some v) → BlocksSound blocks →
+    BlocksSound (record blocks { recorded = recorded })
+
+-- an instruction that is added to the map has its home there, and all other values keep theirs
+abbrev pub RolesExtend : Type 0
+RolesExtend =
+    (roles : ℕ → Role) (instruction : ℕ) (role : Role) →
+    (home_by (updated roles instruction role) (result_of instruction) ≡ place_of role) ×
+    ((birth : Birth) → birth ≢ result_of instruction → home_by (updated roles instruction role) birth ≡ home_by roles birth)
 
 -- the end of a value's links is its own end
 abbrev pub EndsAreEnds : Type 0

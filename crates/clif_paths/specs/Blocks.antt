@@ -3,7 +3,7 @@
 -- blocks, pending parameters).
 use Rattle.std.specs.Prelude.{◌≡◌, ◌≢◌, ℕ, zero, suc, ◌+◌, ◌<◌, Bool, true, false, cond, ◌==◌, ◌&&◌, nat_lt, Option, None, Some, List, [], ◌∷◌, ◌⊎◌}
 use Rattle.clif_paths.specs.Places.{Place, start, inside, Arm, Edges, same_place}
-use Rattle.clif_paths.specs.State.{fresh, reads, Naming, born, pending, complete, zero_of, Kind, Definition, Function, Program, State}
+use Rattle.clif_paths.specs.State.{fresh, reads, Naming, born, pending, complete, zero_of, Kind, Definition, Function, Program, State, home_of}
 use Rattle.clif_paths.specs.Steps.{updated, updated_at, aliased, IsNewName}
 
 -- Tables by block. Arms between blocks leave the last place of the one and lead to the front of the other; inside a
@@ -232,6 +232,31 @@ pub record CanUndefineIn (blocks : Blocks) (block x v z : ℕ) : Type 0 where
   pub is_zero : blocks.function.definition z ≡ record { home = front block; kind = zero_of x }
   pub along :
     (arm : Arm) → blocks.joins arm ≡ true → arm.target ≡ front block → (arm.source ≡ start) ⊎ Carries blocks arm x v
+
+-- RESTATE: tables that say the same of all that a path can see. Values that are aliases may be defined in any way, and
+-- arguments on arms that aren't known may be anything; so may arms into blocks that aren't sealed.
+pub record SaysTheSame (blocks blocks' : Blocks) : Type 0 where
+  pub count : (b : ℕ) → blocks'.count b ≡ blocks.count b
+  pub sealed : (b : ℕ) → blocks'.sealed b ≡ blocks.sealed b
+  pub joins : (b : ℕ) (arm : Arm) → blocks.sealed b ≡ true → arm.target ≡ front b → blocks'.joins arm ≡ blocks.joins arm
+  pub assigned : (place : Place) (x : ℕ) → blocks'.assigned place x ≡ blocks.assigned place x
+  pub naming : (n : ℕ) → blocks'.naming n ≡ blocks.naming n
+  pub resolve : (v : ℕ) → blocks'.function.resolve v ≡ blocks.function.resolve v
+  pub definition :
+    (u : ℕ) → blocks'.function.definition (blocks.function.resolve u) ≡ blocks.function.definition (blocks.function.resolve u)
+  pub argument :
+    (u b : ℕ) (arm : Arm) → (blocks.function.definition (blocks.function.resolve u)).kind ≡ complete →
+    home_of blocks.function u ≡ front b → arm.target ≡ front b → blocks.sealed b ≡ true → blocks.joins arm ≡ true →
+    blocks.function.resolve (blocks'.function.argument (blocks.function.resolve u) arm) ≡
+    blocks.function.resolve (blocks.function.argument (blocks.function.resolve u) arm)
+  pub recorded : (b x : ℕ) → blocks'.recorded b x ≡ blocks.recorded b x
+  pub answer : (n : ℕ) → blocks'.answer n ≡ blocks.answer n
+
+-- complete parameters stand at fronts of sealed blocks
+pub record CompleteAtFronts (blocks : Blocks) : Type 0 where
+  pub at_front :
+    (u : ℕ) → (blocks.function.definition (blocks.function.resolve u)).kind ≡ complete →
+    (b : ℕ) × (home_of blocks.function u ≡ front b) × (blocks.sealed b ≡ true)
 
 -- ALIASES as links. A table of links resolves as `resolve` does where an unlinked value is its own end, a linked one
 -- has the end of what it links to, and an end is unlinked.

@@ -1,9 +1,9 @@
 -- What is proved of the steps, each statement named by the contract of a public function.
 -- Source: own; the last one is what Braun et al. 2013 prove of their construction, said along paths.
-use Rattle.std.specs.Prelude.{◌≡◌, ◌≢◌, ℕ, Bool, true, Option, None, Some, [], ◌∷◌}
+use Rattle.std.specs.Prelude.{◌≡◌, ◌≢◌, ℕ, Bool, true, false, Option, None, Some, [], ◌∷◌}
 use Rattle.clif_paths.specs.Places.{Place, start, Arm, Edges, Path, Follows, end_of, Dominates, StrictlyBefore}
-use Rattle.clif_paths.specs.State.{Program, pending, Definition, Function, State, home_of}
-use Rattle.clif_paths.specs.Denotation.{Instance, Holder, variable, name, instances, denotation}
+use Rattle.clif_paths.specs.State.{fresh, reads, Program, born, pending, complete, zero_of, Definition, Function, State, home_of}
+use Rattle.clif_paths.specs.Denotation.{Instance, zero, given, unknown, Holder, variable, name, entering, instances, denotes, denotation}
 use Rattle.clif_paths.specs.Sound.{Allowed, ArgumentsThere, Holds, Sound}
 use Rattle.clif_paths.specs.Steps.{initial, with_sealed, CanSeal, with_records, CanRecord, with_pending, CanWait, with_arguments, CanFill, with_alias, CanDrop, with_zero, CanPutZero, CanUndefine, with_given, CanGive, with_use, CanUse, with_assigned, CanAssign, with_tables, CanRestate, Step, Steps}
 
@@ -31,6 +31,57 @@ abbrev pub DominationIsAntisymmetric : Type 0
 DominationIsAntisymmetric =
     (edges : Edges) (g h : Place) → Dominates edges g h → Dominates edges h g → g ≢ h →
     (path : Path) → Follows edges path → end_of path ≢ h
+
+-- Execution, step by step ------------------------------------------------------------------------------------------
+
+-- a variable as a path enters an arm's target
+abbrev pub entered : Program → Arm → Path → ℕ → Instance
+entered program arm path x = entering program arm path (λ h. instances program path h) x
+
+-- the program's side, after one arm more
+pub record ProgramSteps (program : Program) (arm : Arm) (path : Path) : Type 0 where
+  pub known_place : program.is_sealed arm.target ≡ true → (x : ℕ) → entered program arm path x ≡ instances program path (variable x)
+  pub unknown_place : program.is_sealed arm.target ≡ false → (x : ℕ) → entered program arm path x ≡ unknown x (arm ∷ path)
+  pub unassigned :
+    (x : ℕ) → program.assigned arm.target x ≡ None → instances program (arm ∷ path) (variable x) ≡ entered program arm path x
+  pub assigned :
+    (x n : ℕ) → program.assigned arm.target x ≡ Some n →
+    instances program (arm ∷ path) (variable x) ≡ instances program path (name n)
+  pub elsewhere :
+    (n : ℕ) → (program.naming n).home ≢ arm.target → instances program (arm ∷ path) (name n) ≡ instances program path (name n)
+  pub given_here :
+    (n : ℕ) → program.naming n ≡ record { home = arm.target; origin = fresh } →
+    instances program (arm ∷ path) (name n) ≡ given n (arm ∷ path)
+  pub read_here :
+    (n x : ℕ) → program.naming n ≡ record { home = arm.target; origin = reads x } →
+    instances program (arm ∷ path) (name n) ≡ entered program arm path x
+
+abbrev pub ProgramIsExecuted : Type 0
+ProgramIsExecuted = (program : Program) (arm : Arm) (path : Path) → ProgramSteps program arm path
+
+-- the function's side, after one arm more
+pub record FunctionSteps (program : Program) (function : Function) (arm : Arm) (path : Path) : Type 0 where
+  pub elsewhere :
+    (v : ℕ) → (function.definition v).home ≢ arm.target →
+    denotes program function (arm ∷ path) v ≡ denotes program function path v
+  pub born_here :
+    (v n : ℕ) → function.definition v ≡ record { home = arm.target; kind = born n } →
+    denotes program function (arm ∷ path) v ≡ given n (arm ∷ path)
+  pub zero_here :
+    (v x : ℕ) → function.definition v ≡ record { home = arm.target; kind = zero_of x } →
+    denotes program function (arm ∷ path) v ≡ zero x
+  pub pending_here :
+    (v x : ℕ) → function.definition v ≡ record { home = arm.target; kind = pending x } →
+    denotes program function (arm ∷ path) v ≡ entered program arm path x
+  pub complete_here :
+    (v : ℕ) → function.definition v ≡ record { home = arm.target; kind = complete } →
+    denotes program function (arm ∷ path) v ≡ denotation program function path (function.argument v arm)
+
+abbrev pub FunctionIsExecuted : Type 0
+FunctionIsExecuted =
+    (program : Program) (function : Function) (arm : Arm) (path : Path) → FunctionSteps program function arm path
+
+-- Steps -----------------------------------------------------------------------------------------------------------
 
 abbrev pub FirstIsSound : Type 0
 FirstIsSound = Sound initial

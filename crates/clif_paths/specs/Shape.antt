@@ -231,6 +231,11 @@ pub data ShapeStep (types : Types) : Shape → Shape → Type 0 where
     {shape : Shape} (b x v : ℕ) → types.of_value v ≡ types.of_variable x →
     ShapeStep types shape (with_block shape b (variable_assigned (shape.block b) x v))
 
+-- Any number of steps, the first at the left.
+pub data ShapeSteps (types : Types) : Shape → Shape → Type 0 where
+  no_step : {shape : Shape} → ShapeSteps types shape shape
+  and_then : {shape shape' shape'' : Shape} → ShapeSteps types shape shape' → ShapeStep types shape' shape'' → ShapeSteps types shape shape''
+
 -- LAWS ------------------------------------------------------------------------------------------------------------
 
 abbrev pub FirstShapeStructured : Type 0
@@ -251,3 +256,18 @@ abbrev pub SinglePredecessorKeepsNone : Type 0
 SinglePredecessorKeepsNone =
     (types : Types) (shape : Shape) → Structured types shape → (b : ℕ) → length (shape.block b).predecessors ≤ 1 →
     (shape.block b).waiting ≡ [] → (shape.block b).parameters ≡ (shape.block b).callers
+
+abbrev pub ShapesAreStructured : Type 0
+ShapesAreStructured = (types : Types) (shape : Shape) → ShapeSteps types no_shape shape → Structured types shape
+
+-- at most one look-up of a variable begins in a block, and none of a variable that it has no record of
+abbrev pub LookedUpOnce : Type 0
+LookedUpOnce =
+    (types : Types) (shape : Shape) → Structured types shape → (b x : ℕ) →
+    ((shape.block b).lookups x ≤ 1) × ((shape.block b).recorded x ≡ None → (shape.block b).lookups x ≡ 0)
+
+-- a block without a record for a variable neither uses nor assigns it
+abbrev pub UnrecordedIsUntouched : Type 0
+UnrecordedIsUntouched =
+    (types : Types) (shape : Shape) → Structured types shape → (b x : ℕ) → (shape.block b).recorded x ≡ None →
+    (shape.block b).touched x ≡ false

@@ -192,8 +192,8 @@ pub record CanAssign (s : State) (place : Place) (x n : ℕ) : Type 0 where
   pub is_given : (s.program.naming n).home ≢ start
   pub none_leaves : (arm : Arm) → s.program.arms arm ≡ true → arm.source ≢ place
 
--- RESTATE. What no path can see: definitions of values to which nothing resolves, and arguments on arms that do
--- not lead to the parameter's home or are known not to exist.
+-- RESTATE. What no path can see: definitions of values to which nothing resolves, and arguments that are not a
+-- complete parameter's on an arm into its home that may exist.
 abbrev pub with_tables : State → (ℕ → Definition) → (ℕ → Arm → ℕ) → State
 with_tables s definition argument = record s {
   function = record { definition = definition; argument = argument; resolve = s.function.resolve }
@@ -202,7 +202,7 @@ with_tables s definition argument = record s {
 pub record CanRestate (s : State) (definition : ℕ → Definition) (argument : ℕ → Arm → ℕ) : Type 0 where
   pub seen : (u : ℕ) → definition (s.function.resolve u) ≡ s.function.definition (s.function.resolve u)
   pub arguments :
-    (u : ℕ) (arm : Arm) → home_of s.function u ≡ arm.target →
+    (u : ℕ) (arm : Arm) → (s.function.definition (s.function.resolve u)).kind ≡ complete → home_of s.function u ≡ arm.target →
     (s.program.is_sealed arm.target ≡ true → s.program.arms arm ≡ true) →
     s.function.resolve (argument (s.function.resolve u) arm) ≡ s.function.resolve (s.function.argument (s.function.resolve u) arm)
 

@@ -1,6 +1,6 @@
 //! The tables of blocks, as a builder keeps them: each change of theirs keeps soundness of the state they stand for.
 
-ghost use Rattle.clif_paths.specs.BlockLaws.{FirstBlocksSound, BlockSealKeeps, ItemKeeps, BornKeeps, ReadKeeps, WriteKeeps, CopyKeeps, ChainKeeps, ParameterKeeps, FilledKeeps, DroppedKeeps, ZeroInKeeps, UndefinedKeeps, EndsAreEnds, NewLinkResolves, EndsAreUnique};
+ghost use Rattle.clif_paths.specs.BlockLaws.{FirstBlocksSound, BlockSealKeeps, ItemKeeps, BornKeeps, ReadKeeps, WriteKeeps, CopyKeeps, ChainKeeps, ParameterKeeps, FilledKeeps, DroppedKeeps, ZeroInKeeps, UndefinedKeeps, RestatedKeeps, ForgetKeeps, RolesExtend, EndsAreEnds, NewLinkResolves, EndsAreUnique};
 
 /// The first tables are sound.
 pub fn first_blocks_sound()
@@ -77,6 +77,24 @@ pub fn zero_in_keeps()
 /// Making a parameter to which nothing comes an alias of the zero keeps soundness.
 pub fn undefined_keeps()
     ensures { UndefinedKeeps }
+{
+}
+
+/// Tables that say the same of all that a path can see are as sound.
+pub fn restated_keeps()
+    ensures { RestatedKeeps }
+{
+}
+
+/// Records may be forgotten.
+pub fn forget_keeps()
+    ensures { ForgetKeeps }
+{
+}
+
+/// A new instruction has the home that the map gives it, and all other values keep theirs.
+pub fn roles_extend()
+    ensures { RolesExtend }
 {
 }
 

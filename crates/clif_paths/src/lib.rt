@@ -11,5 +11,7 @@ pub mod blocks;
 pub mod conclusion;
 pub mod engine;
 pub mod examples;
+pub mod execution;
 pub mod failures;
 pub mod steps;
+pub mod structure;
