@@ -1,11 +1,11 @@
 -- What the tests of moves tell.
-use Rattle.std.proofs.Common.{◌≡◌, ◌≢◌, ℕ, zero, suc, ◌+◌, ◌<◌, ◌≤◌, Bool, true, false, cond, ◌==◌, ◌&&◌, ◌||◌, nat_lt, Option, None, Some, List, [], ◌∷◌, ◌++◌, ◌⊎◌, inl, inr, refl, sym, ◌∙◌, ap, subst, arith}
+use Rattle.std.proofs.Common.{◌≡◌, ◌≢◌, ℕ, zero, suc, ◌<◌, Bool, true, false, ◌==◌, ◌&&◌, ◌||◌, Option, None, Some, List, [], ◌∷◌, ◌++◌, ◌⊎◌, inl, inr, refl, ◌∙◌, ap, subst, arith}
 use Rattle.std.proofs.Math.Decide.{ℕ_discrete}
 use Rattle.std.proofs.lemmas.Bool.Decides.{nat_tests}
-use Rattle.clif_paths.specs.Places.{Place, start, inside, same_place, Arm, Edges}
-use Rattle.clif_paths.specs.State.{Kind, unborn, born, pending, complete, zero_of, Definition, Naming}
+use Rattle.clif_paths.specs.Places.{Place, start, inside, same_place, Arm}
+use Rattle.clif_paths.specs.State.{Kind, unborn, born, pending, complete, zero_of, Definition}
 use Rattle.clif_paths.specs.Steps.{IsNewName}
-use Rattle.clif_paths.specs.Blocks.{Blocks, front, last_place, state_of, AssignsNot, Carries, WaitsIn}
+use Rattle.clif_paths.specs.Blocks.{Blocks, front, state_of, AssignsNot, Carries, WaitsIn}
 use Rattle.clif_paths.specs.Moves.{Write, Sheet, same_arm, listed, each_arm, each_write, differs, is_none_at, says, is_pending, is_zero, none_below, assigns_not, resolves_to, carries_from, each_into, is_new_name, is_new_value, waits_in}
 use Rattle.clif_paths.proofs.PathLemmas.{same_place-true, same_place-equal}
 
@@ -85,17 +85,17 @@ arm_same : (a b : Arm) → same_arm a b ≡ true → a ≡ b
 unfolding same_arm
 arm_same a b e =
     let rest : (same_place a.target b.target && (a.edge == b.edge)) ≡ true =
-        second_of_and (same_place a.source b.source) (same_place a.target b.target && (a.edge == b.edge)) e in
+    second_of_and (same_place a.source b.source) (same_place a.target b.target && (a.edge == b.edge)) e in
     let source : a.source ≡ b.source =
-        same_place-true a.source b.source (first_of_and (same_place a.source b.source) (same_place a.target b.target && (a.edge == b.edge)) e) in
+    same_place-true a.source b.source (first_of_and (same_place a.source b.source) (same_place a.target b.target && (a.edge == b.edge)) e) in
     let target : a.target ≡ b.target =
-        same_place-true a.target b.target (first_of_and (same_place a.target b.target) (a.edge == b.edge) rest) in
+    same_place-true a.target b.target (first_of_and (same_place a.target b.target) (a.edge == b.edge) rest) in
     let edge : a.edge ≡ b.edge = number_true a.edge b.edge (second_of_and (same_place a.target b.target) (a.edge == b.edge) rest) in
     λ i. record { source = source i; target = target i; edge = edge i }
 
 listed_step :
-  (test : Arm → Bool) (a : Arm) (arms : List Arm) (arm : Arm) → (test a && each_arm test arms) ≡ true →
-  (listed arms arm ≡ true → test arm ≡ true) → (same_arm arm a ≡ true) ⊎ (listed arms arm ≡ true) → test arm ≡ true
+    (test : Arm → Bool) (a : Arm) (arms : List Arm) (arm : Arm) → (test a && each_arm test arms) ≡ true →
+    (listed arms arm ≡ true → test arm ≡ true) → (same_arm arm a ≡ true) ⊎ (listed arms arm ≡ true) → test arm ≡ true
 listed_step test a arms arm each rest (inl same) =
     ap test (arm_same arm a same) ∙ first_of_and (test a) (each_arm test arms) each
 listed_step test a arms arm each rest (inr later) = rest later
@@ -155,14 +155,14 @@ pub record SheetFits (sheet : Sheet) : Type 0 where
 
 -- what the tests tell
 none_below_at :
-  (blocks : Blocks) (b x n : ℕ) → none_below blocks b x n ≡ true → (k : ℕ) → k < n → blocks.assigned (inside b k) x ≡ None
+    (blocks : Blocks) (b x n : ℕ) → none_below blocks b x n ≡ true → (k : ℕ) → k < n → blocks.assigned (inside b k) x ≡ None
 unfolding none_below
 none_below_at blocks b x zero e k lt = absurd (omega arith)
 none_below_at blocks b x (suc n) e k lt =
     let rest : (j : ℕ) → j < n → blocks.assigned (inside b j) x ≡ None =
-        none_below_at blocks b x n (second_of_and (is_none_at (blocks.assigned (inside b n) x)) (none_below blocks b x n) e) in
+    none_below_at blocks b x n (second_of_and (is_none_at (blocks.assigned (inside b n) x)) (none_below blocks b x n) e) in
     let here : blocks.assigned (inside b n) x ≡ None =
-        none_at (blocks.assigned (inside b n) x) (first_of_and (is_none_at (blocks.assigned (inside b n) x)) (none_below blocks b x n) e) in
+    none_at (blocks.assigned (inside b n) x) (first_of_and (is_none_at (blocks.assigned (inside b n) x)) (none_below blocks b x n) e) in
     below_by rest here (ℕ_discrete k n)
   where
     below_by : ((j : ℕ) → j < n → blocks.assigned (inside b j) x ≡ None) → blocks.assigned (inside b n) x ≡ None → Dec (k ≡ n) → blocks.assigned (inside b k) x ≡ None
@@ -189,19 +189,19 @@ carries_by blocks arm (inside b k) x v at e =
       leaves = at ∙ ap (λ j. inside b j) last;
       value = w;
       is_recorded = is_recorded;
-      resolves = resolves
+      resolves = resolves;
     }
 
 pub carries_told : (blocks : Blocks) (arm : Arm) (x v : ℕ) → carries_from blocks arm.source x v ≡ true → Carries blocks arm x v
 carries_told blocks arm x v e = carries_by blocks arm arm.source x v refl e
 
 pub into_told :
-  (sheet : Sheet) (b : ℕ) (test : Arm → Bool) → SheetFits sheet → each_into sheet b test ≡ true →
-  (arm : Arm) → sheet.blocks.joins arm ≡ true → arm.target ≡ front b → test arm ≡ true
+    (sheet : Sheet) (b : ℕ) (test : Arm → Bool) → SheetFits sheet → each_into sheet b test ≡ true →
+    (arm : Arm) → sheet.blocks.joins arm ≡ true → arm.target ≡ front b → test arm ≡ true
 unfolding each_into
 into_told sheet b test fits e arm joined at =
     into_by (of_or (differs (same_place arm.target (front b))) (test arm)
-      (each_listed (λ a. differs (same_place a.target (front b)) || test a) sheet.arms arm e (fits.arms arm joined)))
+    (each_listed (λ a. differs (same_place a.target (front b)) || test a) sheet.arms arm e (fits.arms arm joined)))
   where
     into_by : (differs (same_place arm.target (front b)) ≡ true) ⊎ (test arm ≡ true) → test arm ≡ true
     into_by (inl other) = absurd (differs_place arm.target (front b) other at)
@@ -211,13 +211,13 @@ pub new_name_told : (sheet : Sheet) (n : ℕ) → SheetFits sheet → is_new_nam
 unfolding is_new_name
 new_name_told sheet n fits e = record {
   new_name = same_place-true (sheet.blocks.naming n).home start
-    (first_of_and (same_place (sheet.blocks.naming n).home start) (each_write (λ w. differs (w.name == n)) sheet.writes) e);
+      (first_of_and (same_place (sheet.blocks.naming n).home start) (each_write (λ w. differs (w.name == n)) sheet.writes) e);
   unassigned = λ p x assigned.
-    differs_number n n
-    (each_has (λ w. differs (w.name == n)) sheet.writes (record { place = p; name = n })
+      differs_number n n
+      (each_has (λ w. differs (w.name == n)) sheet.writes (record { place = p; name = n })
       (second_of_and (same_place (sheet.blocks.naming n).home start) (each_write (λ w. differs (w.name == n)) sheet.writes) e)
       (fits.writes p x n assigned))
-    refl
+      refl;
 }
 
 pub new_value_home : (sheet : Sheet) (v : ℕ) → is_new_value sheet v ≡ true → (sheet.blocks.function.definition v).home ≡ start
@@ -237,12 +237,12 @@ unfolding waits_in
 waits_told sheet b x v e =
     let definition : Definition = sheet.blocks.function.definition v in
     let rest : (is_pending definition.kind x && sheet.blocks.sealed b) ≡ true =
-        second_of_and (same_place definition.home (front b)) (is_pending definition.kind x && sheet.blocks.sealed b) e in
+    second_of_and (same_place definition.home (front b)) (is_pending definition.kind x && sheet.blocks.sealed b) e in
     record {
       is_parameter =
-        same_definition definition (front b) (pending x)
-        (same_place-true definition.home (front b)
+          same_definition definition (front b) (pending x)
+          (same_place-true definition.home (front b)
           (first_of_and (same_place definition.home (front b)) (is_pending definition.kind x && sheet.blocks.sealed b) e))
-        (pending_kind definition.kind x (first_of_and (is_pending definition.kind x) (sheet.blocks.sealed b) rest));
-      is_sealed = second_of_and (is_pending definition.kind x) (sheet.blocks.sealed b) rest
+          (pending_kind definition.kind x (first_of_and (is_pending definition.kind x) (sheet.blocks.sealed b) rest));
+      is_sealed = second_of_and (is_pending definition.kind x) (sheet.blocks.sealed b) rest;
     }

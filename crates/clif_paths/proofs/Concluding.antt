@@ -1,11 +1,11 @@
 -- From steps to the conclusion.
-use Rattle.std.proofs.Common.{◌≡◌, ◌≢◌, ℕ, Bool, true, false, cond, Option, None, Some, List, [], ◌∷◌, inl, inr, refl, sym, ◌∙◌, ap, subst}
-use Rattle.clif_paths.specs.Places.{Place, start, Arm, Edges, Path, end_of, Follows, Visits, Dominates, StrictlyBefore}
-use Rattle.clif_paths.specs.State.{Origin, fresh, reads, Program, Kind, unborn, born, pending, complete, zero_of, Definition, Function, State, home_of}
-use Rattle.clif_paths.specs.Denotation.{Instance, unknown, Holder, variable, name, after_assignment, at_home, instances, defined, denotes, denotation}
+use Rattle.std.proofs.Common.{◌≡◌, ◌≢◌, ℕ, true, Option, None, Some, [], ◌∷◌, inl, refl, sym, ◌∙◌}
+use Rattle.clif_paths.specs.Places.{Place, start, Arm, Edges, Path, end_of, Follows, Dominates}
+use Rattle.clif_paths.specs.State.{Origin, fresh, reads, Program, Kind, unborn, born, pending, complete, zero_of, Function, State, home_of}
+use Rattle.clif_paths.specs.Denotation.{Holder, variable, name, after_assignment, at_home, instances, defined, denotes, denotation}
 use Rattle.clif_paths.specs.Sound.{Allowed, Holds, SoundUnder, Sound}
 use Rattle.clif_paths.specs.Steps.{initial, Step, seal, record_values, wait, fill, drop, put_zero, undefine, give, use_variable, assign, restate, Steps, done, then}
-use Rattle.clif_paths.specs.Laws.{NothingPending, AssignsGiven, all_sealed, StandsFor, IsCorrect}
+use Rattle.clif_paths.specs.Laws.{NothingPending, AssignsGiven, all_sealed, IsCorrect}
 use Rattle.clif_paths.proofs.PathLemmas.{dec_place, unvisited_pair}
 use Rattle.clif_paths.specs.Laws.{entered}
 use Rattle.clif_paths.proofs.Executing.{entered-sealed, instances-variable, name-here, name-past, denotes-here, denotes-past}
@@ -17,7 +17,6 @@ use Rattle.clif_paths.proofs.Naming.{give_keeps, use_keeps}
 use Rattle.clif_paths.proofs.Assigning.{assign_keeps, name_held}
 use Rattle.clif_paths.proofs.Sealing.{seal_keeps}
 use Rattle.clif_paths.proofs.Restating.{initial_sound, restate_keeps}
-
 
 -- every step keeps soundness
 pub step_keeps : {s s' : State} → Step s s' → Sound s → Sound s'
@@ -41,18 +40,18 @@ pub reached_sound : {s : State} → Steps initial s → Sound s
 reached_sound steps = steps_keep steps initial_sound
 
 pub answer_holds :
-  {edges : Edges} (s : State) → SoundUnder edges s → (n : ℕ) → (s.program.naming n).home ≢ start →
-  (place : Place) → Dominates edges (s.program.naming n).home place → Holds edges s.program s.function (s.answer n) (name n) place
+    {edges : Edges} (s : State) → SoundUnder edges s → (n : ℕ) → (s.program.naming n).home ≢ start →
+    (place : Place) → Dominates edges (s.program.naming n).home place → Holds edges s.program s.function (s.answer n) (name n) place
 answer_holds s sound n written place d = name_held s.program s.function (s.answer n) n (sound.answers n written) place d
 
 -- The function alone ----------------------------------------------------------------------------------------------
 
 alone_by_kind :
-  (function : Function) → NothingPending function → (program program' : Program) (arm : Arm) (path : Path) →
-  ((w : ℕ) → denotation program function path w ≡ denotation program' function path w) →
-  (u : ℕ) (kind : Kind) → (function.definition (function.resolve u)).kind ≡ kind →
-  defined program function arm path (λ w. denotes program function path w) (function.resolve u) kind ≡
-  defined program' function arm path (λ w. denotes program' function path w) (function.resolve u) kind
+    (function : Function) → NothingPending function → (program program' : Program) (arm : Arm) (path : Path) →
+    ((w : ℕ) → denotation program function path w ≡ denotation program' function path w) →
+    (u : ℕ) (kind : Kind) → (function.definition (function.resolve u)).kind ≡ kind →
+    defined program function arm path (λ w. denotes program function path w) (function.resolve u) kind ≡
+    defined program' function arm path (λ w. denotes program' function path w) (function.resolve u) kind
 alone_by_kind function nothing program program' arm path before u unborn k = refl
 alone_by_kind function nothing program program' arm path before u (born n) k = refl
 alone_by_kind function nothing program program' arm path before u (pending x) k = absurd (nothing.none u x k)
@@ -60,10 +59,10 @@ alone_by_kind function nothing program program' arm path before u complete k = b
 alone_by_kind function nothing program program' arm path before u (zero_of x) k = refl
 
 alone_step :
-  (function : Function) → NothingPending function → (program program' : Program) (arm : Arm) (path : Path) →
-  ((w : ℕ) → denotation program function path w ≡ denotation program' function path w) →
-  (u : ℕ) → Dec (home_of function u ≡ arm.target) →
-  denotation program function (arm ∷ path) u ≡ denotation program' function (arm ∷ path) u
+    (function : Function) → NothingPending function → (program program' : Program) (arm : Arm) (path : Path) →
+    ((w : ℕ) → denotation program function path w ≡ denotation program' function path w) →
+    (u : ℕ) → Dec (home_of function u ≡ arm.target) →
+    denotation program function (arm ∷ path) u ≡ denotation program' function (arm ∷ path) u
 alone_step function nothing program program' arm path before u (yes at) =
     denotes-here program function arm path (function.resolve u) at ∙
     alone_by_kind function nothing program program' arm path before u (function.definition (function.resolve u)).kind refl ∙
@@ -74,13 +73,13 @@ alone_step function nothing program program' arm path before u (no ne) =
 
 -- where no parameter waits, the program doesn't matter
 pub stands_alone :
-  (function : Function) → NothingPending function → (program program' : Program) (path : Path) (u : ℕ) →
-  denotation program function path u ≡ denotation program' function path u
+    (function : Function) → NothingPending function → (program program' : Program) (path : Path) (u : ℕ) →
+    denotation program function path u ≡ denotation program' function path u
 unfolding denotes
 stands_alone function nothing program program' [] u = refl
 stands_alone function nothing program program' (arm ∷ path) u =
     let before : (w : ℕ) → denotation program function path w ≡ denotation program' function path w =
-        stands_alone function nothing program program' path in
+    stands_alone function nothing program program' path in
     alone_step function nothing program program' arm path before u (dec_place (home_of function u) arm.target)
 
 -- The plain program -----------------------------------------------------------------------------------------------
@@ -90,35 +89,35 @@ pub record LeadsToSealed (edges : Edges) (program : Program) : Type 0 where
   pub sealed : (arm : Arm) → edges arm ≡ true → program.is_sealed arm.target ≡ true
 
 plain_entered :
-  {edges : Edges} (program : Program) → LeadsToSealed edges program → (arm : Arm) (path : Path) → Follows edges (arm ∷ path) →
-  ((h : Holder) → instances program path h ≡ instances (all_sealed program) path h) →
-  (x : ℕ) → entered program arm path x ≡ entered (all_sealed program) arm path x
+    {edges : Edges} (program : Program) → LeadsToSealed edges program → (arm : Arm) (path : Path) → Follows edges (arm ∷ path) →
+    ((h : Holder) → instances program path h ≡ instances (all_sealed program) path h) →
+    (x : ℕ) → entered program arm path x ≡ entered (all_sealed program) arm path x
 plain_entered program leads arm path f before x =
     entered-sealed program arm path x (leads.sealed arm f.0) ∙ before (variable x)
 
 plain_assigned :
-  {edges : Edges} (program : Program) → LeadsToSealed edges program → (arm : Arm) (path : Path) → Follows edges (arm ∷ path) →
-  ((h : Holder) → instances program path h ≡ instances (all_sealed program) path h) →
-  (x : ℕ) (o : Option ℕ) →
-  after_assignment (λ h. instances program path h) (entered program arm path x) o ≡
-  after_assignment (λ h. instances (all_sealed program) path h) (entered (all_sealed program) arm path x) o
+    {edges : Edges} (program : Program) → LeadsToSealed edges program → (arm : Arm) (path : Path) → Follows edges (arm ∷ path) →
+    ((h : Holder) → instances program path h ≡ instances (all_sealed program) path h) →
+    (x : ℕ) (o : Option ℕ) →
+    after_assignment (λ h. instances program path h) (entered program arm path x) o ≡
+    after_assignment (λ h. instances (all_sealed program) path h) (entered (all_sealed program) arm path x) o
 plain_assigned program leads arm path f before x None = plain_entered program leads arm path f before x
 plain_assigned program leads arm path f before x (Some n) = before (name n)
 
 plain_by_origin :
-  {edges : Edges} (program : Program) → LeadsToSealed edges program → (arm : Arm) (path : Path) → Follows edges (arm ∷ path) →
-  ((h : Holder) → instances program path h ≡ instances (all_sealed program) path h) →
-  (n : ℕ) (origin : Origin) →
-  at_home program arm path (λ h. instances program path h) n origin ≡
-  at_home (all_sealed program) arm path (λ h. instances (all_sealed program) path h) n origin
+    {edges : Edges} (program : Program) → LeadsToSealed edges program → (arm : Arm) (path : Path) → Follows edges (arm ∷ path) →
+    ((h : Holder) → instances program path h ≡ instances (all_sealed program) path h) →
+    (n : ℕ) (origin : Origin) →
+    at_home program arm path (λ h. instances program path h) n origin ≡
+    at_home (all_sealed program) arm path (λ h. instances (all_sealed program) path h) n origin
 plain_by_origin program leads arm path f before n fresh = refl
 plain_by_origin program leads arm path f before n (reads x) = plain_entered program leads arm path f before x
 
 plain_name :
-  {edges : Edges} (program : Program) → LeadsToSealed edges program → (arm : Arm) (path : Path) → Follows edges (arm ∷ path) →
-  ((h : Holder) → instances program path h ≡ instances (all_sealed program) path h) →
-  (n : ℕ) → Dec ((program.naming n).home ≡ arm.target) →
-  instances program (arm ∷ path) (name n) ≡ instances (all_sealed program) (arm ∷ path) (name n)
+    {edges : Edges} (program : Program) → LeadsToSealed edges program → (arm : Arm) (path : Path) → Follows edges (arm ∷ path) →
+    ((h : Holder) → instances program path h ≡ instances (all_sealed program) path h) →
+    (n : ℕ) → Dec ((program.naming n).home ≡ arm.target) →
+    instances program (arm ∷ path) (name n) ≡ instances (all_sealed program) (arm ∷ path) (name n)
 plain_name program leads arm path f before n (yes at) =
     name-here program arm path n at ∙
     plain_by_origin program leads arm path f before n (program.naming n).origin ∙
@@ -127,9 +126,9 @@ plain_name program leads arm path f before n (no ne) =
     name-past program arm path n ne ∙ before (name n) ∙ sym (name-past (all_sealed program) arm path n ne)
 
 plain_step :
-  {edges : Edges} (program : Program) → LeadsToSealed edges program → (arm : Arm) (path : Path) → Follows edges (arm ∷ path) →
-  ((h : Holder) → instances program path h ≡ instances (all_sealed program) path h) →
-  (h : Holder) → instances program (arm ∷ path) h ≡ instances (all_sealed program) (arm ∷ path) h
+    {edges : Edges} (program : Program) → LeadsToSealed edges program → (arm : Arm) (path : Path) → Follows edges (arm ∷ path) →
+    ((h : Holder) → instances program path h ≡ instances (all_sealed program) path h) →
+    (h : Holder) → instances program (arm ∷ path) h ≡ instances (all_sealed program) (arm ∷ path) h
 plain_step program leads arm path f before (variable x) =
     instances-variable program arm path x ∙
     plain_assigned program leads arm path f before x (program.assigned arm.target x) ∙
@@ -144,8 +143,8 @@ plain_first program (name n) = refl
 
 -- along arms into sealed places, the program is as if all its places were sealed
 pub plain :
-  {edges : Edges} (program : Program) → LeadsToSealed edges program → (path : Path) → Follows edges path →
-  (h : Holder) → instances program path h ≡ instances (all_sealed program) path h
+    {edges : Edges} (program : Program) → LeadsToSealed edges program → (path : Path) → Follows edges path →
+    (h : Holder) → instances program path h ≡ instances (all_sealed program) path h
 plain program leads [] f h = plain_first program h
 plain program leads (arm ∷ path) f h =
     let before : (h : Holder) → instances program path h ≡ instances (all_sealed program) path h = plain program leads path f.2 in
@@ -158,7 +157,7 @@ pub arms_allowed : (s : State) → Sound s → AssignsGiven s.program → Allowe
 arms_allowed s sound assigns = record {
   known = λ arm e. refl;
   rooted = sound.rooted;
-  given_before = assigns.given_before
+  given_before = assigns.given_before;
 }
 
 pub correct : (s : State) → Sound s → NothingPending s.function → AssignsGiven s.program → IsCorrect s
@@ -166,18 +165,18 @@ correct s sound nothing assigns =
     let under : SoundUnder s.program.arms s = sound.under s.program.arms (arms_allowed s sound assigns) in
     record {
       answers = λ n written place d.
-        let held : Holds s.program.arms s.program s.function (s.answer n) (name n) place = answer_holds s under n written place d in
-        record {
-          there = held.there;
-          denotes_name = λ any path f at_end.
-            stands_alone s.function nothing any s.program path (s.answer n) ∙
-            held.agrees path f at_end ∙
-            plain s.program (record { sealed = sound.known_sealed }) path f (name n)
-        };
-      arguments = under.arguments
+          let held : Holds s.program.arms s.program s.function (s.answer n) (name n) place = answer_holds s under n written place d in
+          record {
+            there = held.there;
+            denotes_name = λ any path f at_end.
+                stands_alone s.function nothing any s.program path (s.answer n) ∙
+                held.agrees path f at_end ∙
+                plain s.program (record { sealed = sound.known_sealed }) path f (name n);
+          };
+      arguments = under.arguments;
     }
 
 -- two different places that dominate one another are reached by no path
 pub antisymmetric :
-  (edges : Edges) (g h : Place) → Dominates edges g h → Dominates edges h g → g ≢ h → (path : Path) → Follows edges path → end_of path ≢ h
+    (edges : Edges) (g h : Place) → Dominates edges g h → Dominates edges h g → g ≢ h → (path : Path) → Follows edges path → end_of path ≢ h
 antisymmetric edges g h gh hg ne path f at_end = unvisited_pair gh hg ne path f (inl (gh.on_every_path path f at_end))

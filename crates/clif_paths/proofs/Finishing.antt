@@ -1,16 +1,14 @@
 -- Finished sheets are correct.
-use Rattle.std.proofs.Common.{◌≡◌, ◌≢◌, ℕ, zero, suc, ◌+◌, ◌<◌, ◌≤◌, Bool, true, false, cond, ◌==◌, ◌&&◌, ◌||◌, nat_lt, Option, None, Some, List, [], ◌∷◌, ◌++◌, ◌⊎◌, inl, inr, refl, sym, ◌∙◌, ap, subst, arith}
+use Rattle.std.proofs.Common.{◌≡◌, ◌≢◌, ℕ, zero, suc, Bool, true, false, ◌==◌, ◌&&◌, ◌||◌, nat_lt, List, [], ◌∷◌, ◌⊎◌, inl, inr, refl, sym, ◌∙◌, ap, arith}
 use Rattle.std.proofs.lemmas.Bool.Decides.{nat_tests}
-use Rattle.clif_paths.specs.Places.{Place, start, inside, same_place, Arm, Edges, Path, end_of, Follows, Visits, VisitsBefore, Dominates, StrictlyBefore}
-use Rattle.clif_paths.specs.State.{Kind, unborn, born, pending, complete, zero_of, Definition, Naming, Function, State}
-use Rattle.clif_paths.specs.Sound.{Sound}
+use Rattle.clif_paths.specs.Places.{Place, start, inside, same_place, Arm, Edges, Path, end_of, Follows, Visits, VisitsBefore, StrictlyBefore}
+use Rattle.clif_paths.specs.State.{Kind, unborn, born, pending, complete, zero_of}
 use Rattle.clif_paths.specs.Laws.{NothingPending, AssignsGiven, IsCorrect}
-use Rattle.clif_paths.specs.Blocks.{Blocks, front, last_place, arm_into, state_of}
-use Rattle.clif_paths.specs.Moves.{Write, Sheet, blank, Move, listed, each_arm, each_write, each_place, differs, in_places, next_within, holds_all_before, Witness, shown_by, is_settled, each_settled, is_finished, allows_all, after_all}
-use Rattle.clif_paths.proofs.PathLemmas.{same_place-true, same_place-equal}
-use Rattle.clif_paths.proofs.BlockTables.{inside-block, inside-step}
+use Rattle.clif_paths.specs.Blocks.{Blocks, arm_into, state_of}
+use Rattle.clif_paths.specs.Moves.{Write, Sheet, blank, Move, each_arm, each_write, each_place, differs, in_places, next_within, holds_all_before, Witness, shown_by, is_settled, each_settled, is_finished, allows_all, after_all}
+use Rattle.clif_paths.proofs.PathLemmas.{same_place-true}
 use Rattle.clif_paths.proofs.Concluding.{correct}
-use Rattle.clif_paths.proofs.Checked.{first_of_and, second_of_and, of_or, differs_false, differs_place, number_true, each_listed, HasWrite, each_has, HasValue, SheetFits}
+use Rattle.clif_paths.proofs.Checked.{first_of_and, second_of_and, of_or, differs_false, differs_place, each_listed, each_has, HasValue, SheetFits}
 use Rattle.clif_paths.proofs.Moving.{SheetSound, allowed_moves}
 
 -- Nothing pending -------------------------------------------------------------------------------------------------
@@ -27,13 +25,13 @@ same_number : (a b : ℕ) → a ≡ b → (a == b) ≡ true
 same_number a b e = grind (arith, nat_tests)
 
 settled_at :
-  (blocks : Blocks) (values : List ℕ) (v : ℕ) → each_settled blocks values ≡ true → HasValue values v → blocks.function.resolve v ≡ v →
-  is_settled (blocks.function.definition v).kind ≡ true
+    (blocks : Blocks) (values : List ℕ) (v : ℕ) → each_settled blocks values ≡ true → HasValue values v → blocks.function.resolve v ≡ v →
+    is_settled (blocks.function.definition v).kind ≡ true
 unfolding each_settled
 settled_at blocks [] v e has root = absurd has
 settled_at blocks (w ∷ values) v e (inl at) root =
     settled_by (of_or (differs (blocks.function.resolve w == w)) (is_settled (blocks.function.definition w).kind)
-      (first_of_and (differs (blocks.function.resolve w == w) || is_settled (blocks.function.definition w).kind) (each_settled blocks values) e))
+    (first_of_and (differs (blocks.function.resolve w == w) || is_settled (blocks.function.definition w).kind) (each_settled blocks values) e))
   where
     settled_by : (differs (blocks.function.resolve w == w) ≡ true) ⊎ (is_settled (blocks.function.definition w).kind ≡ true) → is_settled (blocks.function.definition v).kind ≡ true
     settled_by (inl aliased) =
@@ -47,9 +45,9 @@ settled_at blocks (w ∷ values) v e (inr has) root =
     has root
 
 nothing_by :
-  (sheet : Sheet) → SheetFits sheet → each_settled sheet.blocks sheet.values ≡ true → (u x : ℕ) →
-  HasValue sheet.values (sheet.blocks.function.resolve u) ⊎ ((sheet.blocks.function.definition (sheet.blocks.function.resolve u)).kind ≡ unborn) →
-  (sheet.blocks.function.definition (sheet.blocks.function.resolve u)).kind ≢ pending x
+    (sheet : Sheet) → SheetFits sheet → each_settled sheet.blocks sheet.values ≡ true → (u x : ℕ) →
+    HasValue sheet.values (sheet.blocks.function.resolve u) ⊎ ((sheet.blocks.function.definition (sheet.blocks.function.resolve u)).kind ≡ unborn) →
+    (sheet.blocks.function.definition (sheet.blocks.function.resolve u)).kind ≢ pending x
 nothing_by sheet fits e u x (inl has) =
     settled_told (sheet.blocks.function.definition (sheet.blocks.function.resolve u)).kind
     (settled_at sheet.blocks sheet.values (sheet.blocks.function.resolve u) e has (fits.ends u)) x
@@ -57,7 +55,7 @@ nothing_by sheet fits e u x (inr none) = λ h. let clash : unborn ≡ pending x 
 
 nothing_pending : (sheet : Sheet) → SheetFits sheet → each_settled sheet.blocks sheet.values ≡ true → NothingPending sheet.blocks.function
 nothing_pending sheet fits e = record {
-  none = λ u x. nothing_by sheet fits e u x (fits.values (sheet.blocks.function.resolve u))
+  none = λ u x. nothing_by sheet fits e u x (fits.values (sheet.blocks.function.resolve u));
 }
 
 -- Given before ----------------------------------------------------------------------------------------------------
@@ -75,11 +73,11 @@ each_in test (q ∷ places) p each here = in_by (of_or (same_place p q) (in_plac
 record Surrounds (edges : Edges) (home : Place) (places : List Place) : Type 0 where
   pub begins : in_places places start ≡ true
   pub leaves :
-    (arm : Arm) → edges arm ≡ true → in_places places arm.source ≡ true → (arm.target ≡ home) ⊎ (in_places places arm.target ≡ true)
+      (arm : Arm) → edges arm ≡ true → in_places places arm.source ≡ true → (arm.target ≡ home) ⊎ (in_places places arm.target ≡ true)
 
 outside_by :
-  {edges : Edges} {home : Place} (places : List Place) → Surrounds edges home places → (arm : Arm) (path : Path) → Follows edges (arm ∷ path) →
-  (in_places places (end_of path) ≡ true) ⊎ Visits home path → (in_places places arm.target ≡ true) ⊎ Visits home (arm ∷ path)
+    {edges : Edges} {home : Place} (places : List Place) → Surrounds edges home places → (arm : Arm) (path : Path) → Follows edges (arm ∷ path) →
+    (in_places places (end_of path) ≡ true) ⊎ Visits home path → (in_places places arm.target ≡ true) ⊎ Visits home (arm ∷ path)
 outside_by {edges} {home} places surrounds arm path f (inr visits) = inr (inr visits)
 outside_by {edges} {home} places surrounds arm path f (inl in_list) =
     left_by (surrounds.leaves arm f.0 (ap (λ p. in_places places p) f.1 ∙ in_list))
@@ -89,8 +87,8 @@ outside_by {edges} {home} places surrounds arm path f (inl in_list) =
     left_by (inr still) = inl still
 
 outside :
-  {edges : Edges} {home : Place} (places : List Place) → Surrounds edges home places → (path : Path) → Follows edges path →
-  (in_places places (end_of path) ≡ true) ⊎ Visits home path
+    {edges : Edges} {home : Place} (places : List Place) → Surrounds edges home places → (path : Path) → Follows edges path →
+    (in_places places (end_of path) ≡ true) ⊎ Visits home path
 outside places surrounds [] f = inl surrounds.begins
 outside places surrounds (arm ∷ path) f = outside_by places surrounds arm path f (outside places surrounds path f.2)
 
@@ -100,10 +98,10 @@ before_target home place other (arm ∷ path) at_end (inl e) = absurd (other (e 
 before_target home place other (arm ∷ path) at_end (inr visits) = visits
 
 surrounded_before :
-  {edges : Edges} {home : Place} (places : List Place) (place : Place) → Surrounds edges home places → in_places places place ≡ false → home ≢ place →
-  StrictlyBefore edges home place
+    {edges : Edges} {home : Place} (places : List Place) (place : Place) → Surrounds edges home places → in_places places place ≡ false → home ≢ place →
+    StrictlyBefore edges home place
 surrounded_before {edges} {home} places place surrounds out other = record {
-  on_every_path = λ path f at_end. before_target home place other path at_end (visited path at_end (outside places surrounds path f))
+  on_every_path = λ path f at_end. before_target home place other path at_end (visited path at_end (outside places surrounds path f));
 }
   where
     visited : (path : Path) → end_of path ≡ place → (in_places places (end_of path) ≡ true) ⊎ Visits home path → Visits home path
@@ -111,9 +109,9 @@ surrounded_before {edges} {home} places place surrounds out other = record {
     visited path at_end (inr visits) = visits
 
 leaves_by :
-  (sheet : Sheet) (home : Place) (places : List Place) → SheetFits sheet → holds_all_before sheet home places ≡ true →
-  (arm : Arm) (p : Place) → arm.target ≡ p → arm_into sheet.blocks.count sheet.blocks.sealed sheet.blocks.joins arm p ≡ true →
-  in_places places arm.source ≡ true → (p ≡ home) ⊎ (in_places places p ≡ true)
+    (sheet : Sheet) (home : Place) (places : List Place) → SheetFits sheet → holds_all_before sheet home places ≡ true →
+    (arm : Arm) (p : Place) → arm.target ≡ p → arm_into sheet.blocks.count sheet.blocks.sealed sheet.blocks.joins arm p ≡ true →
+    in_places places arm.source ≡ true → (p ≡ home) ⊎ (in_places places p ≡ true)
 unfolding holds_all_before next_within
 leaves_by sheet home places fits e arm start at known in_list = absurd cc
 leaves_by sheet home places fits e arm (inside b zero) at known in_list =
@@ -121,18 +119,21 @@ leaves_by sheet home places fits e arm (inside b zero) at known in_list =
   where
     test : Arm → Bool
     test a = differs (in_places places a.source) || (same_place a.target home || in_places places a.target)
+
     passed : (differs (in_places places arm.source) || (same_place arm.target home || in_places places arm.target)) ≡ true
     passed =
         each_listed (λ a. differs (in_places places a.source) || (same_place a.target home || in_places places a.target)) sheet.arms arm
         (second_of_and (each_place (next_within sheet.blocks home places) places)
-          (each_arm (λ a. differs (in_places places a.source) || (same_place a.target home || in_places places a.target)) sheet.arms)
-          (second_of_and (in_places places start)
-            (each_place (next_within sheet.blocks home places) places &&
-              each_arm (λ a. differs (in_places places a.source) || (same_place a.target home || in_places places a.target)) sheet.arms) e))
+        (each_arm (λ a. differs (in_places places a.source) || (same_place a.target home || in_places places a.target)) sheet.arms)
+        (second_of_and (in_places places start)
+        (each_place (next_within sheet.blocks home places) places &&
+        each_arm (λ a. differs (in_places places a.source) || (same_place a.target home || in_places places a.target)) sheet.arms) e))
         (fits.arms arm (second_of_and (sheet.blocks.sealed b) (sheet.blocks.joins arm) known))
+
     in_target : (same_place arm.target home ≡ true) ⊎ (in_places places arm.target ≡ true) → (inside b 0 ≡ home) ⊎ (in_places places (inside b 0) ≡ true)
     in_target (inl same) = inl (sym at ∙ same_place-true arm.target home same)
     in_target (inr here) = inr (ap (λ p. in_places places p) (sym at) ∙ here)
+
     joined : (differs (in_places places arm.source) ≡ true) ⊎ ((same_place arm.target home || in_places places arm.target) ≡ true) → (inside b 0 ≡ home) ⊎ (in_places places (inside b 0) ≡ true)
     joined (inl other) = let out = differs_false (in_places places arm.source) other in absurd cc
     joined (inr either) = in_target (of_or (same_place arm.target home) (in_places places arm.target) either)
@@ -141,58 +142,62 @@ leaves_by sheet home places fits e arm (inside b (suc k)) at known in_list =
   where
     written : nat_lt k (sheet.blocks.count b) ≡ true
     written = first_of_and (nat_lt k (sheet.blocks.count b)) (same_place arm.source (inside b k) && (arm.edge == 0)) known
+
     source : arm.source ≡ inside b k
     source =
         same_place-true arm.source (inside b k)
         (first_of_and (same_place arm.source (inside b k)) (arm.edge == 0)
-          (second_of_and (nat_lt k (sheet.blocks.count b)) (same_place arm.source (inside b k) && (arm.edge == 0)) known))
+        (second_of_and (nat_lt k (sheet.blocks.count b)) (same_place arm.source (inside b k) && (arm.edge == 0)) known))
+
     passed : (differs (nat_lt k (sheet.blocks.count b)) || (same_place (inside b (suc k)) home || in_places places (inside b (suc k)))) ≡ true
     passed =
         each_in (next_within sheet.blocks home places) places (inside b k)
         (first_of_and (each_place (next_within sheet.blocks home places) places)
-          (each_arm (λ a. differs (in_places places a.source) || (same_place a.target home || in_places places a.target)) sheet.arms)
-          (second_of_and (in_places places start)
-            (each_place (next_within sheet.blocks home places) places &&
-              each_arm (λ a. differs (in_places places a.source) || (same_place a.target home || in_places places a.target)) sheet.arms) e))
+        (each_arm (λ a. differs (in_places places a.source) || (same_place a.target home || in_places places a.target)) sheet.arms)
+        (second_of_and (in_places places start)
+        (each_place (next_within sheet.blocks home places) places &&
+        each_arm (λ a. differs (in_places places a.source) || (same_place a.target home || in_places places a.target)) sheet.arms) e))
         (ap (λ p. in_places places p) (sym source) ∙ in_list)
+
     in_next : (same_place (inside b (suc k)) home ≡ true) ⊎ (in_places places (inside b (suc k)) ≡ true) → (inside b (suc k) ≡ home) ⊎ (in_places places (inside b (suc k)) ≡ true)
     in_next (inl same) = inl (same_place-true (inside b (suc k)) home same)
     in_next (inr here) = inr here
+
     next : (differs (nat_lt k (sheet.blocks.count b)) ≡ true) ⊎ ((same_place (inside b (suc k)) home || in_places places (inside b (suc k))) ≡ true) → (inside b (suc k) ≡ home) ⊎ (in_places places (inside b (suc k)) ≡ true)
     next (inl unwritten) = let out = differs_false (nat_lt k (sheet.blocks.count b)) unwritten in absurd cc
     next (inr either) = in_next (of_or (same_place (inside b (suc k)) home) (in_places places (inside b (suc k))) either)
 
 surrounds_told :
-  (sheet : Sheet) (home : Place) (places : List Place) → SheetFits sheet → holds_all_before sheet home places ≡ true →
-  Surrounds (state_of sheet.blocks).program.arms home places
+    (sheet : Sheet) (home : Place) (places : List Place) → SheetFits sheet → holds_all_before sheet home places ≡ true →
+    Surrounds (state_of sheet.blocks).program.arms home places
 unfolding holds_all_before
 surrounds_told sheet home places fits e = record {
   begins =
-    first_of_and (in_places places start)
-    (each_place (next_within sheet.blocks home places) places &&
+      first_of_and (in_places places start)
+      (each_place (next_within sheet.blocks home places) places &&
       each_arm (λ a. differs (in_places places a.source) || (same_place a.target home || in_places places a.target)) sheet.arms) e;
-  leaves = λ arm known in_list. leaves_by sheet home places fits e arm arm.target refl known in_list
+  leaves = λ arm known in_list. leaves_by sheet home places fits e arm arm.target refl known in_list;
 }
 
 shown_told :
-  (sheet : Sheet) → SheetFits sheet → (witnesses : List Witness) (write : Write) → shown_by sheet witnesses write ≡ true →
-  StrictlyBefore (state_of sheet.blocks).program.arms (sheet.blocks.naming write.name).home write.place
+    (sheet : Sheet) → SheetFits sheet → (witnesses : List Witness) (write : Write) → shown_by sheet witnesses write ≡ true →
+    StrictlyBefore (state_of sheet.blocks).program.arms (sheet.blocks.naming write.name).home write.place
 unfolding shown_by
 shown_told sheet fits [] write e = absurd cc
 shown_told sheet fits (w ∷ witnesses) write e =
     let home : Place = (sheet.blocks.naming write.name).home in
     let here : Bool =
-        (w.name == write.name) &&
-        (holds_all_before sheet home w.before && (differs (in_places w.before write.place) && differs (same_place home write.place))) in
+    (w.name == write.name) &&
+    (holds_all_before sheet home w.before && (differs (in_places w.before write.place) && differs (same_place home write.place))) in
     by_first (of_or here (shown_by sheet witnesses write) e) (shown_told sheet fits witnesses write)
   where
     by_first :
-      (((w.name == write.name) &&
+        (((w.name == write.name) &&
         (holds_all_before sheet (sheet.blocks.naming write.name).home w.before &&
-          (differs (in_places w.before write.place) && differs (same_place (sheet.blocks.naming write.name).home write.place)))) ≡ true) ⊎
-      (shown_by sheet witnesses write ≡ true) →
-      (shown_by sheet witnesses write ≡ true → StrictlyBefore (state_of sheet.blocks).program.arms (sheet.blocks.naming write.name).home write.place) →
-      StrictlyBefore (state_of sheet.blocks).program.arms (sheet.blocks.naming write.name).home write.place
+        (differs (in_places w.before write.place) && differs (same_place (sheet.blocks.naming write.name).home write.place)))) ≡ true) ⊎
+        (shown_by sheet witnesses write ≡ true) →
+        (shown_by sheet witnesses write ≡ true → StrictlyBefore (state_of sheet.blocks).program.arms (sheet.blocks.naming write.name).home write.place) →
+        StrictlyBefore (state_of sheet.blocks).program.arms (sheet.blocks.naming write.name).home write.place
     by_first (inl shown) rest =
         let home : Place = (sheet.blocks.naming write.name).home in
         let apart : Bool = differs (in_places w.before write.place) && differs (same_place home write.place) in
@@ -205,12 +210,12 @@ shown_told sheet fits (w ∷ witnesses) write e =
     by_first (inr later) rest = rest later
 
 pub assigns_given :
-  (sheet : Sheet) (witnesses : List Witness) → SheetFits sheet → each_write (shown_by sheet witnesses) sheet.writes ≡ true →
-  AssignsGiven (state_of sheet.blocks).program
+    (sheet : Sheet) (witnesses : List Witness) → SheetFits sheet → each_write (shown_by sheet witnesses) sheet.writes ≡ true →
+    AssignsGiven (state_of sheet.blocks).program
 assigns_given sheet witnesses fits e = record {
   given_before = λ place x n assigned.
-    shown_told sheet fits witnesses (record { place = place; name = n })
-    (each_has (shown_by sheet witnesses) sheet.writes (record { place = place; name = n }) e (fits.writes place x n assigned))
+      shown_told sheet fits witnesses (record { place = place; name = n })
+      (each_has (shown_by sheet witnesses) sheet.writes (record { place = place; name = n }) e (fits.writes place x n assigned));
 }
 
 finished_correct : (sheet : Sheet) (witnesses : List Witness) → SheetSound sheet → is_finished sheet witnesses ≡ true → IsCorrect (state_of sheet.blocks)
@@ -218,18 +223,18 @@ unfolding is_finished
 finished_correct sheet witnesses sound e =
     correct (state_of sheet.blocks) sound.tables.sound
     (nothing_pending sheet sound.fits
-      (first_of_and (each_settled sheet.blocks sheet.values) (each_write (shown_by sheet witnesses) sheet.writes) e))
+    (first_of_and (each_settled sheet.blocks sheet.values) (each_write (shown_by sheet witnesses) sheet.writes) e))
     (assigns_given sheet witnesses sound.fits
-      (second_of_and (each_settled sheet.blocks sheet.values) (each_write (shown_by sheet witnesses) sheet.writes) e))
+    (second_of_and (each_settled sheet.blocks sheet.values) (each_write (shown_by sheet witnesses) sheet.writes) e))
 
 -- moves whose tests pass, and which are finished, are correct
 pub finished_moves :
-  (moves : List Move) (witnesses : List Witness) → allows_all blank moves ≡ true → is_finished (after_all blank moves) witnesses ≡ true →
-  IsCorrect (state_of (after_all blank moves).blocks)
+    (moves : List Move) (witnesses : List Witness) → allows_all blank moves ≡ true → is_finished (after_all blank moves) witnesses ≡ true →
+    IsCorrect (state_of (after_all blank moves).blocks)
 finished_moves moves witnesses allowed finished = finished_correct (after_all blank moves) witnesses (allowed_moves moves allowed) finished
 
 -- and where only the assignments are given before, the known arms are allowed edges
 pub given_moves :
-  (moves : List Move) (witnesses : List Witness) → allows_all blank moves ≡ true → each_write (shown_by (after_all blank moves) witnesses) (after_all blank moves).writes ≡ true →
-  AssignsGiven (state_of (after_all blank moves).blocks).program
+    (moves : List Move) (witnesses : List Witness) → allows_all blank moves ≡ true → each_write (shown_by (after_all blank moves) witnesses) (after_all blank moves).writes ≡ true →
+    AssignsGiven (state_of (after_all blank moves).blocks).program
 given_moves moves witnesses allowed e = assigns_given (after_all blank moves) witnesses (allowed_moves moves allowed).fits e

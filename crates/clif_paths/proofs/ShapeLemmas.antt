@@ -1,5 +1,5 @@
 -- Lists of parameters and arguments.
-use Rattle.std.proofs.Common.{◌≡◌, ◌≢◌, ℕ, zero, suc, ◌+◌, ◌-◌, ◌<◌, ◌≤◌, Bool, true, false, Option, None, Some, List, [], ◌∷◌, ◌++◌, length, ◌⊎◌, inl, inr, refl, sym, ◌∙◌, ap, subst, arith, append_assoc, length-append}
+use Rattle.std.proofs.Common.{◌≡◌, ◌≢◌, ℕ, suc, ◌+◌, ◌-◌, ◌≤◌, List, [], ◌∷◌, ◌++◌, length, ◌⊎◌, inl, inr, refl, sym, ◌∙◌, ap, arith}
 use Rattle.std.specs.Prelude.{remove}
 use Rattle.std.proofs.lemmas.List.Edits.{remove-append_right}
 use Rattle.clif_paths.specs.Shape.{Types, Parameter, values_of, HasParameter, Apart, GivesEach, SameTypes}
@@ -37,8 +37,8 @@ apart_more (r ∷ ps) p apart other =
     apart_by q (inr (inr none)) = absurd none
 
 pub gives_more :
-  (types : Types) (ps : List Parameter) (as' : List ℕ) (p : Parameter) (a : ℕ) → GivesEach types ps as' →
-  types.of_value a ≡ types.of_variable p.variable → GivesEach types (ps ++ (p ∷ [])) (as' ++ (a ∷ []))
+    (types : Types) (ps : List Parameter) (as' : List ℕ) (p : Parameter) (a : ℕ) → GivesEach types ps as' →
+    types.of_value a ≡ types.of_variable p.variable → GivesEach types (ps ++ (p ∷ [])) (as' ++ (a ∷ []))
 gives_more types [] [] p a each typed = (typed, tt)
 gives_more types [] (b ∷ bs) p a each typed = absurd each
 gives_more types (q ∷ ps) [] p a each typed = absurd each
@@ -50,8 +50,8 @@ gives_none types [] each = refl
 gives_none types (a ∷ given) each = absurd each
 
 pub gives_types :
-  (types : Types) (ps : List Parameter) (as' : List ℕ) → GivesEach types ps as' →
-  ((p : Parameter) → HasParameter ps p → types.of_value p.value ≡ types.of_variable p.variable) → SameTypes types as' (values_of ps)
+    (types : Types) (ps : List Parameter) (as' : List ℕ) → GivesEach types ps as' →
+    ((p : Parameter) → HasParameter ps p → types.of_value p.value ≡ types.of_variable p.variable) → SameTypes types as' (values_of ps)
 gives_types types [] [] each typed = tt
 gives_types types [] (a ∷ as') each typed = absurd each
 gives_types types (p ∷ ps) [] each typed = absurd each
@@ -59,7 +59,7 @@ gives_types types (p ∷ ps) (a ∷ as') each typed =
     (each.0 ∙ sym (typed p (inl refl)), gives_types types ps as' each.1 (λ q has. typed q (inr has)))
 
 pub types_append :
-  (types : Types) (vs ws vs' ws' : List ℕ) → SameTypes types vs ws → SameTypes types vs' ws' → SameTypes types (vs ++ vs') (ws ++ ws')
+    (types : Types) (vs ws vs' ws' : List ℕ) → SameTypes types vs ws → SameTypes types vs' ws' → SameTypes types (vs ++ vs') (ws ++ ws')
 types_append types [] [] vs' ws' same more = more
 types_append types [] (w ∷ ws) vs' ws' same more = absurd same
 types_append types (v ∷ vs) [] vs' ws' same more = absurd same
@@ -76,4 +76,4 @@ remove_behind xs ys zs v n e =
     let none : n - length xs - length ys ≡ 0 = omega arith in
     remove-append_right xs (ys ++ (v ∷ zs)) (length xs) n refl le ∙
     ap (λ t. xs ++ t) (remove-append_right ys (v ∷ zs) (length ys) (n - length xs) refl le' ∙
-      ap (λ t. ys ++ t) (remove_head v zs (n - length xs - length ys) none))
+    ap (λ t. ys ++ t) (remove_head v zs (n - length xs - length ys) none))

@@ -1,9 +1,9 @@
 -- The tables of blocks as a builder keeps them, and the state of places that they stand for.
 -- Source: own; the tables are those of Braun et al. 2013 (a current definition for each variable and block, sealed
 -- blocks, pending parameters).
-use Rattle.std.specs.Prelude.{◌≡◌, ◌≢◌, ℕ, zero, suc, ◌+◌, ◌<◌, Bool, true, false, cond, ◌==◌, ◌&&◌, nat_lt, Option, None, Some, List, [], ◌∷◌, ◌⊎◌}
+use Rattle.std.specs.Prelude.{◌≡◌, ◌≢◌, ℕ, zero, suc, ◌<◌, Bool, true, false, cond, ◌==◌, ◌&&◌, nat_lt, Option, None, Some, List, [], ◌∷◌, ◌⊎◌}
 use Rattle.clif_paths.specs.Places.{Place, start, inside, Arm, Edges, same_place}
-use Rattle.clif_paths.specs.State.{fresh, reads, Naming, born, pending, complete, zero_of, Kind, Definition, Function, Program, State, home_of}
+use Rattle.clif_paths.specs.State.{fresh, reads, Naming, born, pending, complete, zero_of, Kind, Function, State, home_of}
 use Rattle.clif_paths.specs.Steps.{updated, updated_at, aliased, IsNewName}
 
 -- Tables by block. Arms between blocks leave the last place of the one and lead to the front of the other; inside a
@@ -59,11 +59,11 @@ state_of blocks = record {
     is_sealed = λ place. sealed_at blocks.count blocks.sealed place;
     arms = λ arm. arm_into blocks.count blocks.sealed blocks.joins arm arm.target;
     assigned = blocks.assigned;
-    naming = blocks.naming
+    naming = blocks.naming;
   };
   function = blocks.function;
   recorded = λ place x. recorded_at blocks.count blocks.recorded place x;
-  answer = blocks.answer
+  answer = blocks.answer;
 }
 
 -- the first tables
@@ -77,17 +77,17 @@ no_blocks = record {
   function = record {
     definition = λ v. record { home = start; kind = Kind.unborn };
     argument = λ v arm. 0;
-    resolve = λ v. v
+    resolve = λ v. v;
   };
   recorded = λ block x. None;
-  answer = λ n. 0
+  answer = λ n. 0;
 }
 
 -- SEAL a block: these are the arms into its front.
 abbrev pub with_block_sealed : Blocks → ℕ → Edges → Blocks
 with_block_sealed blocks block into = record blocks {
   sealed = updated blocks.sealed block true;
-  joins = λ arm. cond (same_place arm.target (front block)) (into arm) (blocks.joins arm)
+  joins = λ arm. cond (same_place arm.target (front block)) (into arm) (blocks.joins arm);
 }
 
 -- GO ON to the next place of a block: an item is written, and the block's records hold there.
@@ -103,16 +103,16 @@ abbrev pub with_born : Blocks → Place → ℕ → ℕ → Blocks
 with_born blocks place n v = record blocks {
   naming = updated blocks.naming n (record { home = place; origin = fresh });
   function = record blocks.function {
-    definition = updated blocks.function.definition v (record { home = place; kind = born n })
+    definition = updated blocks.function.definition v (record { home = place; kind = born n });
   };
-  answer = updated blocks.answer n v
+  answer = updated blocks.answer n v;
 }
 
 -- USE a variable at a block's last place: the record answers.
 abbrev pub with_read : Blocks → ℕ → ℕ → ℕ → ℕ → Blocks
 with_read blocks block n x v = record blocks {
   naming = updated blocks.naming n (record { home = last_place blocks block; origin = reads x });
-  answer = updated blocks.answer n v
+  answer = updated blocks.answer n v;
 }
 
 pub record CanRead (blocks : Blocks) (block n x v : ℕ) : Type 0 where
@@ -123,14 +123,14 @@ pub record CanRead (blocks : Blocks) (block n x v : ℕ) : Type 0 where
 -- records with one changed
 abbrev pub with_record : Blocks → ℕ → ℕ → ℕ → Blocks
 with_record blocks block x v = record blocks {
-  recorded = updated blocks.recorded block (updated (blocks.recorded block) x (Some v))
+  recorded = updated blocks.recorded block (updated (blocks.recorded block) x (Some v));
 }
 
 -- ASSIGN a name to a variable at a block's last place: the name's answer is recorded.
 abbrev pub with_write : Blocks → ℕ → ℕ → ℕ → Blocks
 with_write blocks block x n =
     record (with_record blocks block x (blocks.answer n)) {
-      assigned = updated_at blocks.assigned (last_place blocks block) (updated (blocks.assigned (last_place blocks block)) x (Some n))
+      assigned = updated_at blocks.assigned (last_place blocks block) (updated (blocks.assigned (last_place blocks block)) x (Some n));
     }
 
 pub record CanWrite (blocks : Blocks) (block x n : ℕ) : Type 0 where
@@ -155,7 +155,7 @@ pub record CanCopy (blocks : Blocks) (block x v : ℕ) : Type 0 where
   pub is_sealed : blocks.sealed block ≡ true
   pub assigns_not : AssignsNot blocks block x
   pub along :
-    (arm : Arm) → blocks.joins arm ≡ true → arm.target ≡ front block → Carries blocks arm x (blocks.function.resolve v)
+      (arm : Arm) → blocks.joins arm ≡ true → arm.target ≡ front block → Carries blocks arm x (blocks.function.resolve v)
 
 -- COPY along a chain of blocks, each of which is sealed, doesn't assign the variable, and is joined from the block
 -- before alone.
@@ -177,8 +177,8 @@ abbrev pub with_parameter : Blocks → ℕ → ℕ → ℕ → Blocks
 with_parameter blocks block x v =
     record (with_record blocks block x v) {
       function = record blocks.function {
-        definition = updated blocks.function.definition v (record { home = front block; kind = pending x })
-      }
+        definition = updated blocks.function.definition v (record { home = front block; kind = pending x });
+      };
     }
 
 pub record CanAddParameter (blocks : Blocks) (block x v : ℕ) : Type 0 where
@@ -196,33 +196,33 @@ abbrev pub with_filled : Blocks → ℕ → (Arm → ℕ) → Blocks
 with_filled blocks v given = record blocks {
   function = record blocks.function {
     definition = updated blocks.function.definition v (record { home = (blocks.function.definition v).home; kind = complete });
-    argument = updated blocks.function.argument v given
-  }
+    argument = updated blocks.function.argument v given;
+  };
 }
 
 pub record CanFillIn (blocks : Blocks) (block x v : ℕ) (given : Arm → ℕ) : Type 0 where
   pub waits : WaitsIn blocks block x v
   pub along :
-    (arm : Arm) → blocks.joins arm ≡ true → arm.target ≡ front block → Carries blocks arm x (blocks.function.resolve (given arm))
+      (arm : Arm) → blocks.joins arm ≡ true → arm.target ≡ front block → Carries blocks arm x (blocks.function.resolve (given arm))
 
 -- DROP: the parameter becomes an alias of the one other value that comes to it.
 abbrev pub with_dropped : Blocks → ℕ → ℕ → Blocks
 with_dropped blocks v target = record blocks {
-  function = record blocks.function { resolve = aliased blocks.function.resolve v target }
+  function = record blocks.function { resolve = aliased blocks.function.resolve v target };
 }
 
 pub record CanDropIn (blocks : Blocks) (block x v target : ℕ) : Type 0 where
   pub waits : WaitsIn blocks block x v
   pub no_alias : blocks.function.resolve target ≡ target
   pub along :
-    (arm : Arm) → blocks.joins arm ≡ true → arm.target ≡ front block → Carries blocks arm x target ⊎ Carries blocks arm x v
+      (arm : Arm) → blocks.joins arm ≡ true → arm.target ≡ front block → Carries blocks arm x target ⊎ Carries blocks arm x v
 
 -- ZERO: a variable's zero is put at a block's front.
 abbrev pub with_zero_in : Blocks → ℕ → ℕ → ℕ → Blocks
 with_zero_in blocks block x z = record blocks {
   function = record blocks.function {
-    definition = updated blocks.function.definition z (record { home = front block; kind = zero_of x })
-  }
+    definition = updated blocks.function.definition z (record { home = front block; kind = zero_of x });
+  };
 }
 
 -- UNDEFINED: nothing comes to the parameter but itself, and it becomes an alias of a zero at its front.
@@ -231,7 +231,7 @@ pub record CanUndefineIn (blocks : Blocks) (block x v z : ℕ) : Type 0 where
   pub no_alias : blocks.function.resolve z ≡ z
   pub is_zero : blocks.function.definition z ≡ record { home = front block; kind = zero_of x }
   pub along :
-    (arm : Arm) → blocks.joins arm ≡ true → arm.target ≡ front block → (arm.source ≡ start) ⊎ Carries blocks arm x v
+      (arm : Arm) → blocks.joins arm ≡ true → arm.target ≡ front block → (arm.source ≡ start) ⊎ Carries blocks arm x v
 
 -- RESTATE: tables that say the same of all that a path can see. Values that are aliases may be defined in any way, and
 -- arguments on arms that aren't known may be anything; so may arms into blocks that aren't sealed.
@@ -243,20 +243,20 @@ pub record SaysTheSame (blocks blocks' : Blocks) : Type 0 where
   pub naming : (n : ℕ) → blocks'.naming n ≡ blocks.naming n
   pub resolve : (v : ℕ) → blocks'.function.resolve v ≡ blocks.function.resolve v
   pub definition :
-    (u : ℕ) → blocks'.function.definition (blocks.function.resolve u) ≡ blocks.function.definition (blocks.function.resolve u)
+      (u : ℕ) → blocks'.function.definition (blocks.function.resolve u) ≡ blocks.function.definition (blocks.function.resolve u)
   pub argument :
-    (u b : ℕ) (arm : Arm) → (blocks.function.definition (blocks.function.resolve u)).kind ≡ complete →
-    home_of blocks.function u ≡ front b → arm.target ≡ front b → blocks.sealed b ≡ true → blocks.joins arm ≡ true →
-    blocks.function.resolve (blocks'.function.argument (blocks.function.resolve u) arm) ≡
-    blocks.function.resolve (blocks.function.argument (blocks.function.resolve u) arm)
+      (u b : ℕ) (arm : Arm) → (blocks.function.definition (blocks.function.resolve u)).kind ≡ complete →
+      home_of blocks.function u ≡ front b → arm.target ≡ front b → blocks.sealed b ≡ true → blocks.joins arm ≡ true →
+      blocks.function.resolve (blocks'.function.argument (blocks.function.resolve u) arm) ≡
+      blocks.function.resolve (blocks.function.argument (blocks.function.resolve u) arm)
   pub recorded : (b x : ℕ) → blocks'.recorded b x ≡ blocks.recorded b x
   pub answer : (n : ℕ) → blocks'.answer n ≡ blocks.answer n
 
 -- complete parameters stand at fronts of sealed blocks
 pub record CompleteAtFronts (blocks : Blocks) : Type 0 where
   pub at_front :
-    (u : ℕ) → (blocks.function.definition (blocks.function.resolve u)).kind ≡ complete →
-    (b : ℕ) × (home_of blocks.function u ≡ front b) × (blocks.sealed b ≡ true)
+      (u : ℕ) → (blocks.function.definition (blocks.function.resolve u)).kind ≡ complete →
+      (b : ℕ) × (home_of blocks.function u ≡ front b) × (blocks.sealed b ≡ true)
 
 -- ALIASES as links. A table of links resolves as `resolve` does where an unlinked value is its own end, a linked one
 -- has the end of what it links to, and an end is unlinked.

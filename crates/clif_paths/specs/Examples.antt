@@ -1,10 +1,10 @@
 -- Worked examples: lists of moves whose tests all pass by computation.
 -- Source: own; the situations are those that Braun et al. 2013 discuss (late sealing, trivial parameters, irreducible
 -- control flow, undefined variables).
-use Rattle.std.specs.Prelude.{◌≡◌, ℕ, suc, Bool, true, false, cond, List, [], ◌∷◌}
-use Rattle.clif_paths.specs.Places.{Place, start, inside, same_place, Arm, Path}
-use Rattle.clif_paths.specs.State.{Program, pending, complete, zero_of}
-use Rattle.clif_paths.specs.Denotation.{Instance, given, zero, variable, name, instances, denotation}
+use Rattle.std.specs.Prelude.{◌≡◌, ℕ, suc, cond, List, [], ◌∷◌}
+use Rattle.clif_paths.specs.Places.{start, inside, same_place, Arm, Path}
+use Rattle.clif_paths.specs.State.{Program, complete, zero_of}
+use Rattle.clif_paths.specs.Denotation.{given, name, instances, denotation}
 use Rattle.clif_paths.specs.Laws.{IsCorrect}
 use Rattle.clif_paths.specs.Blocks.{Blocks, front, state_of}
 use Rattle.clif_paths.specs.Moves.{blank, Move, seal_with, go_on, give_name, read_variable, write_variable, copy_record, add_parameter, fill_parameter, drop_parameter, add_zero, undefine_parameter, after_all, Witness}
@@ -63,7 +63,7 @@ pub record LoopSealedLate : Type 0 where
   pub completed : (loop_blocks.function.definition (loop_blocks.function.resolve (loop_blocks.answer 1))).kind ≡ complete
   pub program_side : instances (state_of loop_blocks).program second_round (name 1) ≡ given 2 first_round
   pub function_side :
-    (any : Program) → denotation any loop_blocks.function second_round (loop_blocks.answer 1) ≡ given 2 first_round
+      (any : Program) → denotation any loop_blocks.function second_round (loop_blocks.answer 1) ≡ given 2 first_round
 
 -- DIAMOND. Block 0 assigns name 0 and branches to blocks 1 and 2, which both jump to block 3. There the variable is
 -- read before the block is sealed; at sealing one value alone comes, and the parameter is dropped.
@@ -121,7 +121,7 @@ irreducible_witnesses =
     record {
       name = 2;
       before =
-        start ∷ inside 0 0 ∷ inside 0 1 ∷ inside 0 2 ∷ inside 0 3 ∷ inside 1 0 ∷ inside 1 1 ∷ inside 2 0 ∷ inside 2 1 ∷ inside 2 2 ∷ []
+          start ∷ inside 0 0 ∷ inside 0 1 ∷ inside 0 2 ∷ inside 0 3 ∷ inside 1 0 ∷ inside 1 1 ∷ inside 2 0 ∷ inside 2 1 ∷ inside 2 2 ∷ [];
     } ∷
     []
 
@@ -136,7 +136,7 @@ pub record IrreducibleLoop : Type 0 where
   pub correct : IsCorrect (state_of irreducible_blocks)
   pub program_side : instances (state_of irreducible_blocks).program round_again (name 3) ≡ given 2 through_both
   pub function_side :
-    (any : Program) → denotation any irreducible_blocks.function round_again (irreducible_blocks.answer 3) ≡ given 2 through_both
+      (any : Program) → denotation any irreducible_blocks.function round_again (irreducible_blocks.answer 3) ≡ given 2 through_both
 
 -- UNREACHABLE. Blocks 1 and 2 jump to one another and nothing else leads to them; both read the variable, which is
 -- assigned nowhere. Their parameters end as aliases of one zero, value 2.

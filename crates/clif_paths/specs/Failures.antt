@@ -1,10 +1,10 @@
 -- Laws of failure: four sound tables, each with a wrong change that makes them unsound.
 -- Source: own.
-use Rattle.std.specs.Prelude.{◌≡◌, ℕ, List, [], ◌∷◌, ◌++◌}
+use Rattle.std.specs.Prelude.{List, [], ◌∷◌, ◌++◌}
 use Rattle.clif_paths.specs.Places.{start, inside}
 use Rattle.clif_paths.specs.Blocks.{Blocks, with_record, with_write, with_dropped}
 use Rattle.clif_paths.specs.BlockLaws.{BlocksSound}
-use Rattle.clif_paths.specs.Moves.{blank, Move, seal_with, go_on, give_name, read_variable, write_variable, copy_record, add_parameter, add_zero, after_all, Witness}
+use Rattle.clif_paths.specs.Moves.{blank, Move, seal_with, go_on, give_name, write_variable, copy_record, add_parameter, add_zero, after_all, Witness}
 use Rattle.clif_paths.specs.Examples.{entry, jump}
 
 -- the tables are sound, and after the change they aren't
@@ -39,7 +39,7 @@ two_witnesses =
     record {
       name = 1;
       before =
-        start ∷ inside 0 0 ∷ inside 0 1 ∷ inside 0 2 ∷ inside 0 3 ∷ inside 1 0 ∷ inside 2 0 ∷ inside 2 1 ∷ inside 3 0 ∷ []
+          start ∷ inside 0 0 ∷ inside 0 1 ∷ inside 0 2 ∷ inside 0 3 ∷ inside 1 0 ∷ inside 2 0 ∷ inside 2 1 ∷ inside 3 0 ∷ [];
     } ∷
     []
 

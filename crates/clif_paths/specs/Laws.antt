@@ -1,11 +1,11 @@
 -- What is proved of the steps, each statement named by the contract of a public function.
 -- Source: own; the last one is what Braun et al. 2013 prove of their construction, said along paths.
-use Rattle.std.specs.Prelude.{◌≡◌, ◌≢◌, ℕ, Bool, true, false, Option, None, Some, [], ◌∷◌}
+use Rattle.std.specs.Prelude.{◌≡◌, ◌≢◌, ℕ, true, false, Option, None, Some, ◌∷◌}
 use Rattle.clif_paths.specs.Places.{Place, start, Arm, Edges, Path, Follows, end_of, Dominates, StrictlyBefore}
 use Rattle.clif_paths.specs.State.{fresh, reads, Program, born, pending, complete, zero_of, Definition, Function, State, home_of}
-use Rattle.clif_paths.specs.Denotation.{Instance, zero, given, unknown, Holder, variable, name, entering, instances, denotes, denotation}
+use Rattle.clif_paths.specs.Denotation.{Instance, zero, given, unknown, variable, name, entering, instances, denotes, denotation}
 use Rattle.clif_paths.specs.Sound.{Allowed, ArgumentsThere, Holds, Sound}
-use Rattle.clif_paths.specs.Steps.{initial, with_sealed, CanSeal, with_records, CanRecord, with_pending, CanWait, with_arguments, CanFill, with_alias, CanDrop, with_zero, CanPutZero, CanUndefine, with_given, CanGive, with_use, CanUse, with_assigned, CanAssign, with_tables, CanRestate, Step, Steps}
+use Rattle.clif_paths.specs.Steps.{initial, with_sealed, CanSeal, with_records, CanRecord, with_pending, CanWait, with_arguments, CanFill, with_alias, CanDrop, with_zero, CanPutZero, CanUndefine, with_given, CanGive, with_use, CanUse, with_assigned, CanAssign, with_tables, CanRestate, Steps}
 
 -- what is read of a path changes only as the path arrives at the place
 pub record ChangesOnlyAt (place : Place) (f : Path → Instance) : Type 0 where
@@ -15,8 +15,8 @@ pub record ChangesOnlyAt (place : Place) (f : Path → Instance) : Type 0 where
 -- the place dominates that end
 pub record AgreeAtVisits (edges : Edges) (place : Place) (f f' : Path → Instance) : Type 0 where
   pub at_visit :
-    (arm : Arm) (path : Path) → Follows edges (arm ∷ path) → place ≡ arm.target →
-    (Dominates edges place (end_of path) → f path ≡ f' path) → f (arm ∷ path) ≡ f' (arm ∷ path)
+      (arm : Arm) (path : Path) → Follows edges (arm ∷ path) → place ≡ arm.target →
+      (Dominates edges place (end_of path) → f path ≡ f' path) → f (arm ∷ path) ≡ f' (arm ∷ path)
 
 -- The engine. Let f change only at h and f' only at g, and let g dominate h: if they agree at each visit of h,
 -- they agree wherever h dominates.
@@ -43,18 +43,18 @@ pub record ProgramSteps (program : Program) (arm : Arm) (path : Path) : Type 0 w
   pub known_place : program.is_sealed arm.target ≡ true → (x : ℕ) → entered program arm path x ≡ instances program path (variable x)
   pub unknown_place : program.is_sealed arm.target ≡ false → (x : ℕ) → entered program arm path x ≡ unknown x (arm ∷ path)
   pub unassigned :
-    (x : ℕ) → program.assigned arm.target x ≡ None → instances program (arm ∷ path) (variable x) ≡ entered program arm path x
+      (x : ℕ) → program.assigned arm.target x ≡ None → instances program (arm ∷ path) (variable x) ≡ entered program arm path x
   pub assigned :
-    (x n : ℕ) → program.assigned arm.target x ≡ Some n →
-    instances program (arm ∷ path) (variable x) ≡ instances program path (name n)
+      (x n : ℕ) → program.assigned arm.target x ≡ Some n →
+      instances program (arm ∷ path) (variable x) ≡ instances program path (name n)
   pub elsewhere :
-    (n : ℕ) → (program.naming n).home ≢ arm.target → instances program (arm ∷ path) (name n) ≡ instances program path (name n)
+      (n : ℕ) → (program.naming n).home ≢ arm.target → instances program (arm ∷ path) (name n) ≡ instances program path (name n)
   pub given_here :
-    (n : ℕ) → program.naming n ≡ record { home = arm.target; origin = fresh } →
-    instances program (arm ∷ path) (name n) ≡ given n (arm ∷ path)
+      (n : ℕ) → program.naming n ≡ record { home = arm.target; origin = fresh } →
+      instances program (arm ∷ path) (name n) ≡ given n (arm ∷ path)
   pub read_here :
-    (n x : ℕ) → program.naming n ≡ record { home = arm.target; origin = reads x } →
-    instances program (arm ∷ path) (name n) ≡ entered program arm path x
+      (n x : ℕ) → program.naming n ≡ record { home = arm.target; origin = reads x } →
+      instances program (arm ∷ path) (name n) ≡ entered program arm path x
 
 abbrev pub ProgramIsExecuted : Type 0
 ProgramIsExecuted = (program : Program) (arm : Arm) (path : Path) → ProgramSteps program arm path
@@ -62,20 +62,20 @@ ProgramIsExecuted = (program : Program) (arm : Arm) (path : Path) → ProgramSte
 -- the function's side, after one arm more
 pub record FunctionSteps (program : Program) (function : Function) (arm : Arm) (path : Path) : Type 0 where
   pub elsewhere :
-    (v : ℕ) → (function.definition v).home ≢ arm.target →
-    denotes program function (arm ∷ path) v ≡ denotes program function path v
+      (v : ℕ) → (function.definition v).home ≢ arm.target →
+      denotes program function (arm ∷ path) v ≡ denotes program function path v
   pub born_here :
-    (v n : ℕ) → function.definition v ≡ record { home = arm.target; kind = born n } →
-    denotes program function (arm ∷ path) v ≡ given n (arm ∷ path)
+      (v n : ℕ) → function.definition v ≡ record { home = arm.target; kind = born n } →
+      denotes program function (arm ∷ path) v ≡ given n (arm ∷ path)
   pub zero_here :
-    (v x : ℕ) → function.definition v ≡ record { home = arm.target; kind = zero_of x } →
-    denotes program function (arm ∷ path) v ≡ zero x
+      (v x : ℕ) → function.definition v ≡ record { home = arm.target; kind = zero_of x } →
+      denotes program function (arm ∷ path) v ≡ zero x
   pub pending_here :
-    (v x : ℕ) → function.definition v ≡ record { home = arm.target; kind = pending x } →
-    denotes program function (arm ∷ path) v ≡ entered program arm path x
+      (v x : ℕ) → function.definition v ≡ record { home = arm.target; kind = pending x } →
+      denotes program function (arm ∷ path) v ≡ entered program arm path x
   pub complete_here :
-    (v : ℕ) → function.definition v ≡ record { home = arm.target; kind = complete } →
-    denotes program function (arm ∷ path) v ≡ denotation program function path (function.argument v arm)
+      (v : ℕ) → function.definition v ≡ record { home = arm.target; kind = complete } →
+      denotes program function (arm ∷ path) v ≡ denotation program function path (function.argument v arm)
 
 abbrev pub FunctionIsExecuted : Type 0
 FunctionIsExecuted =
@@ -146,8 +146,8 @@ pub record NothingPending (function : Function) : Type 0 where
 -- A name that is assigned somewhere is given before that place, on every path along the known arms.
 pub record AssignsGiven (program : Program) : Type 0 where
   pub given_before :
-    (place : Place) (x n : ℕ) → program.assigned place x ≡ Some n →
-    StrictlyBefore program.arms (program.naming n).home place
+      (place : Place) (x n : ℕ) → program.assigned place x ≡ Some n →
+      StrictlyBefore program.arms (program.naming n).home place
 
 -- the program as if all its places were sealed: a plain program, in which no variable is ever unknown
 abbrev pub all_sealed : Program → Program
@@ -164,17 +164,17 @@ FunctionStandsAlone =
 pub record StandsFor (program : Program) (function : Function) (v n : ℕ) (place : Place) : Type 0 where
   pub there : Dominates program.arms (home_of function v) place
   pub denotes_name :
-    (any : Program) (path : Path) → Follows program.arms path → end_of path ≡ place →
-    denotation any function path v ≡ instances (all_sealed program) path (name n)
+      (any : Program) (path : Path) → Follows program.arms path → end_of path ≡ place →
+      denotation any function path v ≡ instances (all_sealed program) path (name n)
 
 -- The conclusion. After any steps, where every edge is a known arm and no parameter waits, each name's answer
 -- stands for the name wherever the name's home dominates; and each parameter's argument is there where its arm
 -- leaves.
 pub record IsCorrect (s : State) : Type 0 where
   pub answers :
-    (n : ℕ) → (s.program.naming n).home ≢ start →
-    (place : Place) → Dominates s.program.arms (s.program.naming n).home place →
-    StandsFor s.program s.function (s.answer n) n place
+      (n : ℕ) → (s.program.naming n).home ≢ start →
+      (place : Place) → Dominates s.program.arms (s.program.naming n).home place →
+      StandsFor s.program s.function (s.answer n) n place
   pub arguments : ArgumentsThere s.program.arms s.function
 
 abbrev pub ConstructionIsCorrect : Type 0

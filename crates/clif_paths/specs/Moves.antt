@@ -1,9 +1,9 @@
 -- Construction as a list of moves on finite sheets, each with a test that computes. A list whose tests all pass is a
 -- worked example: what its tables denote is then known by the laws.
 -- Source: own; the moves are the operations of Braun et al. 2013 on blocks.
-use Rattle.std.specs.Prelude.{◌≡◌, ℕ, suc, Bool, true, false, cond, ◌==◌, ◌&&◌, ◌||◌, nat_lt, Option, None, Some, List, [], ◌∷◌, ◌++◌}
+use Rattle.std.specs.Prelude.{ℕ, suc, Bool, true, false, ◌==◌, ◌&&◌, ◌||◌, nat_lt, Option, None, Some, List, [], ◌∷◌, ◌++◌}
 use Rattle.clif_paths.specs.Places.{Place, start, inside, same_place, Arm, Edges}
-use Rattle.clif_paths.specs.State.{Kind, unborn, born, pending, complete, zero_of, Definition, Naming}
+use Rattle.clif_paths.specs.State.{Kind, pending, zero_of}
 use Rattle.clif_paths.specs.Blocks.{Blocks, no_blocks, front, last_place, with_block_sealed, with_item, with_born, with_read, with_record, with_write, with_parameter, with_filled, with_dropped, with_zero_in}
 
 -- an assignment that was made
@@ -131,11 +131,11 @@ allows sheet (read_variable block n x v) =
 allows sheet (write_variable block x n) =
     is_none_at (sheet.blocks.assigned (last_place sheet.blocks block) x) &&
     (differs (same_place (sheet.blocks.naming n).home start) &&
-      each_arm (λ arm. differs (same_place arm.source (last_place sheet.blocks block))) sheet.arms)
+    each_arm (λ arm. differs (same_place arm.source (last_place sheet.blocks block))) sheet.arms)
 allows sheet (copy_record block x v) =
     sheet.blocks.sealed block &&
     (assigns_not sheet.blocks block x &&
-      each_into sheet block (λ arm. carries_from sheet.blocks arm.source x (sheet.blocks.function.resolve v)))
+    each_into sheet block (λ arm. carries_from sheet.blocks arm.source x (sheet.blocks.function.resolve v)))
 allows sheet (add_parameter block x v) = assigns_not sheet.blocks block x && is_new_value sheet v
 allows sheet (fill_parameter block x v given) =
     waits_in sheet block x v &&
@@ -143,14 +143,14 @@ allows sheet (fill_parameter block x v given) =
 allows sheet (drop_parameter block x v target) =
     waits_in sheet block x v &&
     ((sheet.blocks.function.resolve target == target) &&
-      each_into sheet block (λ arm. carries_from sheet.blocks arm.source x target || carries_from sheet.blocks arm.source x v))
+    each_into sheet block (λ arm. carries_from sheet.blocks arm.source x target || carries_from sheet.blocks arm.source x v))
 allows sheet (add_zero block x z) = is_new_value sheet z
 allows sheet (undefine_parameter block x v z) =
     waits_in sheet block x v &&
     ((sheet.blocks.function.resolve z == z) &&
-      (same_place (sheet.blocks.function.definition z).home (front block) &&
-        (is_zero (sheet.blocks.function.definition z).kind x &&
-          each_into sheet block (λ arm. same_place arm.source start || carries_from sheet.blocks arm.source x v))))
+    (same_place (sheet.blocks.function.definition z).home (front block) &&
+    (is_zero (sheet.blocks.function.definition z).kind x &&
+    each_into sheet block (λ arm. same_place arm.source start || carries_from sheet.blocks arm.source x v))))
 
 -- the sheet after a move
 unfoldable pub after : Sheet → Move → Sheet
@@ -163,7 +163,7 @@ after sheet (read_variable block n x v) = record sheet { blocks = with_read shee
 after sheet (write_variable block x n) =
     record sheet {
       blocks = with_write sheet.blocks block x n;
-      writes = record { place = last_place sheet.blocks block; name = n } ∷ sheet.writes
+      writes = record { place = last_place sheet.blocks block; name = n } ∷ sheet.writes;
     }
 after sheet (copy_record block x v) = record sheet { blocks = with_record sheet.blocks block x v }
 after sheet (add_parameter block x v) =
@@ -206,7 +206,7 @@ unfoldable pub holds_all_before : Sheet → Place → List Place → Bool
 holds_all_before sheet home places =
     in_places places start &&
     (each_place (next_within sheet.blocks home places) places &&
-      each_arm (λ arm. differs (in_places places arm.source) || (same_place arm.target home || in_places places arm.target)) sheet.arms)
+    each_arm (λ arm. differs (in_places places arm.source) || (same_place arm.target home || in_places places arm.target)) sheet.arms)
 
 -- a write, with the places that are reached without a visit of the written name's home
 pub record Witness : Type 0 where
@@ -218,8 +218,8 @@ unfoldable pub shown_by : Sheet → List Witness → Write → Bool
 shown_by sheet [] write = false
 shown_by sheet (witness ∷ witnesses) write =
     ((witness.name == write.name) &&
-      (holds_all_before sheet (sheet.blocks.naming write.name).home witness.before &&
-        (differs (in_places witness.before write.place) && differs (same_place (sheet.blocks.naming write.name).home write.place)))) ||
+    (holds_all_before sheet (sheet.blocks.naming write.name).home witness.before &&
+    (differs (in_places witness.before write.place) && differs (same_place (sheet.blocks.naming write.name).home write.place)))) ||
     shown_by sheet witnesses write
 
 -- FINISHED --------------------------------------------------------------------------------------------------------

@@ -1,7 +1,7 @@
 -- The structure of blocks under construction: parameters, edges, records and look-ups, over all blocks, reached or not.
 -- Source: own, after upstream's documentation: the caller's parameters are appended while a block is empty, edges are
 -- given arguments for variables at their ends.
-use Rattle.std.specs.Prelude.{◌≡◌, ◌≢◌, ℕ, suc, ◌+◌, ◌≤◌, Bool, true, false, cond, ◌==◌, Option, None, Some, List, [], ◌∷◌, ◌++◌, length, ◌⊎◌, remove}
+use Rattle.std.specs.Prelude.{◌≡◌, ◌≢◌, ℕ, suc, ◌+◌, ◌≤◌, Bool, true, false, ◌==◌, Option, None, Some, List, [], ◌∷◌, ◌++◌, length, ◌⊎◌, remove}
 use Rattle.clif_paths.specs.Steps.{updated}
 
 -- the types of values and variables, as numbers
@@ -114,9 +114,9 @@ no_shape = record {
     parameters = [];
     recorded = λ x. None;
     touched = λ x. false;
-    lookups = λ x. 0
+    lookups = λ x. 0;
   };
-  edge = λ e. record { target = None; caller_arguments = []; arguments = [] }
+  edge = λ e. record { target = None; caller_arguments = []; arguments = [] };
 }
 
 -- the shape with one block changed
@@ -132,14 +132,14 @@ abbrev pub waiting_added : BlockShape → ℕ → ℕ → BlockShape
 waiting_added b x v = record b {
   waiting = b.waiting ++ (record { variable = x; value = v; begun = false } ∷ []);
   parameters = b.parameters ++ (v ∷ []);
-  recorded = updated b.recorded x (Some v)
+  recorded = updated b.recorded x (Some v);
 }
 
 -- the look-up for the first parameter that waits begins
 abbrev pub lookup_begun : BlockShape → Parameter → List Parameter → BlockShape
 lookup_begun b p rest = record b {
   waiting = record p { begun = true } ∷ rest;
-  lookups = updated b.lookups p.variable (suc (b.lookups p.variable))
+  lookups = updated b.lookups p.variable (suc (b.lookups p.variable));
 }
 
 -- the first parameter that waits is complete
@@ -150,7 +150,7 @@ first_completed b p rest = record b { completed = b.completed ++ (p ∷ []); wai
 abbrev pub first_dropped : BlockShape → List Parameter → BlockShape
 first_dropped b rest = record b {
   waiting = rest;
-  parameters = remove b.parameters (length b.callers + length b.completed)
+  parameters = remove b.parameters (length b.callers + length b.completed);
 }
 
 -- a variable is recorded as this value
@@ -183,53 +183,53 @@ arguments_appended edge b given e =
 pub data ShapeStep (types : Types) : Shape → Shape → Type 0 where
   -- an edge of a new branch, with the caller's arguments, into a block that is not sealed
   new_edge :
-    {shape : Shape} (e b : ℕ) (arguments : List ℕ) → (shape.block b).sealed ≡ false →
-    ShapeStep types shape (record shape {
-      edge = updated shape.edge e (record { target = Some b; caller_arguments = arguments; arguments = arguments })
-    })
+      {shape : Shape} (e b : ℕ) (arguments : List ℕ) → (shape.block b).sealed ≡ false →
+      ShapeStep types shape (record shape {
+        edge = updated shape.edge e (record { target = Some b; caller_arguments = arguments; arguments = arguments });
+      })
   -- an edge is led to another block; neither is sealed
   retarget :
-    {shape : Shape} (e b c : ℕ) → (shape.edge e).target ≡ Some b → (shape.block b).sealed ≡ false → (shape.block c).sealed ≡ false →
-    ShapeStep types shape (record shape { edge = updated shape.edge e (record (shape.edge e) { target = Some c }) })
+      {shape : Shape} (e b c : ℕ) → (shape.edge e).target ≡ Some b → (shape.block b).sealed ≡ false → (shape.block c).sealed ≡ false →
+      ShapeStep types shape (record shape { edge = updated shape.edge e (record (shape.edge e) { target = Some c }) })
   -- predecessors are declared or removed while the block is not sealed
   declare :
-    {shape : Shape} (b : ℕ) (predecessors : List ℕ) → (shape.block b).sealed ≡ false →
-    ShapeStep types shape (with_block shape b (record (shape.block b) { predecessors = predecessors }))
+      {shape : Shape} (b : ℕ) (predecessors : List ℕ) → (shape.block b).sealed ≡ false →
+      ShapeStep types shape (with_block shape b (record (shape.block b) { predecessors = predecessors }))
   seal_shape : {shape : Shape} (b : ℕ) → ShapeStep types shape (with_block shape b (record (shape.block b) { sealed = true }))
   -- a caller's parameter, while the block has no other
   add_caller :
-    {shape : Shape} (b v : ℕ) → (shape.block b).completed ≡ [] → (shape.block b).waiting ≡ [] →
-    ShapeStep types shape (with_block shape b (caller_added (shape.block b) v))
+      {shape : Shape} (b v : ℕ) → (shape.block b).completed ≡ [] → (shape.block b).waiting ≡ [] →
+      ShapeStep types shape (with_block shape b (caller_added (shape.block b) v))
   -- a parameter for a variable that has no record
   add_waiting :
-    {shape : Shape} (b x v : ℕ) → (shape.block b).recorded x ≡ None → types.of_value v ≡ types.of_variable x →
-    ShapeStep types shape (with_block shape b (waiting_added (shape.block b) x v))
+      {shape : Shape} (b x v : ℕ) → (shape.block b).recorded x ≡ None → types.of_value v ≡ types.of_variable x →
+      ShapeStep types shape (with_block shape b (waiting_added (shape.block b) x v))
   -- the look-up for the first parameter that waits
   begin_lookup :
-    {shape : Shape} (b : ℕ) (p : Parameter) (rest : List Parameter) → (shape.block b).waiting ≡ p ∷ rest → p.begun ≡ false →
-    ShapeStep types shape (with_block shape b (lookup_begun (shape.block b) p rest))
+      {shape : Shape} (b : ℕ) (p : Parameter) (rest : List Parameter) → (shape.block b).waiting ≡ p ∷ rest → p.begun ≡ false →
+      ShapeStep types shape (with_block shape b (lookup_begun (shape.block b) p rest))
   -- it ends with two values at least: each edge gets its argument
   complete_first :
-    {shape : Shape} (b : ℕ) (p : Parameter) (rest : List Parameter) (given : ℕ → ℕ) → (shape.block b).waiting ≡ p ∷ rest →
-    (shape.block b).sealed ≡ true → 2 ≤ length (shape.block b).predecessors →
-    ((e : ℕ) → (shape.edge e).target ≡ Some b → types.of_value (given e) ≡ types.of_variable p.variable) →
-    ShapeStep types shape (record {
-      block = updated shape.block b (first_completed (shape.block b) p rest);
-      edge = arguments_appended shape.edge b given
-    })
+      {shape : Shape} (b : ℕ) (p : Parameter) (rest : List Parameter) (given : ℕ → ℕ) → (shape.block b).waiting ≡ p ∷ rest →
+      (shape.block b).sealed ≡ true → 2 ≤ length (shape.block b).predecessors →
+      ((e : ℕ) → (shape.edge e).target ≡ Some b → types.of_value (given e) ≡ types.of_variable p.variable) →
+      ShapeStep types shape (record {
+        block = updated shape.block b (first_completed (shape.block b) p rest);
+        edge = arguments_appended shape.edge b given;
+      })
   -- it ends with one value or none: the parameter is removed
   drop_first :
-    {shape : Shape} (b : ℕ) (p : Parameter) (rest : List Parameter) → (shape.block b).waiting ≡ p ∷ rest →
-    ShapeStep types shape (with_block shape b (first_dropped (shape.block b) rest))
+      {shape : Shape} (b : ℕ) (p : Parameter) (rest : List Parameter) → (shape.block b).waiting ≡ p ∷ rest →
+      ShapeStep types shape (with_block shape b (first_dropped (shape.block b) rest))
   record_value :
-    {shape : Shape} (b x v : ℕ) → types.of_value v ≡ types.of_variable x →
-    ShapeStep types shape (with_block shape b (value_recorded (shape.block b) x v))
+      {shape : Shape} (b x v : ℕ) → types.of_value v ≡ types.of_variable x →
+      ShapeStep types shape (with_block shape b (value_recorded (shape.block b) x v))
   use_recorded :
-    {shape : Shape} (b x : ℕ) → (shape.block b).recorded x ≢ None →
-    ShapeStep types shape (with_block shape b (variable_used (shape.block b) x))
+      {shape : Shape} (b x : ℕ) → (shape.block b).recorded x ≢ None →
+      ShapeStep types shape (with_block shape b (variable_used (shape.block b) x))
   assign_value :
-    {shape : Shape} (b x v : ℕ) → types.of_value v ≡ types.of_variable x →
-    ShapeStep types shape (with_block shape b (variable_assigned (shape.block b) x v))
+      {shape : Shape} (b x v : ℕ) → types.of_value v ≡ types.of_variable x →
+      ShapeStep types shape (with_block shape b (variable_assigned (shape.block b) x v))
 
 -- Any number of steps, the first at the left.
 pub data ShapeSteps (types : Types) : Shape → Shape → Type 0 where

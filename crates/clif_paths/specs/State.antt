@@ -1,6 +1,6 @@
 -- A variable program and a function under construction, as tables. Variables, names and values are numbers.
 -- Source: own, after the data that Braun et al. 2013 keep (sealed blocks, incomplete parameters, current definitions).
-use Rattle.std.specs.Prelude.{◌≡◌, ℕ, Bool, Option}
+use Rattle.std.specs.Prelude.{ℕ, Bool, Option}
 use Rattle.clif_paths.specs.Places.{Place, Arm, Edges}
 
 -- What gives a name its value: it is born at its place (an instruction's result, a caller's parameter), or it

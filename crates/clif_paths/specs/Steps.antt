@@ -1,9 +1,9 @@
 -- The steps by which a state grows: each with what it needs and what it makes.
 -- Source: the operations of Braun et al. 2013 (sealing a block, reading and writing variables, adding operands,
 -- removing trivial parameters), cut into single changes of the tables; the cut is our own.
-use Rattle.std.specs.Prelude.{◌≡◌, ◌≢◌, ℕ, Bool, true, false, cond, ◌==◌, Option, None, Some, ◌⊎◌}
+use Rattle.std.specs.Prelude.{◌≡◌, ◌≢◌, ℕ, true, false, cond, ◌==◌, Option, None, Some, ◌⊎◌}
 use Rattle.clif_paths.specs.Places.{Place, start, Arm, Edges, same_place}
-use Rattle.clif_paths.specs.State.{fresh, reads, Naming, Program, unborn, born, pending, complete, zero_of, Definition, Function, State, home_of}
+use Rattle.clif_paths.specs.State.{fresh, reads, unborn, born, pending, complete, zero_of, Definition, State, home_of}
 
 -- a table of numbers with one entry changed
 unfoldable pub updated : {A : Type 0} → (ℕ → A) → ℕ → A → ℕ → A
@@ -24,15 +24,15 @@ initial = record {
     is_sealed = λ place. false;
     arms = λ arm. false;
     assigned = λ place x. None;
-    naming = λ n. record { home = start; origin = fresh }
+    naming = λ n. record { home = start; origin = fresh };
   };
   function = record {
     definition = λ v. record { home = start; kind = unborn };
     argument = λ v arm. 0;
-    resolve = λ v. v
+    resolve = λ v. v;
   };
   recorded = λ place x. None;
-  answer = λ n. 0
+  answer = λ n. 0;
 }
 
 -- SEAL. The arms into a place become known: these, and no others.
@@ -40,8 +40,8 @@ abbrev pub with_sealed : State → Place → Edges → State
 with_sealed s place into = record s {
   program = record s.program {
     is_sealed = updated_at s.program.is_sealed place true;
-    arms = λ arm. cond (same_place arm.target place) (into arm) (s.program.arms arm)
-  }
+    arms = λ arm. cond (same_place arm.target place) (into arm) (s.program.arms arm);
+  };
 }
 
 pub record CanSeal (s : State) (place : Place) : Type 0 where
@@ -58,20 +58,20 @@ pub record Comes (s : State) (place : Place) (x v : ℕ) : Type 0 where
   pub is_sealed : s.program.is_sealed place ≡ true
   pub unassigned : s.program.assigned place x ≡ None
   pub along :
-    (arm : Arm) → s.program.arms arm ≡ true → arm.target ≡ place →
-    (w : ℕ) × (s.recorded arm.source x ≡ Some w) × (s.function.resolve w ≡ s.function.resolve v)
+      (arm : Arm) → s.program.arms arm ≡ true → arm.target ≡ place →
+      (w : ℕ) × (s.recorded arm.source x ≡ Some w) × (s.function.resolve w ≡ s.function.resolve v)
 
 pub record CanRecord (s : State) (records : Place → ℕ → Option ℕ) : Type 0 where
   pub each :
-    (place : Place) (x v : ℕ) → records place x ≡ Some v → (s.recorded place x ≡ Some v) ⊎ Comes s place x v
+      (place : Place) (x v : ℕ) → records place x ≡ Some v → (s.recorded place x ≡ Some v) ⊎ Comes s place x v
 
 -- WAIT. A parameter for a variable is added to a place; it has no arguments yet.
 abbrev pub with_pending : State → Place → ℕ → ℕ → State
 with_pending s place x v = record s {
   function = record s.function {
-    definition = updated s.function.definition v (record { home = place; kind = pending x })
+    definition = updated s.function.definition v (record { home = place; kind = pending x });
   };
-  recorded = updated_at s.recorded place (updated (s.recorded place) x (Some v))
+  recorded = updated_at s.recorded place (updated (s.recorded place) x (Some v));
 }
 
 pub record CanWait (s : State) (place : Place) (x v : ℕ) : Type 0 where
@@ -96,35 +96,35 @@ abbrev pub with_arguments : State → ℕ → (Arm → ℕ) → State
 with_arguments s v given = record s {
   function = record s.function {
     definition = updated s.function.definition v (record { home = (s.function.definition v).home; kind = complete });
-    argument = updated s.function.argument v given
-  }
+    argument = updated s.function.argument v given;
+  };
 }
 
 pub record CanFill (s : State) (x v : ℕ) (given : Arm → ℕ) : Type 0 where
   pub waits : Waits s x v
   pub along :
-    (arm : Arm) → s.program.arms arm ≡ true → arm.target ≡ (s.function.definition v).home →
-    Incoming s arm x (s.function.resolve (given arm))
+      (arm : Arm) → s.program.arms arm ≡ true → arm.target ≡ (s.function.definition v).home →
+      Incoming s arm x (s.function.resolve (given arm))
 
 -- DROP. A waiting parameter to which nothing comes but one other value, or itself, becomes an alias of that value.
 abbrev pub with_alias : State → ℕ → ℕ → State
 with_alias s v target = record s {
-  function = record s.function { resolve = aliased s.function.resolve v target }
+  function = record s.function { resolve = aliased s.function.resolve v target };
 }
 
 pub record CanDrop (s : State) (x v target : ℕ) : Type 0 where
   pub waits : Waits s x v
   pub no_alias : s.function.resolve target ≡ target
   pub along :
-    (arm : Arm) → s.program.arms arm ≡ true → arm.target ≡ (s.function.definition v).home →
-    Incoming s arm x target ⊎ Incoming s arm x v
+      (arm : Arm) → s.program.arms arm ≡ true → arm.target ≡ (s.function.definition v).home →
+      Incoming s arm x target ⊎ Incoming s arm x v
 
 -- ZERO. The zero of a variable is put into a place.
 abbrev pub with_zero : State → Place → ℕ → ℕ → State
 with_zero s place x z = record s {
   function = record s.function {
-    definition = updated s.function.definition z (record { home = place; kind = zero_of x })
-  }
+    definition = updated s.function.definition z (record { home = place; kind = zero_of x });
+  };
 }
 
 pub record CanPutZero (s : State) (place : Place) (z : ℕ) : Type 0 where
@@ -139,8 +139,8 @@ pub record CanUndefine (s : State) (x v z : ℕ) : Type 0 where
   pub is_zero : (s.function.definition z).kind ≡ zero_of x
   pub same_home : (s.function.definition z).home ≡ (s.function.definition v).home
   pub along :
-    (arm : Arm) → s.program.arms arm ≡ true → arm.target ≡ (s.function.definition v).home →
-    (arm.source ≡ start) ⊎ Incoming s arm x v
+      (arm : Arm) → s.program.arms arm ≡ true → arm.target ≡ (s.function.definition v).home →
+      (arm.source ≡ start) ⊎ Incoming s arm x v
 
 -- a name that is given nowhere and assigned nowhere yet
 pub record IsNewName (s : State) (n : ℕ) : Type 0 where
@@ -152,10 +152,10 @@ abbrev pub with_given : State → Place → ℕ → ℕ → State
 with_given s place n v = record {
   program = record s.program { naming = updated s.program.naming n (record { home = place; origin = fresh }) };
   function = record s.function {
-    definition = updated s.function.definition v (record { home = place; kind = born n })
+    definition = updated s.function.definition v (record { home = place; kind = born n });
   };
   recorded = s.recorded;
-  answer = updated s.answer n v
+  answer = updated s.answer n v;
 }
 
 pub record CanGive (s : State) (place : Place) (n v : ℕ) : Type 0 where
@@ -168,7 +168,7 @@ pub record CanGive (s : State) (place : Place) (n v : ℕ) : Type 0 where
 abbrev pub with_use : State → Place → ℕ → ℕ → ℕ → State
 with_use s place n x v = record s {
   program = record s.program { naming = updated s.program.naming n (record { home = place; origin = reads x }) };
-  answer = updated s.answer n v
+  answer = updated s.answer n v;
 }
 
 pub record CanUse (s : State) (place : Place) (n x v : ℕ) : Type 0 where
@@ -182,9 +182,9 @@ pub record CanUse (s : State) (place : Place) (n x v : ℕ) : Type 0 where
 abbrev pub with_assigned : State → Place → ℕ → ℕ → State
 with_assigned s place x n = record s {
   program = record s.program {
-    assigned = updated_at s.program.assigned place (updated (s.program.assigned place) x (Some n))
+    assigned = updated_at s.program.assigned place (updated (s.program.assigned place) x (Some n));
   };
-  recorded = updated_at s.recorded place (updated (s.recorded place) x (Some (s.answer n)))
+  recorded = updated_at s.recorded place (updated (s.recorded place) x (Some (s.answer n)));
 }
 
 pub record CanAssign (s : State) (place : Place) (x n : ℕ) : Type 0 where
@@ -196,15 +196,15 @@ pub record CanAssign (s : State) (place : Place) (x n : ℕ) : Type 0 where
 -- complete parameter's on an arm into its home that may exist.
 abbrev pub with_tables : State → (ℕ → Definition) → (ℕ → Arm → ℕ) → State
 with_tables s definition argument = record s {
-  function = record { definition = definition; argument = argument; resolve = s.function.resolve }
+  function = record { definition = definition; argument = argument; resolve = s.function.resolve };
 }
 
 pub record CanRestate (s : State) (definition : ℕ → Definition) (argument : ℕ → Arm → ℕ) : Type 0 where
   pub seen : (u : ℕ) → definition (s.function.resolve u) ≡ s.function.definition (s.function.resolve u)
   pub arguments :
-    (u : ℕ) (arm : Arm) → (s.function.definition (s.function.resolve u)).kind ≡ complete → home_of s.function u ≡ arm.target →
-    (s.program.is_sealed arm.target ≡ true → s.program.arms arm ≡ true) →
-    s.function.resolve (argument (s.function.resolve u) arm) ≡ s.function.resolve (s.function.argument (s.function.resolve u) arm)
+      (u : ℕ) (arm : Arm) → (s.function.definition (s.function.resolve u)).kind ≡ complete → home_of s.function u ≡ arm.target →
+      (s.program.is_sealed arm.target ≡ true → s.program.arms arm ≡ true) →
+      s.function.resolve (argument (s.function.resolve u) arm) ≡ s.function.resolve (s.function.argument (s.function.resolve u) arm)
 
 -- One step of construction, with what it needs.
 pub data Step : State → State → Type 0 where

@@ -5,36 +5,30 @@ ghost use Rattle.clif_paths.specs.Laws.{AnswersHold, RecordsHold, FunctionStands
 /// While construction goes on, a name's answer holds the name wherever the name's home dominates.
 pub fn answers_hold()
     ensures { AnswersHold }
-{
-}
+{}
 
 /// The same in any sound state.
 pub fn sound_answers_hold()
     ensures { SoundAnswersHold }
-{
-}
+{}
 
 /// While construction goes on, each record holds its variable.
 pub fn records_hold()
     ensures { RecordsHold }
-{
-}
+{}
 
 /// Where no parameter waits, what a value denotes is read off the function alone.
 pub fn function_stands_alone()
     ensures { FunctionStandsAlone }
-{
-}
+{}
 
 /// After any steps, with every edge known and nothing pending, each name's answer is there and denotes what the name
 /// denotes, wherever the name's home dominates.
 pub fn construction_is_correct()
     ensures { ConstructionIsCorrect }
-{
-}
+{}
 
 /// The same in any sound state.
 pub fn sound_is_correct()
     ensures { SoundIsCorrect }
-{
-}
+{}

@@ -6,35 +6,29 @@ ghost use Rattle.clif_paths.specs.Examples.{LoopSealedLate, DiamondDropped, Irre
 /// Moves whose tests pass, each in its turn, make sound tables.
 pub fn allowed_moves_are_sound()
     ensures { AllowedMovesAreSound }
-{
-}
+{}
 
 /// Where nothing waits and assigned names are given before, they are correct.
 pub fn finished_moves_are_correct()
     ensures { FinishedMovesAreCorrect }
-{
-}
+{}
 
 /// A loop whose header is sealed last.
 pub fn loop_sealed_late()
     ensures { LoopSealedLate }
-{
-}
+{}
 
 /// A diamond whose parameter is dropped.
 pub fn diamond_dropped()
     ensures { DiamondDropped }
-{
-}
+{}
 
 /// A loop with two entries.
 pub fn irreducible_loop()
     ensures { IrreducibleLoop }
-{
-}
+{}
 
 /// A cycle that nothing reaches, whose parameters become aliases of one zero.
 pub fn unreachable_cycle()
     ensures { UnreachableCycle }
-{
-}
+{}
