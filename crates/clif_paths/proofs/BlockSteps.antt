@@ -6,12 +6,12 @@ use Rattle.clif_paths.specs.Places.{Place, start, inside, same_place, Arm, Edges
 use Rattle.clif_paths.specs.State.{pending, Definition, Program, Function, State}
 use Rattle.clif_paths.specs.Denotation.{variable}
 use Rattle.clif_paths.specs.Sound.{Allowed, Holds, Sound}
-use Rattle.clif_paths.specs.Steps.{updated, updated_at, with_sealed, Comes, CanRecord, with_pending, with_assigned, CanGive, Incoming, Waits}
-use Rattle.clif_paths.specs.Blocks.{Blocks, front, last_place, sealed_at, arm_into, recorded_at, state_of, no_blocks, with_block_sealed, with_item, CanAppend, with_born, with_read, CanRead, with_record, with_write, CanWrite, AssignsNot, Carries, CanCopy, IsChain, with_chain, with_parameter, CanAddParameter, WaitsIn, with_filled, CanFillIn, with_dropped, CanDropIn, with_zero_in, CanUndefineIn}
+use Rattle.clif_paths.specs.Steps.{updated, updated_at, only, with_sealed, CanSeal, Comes, CanRecord, with_pending, with_assigned, CanGive, Incoming, Waits}
+use Rattle.clif_paths.specs.Blocks.{Blocks, front, last_place, chosen_front, with_blocks_sealed, sealed_at, arm_into, recorded_at, state_of, no_blocks, with_block_sealed, with_item, CanAppend, with_born, with_read, CanRead, with_record, with_write, CanWrite, AssignsNot, Carries, CanCopy, IsChain, with_chain, with_parameter, CanAddParameter, WaitsIn, with_filled, CanFillIn, with_dropped, CanDropIn, with_zero_in, CanUndefineIn}
 use Rattle.clif_paths.specs.BlockLaws.{BlocksSound}
 use Rattle.clif_paths.proofs.Tables.{updated-same, updated-other, updated_at-same, record_new, record_other}
-use Rattle.clif_paths.proofs.PathLemmas.{same_place-true, same_place-equal}
-use Rattle.clif_paths.proofs.BlockTables.{inside-block, inside-step, recorded_at-last, recorded_at-some, block_record_cases, block_sealed, arm_on, item_written}
+use Rattle.clif_paths.proofs.PathLemmas.{same_place-true, same_place-equal, same_place-other, same_place-refl}
+use Rattle.clif_paths.proofs.BlockTables.{same_program, inside-block, inside-step, recorded_at-last, recorded_at-some, block_record_cases, block_sealed, arm_on, item_written}
 use Rattle.clif_paths.proofs.Refine.{rooted_allowed, holds_refined}
 use Rattle.clif_paths.proofs.Born.{refines_new, wait_keeps, zero_keeps, pending_holds}
 use Rattle.clif_paths.proofs.Fill.{fill_keeps}
@@ -54,11 +54,73 @@ first_sound = record {
 
 -- SEAL, GO ON -----------------------------------------------------------------------------------------------------
 
+-- one place that is not sealed may be
+can_seal_one : (s : State) (place : Place) → s.program.is_sealed place ≡ false → place ≢ start → CanSeal s (only place)
+can_seal_one s place unsealed written = record {
+  unsealed = λ p same. ap s.program.is_sealed (same_place-true p place same) ∙ unsealed;
+  written = same_place-other start place (λ e. written (sym e))
+}
+
 pub seal_block_keeps :
     (blocks : Blocks) (b : ℕ) (into : Edges) → blocks.sealed b ≡ false → BlocksSound blocks → BlocksSound (with_block_sealed blocks b into)
 seal_block_keeps blocks b into unsealed before = record {
   sound = subst (λ s. Sound s) (sym (block_sealed blocks b into))
-      (seal_keeps (state_of blocks) (front b) into (record { unsealed = unsealed; written = inside_written b 0 }) before.sound);
+      (seal_keeps (state_of blocks) (only (front b)) into (can_seal_one (state_of blocks) (front b) unsealed (inside_written b 0)) before.sound);
+}
+
+-- several blocks at once
+chosen_sealed :
+    (count : ℕ → ℕ) (sealed chosen : ℕ → Bool) (place : Place) →
+    sealed_at count (λ b. cond (chosen b) true (sealed b)) place ≡ cond (chosen_front chosen place) true (sealed_at count sealed place)
+chosen_sealed count sealed chosen start = refl
+chosen_sealed count sealed chosen (inside b zero) = refl
+chosen_sealed count sealed chosen (inside b (suc k)) = refl
+
+chosen_join :
+    (chosen sealed into joined : Bool) →
+    (cond chosen true sealed && cond chosen into joined) ≡ cond chosen into (sealed && joined)
+chosen_join true sealed into joined = refl
+chosen_join false sealed into joined = refl
+
+chosen_arm :
+    (count : ℕ → ℕ) (sealed : ℕ → Bool) (joins into : Edges) (chosen : ℕ → Bool) (arm : Arm) (p : Place) → arm.target ≡ p →
+    arm_into count (λ b. cond (chosen b) true (sealed b)) (λ a. cond (chosen_front chosen a.target) (into a) (joins a)) arm p ≡
+    cond (chosen_front chosen p) (into arm) (arm_into count sealed joins arm p)
+chosen_arm count sealed joins into chosen arm start at = refl
+chosen_arm count sealed joins into chosen arm (inside b zero) at =
+    ap (λ q. cond (chosen b) true (sealed b) && cond (chosen_front chosen q) (into arm) (joins arm)) at ∙
+    chosen_join (chosen b) (sealed b) (into arm) (joins arm)
+chosen_arm count sealed joins into chosen arm (inside b (suc k)) at = refl
+
+blocks_sealed :
+    (blocks : Blocks) (chosen : ℕ → Bool) (into : Edges) →
+    state_of (with_blocks_sealed blocks chosen into) ≡ with_sealed (state_of blocks) (chosen_front chosen) into
+blocks_sealed blocks chosen into =
+    ap (λ (program : Program). record {
+        program = program;
+        function = blocks.function;
+        recorded = λ place x. recorded_at blocks.count blocks.recorded place x;
+        answer = blocks.answer
+      })
+    (same_program (state_of (with_blocks_sealed blocks chosen into)).program (with_sealed (state_of blocks) (chosen_front chosen) into).program
+      (λ place. chosen_sealed blocks.count blocks.sealed chosen place)
+      (λ arm. chosen_arm blocks.count blocks.sealed blocks.joins into chosen arm arm.target refl)
+      refl refl)
+
+unsealed_front :
+    (blocks : Blocks) (chosen : ℕ → Bool) → ((b : ℕ) → chosen b ≡ true → blocks.sealed b ≡ false) → (p : Place) → chosen_front chosen p ≡ true →
+    sealed_at blocks.count blocks.sealed p ≡ false
+unsealed_front blocks chosen unsealed start e = refl
+unsealed_front blocks chosen unsealed (inside b zero) e = unsealed b e
+unsealed_front blocks chosen unsealed (inside b (suc k)) e = absurd cc
+
+pub seal_blocks_keeps :
+    (blocks : Blocks) (chosen : ℕ → Bool) (into : Edges) → ((b : ℕ) → chosen b ≡ true → blocks.sealed b ≡ false) → BlocksSound blocks →
+    BlocksSound (with_blocks_sealed blocks chosen into)
+seal_blocks_keeps blocks chosen into unsealed before = record {
+  sound = subst (λ s. Sound s) (sym (blocks_sealed blocks chosen into))
+    (seal_keeps (state_of blocks) (chosen_front chosen) into
+      (record { unsealed = unsealed_front blocks chosen unsealed; written = refl }) before.sound)
 }
 
 true_of_and : (b c : Bool) → (b && c) ≡ true → b ≡ true
@@ -71,7 +133,7 @@ second_of_and false c e = absurd cc
 
 next_source :
     (blocks : Blocks) (b : ℕ) (arm : Arm) →
-    (with_sealed (state_of blocks) (inside b (suc (blocks.count b))) (arm_on blocks b)).program.arms arm ≡ true →
+    (with_sealed (state_of blocks) (only (inside b (suc (blocks.count b)))) (arm_on blocks b)).program.arms arm ≡ true →
     arm.target ≡ inside b (suc (blocks.count b)) → arm.source ≡ last_place blocks b
 next_source blocks b arm e at =
     let into : arm_on blocks b arm ≡ true =
@@ -81,11 +143,10 @@ next_source blocks b arm e at =
 
 item_comes :
     (blocks : Blocks) (b : ℕ) → CanAppend blocks b → (x v : ℕ) → blocks.recorded b x ≡ Some v →
-    Comes (with_sealed (state_of blocks) (inside b (suc (blocks.count b))) (arm_on blocks b)) (inside b (suc (blocks.count b))) x v
+    Comes (with_sealed (state_of blocks) (only (inside b (suc (blocks.count b)))) (arm_on blocks b)) (inside b (suc (blocks.count b))) x v
 item_comes blocks b can x v is_recorded = record {
   written = inside_written b (suc (blocks.count b));
-  is_sealed =
-      updated_at-same (λ p. sealed_at blocks.count blocks.sealed p) (inside b (suc (blocks.count b))) true (inside b (suc (blocks.count b))) refl;
+  is_sealed = rw (same_place-refl (inside b (suc (blocks.count b)))) refl;
   unassigned = can.unassigned x;
   along = λ arm e at. (
     v,
@@ -99,12 +160,12 @@ item_record_by :
     (blocks : Blocks) (b : ℕ) → CanAppend blocks b → (place : Place) (x v c : ℕ) →
     place ≡ inside c (updated blocks.count b (suc (blocks.count b)) c) → blocks.recorded c x ≡ Some v → Dec (c ≡ b) →
     (recorded_at blocks.count blocks.recorded place x ≡ Some v) ⊎
-    Comes (with_sealed (state_of blocks) (inside b (suc (blocks.count b))) (arm_on blocks b)) place x v
+    Comes (with_sealed (state_of blocks) (only (inside b (suc (blocks.count b)))) (arm_on blocks b)) place x v
 item_record_by blocks b can place x v c at is_recorded (yes e) =
     let here : place ≡ inside b (suc (blocks.count b)) =
     at ∙ ap (λ k. inside c k) (updated-same blocks.count b (suc (blocks.count b)) c e) ∙ ap (λ d. inside d (suc (blocks.count b))) e in
     inr (subst
-    (λ p. Comes (with_sealed (state_of blocks) (inside b (suc (blocks.count b))) (arm_on blocks b)) p x v)
+    (λ p. Comes (with_sealed (state_of blocks) (only (inside b (suc (blocks.count b)))) (arm_on blocks b)) p x v)
     (sym here)
     (item_comes blocks b can x v (ap (λ d. blocks.recorded d x) (sym e) ∙ is_recorded)))
 item_record_by blocks b can place x v c at is_recorded (no ne) =
@@ -113,7 +174,7 @@ item_record_by blocks b can place x v c at is_recorded (no ne) =
 
 item_records :
     (blocks : Blocks) (b : ℕ) → CanAppend blocks b →
-    CanRecord (with_sealed (state_of blocks) (inside b (suc (blocks.count b))) (arm_on blocks b))
+    CanRecord (with_sealed (state_of blocks) (only (inside b (suc (blocks.count b)))) (arm_on blocks b))
     (λ place x. recorded_at (updated blocks.count b (suc (blocks.count b))) blocks.recorded place x)
 item_records blocks b can = record {
   each = λ place x v here.
@@ -127,12 +188,12 @@ not_yet n = grind (arith, nat_tests)
 pub item_keeps : (blocks : Blocks) (b : ℕ) → CanAppend blocks b → BlocksSound blocks → BlocksSound (with_item blocks b)
 item_keeps blocks b can before =
     let next : Place = inside b (suc (blocks.count b)) in
-    let sealed : Sound (with_sealed (state_of blocks) next (arm_on blocks b)) =
-    seal_keeps (state_of blocks) next (arm_on blocks b)
-    (record { unsealed = not_yet (blocks.count b); written = inside_written b (suc (blocks.count b)) }) before.sound in
+    let sealed : Sound (with_sealed (state_of blocks) (only next) (arm_on blocks b)) =
+    seal_keeps (state_of blocks) (only next) (arm_on blocks b)
+    (can_seal_one (state_of blocks) next (not_yet (blocks.count b)) (inside_written b (suc (blocks.count b)))) before.sound in
     record {
       sound = subst (λ s. Sound s) (sym (item_written blocks b))
-          (record_keeps (with_sealed (state_of blocks) next (arm_on blocks b))
+          (record_keeps (with_sealed (state_of blocks) (only next) (arm_on blocks b))
           (λ place x. recorded_at (updated blocks.count b (suc (blocks.count b))) blocks.recorded place x)
           (item_records blocks b can) sealed);
     }

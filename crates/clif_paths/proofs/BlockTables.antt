@@ -5,7 +5,7 @@ use Rattle.std.proofs.Math.Path.{fun_ext}
 use Rattle.std.proofs.lemmas.Bool.Decides.{nat_tests}
 use Rattle.clif_paths.specs.Places.{Place, start, inside, same_place, Arm, Edges}
 use Rattle.clif_paths.specs.State.{Program}
-use Rattle.clif_paths.specs.Steps.{updated, updated_at, with_sealed, with_records}
+use Rattle.clif_paths.specs.Steps.{updated, updated_at, only, with_sealed, with_records}
 use Rattle.clif_paths.specs.Blocks.{Blocks, front, last_place, sealed_at, arm_into, recorded_at, state_of, with_block_sealed, with_item}
 use Rattle.clif_paths.proofs.Tables.{updated-same, updated-other, updated_cases, updated_at-same, updated_at-other, number_equal}
 use Rattle.clif_paths.proofs.PathLemmas.{same_place-equal, same_place-other}
@@ -15,6 +15,10 @@ inside-block e = cc
 
 pub inside-step : {b c i j : ℕ} → inside b i ≡ inside c j → i ≡ j
 inside-step e = cc
+
+updated_at_is : {A : Type 0} → (table : Place → A) (k : Place) (new : A) (i : Place) → updated_at table k new i ≡ cond (same_place i k) new (table i)
+unfolding updated_at
+updated_at_is table k new i = refl
 
 -- programs with the same entries are one program
 pub same_program :
@@ -130,7 +134,7 @@ seal_arm count sealed joins into b arm (inside c (suc k)) at =
     rw (same_place-other arm.target (front b) (λ e. front_other b c k (sym at ∙ e))) refl
 
 -- sealing a block is sealing its front
-pub block_sealed : (blocks : Blocks) (b : ℕ) (into : Edges) → state_of (with_block_sealed blocks b into) ≡ with_sealed (state_of blocks) (front b) into
+pub block_sealed : (blocks : Blocks) (b : ℕ) (into : Edges) → state_of (with_block_sealed blocks b into) ≡ with_sealed (state_of blocks) (only (front b)) into
 block_sealed blocks b into =
     ap (λ (program : Program). record {
       program = program;
@@ -138,8 +142,8 @@ block_sealed blocks b into =
       recorded = λ place x. recorded_at blocks.count blocks.recorded place x;
       answer = blocks.answer;
     })
-    (same_program (state_of (with_block_sealed blocks b into)).program (with_sealed (state_of blocks) (front b) into).program
-    (λ place. seal_sealed blocks.count blocks.sealed b place)
+    (same_program (state_of (with_block_sealed blocks b into)).program (with_sealed (state_of blocks) (only (front b)) into).program
+    (λ place. seal_sealed blocks.count blocks.sealed b place ∙ updated_at_is (λ p. sealed_at blocks.count blocks.sealed p) (front b) true place)
     (λ arm. seal_arm blocks.count blocks.sealed blocks.joins into b arm arm.target refl)
     refl refl)
 
@@ -242,7 +246,7 @@ pub item_written :
     (blocks : Blocks) (b : ℕ) →
     state_of (with_item blocks b) ≡
     with_records
-    (with_sealed (state_of blocks) (inside b (suc (blocks.count b))) (arm_on blocks b))
+    (with_sealed (state_of blocks) (only (inside b (suc (blocks.count b)))) (arm_on blocks b))
     (λ place x. recorded_at (updated blocks.count b (suc (blocks.count b))) blocks.recorded place x)
 item_written blocks b =
     ap (λ (program : Program). record {
@@ -251,7 +255,7 @@ item_written blocks b =
       recorded = λ place x. recorded_at (updated blocks.count b (suc (blocks.count b))) blocks.recorded place x;
       answer = blocks.answer;
     })
-    (same_program (state_of (with_item blocks b)).program (with_sealed (state_of blocks) (inside b (suc (blocks.count b))) (arm_on blocks b)).program
-    (λ place. item_sealed blocks.count blocks.sealed b place)
+    (same_program (state_of (with_item blocks b)).program (with_sealed (state_of blocks) (only (inside b (suc (blocks.count b)))) (arm_on blocks b)).program
+    (λ place. item_sealed blocks.count blocks.sealed b place ∙ updated_at_is (λ p. sealed_at blocks.count blocks.sealed p) (inside b (suc (blocks.count b))) true place)
     (λ arm. item_arm blocks.count blocks.sealed blocks.joins b arm arm.target refl)
     refl refl)

@@ -20,7 +20,7 @@ use Rattle.clif_paths.proofs.Restating.{initial_sound, restate_keeps}
 
 -- every step keeps soundness
 pub step_keeps : {s s' : State} → Step s s' → Sound s → Sound s'
-step_keeps {s} (seal place into can) sound = seal_keeps s place into can sound
+step_keeps {s} (seal chosen into can) sound = seal_keeps s chosen into can sound
 step_keeps {s} (record_values records can) sound = record_keeps s records can sound
 step_keeps {s} (wait place x v can) sound = wait_keeps s place x v can sound
 step_keeps {s} (fill x v given can) sound = fill_keeps s x v given can sound

@@ -1,10 +1,10 @@
 -- Each change of the blocks' tables keeps soundness of the state that they stand for.
 -- Source: own.
-use Rattle.std.specs.Prelude.{◌≡◌, ◌≢◌, ℕ, false, Option, None, Some, List}
+use Rattle.std.specs.Prelude.{◌≡◌, ◌≢◌, ℕ, false, Option, None, Some, List, Bool, true}
 use Rattle.clif_paths.specs.Places.{Place, start, Arm, Edges}
 use Rattle.clif_paths.specs.Sound.{Sound}
 use Rattle.clif_paths.specs.Steps.{updated, aliased, CanGive}
-use Rattle.clif_paths.specs.Blocks.{Blocks, state_of, no_blocks, with_block_sealed, with_item, CanAppend, with_born, with_read, CanRead, with_record, with_write, CanWrite, CanCopy, IsChain, with_chain, with_parameter, CanAddParameter, with_filled, CanFillIn, with_dropped, CanDropIn, with_zero_in, CanUndefineIn, SaysTheSame, CompleteAtFronts, Role, Birth, result_of, place_of, home_by, Resolves, FallsAlong}
+use Rattle.clif_paths.specs.Blocks.{Blocks, state_of, no_blocks, with_block_sealed, with_blocks_sealed, with_item, CanAppend, with_born, with_read, CanRead, with_record, with_write, CanWrite, CanCopy, IsChain, with_chain, with_parameter, CanAddParameter, with_filled, CanFillIn, with_dropped, CanDropIn, with_zero_in, CanUndefineIn, SaysTheSame, CompleteAtFronts, Role, Birth, result_of, place_of, home_by, Resolves, FallsAlong}
 
 -- the state of the tables is sound
 pub record BlocksSound (blocks : Blocks) : Type 0 where
@@ -17,6 +17,11 @@ abbrev pub BlockSealKeeps : Type 0
 BlockSealKeeps =
     (blocks : Blocks) (block : ℕ) (into : Edges) → blocks.sealed block ≡ false → BlocksSound blocks →
     BlocksSound (with_block_sealed blocks block into)
+
+abbrev pub BlocksSealKeeps : Type 0
+BlocksSealKeeps =
+    (blocks : Blocks) (chosen : ℕ → Bool) (into : Edges) → ((b : ℕ) → chosen b ≡ true → blocks.sealed b ≡ false) →
+    BlocksSound blocks → BlocksSound (with_blocks_sealed blocks chosen into)
 
 abbrev pub ItemKeeps : Type 0
 ItemKeeps = (blocks : Blocks) (block : ℕ) → CanAppend blocks block → BlocksSound blocks → BlocksSound (with_item blocks block)

@@ -90,6 +90,20 @@ with_block_sealed blocks block into = record blocks {
   joins = λ arm. cond (same_place arm.target (front block)) (into arm) (blocks.joins arm);
 }
 
+-- the fronts of chosen blocks
+abbrev pub chosen_front : (ℕ → Bool) → Place → Bool
+chosen_front chosen start = false
+chosen_front chosen (inside block zero) = chosen block
+chosen_front chosen (inside block (suc k)) = false
+
+-- SEAL several blocks at once: these are the arms into their fronts. It serves the blocks that were sealed before
+-- the entry was known.
+abbrev pub with_blocks_sealed : Blocks → (ℕ → Bool) → Edges → Blocks
+with_blocks_sealed blocks chosen into = record blocks {
+  sealed = λ block. cond (chosen block) true (blocks.sealed block);
+  joins = λ arm. cond (chosen_front chosen arm.target) (into arm) (blocks.joins arm)
+}
+
 -- GO ON to the next place of a block: an item is written, and the block's records hold there.
 abbrev pub with_item : Blocks → ℕ → Blocks
 with_item blocks block = record blocks { count = updated blocks.count block (suc (blocks.count block)) }

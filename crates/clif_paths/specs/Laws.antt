@@ -1,6 +1,6 @@
 -- What is proved of the steps, each statement named by the contract of a public function.
 -- Source: own; the last one is what Braun et al. 2013 prove of their construction, said along paths.
-use Rattle.std.specs.Prelude.{◌≡◌, ◌≢◌, ℕ, true, false, Option, None, Some, ◌∷◌}
+use Rattle.std.specs.Prelude.{◌≡◌, ◌≢◌, ℕ, true, false, Option, None, Some, ◌∷◌, Bool}
 use Rattle.clif_paths.specs.Places.{Place, start, Arm, Edges, Path, Follows, end_of, Dominates, StrictlyBefore}
 use Rattle.clif_paths.specs.State.{fresh, reads, Program, born, pending, complete, zero_of, Definition, Function, State, home_of}
 use Rattle.clif_paths.specs.Denotation.{Instance, zero, given, unknown, variable, name, entering, instances, denotes, denotation}
@@ -87,7 +87,7 @@ abbrev pub FirstIsSound : Type 0
 FirstIsSound = Sound initial
 
 abbrev pub SealKeeps : Type 0
-SealKeeps = (s : State) (place : Place) (into : Edges) → CanSeal s place → Sound s → Sound (with_sealed s place into)
+SealKeeps = (s : State) (chosen : Place → Bool) (into : Edges) → CanSeal s chosen → Sound s → Sound (with_sealed s chosen into)
 
 abbrev pub RecordKeeps : Type 0
 RecordKeeps = (s : State) (records : Place → ℕ → Option ℕ) → CanRecord s records → Sound s → Sound (with_records s records)

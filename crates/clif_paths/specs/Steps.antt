@@ -1,7 +1,7 @@
 -- The steps by which a state grows: each with what it needs and what it makes.
 -- Source: the operations of Braun et al. 2013 (sealing a block, reading and writing variables, adding operands,
 -- removing trivial parameters), cut into single changes of the tables; the cut is our own.
-use Rattle.std.specs.Prelude.{◌≡◌, ◌≢◌, ℕ, true, false, cond, ◌==◌, Option, None, Some, ◌⊎◌}
+use Rattle.std.specs.Prelude.{◌≡◌, ◌≢◌, ℕ, true, false, cond, ◌==◌, Option, None, Some, ◌⊎◌, Bool}
 use Rattle.clif_paths.specs.Places.{Place, start, Arm, Edges, same_place}
 use Rattle.clif_paths.specs.State.{fresh, reads, unborn, born, pending, complete, zero_of, Definition, State, home_of}
 
@@ -35,18 +35,22 @@ initial = record {
   answer = λ n. 0;
 }
 
--- SEAL. The arms into a place become known: these, and no others.
-abbrev pub with_sealed : State → Place → Edges → State
-with_sealed s place into = record s {
+-- SEAL. The arms into a place become known, these and no others; or into several places at once.
+abbrev pub with_sealed : State → (Place → Bool) → Edges → State
+with_sealed s chosen into = record s {
   program = record s.program {
-    is_sealed = updated_at s.program.is_sealed place true;
-    arms = λ arm. cond (same_place arm.target place) (into arm) (s.program.arms arm);
-  };
+    is_sealed = λ place. cond (chosen place) true (s.program.is_sealed place);
+    arms = λ arm. cond (chosen arm.target) (into arm) (s.program.arms arm)
+  }
 }
 
-pub record CanSeal (s : State) (place : Place) : Type 0 where
-  pub unsealed : s.program.is_sealed place ≡ false
-  pub written : place ≢ start
+-- one place alone
+abbrev pub only : Place → Place → Bool
+only place p = same_place p place
+
+pub record CanSeal (s : State) (chosen : Place → Bool) : Type 0 where
+  pub unsealed : (place : Place) → chosen place ≡ true → s.program.is_sealed place ≡ false
+  pub written : chosen start ≡ false
 
 -- RECORD. Records are copied from where all arms come from, or forgotten.
 abbrev pub with_records : State → (Place → ℕ → Option ℕ) → State
@@ -208,7 +212,7 @@ pub record CanRestate (s : State) (definition : ℕ → Definition) (argument : 
 
 -- One step of construction, with what it needs.
 pub data Step : State → State → Type 0 where
-  seal : {s : State} (place : Place) (into : Edges) → CanSeal s place → Step s (with_sealed s place into)
+  seal : {s : State} (chosen : Place → Bool) (into : Edges) → CanSeal s chosen → Step s (with_sealed s chosen into)
   record_values : {s : State} (records : Place → ℕ → Option ℕ) → CanRecord s records → Step s (with_records s records)
   wait : {s : State} (place : Place) (x v : ℕ) → CanWait s place x v → Step s (with_pending s place x v)
   fill : {s : State} (x v : ℕ) (given : Arm → ℕ) → CanFill s x v given → Step s (with_arguments s v given)

@@ -1,6 +1,6 @@
 //! The tables of blocks, as a builder keeps them: each change of theirs keeps soundness of the state they stand for.
 
-ghost use Rattle.clif_paths.specs.BlockLaws.{FirstBlocksSound, BlockSealKeeps, ItemKeeps, BornKeeps, ReadKeeps, WriteKeeps, CopyKeeps, ChainKeeps, ParameterKeeps, FilledKeeps, DroppedKeeps, ZeroInKeeps, UndefinedKeeps, RestatedKeeps, ForgetKeeps, RolesExtend, EndsAreEnds, NewLinkResolves, EndsAreUnique};
+ghost use Rattle.clif_paths.specs.BlockLaws.{FirstBlocksSound, BlockSealKeeps, BlocksSealKeeps, ItemKeeps, BornKeeps, ReadKeeps, WriteKeeps, CopyKeeps, ChainKeeps, ParameterKeeps, FilledKeeps, DroppedKeeps, ZeroInKeeps, UndefinedKeeps, RestatedKeeps, ForgetKeeps, RolesExtend, EndsAreEnds, NewLinkResolves, EndsAreUnique};
 
 /// The first tables are sound.
 pub fn first_blocks_sound()
@@ -10,6 +10,11 @@ pub fn first_blocks_sound()
 /// Sealing a block keeps soundness.
 pub fn block_seal_keeps()
     ensures { BlockSealKeeps }
+{}
+
+/// Sealing several blocks at once keeps soundness.
+pub fn blocks_seal_keeps()
+    ensures { BlocksSealKeeps }
 {}
 
 /// Going on to a block's next item keeps soundness.
