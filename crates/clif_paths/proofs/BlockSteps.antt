@@ -9,7 +9,7 @@ use Rattle.clif_paths.specs.Sound.{Allowed, Holds, Sound}
 use Rattle.clif_paths.specs.Steps.{updated, updated_at, only, with_sealed, CanSeal, Comes, CanRecord, with_pending, with_assigned, CanGive, Incoming, Waits}
 use Rattle.clif_paths.specs.Blocks.{Blocks, front, last_place, chosen_front, with_blocks_sealed, sealed_at, arm_into, recorded_at, state_of, no_blocks, with_block_sealed, with_item, CanAppend, with_born, with_read, CanRead, with_record, with_write, CanWrite, AssignsNot, Carries, CanCopy, IsChain, with_chain, with_parameter, CanAddParameter, WaitsIn, with_filled, CanFillIn, with_dropped, CanDropIn, with_zero_in, CanUndefineIn}
 use Rattle.clif_paths.specs.BlockLaws.{BlocksSound}
-use Rattle.clif_paths.proofs.Tables.{updated-same, updated-other, updated_at-same, record_new, record_other}
+use Rattle.clif_paths.proofs.Tables.{updated-same, updated-other, record_new, record_other}
 use Rattle.clif_paths.proofs.PathLemmas.{same_place-true, same_place-equal, same_place-other, same_place-refl}
 use Rattle.clif_paths.proofs.BlockTables.{same_program, inside-block, inside-step, recorded_at-last, recorded_at-some, block_record_cases, block_sealed, arm_on, item_written}
 use Rattle.clif_paths.proofs.Refine.{rooted_allowed, holds_refined}
@@ -58,7 +58,7 @@ first_sound = record {
 can_seal_one : (s : State) (place : Place) → s.program.is_sealed place ≡ false → place ≢ start → CanSeal s (only place)
 can_seal_one s place unsealed written = record {
   unsealed = λ p same. ap s.program.is_sealed (same_place-true p place same) ∙ unsealed;
-  written = same_place-other start place (λ e. written (sym e))
+  written = same_place-other start place (λ e. written (sym e));
 }
 
 pub seal_block_keeps :
@@ -97,15 +97,15 @@ blocks_sealed :
     state_of (with_blocks_sealed blocks chosen into) ≡ with_sealed (state_of blocks) (chosen_front chosen) into
 blocks_sealed blocks chosen into =
     ap (λ (program : Program). record {
-        program = program;
-        function = blocks.function;
-        recorded = λ place x. recorded_at blocks.count blocks.recorded place x;
-        answer = blocks.answer
-      })
+      program = program;
+      function = blocks.function;
+      recorded = λ place x. recorded_at blocks.count blocks.recorded place x;
+      answer = blocks.answer;
+    })
     (same_program (state_of (with_blocks_sealed blocks chosen into)).program (with_sealed (state_of blocks) (chosen_front chosen) into).program
-      (λ place. chosen_sealed blocks.count blocks.sealed chosen place)
-      (λ arm. chosen_arm blocks.count blocks.sealed blocks.joins into chosen arm arm.target refl)
-      refl refl)
+    (λ place. chosen_sealed blocks.count blocks.sealed chosen place)
+    (λ arm. chosen_arm blocks.count blocks.sealed blocks.joins into chosen arm arm.target refl)
+    refl refl)
 
 unsealed_front :
     (blocks : Blocks) (chosen : ℕ → Bool) → ((b : ℕ) → chosen b ≡ true → blocks.sealed b ≡ false) → (p : Place) → chosen_front chosen p ≡ true →
@@ -119,8 +119,8 @@ pub seal_blocks_keeps :
     BlocksSound (with_blocks_sealed blocks chosen into)
 seal_blocks_keeps blocks chosen into unsealed before = record {
   sound = subst (λ s. Sound s) (sym (blocks_sealed blocks chosen into))
-    (seal_keeps (state_of blocks) (chosen_front chosen) into
-      (record { unsealed = unsealed_front blocks chosen unsealed; written = refl }) before.sound)
+      (seal_keeps (state_of blocks) (chosen_front chosen) into
+      (record { unsealed = unsealed_front blocks chosen unsealed; written = refl }) before.sound);
 }
 
 true_of_and : (b c : Bool) → (b && c) ≡ true → b ≡ true

@@ -23,3 +23,4 @@ pub mod FailureProofs
 pub mod ShapeLemmas
 pub mod ShapeSteps
 pub mod BlockRestating
+pub mod Labelling

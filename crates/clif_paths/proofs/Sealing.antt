@@ -1,5 +1,5 @@
 -- Sealing a place: every unknown that came in there turns out to be what the variable held before.
-use Rattle.std.proofs.Common.{◌≡◌, ◌≢◌, ℕ, Bool, true, false, cond, Option, None, Some, [], ◌∷◌, refl, sym, ◌∙◌, ap}
+use Rattle.std.proofs.Common.{◌≡◌, ℕ, Bool, true, false, cond, Option, None, Some, [], ◌∷◌, refl, sym, ◌∙◌, ap}
 use Rattle.clif_paths.specs.Places.{Place, Arm, Edges, Path}
 use Rattle.clif_paths.specs.State.{Origin, fresh, reads, Program, Kind, unborn, born, pending, complete, zero_of, Function, State}
 use Rattle.clif_paths.specs.Denotation.{Instance, absent, zero, given, unknown, Holder, variable, name, after_assignment, at_home, instances, defined, denotes}
@@ -193,10 +193,10 @@ allowed_sealed :
     Allowed (with_arms program chosen into) edges → Allowed program edges
 allowed_sealed program chosen into unsealed allowed = record {
   known = λ arm e.
-    let other : chosen arm.target ≡ false = not_chosen program chosen unsealed arm.target e (chosen arm.target) refl in
-    allowed.known arm (sealed-other program chosen into arm.target other ∙ e) ∙ arms-other program chosen into arm other;
+      let other : chosen arm.target ≡ false = not_chosen program chosen unsealed arm.target e (chosen arm.target) refl in
+      allowed.known arm (sealed-other program chosen into arm.target other ∙ e) ∙ arms-other program chosen into arm other;
   rooted = allowed.rooted;
-  given_before = allowed.given_before
+  given_before = allowed.given_before;
 }
 
 seal_known :
@@ -212,10 +212,10 @@ seal_keeps s chosen into can sound = record {
   known_sealed = λ arm e. seal_known s chosen into sound arm e (chosen arm.target) refl;
   rooted = λ arm at. arms-other s.program chosen into arm (ap chosen at ∙ can.written) ∙ sound.rooted arm at;
   under = λ edges allowed.
-    let before : SoundUnder edges s = sound.under edges (allowed_sealed s.program chosen into can.unsealed allowed) in
-    record {
-      arguments = before.arguments;
-      records = λ p x v e. holds_known s.program chosen into s.function can.unsealed v (variable x) p (before.records p x v e);
-      answers = λ n there. holds_known s.program chosen into s.function can.unsealed (s.answer n) (name n) (s.program.naming n).home (before.answers n there)
-    }
+      let before : SoundUnder edges s = sound.under edges (allowed_sealed s.program chosen into can.unsealed allowed) in
+      record {
+        arguments = before.arguments;
+        records = λ p x v e. holds_known s.program chosen into s.function can.unsealed v (variable x) p (before.records p x v e);
+        answers = λ n there. holds_known s.program chosen into s.function can.unsealed (s.answer n) (name n) (s.program.naming n).home (before.answers n there);
+      };
 }

@@ -101,7 +101,7 @@ chosen_front chosen (inside block (suc k)) = false
 abbrev pub with_blocks_sealed : Blocks → (ℕ → Bool) → Edges → Blocks
 with_blocks_sealed blocks chosen into = record blocks {
   sealed = λ block. cond (chosen block) true (blocks.sealed block);
-  joins = λ arm. cond (chosen_front chosen arm.target) (into arm) (blocks.joins arm)
+  joins = λ arm. cond (chosen_front chosen arm.target) (into arm) (blocks.joins arm);
 }
 
 -- GO ON to the next place of a block: an item is written, and the block's records hold there.

@@ -12,3 +12,4 @@ pub mod MoveLaws
 pub mod Examples
 pub mod Failures
 pub mod Shape
+pub mod Labels

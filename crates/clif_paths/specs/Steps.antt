@@ -40,8 +40,8 @@ abbrev pub with_sealed : State → (Place → Bool) → Edges → State
 with_sealed s chosen into = record s {
   program = record s.program {
     is_sealed = λ place. cond (chosen place) true (s.program.is_sealed place);
-    arms = λ arm. cond (chosen arm.target) (into arm) (s.program.arms arm)
-  }
+    arms = λ arm. cond (chosen arm.target) (into arm) (s.program.arms arm);
+  };
 }
 
 -- one place alone

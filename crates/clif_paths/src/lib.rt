@@ -13,5 +13,6 @@ pub mod engine;
 pub mod examples;
 pub mod execution;
 pub mod failures;
+pub mod labels;
 pub mod steps;
 pub mod structure;
