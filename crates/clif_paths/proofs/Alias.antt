@@ -145,7 +145,7 @@ drop_before_by :
     {edges : Edges} (s : State) (x v target : ℕ) → SoundUnder edges s →
     (arm : Arm) (path : Path) → Follows edges (arm ∷ path) →
     (Visits (s.function.definition v).home path → Visits (s.function.definition target).home path) →
-    Incoming s arm x target ⊎ Incoming s arm x v → Visits (s.function.definition target).home path
+    Incoming s arm.source x target ⊎ Incoming s arm.source x v → Visits (s.function.definition target).home path
 drop_before_by s x v target sound arm path f earlier (inl incoming) =
     (incoming_there s arm x target sound incoming).on_every_path path f.2 (sym f.1)
 drop_before_by s x v target sound arm path f earlier (inr incoming) =
@@ -187,7 +187,7 @@ drop_visit_by :
     {edges : Edges} (s : State) (x v target : ℕ) → SoundUnder edges s →
     (arm : Arm) (path : Path) → Follows edges (arm ∷ path) →
     (Dominates edges (s.function.definition v).home (end_of path) → denotes s.program s.function path v ≡ denotes s.program s.function path target) →
-    Incoming s arm x target ⊎ Incoming s arm x v →
+    Incoming s arm.source x target ⊎ Incoming s arm.source x v →
     instances s.program path (variable x) ≡ denotes s.program s.function path target
 drop_visit_by s x v target sound arm path f before (inl incoming) = sym (incoming_agrees s arm x target sound incoming path f)
 drop_visit_by {edges} s x v target sound arm path f before (inr incoming) =
@@ -285,7 +285,7 @@ undefine_visit_by :
     {edges : Edges} (s : State) (x v z : ℕ) → CanUndefine s x v z → Allowed s.program edges → SoundUnder edges s →
     (arm : Arm) (path : Path) → Follows edges (arm ∷ path) →
     (Dominates edges (s.function.definition v).home (end_of path) → denotes s.program s.function path v ≡ denotes s.program s.function path z) →
-    (arm.source ≡ start) ⊎ Incoming s arm x v →
+    (arm.source ≡ start) ⊎ Incoming s arm.source x v →
     instances s.program path (variable x) ≡ zero x
 undefine_visit_by s x v z can allowed sound arm path f before (inl at_start) =
     starts_zero s.program x (rooted_allowed allowed) path f.2 (sym f.1 ∙ at_start)

@@ -211,7 +211,11 @@ read_keeps blocks b n x v can before = record {
         written = inside_written b (blocks.count b);
         name = can.name;
         unassigned = can.unassigned;
-        is_recorded = recorded_at-last blocks.count blocks.recorded b x ∙ can.is_recorded;
+        known = record {
+          value = can.known.value;
+          is_recorded = recorded_at-last blocks.count blocks.recorded b x ∙ can.known.is_recorded;
+          resolves = can.known.resolves
+        };
       }) before.sound;
 }
 
@@ -441,7 +445,7 @@ front_join :
 front_join blocks b arm e at =
     second_of_and (blocks.sealed b) (blocks.joins arm) (ap (λ p. arm_into blocks.count blocks.sealed blocks.joins arm p) (sym at) ∙ e)
 
-incoming_of : (blocks : Blocks) (arm : Arm) (x v : ℕ) → Carries blocks arm x v → Incoming (state_of blocks) arm x v
+incoming_of : (blocks : Blocks) (arm : Arm) (x v : ℕ) → Carries blocks arm x v → Incoming (state_of blocks) arm.source x v
 incoming_of blocks arm x v carries = record {
   value = carries.value;
   is_recorded = carried blocks arm x v carries;
@@ -471,7 +475,7 @@ filled_keeps blocks b x v given can before = record {
 
 either_incoming :
     (blocks : Blocks) (arm : Arm) (x v target : ℕ) → Carries blocks arm x target ⊎ Carries blocks arm x v →
-    Incoming (state_of blocks) arm x target ⊎ Incoming (state_of blocks) arm x v
+    Incoming (state_of blocks) arm.source x target ⊎ Incoming (state_of blocks) arm.source x v
 either_incoming blocks arm x v target (inl carries) = inl (incoming_of blocks arm x target carries)
 either_incoming blocks arm x v target (inr carries) = inr (incoming_of blocks arm x v carries)
 
@@ -495,7 +499,7 @@ zero_in_keeps blocks b x z new_value before = record {
 }
 
 start_or_incoming :
-    (blocks : Blocks) (arm : Arm) (x v : ℕ) → (arm.source ≡ start) ⊎ Carries blocks arm x v → (arm.source ≡ start) ⊎ Incoming (state_of blocks) arm x v
+    (blocks : Blocks) (arm : Arm) (x v : ℕ) → (arm.source ≡ start) ⊎ Carries blocks arm x v → (arm.source ≡ start) ⊎ Incoming (state_of blocks) arm.source x v
 start_or_incoming blocks arm x v (inl at_start) = inl at_start
 start_or_incoming blocks arm x v (inr carries) = inr (incoming_of blocks arm x v carries)
 

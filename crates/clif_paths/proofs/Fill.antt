@@ -18,18 +18,18 @@ known_arm s x v arm waits allowed at e = sym (allowed.known arm (ap (λ p. s.pro
 
 -- what comes along an arm is there at its source, and holds the variable
 pub incoming_holds :
-    {edges : Edges} (s : State) (arm : Arm) (x v : ℕ) → SoundUnder edges s → (incoming : Incoming s arm x v) →
+    {edges : Edges} (s : State) (arm : Arm) (x v : ℕ) → SoundUnder edges s → (incoming : Incoming s arm.source x v) →
     Holds edges s.program s.function incoming.value (variable x) arm.source
 incoming_holds s arm x v sound incoming = sound.records arm.source x incoming.value incoming.is_recorded
 
 pub incoming_there :
-    {edges : Edges} (s : State) (arm : Arm) (x v : ℕ) → SoundUnder edges s → Incoming s arm x v →
+    {edges : Edges} (s : State) (arm : Arm) (x v : ℕ) → SoundUnder edges s → Incoming s arm.source x v →
     Dominates edges (s.function.definition v).home arm.source
 incoming_there {edges} s arm x v sound incoming =
     subst (λ w. Dominates edges (s.function.definition w).home arm.source) incoming.resolves (incoming_holds s arm x v sound incoming).there
 
 pub incoming_agrees :
-    {edges : Edges} (s : State) (arm : Arm) (x v : ℕ) → SoundUnder edges s → Incoming s arm x v →
+    {edges : Edges} (s : State) (arm : Arm) (x v : ℕ) → SoundUnder edges s → Incoming s arm.source x v →
     (path : Path) → Follows edges (arm ∷ path) → denotes s.program s.function path v ≡ instances s.program path (variable x)
 incoming_agrees s arm x v sound incoming path f =
     ap (λ w. denotes s.program s.function path w) (sym incoming.resolves) ∙
@@ -52,7 +52,7 @@ fill_visit :
 fill_visit {edges} s x v given can allowed sound arm path f at before =
     let new : Function = (with_arguments s v given).function in
     let a : ℕ = s.function.resolve (given arm) in
-    let incoming : Incoming s arm x a = can.along arm (known_arm s x v arm can.waits allowed (sym at) f.0) (sym at) in
+    let incoming : Incoming s arm.source x a = can.along arm (known_arm s x v arm can.waits allowed (sym at) f.0) (sym at) in
     let kind : defined s.program new arm path (λ w. denotes s.program new path w) v (new.definition v).kind ≡ denotes s.program new path (s.function.resolve (updated s.function.argument v given v arm)) =
     ap (λ (d : Definition). defined s.program new arm path (λ w. denotes s.program new path w) v d.kind)
     (updated-same s.function.definition v (record { home = (s.function.definition v).home; kind = complete }) v refl) in
@@ -116,7 +116,7 @@ fill_arguments {edges} s x v given can allowed sound refines u arm k at e (yes s
     let a : ℕ = s.function.resolve (given arm) in
     let at_v : arm.target ≡ (s.function.definition v).home =
     sym at ∙ fill_home s v given u (yes same) ∙ ap (λ w. (s.function.definition w).home) same in
-    let incoming : Incoming s arm x a = can.along arm (known_arm s x v arm can.waits allowed at_v e) at_v in
+    let incoming : Incoming s arm.source x a = can.along arm (known_arm s x v arm can.waits allowed at_v e) at_v in
     subst
     (λ w. Dominates edges (home_of (with_arguments s v given).function w) arm.source)
     (sym (ap (λ (t : Arm → ℕ). t arm) (updated-same s.function.argument v given (s.function.resolve u) same)))

@@ -167,7 +167,11 @@ move_read sheet b n x v e before =
           (record {
             name = new_name_told sheet n before.fits (first_of_and (is_new_name sheet n) (none && says (sheet.blocks.recorded b x) v) e);
             unassigned = none_at (sheet.blocks.assigned (last_place sheet.blocks b) x) (first_of_and none (says (sheet.blocks.recorded b x) v) rest);
-            is_recorded = says_some (sheet.blocks.recorded b x) v (second_of_and none (says (sheet.blocks.recorded b x) v) rest);
+            known = record {
+              value = v;
+              is_recorded = says_some (sheet.blocks.recorded b x) v (second_of_and none (says (sheet.blocks.recorded b x) v) rest);
+              resolves = refl
+            };
           }) before.tables;
       fits = record { arms = before.fits.arms; writes = before.fits.writes; values = before.fits.values; ends = before.fits.ends };
     }

@@ -1,6 +1,6 @@
 -- The program's side when a new name is given or used: nothing else changes.
 use Rattle.std.proofs.Common.{◌≡◌, ◌≢◌, ℕ, cond, Option, None, Some, [], ◌∷◌, ◌⊎◌, inl, inr, refl, sym, ◌∙◌, ap, subst}
-use Rattle.clif_paths.specs.Places.{Place, start, Arm, Edges, Path, end_of, Follows, StrictlyBefore}
+use Rattle.clif_paths.specs.Places.{Place, start, Arm, Edges, Path, end_of, Follows, StrictlyBefore, Dominates}
 use Rattle.clif_paths.specs.State.{Origin, fresh, reads, Naming, Program, Kind, unborn, born, pending, complete, zero_of, Definition, Function, State, home_of}
 use Rattle.clif_paths.specs.Denotation.{unknown, given, Holder, variable, name, after_assignment, at_home, instances, defined, denotes, denotation}
 use Rattle.clif_paths.specs.Sound.{Allowed, Holds, SoundUnder, Sound}
@@ -245,6 +245,15 @@ use_agrees program function place n x v written named unassigned held (arm ∷ p
     variable-entered program arm path x (ap (λ p. program.assigned p x) at_end ∙ unassigned) ∙
     sym reading ∙ sym (name-here program arm path n name_home)
 
+-- what resolves as a value that holds does holds too
+same_end_holds :
+    {edges : Edges} (program : Program) (function : Function) (w v : ℕ) (h : Holder) (place : Place) →
+    function.resolve w ≡ function.resolve v → Holds edges program function w h place → Holds edges program function v h place
+same_end_holds {edges} program function w v h place same held = record {
+  there = subst (λ r. Dominates edges (function.definition r).home place) same held.there;
+  agrees = λ path f at_end. ap (λ r. denotes program function path r) (sym same) ∙ held.agrees path f at_end
+}
+
 use_under :
     {edges : Edges} (s : State) (place : Place) (n x v : ℕ) → CanUse s place n x v →
     SoundUnder edges s → SoundUnder edges (with_use s place n x v)
@@ -256,7 +265,9 @@ use_under {edges} s place n x v can sound =
     λ q y w e. holds_alike s.program program s.function w (variable y) q enters
     (λ path f at_end. (same_but s.program n new can.name.unassigned path).variables y)
     (sound.records q y w e) in
-    let held : Holds edges program s.function v (variable x) place = records place x v can.is_recorded in
+    let held : Holds edges program s.function v (variable x) place =
+    same_end_holds program s.function can.known.value v (variable x) place can.known.resolves
+    (records place x can.known.value can.known.is_recorded) in
     record {
       arguments = sound.arguments;
       records = records;

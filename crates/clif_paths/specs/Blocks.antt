@@ -122,7 +122,13 @@ with_born blocks place n v = record blocks {
   answer = updated blocks.answer n v;
 }
 
--- USE a variable at a block's last place: the record answers.
+-- a block's record of the variable resolves as this value does
+pub record Knows (blocks : Blocks) (block x v : ℕ) : Type 0 where
+  pub value : ℕ
+  pub is_recorded : blocks.recorded block x ≡ Some value
+  pub resolves : blocks.function.resolve value ≡ blocks.function.resolve v
+
+-- USE a variable at a block's last place: the record answers, or what resolves as it does.
 abbrev pub with_read : Blocks → ℕ → ℕ → ℕ → ℕ → Blocks
 with_read blocks block n x v = record blocks {
   naming = updated blocks.naming n (record { home = last_place blocks block; origin = reads x });
@@ -132,7 +138,7 @@ with_read blocks block n x v = record blocks {
 pub record CanRead (blocks : Blocks) (block n x v : ℕ) : Type 0 where
   pub name : IsNewName (state_of blocks) n
   pub unassigned : blocks.assigned (last_place blocks block) x ≡ None
-  pub is_recorded : blocks.recorded block x ≡ Some v
+  pub known : Knows blocks block x v
 
 -- records with one changed
 abbrev pub with_record : Blocks → ℕ → ℕ → ℕ → Blocks

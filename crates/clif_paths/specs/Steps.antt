@@ -84,10 +84,10 @@ pub record CanWait (s : State) (place : Place) (x v : ℕ) : Type 0 where
   pub new_value : (s.function.definition v).home ≡ start
   pub no_alias : s.function.resolve v ≡ v
 
--- what the records at an arm's source give a waiting parameter for this variable
-pub record Incoming (s : State) (arm : Arm) (x v : ℕ) : Type 0 where
+-- what is recorded for the variable at a place, as at an arm's source, resolves to this value
+pub record Incoming (s : State) (place : Place) (x v : ℕ) : Type 0 where
   pub value : ℕ
-  pub is_recorded : s.recorded arm.source x ≡ Some value
+  pub is_recorded : s.recorded place x ≡ Some value
   pub resolves : s.function.resolve value ≡ v
 
 -- the parameter waits at a sealed place for arguments of this variable
@@ -108,7 +108,7 @@ pub record CanFill (s : State) (x v : ℕ) (given : Arm → ℕ) : Type 0 where
   pub waits : Waits s x v
   pub along :
       (arm : Arm) → s.program.arms arm ≡ true → arm.target ≡ (s.function.definition v).home →
-      Incoming s arm x (s.function.resolve (given arm))
+      Incoming s arm.source x (s.function.resolve (given arm))
 
 -- DROP. A waiting parameter to which nothing comes but one other value, or itself, becomes an alias of that value.
 abbrev pub with_alias : State → ℕ → ℕ → State
@@ -121,7 +121,7 @@ pub record CanDrop (s : State) (x v target : ℕ) : Type 0 where
   pub no_alias : s.function.resolve target ≡ target
   pub along :
       (arm : Arm) → s.program.arms arm ≡ true → arm.target ≡ (s.function.definition v).home →
-      Incoming s arm x target ⊎ Incoming s arm x v
+      Incoming s arm.source x target ⊎ Incoming s arm.source x v
 
 -- ZERO. The zero of a variable is put into a place.
 abbrev pub with_zero : State → Place → ℕ → ℕ → State
@@ -144,7 +144,7 @@ pub record CanUndefine (s : State) (x v z : ℕ) : Type 0 where
   pub same_home : (s.function.definition z).home ≡ (s.function.definition v).home
   pub along :
       (arm : Arm) → s.program.arms arm ≡ true → arm.target ≡ (s.function.definition v).home →
-      (arm.source ≡ start) ⊎ Incoming s arm x v
+      (arm.source ≡ start) ⊎ Incoming s arm.source x v
 
 -- a name that is given nowhere and assigned nowhere yet
 pub record IsNewName (s : State) (n : ℕ) : Type 0 where
@@ -168,7 +168,7 @@ pub record CanGive (s : State) (place : Place) (n v : ℕ) : Type 0 where
   pub new_value : (s.function.definition v).home ≡ start
   pub no_alias : s.function.resolve v ≡ v
 
--- USE. A name reads a variable at a place, and is answered by the record there.
+-- USE. A name reads a variable at a place, and is answered by the record there, or by what resolves as it does.
 abbrev pub with_use : State → Place → ℕ → ℕ → ℕ → State
 with_use s place n x v = record s {
   program = record s.program { naming = updated s.program.naming n (record { home = place; origin = reads x }) };
@@ -179,7 +179,7 @@ pub record CanUse (s : State) (place : Place) (n x v : ℕ) : Type 0 where
   pub written : place ≢ start
   pub name : IsNewName s n
   pub unassigned : s.program.assigned place x ≡ None
-  pub is_recorded : s.recorded place x ≡ Some v
+  pub known : Incoming s place x (s.function.resolve v)
 
 -- ASSIGN. A variable is assigned a name at a place that no known arm leaves, and the record there is the name's
 -- answer.
