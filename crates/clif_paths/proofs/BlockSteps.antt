@@ -214,7 +214,7 @@ read_keeps blocks b n x v can before = record {
         known = record {
           value = can.known.value;
           is_recorded = recorded_at-last blocks.count blocks.recorded b x ∙ can.known.is_recorded;
-          resolves = can.known.resolves
+          resolves = can.known.resolves;
         };
       }) before.sound;
 }
@@ -374,7 +374,7 @@ copy_keeps blocks b x v can before = record {
       (block_record_cases blocks.count blocks.recorded b x v place y w here));
 }
 
-block_record_new : (blocks : Blocks) (b x v : ℕ) → (with_record blocks b x v).recorded b x ≡ Some v
+pub block_record_new : (blocks : Blocks) (b x v : ℕ) → (with_record blocks b x v).recorded b x ≡ Some v
 block_record_new blocks b x v =
     ap (λ t. t x) (updated-same blocks.recorded b (updated (blocks.recorded b) x (Some v)) b refl) ∙ updated-same (blocks.recorded b) x (Some v) x refl
 

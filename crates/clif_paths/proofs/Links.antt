@@ -29,7 +29,7 @@ new_at_end link resolve v target u resolves none (inr kept) =
     end_kept link resolve v target u resolves kept none (aliased_cases resolve v target u)
 
 -- equal ends stay equal
-same_ends :
+pub same_ends :
     (resolve : ℕ → ℕ) (v target u w : ℕ) → resolve u ≡ resolve w →
     ((resolve u ≡ v) × (aliased resolve v target u ≡ target)) ⊎ ((resolve u ≢ v) × (aliased resolve v target u ≡ resolve u)) →
     ((resolve w ≡ v) × (aliased resolve v target w ≡ target)) ⊎ ((resolve w ≢ v) × (aliased resolve v target w ≡ resolve w)) →

@@ -170,7 +170,7 @@ move_read sheet b n x v e before =
             known = record {
               value = v;
               is_recorded = says_some (sheet.blocks.recorded b x) v (second_of_and none (says (sheet.blocks.recorded b x) v) rest);
-              resolves = refl
+              resolves = refl;
             };
           }) before.tables;
       fits = record { arms = before.fits.arms; writes = before.fits.writes; values = before.fits.values; ends = before.fits.ends };

@@ -251,7 +251,7 @@ same_end_holds :
     function.resolve w ≡ function.resolve v → Holds edges program function w h place → Holds edges program function v h place
 same_end_holds {edges} program function w v h place same held = record {
   there = subst (λ r. Dominates edges (function.definition r).home place) same held.there;
-  agrees = λ path f at_end. ap (λ r. denotes program function path r) (sym same) ∙ held.agrees path f at_end
+  agrees = λ path f at_end. ap (λ r. denotes program function path r) (sym same) ∙ held.agrees path f at_end;
 }
 
 use_under :

@@ -1,4 +1,4 @@
--- Variables on paths: what a variable, a name and a value denote along each path of control.
+-- Variables on paths: what a variable, a name and a value denote along each path of control. In reading order.
 pub mod Places
 pub mod State
 pub mod Denotation
@@ -7,9 +7,10 @@ pub mod Steps
 pub mod Laws
 pub mod Blocks
 pub mod BlockLaws
+pub mod LookUp
+pub mod Labels
+pub mod Shape
 pub mod Moves
 pub mod MoveLaws
 pub mod Examples
 pub mod Failures
-pub mod Shape
-pub mod Labels
