@@ -1,12 +1,12 @@
 -- From steps to the conclusion.
-use Rattle.std.proofs.Common.{◌≡◌, ◌≢◌, ℕ, true, Option, None, Some, [], ◌∷◌, inl, refl, sym, ◌∙◌}
+use Rattle.std.proofs.Common.{◌≡◌, ◌≢◌, ℕ, true, Option, None, Some, [], ◌∷◌, inl, refl, sym, ◌∙◌, ap, subst}
 use Rattle.clif_paths.specs.Places.{Place, start, Arm, Edges, Path, end_of, Follows, Dominates}
 use Rattle.clif_paths.specs.State.{Origin, fresh, reads, Program, Kind, unborn, born, pending, complete, zero_of, Function, State, home_of}
 use Rattle.clif_paths.specs.Denotation.{Holder, variable, name, after_assignment, at_home, instances, defined, denotes, denotation}
 use Rattle.clif_paths.specs.Sound.{Allowed, Holds, SoundUnder, Sound}
 use Rattle.clif_paths.specs.Steps.{initial, Step, seal, record_values, wait, fill, drop, put_zero, undefine, give, use_variable, assign, restate, Steps, done, then}
 use Rattle.clif_paths.specs.Laws.{NothingPending, AssignsGiven, all_sealed, IsCorrect}
-use Rattle.clif_paths.proofs.PathLemmas.{dec_place, unvisited_pair}
+use Rattle.clif_paths.proofs.PathLemmas.{dec_place, unvisited_pair, strictly_through}
 use Rattle.clif_paths.specs.Laws.{entered}
 use Rattle.clif_paths.proofs.Executing.{entered-sealed, instances-variable, name-here, name-past, denotes-here, denotes-past}
 use Rattle.clif_paths.proofs.Born.{wait_keeps, zero_keeps}
@@ -173,6 +173,7 @@ correct s sound nothing assigns =
                 held.agrees path f at_end ∙
                 plain s.program (record { sealed = sound.known_sealed }) path f (name n);
           };
+      well_placed = λ n written place before. strictly_through (under.answers n written).there before;
       arguments = under.arguments;
     }
 
@@ -180,3 +181,24 @@ correct s sound nothing assigns =
 pub antisymmetric :
     (edges : Edges) (g h : Place) → Dominates edges g h → Dominates edges h g → g ≢ h → (path : Path) → Follows edges path → end_of path ≢ h
 antisymmetric edges g h gh hg ne path f at_end = unvisited_pair gh hg ne path f (inl (gh.on_every_path path f at_end))
+
+-- two correct states of one plain program
+same_home : (program program' : Program) → all_sealed program ≡ all_sealed program' → (n : ℕ) → (program.naming n).home ≡ (program'.naming n).home
+same_home program program' e n = ap (λ (p : Program). (p.naming n).home) e
+
+pub sealing_order_is_free :
+    (s s' : State) → IsCorrect s → IsCorrect s' → all_sealed s.program ≡ all_sealed s'.program →
+    (n : ℕ) → (s.program.naming n).home ≢ start →
+    (place : Place) → Dominates s.program.arms (s.program.naming n).home place →
+    (any : Program) (path : Path) → Follows s.program.arms path → end_of path ≡ place →
+    denotation any s.function path (s.answer n) ≡ denotation any s'.function path (s'.answer n)
+sealing_order_is_free s s' correct correct' same n written place d any path f at_end =
+    let home : (s.program.naming n).home ≡ (s'.program.naming n).home = same_home s.program s'.program same n in
+    let arms : s.program.arms ≡ s'.program.arms = ap (λ (p : Program). p.arms) same in
+    let written' : (s'.program.naming n).home ≢ start = λ e. written (home ∙ e) in
+    let d' : Dominates s'.program.arms (s'.program.naming n).home place =
+        subst (λ h. Dominates s'.program.arms h place) home (subst (λ edges. Dominates edges (s.program.naming n).home place) arms d) in
+    let f' : Follows s'.program.arms path = subst (λ edges. Follows edges path) arms f in
+    (correct.answers n written place d).denotes_name any path f at_end ∙
+    ap (λ p. instances p path (name n)) same ∙
+    sym ((correct'.answers n written' place d').denotes_name any path f' at_end)

@@ -168,13 +168,17 @@ pub record StandsFor (program : Program) (function : Function) (v n : ℕ) (plac
       denotation any function path v ≡ instances (all_sealed program) path (name n)
 
 -- The conclusion. After any steps, where every edge is a known arm and no parameter waits, each name's answer
--- stands for the name wherever the name's home dominates; and each parameter's argument is there where its arm
--- leaves.
+-- stands for the name wherever the name's home dominates, and is there before each place that the name is given
+-- before; each parameter's argument is there where its arm leaves.
 pub record IsCorrect (s : State) : Type 0 where
   pub answers :
-      (n : ℕ) → (s.program.naming n).home ≢ start →
-      (place : Place) → Dominates s.program.arms (s.program.naming n).home place →
-      StandsFor s.program s.function (s.answer n) n place
+    (n : ℕ) → (s.program.naming n).home ≢ start →
+    (place : Place) → Dominates s.program.arms (s.program.naming n).home place →
+    StandsFor s.program s.function (s.answer n) n place
+  pub well_placed :
+    (n : ℕ) → (s.program.naming n).home ≢ start →
+    (place : Place) → StrictlyBefore s.program.arms (s.program.naming n).home place →
+    StrictlyBefore s.program.arms (home_of s.function (s.answer n)) place
   pub arguments : ArgumentsThere s.program.arms s.function
 
 abbrev pub ConstructionIsCorrect : Type 0
@@ -191,3 +195,13 @@ SoundAnswersHold =
     (n : ℕ) → (s.program.naming n).home ≢ start →
     (place : Place) → Dominates edges (s.program.naming n).home place →
     Holds edges s.program s.function (s.answer n) (name n) place
+
+-- When places were sealed makes no difference: two correct states of one plain program give each name answers that
+-- denote the same.
+abbrev pub SealingOrderIsFree : Type 0
+SealingOrderIsFree =
+    (s s' : State) → IsCorrect s → IsCorrect s' → all_sealed s.program ≡ all_sealed s'.program →
+    (n : ℕ) → (s.program.naming n).home ≢ start →
+    (place : Place) → Dominates s.program.arms (s.program.naming n).home place →
+    (any : Program) (path : Path) → Follows s.program.arms path → end_of path ≡ place →
+    denotation any s.function path (s.answer n) ≡ denotation any s'.function path (s'.answer n)

@@ -1,6 +1,6 @@
 //! What holds after any steps.
 
-ghost use Rattle.clif_paths.specs.Laws.{AnswersHold, RecordsHold, FunctionStandsAlone, SoundAnswersHold, SoundIsCorrect, ConstructionIsCorrect};
+ghost use Rattle.clif_paths.specs.Laws.{AnswersHold, RecordsHold, FunctionStandsAlone, SoundAnswersHold, SoundIsCorrect, ConstructionIsCorrect, SealingOrderIsFree};
 
 /// While construction goes on, a name's answer holds the name wherever the name's home dominates.
 pub fn answers_hold()
@@ -31,4 +31,9 @@ pub fn construction_is_correct()
 /// The same in any sound state.
 pub fn sound_is_correct()
     ensures { SoundIsCorrect }
+{}
+
+/// When places were sealed makes no difference.
+pub fn sealing_order_is_free()
+    ensures { SealingOrderIsFree }
 {}
