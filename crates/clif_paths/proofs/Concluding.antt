@@ -197,7 +197,7 @@ sealing_order_is_free s s' correct correct' same n written place d any path f at
     let arms : s.program.arms ≡ s'.program.arms = ap (λ (p : Program). p.arms) same in
     let written' : (s'.program.naming n).home ≢ start = λ e. written (home ∙ e) in
     let d' : Dominates s'.program.arms (s'.program.naming n).home place =
-        subst (λ h. Dominates s'.program.arms h place) home (subst (λ edges. Dominates edges (s.program.naming n).home place) arms d) in
+    subst (λ h. Dominates s'.program.arms h place) home (subst (λ edges. Dominates edges (s.program.naming n).home place) arms d) in
     let f' : Follows s'.program.arms path = subst (λ edges. Follows edges path) arms f in
     (correct.answers n written place d).denotes_name any path f at_end ∙
     ap (λ p. instances p path (name n)) same ∙

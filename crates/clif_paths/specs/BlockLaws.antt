@@ -24,7 +24,9 @@ BlocksSealKeeps =
     BlocksSound blocks → BlocksSound (with_blocks_sealed blocks chosen into)
 
 abbrev pub ItemKeeps : Type 0
-ItemKeeps = (blocks : Blocks) (block : ℕ) → CanAppend blocks block → BlocksSound blocks → BlocksSound (with_item blocks block)
+ItemKeeps =
+    (blocks : Blocks) (block : ℕ) → CanAppend blocks block → BlocksSound blocks →
+    BlocksSound (with_item blocks block)
 
 abbrev pub BornKeeps : Type 0
 BornKeeps =
@@ -38,16 +40,19 @@ ReadKeeps =
 
 abbrev pub WriteKeeps : Type 0
 WriteKeeps =
-    (blocks : Blocks) (block x n : ℕ) → CanWrite blocks block x n → BlocksSound blocks → BlocksSound (with_write blocks block x n)
+    (blocks : Blocks) (block x n : ℕ) → CanWrite blocks block x n → BlocksSound blocks →
+    BlocksSound (with_write blocks block x n)
 
 abbrev pub CopyKeeps : Type 0
 CopyKeeps =
-    (blocks : Blocks) (block x v : ℕ) → CanCopy blocks block x v → BlocksSound blocks → BlocksSound (with_record blocks block x v)
+    (blocks : Blocks) (block x v : ℕ) → CanCopy blocks block x v → BlocksSound blocks →
+    BlocksSound (with_record blocks block x v)
 
 -- a look-up along a chain of single predecessors records in each block what it found
 abbrev pub ChainKeeps : Type 0
 ChainKeeps =
-    (blocks : Blocks) (x v from : ℕ) (chain : List ℕ) → blocks.recorded from x ≡ Some v → IsChain blocks x from chain →
+    (blocks : Blocks) (x v from : ℕ) (chain : List ℕ) → blocks.recorded from x ≡ Some v →
+    IsChain blocks x from chain →
     BlocksSound blocks → BlocksSound (with_chain blocks x v chain)
 
 abbrev pub ParameterKeeps : Type 0
@@ -78,7 +83,8 @@ UndefinedKeeps =
 -- tables that say the same of all that a path can see are as sound
 abbrev pub RestatedKeeps : Type 0
 RestatedKeeps =
-    (blocks blocks' : Blocks) → CompleteAtFronts blocks → SaysTheSame blocks blocks' → BlocksSound blocks → BlocksSound blocks'
+    (blocks blocks' : Blocks) → CompleteAtFronts blocks → SaysTheSame blocks blocks' → BlocksSound blocks →
+    BlocksSound blocks'
 
 -- records may be forgotten
 abbrev pub ForgetKeeps : Type 0
@@ -92,11 +98,13 @@ abbrev pub RolesExtend : Type 0
 RolesExtend =
     (roles : ℕ → Role) (instruction : ℕ) (role : Role) →
     (home_by (updated roles instruction role) (result_of instruction) ≡ place_of role) ×
-    ((birth : Birth) → birth ≢ result_of instruction → home_by (updated roles instruction role) birth ≡ home_by roles birth)
+    ((birth : Birth) → birth ≢ result_of instruction →
+    home_by (updated roles instruction role) birth ≡ home_by roles birth)
 
 -- the end of a value's links is its own end
 abbrev pub EndsAreEnds : Type 0
-EndsAreEnds = (link : ℕ → Option ℕ) (resolve : ℕ → ℕ) → Resolves link resolve → (v : ℕ) → resolve (resolve v) ≡ resolve v
+EndsAreEnds =
+    (link : ℕ → Option ℕ) (resolve : ℕ → ℕ) → Resolves link resolve → (v : ℕ) → resolve (resolve v) ≡ resolve v
 
 -- a new link from an unlinked value to another makes that one an alias
 abbrev pub NewLinkResolves : Type 0

@@ -150,7 +150,9 @@ with_record blocks block x v = record blocks {
 abbrev pub with_write : Blocks → ℕ → ℕ → ℕ → Blocks
 with_write blocks block x n =
     record (with_record blocks block x (blocks.answer n)) {
-      assigned = updated_at blocks.assigned (last_place blocks block) (updated (blocks.assigned (last_place blocks block)) x (Some n));
+      assigned =
+          updated_at blocks.assigned (last_place blocks block)
+          (updated (blocks.assigned (last_place blocks block)) x (Some n));
     }
 
 pub record CanWrite (blocks : Blocks) (block x n : ℕ) : Type 0 where
@@ -175,14 +177,16 @@ pub record CanCopy (blocks : Blocks) (block x v : ℕ) : Type 0 where
   pub is_sealed : blocks.sealed block ≡ true
   pub assigns_not : AssignsNot blocks block x
   pub along :
-      (arm : Arm) → blocks.joins arm ≡ true → arm.target ≡ front block → Carries blocks arm x (blocks.function.resolve v)
+      (arm : Arm) → blocks.joins arm ≡ true → arm.target ≡ front block →
+      Carries blocks arm x (blocks.function.resolve v)
 
 -- COPY along a chain of blocks, each of which is sealed, doesn't assign the variable, and is joined from the block
 -- before alone.
 pub record ComesFrom (blocks : Blocks) (x from block : ℕ) : Type 0 where
   pub is_sealed : blocks.sealed block ≡ true
   pub assigns_not : AssignsNot blocks block x
-  pub single : (arm : Arm) → blocks.joins arm ≡ true → arm.target ≡ front block → arm.source ≡ last_place blocks from
+  pub single :
+      (arm : Arm) → blocks.joins arm ≡ true → arm.target ≡ front block → arm.source ≡ last_place blocks from
 
 abbrev pub IsChain : Blocks → ℕ → ℕ → List ℕ → Type 0
 IsChain blocks x from [] = Unit {0}
@@ -215,7 +219,9 @@ pub record WaitsIn (blocks : Blocks) (block x v : ℕ) : Type 0 where
 abbrev pub with_filled : Blocks → ℕ → (Arm → ℕ) → Blocks
 with_filled blocks v given = record blocks {
   function = record blocks.function {
-    definition = updated blocks.function.definition v (record { home = (blocks.function.definition v).home; kind = complete });
+    definition =
+        updated blocks.function.definition v
+        (record { home = (blocks.function.definition v).home; kind = complete });
     argument = updated blocks.function.argument v given;
   };
 }
@@ -223,7 +229,8 @@ with_filled blocks v given = record blocks {
 pub record CanFillIn (blocks : Blocks) (block x v : ℕ) (given : Arm → ℕ) : Type 0 where
   pub waits : WaitsIn blocks block x v
   pub along :
-      (arm : Arm) → blocks.joins arm ≡ true → arm.target ≡ front block → Carries blocks arm x (blocks.function.resolve (given arm))
+      (arm : Arm) → blocks.joins arm ≡ true → arm.target ≡ front block →
+      Carries blocks arm x (blocks.function.resolve (given arm))
 
 -- DROP: the parameter becomes an alias of the one other value that comes to it.
 abbrev pub with_dropped : Blocks → ℕ → ℕ → Blocks
@@ -235,7 +242,8 @@ pub record CanDropIn (blocks : Blocks) (block x v target : ℕ) : Type 0 where
   pub waits : WaitsIn blocks block x v
   pub no_alias : blocks.function.resolve target ≡ target
   pub along :
-      (arm : Arm) → blocks.joins arm ≡ true → arm.target ≡ front block → Carries blocks arm x target ⊎ Carries blocks arm x v
+      (arm : Arm) → blocks.joins arm ≡ true → arm.target ≡ front block →
+      Carries blocks arm x target ⊎ Carries blocks arm x v
 
 -- ZERO: a variable's zero is put at a block's front.
 abbrev pub with_zero_in : Blocks → ℕ → ℕ → ℕ → Blocks
@@ -251,22 +259,28 @@ pub record CanUndefineIn (blocks : Blocks) (block x v z : ℕ) : Type 0 where
   pub no_alias : blocks.function.resolve z ≡ z
   pub is_zero : blocks.function.definition z ≡ record { home = front block; kind = zero_of x }
   pub along :
-      (arm : Arm) → blocks.joins arm ≡ true → arm.target ≡ front block → (arm.source ≡ start) ⊎ Carries blocks arm x v
+      (arm : Arm) → blocks.joins arm ≡ true → arm.target ≡ front block →
+      (arm.source ≡ start) ⊎ Carries blocks arm x v
 
--- RESTATE: tables that say the same of all that a path can see. Values that are aliases may be defined in any way, and
+-- RESTATE: tables that say the same of all that a path can see. Values that are aliases may be defined in any way,
+-- and
 -- arguments on arms that aren't known may be anything; so may arms into blocks that aren't sealed.
 pub record SaysTheSame (blocks blocks' : Blocks) : Type 0 where
   pub count : (b : ℕ) → blocks'.count b ≡ blocks.count b
   pub sealed : (b : ℕ) → blocks'.sealed b ≡ blocks.sealed b
-  pub joins : (b : ℕ) (arm : Arm) → blocks.sealed b ≡ true → arm.target ≡ front b → blocks'.joins arm ≡ blocks.joins arm
+  pub joins :
+      (b : ℕ) (arm : Arm) → blocks.sealed b ≡ true → arm.target ≡ front b → blocks'.joins arm ≡ blocks.joins arm
   pub assigned : (place : Place) (x : ℕ) → blocks'.assigned place x ≡ blocks.assigned place x
   pub naming : (n : ℕ) → blocks'.naming n ≡ blocks.naming n
   pub resolve : (v : ℕ) → blocks'.function.resolve v ≡ blocks.function.resolve v
   pub definition :
-      (u : ℕ) → blocks'.function.definition (blocks.function.resolve u) ≡ blocks.function.definition (blocks.function.resolve u)
+      (u : ℕ) →
+      blocks'.function.definition (blocks.function.resolve u) ≡
+      blocks.function.definition (blocks.function.resolve u)
   pub argument :
       (u b : ℕ) (arm : Arm) → (blocks.function.definition (blocks.function.resolve u)).kind ≡ complete →
-      home_of blocks.function u ≡ front b → arm.target ≡ front b → blocks.sealed b ≡ true → blocks.joins arm ≡ true →
+      home_of blocks.function u ≡ front b → arm.target ≡ front b → blocks.sealed b ≡ true →
+      blocks.joins arm ≡ true →
       blocks.function.resolve (blocks'.function.argument (blocks.function.resolve u) arm) ≡
       blocks.function.resolve (blocks.function.argument (blocks.function.resolve u) arm)
   pub recorded : (b x : ℕ) → blocks'.recorded b x ≡ blocks.recorded b x
@@ -278,7 +292,8 @@ pub record CompleteAtFronts (blocks : Blocks) : Type 0 where
       (u : ℕ) → (blocks.function.definition (blocks.function.resolve u)).kind ≡ complete →
       (b : ℕ) × (home_of blocks.function u ≡ front b) × (blocks.sealed b ≡ true)
 
--- ALIASES as links. A table of links resolves as `resolve` does where an unlinked value is its own end, a linked one
+-- ALIASES as links. A table of links resolves as `resolve` does where an unlinked value is its own end, a linked
+-- one
 -- has the end of what it links to, and an end is unlinked.
 pub record Resolves (link : ℕ → Option ℕ) (resolve : ℕ → ℕ) : Type 0 where
   pub at_end : (v : ℕ) → link v ≡ None → resolve v ≡ v

@@ -1,6 +1,7 @@
 -- What variables, names and values denote on a path: symbolic execution. An instance stands for one run-time value,
 -- told by where on the path it arose, and the two sides are compared by their instances.
--- Source: own; a variable holds what was assigned to it last, and zero before, as upstream's documentation of variables says.
+-- Source: own; a variable holds what was assigned to it last, and zero before, as upstream's documentation of
+-- variables says.
 use Rattle.std.specs.Prelude.{ℕ, cond, Option, None, Some, [], ◌∷◌}
 use Rattle.clif_paths.specs.Places.{Arm, Path, same_place}
 use Rattle.clif_paths.specs.State.{Origin, fresh, reads, Program, Kind, unborn, born, pending, complete, zero_of, Function}

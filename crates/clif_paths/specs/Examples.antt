@@ -1,5 +1,6 @@
 -- Worked examples: lists of moves whose tests all pass by computation.
--- Source: own; the situations are those that Braun et al. 2013 discuss (late sealing, trivial parameters, irreducible
+-- Source: own; the situations are those that Braun et al. 2013 discuss (late sealing, trivial parameters,
+-- irreducible
 -- control flow, undefined variables).
 use Rattle.std.specs.Prelude.{◌≡◌, ℕ, suc, cond, List, [], ◌∷◌}
 use Rattle.clif_paths.specs.Places.{start, inside, same_place, Arm, Path}
@@ -46,7 +47,10 @@ loop_blocks = (after_all blank loop_moves).blocks
 abbrev pub loop_witnesses : List Witness
 loop_witnesses =
     record { name = 0; before = start ∷ inside 0 0 ∷ [] } ∷
-    record { name = 2; before = start ∷ inside 0 0 ∷ inside 0 1 ∷ inside 0 2 ∷ inside 0 3 ∷ inside 1 0 ∷ inside 1 1 ∷ [] } ∷
+    record {
+      name = 2;
+      before = start ∷ inside 0 0 ∷ inside 0 1 ∷ inside 0 2 ∷ inside 0 3 ∷ inside 1 0 ∷ inside 1 1 ∷ [];
+    } ∷
     []
 
 -- the path that is about to give name 2 for the first time, and the one that has just read name 1 for the second
@@ -60,10 +64,12 @@ second_round = on 1 0 ∷ jump 1 4 0 1 ∷ on 1 3 ∷ on 1 2 ∷ first_round
 -- its answer, the parameter, denotes that by the function alone.
 pub record LoopSealedLate : Type 0 where
   pub correct : IsCorrect (state_of loop_blocks)
-  pub completed : (loop_blocks.function.definition (loop_blocks.function.resolve (loop_blocks.answer 1))).kind ≡ complete
+  pub completed :
+      (loop_blocks.function.definition (loop_blocks.function.resolve (loop_blocks.answer 1))).kind ≡ complete
   pub program_side : instances (state_of loop_blocks).program second_round (name 1) ≡ given 2 first_round
   pub function_side :
-      (any : Program) → denotation any loop_blocks.function second_round (loop_blocks.answer 1) ≡ given 2 first_round
+      (any : Program) →
+      denotation any loop_blocks.function second_round (loop_blocks.answer 1) ≡ given 2 first_round
 
 -- DIAMOND. Block 0 assigns name 0 and branches to blocks 1 and 2, which both jump to block 3. There the variable is
 -- read before the block is sealed; at sealing one value alone comes, and the parameter is dropped.
@@ -121,13 +127,15 @@ irreducible_witnesses =
     record {
       name = 2;
       before =
-          start ∷ inside 0 0 ∷ inside 0 1 ∷ inside 0 2 ∷ inside 0 3 ∷ inside 1 0 ∷ inside 1 1 ∷ inside 2 0 ∷ inside 2 1 ∷ inside 2 2 ∷ [];
+          start ∷ inside 0 0 ∷ inside 0 1 ∷ inside 0 2 ∷ inside 0 3 ∷
+          inside 1 0 ∷ inside 1 1 ∷ inside 2 0 ∷ inside 2 1 ∷ inside 2 2 ∷ [];
     } ∷
     []
 
 -- into block 2 first, then into block 1 and round to block 2
 abbrev pub through_both : Path
-through_both = on 1 1 ∷ on 1 0 ∷ jump 2 2 0 1 ∷ on 2 1 ∷ on 2 0 ∷ jump 0 3 1 2 ∷ on 0 2 ∷ on 0 1 ∷ on 0 0 ∷ entry ∷ []
+through_both =
+    on 1 1 ∷ on 1 0 ∷ jump 2 2 0 1 ∷ on 2 1 ∷ on 2 0 ∷ jump 0 3 1 2 ∷ on 0 2 ∷ on 0 1 ∷ on 0 0 ∷ entry ∷ []
 
 abbrev pub round_again : Path
 round_again = on 2 0 ∷ jump 1 4 0 2 ∷ on 1 3 ∷ on 1 2 ∷ through_both
@@ -136,7 +144,8 @@ pub record IrreducibleLoop : Type 0 where
   pub correct : IsCorrect (state_of irreducible_blocks)
   pub program_side : instances (state_of irreducible_blocks).program round_again (name 3) ≡ given 2 through_both
   pub function_side :
-      (any : Program) → denotation any irreducible_blocks.function round_again (irreducible_blocks.answer 3) ≡ given 2 through_both
+      (any : Program) →
+      denotation any irreducible_blocks.function round_again (irreducible_blocks.answer 3) ≡ given 2 through_both
 
 -- UNREACHABLE. Blocks 1 and 2 jump to one another and nothing else leads to them; both read the variable, which is
 -- assigned nowhere. Their parameters end as aliases of one zero, value 2.

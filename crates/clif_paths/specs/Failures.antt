@@ -39,7 +39,8 @@ two_witnesses =
     record {
       name = 1;
       before =
-          start ∷ inside 0 0 ∷ inside 0 1 ∷ inside 0 2 ∷ inside 0 3 ∷ inside 1 0 ∷ inside 2 0 ∷ inside 2 1 ∷ inside 3 0 ∷ [];
+          start ∷ inside 0 0 ∷ inside 0 1 ∷ inside 0 2 ∷ inside 0 3 ∷
+          inside 1 0 ∷ inside 2 0 ∷ inside 2 1 ∷ inside 3 0 ∷ [];
     } ∷
     []
 

@@ -22,7 +22,8 @@ pub record AgreeAtVisits (edges : Edges) (place : Place) (f f' : Path → Instan
 -- they agree wherever h dominates.
 abbrev pub AgreementIsKept : Type 0
 AgreementIsKept =
-    (edges : Edges) (h g : Place) (f f' : Path → Instance) → ChangesOnlyAt h f → ChangesOnlyAt g f' → Dominates edges g h →
+    (edges : Edges) (h g : Place) (f f' : Path → Instance) → ChangesOnlyAt h f → ChangesOnlyAt g f' →
+    Dominates edges g h →
     AgreeAtVisits edges h f f' →
     (path : Path) → Follows edges path → Dominates edges h (end_of path) → f path ≡ f' path
 
@@ -32,7 +33,8 @@ DominationIsAntisymmetric =
     (edges : Edges) (g h : Place) → Dominates edges g h → Dominates edges h g → g ≢ h →
     (path : Path) → Follows edges path → end_of path ≢ h
 
--- Execution, step by step ------------------------------------------------------------------------------------------
+-- Execution, step by step
+-- ------------------------------------------------------------------------------------------
 
 -- a variable as a path enters an arm's target
 abbrev pub entered : Program → Arm → Path → ℕ → Instance
@@ -40,15 +42,20 @@ entered program arm path x = entering program arm path (λ h. instances program 
 
 -- the program's side, after one arm more
 pub record ProgramSteps (program : Program) (arm : Arm) (path : Path) : Type 0 where
-  pub known_place : program.is_sealed arm.target ≡ true → (x : ℕ) → entered program arm path x ≡ instances program path (variable x)
-  pub unknown_place : program.is_sealed arm.target ≡ false → (x : ℕ) → entered program arm path x ≡ unknown x (arm ∷ path)
+  pub known_place :
+      program.is_sealed arm.target ≡ true → (x : ℕ) →
+      entered program arm path x ≡ instances program path (variable x)
+  pub unknown_place :
+      program.is_sealed arm.target ≡ false → (x : ℕ) → entered program arm path x ≡ unknown x (arm ∷ path)
   pub unassigned :
-      (x : ℕ) → program.assigned arm.target x ≡ None → instances program (arm ∷ path) (variable x) ≡ entered program arm path x
+      (x : ℕ) → program.assigned arm.target x ≡ None →
+      instances program (arm ∷ path) (variable x) ≡ entered program arm path x
   pub assigned :
       (x n : ℕ) → program.assigned arm.target x ≡ Some n →
       instances program (arm ∷ path) (variable x) ≡ instances program path (name n)
   pub elsewhere :
-      (n : ℕ) → (program.naming n).home ≢ arm.target → instances program (arm ∷ path) (name n) ≡ instances program path (name n)
+      (n : ℕ) → (program.naming n).home ≢ arm.target →
+      instances program (arm ∷ path) (name n) ≡ instances program path (name n)
   pub given_here :
       (n : ℕ) → program.naming n ≡ record { home = arm.target; origin = fresh } →
       instances program (arm ∷ path) (name n) ≡ given n (arm ∷ path)
@@ -87,16 +94,20 @@ abbrev pub FirstIsSound : Type 0
 FirstIsSound = Sound initial
 
 abbrev pub SealKeeps : Type 0
-SealKeeps = (s : State) (chosen : Place → Bool) (into : Edges) → CanSeal s chosen → Sound s → Sound (with_sealed s chosen into)
+SealKeeps =
+    (s : State) (chosen : Place → Bool) (into : Edges) → CanSeal s chosen → Sound s →
+    Sound (with_sealed s chosen into)
 
 abbrev pub RecordKeeps : Type 0
-RecordKeeps = (s : State) (records : Place → ℕ → Option ℕ) → CanRecord s records → Sound s → Sound (with_records s records)
+RecordKeeps =
+    (s : State) (records : Place → ℕ → Option ℕ) → CanRecord s records → Sound s → Sound (with_records s records)
 
 abbrev pub WaitKeeps : Type 0
 WaitKeeps = (s : State) (place : Place) (x v : ℕ) → CanWait s place x v → Sound s → Sound (with_pending s place x v)
 
 abbrev pub FillKeeps : Type 0
-FillKeeps = (s : State) (x v : ℕ) (given : Arm → ℕ) → CanFill s x v given → Sound s → Sound (with_arguments s v given)
+FillKeeps =
+    (s : State) (x v : ℕ) (given : Arm → ℕ) → CanFill s x v given → Sound s → Sound (with_arguments s v given)
 
 abbrev pub DropKeeps : Type 0
 DropKeeps = (s : State) (x v target : ℕ) → CanDrop s x v target → Sound s → Sound (with_alias s v target)
@@ -114,11 +125,13 @@ abbrev pub UseKeeps : Type 0
 UseKeeps = (s : State) (place : Place) (n x v : ℕ) → CanUse s place n x v → Sound s → Sound (with_use s place n x v)
 
 abbrev pub AssignKeeps : Type 0
-AssignKeeps = (s : State) (place : Place) (x n : ℕ) → CanAssign s place x n → Sound s → Sound (with_assigned s place x n)
+AssignKeeps =
+    (s : State) (place : Place) (x n : ℕ) → CanAssign s place x n → Sound s → Sound (with_assigned s place x n)
 
 abbrev pub RestateKeeps : Type 0
 RestateKeeps =
-    (s : State) (definition : ℕ → Definition) (argument : ℕ → Arm → ℕ) → CanRestate s definition argument → Sound s →
+    (s : State) (definition : ℕ → Definition) (argument : ℕ → Arm → ℕ) → CanRestate s definition argument →
+    Sound s →
     Sound (with_tables s definition argument)
 
 abbrev pub StepsKeep : Type 0
@@ -172,17 +185,18 @@ pub record StandsFor (program : Program) (function : Function) (v n : ℕ) (plac
 -- before; each parameter's argument is there where its arm leaves.
 pub record IsCorrect (s : State) : Type 0 where
   pub answers :
-    (n : ℕ) → (s.program.naming n).home ≢ start →
-    (place : Place) → Dominates s.program.arms (s.program.naming n).home place →
-    StandsFor s.program s.function (s.answer n) n place
+      (n : ℕ) → (s.program.naming n).home ≢ start →
+      (place : Place) → Dominates s.program.arms (s.program.naming n).home place →
+      StandsFor s.program s.function (s.answer n) n place
   pub well_placed :
-    (n : ℕ) → (s.program.naming n).home ≢ start →
-    (place : Place) → StrictlyBefore s.program.arms (s.program.naming n).home place →
-    StrictlyBefore s.program.arms (home_of s.function (s.answer n)) place
+      (n : ℕ) → (s.program.naming n).home ≢ start →
+      (place : Place) → StrictlyBefore s.program.arms (s.program.naming n).home place →
+      StrictlyBefore s.program.arms (home_of s.function (s.answer n)) place
   pub arguments : ArgumentsThere s.program.arms s.function
 
 abbrev pub ConstructionIsCorrect : Type 0
-ConstructionIsCorrect = (s : State) → Steps initial s → NothingPending s.function → AssignsGiven s.program → IsCorrect s
+ConstructionIsCorrect =
+    (s : State) → Steps initial s → NothingPending s.function → AssignsGiven s.program → IsCorrect s
 
 -- the same for any sound state
 abbrev pub SoundIsCorrect : Type 0

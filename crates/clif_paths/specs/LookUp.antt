@@ -67,28 +67,33 @@ Expects blocks predecessors x first (f ∷ frames) b =
     FrameFits blocks x f ×
     (predecessors f.block ≡ back_onto f.done (b ∷ f.todo)) ×
     NotFor f.parameter frames ×
-    (((frames ≡ []) × (first ≡ None)) ⊎ ((c : ℕ) × (Knows blocks c x f.parameter) × (Expects blocks predecessors x first frames c)))
+    (((frames ≡ []) × (first ≡ None)) ⊎
+    ((c : ℕ) × (Knows blocks c x f.parameter) × (Expects blocks predecessors x first frames c)))
 
 -- a value that is a result for what the frames expect
 abbrev pub GoesTo : Blocks → (ℕ → List ℕ) → ℕ → Option ℕ → List Frame → ℕ → Type 0
 GoesTo blocks predecessors x first frames r =
-    ((frames ≡ []) × (first ≡ None)) ⊎ ((c : ℕ) × (Knows blocks c x r) × (Expects blocks predecessors x first frames c))
+    ((frames ≡ []) × (first ≡ None)) ⊎
+    ((c : ℕ) × (Knows blocks c x r) × (Expects blocks predecessors x first frames c))
 
 -- Between two calls: all predecessors of the frame's block are done or to do.
-pub record AtRest (blocks : Blocks) (predecessors : ℕ → List ℕ) (x : ℕ) (first : Option ℕ) (f : Frame) (frames : List Frame) : Type 0 where
+pub record AtRest (blocks : Blocks) (predecessors : ℕ → List ℕ) (x : ℕ) (first : Option ℕ) (f : Frame)
+    (frames : List Frame) : Type 0 where
   pub fits : FrameFits blocks x f
   pub all : predecessors f.block ≡ back_onto f.done f.todo
   pub apart : NotFor f.parameter frames
   pub below : GoesTo blocks predecessors x first frames f.parameter
 
 -- sound tables, a stack that waits for a block's result, and what that block's record resolves as
-pub record Finds (blocks : Blocks) (predecessors : ℕ → List ℕ) (x : ℕ) (first : Option ℕ) (frames : List Frame) (b r : ℕ) : Type 0 where
+pub record Finds (blocks : Blocks) (predecessors : ℕ → List ℕ) (x : ℕ) (first : Option ℕ)
+    (frames : List Frame) (b r : ℕ) : Type 0 where
   pub sound : BlocksSound blocks
   pub expects : Expects blocks predecessors x first frames b
   pub knows : Knows blocks b x r
 
 -- sound tables, and a result for what the frames expect
-pub record Delivers (blocks : Blocks) (predecessors : ℕ → List ℕ) (x : ℕ) (first : Option ℕ) (frames : List Frame) (r : ℕ) : Type 0 where
+pub record Delivers (blocks : Blocks) (predecessors : ℕ → List ℕ) (x : ℕ) (first : Option ℕ)
+    (frames : List Frame) (r : ℕ) : Type 0 where
   pub sound : BlocksSound blocks
   pub goes : GoesTo blocks predecessors x first frames r
 
@@ -114,21 +119,25 @@ Paired (c ∷ bs) (s ∷ rs) b r = ((b ≡ c) × (r ≡ s)) ⊎ Paired bs rs b r
 
 -- each known arm into the block leaves the last place of one of these blocks
 pub record LeavesOneOf (blocks : Blocks) (block : ℕ) (among : List ℕ) : Type 0 where
-  pub from : (arm : Arm) → blocks.joins arm ≡ true → arm.target ≡ front block → (b : ℕ) × (InList among b) × (arm.source ≡ last_place blocks b)
+  pub from :
+      (arm : Arm) → blocks.joins arm ≡ true → arm.target ≡ front block →
+      (b : ℕ) × (InList among b) × (arm.source ≡ last_place blocks b)
 
 -- LAWS ------------------------------------------------------------------------------------------------------------
 
 -- a result goes to the topmost frame, for the predecessor that it is for
 abbrev pub ResultIsPushed : Type 0
 ResultIsPushed =
-    (blocks : Blocks) (predecessors : ℕ → List ℕ) (x : ℕ) (first : Option ℕ) (f : Frame) (frames : List Frame) (r : ℕ) →
+    (blocks : Blocks) (predecessors : ℕ → List ℕ) (x : ℕ) (first : Option ℕ)
+    (f : Frame) (frames : List Frame) (r : ℕ) →
     Delivers blocks predecessors x first (f ∷ frames) r →
     (b : ℕ) × AtRest blocks predecessors x first (record f { done = b ∷ f.done; results = r ∷ f.results }) frames
 
 -- the last result of a use is what the block's record resolves as
 abbrev pub LastResultAnswers : Type 0
 LastResultAnswers =
-    (blocks : Blocks) (predecessors : ℕ → List ℕ) (x block r : ℕ) → Delivers blocks predecessors x (Some block) [] r → Knows blocks block x r
+    (blocks : Blocks) (predecessors : ℕ → List ℕ) (x block r : ℕ) →
+    Delivers blocks predecessors x (Some block) [] r → Knows blocks block x r
 
 -- what a look-up finds is a result
 abbrev pub FoundIsDelivered : Type 0
@@ -139,14 +148,16 @@ FoundIsDelivered =
 -- the next predecessor is looked up
 abbrev pub NextIsExpected : Type 0
 NextIsExpected =
-    (blocks : Blocks) (predecessors : ℕ → List ℕ) (x : ℕ) (first : Option ℕ) (f : Frame) (frames : List Frame) (b : ℕ) (todo : List ℕ) →
+    (blocks : Blocks) (predecessors : ℕ → List ℕ) (x : ℕ) (first : Option ℕ)
+    (f : Frame) (frames : List Frame) (b : ℕ) (todo : List ℕ) →
     f.todo ≡ b ∷ todo → AtRest blocks predecessors x first f frames →
     Expects blocks predecessors x first (record f { todo = todo } ∷ frames) b
 
 -- a record is found, along a chain of single predecessors from the block that has it
 abbrev pub RecordIsFound : Type 0
 RecordIsFound =
-    (blocks : Blocks) (predecessors : ℕ → List ℕ) (x : ℕ) (first : Option ℕ) (frames : List Frame) (from v : ℕ) (chain : List ℕ) →
+    (blocks : Blocks) (predecessors : ℕ → List ℕ) (x : ℕ) (first : Option ℕ)
+    (frames : List Frame) (from v : ℕ) (chain : List ℕ) →
     BlocksSound blocks → Expects blocks predecessors x first frames (last_of from chain) →
     blocks.recorded from x ≡ Some v → IsChain blocks x from chain → Unrecorded blocks x v chain →
     Finds (with_chain blocks x v chain) predecessors x first frames (last_of from chain) v
@@ -154,27 +165,34 @@ RecordIsFound =
 -- none is found: a parameter is added where the chain begins
 abbrev pub ParameterIsAdded : Type 0
 ParameterIsAdded =
-    (blocks : Blocks) (predecessors : ℕ → List ℕ) (x : ℕ) (first : Option ℕ) (frames : List Frame) (from v : ℕ) (chain : List ℕ) →
+    (blocks : Blocks) (predecessors : ℕ → List ℕ) (x : ℕ) (first : Option ℕ)
+    (frames : List Frame) (from v : ℕ) (chain : List ℕ) →
     BlocksSound blocks → Expects blocks predecessors x first frames (last_of from chain) →
-    CanAddParameter blocks from x v → blocks.recorded from x ≡ None → IsChain blocks x from chain → Unrecorded blocks x v chain →
-    Finds (with_chain (with_parameter blocks from x v) x v chain) predecessors x first frames (last_of from chain) v × NotFor v frames
+    CanAddParameter blocks from x v → blocks.recorded from x ≡ None → IsChain blocks x from chain →
+    Unrecorded blocks x v chain →
+    Finds (with_chain (with_parameter blocks from x v) x v chain) predecessors x first frames (last_of from chain) v ×
+    NotFor v frames
 
 -- a parameter of a sealed block begins a look-up in its predecessors
 abbrev pub FrameIsPushed : Type 0
 FrameIsPushed =
     (blocks : Blocks) (predecessors : ℕ → List ℕ) (x : ℕ) (first : Option ℕ) (frames : List Frame) (block v : ℕ) →
-    Delivers blocks predecessors x first frames v → WaitsIn blocks block x v → blocks.function.resolve v ≡ v → NotFor v frames →
-    AtRest blocks predecessors x first (record { parameter = v; block = block; done = []; results = []; todo = predecessors block }) frames
+    Delivers blocks predecessors x first frames v → WaitsIn blocks block x v → blocks.function.resolve v ≡ v →
+    NotFor v frames →
+    AtRest blocks predecessors x first
+    (record { parameter = v; block = block; done = []; results = []; todo = predecessors block }) frames
 
 -- at sealing, the look-up for a parameter begins with an empty stack
 abbrev pub SealingBegins : Type 0
 SealingBegins =
-    (blocks : Blocks) (predecessors : ℕ → List ℕ) (x v : ℕ) → BlocksSound blocks → Delivers blocks predecessors x None [] v
+    (blocks : Blocks) (predecessors : ℕ → List ℕ) (x v : ℕ) → BlocksSound blocks →
+    Delivers blocks predecessors x None [] v
 
 -- a look-up ends with one value beside the parameter: that value is the result
 abbrev pub DroppingFinishes : Type 0
 DroppingFinishes =
-    (blocks : Blocks) (predecessors : ℕ → List ℕ) (x : ℕ) (first : Option ℕ) (f : Frame) (frames : List Frame) (target : ℕ) →
+    (blocks : Blocks) (predecessors : ℕ → List ℕ) (x : ℕ) (first : Option ℕ)
+    (f : Frame) (frames : List Frame) (target : ℕ) →
     BlocksSound blocks → AtRest blocks predecessors x first f frames → f.todo ≡ [] →
     LeavesOneOf blocks f.block (predecessors f.block) →
     blocks.function.resolve target ≡ target → target ≢ f.parameter →
@@ -184,7 +202,8 @@ DroppingFinishes =
 -- it ends with more: the parameter gets each predecessor's result on its arms, and is the result
 abbrev pub FillingFinishes : Type 0
 FillingFinishes =
-    (blocks : Blocks) (predecessors : ℕ → List ℕ) (x : ℕ) (first : Option ℕ) (f : Frame) (frames : List Frame) (given : Arm → ℕ) →
+    (blocks : Blocks) (predecessors : ℕ → List ℕ) (x : ℕ) (first : Option ℕ)
+    (f : Frame) (frames : List Frame) (given : Arm → ℕ) →
     BlocksSound blocks → AtRest blocks predecessors x first f frames →
     ((arm : Arm) → blocks.joins arm ≡ true → arm.target ≡ front f.block →
     (b : ℕ) × (Paired f.done f.results b (given arm)) × (arm.source ≡ last_place blocks b)) →
@@ -193,7 +212,8 @@ FillingFinishes =
 -- it ends with none: a zero is put into the block, and is the result
 abbrev pub ZeroFinishes : Type 0
 ZeroFinishes =
-    (blocks : Blocks) (predecessors : ℕ → List ℕ) (x : ℕ) (first : Option ℕ) (f : Frame) (frames : List Frame) (z : ℕ) →
+    (blocks : Blocks) (predecessors : ℕ → List ℕ) (x : ℕ) (first : Option ℕ)
+    (f : Frame) (frames : List Frame) (z : ℕ) →
     BlocksSound blocks → AtRest blocks predecessors x first f frames → f.todo ≡ [] →
     ((arm : Arm) → blocks.joins arm ≡ true → arm.target ≡ front f.block →
     (arm.source ≡ start) ⊎ ((b : ℕ) × (InList (predecessors f.block) b) × (arm.source ≡ last_place blocks b))) →

@@ -7,7 +7,8 @@ use Rattle.clif_paths.specs.Laws.{IsCorrect}
 use Rattle.clif_paths.specs.Moves.{blank, Move, after_all, allows_all, Witness, is_finished}
 
 abbrev pub AllowedMovesAreSound : Type 0
-AllowedMovesAreSound = (moves : List Move) → allows_all blank moves ≡ true → BlocksSound (after_all blank moves).blocks
+AllowedMovesAreSound =
+    (moves : List Move) → allows_all blank moves ≡ true → BlocksSound (after_all blank moves).blocks
 
 abbrev pub FinishedMovesAreCorrect : Type 0
 FinishedMovesAreCorrect =

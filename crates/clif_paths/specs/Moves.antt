@@ -1,4 +1,5 @@
--- Construction as a list of moves on finite sheets, each with a test that computes. A list whose tests all pass is a
+-- Construction as a list of moves on finite sheets, each with a test that computes. A list whose tests all pass is
+-- a
 -- worked example: what its tables denote is then known by the laws.
 -- Source: own; the moves are the operations of Braun et al. 2013 on blocks.
 use Rattle.std.specs.Prelude.{ℕ, suc, Bool, true, false, ◌==◌, ◌&&◌, ◌||◌, nat_lt, Option, None, Some, List, [], ◌∷◌, ◌++◌}
@@ -102,17 +103,20 @@ resolves_to blocks (Some w) v = blocks.function.resolve w == v
 -- the place is the last of its block, and the block's record of the variable resolves to this value
 unfoldable pub carries_from : Blocks → Place → ℕ → ℕ → Bool
 carries_from blocks start x v = false
-carries_from blocks (inside block k) x v = (k == blocks.count block) && resolves_to blocks (blocks.recorded block x) v
+carries_from blocks (inside block k) x v = (k == blocks.count block) &&
+    resolves_to blocks (blocks.recorded block x) v
 
 -- each known arm into the block passes
 unfoldable pub each_into : Sheet → ℕ → (Arm → Bool) → Bool
 each_into sheet block test = each_arm (λ arm. differs (same_place arm.target (front block)) || test arm) sheet.arms
 
 unfoldable pub is_new_name : Sheet → ℕ → Bool
-is_new_name sheet n = same_place (sheet.blocks.naming n).home start && each_write (λ w. differs (w.name == n)) sheet.writes
+is_new_name sheet n = same_place (sheet.blocks.naming n).home start &&
+    each_write (λ w. differs (w.name == n)) sheet.writes
 
 unfoldable pub is_new_value : Sheet → ℕ → Bool
-is_new_value sheet v = same_place (sheet.blocks.function.definition v).home start && (sheet.blocks.function.resolve v == v)
+is_new_value sheet v = same_place (sheet.blocks.function.definition v).home start &&
+    (sheet.blocks.function.resolve v == v)
 
 unfoldable pub waits_in : Sheet → ℕ → ℕ → ℕ → Bool
 waits_in sheet block x v =
@@ -143,7 +147,8 @@ allows sheet (fill_parameter block x v given) =
 allows sheet (drop_parameter block x v target) =
     waits_in sheet block x v &&
     ((sheet.blocks.function.resolve target == target) &&
-    each_into sheet block (λ arm. carries_from sheet.blocks arm.source x target || carries_from sheet.blocks arm.source x v))
+    each_into sheet block
+    (λ arm. carries_from sheet.blocks arm.source x target || carries_from sheet.blocks arm.source x v))
 allows sheet (add_zero block x z) = is_new_value sheet z
 allows sheet (undefine_parameter block x v z) =
     waits_in sheet block x v &&
@@ -199,14 +204,17 @@ each_place test (p ∷ places) = test p && each_place test places
 unfoldable pub next_within : Blocks → Place → List Place → Place → Bool
 next_within blocks home places start = true
 next_within blocks home places (inside block k) =
-    differs (nat_lt k (blocks.count block)) || (same_place (inside block (suc k)) home || in_places places (inside block (suc k)))
+    differs (nat_lt k (blocks.count block)) ||
+    (same_place (inside block (suc k)) home || in_places places (inside block (suc k)))
 
 -- The places that are reached from the start without a visit of the home are all in the list.
 unfoldable pub holds_all_before : Sheet → Place → List Place → Bool
 holds_all_before sheet home places =
     in_places places start &&
     (each_place (next_within sheet.blocks home places) places &&
-    each_arm (λ arm. differs (in_places places arm.source) || (same_place arm.target home || in_places places arm.target)) sheet.arms)
+    each_arm
+    (λ arm. differs (in_places places arm.source) || (same_place arm.target home || in_places places arm.target))
+    sheet.arms)
 
 -- a write, with the places that are reached without a visit of the written name's home
 pub record Witness : Type 0 where
@@ -219,7 +227,8 @@ shown_by sheet [] write = false
 shown_by sheet (witness ∷ witnesses) write =
     ((witness.name == write.name) &&
     (holds_all_before sheet (sheet.blocks.naming write.name).home witness.before &&
-    (differs (in_places witness.before write.place) && differs (same_place (sheet.blocks.naming write.name).home write.place)))) ||
+    (differs (in_places witness.before write.place) &&
+    differs (same_place (sheet.blocks.naming write.name).home write.place)))) ||
     shown_by sheet witnesses write
 
 -- FINISHED --------------------------------------------------------------------------------------------------------
@@ -232,8 +241,10 @@ is_settled _ = true
 unfoldable pub each_settled : Blocks → List ℕ → Bool
 each_settled blocks [] = true
 each_settled blocks (v ∷ values) =
-    (differs (blocks.function.resolve v == v) || is_settled (blocks.function.definition v).kind) && each_settled blocks values
+    (differs (blocks.function.resolve v == v) || is_settled (blocks.function.definition v).kind) &&
+    each_settled blocks values
 
 -- no parameter waits, and each assigned name is given before
 unfoldable pub is_finished : Sheet → List Witness → Bool
-is_finished sheet witnesses = each_settled sheet.blocks sheet.values && each_write (shown_by sheet witnesses) sheet.writes
+is_finished sheet witnesses = each_settled sheet.blocks sheet.values &&
+    each_write (shown_by sheet witnesses) sheet.writes

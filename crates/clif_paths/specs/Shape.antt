@@ -1,5 +1,7 @@
--- The structure of blocks under construction: parameters, edges, records and look-ups, over all blocks, reached or not.
--- Source: own, after upstream's documentation: the caller's parameters are appended while a block is empty, edges are
+-- The structure of blocks under construction: parameters, edges, records and look-ups, over all blocks, reached or
+-- not.
+-- Source: own, after upstream's documentation: the caller's parameters are appended while a block is empty, edges
+-- are
 -- given arguments for variables at their ends.
 use Rattle.std.specs.Prelude.{◌≡◌, ◌≢◌, ℕ, suc, ◌+◌, ◌≤◌, Bool, true, false, ◌==◌, Option, None, Some, List, [], ◌∷◌, ◌++◌, length, ◌⊎◌, remove}
 use Rattle.clif_paths.specs.Steps.{updated}
@@ -78,8 +80,10 @@ pub record IsBlockShape (types : Types) (b : BlockShape) : Type 0 where
   -- a block that keeps a variable's parameter has two predecessors at least
   pub joined : (b.completed ≡ []) ⊎ (2 ≤ length b.predecessors)
   -- parameters and records have their variables' types
-  pub completed_typed : (p : Parameter) → HasParameter b.completed p → types.of_value p.value ≡ types.of_variable p.variable
-  pub waiting_typed : (p : Parameter) → HasParameter b.waiting p → types.of_value p.value ≡ types.of_variable p.variable
+  pub completed_typed :
+      (p : Parameter) → HasParameter b.completed p → types.of_value p.value ≡ types.of_variable p.variable
+  pub waiting_typed :
+      (p : Parameter) → HasParameter b.waiting p → types.of_value p.value ≡ types.of_variable p.variable
   pub recorded_typed : (x v : ℕ) → b.recorded x ≡ Some v → types.of_value v ≡ types.of_variable x
   -- a variable whose parameter waits is recorded, and no other parameter of it waits
   pub waiting_recorded : (p : Parameter) → HasParameter b.waiting p → b.recorded p.variable ≢ None
@@ -99,7 +103,8 @@ pub record IsEdgeShape (types : Types) (completed : List Parameter) (e : EdgeSha
 
 pub record Structured (types : Types) (shape : Shape) : Type 0 where
   pub blocks : (b : ℕ) → IsBlockShape types (shape.block b)
-  pub edges : (e b : ℕ) → (shape.edge e).target ≡ Some b → IsEdgeShape types (shape.block b).completed (shape.edge e)
+  pub edges :
+      (e b : ℕ) → (shape.edge e).target ≡ Some b → IsEdgeShape types (shape.block b).completed (shape.edge e)
 
 -- STEPS -----------------------------------------------------------------------------------------------------------
 
@@ -189,13 +194,16 @@ pub data ShapeStep (types : Types) : Shape → Shape → Type 0 where
       })
   -- an edge is led to another block; neither is sealed
   retarget :
-      {shape : Shape} (e b c : ℕ) → (shape.edge e).target ≡ Some b → (shape.block b).sealed ≡ false → (shape.block c).sealed ≡ false →
+      {shape : Shape} (e b c : ℕ) → (shape.edge e).target ≡ Some b → (shape.block b).sealed ≡ false →
+      (shape.block c).sealed ≡ false →
       ShapeStep types shape (record shape { edge = updated shape.edge e (record (shape.edge e) { target = Some c }) })
   -- predecessors are declared or removed while the block is not sealed
   declare :
       {shape : Shape} (b : ℕ) (predecessors : List ℕ) → (shape.block b).sealed ≡ false →
       ShapeStep types shape (with_block shape b (record (shape.block b) { predecessors = predecessors }))
-  seal_shape : {shape : Shape} (b : ℕ) → ShapeStep types shape (with_block shape b (record (shape.block b) { sealed = true }))
+  seal_shape :
+      {shape : Shape} (b : ℕ) →
+      ShapeStep types shape (with_block shape b (record (shape.block b) { sealed = true }))
   -- a caller's parameter, while the block has no other
   add_caller :
       {shape : Shape} (b v : ℕ) → (shape.block b).completed ≡ [] → (shape.block b).waiting ≡ [] →
@@ -206,11 +214,13 @@ pub data ShapeStep (types : Types) : Shape → Shape → Type 0 where
       ShapeStep types shape (with_block shape b (waiting_added (shape.block b) x v))
   -- the look-up for the first parameter that waits
   begin_lookup :
-      {shape : Shape} (b : ℕ) (p : Parameter) (rest : List Parameter) → (shape.block b).waiting ≡ p ∷ rest → p.begun ≡ false →
+      {shape : Shape} (b : ℕ) (p : Parameter) (rest : List Parameter) → (shape.block b).waiting ≡ p ∷ rest →
+      p.begun ≡ false →
       ShapeStep types shape (with_block shape b (lookup_begun (shape.block b) p rest))
   -- it ends with two values at least: each edge gets its argument
   complete_first :
-      {shape : Shape} (b : ℕ) (p : Parameter) (rest : List Parameter) (given : ℕ → ℕ) → (shape.block b).waiting ≡ p ∷ rest →
+      {shape : Shape} (b : ℕ) (p : Parameter) (rest : List Parameter) (given : ℕ → ℕ) →
+      (shape.block b).waiting ≡ p ∷ rest →
       (shape.block b).sealed ≡ true → 2 ≤ length (shape.block b).predecessors →
       ((e : ℕ) → (shape.edge e).target ≡ Some b → types.of_value (given e) ≡ types.of_variable p.variable) →
       ShapeStep types shape (record {
@@ -234,7 +244,9 @@ pub data ShapeStep (types : Types) : Shape → Shape → Type 0 where
 -- Any number of steps, the first at the left.
 pub data ShapeSteps (types : Types) : Shape → Shape → Type 0 where
   no_step : {shape : Shape} → ShapeSteps types shape shape
-  and_then : {shape shape' shape'' : Shape} → ShapeSteps types shape shape' → ShapeStep types shape' shape'' → ShapeSteps types shape shape''
+  and_then :
+      {shape shape' shape'' : Shape} → ShapeSteps types shape shape' → ShapeStep types shape' shape'' →
+      ShapeSteps types shape shape''
 
 -- LAWS ------------------------------------------------------------------------------------------------------------
 
@@ -242,12 +254,15 @@ abbrev pub FirstShapeStructured : Type 0
 FirstShapeStructured = (types : Types) → Structured types no_shape
 
 abbrev pub StructureKept : Type 0
-StructureKept = (types : Types) (shape shape' : Shape) → ShapeStep types shape shape' → Structured types shape → Structured types shape'
+StructureKept =
+    (types : Types) (shape shape' : Shape) → ShapeStep types shape shape' → Structured types shape →
+    Structured types shape'
 
 -- where nothing waits in a block, an edge whose caller's arguments match its caller's parameters matches it whole
 abbrev pub EdgesMatch : Type 0
 EdgesMatch =
-    (types : Types) (shape : Shape) → Structured types shape → (e b : ℕ) → (shape.edge e).target ≡ Some b → (shape.block b).waiting ≡ [] →
+    (types : Types) (shape : Shape) → Structured types shape → (e b : ℕ) → (shape.edge e).target ≡ Some b →
+    (shape.block b).waiting ≡ [] →
     SameTypes types (shape.edge e).caller_arguments (shape.block b).callers →
     SameTypes types (shape.edge e).arguments (shape.block b).parameters
 

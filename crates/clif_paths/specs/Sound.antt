@@ -11,13 +11,16 @@ pub record Allowed (program : Program) (edges : Edges) : Type 0 where
   pub known : (arm : Arm) → program.is_sealed arm.target ≡ true → edges arm ≡ program.arms arm
   pub rooted : (arm : Arm) → arm.target ≡ start → edges arm ≡ false
   pub given_before :
-      (place : Place) (x n : ℕ) → program.assigned place x ≡ Some n → StrictlyBefore edges (program.naming n).home place
+      (place : Place) (x n : ℕ) → program.assigned place x ≡ Some n →
+      StrictlyBefore edges (program.naming n).home place
 
 -- The value is there at the place, and on every path to it denotes what the variable or name does.
-pub record Holds (edges : Edges) (program : Program) (function : Function) (value : ℕ) (holder : Holder) (place : Place) : Type 0 where
+pub record Holds (edges : Edges) (program : Program) (function : Function) (value : ℕ) (holder : Holder)
+    (place : Place) : Type 0 where
   pub there : Dominates edges (home_of function value) place
   pub agrees :
-      (path : Path) → Follows edges path → end_of path ≡ place → denotation program function path value ≡ instances program path holder
+      (path : Path) → Follows edges path → end_of path ≡ place →
+      denotation program function path value ≡ instances program path holder
 
 -- each argument of a complete parameter is there where its arm leaves
 pub record ArgumentsThere (edges : Edges) (function : Function) : Type 0 where
@@ -32,10 +35,12 @@ pub record ArgumentsThere (edges : Edges) (function : Function) : Type 0 where
 pub record SoundUnder (edges : Edges) (s : State) : Type 0 where
   pub arguments : ArgumentsThere edges s.function
   pub records :
-      (place : Place) (x v : ℕ) → s.recorded place x ≡ Some v → Holds edges s.program s.function v (variable x) place
+      (place : Place) (x v : ℕ) → s.recorded place x ≡ Some v →
+      Holds edges s.program s.function v (variable x) place
   pub answers :
       (n : ℕ) →
-      (s.program.naming n).home ≢ start → Holds edges s.program s.function (s.answer n) (name n) (s.program.naming n).home
+      (s.program.naming n).home ≢ start →
+      Holds edges s.program s.function (s.answer n) (name n) (s.program.naming n).home
 
 -- The state is sound: whatever allowed edges the program turns out to have. Known arms lead to sealed places only,
 -- and never to the virtual start.

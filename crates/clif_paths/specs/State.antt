@@ -1,5 +1,6 @@
 -- A variable program and a function under construction, as tables. Variables, names and values are numbers.
--- Source: own, after the data that Braun et al. 2013 keep (sealed blocks, incomplete parameters, current definitions).
+-- Source: own, after the data that Braun et al. 2013 keep (sealed blocks, incomplete parameters, current
+-- definitions).
 use Rattle.std.specs.Prelude.{ℕ, Bool, Option}
 use Rattle.clif_paths.specs.Places.{Place, Arm, Edges}
 

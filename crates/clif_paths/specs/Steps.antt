@@ -206,14 +206,17 @@ with_tables s definition argument = record s {
 pub record CanRestate (s : State) (definition : ℕ → Definition) (argument : ℕ → Arm → ℕ) : Type 0 where
   pub seen : (u : ℕ) → definition (s.function.resolve u) ≡ s.function.definition (s.function.resolve u)
   pub arguments :
-      (u : ℕ) (arm : Arm) → (s.function.definition (s.function.resolve u)).kind ≡ complete → home_of s.function u ≡ arm.target →
+      (u : ℕ) (arm : Arm) → (s.function.definition (s.function.resolve u)).kind ≡ complete →
+      home_of s.function u ≡ arm.target →
       (s.program.is_sealed arm.target ≡ true → s.program.arms arm ≡ true) →
-      s.function.resolve (argument (s.function.resolve u) arm) ≡ s.function.resolve (s.function.argument (s.function.resolve u) arm)
+      s.function.resolve (argument (s.function.resolve u) arm) ≡
+      s.function.resolve (s.function.argument (s.function.resolve u) arm)
 
 -- One step of construction, with what it needs.
 pub data Step : State → State → Type 0 where
   seal : {s : State} (chosen : Place → Bool) (into : Edges) → CanSeal s chosen → Step s (with_sealed s chosen into)
-  record_values : {s : State} (records : Place → ℕ → Option ℕ) → CanRecord s records → Step s (with_records s records)
+  record_values :
+      {s : State} (records : Place → ℕ → Option ℕ) → CanRecord s records → Step s (with_records s records)
   wait : {s : State} (place : Place) (x v : ℕ) → CanWait s place x v → Step s (with_pending s place x v)
   fill : {s : State} (x v : ℕ) (given : Arm → ℕ) → CanFill s x v given → Step s (with_arguments s v given)
   drop : {s : State} (x v target : ℕ) → CanDrop s x v target → Step s (with_alias s v target)
@@ -222,7 +225,9 @@ pub data Step : State → State → Type 0 where
   give : {s : State} (place : Place) (n v : ℕ) → CanGive s place n v → Step s (with_given s place n v)
   use_variable : {s : State} (place : Place) (n x v : ℕ) → CanUse s place n x v → Step s (with_use s place n x v)
   assign : {s : State} (place : Place) (x n : ℕ) → CanAssign s place x n → Step s (with_assigned s place x n)
-  restate : {s : State} (definition : ℕ → Definition) (argument : ℕ → Arm → ℕ) → CanRestate s definition argument → Step s (with_tables s definition argument)
+  restate :
+      {s : State} (definition : ℕ → Definition) (argument : ℕ → Arm → ℕ) → CanRestate s definition argument →
+      Step s (with_tables s definition argument)
 
 -- Any number of steps, the first at the left.
 pub data Steps : State → State → Type 0 where
