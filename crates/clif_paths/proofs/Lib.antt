@@ -3,6 +3,7 @@
 pub mod PathLemmas
 pub mod Tables
 pub mod Executing
+pub mod Remembering
 pub mod Keep
 pub mod Refine
 -- The steps.

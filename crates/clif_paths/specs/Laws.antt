@@ -1,9 +1,9 @@
 -- What is proved of the steps, each statement named by the contract of a public function.
 -- Source: own; the last one is what Braun et al. 2013 prove of their construction, said along paths.
-use Rattle.std.specs.Prelude.{◌≡◌, ◌≢◌, ℕ, true, false, Option, None, Some, ◌∷◌, Bool}
+use Rattle.std.specs.Prelude.{◌≡◌, ◌≢◌, ℕ, true, false, Option, None, Some, ◌∷◌, Bool, length, ◌≤◌}
 use Rattle.clif_paths.specs.Places.{Place, start, Arm, Edges, Path, Follows, end_of, Dominates, StrictlyBefore}
 use Rattle.clif_paths.specs.State.{fresh, reads, Program, born, pending, complete, zero_of, Definition, Function, State, home_of}
-use Rattle.clif_paths.specs.Denotation.{Instance, zero, given, unknown, variable, name, entering, instances, denotes, denotation}
+use Rattle.clif_paths.specs.Denotation.{Instance, zero, given, unknown, variable, name, entering, instances, denotes, denotation, absent, Holder}
 use Rattle.clif_paths.specs.Sound.{Allowed, ArgumentsThere, Holds, Sound}
 use Rattle.clif_paths.specs.Steps.{initial, with_sealed, CanSeal, with_records, CanRecord, with_pending, CanWait, with_arguments, CanFill, with_alias, CanDrop, with_zero, CanPutZero, CanUndefine, with_given, CanGive, with_use, CanUse, with_assigned, CanAssign, with_tables, CanRestate, Steps}
 
@@ -219,3 +219,21 @@ SealingOrderIsFree =
     (place : Place) → Dominates s.program.arms (s.program.naming n).home place →
     (any : Program) (path : Path) → Follows s.program.arms path → end_of path ≡ place →
     denotation any s.function path (s.answer n) ≡ denotation any s'.function path (s'.answer n)
+
+-- Age ------------------------------------------------------------------------------------------------------------
+
+-- how long the path was when an instance arose
+abbrev pub age : Instance → ℕ
+age absent = 0
+age (zero x) = 0
+age (given n path) = length path
+age (unknown x path) = length path
+
+-- An instance that is there arose on the path so far: what a name is given at the end of a longer path is new. A map from instances
+-- to bits may so be extended as a run goes on.
+abbrev pub ProgramKnowsThePast : Type 0
+ProgramKnowsThePast = (program : Program) (path : Path) (h : Holder) → age (instances program path h) ≤ length path
+
+abbrev pub FunctionKnowsThePast : Type 0
+FunctionKnowsThePast =
+    (program : Program) (function : Function) (path : Path) (v : ℕ) → age (denotes program function path v) ≤ length path
