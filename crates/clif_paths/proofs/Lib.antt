@@ -25,6 +25,7 @@ pub mod Links
 pub mod LookingUp
 -- Labels and structure.
 pub mod Labelling
+pub mod Running
 pub mod ShapeLemmas
 pub mod ShapeSteps
 -- Examples and failures.

@@ -229,11 +229,13 @@ age (zero x) = 0
 age (given n path) = length path
 age (unknown x path) = length path
 
--- An instance that is there arose on the path so far: what a name is given at the end of a longer path is new. A map from instances
+-- An instance that is there arose on the path so far: what a name is given at the end of a longer path is new. A
+-- map from instances
 -- to bits may so be extended as a run goes on.
 abbrev pub ProgramKnowsThePast : Type 0
 ProgramKnowsThePast = (program : Program) (path : Path) (h : Holder) → age (instances program path h) ≤ length path
 
 abbrev pub FunctionKnowsThePast : Type 0
 FunctionKnowsThePast =
-    (program : Program) (function : Function) (path : Path) (v : ℕ) → age (denotes program function path v) ≤ length path
+    (program : Program) (function : Function) (path : Path) (v : ℕ) →
+    age (denotes program function path v) ≤ length path

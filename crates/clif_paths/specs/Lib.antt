@@ -9,6 +9,7 @@ pub mod Blocks
 pub mod BlockLaws
 pub mod LookUp
 pub mod Labels
+pub mod Runs
 pub mod Shape
 pub mod Moves
 pub mod MoveLaws

@@ -6,9 +6,9 @@
 //! Read `specs/` in this order: `Places` (places, arms, paths, domination), `State` (the tables of a program and of a
 //! function under construction), `Denotation` (what variables, names and values denote on a path), `Sound` (when the
 //! one side stands for the other), `Steps` (how a state grows) and `Laws` (what holds after any steps); then `Blocks`,
-//! `BlockLaws` and `LookUp` (the same for tables kept by block, and for the stack of a look-up), `Labels` (types and
-//! marks along paths) and `Shape` (the structure of blocks, reached or not); `Moves`, `Examples` and `Failures` show
-//! that the laws aren't empty.
+//! `BlockLaws` and `LookUp` (the same for tables kept by block, and for the stack of a look-up), `Labels` and `Runs`
+//! (types, marks and bits along paths) and `Shape` (the structure of blocks, reached or not); `Moves`, `MoveLaws`,
+//! `Examples` and `Failures` show that the laws aren't empty.
 #![tactic(auto)]
 
 pub mod blocks;
@@ -19,5 +19,6 @@ pub mod execution;
 pub mod failures;
 pub mod labels;
 pub mod look_up;
+pub mod runs;
 pub mod steps;
 pub mod structure;
