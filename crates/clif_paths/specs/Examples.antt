@@ -2,13 +2,14 @@
 -- Source: own; the situations are those that Braun et al. 2013 discuss (late sealing, trivial parameters,
 -- irreducible
 -- control flow, undefined variables).
-use Rattle.std.specs.Prelude.{◌≡◌, ℕ, suc, cond, List, [], ◌∷◌}
-use Rattle.clif_paths.specs.Places.{start, inside, same_place, Arm, Path}
+use Rattle.std.specs.Prelude.{◌≡◌, ℕ, suc, cond, List, [], ◌∷◌, ◌+◌, refl}
+use Rattle.clif_paths.specs.Places.{start, inside, same_place, Arm, Path, end_of}
 use Rattle.clif_paths.specs.State.{Program, complete, zero_of}
 use Rattle.clif_paths.specs.Denotation.{given, name, instances, denotation}
 use Rattle.clif_paths.specs.Laws.{IsCorrect}
 use Rattle.clif_paths.specs.Blocks.{Blocks, front, state_of}
 use Rattle.clif_paths.specs.Moves.{blank, Move, seal_with, go_on, give_name, read_variable, write_variable, copy_record, add_parameter, fill_parameter, drop_parameter, add_zero, undefine_parameter, after_all, Witness}
+use Rattle.clif_paths.specs.Runs.{Outside, Labelling, program_bits, function_bits}
 
 -- the arm from the virtual start to the entry, block 0
 abbrev pub entry : Arm
@@ -70,6 +71,31 @@ pub record LoopSealedLate : Type 0 where
   pub function_side :
       (any : Program) →
       denotation any loop_blocks.function second_round (loop_blocks.answer 1) ≡ given 2 first_round
+
+-- A collector: as item 1 of block 1 is reached, where name 2 is given, 16 is added to every number but zero. A name
+-- is given 98 and its own number.
+abbrev pub plus : ℕ → ℕ → ℕ
+plus k ℕ.zero = 0
+plus k (suc bits) = suc bits + k
+
+abbrev pub adding_collector : Outside
+adding_collector = record {
+  given_bits = λ n path. 98 + n;
+  unknown_bits = λ x path. 0;
+  moved = λ path label bits. plus (cond (same_place (end_of path) (inside 1 2)) 16 0) bits;
+  leaves_zero = λ path label. refl
+}
+
+abbrev pub no_labels : Labelling
+no_labels = record { of_variable = λ x. 0; of_name = λ n. 0; of_value = λ v. 0 }
+
+-- Once the collector has come by again, name 1 is what name 2 was given and 16 more, and so is its answer.
+pub record LoopUnderCollector : Type 0 where
+  pub program_side :
+    program_bits adding_collector no_labels (state_of loop_blocks).program (on 1 1 ∷ second_round) (name 1) ≡ 116
+  pub function_side :
+    function_bits adding_collector no_labels (state_of loop_blocks).program loop_blocks.function (on 1 1 ∷ second_round)
+    (loop_blocks.function.resolve (loop_blocks.answer 1)) ≡ 116
 
 -- DIAMOND. Block 0 assigns name 0 and branches to blocks 1 and 2, which both jump to block 3. There the variable is
 -- read before the block is sealed; at sealing one value alone comes, and the parameter is dropped.

@@ -49,14 +49,16 @@ program_bits outside labels program (arm ∷ path) (variable x) =
     (program.assigned arm.target x)
 program_bits outside labels program (arm ∷ path) (name n) =
     cond (same_place (program.naming n).home arm.target)
-    (bits_at_home outside labels program arm path (λ h. program_bits outside labels program path h) n (program.naming n).origin)
+    (bits_at_home outside labels program arm path (λ h. program_bits outside labels program path h) n
+      (program.naming n).origin)
     (outside.moved (arm ∷ path) (labels.of_name n) (program_bits outside labels program path (name n)))
 
 abbrev pub bits_of_kind :
     Outside → Labelling → Program → Function → Arm → Path → (Holder → ℕ) → (ℕ → ℕ) → ℕ → Kind → ℕ
 bits_of_kind outside labels program function arm path names before v unborn = 0
 bits_of_kind outside labels program function arm path names before v (born n) = outside.given_bits n (arm ∷ path)
-bits_of_kind outside labels program function arm path names before v (pending x) = entering_bits outside labels program arm path names x
+bits_of_kind outside labels program function arm path names before v (pending x) =
+    entering_bits outside labels program arm path names x
 bits_of_kind outside labels program function arm path names before v complete =
     let a = function.resolve (function.argument v arm) in
     outside.moved (arm ∷ path) (labels.of_value a) (before a)
@@ -86,8 +88,10 @@ pub record KeepsLabels (edges : Edges) (program : Program) (function : Function)
   pub argument_same :
       (u : ℕ) (arm : Arm) → (function.definition (function.resolve u)).kind ≡ complete →
       home_of function u ≡ arm.target → edges arm ≡ true →
-      (labels.of_value (function.resolve (function.argument (function.resolve u) arm)) ≡ labels.of_value (function.resolve u)) ⊎
-      ((x : ℕ) × ((function.definition (function.resolve (function.argument (function.resolve u) arm))).kind ≡ zero_of x))
+      (labels.of_value (function.resolve (function.argument (function.resolve u) arm)) ≡
+        labels.of_value (function.resolve u)) ⊎
+      ((x : ℕ) ×
+        ((function.definition (function.resolve (function.argument (function.resolve u) arm))).kind ≡ zero_of x))
 
 -- the label of an instance, and its bits at the end of a path
 abbrev pub label_of : Labelling → Instance → ℕ
@@ -115,7 +119,8 @@ abbrev pub OneMapServesBoth : Type 0
 OneMapServesBoth =
     (outside : Outside) (labels : Labelling) (edges : Edges) (program : Program) (function : Function) →
     KeepsLabels edges program function labels → (path : Path) → Follows edges path →
-    ((h : Holder) → program_bits outside labels program path h ≡ instance_bits outside labels path (instances program path h)) ×
+    ((h : Holder) →
+      program_bits outside labels program path h ≡ instance_bits outside labels path (instances program path h)) ×
     ((v : ℕ) →
     function_bits outside labels program function path (function.resolve v) ≡
     instance_bits outside labels path (denotation program function path v))

@@ -1,7 +1,7 @@
 //! Worked examples, so that the laws aren't empty: lists of moves whose tests pass by computation.
 
 ghost use Rattle.clif_paths.specs.MoveLaws.{AllowedMovesAreSound, FinishedMovesAreCorrect};
-ghost use Rattle.clif_paths.specs.Examples.{LoopSealedLate, DiamondDropped, IrreducibleLoop, UnreachableCycle};
+ghost use Rattle.clif_paths.specs.Examples.{LoopSealedLate, LoopUnderCollector, DiamondDropped, IrreducibleLoop, UnreachableCycle};
 
 /// Moves whose tests pass, each in its turn, make sound tables.
 pub fn allowed_moves_are_sound()
@@ -16,6 +16,11 @@ pub fn finished_moves_are_correct()
 /// A loop whose header is sealed last.
 pub fn loop_sealed_late()
     ensures { LoopSealedLate }
+{}
+
+/// The same loop under a collector that moves.
+pub fn loop_under_collector()
+    ensures { LoopUnderCollector }
 {}
 
 /// A diamond whose parameter is dropped.
