@@ -1,5 +1,5 @@
 -- Each move of the look-up keeps what stands on the stack.
-use Rattle.std.proofs.Common.{◌≡◌, ◌≢◌, ℕ, true, Option, None, Some, List, [], ◌∷◌, ◌⊎◌, inl, inr, refl, sym, ◌∙◌, ap, subst}
+use Rattle.std.proofs.Common.{◌≡◌, ◌≢◌, ℕ, true, Option, None, Some, List, [], ◌∷◌, ◌⊎◌, inl, inr, refl, sym, ◌∙◌, ap, subst, length, ◌+◌, suc, arith, zero-add}
 use Rattle.clif_paths.specs.Places.{start, Arm}
 use Rattle.clif_paths.specs.State.{pending, complete, zero_of, Definition}
 use Rattle.clif_paths.specs.Steps.{updated, aliased}
@@ -467,27 +467,68 @@ filled_frames blocks x v given (f ∷ frames) apart = (
   filled_frames blocks x v given frames apart.1,
 )
 
+paired_back :
+    (blocks : Blocks) (x : ℕ) (bs rs cs ss : List ℕ) (b r : ℕ) → AllKnow blocks x bs rs → Paired (back_onto bs cs) (back_onto rs ss) b r →
+    Paired bs rs b r ⊎ Paired cs ss b r
+paired_back blocks x [] [] cs ss b r all pair = inr pair
+paired_back blocks x [] (t ∷ rs) cs ss b r all pair = absurd all
+paired_back blocks x (c ∷ bs) [] cs ss b r all pair = absurd all
+paired_back blocks x (c ∷ bs) (t ∷ rs) cs ss b r all pair = sorted (paired_back blocks x bs rs (c ∷ cs) (t ∷ ss) b r all.1 pair)
+  where
+    sorted : Paired bs rs b r ⊎ Paired (c ∷ cs) (t ∷ ss) b r → Paired (c ∷ bs) (t ∷ rs) b r ⊎ Paired cs ss b r
+    sorted (inl earlier) = inl (inr earlier)
+    sorted (inr (inl here)) = inl (inl here)
+    sorted (inr (inr later)) = inr later
+
+paired_done : (bs rs : List ℕ) (b r : ℕ) → Paired bs rs b r ⊎ Paired [] [] b r → Paired bs rs b r
+paired_done bs rs b r (inl pair) = pair
+paired_done bs rs b r (inr none) = absurd none
+
 pub filling_finishes :
     (blocks : Blocks) (predecessors : ℕ → List ℕ) (x : ℕ) (first : Option ℕ) (f : Frame) (frames : List Frame) (given : Arm → ℕ) →
-    BlocksSound blocks → AtRest blocks predecessors x first f frames →
+    BlocksSound blocks → AtRest blocks predecessors x first f frames → f.todo ≡ [] →
     ((arm : Arm) → blocks.joins arm ≡ true → arm.target ≡ front f.block →
-    (b : ℕ) × (Paired f.done f.results b (given arm)) × (arm.source ≡ last_place blocks b)) →
+      (b : ℕ) × (Paired (predecessors f.block) (back_onto f.results []) b (given arm)) × (arm.source ≡ last_place blocks b)) →
     Delivers (with_filled blocks f.parameter given) predecessors x first frames f.parameter
-filling_finishes blocks predecessors x first f frames given sound rest along = record {
+filling_finishes blocks predecessors x first f frames given sound rest none along = record {
   sound =
-      filled_keeps blocks f.block x f.parameter given
-      (record {
-        waits = rest.fits.waits;
-        along = λ arm joined at.
-            let (b, pair, source) = along arm joined at in
-            carries_known blocks arm b x (given arm) (blocks.function.resolve (given arm)) source
-            (known_paired blocks x f.done f.results b (given arm) rest.fits.known pair) refl;
-      })
-      sound;
+    filled_keeps blocks f.block x f.parameter given
+    (record {
+      waits = rest.fits.waits;
+      along = λ arm joined at.
+        let (b, pair, source) = along arm joined at in
+        let done : Paired f.done f.results b (given arm) =
+            paired_done f.done f.results b (given arm)
+            (paired_back blocks x f.done f.results [] [] b (given arm) rest.fits.known
+              (subst (λ bs. Paired bs (back_onto f.results []) b (given arm)) (rest.all ∙ ap (λ t. back_onto f.done t) none) pair)) in
+        carries_known blocks arm b x (given arm) (blocks.function.resolve (given arm)) source
+        (known_paired blocks x f.done f.results b (given arm) rest.fits.known done) refl
+    })
+    sound;
   goes =
-      goes_kept blocks (with_filled blocks f.parameter given) predecessors x first frames f.parameter
-      (record { recorded_kept = λ b w e. e; ends_kept = λ u w e. e }) (filled_frames blocks x f.parameter given frames rest.apart) rest.below;
+    goes_kept blocks (with_filled blocks f.parameter given) predecessors x first frames f.parameter
+    (record { recorded_kept = λ b w e. e; ends_kept = λ u w e. e }) (filled_frames blocks x f.parameter given frames rest.apart) rest.below
 }
+
+length_back : (bs rest : List ℕ) → length (back_onto bs rest) ≡ length bs + length rest
+length_back [] rest = sym (zero-add (length rest))
+length_back (b ∷ bs) rest =
+    let deeper : length (back_onto bs (b ∷ rest)) ≡ length bs + suc (length rest) = length_back bs (b ∷ rest) in
+    omega arith
+
+length_known : (blocks : Blocks) (x : ℕ) (bs rs : List ℕ) → AllKnow blocks x bs rs → length rs ≡ length bs
+length_known blocks x [] [] all = refl
+length_known blocks x [] (r ∷ rs) all = absurd all
+length_known blocks x (b ∷ bs) [] all = absurd all
+length_known blocks x (b ∷ bs) (r ∷ rs) all = ap suc (length_known blocks x bs rs all.1)
+
+pub results_are_counted :
+    (blocks : Blocks) (predecessors : ℕ → List ℕ) (x : ℕ) (first : Option ℕ) (f : Frame) (frames : List Frame) →
+    AtRest blocks predecessors x first f frames → length f.results + length f.todo ≡ length (predecessors f.block)
+results_are_counted blocks predecessors x first f frames rest =
+    let known : length f.results ≡ length f.done = length_known blocks x f.done f.results rest.fits.known in
+    let all : length (predecessors f.block) ≡ length f.done + length f.todo = ap length rest.all ∙ length_back f.done f.todo in
+    omega arith
 
 zero_waits : (blocks : Blocks) (b x v z : ℕ) → WaitsIn blocks b x v → (blocks.function.definition z).home ≡ start → WaitsIn (with_zero_in blocks b x z) b x v
 zero_waits blocks b x v z waits new_value = record {

@@ -2,7 +2,7 @@
 -- predecessors are under way, and that each move of the machine keeps it.
 -- Source: reading a variable, adding operands and removing trivial parameters in Braun et al. 2013; that two stacks
 -- of calls and results take the place of recursion is upstream's.
-use Rattle.std.specs.Prelude.{◌≡◌, ◌≢◌, ℕ, Option, None, Some, true, List, [], ◌∷◌, ◌++◌, ◌⊎◌}
+use Rattle.std.specs.Prelude.{◌≡◌, ◌≢◌, ℕ, Option, None, Some, true, List, [], ◌∷◌, ◌++◌, ◌⊎◌, length, ◌+◌}
 use Rattle.clif_paths.specs.Places.{start, Arm}
 use Rattle.clif_paths.specs.Blocks.{Blocks, front, last_place, Knows, IsChain, with_chain, with_parameter, CanAddParameter, WaitsIn, with_filled, with_dropped, with_zero_in}
 use Rattle.clif_paths.specs.BlockLaws.{BlocksSound}
@@ -199,15 +199,22 @@ DroppingFinishes =
     ((r : ℕ) → InList f.results r → (blocks.function.resolve r ≡ target) ⊎ (blocks.function.resolve r ≡ f.parameter)) →
     Delivers (with_dropped blocks f.parameter target) predecessors x first frames target
 
--- it ends with more: the parameter gets each predecessor's result on its arms, and is the result
+-- It ends with more: the parameter gets each predecessor's result on its arms, and is the result. `back_onto` turns
+-- the results round, into the order of the predecessors.
 abbrev pub FillingFinishes : Type 0
 FillingFinishes =
-    (blocks : Blocks) (predecessors : ℕ → List ℕ) (x : ℕ) (first : Option ℕ)
-    (f : Frame) (frames : List Frame) (given : Arm → ℕ) →
-    BlocksSound blocks → AtRest blocks predecessors x first f frames →
+    (blocks : Blocks) (predecessors : ℕ → List ℕ) (x : ℕ) (first : Option ℕ) (f : Frame) (frames : List Frame)
+    (given : Arm → ℕ) →
+    BlocksSound blocks → AtRest blocks predecessors x first f frames → f.todo ≡ [] →
     ((arm : Arm) → blocks.joins arm ≡ true → arm.target ≡ front f.block →
-    (b : ℕ) × (Paired f.done f.results b (given arm)) × (arm.source ≡ last_place blocks b)) →
+      (b : ℕ) × (Paired (predecessors f.block) (back_onto f.results []) b (given arm)) × (arm.source ≡ last_place blocks b)) →
     Delivers (with_filled blocks f.parameter given) predecessors x first frames f.parameter
+
+-- a frame has one result for each predecessor that is done
+abbrev pub ResultsAreCounted : Type 0
+ResultsAreCounted =
+    (blocks : Blocks) (predecessors : ℕ → List ℕ) (x : ℕ) (first : Option ℕ) (f : Frame) (frames : List Frame) →
+    AtRest blocks predecessors x first f frames → length f.results + length f.todo ≡ length (predecessors f.block)
 
 -- it ends with none: a zero is put into the block, and is the result
 abbrev pub ZeroFinishes : Type 0

@@ -1,6 +1,6 @@
 //! The look-up of a variable as a machine with an explicit stack: each move keeps what stands on it.
 
-ghost use Rattle.clif_paths.specs.LookUp.{ResultIsPushed, LastResultAnswers, FoundIsDelivered, NextIsExpected, RecordIsFound, ParameterIsAdded, FrameIsPushed, SealingBegins, DroppingFinishes, FillingFinishes, ZeroFinishes};
+ghost use Rattle.clif_paths.specs.LookUp.{ResultIsPushed, LastResultAnswers, FoundIsDelivered, NextIsExpected, RecordIsFound, ParameterIsAdded, FrameIsPushed, SealingBegins, DroppingFinishes, FillingFinishes, ZeroFinishes, ResultsAreCounted};
 
 /// A result goes to the topmost frame, for the predecessor that it is for.
 pub fn result_is_pushed()
@@ -55,4 +55,9 @@ pub fn filling_finishes()
 /// A look-up ends with none.
 pub fn zero_finishes()
     ensures { ZeroFinishes }
+{}
+
+/// A frame has one result for each predecessor that is done.
+pub fn results_are_counted()
+    ensures { ResultsAreCounted }
 {}
