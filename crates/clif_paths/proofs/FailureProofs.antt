@@ -6,8 +6,8 @@ use Rattle.clif_paths.specs.Laws.{AssignsGiven}
 use Rattle.clif_paths.specs.Blocks.{Blocks, front, state_of, with_dropped, with_record}
 use Rattle.clif_paths.specs.BlockLaws.{BlocksSound}
 use Rattle.clif_paths.specs.Moves.{Sheet, blank, write_variable, after, after_all}
-use Rattle.clif_paths.specs.Examples.{entry, on, jump, first_witness}
-use Rattle.clif_paths.specs.Failures.{two_values, two_values_waiting, two_witnesses, DropBreaks, CopyBreaks, left_already, left_witnesses, AssignBreaks, value_comes, ZeroBreaks}
+use Rattle.clif_paths.specs.Examples.{entry, on, jump, first_witness, two_values}
+use Rattle.clif_paths.specs.Failures.{two_values_waiting, two_witnesses, DropBreaks, CopyBreaks, left_already, left_witnesses, AssignBreaks, value_comes, ZeroBreaks}
 use Rattle.clif_paths.proofs.Concluding.{arms_allowed}
 use Rattle.clif_paths.proofs.Moving.{allowed_moves, fits_written}
 use Rattle.clif_paths.proofs.Finishing.{given_moves, assigns_given}

@@ -33,3 +33,4 @@ pub mod Moving
 pub mod Finishing
 pub mod ExampleProofs
 pub mod FailureProofs
+pub mod LookUpExample

@@ -488,26 +488,26 @@ pub filling_finishes :
     (blocks : Blocks) (predecessors : ℕ → List ℕ) (x : ℕ) (first : Option ℕ) (f : Frame) (frames : List Frame) (given : Arm → ℕ) →
     BlocksSound blocks → AtRest blocks predecessors x first f frames → f.todo ≡ [] →
     ((arm : Arm) → blocks.joins arm ≡ true → arm.target ≡ front f.block →
-      (b : ℕ) × (Paired (predecessors f.block) (back_onto f.results []) b (given arm)) × (arm.source ≡ last_place blocks b)) →
+    (b : ℕ) × (Paired (predecessors f.block) (back_onto f.results []) b (given arm)) × (arm.source ≡ last_place blocks b)) →
     Delivers (with_filled blocks f.parameter given) predecessors x first frames f.parameter
 filling_finishes blocks predecessors x first f frames given sound rest none along = record {
   sound =
-    filled_keeps blocks f.block x f.parameter given
-    (record {
-      waits = rest.fits.waits;
-      along = λ arm joined at.
-        let (b, pair, source) = along arm joined at in
-        let done : Paired f.done f.results b (given arm) =
+      filled_keeps blocks f.block x f.parameter given
+      (record {
+        waits = rest.fits.waits;
+        along = λ arm joined at.
+            let (b, pair, source) = along arm joined at in
+            let done : Paired f.done f.results b (given arm) =
             paired_done f.done f.results b (given arm)
             (paired_back blocks x f.done f.results [] [] b (given arm) rest.fits.known
-              (subst (λ bs. Paired bs (back_onto f.results []) b (given arm)) (rest.all ∙ ap (λ t. back_onto f.done t) none) pair)) in
-        carries_known blocks arm b x (given arm) (blocks.function.resolve (given arm)) source
-        (known_paired blocks x f.done f.results b (given arm) rest.fits.known done) refl
-    })
-    sound;
+            (subst (λ bs. Paired bs (back_onto f.results []) b (given arm)) (rest.all ∙ ap (λ t. back_onto f.done t) none) pair)) in
+            carries_known blocks arm b x (given arm) (blocks.function.resolve (given arm)) source
+            (known_paired blocks x f.done f.results b (given arm) rest.fits.known done) refl;
+      })
+      sound;
   goes =
-    goes_kept blocks (with_filled blocks f.parameter given) predecessors x first frames f.parameter
-    (record { recorded_kept = λ b w e. e; ends_kept = λ u w e. e }) (filled_frames blocks x f.parameter given frames rest.apart) rest.below
+      goes_kept blocks (with_filled blocks f.parameter given) predecessors x first frames f.parameter
+      (record { recorded_kept = λ b w e. e; ends_kept = λ u w e. e }) (filled_frames blocks x f.parameter given frames rest.apart) rest.below;
 }
 
 length_back : (bs rest : List ℕ) → length (back_onto bs rest) ≡ length bs + length rest

@@ -2,14 +2,15 @@
 -- Source: own; the situations are those that Braun et al. 2013 discuss (late sealing, trivial parameters,
 -- irreducible
 -- control flow, undefined variables).
-use Rattle.std.specs.Prelude.{◌≡◌, ℕ, suc, cond, List, [], ◌∷◌, ◌+◌, refl}
+use Rattle.std.specs.Prelude.{◌≡◌, ℕ, suc, cond, List, [], ◌∷◌, ◌+◌, refl, Some, ◌==◌}
 use Rattle.clif_paths.specs.Places.{start, inside, same_place, Arm, Path, end_of}
 use Rattle.clif_paths.specs.State.{Program, complete, zero_of}
 use Rattle.clif_paths.specs.Denotation.{given, name, instances, denotation}
 use Rattle.clif_paths.specs.Laws.{IsCorrect}
-use Rattle.clif_paths.specs.Blocks.{Blocks, front, state_of}
+use Rattle.clif_paths.specs.Blocks.{Blocks, front, state_of, Knows, with_filled, with_parameter}
 use Rattle.clif_paths.specs.Moves.{blank, Move, seal_with, go_on, give_name, read_variable, write_variable, copy_record, add_parameter, fill_parameter, drop_parameter, add_zero, undefine_parameter, after_all, Witness}
 use Rattle.clif_paths.specs.Runs.{Outside, Labelling, program_bits, function_bits}
+use Rattle.clif_paths.specs.LookUp.{Delivers}
 
 -- the arm from the virtual start to the entry, block 0
 abbrev pub entry : Arm
@@ -83,7 +84,7 @@ adding_collector = record {
   given_bits = λ n path. 98 + n;
   unknown_bits = λ x path. 0;
   moved = λ path label bits. plus (cond (same_place (end_of path) (inside 1 2)) 16 0) bits;
-  leaves_zero = λ path label. refl
+  leaves_zero = λ path label. refl;
 }
 
 abbrev pub no_labels : Labelling
@@ -92,10 +93,10 @@ no_labels = record { of_variable = λ x. 0; of_name = λ n. 0; of_value = λ v. 
 -- Once the collector has come by again, name 1 is what name 2 was given and 16 more, and so is its answer.
 pub record LoopUnderCollector : Type 0 where
   pub program_side :
-    program_bits adding_collector no_labels (state_of loop_blocks).program (on 1 1 ∷ second_round) (name 1) ≡ 116
+      program_bits adding_collector no_labels (state_of loop_blocks).program (on 1 1 ∷ second_round) (name 1) ≡ 116
   pub function_side :
-    function_bits adding_collector no_labels (state_of loop_blocks).program loop_blocks.function (on 1 1 ∷ second_round)
-    (loop_blocks.function.resolve (loop_blocks.answer 1)) ≡ 116
+      function_bits adding_collector no_labels (state_of loop_blocks).program loop_blocks.function (on 1 1 ∷ second_round)
+      (loop_blocks.function.resolve (loop_blocks.answer 1)) ≡ 116
 
 -- DIAMOND. Block 0 assigns name 0 and branches to blocks 1 and 2, which both jump to block 3. There the variable is
 -- read before the block is sealed; at sealing one value alone comes, and the parameter is dropped.
@@ -197,3 +198,35 @@ pub record UnreachableCycle : Type 0 where
   pub first : cycle_blocks.function.resolve (cycle_blocks.answer 0) ≡ 2
   pub second : cycle_blocks.function.resolve (cycle_blocks.answer 1) ≡ 2
   pub is_zero : (cycle_blocks.function.definition 2).kind ≡ zero_of 0
+
+-- A LOOK-UP. Block 0 assigns name 0, block 1 assigns name 1, and blocks 1 and 2 jump to block 3, which is sealed.
+-- A use
+-- in block 3 adds a parameter, value 2, looks the variable up in blocks 1 and 2, finds two values, and gives the
+-- parameter an argument from each.
+abbrev pub two_values : List Move
+two_values =
+    seal_with 0 (entry ∷ []) ∷
+    go_on 0 ∷ give_name 0 0 0 ∷
+    go_on 0 ∷ write_variable 0 0 0 ∷
+    go_on 0 ∷
+    go_on 1 ∷ give_name 1 1 1 ∷
+    go_on 1 ∷ write_variable 1 0 1 ∷
+    go_on 1 ∷
+    seal_with 1 (jump 0 3 0 1 ∷ []) ∷
+    go_on 2 ∷
+    seal_with 2 (jump 0 3 1 2 ∷ []) ∷ copy_record 2 0 0 ∷
+    seal_with 3 (jump 1 3 0 3 ∷ jump 2 1 0 3 ∷ []) ∷
+    []
+
+abbrev pub two_predecessors : ℕ → List ℕ
+two_predecessors block = cond (block == 3) (1 ∷ 2 ∷ []) []
+
+abbrev pub from_two : Arm → ℕ
+from_two arm = cond (same_place arm.source (inside 1 3)) 1 0
+
+abbrev pub looked_up : Blocks
+looked_up = with_filled (with_parameter (after_all blank two_values).blocks 3 0 2) 2 from_two
+
+pub record LookUpFills : Type 0 where
+  pub delivered : Delivers looked_up two_predecessors 0 (Some 3) [] 2
+  pub answers : Knows looked_up 3 0 2

@@ -5,31 +5,15 @@ use Rattle.clif_paths.specs.Places.{start, inside}
 use Rattle.clif_paths.specs.Blocks.{Blocks, with_record, with_write, with_dropped}
 use Rattle.clif_paths.specs.BlockLaws.{BlocksSound}
 use Rattle.clif_paths.specs.Moves.{blank, Move, seal_with, go_on, give_name, write_variable, copy_record, add_parameter, add_zero, after_all, Witness}
-use Rattle.clif_paths.specs.Examples.{entry, jump}
+use Rattle.clif_paths.specs.Examples.{entry, jump, two_values}
 
 -- the tables are sound, and after the change they aren't
 pub record Breaks (before after : Blocks) : Type 0 where
   pub sound : BlocksSound before
   pub broken : ¬ (BlocksSound after)
 
--- A diamond in which block 1 assigns anew: block 0 assigns name 0, block 1 name 1, and blocks 1 and 2 jump to
--- block 3, which is sealed.
-abbrev pub two_values : List Move
-two_values =
-    seal_with 0 (entry ∷ []) ∷
-    go_on 0 ∷ give_name 0 0 0 ∷
-    go_on 0 ∷ write_variable 0 0 0 ∷
-    go_on 0 ∷
-    go_on 1 ∷ give_name 1 1 1 ∷
-    go_on 1 ∷ write_variable 1 0 1 ∷
-    go_on 1 ∷
-    seal_with 1 (jump 0 3 0 1 ∷ []) ∷
-    go_on 2 ∷
-    seal_with 2 (jump 0 3 1 2 ∷ []) ∷ copy_record 2 0 0 ∷
-    seal_with 3 (jump 1 3 0 3 ∷ jump 2 1 0 3 ∷ []) ∷
-    []
-
--- and a parameter that waits there
+-- The diamond of the look-up: block 0 assigns name 0, block 1 name 1, and blocks 1 and 2 jump to block 3, which is
+-- sealed. In it a parameter waits.
 abbrev pub two_values_waiting : List Move
 two_values_waiting = two_values ++ (add_parameter 3 0 2 ∷ [])
 

@@ -207,7 +207,8 @@ FillingFinishes =
     (given : Arm → ℕ) →
     BlocksSound blocks → AtRest blocks predecessors x first f frames → f.todo ≡ [] →
     ((arm : Arm) → blocks.joins arm ≡ true → arm.target ≡ front f.block →
-      (b : ℕ) × (Paired (predecessors f.block) (back_onto f.results []) b (given arm)) × (arm.source ≡ last_place blocks b)) →
+    (b : ℕ) × (Paired (predecessors f.block) (back_onto f.results []) b (given arm)) ×
+    (arm.source ≡ last_place blocks b)) →
     Delivers (with_filled blocks f.parameter given) predecessors x first frames f.parameter
 
 -- a frame has one result for each predecessor that is done

@@ -50,7 +50,7 @@ program_bits outside labels program (arm ∷ path) (variable x) =
 program_bits outside labels program (arm ∷ path) (name n) =
     cond (same_place (program.naming n).home arm.target)
     (bits_at_home outside labels program arm path (λ h. program_bits outside labels program path h) n
-      (program.naming n).origin)
+    (program.naming n).origin)
     (outside.moved (arm ∷ path) (labels.of_name n) (program_bits outside labels program path (name n)))
 
 abbrev pub bits_of_kind :
@@ -89,9 +89,9 @@ pub record KeepsLabels (edges : Edges) (program : Program) (function : Function)
       (u : ℕ) (arm : Arm) → (function.definition (function.resolve u)).kind ≡ complete →
       home_of function u ≡ arm.target → edges arm ≡ true →
       (labels.of_value (function.resolve (function.argument (function.resolve u) arm)) ≡
-        labels.of_value (function.resolve u)) ⊎
+      labels.of_value (function.resolve u)) ⊎
       ((x : ℕ) ×
-        ((function.definition (function.resolve (function.argument (function.resolve u) arm))).kind ≡ zero_of x))
+      ((function.definition (function.resolve (function.argument (function.resolve u) arm))).kind ≡ zero_of x))
 
 -- the label of an instance, and its bits at the end of a path
 abbrev pub label_of : Labelling → Instance → ℕ
@@ -120,7 +120,7 @@ OneMapServesBoth =
     (outside : Outside) (labels : Labelling) (edges : Edges) (program : Program) (function : Function) →
     KeepsLabels edges program function labels → (path : Path) → Follows edges path →
     ((h : Holder) →
-      program_bits outside labels program path h ≡ instance_bits outside labels path (instances program path h)) ×
+    program_bits outside labels program path h ≡ instance_bits outside labels path (instances program path h)) ×
     ((v : ℕ) →
     function_bits outside labels program function path (function.resolve v) ≡
     instance_bits outside labels path (denotation program function path v))

@@ -1,7 +1,7 @@
 //! Worked examples, so that the laws aren't empty: lists of moves whose tests pass by computation.
 
 ghost use Rattle.clif_paths.specs.MoveLaws.{AllowedMovesAreSound, FinishedMovesAreCorrect};
-ghost use Rattle.clif_paths.specs.Examples.{LoopSealedLate, LoopUnderCollector, DiamondDropped, IrreducibleLoop, UnreachableCycle};
+ghost use Rattle.clif_paths.specs.Examples.{LoopSealedLate, LoopUnderCollector, DiamondDropped, IrreducibleLoop, UnreachableCycle, LookUpFills};
 
 /// Moves whose tests pass, each in its turn, make sound tables.
 pub fn allowed_moves_are_sound()
@@ -36,4 +36,9 @@ pub fn irreducible_loop()
 /// A cycle that nothing reaches, whose parameters become aliases of one zero.
 pub fn unreachable_cycle()
     ensures { UnreachableCycle }
+{}
+
+/// A whole look-up that finds two values, move by move.
+pub fn look_up_fills()
+    ensures { LookUpFills }
 {}
