@@ -1,13 +1,14 @@
 -- Each step keeps the structure.
 use Rattle.std.proofs.Common.{◌≡◌, ◌≢◌, ℕ, suc, ◌+◌, ◌≤◌, true, false, Option, None, Some, List, [], ◌∷◌, ◌++◌, length, ◌⊎◌, inl, inr, refl, sym, ◌∙◌, ap, subst, arith, append_assoc}
 use Rattle.clif_paths.specs.Steps.{updated}
-use Rattle.clif_paths.specs.Shape.{Types, Parameter, BlockShape, EdgeShape, Shape, values_of, HasParameter, Apart, GivesEach, SameTypes, IsBlockShape, IsEdgeShape, Structured, no_shape, with_block, caller_added, waiting_added, lookup_begun, first_completed, first_dropped, value_recorded, variable_used, variable_assigned, leads_to, appended_if, arguments_appended, ShapeStep, new_edge, retarget, declare, seal_shape, add_caller, add_waiting, begin_lookup, complete_first, drop_first, record_value, use_recorded, assign_value, ShapeSteps, no_step, and_then}
+use Rattle.clif_paths.specs.Shape.{Types, Parameter, BlockShape, EdgeShape, Shape, values_of, HasParameter, Apart, GivesEach, SameTypes, IsBlockShape, IsEdgeShape, Structured, no_shape, with_block, caller_added, waiting_added, lookup_begun, first_completed, first_dropped, value_recorded, variable_used, variable_assigned, leads_to, appended_if, arguments_appended, ShapeStep, new_edge, retarget, declare, seal_shape, add_caller, add_waiting, begin_lookup, complete_first, drop_first, record_value, use_recorded, assign_value, ShapeSteps, no_step, and_then, enter}
 use Rattle.clif_paths.proofs.Tables.{updated-same, updated-other, updated_cases, number_equal, number_other}
 use Rattle.clif_paths.proofs.ShapeLemmas.{values-append, length-values, append_nil, has_first, apart_more, gives_more, gives_none, gives_types, types_append, remove_behind}
 
 pub first_structured : (types : Types) → Structured types no_shape
 first_structured types = record {
   blocks = λ b. record {
+    pristine = λ e. (refl, refl);
     in_order = refl;
     unsealed = λ e. refl;
     joined = inl refl;
@@ -22,6 +23,7 @@ first_structured types = record {
     once = λ x. omega arith;
   };
   edges = λ e b at. absurd cc;
+  sources = λ e b at. absurd cc;
 }
 
 -- One block changed -----------------------------------------------------------------------------------------------
@@ -45,13 +47,24 @@ edge_by types shape b new before same e c at (inl here) =
 edge_by types shape b new before same e c at (inr other) =
     subst (λ ps. IsEdgeShape types ps (shape.edge e)) (sym (ap (λ (s : BlockShape). s.completed) other.1)) (before.edges e c at)
 
+source_by :
+    (types : Types) (shape : Shape) (b : ℕ) (new : BlockShape) → Structured types shape →
+    ((shape.block b).entered ≡ true → new.entered ≡ true) → (e c : ℕ) → (shape.edge e).target ≡ Some c →
+    ((shape.edge e).source ≡ b × (updated shape.block b new (shape.edge e).source ≡ new)) ⊎
+    ((shape.edge e).source ≢ b × (updated shape.block b new (shape.edge e).source ≡ shape.block (shape.edge e).source)) →
+    (updated shape.block b new (shape.edge e).source).entered ≡ true
+source_by types shape b new before keeps e c at (inl here) =
+    ap (λ (k : BlockShape). k.entered) here.1 ∙ keeps (ap (λ d. (shape.block d).entered) (sym here.0) ∙ before.sources e c at)
+source_by types shape b new before keeps e c at (inr other) = ap (λ (k : BlockShape). k.entered) other.1 ∙ before.sources e c at
+
 -- a block that is changed, but not its complete parameters
 block_changed :
     (types : Types) (shape : Shape) (b : ℕ) (new : BlockShape) → Structured types shape → IsBlockShape types new →
-    new.completed ≡ (shape.block b).completed → Structured types (with_block shape b new)
-block_changed types shape b new before is_new same = record {
+    new.completed ≡ (shape.block b).completed → ((shape.block b).entered ≡ true → new.entered ≡ true) → Structured types (with_block shape b new)
+block_changed types shape b new before is_new same keeps = record {
   blocks = λ c. block_by types shape b new before is_new c (updated_cases shape.block b new c);
   edges = λ e c at. edge_by types shape b new before same e c at (updated_cases shape.block b new c);
+  sources = λ e c at. source_by types shape b new before keeps e c at (updated_cases shape.block b new (shape.edge e).source);
 }
 
 -- Edges -----------------------------------------------------------------------------------------------------------
@@ -86,12 +99,24 @@ one_edge types shape e new b before leads is_edge e' c at (inr other) =
     subst (λ k. IsEdgeShape types (shape.block c).completed k) (sym other.1)
     (before.edges e' c (ap (λ (k : EdgeShape). k.target) (sym other.1) ∙ at))
 
+one_source :
+    (types : Types) (shape : Shape) (e : ℕ) (new : EdgeShape) → Structured types shape → (shape.block new.source).entered ≡ true →
+    (e' c : ℕ) → (updated shape.edge e new e').target ≡ Some c →
+    ((e' ≡ e) × (updated shape.edge e new e' ≡ new)) ⊎ ((e' ≢ e) × (updated shape.edge e new e' ≡ shape.edge e')) →
+    (shape.block (updated shape.edge e new e').source).entered ≡ true
+one_source types shape e new before entered e' c at (inl here) = ap (λ (k : EdgeShape). (shape.block k.source).entered) here.1 ∙ entered
+one_source types shape e new before entered e' c at (inr other) =
+    ap (λ (k : EdgeShape). (shape.block k.source).entered) other.1 ∙
+    before.sources e' c (ap (λ (k : EdgeShape). k.target) (sym other.1) ∙ at)
+
 edge_changed :
     (types : Types) (shape : Shape) (e : ℕ) (new : EdgeShape) (b : ℕ) → Structured types shape → new.target ≡ Some b →
-    IsEdgeShape types (shape.block b).completed new → Structured types (record shape { edge = updated shape.edge e new })
-edge_changed types shape e new b before leads is_edge = record {
+    IsEdgeShape types (shape.block b).completed new → (shape.block new.source).entered ≡ true →
+    Structured types (record shape { edge = updated shape.edge e new })
+edge_changed types shape e new b before leads is_edge entered = record {
   blocks = before.blocks;
   edges = λ e' c at. one_edge types shape e new b before leads is_edge e' c at (updated_cases shape.edge e new e');
+  sources = λ e' c at. one_source types shape e new before entered e' c at (updated_cases shape.edge e new e');
 }
 
 -- Records ---------------------------------------------------------------------------------------------------------
@@ -117,6 +142,7 @@ typed_record types recorded x v typed others y w e (inr other) = others y w (sym
 
 recorded_shape : (types : Types) (b : BlockShape) (x v : ℕ) → types.of_value v ≡ types.of_variable x → IsBlockShape types b → IsBlockShape types (value_recorded b x v)
 recorded_shape types b x v typed is_block = record {
+  pristine = is_block.pristine;
   in_order = is_block.in_order;
   unsealed = is_block.unsealed;
   joined = is_block.joined;
@@ -140,6 +166,7 @@ touched_by b x y before there none (inr other) = other.1 ∙ before y none
 
 used_shape : (types : Types) (b : BlockShape) (x : ℕ) → b.recorded x ≢ None → IsBlockShape types b → IsBlockShape types (variable_used b x)
 used_shape types b x there is_block = record {
+  pristine = is_block.pristine;
   in_order = is_block.in_order;
   unsealed = is_block.unsealed;
   joined = is_block.joined;
@@ -168,9 +195,10 @@ caller_order b v none_completed none_waiting in_order =
     ap (λ vs. vs ++ (v ∷ [])) (in_order ∙ ap (λ t. b.callers ++ t) none ∙ append_nil b.callers) ∙
     sym (ap (λ t. (b.callers ++ (v ∷ [])) ++ t) none ∙ append_nil (b.callers ++ (v ∷ [])))
 
-caller_shape : (types : Types) (b : BlockShape) (v : ℕ) → b.completed ≡ [] → b.waiting ≡ [] → IsBlockShape types b → IsBlockShape types (caller_added b v)
-caller_shape types b v none_completed none_waiting is_block = record {
-  in_order = caller_order b v none_completed none_waiting is_block.in_order;
+caller_shape : (types : Types) (b : BlockShape) (v : ℕ) → b.entered ≡ false → IsBlockShape types b → IsBlockShape types (caller_added b v)
+caller_shape types b v bare is_block = record {
+  pristine = is_block.pristine;
+  in_order = caller_order b v (is_block.pristine bare).0 (is_block.pristine bare).1 is_block.in_order;
   unsealed = is_block.unsealed;
   joined = is_block.joined;
   completed_typed = is_block.completed_typed;
@@ -222,11 +250,12 @@ waiting_order b x v in_order =
     ap (λ t. values_of b.completed ++ t) (sym (values-append b.waiting (record { variable = x; value = v; begun = false } ∷ []))))
 
 waiting_shape :
-    (types : Types) (b : BlockShape) (x v : ℕ) → b.recorded x ≡ None → types.of_value v ≡ types.of_variable x → IsBlockShape types b →
+    (types : Types) (b : BlockShape) (x v : ℕ) → b.entered ≡ true → b.recorded x ≡ None → types.of_value v ≡ types.of_variable x → IsBlockShape types b →
     IsBlockShape types (waiting_added b x v)
-waiting_shape types b x v none typed is_block =
+waiting_shape types b x v entered none typed is_block =
     let p : Parameter = record { variable = x; value = v; begun = false } in
     record {
+      pristine = λ e. let clash : true ≡ false = sym entered ∙ e in absurd cc;
       in_order = waiting_order b x v is_block.in_order;
       unsealed = is_block.unsealed;
       joined = is_block.joined;
@@ -241,6 +270,9 @@ waiting_shape types b x v none typed is_block =
           not_begun_more b.lookups b.waiting x v (is_block.not_looked_up x none) is_block.not_begun q (has_first b.waiting (p ∷ []) q has) e;
       once = is_block.once;
     }
+
+nothing_waits : (p : Parameter) (rest : List Parameter) → p ∷ rest ≢ []
+nothing_waits p rest e = cc
 
 -- The first parameter that waits ----------------------------------------------------------------------------------
 
@@ -269,6 +301,7 @@ begun_shape types b p rest waiting begun is_block =
     let apart : Apart (p ∷ rest) = subst (λ ps. Apart ps) waiting is_block.apart in
     let none : b.lookups p.variable ≡ 0 = not_begun p (inl refl) begun in
     record {
+      pristine = λ e. absurd (nothing_waits p rest (sym waiting ∙ (is_block.pristine e).1));
       in_order = is_block.in_order ∙ ap (λ ps. b.callers ++ (values_of b.completed ++ values_of ps)) waiting;
       unsealed = is_block.unsealed;
       joined = is_block.joined;
@@ -322,6 +355,7 @@ completed_shape types b p rest waiting sealed two is_block =
     subst (λ ps. (q : Parameter) → HasParameter ps q → q.begun ≡ false → b.lookups q.variable ≡ 0) waiting is_block.not_begun in
     let apart : Apart (p ∷ rest) = subst (λ ps. Apart ps) waiting is_block.apart in
     record {
+      pristine = λ e. absurd (nothing_waits p rest (sym waiting ∙ (is_block.pristine e).1));
       in_order = completed_order b p rest waiting is_block.in_order;
       unsealed = λ e. let clash : true ≡ false = sym sealed ∙ e in absurd cc;
       joined = inr two;
@@ -360,6 +394,7 @@ dropped_shape types b p rest waiting is_block =
     subst (λ ps. (q : Parameter) → HasParameter ps q → q.begun ≡ false → b.lookups q.variable ≡ 0) waiting is_block.not_begun in
     let apart : Apart (p ∷ rest) = subst (λ ps. Apart ps) waiting is_block.apart in
     record {
+      pristine = λ e. absurd (nothing_waits p rest (sym waiting ∙ (is_block.pristine e).1));
       in_order = dropped_order b p rest waiting is_block.in_order;
       unsealed = is_block.unsealed;
       joined = is_block.joined;
@@ -421,6 +456,7 @@ completed_edge types shape b p rest given typed before e c at (inr other) =
 
 declared_shape : (types : Types) (b : BlockShape) (predecessors : List ℕ) → b.sealed ≡ false → IsBlockShape types b → IsBlockShape types (record b { predecessors = predecessors })
 declared_shape types b predecessors open_block is_block = record {
+  pristine = is_block.pristine;
   in_order = is_block.in_order;
   unsealed = is_block.unsealed;
   joined = inl (is_block.unsealed open_block);
@@ -437,6 +473,7 @@ declared_shape types b predecessors open_block is_block = record {
 
 sealed_shape : (types : Types) (b : BlockShape) → IsBlockShape types b → IsBlockShape types (record b { sealed = true })
 sealed_shape types b is_block = record {
+  pristine = is_block.pristine;
   in_order = is_block.in_order;
   unsealed = λ e. absurd cc;
   joined = is_block.joined;
@@ -458,24 +495,46 @@ retargeted types shape e b c at open_b open_c before =
     edge_plain types (shape.block c) (record (shape.edge e) { target = Some c }) (before.blocks c) open_c
     (plain_edge types (shape.block b) (shape.edge e) (before.blocks b) open_b (before.edges e b at))
 
+entered_shape : (types : Types) (b : BlockShape) → IsBlockShape types b → IsBlockShape types (record b { entered = true })
+entered_shape types b is_block = record {
+  pristine = λ e. absurd cc;
+  in_order = is_block.in_order;
+  unsealed = is_block.unsealed;
+  joined = is_block.joined;
+  completed_typed = is_block.completed_typed;
+  waiting_typed = is_block.waiting_typed;
+  recorded_typed = is_block.recorded_typed;
+  waiting_recorded = is_block.waiting_recorded;
+  apart = is_block.apart;
+  untouched = is_block.untouched;
+  not_looked_up = is_block.not_looked_up;
+  not_begun = is_block.not_begun;
+  once = is_block.once;
+}
+
 pub structure_kept : (types : Types) (shape shape' : Shape) → ShapeStep types shape shape' → Structured types shape → Structured types shape'
-structure_kept types shape shape' (new_edge e b arguments open_block) before =
-    let new : EdgeShape = record { target = Some b; caller_arguments = arguments; arguments = arguments } in
-    edge_changed types shape e new b before refl (edge_plain types (shape.block b) new (before.blocks b) open_block refl)
+structure_kept types shape shape' (enter b) before =
+    block_changed types shape b (record (shape.block b) { entered = true }) before (entered_shape types (shape.block b) (before.blocks b)) refl (λ e. refl)
+structure_kept types shape shape' (new_edge e from b arguments entered open_block) before =
+    let new : EdgeShape = record { source = from; target = Some b; caller_arguments = arguments; arguments = arguments } in
+    edge_changed types shape e new b before refl (edge_plain types (shape.block b) new (before.blocks b) open_block refl) entered
 structure_kept types shape shape' (retarget e b c at open_b open_c) before =
-    edge_changed types shape e (record (shape.edge e) { target = Some c }) c before refl (retargeted types shape e b c at open_b open_c before)
+    edge_changed types shape e (record (shape.edge e) { target = Some c }) c before refl
+    (retargeted types shape e b c at open_b open_c before) (before.sources e b at)
 structure_kept types shape shape' (declare b predecessors open_block) before =
     block_changed types shape b (record (shape.block b) { predecessors = predecessors }) before
-    (declared_shape types (shape.block b) predecessors open_block (before.blocks b)) refl
+    (declared_shape types (shape.block b) predecessors open_block (before.blocks b)) refl (λ e. e)
 structure_kept types shape shape' (seal_shape b) before =
-    block_changed types shape b (record (shape.block b) { sealed = true }) before (sealed_shape types (shape.block b) (before.blocks b)) refl
-structure_kept types shape shape' (add_caller b v none_completed none_waiting) before =
+    block_changed types shape b (record (shape.block b) { sealed = true }) before (sealed_shape types (shape.block b) (before.blocks b)) refl (λ e. e)
+structure_kept types shape shape' (add_caller b v bare) before =
     block_changed types shape b (caller_added (shape.block b) v) before
-    (caller_shape types (shape.block b) v none_completed none_waiting (before.blocks b)) refl
-structure_kept types shape shape' (add_waiting b x v none typed) before =
-    block_changed types shape b (waiting_added (shape.block b) x v) before (waiting_shape types (shape.block b) x v none typed (before.blocks b)) refl
+    (caller_shape types (shape.block b) v bare (before.blocks b)) refl (λ e. e)
+structure_kept types shape shape' (add_waiting b x v entered none typed) before =
+    block_changed types shape b (waiting_added (shape.block b) x v) before
+    (waiting_shape types (shape.block b) x v entered none typed (before.blocks b)) refl (λ e. e)
 structure_kept types shape shape' (begin_lookup b p rest waiting begun) before =
-    block_changed types shape b (lookup_begun (shape.block b) p rest) before (begun_shape types (shape.block b) p rest waiting begun (before.blocks b)) refl
+    block_changed types shape b (lookup_begun (shape.block b) p rest) before
+    (begun_shape types (shape.block b) p rest waiting begun (before.blocks b)) refl (λ e. e)
 structure_kept types shape shape' (complete_first b p rest given waiting sealed two typed) before = record {
   blocks = λ c.
       block_by types shape b (first_completed (shape.block b) p rest) before
@@ -483,17 +542,23 @@ structure_kept types shape shape' (complete_first b p rest given waiting sealed 
       (updated_cases shape.block b (first_completed (shape.block b) p rest) c);
   edges = λ e c at.
       completed_edge types shape b p rest given typed before e c at (updated_cases shape.block b (first_completed (shape.block b) p rest) c);
+  sources = λ e c at.
+      source_by types shape b (first_completed (shape.block b) p rest) before (λ e. e) e c at
+      (updated_cases shape.block b (first_completed (shape.block b) p rest) (shape.edge e).source);
 }
 structure_kept types shape shape' (drop_first b p rest waiting) before =
-    block_changed types shape b (first_dropped (shape.block b) rest) before (dropped_shape types (shape.block b) p rest waiting (before.blocks b)) refl
+    block_changed types shape b (first_dropped (shape.block b) rest) before
+    (dropped_shape types (shape.block b) p rest waiting (before.blocks b)) refl (λ e. e)
 structure_kept types shape shape' (record_value b x v typed) before =
-    block_changed types shape b (value_recorded (shape.block b) x v) before (recorded_shape types (shape.block b) x v typed (before.blocks b)) refl
+    block_changed types shape b (value_recorded (shape.block b) x v) before
+    (recorded_shape types (shape.block b) x v typed (before.blocks b)) refl (λ e. e)
 structure_kept types shape shape' (use_recorded b x there) before =
-    block_changed types shape b (variable_used (shape.block b) x) before (used_shape types (shape.block b) x there (before.blocks b)) refl
+    block_changed types shape b (variable_used (shape.block b) x) before
+    (used_shape types (shape.block b) x there (before.blocks b)) refl (λ e. e)
 structure_kept types shape shape' (assign_value b x v typed) before =
     block_changed types shape b (variable_assigned (shape.block b) x v) before
     (used_shape types (value_recorded (shape.block b) x v) x (just_recorded (shape.block b).recorded x v)
-    (recorded_shape types (shape.block b) x v typed (before.blocks b))) refl
+    (recorded_shape types (shape.block b) x v typed (before.blocks b))) refl (λ e. e)
 
 pub shapes_structured : (types : Types) (shape shape' : Shape) → ShapeSteps types shape shape' → Structured types shape → Structured types shape'
 shapes_structured types shape shape' no_step before = before

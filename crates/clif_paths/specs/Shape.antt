@@ -19,6 +19,8 @@ pub record Parameter : Type 0 where
 
 -- One block. `parameters` is the list that the function has; the three lists above it say what they are.
 pub record BlockShape : Type 0 where
+  -- whether an instruction or a use was made in it
+  pub entered : Bool
   pub sealed : Bool
   -- the branches declared as its predecessors
   pub predecessors : List ℕ
@@ -34,8 +36,10 @@ pub record BlockShape : Type 0 where
   -- how many look-ups of a variable in the predecessors began here
   pub lookups : ℕ → ℕ
 
--- One edge: where it leads, the caller's arguments, and the arguments that the function has on it.
+-- One edge: the block of its branch, where it leads, the caller's arguments, and the arguments that the function
+-- has.
 pub record EdgeShape : Type 0 where
+  pub source : ℕ
   pub target : Option ℕ
   pub caller_arguments : List ℕ
   pub arguments : List ℕ
@@ -75,6 +79,8 @@ SameTypes types _ _ = ⊥
 pub record IsBlockShape (types : Types) (b : BlockShape) : Type 0 where
   -- the caller's parameters come first, and complete ones before those that wait
   pub in_order : b.parameters ≡ b.callers ++ (values_of b.completed ++ values_of b.waiting)
+  -- a block in which nothing was made has the caller's parameters alone
+  pub pristine : b.entered ≡ false → (b.completed ≡ []) × (b.waiting ≡ [])
   -- nothing is complete before the block is sealed
   pub unsealed : b.sealed ≡ false → b.completed ≡ []
   -- a block that keeps a variable's parameter has two predecessors at least
@@ -105,12 +111,16 @@ pub record Structured (types : Types) (shape : Shape) : Type 0 where
   pub blocks : (b : ℕ) → IsBlockShape types (shape.block b)
   pub edges :
       (e b : ℕ) → (shape.edge e).target ≡ Some b → IsEdgeShape types (shape.block b).completed (shape.edge e)
+  -- look-ups follow edges back, so they reach only blocks that hold a branch
+  pub sources :
+      (e b : ℕ) → (shape.edge e).target ≡ Some b → (shape.block (shape.edge e).source).entered ≡ true
 
 -- STEPS -----------------------------------------------------------------------------------------------------------
 
 abbrev pub no_shape : Shape
 no_shape = record {
   block = λ b. record {
+    entered = false;
     sealed = false;
     predecessors = [];
     callers = [];
@@ -121,7 +131,7 @@ no_shape = record {
     touched = λ x. false;
     lookups = λ x. 0;
   };
-  edge = λ e. record { target = None; caller_arguments = []; arguments = [] };
+  edge = λ e. record { source = 0; target = None; caller_arguments = []; arguments = [] };
 }
 
 -- the shape with one block changed
@@ -186,11 +196,18 @@ arguments_appended edge b given e =
 
 -- One step, with what it needs.
 pub data ShapeStep (types : Types) : Shape → Shape → Type 0 where
+  -- an instruction or a use is made in a block
+  enter :
+      {shape : Shape} (b : ℕ) →
+      ShapeStep types shape (with_block shape b (record (shape.block b) { entered = true }))
   -- an edge of a new branch, with the caller's arguments, into a block that is not sealed
   new_edge :
-      {shape : Shape} (e b : ℕ) (arguments : List ℕ) → (shape.block b).sealed ≡ false →
+      {shape : Shape} (e from b : ℕ) (arguments : List ℕ) → (shape.block from).entered ≡ true →
+      (shape.block b).sealed ≡ false →
       ShapeStep types shape (record shape {
-        edge = updated shape.edge e (record { target = Some b; caller_arguments = arguments; arguments = arguments });
+        edge =
+            updated shape.edge e
+            (record { source = from; target = Some b; caller_arguments = arguments; arguments = arguments });
       })
   -- an edge is led to another block; neither is sealed
   retarget :
@@ -204,13 +221,14 @@ pub data ShapeStep (types : Types) : Shape → Shape → Type 0 where
   seal_shape :
       {shape : Shape} (b : ℕ) →
       ShapeStep types shape (with_block shape b (record (shape.block b) { sealed = true }))
-  -- a caller's parameter, while the block has no other
+  -- a caller's parameter, while nothing was made in the block
   add_caller :
-      {shape : Shape} (b v : ℕ) → (shape.block b).completed ≡ [] → (shape.block b).waiting ≡ [] →
+      {shape : Shape} (b v : ℕ) → (shape.block b).entered ≡ false →
       ShapeStep types shape (with_block shape b (caller_added (shape.block b) v))
-  -- a parameter for a variable that has no record
+  -- a parameter for a variable that has no record, in a block that is used or holds a branch
   add_waiting :
-      {shape : Shape} (b x v : ℕ) → (shape.block b).recorded x ≡ None → types.of_value v ≡ types.of_variable x →
+      {shape : Shape} (b x v : ℕ) → (shape.block b).entered ≡ true → (shape.block b).recorded x ≡ None →
+      types.of_value v ≡ types.of_variable x →
       ShapeStep types shape (with_block shape b (waiting_added (shape.block b) x v))
   -- the look-up for the first parameter that waits
   begin_lookup :
