@@ -34,3 +34,4 @@ pub mod Finishing
 pub mod ExampleProofs
 pub mod FailureProofs
 pub mod LookUpExample
+pub mod ShapeExample

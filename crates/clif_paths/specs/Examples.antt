@@ -2,7 +2,7 @@
 -- Source: own; the situations are those that Braun et al. 2013 discuss (late sealing, trivial parameters,
 -- irreducible
 -- control flow, undefined variables).
-use Rattle.std.specs.Prelude.{◌≡◌, ℕ, suc, cond, List, [], ◌∷◌, ◌+◌, refl, Some, ◌==◌}
+use Rattle.std.specs.Prelude.{◌≡◌, ℕ, suc, cond, List, [], ◌∷◌, ◌+◌, refl, Some, ◌==◌, false, true}
 use Rattle.clif_paths.specs.Places.{start, inside, same_place, Arm, Path, end_of}
 use Rattle.clif_paths.specs.State.{Program, complete, zero_of}
 use Rattle.clif_paths.specs.Denotation.{given, name, instances, denotation}
@@ -11,6 +11,8 @@ use Rattle.clif_paths.specs.Blocks.{Blocks, front, state_of, Knows, with_filled,
 use Rattle.clif_paths.specs.Moves.{blank, Move, seal_with, go_on, give_name, read_variable, write_variable, copy_record, add_parameter, fill_parameter, drop_parameter, add_zero, undefine_parameter, after_all, Witness}
 use Rattle.clif_paths.specs.Runs.{Outside, Labelling, program_bits, function_bits}
 use Rattle.clif_paths.specs.LookUp.{Delivers}
+use Rattle.clif_paths.specs.Shape.{Types, EdgeShape, Shape, Structured, no_shape, with_block, waiting_added, lookup_begun, first_completed, arguments_appended}
+use Rattle.clif_paths.specs.Steps.{updated}
 
 -- the arm from the virtual start to the entry, block 0
 abbrev pub entry : Arm
@@ -230,3 +232,42 @@ looked_up = with_filled (with_parameter (after_all blank two_values).blocks 3 0 
 pub record LookUpFills : Type 0 where
   pub delivered : Delivers looked_up two_predecessors 0 (Some 3) [] 2
   pub answers : Knows looked_up 3 0 2
+
+-- BOTH ARMS. Block 0 has two edges to block 1, and another branch leads there too. Block 1 uses a variable before
+-- it
+-- is sealed; its parameter, value 5, is completed with value 7 on both edges.
+abbrev pub plain_types : Types
+plain_types = record { of_value = λ v. 0; of_variable = λ x. 0 }
+
+abbrev pub arm_of : ℕ → EdgeShape
+arm_of from = record { source = from; target = Some 1; caller_arguments = []; arguments = [] }
+
+abbrev pub two_arms : Shape
+two_arms =
+    let entered = with_block no_shape 0 (record (no_shape.block 0) { entered = true }) in
+    record entered { edge = updated (updated entered.edge 0 (arm_of 0)) 1 (arm_of 0) }
+
+abbrev pub used_before : Shape
+used_before =
+    let declared = with_block two_arms 1 (record (two_arms.block 1) { predecessors = 0 ∷ 1 ∷ [] }) in
+    let entered = with_block declared 1 (record (declared.block 1) { entered = true }) in
+    with_block entered 1 (waiting_added (entered.block 1) 0 5)
+
+abbrev pub under_way : Shape
+under_way =
+    let sealed = with_block used_before 1 (record (used_before.block 1) { sealed = true }) in
+    with_block sealed 1 (lookup_begun (sealed.block 1) (record { variable = 0; value = 5; begun = false }) [])
+
+abbrev pub both_completed : Shape
+both_completed = record {
+  block =
+      updated under_way.block 1
+      (first_completed (under_way.block 1) (record { variable = 0; value = 5; begun = true }) []);
+  edge = arguments_appended under_way.edge 1 (λ e. 7);
+}
+
+pub record BothArmsMatch : Type 0 where
+  pub structured : Structured plain_types both_completed
+  pub parameters : (both_completed.block 1).parameters ≡ 5 ∷ []
+  pub first_arm : (both_completed.edge 0).arguments ≡ 7 ∷ []
+  pub second_arm : (both_completed.edge 1).arguments ≡ 7 ∷ []

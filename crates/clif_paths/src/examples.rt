@@ -1,7 +1,7 @@
 //! Worked examples, so that the laws aren't empty: lists of moves whose tests pass by computation.
 
 ghost use Rattle.clif_paths.specs.MoveLaws.{AllowedMovesAreSound, FinishedMovesAreCorrect};
-ghost use Rattle.clif_paths.specs.Examples.{LoopSealedLate, LoopUnderCollector, DiamondDropped, IrreducibleLoop, UnreachableCycle, LookUpFills};
+ghost use Rattle.clif_paths.specs.Examples.{LoopSealedLate, LoopUnderCollector, DiamondDropped, IrreducibleLoop, UnreachableCycle, LookUpFills, BothArmsMatch};
 
 /// Moves whose tests pass, each in its turn, make sound tables.
 pub fn allowed_moves_are_sound()
@@ -41,4 +41,9 @@ pub fn unreachable_cycle()
 /// A whole look-up that finds two values, move by move.
 pub fn look_up_fills()
     ensures { LookUpFills }
+{}
+
+/// Both arms of a branch carry the argument.
+pub fn both_arms_match()
+    ensures { BothArmsMatch }
 {}
