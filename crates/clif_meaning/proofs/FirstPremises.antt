@@ -15,32 +15,32 @@ use Rattle.clif_meaning.specs.ScriptMachine.{ScriptRun, ScriptState, script_mach
 use Rattle.clif_meaning.specs.Premises.{Premises, OfNextItem, InEachStep, SparesSpillSlots, ClaimsAreTrue}
 use Rattle.clif_meaning.specs.Headline.{script_run, function_run, script_behaviour, function_behaviour, IsWorldOf, MeansTheSame}
 use Rattle.clif_meaning.specs.FunctionMachine.{ByMaps}
-use Rattle.clif_meaning.specs.Examples.{first_script, first_function, moved_by_16}
+use Rattle.clif_meaning.specs.Examples.{first_script, first_signature, first_function, moved_by_16}
 use Rattle.clif_meaning.proofs.FirstRow
 use Rattle.clif_meaning.proofs.SampleWorld
 use Rattle.clif_meaning.proofs.Endings
 
-none_touched : (operation : Operation) (ty : «Type») (bits : List ℕ) → touched_ranges operation ty bits ≡ []
-none_touched (Compute arithmetic) ty bits = refl
-none_touched Return ty bits = refl
+none_touched : (world : World) (operation : Operation) (ty : «Type») (bits : List ℕ) → touched_ranges world operation ty bits ≡ []
+none_touched world (Compute arithmetic) ty bits = refl
+none_touched world Return ty bits = refl
 
-none_claimed : (operation : Operation) (ty : «Type») (bits : List ℕ) → claims_of operation ty bits ≡ []
-none_claimed (Compute arithmetic) ty bits = refl
-none_claimed Return ty bits = refl
+none_claimed : (world : World) (operation : Operation) (ty : «Type») (bits : List ℕ) → claims_of world operation ty bits ≡ []
+none_claimed world (Compute arithmetic) ty bits = refl
+none_claimed world Return ty bits = refl
 
 -- it holds of each element of no list
 of_none : {X : Type 0} (P : X → Type 0) (xs : List X) → xs ≡ [] → AllByRecursion P xs
 of_none P xs none = subst (λ (ys : List _). AllByRecursion P ys) (sym none) tt
 
 -- so far no item touches memory
-spares : (hidden : ℕ → Bool) (state : ScriptState) (item : Item) → SparesSpillSlots hidden state item
-spares hidden state (Instruct place instruction results) = of_none _ _ (none_touched instruction.operation _ _)
-spares hidden state (Use variable name) = tt
-spares hidden state (Assign variable name) = tt
+spares : (run : ScriptRun) (state : ScriptState) (item : Item) → SparesSpillSlots run state item
+spares run state (Instruct place instruction results) = of_none _ _ (none_touched run.world instruction.operation _ _)
+spares run state (Use variable name) = tt
+spares run state (Assign variable name) = tt
 
 -- and none claims anything
 claims : (run : ScriptRun) (state : ScriptState) (item : Item) → ClaimsAreTrue run state item
-claims run state (Instruct place instruction results) = of_none _ _ (none_claimed instruction.operation _ _)
+claims run state (Instruct place instruction results) = of_none _ _ (none_claimed run.world instruction.operation _ _)
 claims run state (Use variable name) = tt
 claims run state (Assign variable name) = tt
 
@@ -54,7 +54,7 @@ next_item P each IsStuck = tt
 each_step : (P : ScriptState → Item → Type 0) (run : ScriptRun) → ((state : ScriptState) (item : Item) → P state item) → InEachStep P run
 each_step P run each n = next_item _ (each (state_after (script_machine run) n)) (state_after (script_machine run) n).control
 
-pub first_premises : (world : World) → Premises first_script first_function.signature (pointer_type_of U64) (script_run first_script first_function world)
+pub first_premises : (world : World) → Premises first_script first_signature (pointer_type_of U64) (script_run first_script first_function world)
 first_premises world = record {
   targets_filled = FirstRow.first_items _ (tt, (tt, (tt, (tt, (tt, (tt, tt))))));
   tables_once = tt;
@@ -79,7 +79,7 @@ first_premises world = record {
   };
   given_before = FirstRow.script_well_placed;
   tracked_apart = FirstRow.first_items _ ((λ h. h), (tt, (tt, ((λ h. h), ((λ h. h), (tt, tt))))));
-  spares_spill_slots = each_step _ (script_run first_script first_function world) (spares (script_run first_script first_function world).hidden);
+  spares_spill_slots = each_step _ (script_run first_script first_function world) (spares (script_run first_script first_function world));
   claims_true = each_step _ (script_run first_script first_function world) (claims (script_run first_script first_function world));
   libc_as_named = FirstRow.first_items _ (tt, (tt, (tt, (tt, (tt, (tt, tt))))));
 }
@@ -112,7 +112,7 @@ function_before world (suc (suc zero)) h = refl
 function_before world (suc (suc (suc zero))) h = refl
 function_before world (suc (suc (suc (suc n)))) h = absurd (omega arith)
 
-pub first_same : MeansTheSame first_script U64 first_function
+pub first_same : MeansTheSame first_script first_signature U64 first_function
 first_same world fits premises = record {
   there = shows_all (script_behaviour first_script first_function world) (function_behaviour first_script first_function U64 world) 6 4
       (Endings.script_stays (script_run first_script first_function world)) tt (script_before world) refl;
@@ -126,8 +126,8 @@ no_slots world = record {
   aligned = λ s slot h. cc;
   accessible = λ s slot k h below. cc;
   within = λ s slot h. cc;
-  apart = λ s t slot other h. cc;
+  apart = λ s t slot other k l h. cc;
 }
 
-pub a_world : (world : World) × IsWorldOf first_function U64 world × ((events : List Event) (call : CallShape) → world.moved events call ≡ moved_by_16)
+pub a_world : (world : World) × IsWorldOf first_signature first_function U64 world × ((events : List Event) (call : CallShape) → world.moved events call ≡ moved_by_16)
 a_world = (SampleWorld.sample_world, record { arguments = tt; slots = no_slots SampleWorld.sample_world }, λ events call. refl)

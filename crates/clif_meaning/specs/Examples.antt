@@ -8,6 +8,7 @@ use Rattle.clif_types.specs.declared.call_conv.CallConv.TheVariants.{SystemV, Fa
 use Rattle.clif_types.specs.declared.types.«Type».TheVariants as type
 use Rattle.clif_types.specs.declared.types.LaneType.TheVariants as lane
 use Rattle.clif_types.specs.Types.{bits_of}
+use Rattle.clif_types.specs.Signature.{SignatureShape}
 use Rattle.clif_types.specs.declared.target.PointerWidth.TheVariants.{U64}
 use Rattle.clif_types.specs.Target.{pointer_type_of}
 use Rattle.clif_meaning.specs.Bits.{value_bytes, value_of_bytes}
@@ -99,6 +100,10 @@ abbrev pub one_block : List Placed → ℕ → BlockView
 one_block items zero = record { parameters = []; items = items }
 one_block items (suc block) = record { parameters = []; items = [] }
 
+-- the signature of the row: it takes nothing, and returns an `i32`
+abbrev pub first_signature : SignatureShape
+first_signature = record { params = []; returns = record { value_type = i32 } ∷ []; call_conv = SystemV }
+
 -- the function of the row, with `number` for the 7:
 --     v3 = iconst.i32 0
 --     v0 -> v3
@@ -107,7 +112,7 @@ one_block items (suc block) = record { parameters = []; items = [] }
 --     return v2
 abbrev pub first_function_with : ℕ → FunctionView
 first_function_with number = record {
-  signature = record { params = []; returns = record { value_type = i32 } ∷ []; call_conv = SystemV };
+  signature = first_signature;
   entry = Some 0;
   blocks = one_block (
       placed (Compute (Iconst (pos 0))) i32 [] (3 ∷ [])
@@ -193,6 +198,6 @@ pub record VerdictExamples : Type 0 where
 -- There is a world in which the function of the row `first` can run, with a collector that moves; every world meets the
 -- premises for the row; and the function means what the script means.
 pub record FirstMeansTheSame : Type 0 where
-  pub a_world : (world : World) × IsWorldOf first_function U64 world × ((events : List Event) (call : CallShape) → world.moved events call ≡ moved_by_16)
-  pub premises : (world : World) → Premises first_script first_function.signature (pointer_type_of U64) (script_run first_script first_function world)
-  pub same : MeansTheSame first_script U64 first_function
+  pub a_world : (world : World) × IsWorldOf first_signature first_function U64 world × ((events : List Event) (call : CallShape) → world.moved events call ≡ moved_by_16)
+  pub premises : (world : World) → Premises first_script first_signature (pointer_type_of U64) (script_run first_script first_function world)
+  pub same : MeansTheSame first_script first_signature U64 first_function

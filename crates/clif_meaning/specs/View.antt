@@ -1,5 +1,6 @@
 -- A function of `clif_ir` as the machines see it: its instructions in the one shape. Own.
-use Rattle.std.specs.Prelude.{ℕ, List, [], ◌∷◌, map, slice_get}
+use Rattle.std.specs.Prelude.{ℕ, ◌==◌, if◌then◌else◌, List, [], ◌∷◌, map, slice_get}
+use Rattle.std.specs.List.{list_any}
 use Rattle.clif_types.specs.declared.types.«Type».{«Type»}
 use Rattle.clif_types.specs.declared.types.«Type».TheVariants as type
 use Rattle.clif_ir.specs.declared.instructions.BinaryOpcode.TheVariants as binary
@@ -52,12 +53,14 @@ placed_of body node = record {
   stack_map = [];
 }
 
--- a block with its instructions, in order
+-- the instructions of a block, in order. A block outside the layout is no part of the function, and has none.
+abbrev pub items_of : Body → ℕ → List Placed
+items_of body block =
+    if list_any (λ other. other == block) body.layout then map (λ inst. placed_of body (inst_at body inst)) (block_at body block).insts else []
+
+-- a block
 abbrev pub block_of : Body → ℕ → BlockView
-block_of body block = record {
-  parameters = (block_at body block).params;
-  items = map (λ inst. placed_of body (inst_at body inst)) (block_at body block).insts;
-}
+block_of body block = record { parameters = (block_at body block).params; items = items_of body block }
 
 -- a function. There are no stack slots so far.
 abbrev pub view_of : Body → FunctionView
