@@ -1,7 +1,7 @@
 //! Worked examples of the definitions, by computation.
 #![tactic(auto)]
 
-ghost use Rattle.clif_meaning.specs.CallExamples.{CallExamples};
+ghost use Rattle.clif_meaning.specs.CallExamples.{CallExamples, EdgeExamples};
 ghost use Rattle.clif_meaning.specs.Examples.{ArithmeticExamples, ByteExamples, SwitchExamples, FirstAnswersSeven, FirstMeansTheSame, EightIsNotSeven, EmptyIsStuck, VerdictExamples};
 ghost use Rattle.clif_meaning.specs.ScriptExamples.{LedgerExamples, PathExamples};
 ghost use Rattle.clif_meaning.specs.ViewExamples.{ViewExamples};
@@ -59,6 +59,11 @@ pub fn view_examples()
 /// An outside call under a collector that moves, on both machines.
 pub fn call_examples()
     ensures { CallExamples }
+{}
+
+/// What may stand on the edges of a try call.
+pub fn edge_examples()
+    ensures { EdgeExamples }
 {}
 
 /// Scripts that are a misuse, and scripts that are refused.
