@@ -11,7 +11,7 @@ use Rattle.clif_meaning.specs.Premises.{EachItem}
 use Rattle.clif_meaning.specs.Examples.{first_script, first_function, block0}
 use Rattle.clif_meaning.proofs.StraightLine
 
-one_of : {X : Type 0} (a x : X) → Contains (a ∷ []) x → a ≡ x
+pub one_of : {X : Type 0} (a x : X) → Contains (a ∷ []) x → a ≡ x
 one_of a x h = by h.0 h.1 h.2
   where
     by : (k : ℕ) → k < 1 → slice_index_or (a ∷ []) k x ≡ x → a ≡ x
@@ -26,10 +26,10 @@ two_of a b x h = by h.0 h.1 h.2
     by (suc zero) below here = inr here
     by (suc (suc k)) below here = absurd (omega arith)
 
-first_of_one : {X : Type 0} (a x : X) → a ≡ x → Contains (a ∷ []) x
+pub first_of_one : {X : Type 0} (a x : X) → a ≡ x → Contains (a ∷ []) x
 first_of_one a x here = (0, omega arith, here)
 
-function_straight : (p : Place ℕ) → (function_code first_function).flow.targets p ≡ []
+pub function_straight : (p : Place ℕ) → (function_code first_function).flow.targets p ≡ []
 function_straight p = by p.block p.index
   where
     by : (b i : ℕ) → (function_code first_function).flow.targets (record { block = b; index = i }) ≡ []

@@ -25,7 +25,7 @@ use Rattle.clif_meaning.specs.Request.{CreateBlock, SwitchToBlock, SealBlock, De
 use Rattle.clif_meaning.specs.Ledger.{ledger_after}
 use Rattle.clif_meaning.specs.Acceptance.{iconst, iadd, return_, Accepted, Misuse, Refused, verdict_on}
 use Rattle.clif_meaning.specs.FunctionView.{Placed, BlockView, FunctionView}
-use Rattle.clif_meaning.specs.WellPlaced.{WellPlaced}
+use Rattle.clif_meaning.specs.WellPlaced.{WellPlaced, Records, RecordsWellPlaced}
 use Rattle.clif_meaning.specs.Typing.{EdgesMatch}
 use Rattle.clif_meaning.specs.Premises.{Premises}
 use Rattle.clif_meaning.specs.Headline.{script_run, IsWorldOf, script_behaviour, function_behaviour, MeansTheSame}
@@ -128,6 +128,20 @@ first_function_with number = record {
 abbrev pub first_function : FunctionView
 first_function = first_function_with 7
 
+-- what the builder of the row knows: x is value 2 at the block's end; the first use of x, before the constant, was
+-- answered by value 0, and the second one, before the return, by value 2
+abbrev pub first_recorded : ℕ → List ℕ
+first_recorded zero = 2 ∷ []
+first_recorded (suc block) = []
+
+abbrev pub first_answered : ℕ → ℕ → List ℕ
+first_answered zero (suc zero) = 0 ∷ []
+first_answered zero (suc (suc (suc zero))) = 2 ∷ []
+first_answered _ _ = []
+
+abbrev pub first_records : Records
+first_records = record { recorded = first_recorded; answered = λ p. first_answered p.block p.index }
+
 -- both machines end with these bits, without an event, in every world
 abbrev pub ended_with : List ℕ → World → Observation
 ended_with results world = record { events = []; ending = Returned results world.memory }
@@ -137,6 +151,7 @@ pub record FirstAnswersSeven : Type 0 where
   pub function : (world : World) → function_behaviour first_script first_function U64 world 4 ≡ ended_with (7 ∷ []) world
   pub accepted : verdict_on first_script ≡ Accepted
   pub well_placed : WellPlaced first_function
+  pub records : RecordsWellPlaced first_function first_records
   pub edges_match : EdgesMatch first_function
 
 -- a number of 32 bits with the sign of the order

@@ -1,7 +1,7 @@
 -- Well placed: what an item names was given before, on every path from the entry. The usual dominance of uses by
 -- definitions, said by paths. An item names its operands before its results are given, and its edges' arguments
 -- after; parameters are given as their block is entered.
-use Rattle.std.specs.Prelude.{ℕ, zero, suc, ◌⊎◌, List, [], ◌∷◌, ◌++◌, length, map, flat_map, Option, Some, None, slice_get, Contains}
+use Rattle.std.specs.Prelude.{◌≡◌, ℕ, zero, suc, ◌+◌, ◌⊎◌, List, [], ◌∷◌, ◌++◌, length, map, flat_map, Option, Some, None, slice_get, Contains}
 use Rattle.clif_meaning.specs.Instruction.{Argument, Known, CallResult, CallPayload, Instruction}
 use Rattle.clif_meaning.specs.Name.{Name}
 use Rattle.clif_meaning.specs.Program.{Item, Instruct, Use, Assign, Program}
@@ -135,3 +135,20 @@ function_code function = record {
 -- argument of an edge that names it
 abbrev pub WellPlaced : FunctionView → Type 0
 WellPlaced function = IsWellPlaced (function_code function)
+
+-- given before the end of the block, on every path from the entry that comes there
+abbrev pub IsGivenBeforeEnd : {Block Thing : Type 0} → Code Block Thing → Thing → Block → Type 0
+IsGivenBeforeEnd {Block} code x block =
+    (p : Place Block) (path : List (Place Block)) → p.block ≡ block → p.index + 1 ≡ code.flow.size block → IsPath code.flow (p ∷ path) → IsGivenAlong code x (p ∷ path)
+
+-- what a builder knows beside its function: the values that it recorded for variables at the end of each block, and the
+-- values that answered uses, each at the place of the first instruction behind the use
+pub record Records : Type 0 where
+  pub recorded : (block : ℕ) → List ℕ
+  pub answered : Place ℕ → List ℕ
+
+-- In a function: on every path from the entry a record's value, after aliases, is defined before its block's end, and a
+-- use's answer before that use.
+pub record RecordsWellPlaced (function : FunctionView) (records : Records) : Type 0 where
+  pub at_end : (block value : ℕ) → Contains (records.recorded block) value → IsGivenBeforeEnd (function_code function) (function.resolved value) block
+  pub at_use : (p : Place ℕ) (value : ℕ) → Contains (records.answered p) value → IsGivenBefore (function_code function) (function.resolved value) p
