@@ -1,6 +1,6 @@
 -- Worked examples of the definitions. The rows, their texts and their answers are those of the crate's documentation
 -- and of its hostile scripts.
-use Rattle.std.specs.Prelude.{◌≡◌, ℕ, zero, suc, ◌+◌, ◌-◌, ◌%◌, ◌^◌, ◌==◌, nat_lt, if◌then◌else◌, List, [], ◌∷◌, Some, None, pos, negsuc}
+use Rattle.std.specs.Prelude.{◌≡◌, ℕ, zero, suc, ◌+◌, ◌-◌, ◌%◌, ◌^◌, ◌==◌, nat_lt, if◌then◌else◌, List, [], ◌∷◌, ◌++◌, Some, None, pos, negsuc}
 use Rattle.std.specs.declared.cmp.Ordering.{Ordering}
 use Rattle.std.specs.declared.cmp.Ordering.TheVariants.{Less, Equal, Greater}
 use Rattle.clif_types.specs.declared.types.«Type».{«Type»}
@@ -21,9 +21,9 @@ use Rattle.clif_meaning.specs.Outcome.{Values, Undefined, computed}
 use Rattle.clif_meaning.specs.Machine.{Observation, Returned, Stuck}
 use Rattle.clif_meaning.specs.SameMeaning.{SameMeaning}
 use Rattle.clif_meaning.specs.Name.{Name, answer_of}
-use Rattle.clif_meaning.specs.Request.{CreateBlock, SwitchToBlock, SealBlock, DeclareVar, DefVar, UseVar, Script}
+use Rattle.clif_meaning.specs.Request.{CreateBlock, SwitchToBlock, SealBlock, DeclareVar, DefVar, UseVar, Finalize, Script}
 use Rattle.clif_meaning.specs.Ledger.{ledger_after}
-use Rattle.clif_meaning.specs.Acceptance.{iconst, iadd, return_, Accepted, Misuse, Refused, verdict_on}
+use Rattle.clif_meaning.specs.Acceptance.{iconst, iadd, return_, Accepted, Misuse, Refused, verdict_on, Unsealed, Unfilled, refusal_of}
 use Rattle.clif_meaning.specs.FunctionView.{Placed, BlockView, FunctionView}
 use Rattle.clif_meaning.specs.WellPlaced.{WellPlaced, Records, RecordsWellPlaced}
 use Rattle.clif_meaning.specs.Typing.{EdgesMatch}
@@ -206,9 +206,35 @@ pub record VerdictExamples : Type 0 where
   pub other_type : verdict_on (CreateBlock ∷ SwitchToBlock block0 ∷ DeclareVar i32 ∷ iconst i8 (pos 1) ∷ DefVar 0 (answer_of 3 1) ∷ []) ≡ Misuse 4
   -- a block that was sealed before
   pub sealed : verdict_on (CreateBlock ∷ SealBlock block0 ∷ SealBlock block0 ∷ []) ≡ Misuse 2
+  -- a value where a block is asked for, and an instruction's number where a value is
+  pub no_such_block : verdict_on (CreateBlock ∷ SwitchToBlock block0 ∷ iconst i32 (pos 1) ∷ SealBlock (answer_of 2 1) ∷ []) ≡ Misuse 3
+  pub no_such_value : verdict_on (CreateBlock ∷ SwitchToBlock block0 ∷ iconst i32 (pos 1) ∷ return_ (answer_of 2 0 ∷ []) ∷ []) ≡ Misuse 3
+  -- operands of two types: types aren't a condition
+  pub mixed : verdict_on (CreateBlock ∷ SwitchToBlock block0 ∷ SealBlock block0 ∷ iconst i32 (pos 1) ∷ iconst i8 (pos 1)
+      ∷ iadd (ledger_after (CreateBlock ∷ SwitchToBlock block0 ∷ SealBlock block0 ∷ iconst i32 (pos 1) ∷ [])) (answer_of 3 1) (answer_of 4 1) ∷ return_ [] ∷ [])
+      ≡ Accepted
+  -- a constant that is no integer
+  pub no_integer : verdict_on (CreateBlock ∷ SwitchToBlock block0 ∷ iconst (type.Lane lane.F32) (pos 1) ∷ []) ≡ Misuse 2
   -- a block that was left before it was filled
   pub left_open : verdict_on (CreateBlock ∷ CreateBlock ∷ SwitchToBlock block0 ∷ iconst i32 (pos 1) ∷ SwitchToBlock (answer_of 1 0) ∷ []) ≡ Misuse 4
+  -- one that was left before anything was made in it, and needs no sealing
+  pub left_pristine : verdict_on (CreateBlock ∷ CreateBlock ∷ SwitchToBlock block0 ∷ SwitchToBlock (answer_of 1 0) ∷ return_ [] ∷ SealBlock (answer_of 1 0) ∷ []) ≡ Accepted
   pub nothing : verdict_on [] ≡ Accepted
+
+-- Block 0 returns. Block 1, to which nothing leads, was sealed and may be left with a constant alone. Block 2 has a
+-- constant, too.
+abbrev pub three_blocks : Script
+three_blocks =
+    CreateBlock ∷ CreateBlock ∷ CreateBlock ∷ SwitchToBlock block0 ∷ return_ [] ∷ SealBlock (answer_of 1 0) ∷ SwitchToBlock (answer_of 1 0) ∷ iconst i32 (pos 1)
+    ∷ SwitchToBlock (answer_of 2 0) ∷ iconst i32 (pos 1) ∷ []
+
+-- `finalize` names the first block that isn't finished, and that it isn't sealed before that it isn't filled.
+pub record RefusalExamples : Type 0 where
+  pub no_misuse : verdict_on three_blocks ≡ Refused 10
+  pub filled_unsealed : refusal_of (ledger_after three_blocks) Finalize ≡ Some (Unsealed block0)
+  pub sealed_unfilled : refusal_of (ledger_after (three_blocks ++ SealBlock block0 ∷ [])) Finalize ≡ Some (Unfilled (answer_of 1 0))
+  pub neither : refusal_of (ledger_after (CreateBlock ∷ SwitchToBlock block0 ∷ iconst i32 (pos 1) ∷ [])) Finalize ≡ Some (Unsealed block0)
+  pub pristine : refusal_of (ledger_after (CreateBlock ∷ SwitchToBlock block0 ∷ [])) Finalize ≡ None
 
 -- There is a world in which the function of the row `first` can run, with a collector that moves; every world meets the
 -- premises for the row; and the function means what the script means.

@@ -32,7 +32,7 @@ pub data Computed : Type 0 where
   Fault : TrapCode → Computed
   Undefined : Computed
 
--- the table of arithmetic, at the controlling type
+-- the table of arithmetic, at the controlling type, which is an integer
 abbrev pub computed : Arithmetic → «Type» → List Bits → Computed
 -- the low bits of the constant, or its sign repeated
 computed (Iconst number) ty [] = Values (wrapped (bits_of ty) number ∷ [])

@@ -7,6 +7,7 @@ use Rattle.clif_ir.specs.declared.instructions.BinaryOpcode.TheVariants as binar
 use Rattle.clif_ir.specs.declared.instructions.InstructionData.{InstructionData}
 use Rattle.clif_ir.specs.declared.instructions.InstructionData.TheVariants.{UnaryImm, Binary, MultiAry}
 use Rattle.clif_ir.specs.declared.function.InstNode.{InstNode}
+use Rattle.clif_ir.specs.Instruction.{operands}
 use Rattle.clif_ir.specs.Body.{Body, value_at, inst_at, block_at, resolved}
 use Rattle.clif_meaning.specs.Instruction.{Operation, Compute, Iconst, Iadd, Return, Edge}
 use Rattle.clif_meaning.specs.FunctionView.{Placed, BlockView, FunctionView}
@@ -16,12 +17,6 @@ abbrev pub operation_of : InstructionData → Operation
 operation_of (UnaryImm imm) = Compute (Iconst imm)
 operation_of (Binary binary.Iadd args) = Compute Iadd
 operation_of (MultiAry args) = Return
-
--- its operands,
-abbrev pub operands_of : InstructionData → List ℕ
-operands_of (UnaryImm imm) = []
-operands_of (Binary opcode args) = args
-operands_of (MultiAry args) = args
 
 -- and its edges: no instruction so far is a branch.
 abbrev pub edges_of : InstructionData → List (Edge ℕ ℕ)
@@ -46,7 +41,7 @@ placed_of body node = record {
   instruction = record {
     operation = operation_of node.shape;
     controlling = controlling_of body node.shape node.results;
-    operands = operands_of node.shape;
+    operands = operands node.shape;
     edges = edges_of node.shape;
   };
   results = node.results;

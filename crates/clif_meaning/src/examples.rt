@@ -2,7 +2,7 @@
 #![tactic(auto)]
 
 ghost use Rattle.clif_meaning.specs.CallExamples.{CallExamples, EdgeExamples};
-ghost use Rattle.clif_meaning.specs.Examples.{ArithmeticExamples, ByteExamples, SwitchExamples, FirstAnswersSeven, FirstMeansTheSame, EightIsNotSeven, EmptyIsStuck, VerdictExamples};
+ghost use Rattle.clif_meaning.specs.Examples.{ArithmeticExamples, ByteExamples, SwitchExamples, FirstAnswersSeven, FirstMeansTheSame, EightIsNotSeven, EmptyIsStuck, VerdictExamples, RefusalExamples};
 ghost use Rattle.clif_meaning.specs.ScriptExamples.{LedgerExamples, PathExamples};
 ghost use Rattle.clif_meaning.specs.ViewExamples.{ViewExamples};
 
@@ -69,4 +69,9 @@ pub fn edge_examples()
 /// Scripts that are a misuse, and scripts that are refused.
 pub fn verdict_examples()
     ensures { VerdictExamples }
+{}
+
+/// What `finalize` refuses, and which block it names.
+pub fn refusal_examples()
+    ensures { RefusalExamples }
 {}
