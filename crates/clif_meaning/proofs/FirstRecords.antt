@@ -1,8 +1,7 @@
 -- What the builder of the row `first` knows is well placed.
-use Rattle.std.proofs.Common.{◌≡◌, ◌+◌, ◌<◌, ℕ, zero, suc, List, [], ◌∷◌, refl, sym, ◌∙◌, ap, arith, ◌⊎◌, inl, inr, subst}
+use Rattle.std.proofs.Common.{ℕ, zero, suc, [], ◌∷◌, refl, sym, arith, ◌⊎◌, inr, subst}
 use Rattle.std.specs.Prelude.{Contains}
-use Rattle.clif_meaning.specs.Path.{Place, IsPath}
-use Rattle.clif_meaning.specs.WellPlaced.{Code, function_code, IsGivenAlong, IsGivenBefore, IsGivenBeforeEnd, RecordsWellPlaced}
+use Rattle.clif_meaning.specs.WellPlaced.{function_code, IsGivenAlong, IsGivenBefore, IsGivenBeforeEnd, RecordsWellPlaced}
 use Rattle.clif_meaning.specs.Examples.{first_function, first_records}
 use Rattle.clif_meaning.proofs.FirstRow.{one_of, first_of_one, function_straight}
 use Rattle.clif_meaning.proofs.StraightLine

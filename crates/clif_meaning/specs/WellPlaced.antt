@@ -1,7 +1,7 @@
 -- Well placed: what an item names was given before, on every path from the entry. The usual dominance of uses by
 -- definitions, said by paths. An item names its operands before its results are given, and its edges' arguments
 -- after; parameters are given as their block is entered.
-use Rattle.std.specs.Prelude.{◌≡◌, ℕ, zero, suc, ◌+◌, ◌⊎◌, List, [], ◌∷◌, ◌++◌, length, map, flat_map, Option, Some, None, slice_get, Contains}
+use Rattle.std.specs.Prelude.{◌≡◌, ℕ, zero, suc, ◌+◌, ◌⊎◌, List, [], ◌∷◌, length, map, flat_map, Option, Some, None, slice_get, Contains}
 use Rattle.clif_meaning.specs.Instruction.{Argument, Known, CallResult, CallPayload, Instruction}
 use Rattle.clif_meaning.specs.Name.{Name}
 use Rattle.clif_meaning.specs.Program.{Item, Instruct, Use, Assign, Program}
