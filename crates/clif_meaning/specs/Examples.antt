@@ -242,3 +242,11 @@ pub record FirstMeansTheSame : Type 0 where
   pub a_world : (world : World) × IsWorldOf first_signature first_function U64 world × ((events : List Event) (call : CallShape) → world.moved events call ≡ moved_by_16)
   pub premises : (world : World) → Premises first_script first_signature (pointer_type_of U64) (script_run first_script first_function world)
   pub same : MeansTheSame first_script first_signature U64 first_function
+
+-- What the theorem refuses: a function that answers 8 in place of 7, and one without blocks, whose signature is another.
+pub record WrongFunctionsAreRefused : Type 0 where
+  pub eight : MeansTheSame first_script first_signature U64 (first_function_with 8) → ⊥
+  pub empty : MeansTheSame first_script first_signature U64 empty_function → ⊥
+  -- the premises are no empty words: for a function that takes an argument the row meets them in no world
+  pub other_signature : (function : FunctionView) (world : World)
+      → Premises first_script (record first_signature { params = record { value_type = i32 } ∷ [] }) (pointer_type_of U64) (script_run first_script function world) → ⊥

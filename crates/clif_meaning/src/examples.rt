@@ -2,7 +2,7 @@
 #![tactic(auto)]
 
 ghost use Rattle.clif_meaning.specs.CallExamples.{CallExamples, EdgeExamples};
-ghost use Rattle.clif_meaning.specs.Examples.{ArithmeticExamples, ByteExamples, SwitchExamples, FirstAnswersSeven, FirstMeansTheSame, EightIsNotSeven, EmptyIsStuck, VerdictExamples, RefusalExamples};
+ghost use Rattle.clif_meaning.specs.Examples.{ArithmeticExamples, ByteExamples, SwitchExamples, FirstAnswersSeven, FirstMeansTheSame, WrongFunctionsAreRefused, EightIsNotSeven, EmptyIsStuck, VerdictExamples, RefusalExamples};
 ghost use Rattle.clif_meaning.specs.ScriptExamples.{LedgerExamples, PathExamples};
 ghost use Rattle.clif_meaning.specs.ViewExamples.{ViewExamples};
 
@@ -29,6 +29,11 @@ pub fn first_answers_seven()
 /// The row `first` meets the premises, and its function means what its script means.
 pub fn first_means_the_same()
     ensures { FirstMeansTheSame }
+{}
+
+/// Functions of which the theorem isn't true, and a signature that doesn't meet the premises.
+pub fn wrong_functions_are_refused()
+    ensures { WrongFunctionsAreRefused }
 {}
 
 /// A function that answers 8 in its place has not the same meaning, in any world.
