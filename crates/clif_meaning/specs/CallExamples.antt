@@ -10,6 +10,7 @@ use Rattle.clif_meaning.specs.Memory.{Memory, bytes_in}
 use Rattle.clif_meaning.specs.Instruction.{Edge, Argument, Known, CallResult, CallPayload}
 use Rattle.clif_meaning.specs.Event.{Callee, AtAddress, CallShape, Default, Answer, Results, Exception, payload_types}
 use Rattle.clif_meaning.specs.World.{World}
+use Rattle.clif_meaning.specs.Outcome.{Goes}
 use Rattle.clif_meaning.specs.Machine.{At}
 use Rattle.clif_meaning.specs.Name.{Name, answer_of, same_name}
 use Rattle.clif_meaning.specs.Program.{empty_program}
@@ -65,6 +66,10 @@ sample_edges =
 abbrev pub script_answered : World → Answer → script.ScriptState
 script_answered world answer = script.take_answer (sample_script_run world) (script_called world) sample_edges [] [] answer
 
+-- the state after a call of a library function along the same edges, which answers 5 and leaves 3 in every byte
+abbrev pub library_called : World → script.ScriptState
+library_called world = script.carry_out (sample_script_run world) sample_script_state sample_edges [] [] (Goes 0 (5 ∷ []) (λ address. 3))
+
 -- value 4 lies in the slot, value 5 is an alias of value 4
 abbrev pub sample_function_run : World → function.Collector → function.FunctionRun
 sample_function_run world collector = record {
@@ -111,6 +116,11 @@ pub record CallIsSeen (world : World) : Type 0 where
   pub normal : (script_answered world (Results (5 ∷ []))).names (answer_of 9 0) ≡ 80
   pub result : (script_answered world (Results (5 ∷ []))).names (answer_of 9 1) ≡ 5
   pub raised : (script_answered world (Exception 0 (6 ∷ 7 ∷ []))).names (answer_of 9 1) ≡ 7
+  -- a call of a library function isn't seen, and moves nothing; it takes the normal edge with its result
+  pub library_unseen : (library_called world).events ≡ []
+  pub library_unmoved : (library_called world).names (answer_of 9 0) ≡ 64
+  pub library_result : (library_called world).names (answer_of 9 1) ≡ 5
+  pub library_memory : (library_called world).memory 1008 ≡ 3
   -- by maps the slot moves, and no value; over a set the member that isn't an alias moves, and no slot
   pub slot_moves : slot_value (function_called world function.ByMaps).memory ≡ 80
   pub value_stays : (function_called world function.ByMaps).values 4 ≡ 64
