@@ -11,7 +11,7 @@ use std::fmt;
 use std::marker::Model;
 
 /// A basic block: a list of instructions with parameters at its head. It prints as `block0`.
-#[derive(Clone, Copy, PartialEq, Eq, PartialOrd, Ord, Hash)]
+#[derive(Clone, Copy, Default, PartialEq, Eq, PartialOrd, Ord, Hash)]
 pub struct Block(u32);
 
 impl Model for Block {
@@ -76,7 +76,7 @@ impl fmt::Debug for Block {
 }
 
 /// A value: a parameter of a block, a result of an instruction, or an alias of another value. It prints as `v0`.
-#[derive(Clone, Copy, PartialEq, Eq, PartialOrd, Ord, Hash)]
+#[derive(Clone, Copy, Default, PartialEq, Eq, PartialOrd, Ord, Hash)]
 pub struct Value(u32);
 
 impl Model for Value {
@@ -141,7 +141,7 @@ impl fmt::Debug for Value {
 }
 
 /// An instruction. It prints as `inst0`.
-#[derive(Clone, Copy, PartialEq, Eq, PartialOrd, Ord, Hash)]
+#[derive(Clone, Copy, Default, PartialEq, Eq, PartialOrd, Ord, Hash)]
 pub struct Inst(u32);
 
 impl Model for Inst {
@@ -206,7 +206,7 @@ impl fmt::Debug for Inst {
 }
 
 /// A table of branch targets. It prints as `jt0`.
-#[derive(Clone, Copy, PartialEq, Eq, PartialOrd, Ord, Hash)]
+#[derive(Clone, Copy, Default, PartialEq, Eq, PartialOrd, Ord, Hash)]
 pub struct JumpTable(u32);
 
 impl Model for JumpTable {
@@ -271,7 +271,7 @@ impl fmt::Debug for JumpTable {
 }
 
 /// A table of the targets of a call that may throw. It prints as `extable0`.
-#[derive(Clone, Copy, PartialEq, Eq, PartialOrd, Ord, Hash)]
+#[derive(Clone, Copy, Default, PartialEq, Eq, PartialOrd, Ord, Hash)]
 pub struct ExceptionTable(u32);
 
 impl Model for ExceptionTable {

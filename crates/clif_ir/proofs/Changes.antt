@@ -1,0 +1,43 @@
+-- Laws of the words that say what a call makes of a function.
+use Rattle.std.proofs.Common.{◌≡◌, ℕ, zero, suc, ◌+◌, ◌<◌, List, [], ◌∷◌, ◌++◌, length, take, get_or, refl, ap, arith, sym, ◌∙◌, append_assoc}
+use Rattle.std.specs.List.{range_with_len}
+use Rattle.std.proofs.lemmas.List.{take_more}
+use Rattle.std.proofs.lemmas.Grind.{common_steps}
+use Rattle.clif_types.specs.declared.types.«Type».{«Type»}
+use Rattle.clif_ir.specs.declared.function.ValueOrigin.TheVariants.{Result}
+use Rattle.clif_ir.specs.declared.function.ValueNode.{ValueNode}
+use Rattle.clif_ir.specs.Changes.{result_nodes}
+
+pub range_with_len_more : (first count : ℕ) → range_with_len first (count + 1) ≡ range_with_len first count ++ (first + count) ∷ []
+range_with_len_more first zero = let same : first ≡ first + 0 = omega arith in ap (λ n. n ∷ []) same
+range_with_len_more first (suc count) =
+    let same : (first + 1) + count ≡ first + suc count = omega arith in
+    let more : suc count + 1 ≡ suc (count + 1) = omega arith in
+    ap (λ n. range_with_len first n) more
+    ∙ ap (λ xs. first ∷ xs) (range_with_len_more (first + 1) count ∙ ap (λ n. range_with_len (first + 1) count ++ n ∷ []) same)
+
+-- the node of one result
+abbrev pub result_node : ℕ → ℕ → «Type» → ValueNode
+result_node i k ty = record { ty = ty; origin = Result i k }
+
+result_nodes-append : (i k : ℕ) (types : List «Type») (ty : «Type») → result_nodes i k (types ++ ty ∷ []) ≡ result_nodes i k types ++ result_node i (k + length types) ty ∷ []
+result_nodes-append i k [] ty = let same : k ≡ k + 0 = omega arith in ap (λ n. result_node i n ty ∷ []) same
+result_nodes-append i k (x ∷ types) ty =
+    let same : (k + 1) + length types ≡ k + suc (length types) = omega arith in
+    ap (λ xs. result_node i k x ∷ xs) (result_nodes-append i (k + 1) types ty ∙ ap (λ n. result_nodes i (k + 1) types ++ result_node i n ty ∷ []) same)
+
+pub result_nodes_more : (i : ℕ) (types : List «Type») (k : ℕ) (d : «Type») → k < length types
+    → result_nodes i 0 (take (k + 1) types) ≡ result_nodes i 0 (take k types) ++ result_node i k (get_or types k d) ∷ []
+result_nodes_more i types k d inside =
+    let same : 0 + length (take k types) ≡ k = grind (arith, common_steps) in
+    ap (result_nodes i 0) (take_more types k d inside) ∙ result_nodes-append i 0 (take k types) (get_or types k d)
+    ∙ ap (λ n. result_nodes i 0 (take k types) ++ result_node i n (get_or types k d) ∷ []) same
+
+-- one more result was put behind the others
+pub result_nodes_pushed : (before values after : List ValueNode) (i k : ℕ) (types : List «Type») (d : «Type») → k < length types
+    → values ≡ before ++ result_nodes i 0 (take k types) → after ≡ values ++ result_node i k (get_or types k d) ∷ []
+    → after ≡ before ++ result_nodes i 0 (take (k + 1) types)
+result_nodes_pushed before values after i k types d inside so_far pushed =
+    pushed ∙ ap (λ nodes. nodes ++ result_node i k (get_or types k d) ∷ []) so_far
+    ∙ append_assoc before (result_nodes i 0 (take k types)) (result_node i k (get_or types k d) ∷ [])
+    ∙ ap (λ nodes. before ++ nodes) (sym (result_nodes_more i types k d inside))

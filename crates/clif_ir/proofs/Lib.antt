@@ -1,0 +1,9 @@
+pub mod Aliases
+pub mod Changes
+pub mod Lists
+pub mod Keeps
+pub mod KeepsBlock
+pub mod KeepsParam
+pub mod KeepsInst
+pub mod KeepsPlaces
+pub mod Reading

@@ -1,0 +1,62 @@
+-- Laws of the words for what the reading calls answer.
+use Rattle.std.proofs.Common.{◌≡◌, ◌≢◌, ℕ, zero, suc, ◌+◌, ◌-◌, ◌<◌, ◌≤◌, List, [], ◌∷◌, ◌++◌, length, get_or, take, drop, refl, ap, arith, sym, ◌∙◌, subst, inl, inr, eqb, ◌==◌}
+use Rattle.std.specs.Prelude.{slice_index, slice_get, Option, Some, None, if◌then◌else◌, Bool, true, false, remove}
+use Rattle.std.proofs.lemmas.Grind.{common_steps}
+use Rattle.std.proofs.lemmas.Bool.{cases_eq}
+use Rattle.clif_ir.specs.Consistent.{Stands, Once}
+use Rattle.clif_ir.specs.Reading.{next_in, without, place_of}
+
+-- a choice by a test that is true, and by one that is false
+if_true : {X : Type 0} (y x : ℕ) (a b : X) → y ≡ x → (if y == x then a else b) ≡ a
+if_true y x a b same = grind (arith, common_steps, same)
+
+if_false : {X : Type 0} (y x : ℕ) (a b : X) → y ≢ x → (if y == x then a else b) ≡ b
+if_false y x a b other = grind (arith, common_steps, other)
+
+Once-tail : (y : ℕ) (ys : List ℕ) → Once (y ∷ ys) → Once ys
+Once-tail y ys once j k before inside = once (suc j) (suc k) (omega (arith, before)) (omega (arith, inside))
+
+-- what follows the only `x` is what follows its place
+pub next_in-at : (xs : List ℕ) (k x : ℕ) → Once xs → k < length xs → slice_index xs k ≡ x → next_in xs x ≡ slice_get xs (k + 1)
+next_in-at [] k x once inside at = absurd (omega (arith, inside))
+next_in-at (y ∷ ys) zero x once inside at = if_true y x _ _ at
+next_in-at (y ∷ ys) (suc k) x once inside at =
+    let other : y ≢ x = λ same. once 0 (suc k) (omega arith) inside (same ∙ sym at) in
+    let more : suc (k + 1) ≡ suc k + 1 = omega arith in
+    if_false y x _ _ other ∙ next_in-at ys k x (Once-tail y ys once) (omega (arith, inside)) at ∙ ap (λ n. slice_get (y ∷ ys) n) more
+
+-- nothing follows what isn't there
+pub next_in-none : (xs : List ℕ) (x : ℕ) → (Stands x xs → ⊥) → next_in xs x ≡ None
+next_in-none [] x absent = refl
+next_in-none (y ∷ ys) x absent =
+    if_false y x _ _ (λ same. absent (0, omega arith, same))
+    ∙ next_in-none ys x (λ here. absent (suc here.0, omega (arith, here.1), here.2))
+
+-- the place of the first `x`
+pub place_of-first : (xs : List ℕ) (k x : ℕ) → k < length xs → slice_index xs k ≡ x → ((j : ℕ) → j < k → slice_index xs j ≢ x) → place_of x xs ≡ k
+place_of-first [] k x inside at before = absurd (omega (arith, inside))
+place_of-first (y ∷ ys) zero x inside at before = if_true y x _ _ at
+place_of-first (y ∷ ys) (suc k) x inside at before =
+    let rest : place_of x ys ≡ k = place_of-first ys k x (omega (arith, inside)) at (λ j below. before (suc j) (omega (arith, below))) in
+    let more : k + 1 ≡ suc k = omega arith in
+    if_false y x _ _ (before 0 (omega arith)) ∙ ap (λ n. n + 1) rest ∙ more
+
+-- to take the first `x` away is to take away what stands at its place
+pub without-remove : (xs : List ℕ) (x : ℕ) → Stands x xs → remove xs (place_of x xs) ≡ without x xs
+without-remove [] x here = absurd (omega (arith, here.1))
+without-remove (y ∷ ys) x here =
+    elim (cases_eq y x) [
+      | inl same ↦
+          ap (λ k. remove (y ∷ ys) k) (if_true y x 0 (place_of x ys + 1) same) ∙ sym (if_true y x ys (y ∷ without x ys) same)
+      | inr other ↦
+          let more : place_of x ys + 1 ≡ suc (place_of x ys) = omega arith in
+          ap (λ k. remove (y ∷ ys) k) (if_false y x 0 (place_of x ys + 1) other ∙ more)
+          ∙ ap (λ zs. y ∷ zs) (without-remove ys x (behind here other))
+          ∙ sym (if_false y x ys (y ∷ without x ys) other)
+    ]
+  where
+    behind : Stands x (y ∷ ys) → y ≢ x → Stands x ys
+    behind (zero, inside, at) other = absurd (other at)
+    behind (suc k, inside, at) other = (k, omega (arith, inside), at)
+
+pub ruleset place_rules = (place_of-first, without-remove)

@@ -1,0 +1,16 @@
+use Rattle.std.proofs.Common.{rules, arith}
+use Rattle.std.proofs.lemmas.Grind.{common_steps}
+use Rattle.clif_ir.specs.Changes.{with_param}
+use Rattle.clif_ir.specs.Whole.{body_of}
+use Rattle.clif_ir.proofs.Keeps.{consistent_at}
+use Rattle.clif_ir.proofs.KeepsParam.{with_param_consistent}
+use Rattle.clif_ir.proofs.KeepsPlaces.{placed_with, with_param_placed}
+use Rattle.clif_ir.proofs.function.Function.append_block_param.Goals as goal
+
+pub invariant_of-self-2 : goal.invariant_of-self-2
+invariant_of-self-2 c = record {
+  consistent = consistent_at (with_param (body_of c.self.inside) c.args.block c.args.ty) _ (first_of (search rules, grind (arith, common_steps)))
+      (with_param_consistent _ _ _ c.self.invariant.consistent (grind (arith, common_steps)) (grind (arith, common_steps)));
+  placed = placed_with (with_param (body_of c.self.inside) c.args.block c.args.ty) _ _ _ _ _ (first_of (search rules, grind (arith, common_steps))) (first_of (search rules, grind (arith, common_steps))) (first_of (search rules, grind (arith, common_steps)))
+      (with_param_placed _ _ _ _ _ (grind (arith, common_steps)) c.self.invariant.placed);
+}

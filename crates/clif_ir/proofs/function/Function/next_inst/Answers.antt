@@ -1,0 +1,13 @@
+use Rattle.std.proofs.Common.{◌≡◌, ◌+◌, ◌∙◌, ap, sym, subst, arith, rules}
+use Rattle.std.specs.Prelude.{slice_get}
+use Rattle.std.proofs.lemmas.Grind.{common_steps}
+use Rattle.clif_ir.specs.Body.{Body, block_at, inst_at}
+use Rattle.clif_ir.specs.Consistent.{Once}
+use Rattle.clif_ir.proofs.Reading.{next_in-at}
+use Rattle.clif_ir.proofs.function.Function.next_inst.Goals as goal
+
+pub returns : goal.returns
+returns c =
+    let block : c.index-4.result.now.insts ≡ (block_at c.args.self.now (inst_at c.args.self.now c.args.inst).block).insts = first_of (search rules, grind (arith, common_steps)) in
+    c.get.ensures ∙ ap (λ insts. slice_get insts (c.inst_place-place.result + 1)) block
+    ∙ sym (next_in-at _ _ _ (subst (λ (f : Body). Once (block_at f (inst_at c.args.self.now c.args.inst).block).insts) c.self.view_is (c.self.invariant.consistent.insts_once _)) c.inst_place-place.ensures.inside c.inst_place-place.ensures.there)

@@ -1,0 +1,53 @@
+-- What each call that changes a function makes of it. Source: own.
+use Rattle.std.specs.Prelude.{ℕ, List, [], ◌∷◌, ◌++◌, ◌+◌, length, slice_set, not, nat_eq, filter}
+use Rattle.std.specs.List.{range_with_len}
+use Rattle.clif_types.specs.declared.types.«Type».{«Type»}
+use Rattle.clif_ir.specs.declared.instructions.InstructionData.{InstructionData}
+use Rattle.clif_ir.specs.declared.function.ValueOrigin.{ValueOrigin}
+use Rattle.clif_ir.specs.declared.function.ValueOrigin.TheVariants.{Result, Param, Alias}
+use Rattle.clif_ir.specs.declared.function.ValueNode.{ValueNode}
+use Rattle.clif_ir.specs.declared.function.InstNode.{InstNode}
+use Rattle.clif_ir.specs.declared.function.BlockNode.{BlockNode}
+use Rattle.clif_ir.specs.declared.inst_list.BlockEnd.{BlockEnd}
+use Rattle.clif_ir.specs.declared.inst_list.BlockEnd.TheVariants.{Front, Back}
+use Rattle.clif_ir.specs.Body.{Body, empty_block, block_at, value_at, resolved}
+
+-- with a new empty block
+abbrev pub with_block : Body → Body
+with_block f = record f { blocks = f.blocks ++ empty_block ∷ [] }
+
+-- with block `b` at the end of the layout
+abbrev pub with_layout : Body → ℕ → Body
+with_layout f b = record f { layout = f.layout ++ b ∷ [] }
+
+-- with a new parameter at the end of those of block `b`
+abbrev pub with_param : Body → ℕ → «Type» → Body
+with_param f b ty =
+    record f {
+      values = f.values ++ record { ty = ty; origin = Param b } ∷ [];
+      blocks = slice_set f.blocks b (record (block_at f b) { params = (block_at f b).params ++ length f.values ∷ [] });
+    }
+
+-- the results of instruction `i`, from its result `k` on
+abbrev pub result_nodes : ℕ → ℕ → List «Type» → List ValueNode
+result_nodes i k [] = []
+result_nodes i k (ty ∷ types) = record { ty = ty; origin = Result i k } ∷ result_nodes i (k + 1) types
+
+-- the node of a new instruction whose results have these types
+abbrev pub inst_node : Body → ℕ → InstructionData → List «Type» → ℕ → InstNode
+inst_node f b shape types loc =
+    record { shape = shape; results = range_with_len (length f.values) (length types); block = b; srcloc = loc }
+
+-- an instruction at one end of a list
+abbrev pub put_at : BlockEnd → ℕ → List ℕ → List ℕ
+put_at Front inst insts = inst ∷ insts
+put_at Back inst insts = insts ++ inst ∷ []
+
+-- with a new instruction at one end of block `b`
+abbrev pub with_inst : Body → ℕ → BlockEnd → InstructionData → List «Type» → ℕ → Body
+with_inst f b end shape types loc =
+    record f {
+      values = f.values ++ result_nodes (length f.insts) 0 types;
+      insts = f.insts ++ inst_node f b shape types loc ∷ [];
+      blocks = slice_set f.blocks b (record (block_at f b) { insts = put_at end (length f.insts) (block_at f b).insts });
+    }

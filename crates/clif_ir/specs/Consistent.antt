@@ -1,0 +1,59 @@
+-- What every function keeps.
+-- Source: own, after the crate's documentation of its data flow graph and its layout.
+use Rattle.std.specs.Prelude.{◌≡◌, ◌≢◌, ℕ, ◌<◌, ◌^◌, List, [], length, slice_index, slice_index_or, None, Option, is_some, count_by}
+use Rattle.clif_ir.specs.declared.function.ValueOrigin.{ValueOrigin}
+use Rattle.clif_ir.specs.declared.function.ValueOrigin.TheVariants.{Result, Param, Alias}
+use Rattle.clif_ir.specs.declared.function.ValueNode.{ValueNode}
+use Rattle.clif_ir.specs.Body.{Body, value_at, inst_at, block_at, alias_of, alias_of_origin, follow}
+use Rattle.clif_ir.specs.Instruction.{operands, edge_arguments}
+
+-- a number stands in a list
+abbrev pub Stands : ℕ → List ℕ → Type 0
+Stands x xs = (k : ℕ) × (k < length xs) × (slice_index xs k ≡ x)
+
+-- no number stands twice in a list
+abbrev pub Once : List ℕ → Type 0
+Once xs = (j k : ℕ) → j < k → k < length xs → slice_index xs j ≢ slice_index xs k
+
+-- where value `v` comes from exists and knows `v`
+abbrev pub IsOrigin : Body → ℕ → ValueOrigin → Type 0
+IsOrigin f v (Result i k) =
+    (i < length f.insts) × (k < length (inst_at f i).results) × (slice_index (inst_at f i).results k ≡ v)
+IsOrigin f v (Param b) = (b < length f.blocks) × Stands v (block_at f b).params
+IsOrigin f v (Alias original) = original < length f.values
+
+-- how many values are aliases
+abbrev pub alias_count : List ValueNode → ℕ
+alias_count values = count_by (λ (n : ValueNode). is_some (alias_of_origin n.origin)) values
+
+pub record IsConsistent (f : Body) : Type 0 where
+  -- no table has more than 2^32 - 1 entries
+  pub values_fit : length f.values < 2 ^ 32
+  pub insts_fit : length f.insts < 2 ^ 32
+  pub blocks_fit : length f.blocks < 2 ^ 32
+  -- every value that is named exists, and it comes from where it says
+  pub origins : (v : ℕ) → v < length f.values → IsOrigin f v (value_at f v).origin
+  pub operands_exist : (i k : ℕ) → k < length (operands (inst_at f i).shape)
+      → slice_index (operands (inst_at f i).shape) k < length f.values
+  -- results and parameters know their place
+  pub results_known : (i k : ℕ) → k < length (inst_at f i).results
+      → (slice_index (inst_at f i).results k < length f.values)
+      × ((value_at f (slice_index (inst_at f i).results k)).origin ≡ Result i k)
+  pub params_known : (b k : ℕ) → k < length (block_at f b).params
+      → (slice_index (block_at f b).params k < length f.values)
+      × ((value_at f (slice_index (block_at f b).params k)).origin ≡ Param b)
+  pub params_once : (b : ℕ) → Once (block_at f b).params
+  -- an instruction stands in one block, once
+  pub insts_stand : (i : ℕ) → i < length f.insts
+      → ((inst_at f i).block < length f.blocks) × Stands i (block_at f (inst_at f i).block).insts
+  pub insts_known : (b k : ℕ) → k < length (block_at f b).insts
+      → (slice_index (block_at f b).insts k < length f.insts)
+      × ((inst_at f (slice_index (block_at f b).insts k)).block ≡ b)
+  pub insts_once : (b : ℕ) → Once (block_at f b).insts
+  -- a block stands in the layout at most once
+  pub layout_exists : (k : ℕ) → k < length f.layout → slice_index f.layout k < length f.blocks
+  pub layout_once : Once f.layout
+  -- along aliases one reaches a value that is none, in no more steps than there are aliases
+  pub aliases_end : (v : ℕ) → v < length f.values → alias_of f.values (follow (alias_count f.values) f.values v) ≡ None
+  -- an instruction with edge arguments has no results
+  pub edges_without_results : (i : ℕ) → edge_arguments (inst_at f i).shape ≢ [] → (inst_at f i).results ≡ []

@@ -1,0 +1,6 @@
+pub mod Instruction
+pub mod Body
+pub mod Changes
+pub mod Consistent
+pub mod Whole
+pub mod Reading

@@ -1,0 +1,28 @@
+-- What the calls that read a function answer. Source: own, after the crate's documentation.
+use Rattle.std.specs.Prelude.{ℕ, ◌==◌, ◌+◌, List, [], ◌∷◌, length, Option, Some, None, if◌then◌else◌, slice_get}
+use Rattle.clif_ir.specs.declared.function.ValueDef.{ValueDef}
+use Rattle.clif_ir.specs.declared.function.ValueDef.TheVariants as def
+use Rattle.clif_ir.specs.declared.function.ValueOrigin.{ValueOrigin}
+use Rattle.clif_ir.specs.declared.function.ValueOrigin.TheVariants.{Result, Param, Alias}
+use Rattle.clif_ir.specs.Body.{Body, value_at, inst_at, block_at, resolved}
+
+-- the entry of a list that follows the first `x`
+abbrev pub next_in : List ℕ → ℕ → Option ℕ
+next_in [] x = None
+next_in (y ∷ ys) x = if y == x then slice_get ys 0 else next_in ys x
+
+-- the list without its first `x`
+abbrev pub without : ℕ → List ℕ → List ℕ
+without x [] = []
+without x (y ∷ ys) = if y == x then ys else y ∷ without x ys
+
+-- the place of the first `x` of a list
+abbrev pub place_of : ℕ → List ℕ → ℕ
+place_of x [] = 0
+place_of x (y ∷ ys) = if y == x then 0 else place_of x ys + 1
+
+-- what defines a value that is no alias
+abbrev pub def_of : Body → ℕ → ValueOrigin → ValueDef
+def_of f v (Result i k) = def.Result i k
+def_of f v (Param b) = def.Param b (place_of v (block_at f b).params)
+def_of f v (Alias original) = def.Param 0 0

@@ -1,0 +1,49 @@
+-- How the fields of a function make the record that contracts see, and what they keep beside it.
+-- Source: own. No contract of another crate speaks of it.
+use Rattle.std.specs.Prelude.{◌≡◌, ℕ, ◌+◌, ◌-◌, ◌^◌, ◌<◌, ◌≤◌, List, [], length, slice_index, slice_index_or, Option, Some, None}
+use Rattle.clif_ir.specs.declared.function.BlockNode.{BlockNode}
+use Rattle.clif_ir.specs.declared.function.BlockPlace.{BlockPlace}
+use Rattle.clif_ir.specs.declared.inst_list.BlockEnd.{BlockEnd}
+use Rattle.clif_ir.specs.declared.inst_list.BlockEnd.TheVariants.{Front, Back}
+use Rattle.clif_ir.specs.declared.function.Function.TheInside.{Inside}
+use Rattle.clif_ir.specs.Body.{Body, empty_block}
+use Rattle.clif_ir.specs.Consistent.{IsConsistent}
+
+abbrev pub body_of : Inside → Body
+body_of f =
+    record {
+      name = f.name;
+      signature = f.signature;
+      values = f.values.items;
+      insts = f.insts.items;
+      blocks = f.blocks.items;
+      layout = f.layout.items;
+    }
+
+-- the place of a block as it is made
+abbrev pub no_place : BlockPlace
+no_place = record { front = 0; position = None }
+
+-- the slot of an instruction that is put at an end of a block of `len` instructions
+abbrev pub next_slot : BlockEnd → ℕ → ℕ → ℕ
+next_slot Front front len = 2 ^ 32 - 1 - front
+next_slot Back front len = 2 ^ 32 + len - front
+
+-- the place of a block as an instruction is put at an end of it
+abbrev pub placed_at : BlockEnd → BlockPlace → BlockPlace
+placed_at Front place = record place { front = place.front + 1 }
+placed_at Back place = place
+
+-- where each instruction and each block stands
+pub record IsPlaced (f : Body) (slots : List ℕ) (places : List BlockPlace) : Type 0 where
+  pub slot_count : length slots ≡ length f.insts
+  pub place_count : length places ≡ length f.blocks
+  pub fronts_fit : (b : ℕ) → (slice_index_or places b no_place).front ≤ length f.insts
+  pub slots_right : (b k : ℕ) → k < length (slice_index_or f.blocks b empty_block).insts
+      → slice_index slots (slice_index (slice_index_or f.blocks b empty_block).insts k) + (slice_index_or places b no_place).front ≡ k + 2 ^ 32
+  pub positions : (k : ℕ) → k < length f.layout → (slice_index_or places (slice_index f.layout k) no_place).position ≡ Some k
+  pub positioned : (b k : ℕ) → (slice_index_or places b no_place).position ≡ Some k → (k < length f.layout) × (slice_index f.layout k ≡ b)
+
+pub record IsWhole (f : Inside) : Type 0 where
+  pub consistent : IsConsistent (body_of f)
+  pub placed : IsPlaced (body_of f) f.inst_slots.items f.block_places.items

@@ -1,0 +1,169 @@
+//! The calls that make blocks, parameters and instructions.
+//!
+//! Each call first makes room and then changes, so that after an error the function is as it was.
+ghost use Rattle.std.specs.Prelude.{◌≡◌, ◌≢◌, [], ◌∷◌, ◌++◌, length, ◌+◌, ◌-◌, ◌^◌, ◌≤◌, ◌<◌, ◌⊎◌, ℕ, slice_index, EachIndex, vec_len, vec_capacity, IfOk, OnOk, OnErr};
+ghost use Rattle.clif_ir.specs.Body.{Body};
+ghost use Rattle.clif_ir.specs.Instruction.{operands, result_types};
+ghost use Rattle.clif_ir.specs.Whole.{next_slot, placed_at};
+ghost use Rattle.clif_ir.specs.Changes.{with_block, with_param, with_inst, result_nodes};
+ghost use Rattle.std.specs.List.{range_with_len};
+
+use crate::function::{BlockNode, BlockPlace, Function, InstNode, ValueNode, ValueOrigin};
+use crate::inst_list::{BlockEnd, InstList};
+use crate::instructions::InstructionData;
+use crate::value_list::ValueList;
+use clif_types::{Block, BuildError, EntityRef, Inst, SourceLoc, Type, Value};
+use std::alloc::Global;
+
+/// How many entries a table holds at most.
+const TABLE_LIMIT: usize = 0xffff_ffff;
+
+// The number of the next entry of a table that holds `len` entries.
+fn next_number(len: usize) -> Result<u32, BuildError>
+    ensures ok { IfOk result (λ n. (n ≡ len) × (n < 2 ^ 32 - 1)) }
+    ensures full { OnErr result ((result ≡ Err BuildError.Full) × (TABLE_LIMIT ≤ len)) }
+{
+    if len >= TABLE_LIMIT {
+        return Err(BuildError::Full);
+    }
+    Ok(len as u32)
+}
+
+#[tactic(auto, using(crate::proofs::Changes::range_with_len_more))]
+// The list of `count` numbers of values, from `first` on.
+fn numbered_results(alloc: Global, first: usize, count: usize) -> Result<ValueList, BuildError>
+    requires { first + count < 2 ^ 32 }
+    ensures ok { IfOk result (λ l. l ≡ range_with_len first count) }
+    ensures only_memory { OnErr result (result ≡ Err BuildError.Memory) }
+{
+    let mut results = ValueList::new(alloc);
+    for place in 0..count {
+        results.push(Value::new(first + place))?;
+    }
+    Ok(results)
+}
+
+#[tactic(auto, using(crate::proofs::Changes::result_nodes_more))]
+// Puts the results of `inst` into the table of values, which has room for them.
+fn push_result_nodes(values: &mut Vec<ValueNode>, inst: Inst, types: &[Type])
+    requires room { vec_len values.old + length types.now ≤ vec_capacity values.old }
+    requires few { length types.now < 2 ^ 32 }
+    ensures { values.new.items ≡ values.old.items ++ result_nodes inst 0 types.now }
+{
+    for (place, ty) in types.iter().enumerate() {
+        let origin = ValueOrigin::Result(inst, place as u32);
+        values.push_reserved(ValueNode { ty: *ty, origin });
+    }
+}
+
+// The slot of an instruction that is put at an end of a block of `len` instructions, of which `front`
+// were put at its front.
+fn next_slot(end: BlockEnd, front: u32, len: usize) -> u64
+    requires fits { len < 2 ^ 63 }
+    requires room { front < 2 ^ 32 - 1 }
+    ensures { result ≡ next_slot end front len }
+{
+    match end {
+        BlockEnd::Front => 0xffff_ffff - u64::from(front),
+        BlockEnd::Back => 0x1_0000_0000 + len as u64 - u64::from(front),
+    }
+}
+
+// The place of a block as an instruction is put at an end of it.
+fn placed_at(end: BlockEnd, place: BlockPlace) -> BlockPlace
+    requires { place.front < 2 ^ 32 - 1 }
+    ensures { result ≡ placed_at end place }
+{
+    match end {
+        BlockEnd::Front => BlockPlace {
+            front: place.front + 1,
+            position: place.position,
+        },
+        BlockEnd::Back => place,
+    }
+}
+
+impl Function {
+    /// Makes a block, which isn't in the layout yet.
+    pub fn create_block(&mut self) -> Result<Block, BuildError>
+        ensures ok { OnOk result (self.new ≡ with_block self.old) }
+        ensures number { IfOk result (λ b. b ≡ length self.old.blocks) }
+        ensures full { result ≡ Err BuildError.Full → length self.old.blocks ≡ 2 ^ 32 - 1 }
+        ensures never_failed { result ≢ Err BuildError.Failed }
+        ensures err { OnErr result (self.new ≡ self.old) }
+    {
+        let number = next_number(self.blocks.len())?;
+        self.blocks.reserve(1)?;
+        self.block_places.reserve(1)?;
+        // From here on nothing can fail.
+        self.blocks.push_reserved(BlockNode {
+            params: ValueList::new(self.alloc),
+            insts: InstList::new(self.alloc),
+        });
+        self.block_places.push_reserved(BlockPlace {
+            front: 0,
+            position: None,
+        });
+        Ok(Block::from_u32(number))
+    }
+
+    /// Puts a parameter of type `ty` at the end of those of `block`.
+    pub fn append_block_param(&mut self, block: Block, ty: Type) -> Result<Value, BuildError>
+        requires { block < length self.old.blocks }
+        ensures ok { OnOk result (self.new ≡ with_param self.old block ty) }
+        ensures number { IfOk result (λ v. v ≡ length self.old.values) }
+        ensures full { result ≡ Err BuildError.Full → length self.old.values ≡ 2 ^ 32 - 1 }
+        ensures never_failed { result ≢ Err BuildError.Failed }
+        ensures err { OnErr result (self.new ≡ self.old) }
+    {
+        let value = Value::from_u32(next_number(self.values.len())?);
+        self.values.reserve(1)?;
+        self.blocks[block.index()].params.push(value)?;
+        let origin = ValueOrigin::Param(block);
+        self.values.push_reserved(ValueNode { ty, origin });
+        Ok(value)
+    }
+
+    /// Makes an instruction and puts it at one end of `block`.
+    ///
+    /// Its results get the next numbers; `ctrl_type` is its controlling type.
+    pub fn insert_inst(
+        &mut self,
+        block: Block,
+        end: BlockEnd,
+        shape: InstructionData,
+        ctrl_type: Type,
+        srcloc: SourceLoc,
+    ) -> Result<Inst, BuildError>
+        requires block_exists { block < length self.old.blocks }
+        requires operands_exist { EachIndex (operands shape) (λ k. slice_index (operands shape) k < length self.old.values) }
+        ensures ok { OnOk result (self.new ≡ with_inst self.old block end shape (result_types shape ctrl_type) srcloc) }
+        ensures number { IfOk result (λ i. i ≡ length self.old.insts) }
+        ensures full { result ≡ Err BuildError.Full → (length self.old.insts ≡ 2 ^ 32 - 1) ⊎ (length self.old.values ≡ 2 ^ 32 - 1) }
+        ensures never_failed { result ≢ Err BuildError.Failed }
+        ensures err { OnErr result (self.new ≡ self.old) }
+    {
+        let inst = Inst::from_u32(next_number(self.insts.len())?);
+        let first = next_number(self.values.len())?;
+        let own = [ctrl_type];
+        let types: &[Type] = if shape.has_result() { &own } else { &[] };
+        self.values.reserve(types.len())?;
+        self.insts.reserve(1)?;
+        self.inst_slots.reserve(1)?;
+        let results = numbered_results(self.alloc, first as usize, types.len())?;
+        let place = self.block_places[block.index()];
+        let slot = next_slot(end, place.front, self.blocks[block.index()].insts.len());
+        self.blocks[block.index()].insts.put(end, inst)?;
+        // From here on nothing can fail.
+        self.block_places[block.index()] = placed_at(end, place);
+        self.inst_slots.push_reserved(slot);
+        push_result_nodes(&mut self.values, inst, types);
+        self.insts.push_reserved(InstNode {
+            shape,
+            results,
+            block,
+            srcloc,
+        });
+        Ok(inst)
+    }
+}

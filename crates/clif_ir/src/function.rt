@@ -1,0 +1,215 @@
+//! Functions: their tables, and the calls that read them.
+ghost use Rattle.std.specs.Prelude.{◌≡◌, [], ◌∷◌, ◌++◌, length, ◌+◌, ◌-◌, ◌^◌, ◌≤◌, ◌<◌, IfSome, None};
+ghost use Rattle.clif_ir.specs.Body.{Body, empty_body, value_at, inst_at, block_at, resolved, alias_of};
+ghost use Rattle.clif_ir.specs.Reading.{def_of};
+ghost use Rattle.clif_ir.specs.Consistent.{IsConsistent};
+
+use crate::inst_list::InstList;
+use crate::instructions::InstructionData;
+use crate::value_list::ValueList;
+use clif_types::{Block, EntityRef, Inst, Signature, SourceLoc, Type, UserFuncName, Value};
+use std::alloc::Global;
+use std::collections::BTreeSet;
+use std::marker::Model;
+
+/// Where a value comes from.
+#[derive(Clone, Copy, Debug, PartialEq, Eq)]
+pub enum ValueOrigin {
+    /// The result of an instruction, at this place among its results.
+    Result(Inst, u32),
+    /// A parameter of a block.
+    Param(Block),
+    /// Another name of a value.
+    Alias(Value),
+}
+
+/// What defines a value.
+#[derive(Clone, Copy, Debug, PartialEq, Eq)]
+pub enum ValueDef {
+    /// It is the result of an instruction, at this place among its results.
+    Result(Inst, usize),
+    /// It is a parameter of a block, at this place among its parameters.
+    Param(Block, usize),
+}
+
+/// A value: its type and where it comes from.
+#[derive(Clone, Copy, Debug, PartialEq, Eq)]
+pub struct ValueNode {
+    pub ty: Type,
+    pub origin: ValueOrigin,
+}
+
+/// An instruction with its results, its block and its source place.
+#[derive(Debug, Drop)]
+pub struct InstNode {
+    pub shape: InstructionData,
+    pub results: ValueList,
+    pub block: Block,
+    pub srcloc: SourceLoc,
+}
+
+/// A block: its parameters and its instructions, in order.
+#[derive(Debug, Drop)]
+pub struct BlockNode {
+    pub params: ValueList,
+    pub insts: InstList,
+}
+
+/// Where a block stands: how many of its instructions were put at its front, and its place in the
+/// layout.
+#[derive(Clone, Copy, Debug)]
+pub(crate) struct BlockPlace {
+    pub(crate) front: u32,
+    pub(crate) position: Option<usize>,
+}
+
+/// A function: blocks with parameters, instructions and values.
+///
+/// Contracts see it as a record of lists. Beside these it keeps what makes some questions cheap, and
+/// what no contract speaks of: where each instruction and each block stands, and which values are
+/// aliases of which. An instruction at place `k` of a block with `n` instructions put at its front has
+/// the slot 2^32 + `k` - `n`, so that no slot changes as instructions are put at either end.
+#[derive(Debug, Drop)]
+pub struct Function {
+    pub(crate) alloc: Global,
+    pub(crate) name: UserFuncName,
+    pub(crate) signature: Signature,
+    pub(crate) values: Vec<ValueNode>,
+    pub(crate) insts: Vec<InstNode>,
+    pub(crate) blocks: Vec<BlockNode>,
+    pub(crate) layout: Vec<Block>,
+    pub(crate) inst_slots: Vec<u64>,
+    pub(crate) block_places: Vec<BlockPlace>,
+    pub(crate) aliases: BTreeSet<(Value, Value)>,
+}
+
+impl Model for Function {
+    ghost use Rattle.clif_ir.specs.Body.{Body};
+
+    ghost Value = { Body };
+
+    ghost use Rattle.clif_ir.specs.Whole.{body_of, IsWhole};
+
+    ghost view = { body_of };
+
+    ghost invariant = { IsWhole };
+}
+
+impl Function {
+    /// A function of this name and signature, without blocks.
+    pub fn with_name_signature(alloc: Global, name: UserFuncName, signature: Signature) -> Self
+        ensures { result ≡ empty_body name signature }
+    {
+        Function {
+            alloc,
+            name,
+            signature,
+            values: Vec::new(alloc),
+            insts: Vec::new(alloc),
+            blocks: Vec::new(alloc),
+            layout: Vec::new(alloc),
+            inst_slots: Vec::new(alloc),
+            block_places: Vec::new(alloc),
+            aliases: BTreeSet::new(alloc),
+        }
+    }
+
+    /// The parameters of a block, in order.
+    pub fn block_params(&self, block: Block) -> &[Value]
+        requires { block < length self.now.blocks }
+        ensures { result.now ≡ (block_at self.now block).params }
+    {
+        self.blocks[block.index()].params.as_slice()
+    }
+
+    /// The results of an instruction, in order.
+    pub fn inst_results(&self, inst: Inst) -> &[Value]
+        requires { inst < length self.now.insts }
+        ensures { result.now ≡ (inst_at self.now inst).results }
+    {
+        self.insts[inst.index()].results.as_slice()
+    }
+
+    /// The instruction itself.
+    pub fn inst_data(&self, inst: Inst) -> &InstructionData
+        requires { inst < length self.now.insts }
+        ensures { result.now ≡ (inst_at self.now inst).shape }
+    {
+        &self.insts[inst.index()].shape
+    }
+
+    /// The type of a value.
+    pub fn value_type(&self, value: Value) -> Type
+        requires { value < length self.now.values }
+        ensures { result ≡ (value_at self.now value).ty }
+    {
+        self.values[value.index()].ty
+    }
+
+    /// The value that `value` is another name of, if it is one.
+    pub(crate) fn alias_original(&self, value: Value) -> Option<Value>
+        requires { value < length self.now.values }
+        ensures exact { result ≡ alias_of self.now.values value }
+        ensures exists { IfSome result (λ original. original < length self.now.values) }
+    {
+        match self.values[value.index()].origin {
+            ValueOrigin::Alias(original) => Some(original),
+            ValueOrigin::Result(..) | ValueOrigin::Param(_) => None,
+        }
+    }
+
+    /// The value that `value` stands for: the end of the way along its aliases.
+    pub fn resolve_aliases(&self, value: Value) -> Value
+        requires { value < length self.now.values }
+        ensures exact { result ≡ resolved self.now value }
+        ensures exists { result < length self.now.values }
+        ensures no_alias { alias_of self.now.values result ≡ None }
+    {
+        let mut resolved = value;
+        for _ in 0..self.values.len() {
+            let Some(original) = self.alias_original(resolved) else {
+                return resolved;
+            };
+            resolved = original;
+        }
+        resolved
+    }
+
+    /// What defines the value that `value` stands for.
+    pub fn value_def(&self, value: Value) -> ValueDef
+        requires { value < length self.now.values }
+        ensures { result ≡ def_of self.now (resolved self.now value) (value_at self.now (resolved self.now value)).origin }
+    {
+        let resolved = self.resolve_aliases(value);
+        match self.values[resolved.index()].origin {
+            ValueOrigin::Result(inst, place) => ValueDef::Result(inst, place as usize),
+            ValueOrigin::Param(block) => {
+                let params = &self.blocks[block.index()].params;
+                ValueDef::Param(block, params.place_of(resolved))
+            }
+            ValueOrigin::Alias(_) => unreachable!(),
+        }
+    }
+
+    /// The source place of an instruction.
+    pub fn srcloc(&self, inst: Inst) -> SourceLoc
+        requires { inst < length self.now.insts }
+        ensures { result ≡ (inst_at self.now inst).srcloc }
+    {
+        self.insts[inst.index()].srcloc
+    }
+
+    /// The name of the function.
+    pub fn name(&self) -> &UserFuncName
+        ensures { result.now ≡ self.now.name }
+    {
+        &self.name
+    }
+
+    /// The signature of the function.
+    pub fn signature(&self) -> &Signature
+        ensures { result.now ≡ self.now.signature }
+    {
+        &self.signature
+    }
+}

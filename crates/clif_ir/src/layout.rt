@@ -1,0 +1,115 @@
+//! The order of the blocks, and of the instructions in them.
+ghost use Rattle.std.specs.Prelude.{◌≡◌, ◌<◌, ◌-◌, ◌↔◌, length, IsTrue, Some, slice_get, slice_index, slice_index_or, ◌^◌, OnOk, OnErr};
+ghost use Rattle.clif_ir.specs.Body.{Body, inst_at, block_at};
+ghost use Rattle.clif_ir.specs.Changes.{with_layout};
+ghost use Rattle.clif_ir.specs.Consistent.{Stands};
+ghost use Rattle.clif_ir.specs.Reading.{next_in};
+ghost use Rattle.clif_ir.specs.Whole.{no_place};
+
+use crate::function::{BlockPlace, Function};
+use clif_types::{Block, BuildError, EntityRef, Inst};
+
+// The place of a block, by its number.
+fn place_at(places: &[BlockPlace], block: Block) -> BlockPlace
+    requires { block < length places.now }
+    ensures { result ≡ slice_index_or places.now block no_place }
+{
+    places[block.index()]
+}
+
+// The block at a place of the layout.
+fn nth_block(layout: &[Block], place: usize) -> Option<Block>
+    ensures { result ≡ slice_get layout.now place }
+{
+    layout.get(place).copied()
+}
+
+impl Function {
+    /// The block in which an instruction stands.
+    pub fn inst_block(&self, inst: Inst) -> Option<Block>
+        requires { inst < length self.now.insts }
+        ensures { result ≡ Some (inst_at self.now inst).block }
+    {
+        Some(self.insts[inst.index()].block)
+    }
+
+    /// The first instruction of a block.
+    pub fn first_inst(&self, block: Block) -> Option<Inst>
+        requires { block < length self.now.blocks }
+        ensures { result ≡ slice_get (block_at self.now block).insts 0 }
+    {
+        self.blocks[block.index()].insts.get(0)
+    }
+
+    /// The last instruction of a block.
+    pub fn last_inst(&self, block: Block) -> Option<Inst>
+        requires { block < length self.now.blocks }
+        ensures { result ≡ slice_get (block_at self.now block).insts (length (block_at self.now block).insts - 1) }
+    {
+        let insts = &self.blocks[block.index()].insts;
+        insts.get(insts.len().saturating_sub(1))
+    }
+
+    /// The place of an instruction among those of its block, by its slot.
+    fn inst_place(&self, inst: Inst) -> usize
+        requires { inst < length self.now.insts }
+        ensures inside { result < length (block_at self.now (inst_at self.now inst).block).insts }
+        ensures there { slice_index (block_at self.now (inst_at self.now inst).block).insts result ≡ inst }
+        ensures small { result < 2 ^ 64 - 1 }
+    {
+        let block = self.insts[inst.index()].block;
+        let front = self.block_places[block.index()].front;
+        let slot = self.inst_slots[inst.index()];
+        (slot - (0x1_0000_0000 - u64::from(front))) as usize
+    }
+
+    /// The instruction after `inst` in its block. It walks along nothing.
+    pub fn next_inst(&self, inst: Inst) -> Option<Inst>
+        requires { inst < length self.now.insts }
+        ensures { result ≡ next_in (block_at self.now (inst_at self.now inst).block).insts inst }
+    {
+        let block = self.insts[inst.index()].block;
+        let place = self.inst_place(inst);
+        self.blocks[block.index()].insts.get(place + 1)
+    }
+
+    /// The first block of the layout: the entry.
+    pub fn entry_block(&self) -> Option<Block>
+        ensures { result ≡ slice_get self.now.layout 0 }
+    {
+        self.layout.first().copied()
+    }
+
+    /// Whether a block is in the layout.
+    pub fn is_block_inserted(&self, block: Block) -> bool
+        requires { block < length self.now.blocks }
+        ensures { IsTrue result ↔ Stands block self.now.layout }
+    {
+        place_at(&self.block_places, block).position.is_some()
+    }
+
+    /// The block after `block` in the layout. It walks along nothing.
+    pub fn next_block(&self, block: Block) -> Option<Block>
+        requires { block < length self.now.blocks }
+        ensures { result ≡ next_in self.now.layout block }
+    {
+        let Some(position) = place_at(&self.block_places, block).position else {
+            return None;
+        };
+        nth_block(&self.layout, position + 1)
+    }
+
+    /// Puts a block, which isn't in the layout, at its end.
+    pub fn append_block(&mut self, block: Block) -> Result<(), BuildError>
+        requires exists { block < length self.old.blocks }
+        requires outside { Stands block self.old.layout → ⊥ }
+        ensures ok { OnOk result (self.new ≡ with_layout self.old block) }
+        ensures only_memory { OnErr result (result ≡ Err BuildError.Memory) }
+        ensures err { OnErr result (self.new ≡ self.old) }
+    {
+        let position = self.layout.len();
+        self.layout.push(block)?;
+        self.block_places[block.index()].position = Some(position);
+        Ok(())
+    }
+}
