@@ -1,9 +1,8 @@
 -- A rising list stays rising with one more member.
-use Rattle.std.proofs.Common.{◌≡◌, ℕ, zero, suc, ◌+◌, ◌<◌, List, [], ◌∷◌, length, get_or, arith, sym, ap, add-one, inl, inr, subst}
-use Rattle.std.specs.List.Sorted.{IsStrictlyIncreasing}
+use Rattle.std.proofs.Common.{◌≡◌, ℕ, zero, suc, ◌<◌, List, [], ◌∷◌, length, get_or, arith, sym, add-one, inl, inr, subst}
 use Rattle.std.proofs.lemmas.Bool.{cases_lt}
-use Rattle.clif_types.specs.EntitySet.{with_member, InsertedIsMember, InsertedStaysRising}
-use Rattle.clif_types.proofs.Marks.{has-with_member, with_member-skip, with_member-front, with_member-head}
+use Rattle.clif_types.specs.EntitySet.{with_member, InsertedStaysRising}
+use Rattle.clif_types.proofs.Marks.{with_member-skip, with_member-front, with_member-head}
 
 -- each element is below the next
 abbrev Rises : List ℕ → Type 0
