@@ -1,12 +1,13 @@
 -- Laws of the way along aliases.
-use Rattle.std.proofs.Common.{◌≡◌, ℕ, zero, suc, ◌+◌, ◌-◌, ◌<◌, ◌≤◌, List, length, ◌++◌, refl, ap, arith, rules, sym, ◌∙◌, ◌⊎◌, inl, inr}
-use Rattle.std.specs.Prelude.{Option, Some, None}
+use Rattle.std.proofs.Common.{◌≡◌, ℕ, zero, suc, ◌+◌, ◌-◌, ◌<◌, ◌≤◌, List, length, ◌++◌, refl, ap, arith, rules, sym, ◌∙◌, ◌⊎◌, inl, inr, set, ◌≢◌, get_or-set_same, get_or-set_other, [], ◌∷◌}
+use Rattle.std.specs.Prelude.{Option, Some, None, is_some, Bool, true, cond, unwrap_or}
 use Rattle.clif_ir.specs.declared.function.ValueNode.{ValueNode}
 use Rattle.std.proofs.Math.ListN.{get_or-append}
-use Rattle.std.proofs.lemmas.List.Sums.{count_by-le-length}
+use Rattle.std.proofs.lemmas.List.Sums.{count_by-le-length, sum_by-cons}
 use Rattle.std.proofs.lemmas.Grind.{common_steps}
 use Rattle.clif_ir.specs.Body.{follow, follow_link, alias_of, alias_of_origin, no_value}
 use Rattle.clif_ir.specs.Consistent.{alias_count}
+use Rattle.std.proofs.lemmas.Bool.{cases_eq}
 use Rattle.clif_ir.proofs.Lists.{below_or_not}
 
 -- without a step one stays
@@ -99,3 +100,92 @@ pub resolved-no_alias : (values : List ValueNode) (v : ℕ) → EachWayEnds valu
 resolved-no_alias values v ends inside =
     let enough : alias_count values ≤ length values = grind (arith, common_steps, count_by-le-length) in
     ap (alias_of values) (follow-ended values (alias_count values) (length values) v (ends v inside) enough) ∙ ends v inside
+
+-- one value more is an alias
+alias_count-set : (values : List ValueNode) (v : ℕ) (node : ValueNode) → v < length values → alias_of values v ≡ None
+    → is_some (alias_of_origin node.origin) ≡ true → alias_count (set values v node) ≡ alias_count values + 1
+alias_count-set [] v node inside none some = absurd (omega (arith, inside))
+alias_count-set (n ∷ ns) zero node inside none some =
+    let new : ◌≡◌ {A = ℕ} (cond (is_some (alias_of_origin node.origin)) 1 0) 1 = ap (λ b. cond b 1 0) some in
+    let old : ◌≡◌ {A = ℕ} (cond (is_some (alias_of_origin n.origin)) 1 0) 0 = ap (λ o. cond (is_some o) 1 0) none in
+    let after : alias_count (node ∷ ns) ≡ cond (is_some (alias_of_origin node.origin)) 1 0 + alias_count ns = sum_by-cons _ node ns in
+    let before : alias_count (n ∷ ns) ≡ cond (is_some (alias_of_origin n.origin)) 1 0 + alias_count ns = sum_by-cons _ n ns in
+    omega (arith, new, old, after, before)
+alias_count-set (n ∷ ns) (suc v) node inside none some =
+    let rest : alias_count (set ns v node) ≡ alias_count ns + 1 = alias_count-set ns v node (omega (arith, inside)) none some in
+    let after : alias_count (n ∷ set ns v node) ≡ cond (is_some (alias_of_origin n.origin)) 1 0 + alias_count (set ns v node) = sum_by-cons _ n (set ns v node) in
+    let before : alias_count (n ∷ ns) ≡ cond (is_some (alias_of_origin n.origin)) 1 0 + alias_count ns = sum_by-cons _ n ns in
+    omega (arith, rest, after, before)
+
+-- where value `v`, which is no alias, is made one of `target`, the other values stay as they are
+alias_of-set_other : (values : List ValueNode) (v : ℕ) (node : ValueNode) (u : ℕ) → u ≢ v → alias_of (set values v node) u ≡ alias_of values u
+alias_of-set_other values v node u other = ap (λ (n : ValueNode). alias_of_origin n.origin) (get_or-set_other values v u node no_value other)
+
+alias_of-set_same : (values : List ValueNode) (v : ℕ) (node : ValueNode) → v < length values → alias_of (set values v node) v ≡ alias_of_origin node.origin
+alias_of-set_same values v node inside = ap (λ (n : ValueNode). alias_of_origin n.origin) (get_or-set_same values v node no_value inside)
+
+not_both : {x : ℕ} → ◌≡◌ {A = Option ℕ} (Some x) None → ⊥
+not_both same = cc
+
+-- a step from `v` leads to `target`; all other ways go on as before, and stop there or go to `target`
+record MovesOn (values : List ValueNode) (v target : ℕ) (node : ValueNode) (steps u : ℕ) : Type 0 where
+  moved : follow steps values u ≡ v → follow (suc steps) (set values v node) u ≡ target
+  stayed : follow steps values u ≢ v → follow (suc steps) (set values v node) u ≡ follow steps values u
+
+follow-set : (values : List ValueNode) (v target : ℕ) (node : ValueNode) (steps u : ℕ) → LeadsInside values → u < length values → v < length values
+    → alias_of values v ≡ None → alias_of values target ≡ None → target ≢ v → alias_of_origin node.origin ≡ Some target
+    → alias_of values (follow steps values u) ≡ None → MovesOn values v target node steps u
+follow-set values v target node steps u leads inside v_inside v_none target_none apart is_target ended = by_steps steps u inside ended
+  where
+    at_v : alias_of (set values v node) v ≡ Some target
+    at_v = alias_of-set_same values v node v_inside ∙ is_target
+
+    at_target : alias_of (set values v node) target ≡ None
+    at_target = alias_of-set_other values v node target apart ∙ target_none
+
+    from_end : (n w : ℕ) → alias_of values w ≡ None → MovesOn values v target node n w
+    from_end n w none = record {
+      moved = λ same.
+          ap (λ x. follow (suc n) (set values v node) x) (sym (follow_end values n w none) ∙ same)
+          ∙ follow_on (set values v node) (suc n) n v target (omega arith) at_v ∙ follow_end (set values v node) n target at_target;
+      stayed = λ other.
+          follow_end (set values v node) (suc n) w (alias_of-set_other values v node w (λ same. other (follow_end values n w none ∙ same)) ∙ none)
+          ∙ sym (follow_end values n w none);
+    }
+
+    along : (n w o : ℕ) → alias_of values w ≡ Some o → MovesOn values v target node n o → MovesOn values v target node (suc n) w
+    along n w o some next =
+        let apart_w : w ≢ v = λ same. not_both (sym some ∙ ap (alias_of values) same ∙ v_none) in
+        let old : follow (suc n) values w ≡ follow n values o = follow_on values (suc n) n w o (omega arith) some in
+        let new : follow (suc (suc n)) (set values v node) w ≡ follow (suc n) (set values v node) o =
+        follow_on (set values v node) (suc (suc n)) (suc n) w o (omega arith) (alias_of-set_other values v node w apart_w ∙ some) in
+        record {
+          moved = λ same. new ∙ next.moved (sym old ∙ same);
+          stayed = λ other. new ∙ next.stayed (λ same. other (old ∙ same)) ∙ sym old;
+        }
+
+    by_link : (n w : ℕ) → ((o : ℕ) → o < length values → alias_of values (follow n values o) ≡ None → MovesOn values v target node n o)
+        → w < length values → alias_of values (follow (suc n) values w) ≡ None → (link : Option ℕ) → alias_of values w ≡ link → MovesOn values v target node (suc n) w
+    by_link n w induction here there None is = from_end (suc n) w is
+    by_link n w induction here there (Some o) is =
+        along n w o is (induction o (leads w o here is) (ap (alias_of values) (sym (follow_on values (suc n) n w o (omega arith) is)) ∙ there))
+
+    by_steps : (n w : ℕ) → w < length values → alias_of values (follow n values w) ≡ None → MovesOn values v target node n w
+    by_steps zero w here there = from_end zero w (ap (alias_of values) (sym (follow_nothing values zero w refl)) ∙ there)
+    by_steps (suc n) w here there = by_link n w (λ o o_here o_there. by_steps n o o_here o_there) here there (alias_of values w) refl
+
+-- a value that is no alias may be made one of another that is none
+pub ways_end-set : (values : List ValueNode) (v target : ℕ) (node : ValueNode) → LeadsInside values → v < length values
+    → alias_of values v ≡ None → alias_of values target ≡ None → target ≢ v → alias_of_origin node.origin ≡ Some target
+    → EachWayEnds values → EachWayEnds (set values v node)
+ways_end-set values v target node leads v_inside v_none target_none apart is_target ends u inside =
+    let count : alias_count (set values v node) ≡ suc (alias_count values) =
+    alias_count-set values v node v_inside v_none (ap is_some is_target) ∙ (let one : alias_count values + 1 ≡ suc (alias_count values) = omega arith in one) in
+    let here : u < length values = grind (arith, common_steps, inside) in
+    let last : ℕ = follow (alias_count values) values u in
+    let goes : MovesOn values v target node (alias_count values) u = follow-set values v target node (alias_count values) u leads here v_inside v_none target_none apart is_target (ends u here) in
+    ap (λ n. alias_of (set values v node) (follow n (set values v node) u)) count
+    ∙ elim (cases_eq last v) [
+      | inl same ↦ ap (alias_of (set values v node)) (goes.moved same) ∙ alias_of-set_other values v node target apart ∙ target_none
+      | inr other ↦ ap (alias_of (set values v node)) (goes.stayed other) ∙ alias_of-set_other values v node last other ∙ ends u here
+    ]

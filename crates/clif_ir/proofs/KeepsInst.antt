@@ -17,12 +17,12 @@ use Rattle.clif_ir.specs.declared.inst_list.BlockEnd.TheVariants.{Front, Back}
 use Rattle.clif_ir.specs.declared.instructions.InstructionData.{InstructionData}
 use Rattle.clif_ir.specs.declared.instructions.InstructionData.TheVariants.{UnaryImm, Binary, MultiAry}
 use Rattle.clif_ir.specs.Instruction.{operands, result_types}
-use Rattle.clif_ir.specs.Body.{Body, value_at, inst_at, block_at, empty_block, no_value, no_inst, alias_of_origin}
+use Rattle.clif_ir.specs.Body.{Body, value_at, inst_at, block_at, empty_block, no_value, no_inst, alias_of_origin, resolved}
 use Rattle.clif_ir.specs.Changes.{with_inst, inst_node, put_at, result_nodes}
 use Rattle.clif_ir.specs.Consistent.{IsConsistent, IsOrigin, Stands, Once, alias_count}
 use Rattle.clif_ir.proofs.Lists.{at_push, at_set, at_append, at_past}
 use Rattle.clif_ir.proofs.Keeps.{leads_inside, larger_origin, Stands-append, Stands-push, Stands-cons, Once-push, Once-cons}
-use Rattle.clif_ir.proofs.Aliases.{ways_end-append}
+use Rattle.clif_ir.proofs.Aliases.{ways_end-append, follow_end}
 
 -- no instruction has more than one result so far
 pub length-result_types-le : (shape : InstructionData) (ty : «Type») → length (result_types shape ty) ≤ 1
@@ -163,3 +163,12 @@ with_inst_consistent f b end shape types loc known exists operands_exist inst_ro
           (λ v behind. ap (λ (m : ValueNode). alias_of_origin m.origin) (get_or-append_right f.values nodes v no_value behind) ∙ alias_of-result_nodes i0 0 types (v - n)) known.aliases_end;
       edges_without_results = λ i edges. absurd (edges refl);
     }
+
+-- the first result of a new instruction stands for itself
+pub with_inst-unaliased : (f : Body) (b : ℕ) (end : BlockEnd) (shape : InstructionData) (types : List «Type») (loc : ℕ)
+    → resolved (with_inst f b end shape types loc) (length f.values) ≡ length f.values
+with_inst-unaliased f b end shape types loc =
+    let nodes : List ValueNode = result_nodes (length f.insts) 0 types in
+    follow_end (f.values ++ nodes) (length (f.values ++ nodes)) (length f.values)
+    (ap (λ (m : ValueNode). alias_of_origin m.origin) (get_or-append_right f.values nodes (length f.values) no_value (omega arith))
+    ∙ alias_of-result_nodes (length f.insts) 0 types (length f.values - length f.values))

@@ -7,3 +7,4 @@ pub mod KeepsParam
 pub mod KeepsInst
 pub mod KeepsPlaces
 pub mod Reading
+pub mod KeepsAlias

@@ -60,3 +60,56 @@ without-remove (y ∷ ys) x here =
     behind (suc k, inside, at) other = (k, omega (arith, inside), at)
 
 pub ruleset place_rules = (place_of-first, without-remove)
+
+-- all but `v` still stand without it
+pub Stands-without : (x v : ℕ) (xs : List ℕ) → x ≢ v → Stands x xs → Stands x (without v xs)
+Stands-without x v [] other here = absurd (omega (arith, here.1))
+Stands-without x v (y ∷ ys) other (zero, inside, at) =
+    subst (λ zs. Stands x zs) (sym (if_false y v ys (y ∷ without v ys) (λ same. other (sym at ∙ same)))) (0, omega arith, at)
+Stands-without x v (y ∷ ys) other (suc k, inside, at) =
+    let behind : Stands x ys = (k, omega (arith, inside), at) in
+    elim (cases_eq y v) [
+      | inl same ↦ subst (λ zs. Stands x zs) (sym (if_true y v ys (y ∷ without v ys) same)) behind
+      | inr differs ↦
+          let rest : Stands x (without v ys) = Stands-without x v ys other behind in
+          subst (λ zs. Stands x zs) (sym (if_false y v ys (y ∷ without v ys) differs)) (suc rest.0, omega (arith, rest.1), rest.2)
+    ]
+
+-- what stands without `v` stood there, and is another number
+pub without-stood : (v : ℕ) (xs : List ℕ) (k : ℕ) → Once xs → k < length (without v xs) → Stands (slice_index (without v xs) k) xs × (slice_index (without v xs) k ≢ v)
+without-stood v [] k once = λ inside. absurd (omega (arith, inside))
+without-stood v (y ∷ ys) k once =
+    elim (cases_eq y v) [
+      | inl same ↦
+          subst (λ zs. k < length zs → Stands (slice_index zs k) (y ∷ ys) × (slice_index zs k ≢ v)) (sym (if_true y v ys (y ∷ without v ys) same))
+          (λ inside. ((suc k, omega (arith, inside), refl), λ equal. once 0 (suc k) (omega arith) (omega (arith, inside)) (same ∙ sym equal)))
+      | inr differs ↦
+          subst (λ zs. k < length zs → Stands (slice_index zs k) (y ∷ ys) × (slice_index zs k ≢ v)) (sym (if_false y v ys (y ∷ without v ys) differs))
+          (head_or_rest (λ j inside. without-stood v ys j (Once-tail y ys once) inside) differs k)
+    ]
+  where
+    head_or_rest : ((j : ℕ) → j < length (without v ys) → Stands (slice_index (without v ys) j) ys × (slice_index (without v ys) j ≢ v)) → y ≢ v
+        → (j : ℕ) → j < length (y ∷ without v ys) → Stands (slice_index (y ∷ without v ys) j) (y ∷ ys) × (slice_index (y ∷ without v ys) j ≢ v)
+    head_or_rest rest differs zero inside = ((0, omega arith, refl), differs)
+    head_or_rest rest differs (suc j) inside =
+        let there : Stands (slice_index (without v ys) j) ys × (slice_index (without v ys) j ≢ v) = rest j (omega (arith, inside)) in
+        ((suc (there.0).0, omega (arith, (there.0).1), (there.0).2), there.1)
+
+-- no number stands twice without `v`
+pub Once-without : (v : ℕ) (xs : List ℕ) → Once xs → Once (without v xs)
+Once-without v [] once = once
+Once-without v (y ∷ ys) once =
+    elim (cases_eq y v) [
+      | inl same ↦ subst (λ zs. Once zs) (sym (if_true y v ys (y ∷ without v ys) same)) (Once-tail y ys once)
+      | inr differs ↦
+          subst (λ zs. Once zs) (sym (if_false y v ys (y ∷ without v ys) differs))
+          (pairs (Once-without v ys (Once-tail y ys once)) (λ k inside. (without-stood v ys k (Once-tail y ys once) inside).0))
+    ]
+  where
+    pairs : Once (without v ys) → ((k : ℕ) → k < length (without v ys) → Stands (slice_index (without v ys) k) ys) → Once (y ∷ without v ys)
+    pairs rest stood zero zero before inside = absurd (omega (arith, before))
+    pairs rest stood zero (suc k) before inside =
+        let there : Stands (slice_index (without v ys) k) ys = stood k (omega (arith, inside)) in
+        λ equal. once 0 (suc there.0) (omega arith) (omega (arith, there.1)) (equal ∙ sym there.2)
+    pairs rest stood (suc j) zero before inside = absurd (omega (arith, before))
+    pairs rest stood (suc j) (suc k) before inside = rest j k (omega (arith, before)) (omega (arith, inside))

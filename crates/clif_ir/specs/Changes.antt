@@ -11,6 +11,7 @@ use Rattle.clif_ir.specs.declared.function.BlockNode.{BlockNode}
 use Rattle.clif_ir.specs.declared.inst_list.BlockEnd.{BlockEnd}
 use Rattle.clif_ir.specs.declared.inst_list.BlockEnd.TheVariants.{Front, Back}
 use Rattle.clif_ir.specs.Body.{Body, empty_block, block_at, value_at, resolved}
+use Rattle.clif_ir.specs.Reading.{without}
 
 -- with a new empty block
 abbrev pub with_block : Body → Body
@@ -50,4 +51,19 @@ with_inst f b end shape types loc =
       values = f.values ++ result_nodes (length f.insts) 0 types;
       insts = f.insts ++ inst_node f b shape types loc ∷ [];
       blocks = slice_set f.blocks b (record (block_at f b) { insts = put_at end (length f.insts) (block_at f b).insts });
+    }
+
+-- the block of a value that is a parameter
+abbrev pub home_of : ValueOrigin → ℕ
+home_of (Result i k) = 0
+home_of (Param b) = b
+home_of (Alias original) = 0
+
+-- with parameter `v` taken from its block and made another name of what `original` stands for
+abbrev pub with_alias : Body → ℕ → ℕ → Body
+with_alias f v original =
+    let b : ℕ = home_of (value_at f v).origin in
+    record f {
+      values = slice_set f.values v (record (value_at f v) { origin = Alias (resolved f original) });
+      blocks = slice_set f.blocks b (record (block_at f b) { params = without v (block_at f b).params });
     }

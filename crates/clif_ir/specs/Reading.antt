@@ -1,9 +1,10 @@
 -- What the calls that read a function answer. Source: own, after the crate's documentation.
-use Rattle.std.specs.Prelude.{ℕ, ◌==◌, ◌+◌, List, [], ◌∷◌, length, Option, Some, None, if◌then◌else◌, slice_get}
+use Rattle.std.specs.Prelude.{ℕ, ◌==◌, ◌+◌, ◌<◌, List, [], ◌∷◌, length, Option, Some, None, if◌then◌else◌, slice_get}
 use Rattle.clif_ir.specs.declared.function.ValueDef.{ValueDef}
 use Rattle.clif_ir.specs.declared.function.ValueDef.TheVariants as def
 use Rattle.clif_ir.specs.declared.function.ValueOrigin.{ValueOrigin}
 use Rattle.clif_ir.specs.declared.function.ValueOrigin.TheVariants.{Result, Param, Alias}
+use Rattle.clif_ir.specs.declared.function.ValueNode.{ValueNode}
 use Rattle.clif_ir.specs.Body.{Body, value_at, inst_at, block_at, resolved}
 
 -- the entry of a list that follows the first `x`
@@ -26,3 +27,21 @@ abbrev pub def_of : Body → ℕ → ValueOrigin → ValueDef
 def_of f v (Result i k) = def.Result i k
 def_of f v (Param b) = def.Param b (place_of v (block_at f b).params)
 def_of f v (Alias original) = def.Param 0 0
+
+-- what defines a value exists
+abbrev pub DefExists : Body → ValueDef → Type 0
+DefExists f (def.Result i k) = i < length f.insts
+DefExists f (def.Param b k) = b < length f.blocks
+
+-- the block of which a value is a parameter, if it is one
+abbrev pub home_of_param : ValueOrigin → Option ℕ
+home_of_param (Result i k) = None
+home_of_param (Param b) = Some b
+home_of_param (Alias original) = None
+
+abbrev pub home_of_node : Option ValueNode → Option ℕ
+home_of_node None = None
+home_of_node (Some node) = home_of_param node.origin
+
+abbrev pub param_home : Body → ℕ → Option ℕ
+param_home f v = home_of_node (slice_get f.values v)

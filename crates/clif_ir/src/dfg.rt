@@ -1,11 +1,12 @@
 //! The calls that make blocks, parameters and instructions.
 //!
 //! Each call first makes room and then changes, so that after an error the function is as it was.
-ghost use Rattle.std.specs.Prelude.{◌≡◌, ◌≢◌, [], ◌∷◌, ◌++◌, length, ◌+◌, ◌-◌, ◌^◌, ◌≤◌, ◌<◌, ◌⊎◌, ℕ, slice_index, EachIndex, vec_len, vec_capacity, IfOk, OnOk, OnErr};
-ghost use Rattle.clif_ir.specs.Body.{Body};
-ghost use Rattle.clif_ir.specs.Instruction.{operands, result_types};
+ghost use Rattle.std.specs.Prelude.{◌≡◌, ◌≢◌, [], ◌∷◌, ◌++◌, length, ◌+◌, ◌-◌, ◌^◌, ◌≤◌, ◌<◌, ◌⊎◌, ℕ, true, slice_index, EachIndex, vec_len, vec_capacity, IfOk, OnOk, OnErr};
+ghost use Rattle.clif_ir.specs.Body.{Body, value_at, block_at, resolved};
+ghost use Rattle.clif_ir.specs.Consistent.{Stands};
+ghost use Rattle.clif_ir.specs.Instruction.{operands, has_result, result_types};
 ghost use Rattle.clif_ir.specs.Whole.{next_slot, placed_at};
-ghost use Rattle.clif_ir.specs.Changes.{with_block, with_param, with_inst, result_nodes};
+ghost use Rattle.clif_ir.specs.Changes.{with_block, with_param, with_inst, with_alias, home_of, result_nodes};
 ghost use Rattle.std.specs.List.{range_with_len};
 
 use crate::function::{BlockNode, BlockPlace, Function, InstNode, ValueNode, ValueOrigin};
@@ -139,6 +140,7 @@ impl Function {
         requires operands_exist { EachIndex (operands shape) (λ k. slice_index (operands shape) k < length self.old.values) }
         ensures ok { OnOk result (self.new ≡ with_inst self.old block end shape (result_types shape ctrl_type) srcloc) }
         ensures number { IfOk result (λ i. i ≡ length self.old.insts) }
+        ensures unaliased { OnOk result (has_result shape ≡ true → resolved self.new (length self.old.values) ≡ length self.old.values) }
         ensures full { result ≡ Err BuildError.Full → (length self.old.insts ≡ 2 ^ 32 - 1) ⊎ (length self.old.values ≡ 2 ^ 32 - 1) }
         ensures never_failed { result ≢ Err BuildError.Failed }
         ensures err { OnErr result (self.new ≡ self.old) }
@@ -165,5 +167,39 @@ impl Function {
             srcloc,
         });
         Ok(inst)
+    }
+
+    /// Takes parameter `param` away from its block and makes it another name of what `original`
+    /// stands for.
+    pub fn change_param_to_alias(&mut self, param: Value, original: Value) -> Result<(), BuildError>
+        requires param_exists { param < length self.old.values }
+        requires is_param { (value_at self.old param).origin ≡ ValueOrigin.Param (home_of (value_at self.old param).origin) }
+        requires original_exists { original < length self.old.values }
+        requires apart { resolved self.old original ≢ param }
+        ensures ok { OnOk result (self.new ≡ with_alias self.old param original) }
+        ensures only_memory { OnErr result (result ≡ Err BuildError.Memory) }
+        ensures err { OnErr result (self.new ≡ self.old) }
+    {
+        let target = self.resolve_aliases(original);
+        let block = self.param_block(param);
+        self.aliases.insert((target, param))?;
+        // From here on nothing can fail.
+        self.blocks[block.index()].params.remove(param);
+        self.values[param.index()].origin = ValueOrigin::Alias(target);
+        Ok(())
+    }
+
+    // The block of a parameter.
+    fn param_block(&self, param: Value) -> Block
+        requires param_exists { param < length self.now.values }
+        requires is_param { (value_at self.now param).origin ≡ ValueOrigin.Param (home_of (value_at self.now param).origin) }
+        ensures exact { result ≡ home_of (value_at self.now param).origin }
+        ensures exists { result < length self.now.blocks }
+        ensures stands { Stands param (block_at self.now result).params }
+    {
+        match self.values[param.index()].origin {
+            ValueOrigin::Param(block) => block,
+            ValueOrigin::Result(..) | ValueOrigin::Alias(_) => unreachable!(),
+        }
     }
 }

@@ -1,8 +1,8 @@
 //! Functions: their tables, and the calls that read them.
-ghost use Rattle.std.specs.Prelude.{◌≡◌, [], ◌∷◌, ◌++◌, length, ◌+◌, ◌-◌, ◌^◌, ◌≤◌, ◌<◌, IfSome, None};
-ghost use Rattle.clif_ir.specs.Body.{Body, empty_body, value_at, inst_at, block_at, resolved, alias_of};
-ghost use Rattle.clif_ir.specs.Reading.{def_of};
-ghost use Rattle.clif_ir.specs.Consistent.{IsConsistent};
+ghost use Rattle.std.specs.Prelude.{◌≡◌, [], ◌∷◌, ◌++◌, length, ◌+◌, ◌-◌, ◌^◌, ◌≤◌, ◌<◌, IfSome, IsSome, None, EachIndex, slice_index};
+ghost use Rattle.clif_ir.specs.Body.{empty_body, value_at, inst_at, block_at, resolved, alias_of};
+ghost use Rattle.clif_ir.specs.Instruction.{operands};
+ghost use Rattle.clif_ir.specs.Reading.{def_of, DefExists, param_home};
 
 use crate::inst_list::InstList;
 use crate::instructions::InstructionData;
@@ -117,7 +117,8 @@ impl Function {
     /// The parameters of a block, in order.
     pub fn block_params(&self, block: Block) -> &[Value]
         requires { block < length self.now.blocks }
-        ensures { result.now ≡ (block_at self.now block).params }
+        ensures exact { result.now ≡ (block_at self.now block).params }
+        ensures exist { EachIndex result.now (λ k. slice_index result.now k < length self.now.values) }
     {
         self.blocks[block.index()].params.as_slice()
     }
@@ -125,7 +126,8 @@ impl Function {
     /// The results of an instruction, in order.
     pub fn inst_results(&self, inst: Inst) -> &[Value]
         requires { inst < length self.now.insts }
-        ensures { result.now ≡ (inst_at self.now inst).results }
+        ensures exact { result.now ≡ (inst_at self.now inst).results }
+        ensures exist { EachIndex result.now (λ k. slice_index result.now k < length self.now.values) }
     {
         self.insts[inst.index()].results.as_slice()
     }
@@ -133,7 +135,8 @@ impl Function {
     /// The instruction itself.
     pub fn inst_data(&self, inst: Inst) -> &InstructionData
         requires { inst < length self.now.insts }
-        ensures { result.now ≡ (inst_at self.now inst).shape }
+        ensures exact { result.now ≡ (inst_at self.now inst).shape }
+        ensures operands_exist { EachIndex (operands result.now) (λ k. slice_index (operands result.now) k < length self.now.values) }
     {
         &self.insts[inst.index()].shape
     }
@@ -178,7 +181,8 @@ impl Function {
     /// What defines the value that `value` stands for.
     pub fn value_def(&self, value: Value) -> ValueDef
         requires { value < length self.now.values }
-        ensures { result ≡ def_of self.now (resolved self.now value) (value_at self.now (resolved self.now value)).origin }
+        ensures exact { result ≡ def_of self.now (resolved self.now value) (value_at self.now (resolved self.now value)).origin }
+        ensures exists { DefExists self.now result }
     {
         let resolved = self.resolve_aliases(value);
         match self.values[resolved.index()].origin {
@@ -211,5 +215,18 @@ impl Function {
         ensures { result.now ≡ self.now.signature }
     {
         &self.signature
+    }
+
+    /// The block of which `value` is a parameter, if there is such a value and it is one.
+    pub fn param_home(&self, value: Value) -> Option<Block>
+        ensures exact { result ≡ param_home self.now value }
+        ensures known { IsSome result → value < length self.now.values }
+        ensures exists { IfSome result (λ block. block < length self.now.blocks) }
+    {
+        let node = self.values.get(value.index())?;
+        match node.origin {
+            ValueOrigin::Param(block) => Some(block),
+            ValueOrigin::Result(..) | ValueOrigin::Alias(_) => None,
+        }
     }
 }

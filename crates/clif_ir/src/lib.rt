@@ -7,6 +7,7 @@
 
 pub mod dfg;
 pub mod function;
+pub mod immediates;
 pub mod inst_list;
 pub mod instructions;
 pub mod layout;

@@ -1,1 +1,284 @@
-//! x
+//! The text of a function.
+//!
+//! Nothing here takes memory or recurses: alias lines are found along the links from a value to its
+//! aliases.
+ghost use Rattle.std.specs.Prelude.{ℕ, ◌<◌, length, EachIndex, slice_index};
+
+use crate::function::{Function, ValueDef};
+use crate::immediates::{Imm64, signed_at};
+use crate::instructions::InstructionData;
+use clif_types::{Block, EntityRef, Inst, Type, Value};
+use std::fmt;
+
+/// A function that prints as its text.
+#[derive(Clone, Copy)]
+pub struct DisplayFunction<'a>(&'a Function);
+
+impl Function {
+    /// The function as a value that prints as its text.
+    pub fn display(&self) -> DisplayFunction<'_> {
+        DisplayFunction(self)
+    }
+}
+
+impl fmt::Display for DisplayFunction<'_> {
+    fn fmt<W: fmt::Write>(&self, f: &mut fmt::Formatter<W>) -> fmt::Result {
+        write_function(f, self.0)
+    }
+}
+
+fn write_function<W: fmt::Write>(f: &mut fmt::Formatter<W>, func: &Function) -> fmt::Result {
+    let name = &func.name;
+    let signature = &func.signature;
+    write!(f, "function {name}{signature} {{\n")?;
+    for (place, block) in func.layout.iter().enumerate() {
+        if place > 0 {
+            f.write_str("\n")?;
+        }
+        write_block(f, func, *block)?;
+    }
+    f.write_str("}\n")
+}
+
+fn write_block<W: fmt::Write>(
+    f: &mut fmt::Formatter<W>,
+    func: &Function,
+    block: Block,
+) -> fmt::Result
+    requires { block < length func.now.blocks }
+{
+    write!(f, "{block}")?;
+    write_params(f, func, block)?;
+    f.write_str(":\n")?;
+    write_alias_lines(f, func, func.block_params(block))?;
+    let insts = &func.blocks[block.index()].insts;
+    for place in 0..insts.len() {
+        if let Some(inst) = insts.get(place) {
+            write_inst(f, func, inst)?;
+        }
+    }
+    Ok(())
+}
+
+// The parameters of a block with their types, in parentheses; nothing where there are none.
+fn write_params<W: fmt::Write>(
+    f: &mut fmt::Formatter<W>,
+    func: &Function,
+    block: Block,
+) -> fmt::Result
+    requires { block < length func.now.blocks }
+{
+    let params = func.block_params(block);
+    if params.is_empty() {
+        return Ok(());
+    }
+    let mut separator = "(";
+    for param in params.iter() {
+        let param = *param;
+        let ty = func.value_type(param);
+        write!(f, "{separator}{param}: {ty}")?;
+        separator = ", ";
+    }
+    f.write_str(")")
+}
+
+fn write_inst<W: fmt::Write>(f: &mut fmt::Formatter<W>, func: &Function, inst: Inst) -> fmt::Result
+    requires { inst < length func.now.insts }
+{
+    let results = func.inst_results(inst);
+    f.write_str("    ")?;
+    if !results.is_empty() {
+        write_values(f, results)?;
+        f.write_str(" = ")?;
+    }
+    write_operation(f, func, inst)?;
+    write_comment(f, func, func.inst_data(inst).arguments())?;
+    f.write_str("\n")?;
+    write_alias_lines(f, func, results)
+}
+
+// Values, joined by `, `.
+fn write_values<W: fmt::Write>(f: &mut fmt::Formatter<W>, values: &[Value]) -> fmt::Result {
+    for (place, value) in values.iter().enumerate() {
+        if place > 0 {
+            f.write_str(", ")?;
+        }
+        let value = *value;
+        write!(f, "{value}")?;
+    }
+    Ok(())
+}
+
+// The name of an instruction, its type where one is printed, and its operands.
+fn write_operation<W: fmt::Write>(
+    f: &mut fmt::Formatter<W>,
+    func: &Function,
+    inst: Inst,
+) -> fmt::Result
+    requires { inst < length func.now.insts }
+{
+    match func.inst_data(inst) {
+        InstructionData::UnaryImm { imm } => {
+            let ty = result_type(func, inst);
+            let number = Imm64(signed_at(*imm, ty));
+            write!(f, "iconst.{ty} {number}")
+        }
+        InstructionData::Binary { opcode, args } => {
+            let opcode = *opcode;
+            write!(f, "{opcode}")?;
+            write_type_suffix(f, func, inst, args[0])?;
+            f.write_str(" ")?;
+            write_values(f, args)
+        }
+        InstructionData::MultiAry { args } => {
+            f.write_str("return")?;
+            if !args.as_slice().is_empty() {
+                f.write_str(" ")?;
+            }
+            write_values(f, args.as_slice())
+        }
+    }
+}
+
+// The type of the first result of an instruction.
+fn result_type(func: &Function, inst: Inst) -> Type
+    requires { inst < length func.now.insts }
+{
+    match func.inst_results(inst).first() {
+        Some(result) => func.value_type(*result),
+        None => Type::Invalid,
+    }
+}
+
+// The type of the operand that tells the instruction's type, where that operand is defined in another
+// block.
+fn write_type_suffix<W: fmt::Write>(
+    f: &mut fmt::Formatter<W>,
+    func: &Function,
+    inst: Inst,
+    operand: Value,
+) -> fmt::Result
+    requires inst_exists { inst < length func.now.insts }
+    requires operand_exists { operand < length func.now.values }
+{
+    let block = match func.value_def(operand) {
+        ValueDef::Result(source, _) => func.inst_block(source),
+        ValueDef::Param(block, _) => Some(block),
+    };
+    if block == func.inst_block(inst) {
+        return Ok(());
+    }
+    let ty = func.value_type(operand);
+    write!(f, ".{ty}")
+}
+
+// A comment that names each operand that stands for a constant.
+fn write_comment<W: fmt::Write>(
+    f: &mut fmt::Formatter<W>,
+    func: &Function,
+    args: &[Value],
+) -> fmt::Result
+    requires { EachIndex args.now (λ k. slice_index args.now k < length func.now.values) }
+{
+    let mut separator = "  ; ";
+    for value in args.iter() {
+        let value = *value;
+        if let Some(number) = constant(func, value) {
+            write!(f, "{separator}{value} = {number}")?;
+            separator = ", ";
+        }
+    }
+    Ok(())
+}
+
+// The number that a value stands for, where an `iconst` makes it.
+fn constant(func: &Function, value: Value) -> Option<Imm64>
+    requires { value < length func.now.values }
+{
+    let ValueDef::Result(inst, _) = func.value_def(value) else {
+        return None;
+    };
+    let InstructionData::UnaryImm { imm } = func.inst_data(inst) else {
+        return None;
+    };
+    Some(Imm64(signed_at(*imm, func.value_type(value))))
+}
+
+// The alias lines of each of these values, in order.
+fn write_alias_lines<W: fmt::Write>(
+    f: &mut fmt::Formatter<W>,
+    func: &Function,
+    values: &[Value],
+) -> fmt::Result
+    requires { EachIndex values.now (λ k. slice_index values.now k < length func.now.values) }
+{
+    for value in values.iter() {
+        write_aliases_of(f, func, *value)?;
+    }
+    Ok(())
+}
+
+// The alias lines of one value. They come from a stack that holds the value at first: the top is taken
+// off, its direct aliases are printed by rising number, and each is put on the stack. So the next top
+// is the last of these aliases, or else the one before the value last handled.
+fn write_aliases_of<W: fmt::Write>(
+    f: &mut fmt::Formatter<W>,
+    func: &Function,
+    root: Value,
+) -> fmt::Result
+    requires { root < length func.now.values }
+{
+    let mut top = root;
+    for _ in 0..func.values.len() {
+        write_direct_aliases(f, func, top)?;
+        let Some(next) = next_top(func, root, top) else {
+            return Ok(());
+        };
+        top = next;
+    }
+    Ok(())
+}
+
+fn write_direct_aliases<W: fmt::Write>(
+    f: &mut fmt::Formatter<W>,
+    func: &Function,
+    original: Value,
+) -> fmt::Result {
+    for (owner, alias) in func.aliases.range((original, Value::from_u32(0))..) {
+        if *owner != original {
+            break;
+        }
+        let alias = *alias;
+        write!(f, "    {alias} -> {original}\n")?;
+    }
+    Ok(())
+}
+
+// The value that is on the stack's top once `top` was handled, where `root` was on it at first.
+fn next_top(func: &Function, root: Value, top: Value) -> Option<Value> {
+    if let Some(last) = last_alias(func, top, Value::from_u32(0xffff_fffe)) {
+        return Some(last);
+    }
+    let mut handled = top;
+    for _ in 0..func.values.len() {
+        if handled == root || handled.index() >= func.values.len() {
+            return None;
+        }
+        let original = func.alias_original(handled)?;
+        if let Some(previous) = last_alias(func, original, handled) {
+            return Some(previous);
+        }
+        handled = original;
+    }
+    None
+}
+
+// The last direct alias of a value among those below `bound`.
+fn last_alias(func: &Function, original: Value, bound: Value) -> Option<Value> {
+    let (owner, alias) = func.aliases.range(..(original, bound)).next_back()?;
+    if *owner == original {
+        Some(*alias)
+    } else {
+        None
+    }
+}

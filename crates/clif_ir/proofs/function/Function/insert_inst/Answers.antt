@@ -1,12 +1,12 @@
-use Rattle.std.proofs.Common.{rules, arith, subst, sym, ap, ◌∙◌, ◌<◌, length}
+use Rattle.std.proofs.Common.{rules, arith, ◌≡◌, subst, sym, ap, ◌∙◌, ◌<◌, length}
 use Rattle.std.specs.Prelude.{EachIndex, slice_index}
-use Rattle.clif_ir.specs.Body.{Body}
+use Rattle.clif_ir.specs.Body.{Body, resolved}
 use Rattle.std.proofs.lemmas.Grind.{common_steps}
 use Rattle.clif_ir.specs.Changes.{with_inst}
 use Rattle.clif_ir.specs.Instruction.{operands, result_types}
 use Rattle.clif_ir.specs.Whole.{body_of}
 use Rattle.clif_ir.proofs.Keeps.{consistent_at}
-use Rattle.clif_ir.proofs.KeepsInst.{with_inst_consistent, length-result_types-le}
+use Rattle.clif_ir.proofs.KeepsInst.{with_inst_consistent, length-result_types-le, with_inst-unaliased}
 use Rattle.clif_ir.proofs.KeepsPlaces.{placed_with, with_inst_placed, front_fits}
 use Rattle.clif_ir.proofs.function.Function.insert_inst.Goals as goal
 
@@ -30,3 +30,8 @@ pub returns-clause-ok : goal.returns-clause-ok
 returns-clause-ok c =
     sym (first_of (search rules, grind (arith, common_steps)))
     ∙ ap (λ f. with_inst f c.args.block c.args.end c.args.shape (result_types c.args.shape c.args.ctrl_type) c.args.srcloc) c.self.view_is
+
+pub returns-clause-unaliased : goal.returns-clause-unaliased
+returns-clause-unaliased c =
+    λ _. subst (λ g. resolved g (length c.args.self.now.values) ≡ length c.args.self.now.values) (sym (returns-clause-ok c))
+    (with_inst-unaliased c.args.self.now c.args.block c.args.end c.args.shape (result_types c.args.shape c.args.ctrl_type) c.args.srcloc)

@@ -1,0 +1,133 @@
+-- The row `first` meets the premises in every world, and its function means what its script means.
+use Rattle.std.proofs.Common.{◌≡◌, ◌<◌, ◌≤◌, ℕ, zero, suc, List, [], ◌∷◌, refl, sym, ◌∙◌, arith, ◌⊎◌, inl, inr, subst, Bool}
+use Rattle.std.specs.List.{AllByRecursion}
+use Rattle.clif_types.specs.declared.types.«Type».{«Type»}
+use Rattle.clif_types.specs.declared.target.PointerWidth.TheVariants.{U64}
+use Rattle.clif_types.specs.Target.{pointer_type_of}
+use Rattle.clif_meaning.specs.Access.{touched_ranges, claims_of}
+use Rattle.clif_meaning.specs.Instruction.{Operation, Compute, Return}
+use Rattle.clif_meaning.specs.Event.{CallShape, Event}
+use Rattle.clif_meaning.specs.World.{World, PlacesSlots}
+use Rattle.clif_meaning.specs.Machine.{Control, At, HasReturned, HasTrapped, IsStuck, state_after, IsEnd, EndStays}
+use Rattle.clif_meaning.specs.SameMeaning.{Behaviour, ShowsAllOf}
+use Rattle.clif_meaning.specs.Program.{Item, Instruct, Use, Assign}
+use Rattle.clif_meaning.specs.ScriptMachine.{ScriptRun, ScriptState, script_machine}
+use Rattle.clif_meaning.specs.Premises.{Premises, OfNextItem, InEachStep, SparesSpillSlots, ClaimsAreTrue}
+use Rattle.clif_meaning.specs.Headline.{script_run, function_run, script_behaviour, function_behaviour, IsWorldOf, MeansTheSame}
+use Rattle.clif_meaning.specs.FunctionMachine.{ByMaps}
+use Rattle.clif_meaning.specs.Examples.{first_script, first_function, moved_by_16}
+use Rattle.clif_meaning.proofs.FirstRow
+use Rattle.clif_meaning.proofs.SampleWorld
+use Rattle.clif_meaning.proofs.Endings
+
+none_touched : (operation : Operation) (ty : «Type») (bits : List ℕ) → touched_ranges operation ty bits ≡ []
+none_touched (Compute arithmetic) ty bits = refl
+none_touched Return ty bits = refl
+
+none_claimed : (operation : Operation) (ty : «Type») (bits : List ℕ) → claims_of operation ty bits ≡ []
+none_claimed (Compute arithmetic) ty bits = refl
+none_claimed Return ty bits = refl
+
+-- it holds of each element of no list
+of_none : {X : Type 0} (P : X → Type 0) (xs : List X) → xs ≡ [] → AllByRecursion P xs
+of_none P xs none = subst (λ (ys : List _). AllByRecursion P ys) (sym none) tt
+
+-- so far no item touches memory
+spares : (hidden : ℕ → Bool) (state : ScriptState) (item : Item) → SparesSpillSlots hidden state item
+spares hidden state (Instruct place instruction results) = of_none _ _ (none_touched instruction.operation _ _)
+spares hidden state (Use variable name) = tt
+spares hidden state (Assign variable name) = tt
+
+-- and none claims anything
+claims : (run : ScriptRun) (state : ScriptState) (item : Item) → ClaimsAreTrue run state item
+claims run state (Instruct place instruction results) = of_none _ _ (none_claimed instruction.operation _ _)
+claims run state (Use variable name) = tt
+claims run state (Assign variable name) = tt
+
+next_item : (P : Item → Type 0) → ((item : Item) → P item) → (control : Control Item) → OfNextItem P control
+next_item P each (At []) = tt
+next_item P each (At (item ∷ rest)) = each item
+next_item P each (HasReturned results) = tt
+next_item P each (HasTrapped reason) = tt
+next_item P each IsStuck = tt
+
+each_step : (P : ScriptState → Item → Type 0) (run : ScriptRun) → ((state : ScriptState) (item : Item) → P state item) → InEachStep P run
+each_step P run each n = next_item _ (each (state_after (script_machine run) n)) (state_after (script_machine run) n).control
+
+pub first_premises : (world : World) → Premises first_script first_function.signature (pointer_type_of U64) (script_run first_script first_function world)
+first_premises world = record {
+  targets_filled = FirstRow.first_items _ (tt, (tt, (tt, (tt, (tt, (tt, tt))))));
+  tables_once = tt;
+  well_typed = record {
+    items = FirstRow.first_items _ (
+      tt,
+      (
+        record { made_at = refl; operands = refl; edges = tt },
+        (
+          record { made_at = refl; operands = refl; edges = tt },
+          (
+            refl,
+            (
+              tt,
+              (record { made_at = refl; operands = refl; edges = tt }, tt),
+            ),
+          ),
+        ),
+      ),
+    );
+    entry = refl;
+  };
+  given_before = FirstRow.script_well_placed;
+  tracked_apart = FirstRow.first_items _ ((λ h. h), (tt, (tt, ((λ h. h), ((λ h. h), (tt, tt))))));
+  spares_spill_slots = each_step _ (script_run first_script first_function world) (spares (script_run first_script first_function world).hidden);
+  claims_true = each_step _ (script_run first_script first_function world) (claims (script_run first_script first_function world));
+  libc_as_named = FirstRow.first_items _ (tt, (tt, (tt, (tt, (tt, (tt, tt))))));
+}
+
+-- a run that shows what the other begins with until it ends as the other does
+pub shows_all : (left right : Behaviour) (a b : ℕ) → EndStays left → IsEnd (left a).ending
+    → ((n : ℕ) → n < a → left n ≡ right 0) → left a ≡ right b → ShowsAllOf left right
+shows_all left right a b stays end before same n = by (order n a)
+  where
+    order : (n a : ℕ) → (n < a) ⊎ (a ≤ n)
+    order n a = grind arith
+
+    by : (n < a) ⊎ (a ≤ n) → (m : ℕ) × (left n ≡ right m)
+    by (inl early) = (0, before n early)
+    by (inr late) = (b, stays a n late end ∙ same)
+
+script_before : (world : World) (n : ℕ) → n < 6 → script_behaviour first_script first_function world n ≡ function_behaviour first_script first_function U64 world 0
+script_before world zero h = refl
+script_before world (suc zero) h = refl
+script_before world (suc (suc zero)) h = refl
+script_before world (suc (suc (suc zero))) h = refl
+script_before world (suc (suc (suc (suc zero)))) h = refl
+script_before world (suc (suc (suc (suc (suc zero))))) h = refl
+script_before world (suc (suc (suc (suc (suc (suc n)))))) h = absurd (omega arith)
+
+function_before : (world : World) (n : ℕ) → n < 4 → function_behaviour first_script first_function U64 world n ≡ script_behaviour first_script first_function world 0
+function_before world zero h = refl
+function_before world (suc zero) h = refl
+function_before world (suc (suc zero)) h = refl
+function_before world (suc (suc (suc zero))) h = refl
+function_before world (suc (suc (suc (suc n)))) h = absurd (omega arith)
+
+pub first_same : MeansTheSame first_script U64 first_function
+first_same world fits premises = record {
+  there = shows_all (script_behaviour first_script first_function world) (function_behaviour first_script first_function U64 world) 6 4
+      (Endings.script_stays (script_run first_script first_function world)) tt (script_before world) refl;
+  back = shows_all (function_behaviour first_script first_function U64 world) (script_behaviour first_script first_function world) 4 6
+      (Endings.function_stays (function_run first_script first_function U64 world ByMaps)) tt (function_before world) refl;
+}
+
+-- of no slots nothing is asked
+no_slots : (world : World) → PlacesSlots world [] 64
+no_slots world = record {
+  aligned = λ s slot h. cc;
+  accessible = λ s slot k h below. cc;
+  within = λ s slot h. cc;
+  apart = λ s t slot other h. cc;
+}
+
+pub a_world : (world : World) × IsWorldOf first_function U64 world × ((events : List Event) (call : CallShape) → world.moved events call ≡ moved_by_16)
+a_world = (SampleWorld.sample_world, record { arguments = tt; slots = no_slots SampleWorld.sample_world }, λ events call. refl)

@@ -1,0 +1,13 @@
+pub mod BitLists
+pub mod Simulation
+pub mod Endings
+pub mod Stuttering
+pub mod WorkedExamples
+pub mod StraightLine
+pub mod FirstRow
+pub mod SampleWorld
+pub mod FirstPremises
+pub mod LoopPaths
+pub mod ViewRow
+pub mod Ranges
+pub mod CallLists

@@ -1,0 +1,111 @@
+-- Which calls a script may make, and which of them are refused. A call outside its condition is a misuse. After the
+-- documentation of Cranelift's `FunctionBuilder`.
+use Rattle.std.specs.Prelude.{ℕ, suc, not, ◌&&◌, ◌||◌, if◌then◌else◌, Bool, true, false, List, [], ◌∷◌, ◌++◌, Option, Some, None, is_some, find, ℤ}
+use Rattle.std.specs.List.{list_all}
+use Rattle.clif_types.specs.declared.types.«Type».{«Type»}
+use Rattle.clif_types.specs.declared.types.«Type».TheVariants as type
+use Rattle.clif_types.specs.declared.types.LaneType.TheVariants as lane
+use Rattle.clif_types.specs.Types.{is_int}
+use Rattle.clif_meaning.specs.SameType.{same_type}
+use Rattle.clif_meaning.specs.Instruction.{Iconst, Iadd, Operation, Compute, Return, Argument, Known, CallResult, CallPayload, Edge}
+use Rattle.clif_meaning.specs.Name.{Name}
+use Rattle.clif_meaning.specs.Request.{Request, CreateBlock, SwitchToBlock, SealBlock, DeclareVar, DefVar, UseVar, Build, Finalize, Script}
+use Rattle.clif_meaning.specs.Ledger.{BlockState, Ledger, empty_ledger, type_of, or_invalid, has_value, has_block, is_filled, is_sealed, is_pristine, is_unreachable, variable_type, ledger_with}
+
+-- there is a current block, and it isn't filled
+abbrev pub is_open : Ledger → Option Name → Bool
+is_open ledger None = false
+is_open ledger (Some block) = not (is_filled ledger block)
+
+-- there is no current block, or it can be left: nothing leads to it, nothing is in it, or it is filled
+abbrev pub can_leave : Ledger → Option Name → Bool
+can_leave ledger None = true
+can_leave ledger (Some block) = is_unreachable ledger block || is_pristine ledger block || is_filled ledger block
+
+-- the types of which a variable may be so far
+abbrev pub is_variable_type : «Type» → Bool
+is_variable_type (type.Lane lane.I8) = true
+is_variable_type (type.Lane lane.I16) = true
+is_variable_type (type.Lane lane.I32) = true
+is_variable_type (type.Lane lane.I64) = true
+is_variable_type _ = false
+
+-- a value of the variable's type
+abbrev pub can_assign : Option «Type» → Option «Type» → Bool
+can_assign (Some ty) (Some other) = same_type ty other
+can_assign _ _ = false
+
+-- an operand of an edge is there
+abbrev pub has_argument : Ledger → Argument Name → Bool
+has_argument ledger (Known value) = has_value ledger value
+has_argument ledger (CallResult index) = true
+has_argument ledger (CallPayload index) = true
+
+-- an edge leads to a block that isn't sealed, and passes what is there
+abbrev pub can_lead : Ledger → Edge Name Name → Bool
+can_lead ledger edge = has_block ledger edge.target && not (is_sealed ledger edge.target) && list_all (has_argument ledger) edge.arguments
+
+-- what an operation asks beside its operands: the table of operations
+abbrev pub can_operate : Operation → «Type» → Bool
+can_operate (Compute (Iconst number)) ty = is_int ty
+can_operate (Compute Iadd) ty = true
+can_operate Return ty = true
+
+-- The condition of each kind of call.
+abbrev pub allows : Ledger → Request → Bool
+allows ledger CreateBlock = true
+allows ledger (SwitchToBlock block) = has_block ledger block && not (is_filled ledger block) && can_leave ledger ledger.current
+allows ledger (SealBlock block) = has_block ledger block && not (is_sealed ledger block)
+allows ledger (DeclareVar ty) = is_variable_type ty
+allows ledger (DefVar variable value) = is_open ledger ledger.current && can_assign (variable_type ledger variable) (type_of ledger value)
+allows ledger (UseVar variable) = is_open ledger ledger.current && is_some (variable_type ledger variable)
+allows ledger (Build instruction) =
+    is_open ledger ledger.current && list_all (has_value ledger) instruction.operands && list_all (can_lead ledger) instruction.edges
+    && can_operate instruction.operation instruction.controlling
+allows ledger Finalize = true
+
+-- why a call that may be made is refused
+pub data Refusal : Type 0 where
+  Unsealed : (block : Name) → Refusal
+  Unfilled : (block : Name) → Refusal
+
+-- something was made in the block, and it isn't sealed, or not filled
+abbrev pub is_unfinished : BlockState → Bool
+is_unfinished state = not state.is_pristine && not (state.is_sealed && state.is_filled)
+
+abbrev pub unfinished : Option BlockState → Option Refusal
+unfinished None = None
+unfinished (Some state) = Some (if state.is_sealed then Unfilled state.block else Unsealed state.block)
+
+-- What each kind of call is refused for. `finalize` names the first block, in the order of creation, that isn't
+-- finished.
+abbrev pub refusal_of : Ledger → Request → Option Refusal
+refusal_of ledger Finalize = unfinished (find is_unfinished ledger.blocks)
+refusal_of ledger _ = None
+
+-- what comes of a script, memory and full tables aside
+pub data Verdict : Type 0 where
+  Accepted : Verdict
+  Misuse : (place : ℕ) → Verdict
+  Refused : (place : ℕ) → Verdict
+
+-- A misuse goes before a refusal, and the first call that is either decides.
+abbrev pub verdict_from : ℕ → Ledger → Script → Verdict
+verdict_from place ledger [] = Accepted
+verdict_from place ledger (request ∷ script) =
+    if not (allows ledger request) then Misuse place
+    else (if is_some (refusal_of ledger request) then Refused place else verdict_from (suc place) (ledger_with ledger request) script)
+
+-- the verdict on a script's calls, with `finalize` behind them
+abbrev pub verdict_on : Script → Verdict
+verdict_on script = verdict_from 0 empty_ledger (script ++ Finalize ∷ [])
+
+-- The instruction calls of this stage. `iadd` is made at the type of its first operand.
+abbrev pub iconst : «Type» → ℤ → Request
+iconst ty number = Build (record { operation = Compute (Iconst number); controlling = ty; operands = []; edges = [] })
+
+abbrev pub iadd : Ledger → Name → Name → Request
+iadd ledger a b = Build (record { operation = Compute Iadd; controlling = or_invalid (type_of ledger a); operands = a ∷ b ∷ []; edges = [] })
+
+abbrev pub return_ : List Name → Request
+return_ values = Build (record { operation = Return; controlling = type.Invalid; operands = values; edges = [] })

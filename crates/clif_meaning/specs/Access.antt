@@ -1,0 +1,43 @@
+-- What an item of a script does to memory by itself, and what it claims: the ranges that it may touch, and what its
+-- flags, alignments and overlap promise. After the documentation of Cranelift's memory flags and memory helpers.
+use Rattle.std.specs.Prelude.{◌≡◌, ℕ, ◌%◌, ◌^◌, ◌<◌, false, List, [], IsTrue, ◌&&◌, Option, None}
+use Rattle.clif_types.specs.declared.types.«Type».{«Type»}
+use Rattle.clif_types.specs.Signature.{SignatureShape}
+use Rattle.clif_types.specs.declared.libcall.LibCall.{LibCall}
+use Rattle.clif_meaning.specs.Bits.{Bits}
+use Rattle.clif_meaning.specs.Memory.{Range, address_in, lies_in}
+use Rattle.clif_meaning.specs.Instruction.{Operation, Compute, Return}
+use Rattle.clif_meaning.specs.World.{World}
+
+-- a claim: each byte of the range may be read and written; the address is a multiple of the alignment, which is a
+-- power of two; no address lies in both ranges
+pub data Claim : Type 0 where
+  Accessible : Range → Claim
+  Aligned : (address alignment : ℕ) → Claim
+  Apart : Range → Range → Claim
+
+abbrev pub Holds : World → Claim → Type 0
+Holds world (Accessible range) = (k : ℕ) → k < range.size → IsTrue (world.is_accessible (address_in range k))
+Holds world (Aligned address alignment) = (shift : ℕ) × (alignment ≡ 2 ^ shift) × (address % 2 ^ shift ≡ 0)
+Holds world (Apart left right) = (address : ℕ) → (lies_in left address && lies_in right address) ≡ false
+
+-- The table of operations, from the bits of the operands: the ranges that the instruction touches. No operation
+-- reaches memory so far.
+abbrev pub touched_ranges : Operation → «Type» → List Bits → List Range
+touched_ranges (Compute arithmetic) ty operands = []
+touched_ranges Return ty operands = []
+
+-- The table of operations: what the instruction claims.
+abbrev pub claims_of : Operation → «Type» → List Bits → List Claim
+claims_of (Compute arithmetic) ty operands = []
+claims_of Return ty operands = []
+
+-- a call of a function of the C library, by the signature that it gives
+pub record LibraryCall : Type 0 where
+  pub callee : LibCall
+  pub signature : SignatureShape
+
+-- The table of operations: the call of a library function that it makes, if it makes one. No operation does so far.
+abbrev pub library_call : Operation → Option LibraryCall
+library_call (Compute arithmetic) = None
+library_call Return = None

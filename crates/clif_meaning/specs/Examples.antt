@@ -1,0 +1,198 @@
+-- Worked examples of the definitions. The rows, their texts and their answers are those of the crate's documentation
+-- and of its hostile scripts.
+use Rattle.std.specs.Prelude.{◌≡◌, ℕ, zero, suc, ◌+◌, ◌-◌, ◌%◌, ◌^◌, ◌==◌, nat_lt, if◌then◌else◌, List, [], ◌∷◌, Some, None, pos, negsuc}
+use Rattle.std.specs.declared.cmp.Ordering.{Ordering}
+use Rattle.std.specs.declared.cmp.Ordering.TheVariants.{Less, Equal, Greater}
+use Rattle.clif_types.specs.declared.types.«Type».{«Type»}
+use Rattle.clif_types.specs.declared.call_conv.CallConv.TheVariants.{SystemV, Fast}
+use Rattle.clif_types.specs.declared.types.«Type».TheVariants as type
+use Rattle.clif_types.specs.declared.types.LaneType.TheVariants as lane
+use Rattle.clif_types.specs.Types.{bits_of}
+use Rattle.clif_types.specs.declared.target.PointerWidth.TheVariants.{U64}
+use Rattle.clif_types.specs.Target.{pointer_type_of}
+use Rattle.clif_meaning.specs.Bits.{value_bytes, value_of_bytes}
+use Rattle.clif_meaning.specs.Memory.{Memory, bytes_in, copied, filled, written, byte_order}
+use Rattle.clif_meaning.specs.Switch.{switch_target}
+use Rattle.clif_meaning.specs.Instruction.{Iconst, Iadd, Operation, Compute, Return}
+use Rattle.clif_meaning.specs.Event.{CallShape, Event}
+use Rattle.clif_meaning.specs.World.{World}
+use Rattle.clif_meaning.specs.Outcome.{Values, Undefined, computed}
+use Rattle.clif_meaning.specs.Machine.{Observation, Returned, Stuck}
+use Rattle.clif_meaning.specs.SameMeaning.{SameMeaning}
+use Rattle.clif_meaning.specs.Name.{Name, answer_of}
+use Rattle.clif_meaning.specs.Request.{CreateBlock, SwitchToBlock, SealBlock, DeclareVar, DefVar, UseVar, Script}
+use Rattle.clif_meaning.specs.Ledger.{ledger_after}
+use Rattle.clif_meaning.specs.Acceptance.{iconst, iadd, return_, Accepted, Misuse, Refused, verdict_on}
+use Rattle.clif_meaning.specs.FunctionView.{Placed, BlockView, FunctionView}
+use Rattle.clif_meaning.specs.WellPlaced.{WellPlaced}
+use Rattle.clif_meaning.specs.Typing.{EdgesMatch}
+use Rattle.clif_meaning.specs.Premises.{Premises}
+use Rattle.clif_meaning.specs.Headline.{script_run, IsWorldOf, script_behaviour, function_behaviour, MeansTheSame}
+
+abbrev pub i8 : «Type»
+i8 = type.Lane lane.I8
+
+abbrev pub i32 : «Type»
+i32 = type.Lane lane.I32
+
+abbrev pub i128 : «Type»
+i128 = type.Lane lane.I128
+
+-- Constants are cut to their width, or have their sign repeated; sums wrap.
+pub record ArithmeticExamples : Type 0 where
+  pub cut : computed (Iconst (pos 300)) i8 [] ≡ Values (44 ∷ [])
+  pub negative : computed (Iconst (negsuc 6)) i8 [] ≡ Values (249 ∷ [])
+  pub wide : computed (Iconst (negsuc 0)) i128 [] ≡ Values ((2 ^ 128 - 1) ∷ [])
+  pub sum : computed Iadd i32 (0 ∷ 7 ∷ []) ≡ Values (7 ∷ [])
+  pub wraps : computed Iadd i8 (200 ∷ 100 ∷ []) ≡ Values (44 ∷ [])
+  pub wraps_at_128 : computed Iadd i128 ((2 ^ 128 - 1) ∷ 2 ∷ []) ≡ Values (1 ∷ [])
+  pub too_few : computed Iadd i8 (200 ∷ []) ≡ Undefined
+
+-- the byte at an address of a memory that holds 1, 2, 3 .. from an address on
+abbrev pub counting_from : ℕ → Memory
+counting_from start = λ address. if nat_lt address start then 0 else (address + 1 - start) % 256
+
+-- Sixteen bytes 01 .. 10 (hexadecimal) from address 100 on; twelve of them are copied four places up, over themselves.
+pub record ByteExamples : Type 0 where
+  pub little_endian : value_of_bytes (0x34 ∷ 0x12 ∷ []) ≡ 4660
+  pub back : value_bytes 2 4660 ≡ 0x34 ∷ 0x12 ∷ []
+  pub copy : bytes_in (copied (counting_from 100) (record { width = 64; start = 104; size = 12 }) 100) (record { width = 64; start = 100; size = 16 })
+      ≡ 1 ∷ 2 ∷ 3 ∷ 4 ∷ 1 ∷ 2 ∷ 3 ∷ 4 ∷ 5 ∷ 6 ∷ 7 ∷ 8 ∷ 9 ∷ 10 ∷ 11 ∷ 12 ∷ []
+  pub fill : bytes_in (filled (counting_from 100) (record { width = 64; start = 101; size = 2 }) 0xab) (record { width = 64; start = 100; size = 4 })
+      ≡ 1 ∷ 0xab ∷ 0xab ∷ 4 ∷ []
+  pub round_the_end : bytes_in (written (λ address. 0) (record { width = 16; start = 65535; size = 2 }) (5 ∷ 6 ∷ [])) (record { width = 16; start = 65535; size = 3 })
+      ≡ 5 ∷ 6 ∷ 0 ∷ []
+  pub less : byte_order (1 ∷ 200 ∷ 3 ∷ []) (1 ∷ 201 ∷ 0 ∷ []) ≡ Less
+  pub equal : byte_order (1 ∷ 2 ∷ []) (1 ∷ 2 ∷ []) ≡ Equal
+
+-- Default block 0; keys 0, 1, 5, 7, 10, 11, 12 lead to blocks 1 to 7.
+abbrev pub many_entries : List (ℕ × ℕ)
+many_entries = (0, 1) ∷ (1, 2) ∷ (5, 3) ∷ (7, 4) ∷ (10, 5) ∷ (11, 6) ∷ (12, 7) ∷ []
+
+pub record SwitchExamples : Type 0 where
+  pub hit : switch_target many_entries 0 12 ≡ 7
+  pub miss : switch_target many_entries 0 9 ≡ 0
+
+-- The row `first`: use x (of 32 bits, never assigned, in an unsealed block), x = x + 7, return x, seal the block.
+abbrev pub block0 : Name
+block0 = answer_of 0 0
+
+abbrev pub first_calls : Script
+first_calls = CreateBlock ∷ SwitchToBlock block0 ∷ DeclareVar i32 ∷ UseVar 0 ∷ iconst i32 (pos 7) ∷ []
+
+abbrev pub first_script : Script
+first_script =
+    CreateBlock ∷ SwitchToBlock block0 ∷ DeclareVar i32 ∷ UseVar 0 ∷ iconst i32 (pos 7)
+    ∷ iadd (ledger_after first_calls) (answer_of 3 0) (answer_of 4 1) ∷ DefVar 0 (answer_of 5 1) ∷ UseVar 0
+    ∷ return_ (answer_of 7 0 ∷ []) ∷ SealBlock block0 ∷ []
+
+-- an instruction without edges and stack map
+abbrev pub placed : Operation → «Type» → List ℕ → List ℕ → Placed
+placed operation ty operands results = record {
+  instruction = record { operation = operation; controlling = ty; operands = operands; edges = [] };
+  results = results;
+  stack_map = [];
+}
+
+-- the blocks of a function with one block
+abbrev pub one_block : List Placed → ℕ → BlockView
+one_block items zero = record { parameters = []; items = items }
+one_block items (suc block) = record { parameters = []; items = [] }
+
+-- the function of the row, with `number` for the 7:
+--     v3 = iconst.i32 0
+--     v0 -> v3
+--     v1 = iconst.i32 7
+--     v2 = iadd v0, v1
+--     return v2
+abbrev pub first_function_with : ℕ → FunctionView
+first_function_with number = record {
+  signature = record { params = []; returns = record { value_type = i32 } ∷ []; call_conv = SystemV };
+  entry = Some 0;
+  blocks = one_block (
+      placed (Compute (Iconst (pos 0))) i32 [] (3 ∷ [])
+      ∷ placed (Compute (Iconst (pos number))) i32 [] (1 ∷ [])
+      ∷ placed (Compute Iadd) i32 (0 ∷ 1 ∷ []) (2 ∷ [])
+      ∷ placed Return type.Invalid (2 ∷ []) []
+      ∷ []);
+  resolved = λ v. if v == 0 then 3 else v;
+  value_type = λ v. i32;
+  slots = [];
+}
+
+abbrev pub first_function : FunctionView
+first_function = first_function_with 7
+
+-- both machines end with these bits, without an event, in every world
+abbrev pub ended_with : List ℕ → World → Observation
+ended_with results world = record { events = []; ending = Returned results world.memory }
+
+pub record FirstAnswersSeven : Type 0 where
+  pub script : (world : World) → script_behaviour first_script first_function world 6 ≡ ended_with (7 ∷ []) world
+  pub function : (world : World) → function_behaviour first_script first_function U64 world 4 ≡ ended_with (7 ∷ []) world
+  pub accepted : verdict_on first_script ≡ Accepted
+  pub well_placed : WellPlaced first_function
+  pub edges_match : EdgesMatch first_function
+
+-- a number of 32 bits with the sign of the order
+abbrev pub sign_number : Ordering → ℕ
+sign_number Less = 2 ^ 32 - 1
+sign_number Equal = 0
+sign_number Greater = 1
+
+-- a collector that adds 16 to each number but zero
+abbrev pub moved_by_16 : «Type» → ℕ → ℕ
+moved_by_16 ty bits = if bits == 0 then 0 else (bits + 16) % 2 ^ bits_of ty
+
+-- a function that answers 8 in place of 7
+abbrev pub EightIsNotSeven : Type 0
+EightIsNotSeven = (world : World) →
+    SameMeaning (script_behaviour first_script (first_function_with 8) world) (function_behaviour first_script (first_function_with 8) U64 world) → ⊥
+
+-- the row `empty`: no calls, and a function without blocks
+abbrev pub empty_function : FunctionView
+empty_function = record {
+  signature = record { params = []; returns = []; call_conv = Fast };
+  entry = None;
+  blocks = λ block. record { parameters = []; items = [] };
+  resolved = λ v. v;
+  value_type = λ v. type.Invalid;
+  slots = [];
+}
+
+abbrev pub stuck : Observation
+stuck = record { events = []; ending = Stuck }
+
+-- Both machines are stuck at once, and stay so; a function that is stuck is no function for the row `first`.
+pub record EmptyIsStuck : Type 0 where
+  pub script : (world : World) (n : ℕ) → script_behaviour [] empty_function world n ≡ stuck
+  pub function : (world : World) (n : ℕ) → function_behaviour [] empty_function U64 world n ≡ stuck
+  pub not_first : (world : World) → SameMeaning (script_behaviour first_script empty_function world) (function_behaviour first_script empty_function U64 world) → ⊥
+
+-- Which calls are a misuse, and which are refused.
+pub record VerdictExamples : Type 0 where
+  -- a block that isn't sealed, and one that isn't filled
+  pub unsealed : verdict_on (CreateBlock ∷ SwitchToBlock block0 ∷ iconst i32 (pos 1) ∷ []) ≡ Refused 3
+  pub unfilled : verdict_on (CreateBlock ∷ SwitchToBlock block0 ∷ iconst i32 (pos 1) ∷ SealBlock block0 ∷ []) ≡ Refused 4
+  -- a variable that was never declared
+  pub undeclared : verdict_on (CreateBlock ∷ SwitchToBlock block0 ∷ UseVar 0 ∷ []) ≡ Misuse 2
+  -- no current block
+  pub no_block : verdict_on (UseVar 0 ∷ []) ≡ Misuse 0
+  -- a name that leads to no answer
+  pub no_answer : verdict_on (CreateBlock ∷ SwitchToBlock (answer_of 0 1) ∷ []) ≡ Misuse 1
+  -- an instruction in a block that is filled
+  pub filled : verdict_on (CreateBlock ∷ SwitchToBlock block0 ∷ iconst i32 (pos 1) ∷ return_ (answer_of 2 1 ∷ []) ∷ iconst i32 (pos 1) ∷ []) ≡ Misuse 4
+  -- a value of another type
+  pub other_type : verdict_on (CreateBlock ∷ SwitchToBlock block0 ∷ DeclareVar i32 ∷ iconst i8 (pos 1) ∷ DefVar 0 (answer_of 3 1) ∷ []) ≡ Misuse 4
+  -- a block that was sealed before
+  pub sealed : verdict_on (CreateBlock ∷ SealBlock block0 ∷ SealBlock block0 ∷ []) ≡ Misuse 2
+  -- a block that was left before it was filled
+  pub left_open : verdict_on (CreateBlock ∷ CreateBlock ∷ SwitchToBlock block0 ∷ iconst i32 (pos 1) ∷ SwitchToBlock (answer_of 1 0) ∷ []) ≡ Misuse 4
+  pub nothing : verdict_on [] ≡ Accepted
+
+-- There is a world in which the function of the row `first` can run, with a collector that moves; every world meets the
+-- premises for the row; and the function means what the script means.
+pub record FirstMeansTheSame : Type 0 where
+  pub a_world : (world : World) × IsWorldOf first_function U64 world × ((events : List Event) (call : CallShape) → world.moved events call ≡ moved_by_16)
+  pub premises : (world : World) → Premises first_script first_function.signature (pointer_type_of U64) (script_run first_script first_function world)
+  pub same : MeansTheSame first_script U64 first_function

@@ -1,0 +1,41 @@
+-- The one shape of an instruction, for the script's machine and for the function's: what operands are is a parameter,
+-- a name or a value. After Cranelift's `InstructionData`, its opcode and controlling type apart from its operands.
+use Rattle.std.specs.Prelude.{ℕ, List, ℤ}
+use Rattle.clif_types.specs.declared.types.«Type».{«Type»}
+
+-- operations that compute bits from bits, without memory, world or control
+pub data Arithmetic : Type 0 where
+  -- the constant, a number of 64 bits
+  Iconst : (number : ℤ) → Arithmetic
+  -- the sum modulo 2 to the width
+  Iadd : Arithmetic
+
+-- what an instruction does
+pub data Operation : Type 0 where
+  -- computes its results
+  Compute : Arithmetic → Operation
+  -- ends the run with the operands
+  Return : Operation
+
+-- what an edge passes to a parameter of its target
+pub data Argument (Operand : Type 0) : Type 0 where
+  -- an operand
+  Known : Operand → Argument Operand
+  -- on the normal edge of a try call: this one of the callee's returns
+  CallResult : (index : ℕ) → Argument Operand
+  -- on an edge of an item of a try call: this part of the exception
+  CallPayload : (index : ℕ) → Argument Operand
+
+-- an edge: the block that it leads to, and what it passes
+pub record Edge (Block Operand : Type 0) : Type 0 where
+  pub target : Block
+  pub arguments : List (Argument Operand)
+
+-- an instruction. `controlling` is the type that an operation over several types is made at. The edges of `brif` are
+-- the one where the condition holds and the other; of `br_table` its entries in order and then the default; of a try
+-- call the normal edge and then those of its items.
+pub record Instruction (Block Operand : Type 0) : Type 0 where
+  pub operation : Operation
+  pub controlling : «Type»
+  pub operands : List Operand
+  pub edges : List (Edge Block Operand)

@@ -1,0 +1,29 @@
+-- Laws of the definitions, as the contracts of this crate's functions state them.
+use Rattle.std.specs.Prelude.{◌≡◌, ℕ, List, [], ◌∷◌, ◌++◌, length, slice_get, Some}
+use Rattle.clif_meaning.specs.Machine.{observed, EndStays}
+use Rattle.clif_meaning.specs.Name.{Name, answer_of}
+use Rattle.clif_meaning.specs.Request.{Request, Script, AnsweredCall, number_of}
+use Rattle.clif_meaning.specs.Ledger.{ledger_after, ledger_with}
+use Rattle.clif_meaning.specs.Program.{program_of, with_call}
+use Rattle.clif_meaning.specs.ScriptMachine.{ScriptRun, script_machine}
+use Rattle.clif_meaning.specs.FunctionMachine.{FunctionRun, function_machine}
+
+-- A machine that ended stays as it is.
+pub record EndedMachinesStay : Type 0 where
+  pub script : (run : ScriptRun) → EndStays (observed (script_machine run))
+  pub function : (run : FunctionRun) → EndStays (observed (function_machine run))
+
+-- A call at the end of a script changes its program and its ledger by that call alone.
+pub record OneMoreCall : Type 0 where
+  pub program : (script : Script) (request : Request) → program_of (script ++ request ∷ []) ≡ with_call (program_of script) request
+  pub ledger : (script : Script) (request : Request) → ledger_after (script ++ request ∷ []) ≡ ledger_with (ledger_after script) request
+
+-- The place of the next call is how many calls there were.
+pub record PlacesCount : Type 0 where
+  pub program : (script : Script) → (program_of script).place ≡ length script
+  pub ledger : (script : Script) → length (ledger_after script).answers ≡ length script
+
+-- A call at the end leaves the numbers of the names before it, and its own answers have its numbers.
+pub record NumbersStay : Type 0 where
+  pub kept : (calls : List AnsweredCall) (call : AnsweredCall) (name : Name) (number : ℕ) → number_of calls name ≡ Some number → number_of (calls ++ call ∷ []) name ≡ Some number
+  pub new : (calls : List AnsweredCall) (call : AnsweredCall) (index : ℕ) → number_of (calls ++ call ∷ []) (answer_of (length calls) index) ≡ slice_get call.numbers index

@@ -1,0 +1,221 @@
+-- The ledger of a script: what its calls alone tell. Which answers there are and of which kind and type, the state of
+-- each block, the layout, variables with their types, and which tables serve. The conditions on calls speak of it.
+-- After the documentation of Cranelift's `FunctionBuilder`.
+use Rattle.std.specs.Prelude.{ℕ, zero, suc, not, ◌&&◌, if◌then◌else◌, Bool, true, false, List, [], ◌∷◌, ◌++◌, length, map, fold, find, slice_get, Option, Some, None, option_and_then, option_map, is_some}
+use Rattle.std.specs.List.{list_any}
+use Rattle.clif_types.specs.declared.types.«Type».{«Type»}
+use Rattle.clif_types.specs.declared.types.«Type».TheVariants as type
+use Rattle.clif_meaning.specs.Instruction.{Operation, Compute, Return, Edge}
+use Rattle.clif_meaning.specs.Name.{Name, answer_of, same_name}
+use Rattle.clif_meaning.specs.Request.{Request, CreateBlock, SwitchToBlock, SealBlock, DeclareVar, DefVar, UseVar, Build, Finalize, Script}
+use Rattle.clif_meaning.specs.Program.{result_types}
+
+-- what an answer is
+pub data Answered : Type 0 where
+  ABlock : Answered
+  AVariable : (variable : ℕ) → Answered
+  AValue : (ty : «Type») → Answered
+  AnInstruction : Answered
+
+-- a block: pristine until something is made in it, filled once it has its terminator, sealed once it was told that no
+-- more branches to it come
+pub record BlockState : Type 0 where
+  pub block : Name
+  -- the types of the caller's parameters
+  pub parameters : List «Type»
+  pub is_pristine : Bool
+  pub is_filled : Bool
+  pub is_sealed : Bool
+  -- the branches that were declared as its predecessors, each once
+  pub predecessors : List Name
+
+pub record VariableState : Type 0 where
+  pub ty : «Type»
+  -- marked as tracked
+  pub is_marked : Bool
+  -- used or assigned so far
+  pub is_touched : Bool
+
+pub record Ledger : Type 0 where
+  -- the answers to each call, by its place
+  pub answers : List (List Answered)
+  -- in the order in which they were created
+  pub blocks : List BlockState
+  pub current : Option Name
+  -- the blocks in the layout, in order: the first one is the entry
+  pub layout : List Name
+  -- by their numbers
+  pub variables : List VariableState
+  -- the tables that an instruction was given
+  pub served : List Name
+  -- how many stack slots the calls created: those with higher numbers are spill slots
+  pub slot_count : ℕ
+
+-- before the first call
+abbrev pub empty_ledger : Ledger
+empty_ledger = record { answers = []; blocks = []; current = None; layout = []; variables = []; served = []; slot_count = 0 }
+
+-- the answer with this name
+abbrev pub answer_at : Ledger → Name → Option Answered
+answer_at ledger name = option_and_then (λ answers. slice_get answers name.index) (slice_get ledger.answers name.place)
+
+abbrev pub is_block_answer : Option Answered → Bool
+is_block_answer (Some ABlock) = true
+is_block_answer _ = false
+
+-- the type of a value, if the answer is one
+abbrev pub value_answer_type : Option Answered → Option «Type»
+value_answer_type (Some (AValue ty)) = Some ty
+value_answer_type _ = None
+
+-- the type of the value with this name, if there is one
+abbrev pub type_of : Ledger → Name → Option «Type»
+type_of ledger name = value_answer_type (answer_at ledger name)
+
+abbrev pub or_invalid : Option «Type» → «Type»
+or_invalid None = type.Invalid
+or_invalid (Some ty) = ty
+
+abbrev pub has_value : Ledger → Name → Bool
+has_value ledger name = is_some (type_of ledger name)
+
+-- the state of the block with this name, if there is one
+abbrev pub block_state : Ledger → Name → Option BlockState
+block_state ledger block = find (λ state. same_name state.block block) ledger.blocks
+
+abbrev pub state_has : (BlockState → Bool) → Option BlockState → Bool
+state_has test None = false
+state_has test (Some state) = test state
+
+abbrev pub has_block : Ledger → Name → Bool
+has_block ledger block = is_some (block_state ledger block)
+
+abbrev pub is_filled : Ledger → Name → Bool
+is_filled ledger block = state_has (λ state. state.is_filled) (block_state ledger block)
+
+abbrev pub is_sealed : Ledger → Name → Bool
+is_sealed ledger block = state_has (λ state. state.is_sealed) (block_state ledger block)
+
+abbrev pub is_pristine : Ledger → Name → Bool
+is_pristine ledger block = state_has (λ state. state.is_pristine) (block_state ledger block)
+
+abbrev pub is_empty : {X : Type 0} → List X → Bool
+is_empty [] = true
+is_empty (x ∷ xs) = false
+
+abbrev pub has_predecessors : Ledger → Name → Bool
+has_predecessors ledger block = state_has (λ state. not (is_empty state.predecessors)) (block_state ledger block)
+
+-- the first block of the layout is this one
+abbrev pub begins_with : List Name → Name → Bool
+begins_with [] block = false
+begins_with (entry ∷ layout) block = same_name entry block
+
+abbrev pub is_inserted : Ledger → Name → Bool
+is_inserted ledger block = list_any (same_name block) ledger.layout
+
+-- some block is in the layout, and this one isn't the entry, is sealed and has no predecessor
+abbrev pub is_unreachable : Ledger → Name → Bool
+is_unreachable ledger block =
+    not (is_empty ledger.layout) && not (begins_with ledger.layout block) && is_sealed ledger block && not (has_predecessors ledger block)
+
+abbrev pub variable_state : Ledger → ℕ → Option VariableState
+variable_state ledger variable = slice_get ledger.variables variable
+
+-- the type of a variable, if it was declared
+abbrev pub variable_type : Ledger → ℕ → Option «Type»
+variable_type ledger variable = option_map (λ state. state.ty) (variable_state ledger variable)
+
+abbrev pub marked : Option VariableState → Bool
+marked None = false
+marked (Some state) = state.is_marked
+
+abbrev pub is_marked : Ledger → ℕ → Bool
+is_marked ledger variable = marked (variable_state ledger variable)
+
+-- the state of one block changed
+abbrev pub with_state : Ledger → Name → (BlockState → BlockState) → Ledger
+with_state ledger block change =
+    record ledger { blocks = map (λ state. if same_name state.block block then change state else state) ledger.blocks }
+
+-- at the end of the layout, unless it is there
+abbrev pub with_layout : Ledger → Name → Ledger
+with_layout ledger block = if is_inserted ledger block then ledger else record ledger { layout = ledger.layout ++ block ∷ [] }
+
+-- a block in which something was made: it is pristine no more, and in the layout
+abbrev pub with_begun_at : Ledger → Option Name → Ledger
+with_begun_at ledger None = ledger
+with_begun_at ledger (Some block) = with_state (with_layout ledger block) block (λ state. record state { is_pristine = false })
+
+-- something was made in the current block
+abbrev pub with_begun : Ledger → Ledger
+with_begun ledger = with_begun_at ledger ledger.current
+
+abbrev pub with_filled_at : Ledger → Option Name → Ledger
+with_filled_at ledger None = ledger
+with_filled_at ledger (Some block) = with_state ledger block (λ state. record state { is_filled = true })
+
+-- the operation ends its block: the table of operations
+abbrev pub is_terminator : Operation → Bool
+is_terminator (Compute arithmetic) = false
+is_terminator Return = true
+
+-- a terminator fills the current block
+abbrev pub with_terminator : Ledger → Operation → Ledger
+with_terminator ledger operation = if is_terminator operation then with_filled_at ledger ledger.current else ledger
+
+-- a branch is a predecessor of each block that one of its edges leads to, once
+abbrev pub with_predecessor : Name → Ledger → Edge Name Name → Ledger
+with_predecessor branch ledger edge = with_state ledger edge.target (λ state.
+    if list_any (same_name branch) state.predecessors then state else record state { predecessors = state.predecessors ++ branch ∷ [] })
+
+-- the variable with this number was used or assigned
+abbrev pub touched_at : ℕ → List VariableState → List VariableState
+touched_at variable [] = []
+touched_at zero (state ∷ states) = record state { is_touched = true } ∷ states
+touched_at (suc variable) (state ∷ states) = state ∷ touched_at variable states
+
+abbrev pub with_touched : Ledger → ℕ → Ledger
+with_touched ledger variable = record ledger { variables = touched_at variable ledger.variables }
+
+-- What each kind of call answers.
+abbrev pub answers_to : Ledger → Request → List Answered
+answers_to ledger CreateBlock = ABlock ∷ []
+answers_to ledger (SwitchToBlock block) = []
+answers_to ledger (SealBlock block) = []
+answers_to ledger (DeclareVar ty) = AVariable (length ledger.variables) ∷ []
+answers_to ledger (DefVar variable value) = []
+answers_to ledger (UseVar variable) = AValue (or_invalid (variable_type ledger variable)) ∷ []
+answers_to ledger (Build instruction) = AnInstruction ∷ map AValue (result_types instruction.operation instruction.controlling)
+answers_to ledger Finalize = []
+
+-- the name of the first answer to the next call
+abbrev pub next_answer : Ledger → Name
+next_answer ledger = answer_of (length ledger.answers) 0
+
+-- a new block: no branch to it, nothing in it
+abbrev pub new_block : Name → BlockState
+new_block block = record { block = block; parameters = []; is_pristine = true; is_filled = false; is_sealed = false; predecessors = [] }
+
+abbrev pub new_variable : «Type» → VariableState
+new_variable ty = record { ty = ty; is_marked = false; is_touched = false }
+
+-- What each kind of call changes, its answers aside.
+abbrev pub changed_by : Ledger → Request → Ledger
+changed_by ledger CreateBlock = record ledger { blocks = ledger.blocks ++ new_block (next_answer ledger) ∷ [] }
+changed_by ledger (SwitchToBlock block) = record ledger { current = Some block }
+changed_by ledger (SealBlock block) = with_state ledger block (λ state. record state { is_sealed = true })
+changed_by ledger (DeclareVar ty) = record ledger { variables = ledger.variables ++ new_variable ty ∷ [] }
+changed_by ledger (DefVar variable value) = with_touched ledger variable
+changed_by ledger (UseVar variable) = with_touched (with_begun ledger) variable
+changed_by ledger (Build instruction) =
+    fold (with_predecessor (next_answer ledger)) (with_terminator (with_begun ledger) instruction.operation) instruction.edges
+changed_by ledger Finalize = ledger
+
+-- the ledger with one more call
+abbrev pub ledger_with : Ledger → Request → Ledger
+ledger_with ledger request = record (changed_by ledger request) { answers = ledger.answers ++ answers_to ledger request ∷ [] }
+
+-- the ledger of a script
+abbrev pub ledger_after : Script → Ledger
+ledger_after script = fold ledger_with empty_ledger script

@@ -1,0 +1,84 @@
+-- The variable program of a script: for each block the instructions, uses and assignments that were called while it
+-- was current, in order. It has variables, and no parameters for them. Sealing and layout are no part of it. Own;
+-- what variables mean is from the documentation of Cranelift's `FunctionBuilder`.
+use Rattle.std.specs.Prelude.{ℕ, suc, if◌then◌else◌, List, [], ◌∷◌, ◌++◌, Option, Some, None, fold}
+use Rattle.clif_types.specs.declared.types.«Type».{«Type»}
+use Rattle.clif_meaning.specs.Instruction.{Iconst, Iadd, Operation, Compute, Return, Instruction}
+use Rattle.clif_meaning.specs.Name.{Name, answer_of, same_name}
+use Rattle.clif_meaning.specs.Request.{Request, CreateBlock, SwitchToBlock, SealBlock, DeclareVar, DefVar, UseVar, Build, Finalize, Script}
+
+-- the types of an instruction's results: the table of operations, at the controlling type
+abbrev pub result_types : Operation → «Type» → List «Type»
+result_types (Compute (Iconst number)) ty = ty ∷ []
+result_types (Compute Iadd) ty = ty ∷ []
+result_types Return ty = []
+
+-- the answers to the call at this place from this one on, as many as types
+abbrev pub answers_from : ℕ → ℕ → List «Type» → List Name
+answers_from place index [] = []
+answers_from place index (ty ∷ types) = answer_of place index ∷ answers_from place (suc index) types
+
+-- the names of the results of an instruction that was built at this place: they follow its number
+abbrev pub result_names : ℕ → Instruction Name Name → List Name
+result_names place instruction = answers_from place 1 (result_types instruction.operation instruction.controlling)
+
+pub data Item : Type 0 where
+  -- the instruction that was built at this place of the script, and the names of its results
+  Instruct : (place : ℕ) → Instruction Name Name → (results : List Name) → Item
+  -- the name gets the bits of the variable
+  Use : (variable : ℕ) (name : Name) → Item
+  -- the variable gets the bits of the name
+  Assign : (variable : ℕ) (name : Name) → Item
+
+pub record Program : Type 0 where
+  -- how many calls there were: the place of the next one
+  pub place : ℕ
+  pub current : Option Name
+  -- the block that was current at the first call that put a block into the layout
+  pub entry : Option Name
+  -- the caller's parameters of each block
+  pub parameters : Name → List Name
+  pub items : Name → List Item
+
+-- before the first call
+abbrev pub empty_program : Program
+empty_program = record { place = 0; current = None; entry = None; parameters = λ block. []; items = λ block. [] }
+
+-- an item at the end of a block
+abbrev pub with_item_at : Program → Option Name → Item → Program
+with_item_at program None item = program
+with_item_at program (Some block) item =
+    record program { items = λ other. if same_name other block then program.items other ++ item ∷ [] else program.items other }
+
+-- an item at the end of the current block
+abbrev pub with_item : Program → Item → Program
+with_item program item = with_item_at program program.current item
+
+-- the first of two blocks that there is
+abbrev pub first_block : Option Name → Option Name → Option Name
+first_block None block = block
+first_block (Some entry) block = Some entry
+
+-- the current block is put into the layout, and is the entry if it is the first one there
+abbrev pub with_inserted : Program → Program
+with_inserted program = record program { entry = first_block program.entry program.current }
+
+-- what a call adds, its place aside
+abbrev pub extended : Program → Request → Program
+extended program CreateBlock = program
+extended program (SwitchToBlock block) = record program { current = Some block }
+extended program (SealBlock block) = program
+extended program (DeclareVar ty) = program
+extended program (DefVar variable value) = with_item program (Assign variable value)
+extended program (UseVar variable) = with_item (with_inserted program) (Use variable (answer_of program.place 0))
+extended program (Build instruction) =
+    with_item (with_inserted program) (Instruct program.place instruction (result_names program.place instruction))
+extended program Finalize = program
+
+-- the program with one more call
+abbrev pub with_call : Program → Request → Program
+with_call program request = record (extended program request) { place = suc program.place }
+
+-- the variable program of a script
+abbrev pub program_of : Script → Program
+program_of script = fold with_call empty_program script

@@ -1,0 +1,35 @@
+-- The calls of a script, as the builder sees them: what is asked, with earlier answers by their names. After the
+-- methods of Cranelift's `FunctionBuilder`. A variable is known by its number, and by nothing else.
+use Rattle.std.specs.Prelude.{ℕ, List, map, Option, slice_get, option_and_then}
+use Rattle.clif_types.specs.declared.types.«Type».{«Type»}
+use Rattle.clif_meaning.specs.Instruction.{Instruction}
+use Rattle.clif_meaning.specs.Name.{Name}
+
+pub data Request : Type 0 where
+  CreateBlock : Request
+  SwitchToBlock : (block : Name) → Request
+  SealBlock : (block : Name) → Request
+  DeclareVar : (ty : «Type») → Request
+  DefVar : (variable : ℕ) (value : Name) → Request
+  UseVar : (variable : ℕ) → Request
+  -- an instruction at the end of the current block. It answers its number, and then its results.
+  Build : Instruction Name Name → Request
+  -- the end of every script
+  Finalize : Request
+
+-- a script: calls in their order
+abbrev pub Script : Type 0
+Script = List Request
+
+-- a call together with the numbers that the builder answered
+pub record AnsweredCall : Type 0 where
+  pub request : Request
+  pub numbers : List ℕ
+
+-- the script of answered calls
+abbrev pub script_of : List AnsweredCall → Script
+script_of calls = map (λ call. call.request) calls
+
+-- the number that answered a name
+abbrev pub number_of : List AnsweredCall → Name → Option ℕ
+number_of calls name = option_and_then (λ call. slice_get call.numbers name.index) (slice_get calls name.place)

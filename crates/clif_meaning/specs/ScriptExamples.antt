@@ -1,0 +1,61 @@
+-- Worked examples of ledgers, names and paths.
+use Rattle.std.specs.Prelude.{◌≡◌, ℕ, zero, suc, true, false, List, [], ◌∷◌, Some, None, pos}
+use Rattle.clif_meaning.specs.Name.{answer_of}
+use Rattle.clif_meaning.specs.Request.{CreateBlock, SwitchToBlock, DeclareVar, UseVar, AnsweredCall, number_of}
+use Rattle.clif_meaning.specs.Program.{program_of}
+use Rattle.clif_meaning.specs.Ledger.{ledger_after, type_of, is_filled, is_sealed, is_pristine, is_inserted, variable_type}
+use Rattle.clif_meaning.specs.Acceptance.{iconst}
+use Rattle.clif_meaning.specs.Tracked.{tracked_names}
+use Rattle.clif_meaning.specs.Path.{Place, Flow, IsReachable, StrictlyBefore}
+use Rattle.clif_meaning.specs.Examples.{i32, block0, first_calls, first_script}
+
+-- the calls of the row `first` up to its constant, with the numbers that the builder answers
+abbrev pub answered_calls : List AnsweredCall
+answered_calls =
+    record { request = CreateBlock; numbers = 0 ∷ [] }
+    ∷ record { request = SwitchToBlock block0; numbers = [] }
+    ∷ record { request = DeclareVar i32; numbers = 0 ∷ [] }
+    ∷ record { request = UseVar 0; numbers = 0 ∷ [] }
+    ∷ record { request = iconst i32 (pos 7); numbers = 0 ∷ 1 ∷ [] } ∷ []
+
+-- What the ledger of the row `first` tells, on the way and at its end.
+pub record LedgerExamples : Type 0 where
+  pub used : type_of (ledger_after first_script) (answer_of 3 0) ≡ Some i32
+  pub sum : type_of (ledger_after first_script) (answer_of 5 1) ≡ Some i32
+  pub no_value : type_of (ledger_after first_script) (answer_of 5 0) ≡ None
+  pub declared : variable_type (ledger_after first_script) 0 ≡ Some i32
+  pub undeclared : variable_type (ledger_after first_script) 1 ≡ None
+  pub layout : (ledger_after first_script).layout ≡ block0 ∷ []
+  pub filled : is_filled (ledger_after first_script) block0 ≡ true
+  pub sealed : is_sealed (ledger_after first_script) block0 ≡ true
+  pub unfilled : is_filled (ledger_after first_calls) block0 ≡ false
+  pub begun : is_pristine (ledger_after first_calls) block0 ≡ false
+  -- a block that was only switched to is pristine, and isn't in the layout
+  pub pristine : is_pristine (ledger_after (CreateBlock ∷ SwitchToBlock block0 ∷ [])) block0 ≡ true
+  pub left_out : is_inserted (ledger_after (CreateBlock ∷ SwitchToBlock block0 ∷ [])) block0 ≡ false
+  pub entry : (program_of first_script).entry ≡ Some block0
+  pub no_entry : (program_of (CreateBlock ∷ SwitchToBlock block0 ∷ [])).entry ≡ None
+  pub untracked : tracked_names first_script ≡ []
+  -- the constant is value 1, and instruction 0
+  pub constant : number_of answered_calls (answer_of 4 1) ≡ Some 1
+  pub instruction : number_of answered_calls (answer_of 4 0) ≡ Some 0
+  pub nothing : number_of answered_calls (answer_of 4 2) ≡ None
+
+-- an irreducible loop: block 0 leads to 1 and 2, block 1 to 2 and 3, and block 2 to 1 and 3, one item in each
+abbrev pub loop_targets : ℕ → List ℕ
+loop_targets zero = 1 ∷ 2 ∷ []
+loop_targets (suc zero) = 2 ∷ 3 ∷ []
+loop_targets (suc (suc zero)) = 1 ∷ 3 ∷ []
+loop_targets (suc (suc (suc block))) = []
+
+abbrev pub loop_flow : Flow ℕ
+loop_flow = record { entry = Some 0; size = λ block. 1; targets = λ p. loop_targets p.block }
+
+abbrev pub at_block : ℕ → Place ℕ
+at_block block = record { block = block; index = 0 }
+
+-- Every way to block 3 goes through block 0, and not every way through block 1.
+pub record PathExamples : Type 0 where
+  pub reached : IsReachable loop_flow (at_block 3)
+  pub entry_before : StrictlyBefore loop_flow (at_block 0) (at_block 3)
+  pub way_round : StrictlyBefore loop_flow (at_block 1) (at_block 3) → ⊥

@@ -1,0 +1,9 @@
+-- What a switch means: a finite map from numbers to blocks, and a default. From the documentation of Cranelift's
+-- `Switch`.
+use Rattle.std.specs.Prelude.{ℕ, ◌==◌, if◌then◌else◌, List, [], ◌∷◌}
+
+-- the block of the key, which is the value's bits as an unsigned number. No key has two entries: setting one twice is
+-- refused.
+abbrev pub switch_target : {Block : Type 0} → List (ℕ × Block) → Block → ℕ → Block
+switch_target [] otherwise key = otherwise
+switch_target (entry ∷ entries) otherwise key = if entry.0 == key then entry.1 else switch_target entries otherwise key

@@ -1,0 +1,71 @@
+-- A function of `clif_ir` as the machines see it: its instructions in the one shape. Own.
+use Rattle.std.specs.Prelude.{ℕ, List, [], ◌∷◌, map, slice_get}
+use Rattle.clif_types.specs.declared.types.«Type».{«Type»}
+use Rattle.clif_types.specs.declared.types.«Type».TheVariants as type
+use Rattle.clif_ir.specs.declared.instructions.BinaryOpcode.TheVariants as binary
+use Rattle.clif_ir.specs.declared.instructions.InstructionData.{InstructionData}
+use Rattle.clif_ir.specs.declared.instructions.InstructionData.TheVariants.{UnaryImm, Binary, MultiAry}
+use Rattle.clif_ir.specs.declared.function.InstNode.{InstNode}
+use Rattle.clif_ir.specs.Body.{Body, value_at, inst_at, block_at, resolved}
+use Rattle.clif_meaning.specs.Instruction.{Operation, Compute, Iconst, Iadd, Return, Edge}
+use Rattle.clif_meaning.specs.FunctionView.{Placed, BlockView, FunctionView}
+
+-- The table of instructions: what each one does,
+abbrev pub operation_of : InstructionData → Operation
+operation_of (UnaryImm imm) = Compute (Iconst imm)
+operation_of (Binary binary.Iadd args) = Compute Iadd
+operation_of (MultiAry args) = Return
+
+-- its operands,
+abbrev pub operands_of : InstructionData → List ℕ
+operands_of (UnaryImm imm) = []
+operands_of (Binary opcode args) = args
+operands_of (MultiAry args) = args
+
+-- and its edges: no instruction so far is a branch.
+abbrev pub edges_of : InstructionData → List (Edge ℕ ℕ)
+edges_of (UnaryImm imm) = []
+edges_of (Binary opcode args) = []
+edges_of (MultiAry args) = []
+
+-- the type of the first of these values, if there is one
+abbrev pub first_type : Body → List ℕ → «Type»
+first_type body [] = type.Invalid
+first_type body (value ∷ values) = (value_at body value).ty
+
+-- The table of instructions: the type that each one is made at.
+abbrev pub controlling_of : Body → InstructionData → List ℕ → «Type»
+controlling_of body (UnaryImm imm) results = first_type body results
+controlling_of body (Binary opcode args) results = first_type body results
+controlling_of body (MultiAry args) results = type.Invalid
+
+-- an instruction with its results. There are no stack maps so far.
+abbrev pub placed_of : Body → InstNode → Placed
+placed_of body node = record {
+  instruction = record {
+    operation = operation_of node.shape;
+    controlling = controlling_of body node.shape node.results;
+    operands = operands_of node.shape;
+    edges = edges_of node.shape;
+  };
+  results = node.results;
+  stack_map = [];
+}
+
+-- a block with its instructions, in order
+abbrev pub block_of : Body → ℕ → BlockView
+block_of body block = record {
+  parameters = (block_at body block).params;
+  items = map (λ inst. placed_of body (inst_at body inst)) (block_at body block).insts;
+}
+
+-- a function. There are no stack slots so far.
+abbrev pub view_of : Body → FunctionView
+view_of body = record {
+  signature = body.signature;
+  entry = slice_get body.layout 0;
+  blocks = block_of body;
+  resolved = resolved body;
+  value_type = λ value. (value_at body value).ty;
+  slots = [];
+}

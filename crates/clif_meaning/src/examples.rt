@@ -1,0 +1,67 @@
+//! Worked examples of the definitions, by computation.
+#![tactic(auto)]
+
+ghost use Rattle.clif_meaning.specs.CallExamples.{CallExamples};
+ghost use Rattle.clif_meaning.specs.Examples.{ArithmeticExamples, ByteExamples, SwitchExamples, FirstAnswersSeven, FirstMeansTheSame, EightIsNotSeven, EmptyIsStuck, VerdictExamples};
+ghost use Rattle.clif_meaning.specs.ScriptExamples.{LedgerExamples, PathExamples};
+ghost use Rattle.clif_meaning.specs.ViewExamples.{ViewExamples};
+
+/// Constants and sums.
+pub fn arithmetic_examples()
+    ensures { ArithmeticExamples }
+{}
+
+/// Bytes of values, copies over themselves, fills and comparisons.
+pub fn byte_examples()
+    ensures { ByteExamples }
+{}
+
+/// A switch of seven keys.
+pub fn switch_examples()
+    ensures { SwitchExamples }
+{}
+
+/// The row `first` answers 7 on both machines, in every world.
+pub fn first_answers_seven()
+    ensures { FirstAnswersSeven }
+{}
+
+/// The row `first` meets the premises, and its function means what its script means.
+pub fn first_means_the_same()
+    ensures { FirstMeansTheSame }
+{}
+
+/// A function that answers 8 in its place has not the same meaning, in any world.
+pub fn eight_is_not_seven()
+    ensures { EightIsNotSeven }
+{}
+
+/// A script without calls and a function without blocks are stuck at once.
+pub fn empty_is_stuck()
+    ensures { EmptyIsStuck }
+{}
+
+/// What the ledger of the row `first` tells.
+pub fn ledger_examples()
+    ensures { LedgerExamples }
+{}
+
+/// Paths of an irreducible loop.
+pub fn path_examples()
+    ensures { PathExamples }
+{}
+
+/// What the machines see of the function of the row `first`.
+pub fn view_examples()
+    ensures { ViewExamples }
+{}
+
+/// An outside call under a collector that moves, on both machines.
+pub fn call_examples()
+    ensures { CallExamples }
+{}
+
+/// Scripts that are a misuse, and scripts that are refused.
+pub fn verdict_examples()
+    ensures { VerdictExamples }
+{}
