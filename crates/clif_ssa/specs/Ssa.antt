@@ -3,7 +3,7 @@
 use Rattle.std.specs.Prelude.{◌≡◌, ℕ, ◌-◌, ◌^◌, List, [], ◌∷◌, ◌++◌, Option, Some, None, pos, length, ◌==◌, ◌&&◌, if◌then◌else◌}
 use Rattle.clif_types.specs.declared.types.«Type».{«Type»}
 use Rattle.clif_ir.specs.Body.{Body, value_at}
-use Rattle.clif_ir.specs.Changes.{with_param, with_inst, with_alias}
+use Rattle.clif_ir.specs.Changes.{inserted_in, with_param, with_inst, with_alias}
 use Rattle.clif_ir.specs.declared.inst_list.BlockEnd.TheVariants.{Front}
 use Rattle.clif_ir.specs.declared.instructions.InstructionData.TheVariants.{UnaryImm}
 use Rattle.std.specs.Option.{option_to_list}
@@ -49,9 +49,9 @@ Seals old new block = (b : ℕ) → sealed_of new b ≡ (if b == block then Yes 
 abbrev pub no_srcloc : ℕ
 no_srcloc = 2 ^ 32 - 1
 
--- the function with a zero before the first instruction of block `b`
+-- the function with a zero before the first instruction of block `b`, which is in the layout then
 abbrev pub with_zero : Body → ℕ → «Type» → Body
-with_zero f b ty = with_inst f b Front (UnaryImm (pos 0)) (ty ∷ []) no_srcloc
+with_zero f b ty = with_inst (inserted_in f b) b Front (UnaryImm (pos 0)) (ty ∷ []) no_srcloc
 
 -- the function in which nothing comes to parameter `v` of block `b`: it is a name of a zero
 abbrev pub zeroed : Body → ℕ → ℕ → Body

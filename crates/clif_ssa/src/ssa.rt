@@ -196,7 +196,8 @@ fn replace_by_zero(
     Ok(zero)
 }
 
-// Puts a zero before the first instruction of a block, and answers its value.
+// Puts a zero before the first instruction of a block, which enters the layout if it isn't there, and
+// answers its value.
 fn put_zero(func: &mut Function, block: Block, ty: Type) -> Result<Value, BuildError>
     requires { block < length func.old.blocks }
     ensures ok { OnOk result (func.new ≡ with_zero func.old block ty) }
@@ -204,6 +205,7 @@ fn put_zero(func: &mut Function, block: Block, ty: Type) -> Result<Value, BuildE
     ensures unaliased { IfOk result (λ v. resolved func.new v ≡ v) }
     ensures never_failed { result ≢ Err BuildError.Failed }
 {
+    func.ensure_block_inserted(block)?;
     let shape = InstructionData::UnaryImm { imm: 0 };
     let inst = func.insert_inst(block, BlockEnd::Front, shape, ty, SourceLoc::new(u32::MAX))?;
     Ok(func.inst_results(inst)[0])
