@@ -48,7 +48,7 @@ alias_count-result_nodes : (i k : ℕ) (types : List «Type») → alias_count (
 alias_count-result_nodes i k [] = refl
 alias_count-result_nodes i k (ty ∷ types) = let rest : alias_count (result_nodes i (k + 1) types) ≡ 0 = alias_count-result_nodes i (k + 1) types in omega (arith, rest)
 
-alias_of-result_nodes : (i k : ℕ) (types : List «Type») (j : ℕ) → alias_of_origin (get_or (result_nodes i k types) j no_value).origin ≡ None
+pub alias_of-result_nodes : (i k : ℕ) (types : List «Type») (j : ℕ) → alias_of_origin (get_or (result_nodes i k types) j no_value).origin ≡ None
 alias_of-result_nodes i k [] j = refl
 alias_of-result_nodes i k (ty ∷ types) zero = refl
 alias_of-result_nodes i k (ty ∷ types) (suc j) = alias_of-result_nodes i (k + 1) types j

@@ -8,3 +8,4 @@ pub mod KeepsInst
 pub mod KeepsPlaces
 pub mod Reading
 pub mod KeepsAlias
+pub mod KeepsListed

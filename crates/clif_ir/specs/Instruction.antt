@@ -1,7 +1,9 @@
 -- The table of instructions: operands, results, and which ones end a block.
 -- Source: own, after the crate's instruction set.
-use Rattle.std.specs.Prelude.{ℕ, Bool, true, false, List, [], ◌∷◌, if◌then◌else◌}
+use Rattle.std.specs.Prelude.{ℕ, Bool, true, false, List, [], ◌∷◌, if◌then◌else◌, codes}
 use Rattle.clif_types.specs.declared.types.«Type».{«Type»}
+use Rattle.clif_ir.specs.declared.instructions.BinaryOpcode.{BinaryOpcode}
+use Rattle.clif_ir.specs.declared.instructions.BinaryOpcode.TheVariants.{Iadd}
 use Rattle.clif_ir.specs.declared.instructions.InstructionData.{InstructionData}
 use Rattle.clif_ir.specs.declared.instructions.InstructionData.TheVariants.{UnaryImm, Binary, MultiAry}
 
@@ -30,3 +32,7 @@ is_terminator (MultiAry args) = true
 -- the types of the results, in order
 abbrev pub result_types : InstructionData → «Type» → List «Type»
 result_types shape ty = if has_result shape then ty ∷ [] else []
+
+-- the name of an operation, as it is printed
+abbrev pub opcode_text : BinaryOpcode → List ℕ
+opcode_text Iadd = codes "iadd"

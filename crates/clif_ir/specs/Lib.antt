@@ -4,3 +4,4 @@ pub mod Changes
 pub mod Consistent
 pub mod Whole
 pub mod Reading
+pub mod Immediates

@@ -1,12 +1,13 @@
 -- How the fields of a function make the record that contracts see, and what they keep beside it.
 -- Source: own. No contract of another crate speaks of it.
-use Rattle.std.specs.Prelude.{◌≡◌, ℕ, ◌+◌, ◌-◌, ◌^◌, ◌<◌, ◌≤◌, List, [], length, slice_index, slice_index_or, Option, Some, None}
+use Rattle.std.specs.Prelude.{◌≡◌, ℕ, ◌+◌, ◌-◌, ◌^◌, ◌<◌, ◌≤◌, List, [], length, slice_index, slice_index_or, Option, Some, None, All, Contains}
 use Rattle.clif_ir.specs.declared.function.BlockNode.{BlockNode}
 use Rattle.clif_ir.specs.declared.function.BlockPlace.{BlockPlace}
 use Rattle.clif_ir.specs.declared.inst_list.BlockEnd.{BlockEnd}
 use Rattle.clif_ir.specs.declared.inst_list.BlockEnd.TheVariants.{Front, Back}
 use Rattle.clif_ir.specs.declared.function.Function.TheInside.{Inside}
-use Rattle.clif_ir.specs.Body.{Body, empty_block}
+use Rattle.clif_ir.specs.declared.function.ValueNode.{ValueNode}
+use Rattle.clif_ir.specs.Body.{Body, empty_block, alias_of}
 use Rattle.clif_ir.specs.Consistent.{IsConsistent}
 
 abbrev pub body_of : Inside → Body
@@ -44,6 +45,12 @@ pub record IsPlaced (f : Body) (slots : List ℕ) (places : List BlockPlace) : T
   pub positions : (k : ℕ) → k < length f.layout → (slice_index_or places (slice_index f.layout k) no_place).position ≡ Some k
   pub positioned : (b k : ℕ) → (slice_index_or places b no_place).position ≡ Some k → (k < length f.layout) × (slice_index f.layout k ≡ b)
 
+-- the pairs are the aliases, each after the value that it names
+pub record IsListed (values : List ValueNode) (pairs : List (ℕ × ℕ)) : Type 0 where
+  pub sound : All (λ (pair : ℕ × ℕ). alias_of values pair.1 ≡ Some pair.0) pairs
+  pub complete : (v original : ℕ) → alias_of values v ≡ Some original → Contains pairs (original, v)
+
 pub record IsWhole (f : Inside) : Type 0 where
   pub consistent : IsConsistent (body_of f)
+  pub listed : IsListed f.values.items f.aliases.keys
   pub placed : IsPlaced (body_of f) f.inst_slots.items f.block_places.items

@@ -1,6 +1,8 @@
-//! The calls that make blocks, parameters and instructions.
+//! The calls that make blocks, parameters, instructions and aliases.
 //!
-//! Each call first makes room and then changes, so that after an error the function is as it was.
+//! Each call first makes room and then changes, so that after an error the function is as it was. The
+//! errors are `Memory`, where memory was refused, and `Full`, which comes exactly where a table that
+//! the call grows holds 2^32 - 1 entries already.
 ghost use Rattle.std.specs.Prelude.{◌≡◌, ◌≢◌, [], ◌∷◌, ◌++◌, length, ◌+◌, ◌-◌, ◌^◌, ◌≤◌, ◌<◌, ◌⊎◌, ℕ, true, slice_index, EachIndex, vec_len, vec_capacity, IfOk, OnOk, OnErr};
 ghost use Rattle.clif_ir.specs.Body.{Body, value_at, block_at, resolved};
 ghost use Rattle.clif_ir.specs.Consistent.{Stands};
@@ -30,8 +32,8 @@ fn next_number(len: usize) -> Result<u32, BuildError>
     Ok(len as u32)
 }
 
-#[tactic(auto, using(crate::proofs::Changes::range_with_len_more))]
 // The list of `count` numbers of values, from `first` on.
+#[tactic(auto, using(crate::proofs::Changes::range_with_len_more))]
 fn numbered_results(alloc: Global, first: usize, count: usize) -> Result<ValueList, BuildError>
     requires { first + count < 2 ^ 32 }
     ensures ok { IfOk result (λ l. l ≡ range_with_len first count) }
@@ -44,8 +46,8 @@ fn numbered_results(alloc: Global, first: usize, count: usize) -> Result<ValueLi
     Ok(results)
 }
 
-#[tactic(auto, using(crate::proofs::Changes::result_nodes_more))]
 // Puts the results of `inst` into the table of values, which has room for them.
+#[tactic(auto, using(crate::proofs::Changes::result_nodes_more))]
 fn push_result_nodes(values: &mut Vec<ValueNode>, inst: Inst, types: &[Type])
     requires room { vec_len values.old + length types.now ≤ vec_capacity values.old }
     requires few { length types.now < 2 ^ 32 }
@@ -85,11 +87,14 @@ fn placed_at(end: BlockEnd, place: BlockPlace) -> BlockPlace
 }
 
 impl Function {
-    /// Makes a block, which isn't in the layout yet.
+    /// Makes a block without parameters and instructions, which isn't in the layout yet.
+    ///
+    /// It gets the next number. `Full` comes where there are 2^32 - 1 blocks.
     pub fn create_block(&mut self) -> Result<Block, BuildError>
         ensures ok { OnOk result (self.new ≡ with_block self.old) }
         ensures number { IfOk result (λ b. b ≡ length self.old.blocks) }
         ensures full { result ≡ Err BuildError.Full → length self.old.blocks ≡ 2 ^ 32 - 1 }
+        ensures at_limit { length self.old.blocks ≡ 2 ^ 32 - 1 → result ≡ Err BuildError.Full }
         ensures never_failed { result ≢ Err BuildError.Failed }
         ensures err { OnErr result (self.new ≡ self.old) }
     {
@@ -109,11 +114,14 @@ impl Function {
     }
 
     /// Puts a parameter of type `ty` at the end of those of `block`.
+    ///
+    /// It gets the next number of a value. `Full` comes where there are 2^32 - 1 values.
     pub fn append_block_param(&mut self, block: Block, ty: Type) -> Result<Value, BuildError>
         requires { block < length self.old.blocks }
         ensures ok { OnOk result (self.new ≡ with_param self.old block ty) }
         ensures number { IfOk result (λ v. v ≡ length self.old.values) }
         ensures full { result ≡ Err BuildError.Full → length self.old.values ≡ 2 ^ 32 - 1 }
+        ensures at_limit { length self.old.values ≡ 2 ^ 32 - 1 → result ≡ Err BuildError.Full }
         ensures never_failed { result ≢ Err BuildError.Failed }
         ensures err { OnErr result (self.new ≡ self.old) }
     {
@@ -127,7 +135,10 @@ impl Function {
 
     /// Makes an instruction and puts it at one end of `block`.
     ///
-    /// Its results get the next numbers; `ctrl_type` is its controlling type.
+    /// It gets the next number of an instruction, and its results get the next numbers of values;
+    /// `ctrl_type` is its controlling type, and `Type::Invalid` where it has no results. `Full` comes
+    /// where there are 2^32 - 1 instructions or 2^32 - 1 values, and so for an instruction without
+    /// results too.
     pub fn insert_inst(
         &mut self,
         block: Block,
@@ -142,6 +153,8 @@ impl Function {
         ensures number { IfOk result (λ i. i ≡ length self.old.insts) }
         ensures unaliased { OnOk result (has_result shape ≡ true → resolved self.new (length self.old.values) ≡ length self.old.values) }
         ensures full { result ≡ Err BuildError.Full → (length self.old.insts ≡ 2 ^ 32 - 1) ⊎ (length self.old.values ≡ 2 ^ 32 - 1) }
+        ensures insts_at_limit { length self.old.insts ≡ 2 ^ 32 - 1 → result ≡ Err BuildError.Full }
+        ensures values_at_limit { length self.old.values ≡ 2 ^ 32 - 1 → result ≡ Err BuildError.Full }
         ensures never_failed { result ≢ Err BuildError.Failed }
         ensures err { OnErr result (self.new ≡ self.old) }
     {
@@ -170,7 +183,10 @@ impl Function {
     }
 
     /// Takes parameter `param` away from its block and makes it another name of what `original`
-    /// stands for.
+    /// stands for. What named `param` names it still.
+    ///
+    /// `original` mustn't stand for `param` itself, so that aliases never run in a circle. The only
+    /// error is `Memory`.
     pub fn change_param_to_alias(&mut self, param: Value, original: Value) -> Result<(), BuildError>
         requires param_exists { param < length self.old.values }
         requires is_param { (value_at self.old param).origin ≡ ValueOrigin.Param (home_of (value_at self.old param).origin) }

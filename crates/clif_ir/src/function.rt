@@ -1,6 +1,7 @@
 //! Functions: their tables, and the calls that read them.
 ghost use Rattle.std.specs.Prelude.{◌≡◌, length, ◌<◌, ◌^◌, IfSome, IsSome, None, EachIndex, slice_index};
 ghost use Rattle.clif_ir.specs.Body.{empty_body, value_at, inst_at, block_at, resolved, alias_of};
+ghost use Rattle.clif_ir.specs.Consistent.{IsConsistent};
 ghost use Rattle.clif_ir.specs.Instruction.{operands};
 ghost use Rattle.clif_ir.specs.Reading.{def_of, DefExists, param_home};
 
@@ -12,7 +13,7 @@ use std::alloc::Global;
 use std::collections::BTreeSet;
 use std::marker::Model;
 
-/// Where a value comes from.
+/// Where a value comes from, as its table says it.
 #[derive(Clone, Copy, Debug, PartialEq, Eq)]
 pub enum ValueOrigin {
     /// The result of an instruction, at this place among its results.
@@ -23,7 +24,7 @@ pub enum ValueOrigin {
     Alias(Value),
 }
 
-/// What defines a value.
+/// What defines the value that a value stands for.
 #[derive(Clone, Copy, Debug, PartialEq, Eq)]
 pub enum ValueDef {
     /// It is the result of an instruction, at this place among its results.
@@ -114,7 +115,17 @@ impl Function {
         }
     }
 
-    /// The parameters of a block, in order.
+    /// The law that every function is consistent: its numbers name what exists, a value knows where
+    /// it comes from, an instruction stands in one block and a block in the layout at most once, and
+    /// each way along aliases ends.
+    pub fn law_consistent(&self)
+        ensures { IsConsistent self.now }
+    {
+        // The invariant is known where a field is read.
+        let _ = &self.alloc;
+    }
+
+    /// The parameters of a block, in order, without those that became aliases.
     pub fn block_params(&self, block: Block) -> &[Value]
         requires { block < length self.now.blocks }
         ensures exact { result.now ≡ (block_at self.now block).params }
@@ -123,7 +134,7 @@ impl Function {
         self.blocks[block.index()].params.as_slice()
     }
 
-    /// The results of an instruction, in order.
+    /// The results of an instruction, in order; none where it is a terminator.
     pub fn inst_results(&self, inst: Inst) -> &[Value]
         requires { inst < length self.now.insts }
         ensures exact { result.now ≡ (inst_at self.now inst).results }
@@ -132,7 +143,7 @@ impl Function {
         self.insts[inst.index()].results.as_slice()
     }
 
-    /// The instruction itself.
+    /// What an instruction does, and with which operands.
     pub fn inst_data(&self, inst: Inst) -> &InstructionData
         requires { inst < length self.now.insts }
         ensures exact { result.now ≡ (inst_at self.now inst).shape }
@@ -141,7 +152,7 @@ impl Function {
         &self.insts[inst.index()].shape
     }
 
-    /// The type of a value.
+    /// The type of a value, which it has for good.
     pub fn value_type(&self, value: Value) -> Type
         requires { value < length self.now.values }
         ensures { result ≡ (value_at self.now value).ty }
@@ -195,7 +206,7 @@ impl Function {
         }
     }
 
-    /// The source place of an instruction.
+    /// The source place that was given where an instruction was made.
     pub fn srcloc(&self, inst: Inst) -> SourceLoc
         requires { inst < length self.now.insts }
         ensures { result ≡ (inst_at self.now inst).srcloc }

@@ -48,14 +48,14 @@ impl InstList {
         self.insts.len()
     }
 
-    /// The instruction at `index`.
+    /// The instruction at `index`, if there are more than `index` of them.
     pub fn get(&self, index: usize) -> Option<Inst>
         ensures { result ≡ slice_get self.now index }
     {
         self.insts.get(index).copied()
     }
 
-    /// Puts an instruction at one end. After an error the list is as it was.
+    /// Puts an instruction at one end. The only error is `Memory`, and the list is then as it was.
     pub fn put(&mut self, end: BlockEnd, inst: Inst) -> Result<(), BuildError>
         ensures ok { OnOk result (self.new ≡ put_at end inst self.old) }
         ensures err { OnErr result (self.new ≡ self.old) }

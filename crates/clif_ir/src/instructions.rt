@@ -1,6 +1,6 @@
 //! Instructions: their shapes, operands and results.
-ghost use Rattle.std.specs.Prelude.{◌≡◌};
-ghost use Rattle.clif_ir.specs.Instruction.{operands, has_result, is_terminator};
+ghost use Rattle.std.specs.Prelude.{◌≡◌, Some};
+ghost use Rattle.clif_ir.specs.Instruction.{operands, has_result, is_terminator, opcode_text};
 
 use crate::value_list::ValueList;
 use clif_types::Value;
@@ -14,10 +14,12 @@ pub enum BinaryOpcode {
 }
 
 impl fmt::Display for BinaryOpcode {
+    ghost output = { λ o. Some (opcode_text o) };
+
     fn fmt<W: fmt::Write>(&self, f: &mut fmt::Formatter<W>) -> fmt::Result {
-        match self {
-            BinaryOpcode::Iadd => write!(f, "iadd"),
-        }
+        f.write_str(match self {
+            BinaryOpcode::Iadd => "iadd",
+        })
     }
 }
 

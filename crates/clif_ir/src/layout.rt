@@ -25,7 +25,7 @@ fn nth_block(layout: &[Block], place: usize) -> Option<Block>
 }
 
 impl Function {
-    /// The block in which an instruction stands.
+    /// The block in which an instruction stands. Each stands in one, from its making on.
     pub fn inst_block(&self, inst: Inst) -> Option<Block>
         requires { inst < length self.now.insts }
         ensures { result ≡ Some (inst_at self.now inst).block }
@@ -33,7 +33,7 @@ impl Function {
         Some(self.insts[inst.index()].block)
     }
 
-    /// The first instruction of a block.
+    /// The first instruction of a block, if it has any.
     pub fn first_inst(&self, block: Block) -> Option<Inst>
         requires { block < length self.now.blocks }
         ensures { result ≡ slice_get (block_at self.now block).insts 0 }
@@ -41,7 +41,7 @@ impl Function {
         self.blocks[block.index()].insts.get(0)
     }
 
-    /// The last instruction of a block.
+    /// The last instruction of a block, if it has any.
     pub fn last_inst(&self, block: Block) -> Option<Inst>
         requires { block < length self.now.blocks }
         ensures { result ≡ slice_get (block_at self.now block).insts (length (block_at self.now block).insts - 1) }
@@ -50,7 +50,7 @@ impl Function {
         insts.get(insts.len().saturating_sub(1))
     }
 
-    /// The place of an instruction among those of its block, by its slot.
+    // The place of an instruction among those of its block, by its slot.
     fn inst_place(&self, inst: Inst) -> usize
         requires { inst < length self.now.insts }
         ensures inside { result < length (block_at self.now (inst_at self.now inst).block).insts }
@@ -63,7 +63,7 @@ impl Function {
         (slot - (0x1_0000_0000 - u64::from(front))) as usize
     }
 
-    /// The instruction after `inst` in its block. It walks along nothing.
+    /// The instruction after `inst` in its block, if `inst` isn't the last. It walks along nothing.
     pub fn next_inst(&self, inst: Inst) -> Option<Inst>
         requires { inst < length self.now.insts }
         ensures { result ≡ next_in (block_at self.now (inst_at self.now inst).block).insts inst }
@@ -73,7 +73,7 @@ impl Function {
         self.blocks[block.index()].insts.get(place + 1)
     }
 
-    /// The first block of the layout: the entry.
+    /// The entry: the first block of the layout, if there is one.
     pub fn entry_block(&self) -> Option<Block>
         ensures { result ≡ slice_get self.now.layout 0 }
     {
@@ -89,7 +89,8 @@ impl Function {
         place_at(&self.block_places, block).position.is_some()
     }
 
-    /// The block after `block` in the layout. It walks along nothing.
+    /// The block after `block` in the layout, if `block` is in it and isn't the last. It walks along
+    /// nothing.
     pub fn next_block(&self, block: Block) -> Option<Block>
         requires { block < length self.now.blocks }
         ensures { result ≡ next_in self.now.layout block }
@@ -100,7 +101,8 @@ impl Function {
         nth_block(&self.layout, position + 1)
     }
 
-    /// Puts a block, which isn't in the layout, at its end.
+    /// Puts a block, which isn't in the layout, at its end. The first one so put is the entry. The only
+    /// error is `Memory`, and the function is then as it was.
     pub fn append_block(&mut self, block: Block) -> Result<(), BuildError>
         requires exists { block < length self.old.blocks }
         requires outside { Stands block self.old.layout → ⊥ }

@@ -2,7 +2,10 @@
 //!
 //! A [`Function`] is seen by contracts as one record of lists (`specs/Body.antt`): its values, its
 //! instructions, its blocks and their order. Each call that changes a function says the new record
-//! as a word of the old one, and leaves it as it was where it answers an error.
+//! as a word of the old one (`specs/Changes.antt`), and leaves it as it was where it answers an error.
+//! What every function keeps is one record of facts (`specs/Consistent.antt`), which
+//! [`Function::law_consistent`] gives to other crates. No contract says which text is printed but for
+//! numbers: tests do.
 #![tactic(auto)]
 
 pub mod dfg;
@@ -17,3 +20,6 @@ pub mod write;
 pub use function::{BlockNode, Function, InstNode, ValueDef, ValueNode, ValueOrigin};
 pub use instructions::{BinaryOpcode, InstructionData};
 pub use value_list::ValueList;
+
+#[cfg(test)]
+mod tests;

@@ -8,7 +8,7 @@ use smallvec::SmallVec;
 use std::alloc::Global;
 use std::marker::Model;
 
-/// A list of values, most of the time a short one.
+/// A list of values, most of the time a short one: up to four take no memory of their own.
 #[derive(Debug, Drop)]
 pub struct ValueList {
     values: SmallVec<Value, 4>,
@@ -32,7 +32,7 @@ impl ValueList {
         }
     }
 
-    /// A list of these values.
+    /// A list of these values. The only error is `Memory`.
     pub fn from_slice(alloc: Global, values: &[Value]) -> Result<Self, BuildError>
         ensures ok { IfOk result (λ l. l ≡ values.now) }
         ensures only_memory { OnErr result (result ≡ Err BuildError.Memory) }
@@ -48,7 +48,7 @@ impl ValueList {
         self.values.as_slice()
     }
 
-    /// Puts a value at the end. After an error the list is as it was.
+    /// Puts a value at the end. The only error is `Memory`, and the list is then as it was.
     pub fn push(&mut self, value: Value) -> Result<(), BuildError>
         ensures ok { OnOk result (self.new ≡ self.old ++ value ∷ []) }
         ensures err { OnErr result (self.new ≡ self.old) }
@@ -58,8 +58,8 @@ impl ValueList {
         Ok(())
     }
 
-    #[tactic(auto, using(crate::proofs::Reading::place_rules))]
     /// The place of the first `value`, which stands in the list.
+    #[tactic(auto, using(crate::proofs::Reading::place_rules))]
     pub fn place_of(&self, value: Value) -> usize
         requires { Stands value self.now }
         ensures exact { result ≡ place_of value self.now }
@@ -73,8 +73,8 @@ impl ValueList {
         unreachable!()
     }
 
-    #[tactic(auto, using(crate::proofs::Reading::place_rules))]
     /// Takes the first `value` away, which stands in the list; those behind it move up.
+    #[tactic(auto, using(crate::proofs::Reading::place_rules))]
     pub fn remove(&mut self, value: Value)
         requires { Stands value self.old }
         ensures { self.new ≡ without value self.old }

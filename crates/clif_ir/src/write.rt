@@ -1,8 +1,13 @@
-//! The text of a function.
+//! The text of a function, in the form of Cranelift's.
 //!
-//! Nothing here takes memory or recurses: alias lines are found along the links from a value to its
-//! aliases.
-ghost use Rattle.std.specs.Prelude.{ℕ, ◌<◌, length, EachIndex, slice_index};
+//! The blocks stand in layout order, with an empty line between two; each has a header with its
+//! parameters, the alias lines of these, and its instructions, each with its results, its operands as
+//! they were given, a comment on the operands that stand for constants, and the alias lines of its
+//! results.
+//!
+//! Nothing here takes memory or recurses: alias lines are found by a walk over the pairs of a value and
+//! its aliases. It is proved that each call is safe and ends, and tested which text it writes.
+ghost use Rattle.std.specs.Prelude.{ℕ, ◌≡◌, ◌<◌, length, EachIndex, slice_index};
 
 use crate::function::{Function, ValueDef};
 use crate::immediates::{Imm64, signed_at};
@@ -12,11 +17,13 @@ use std::fmt;
 
 /// A function that prints as its text.
 #[derive(Clone, Copy)]
-pub struct DisplayFunction<'a>(&'a Function);
+pub struct DisplayFunction<'a>(pub &'a Function);
 
 impl Function {
-    /// The function as a value that prints as its text.
-    pub fn display(&self) -> DisplayFunction<'_> {
+    /// The function as a value that prints as its text. The only error of the printing is the writer's.
+    pub fn display(&self) -> DisplayFunction<'_>
+        ensures { result.0.now ≡ self.now }
+    {
         DisplayFunction(self)
     }
 }

@@ -12,6 +12,7 @@ pub invariant_of-self-2 : goal.invariant_of-self-2
 invariant_of-self-2 c =
     let outside : Stands c.args.block c.self.inside.layout.items → ⊥ = subst (λ (f : Body). Stands c.args.block f.layout → ⊥) (sym c.self.view_is) c.requires.outside in
     record {
+      listed = c.self.invariant.listed;
       consistent = consistent_at (with_layout (body_of c.self.inside) c.args.block) _ (first_of (search rules, grind (arith, common_steps)))
           (with_layout_consistent _ _ c.self.invariant.consistent (grind (arith, common_steps)) outside);
       placed = placed_with (with_layout (body_of c.self.inside) c.args.block) _ _ _ _ _ (first_of (search rules, grind (arith, common_steps))) (first_of (search rules, grind (arith, common_steps))) (first_of (search rules, grind (arith, common_steps)))

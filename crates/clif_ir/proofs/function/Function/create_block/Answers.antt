@@ -9,6 +9,7 @@ use Rattle.clif_ir.proofs.function.Function.create_block.Goals as goal
 
 pub invariant_of-self-2 : goal.invariant_of-self-2
 invariant_of-self-2 c = record {
+  listed = c.self.invariant.listed;
   consistent = consistent_at (with_block (body_of c.self.inside)) _ (first_of (search rules, grind (arith, common_steps)))
       (with_block_consistent _ c.self.invariant.consistent (grind (arith, common_steps)));
   placed = placed_with (with_block (body_of c.self.inside)) _ _ _ _ _ (first_of (search rules, grind (arith, common_steps))) (first_of (search rules, grind (arith, common_steps))) (first_of (search rules, grind (arith, common_steps)))

@@ -1,0 +1,10 @@
+//! Tests of what no clause says: printed texts, as the printer's rules give them, and that calls succeed.
+#![tactic(auto)]
+
+mod aliases;
+mod lists;
+mod numbers;
+mod support;
+mod texts;
+mod walks;
+mod writers;

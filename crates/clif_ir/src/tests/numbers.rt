@@ -1,0 +1,67 @@
+//! Numbers at their borders and at each width.
+#![tactic(auto)]
+
+use crate::immediates::{Imm64, signed_at};
+use crate::tests::support::{block, iconst, prints, ret, sample, v};
+use clif_types::{Type, types};
+use std::test::Fail;
+
+#[test]
+fn widths(rt: HostRuntime) -> Result<(), Fail> {
+    let alloc = rt.alloc();
+    let rows: [(Type, i64, &str); 31] = [
+        (types::I8, 9999, "15"),
+        (types::I8, -9999, "-15"),
+        (types::I8, 10000, "16"),
+        (types::I8, -10000, "-16"),
+        (types::I8, 127, "127"),
+        (types::I8, 128, "-128"),
+        (types::I8, 255, "-1"),
+        (types::I8, 256, "0"),
+        (types::I16, 9999, "9999"),
+        (types::I16, -9999, "-9999"),
+        (types::I16, 10000, "0x2710"),
+        (types::I16, -10000, "0xffff_ffff_ffff_d8f0"),
+        (types::I16, 40000, "0xffff_ffff_ffff_9c40"),
+        (types::I16, 65535, "-1"),
+        (types::I32, 9999, "9999"),
+        (types::I32, -9999, "-9999"),
+        (types::I32, 10000, "0x2710"),
+        (types::I32, -10000, "0xffff_ffff_ffff_d8f0"),
+        (types::I32, 65536, "0x0001_0000"),
+        (types::I32, 0x8000_0000, "0xffff_ffff_8000_0000"),
+        (types::I32, 0x1_0000_0001, "1"),
+        (types::I64, 9999, "9999"),
+        (types::I64, -9999, "-9999"),
+        (types::I64, 10000, "0x2710"),
+        (types::I64, -10000, "0xffff_ffff_ffff_d8f0"),
+        (types::I64, 0x1_0000_0000, "0x0001_0000_0000"),
+        (types::I64, i64::MIN, "0x8000_0000_0000_0000"),
+        (types::I128, 9999, "9999"),
+        (types::I128, -9999, "-9999"),
+        (types::I128, 10000, "0x2710"),
+        (types::I128, -10000, "0xffff_ffff_ffff_d8f0"),
+    ];
+    for (ty, number, text) in rows {
+        let shown = Imm64(signed_at(number, ty));
+        assert_eq!(rt; format!(in alloc; "{shown}")?.as_str(), text);
+    }
+    Ok(())
+}
+
+// In an instruction, and in the comment that repeats it.
+#[test]
+fn in_instructions(rt: HostRuntime) -> Result<(), Fail> {
+    let alloc = rt.alloc();
+    let mut func = sample(alloc)?;
+    let block0 = block(&rt, &mut func)?;
+    let _ = iconst(&rt, &mut func, block0, types::I16, -10000)?;
+    let _ = iconst(&rt, &mut func, block0, types::I8, 10000)?;
+    let _ = ret(&rt, alloc, &mut func, block0, &[v(0), v(1)])?;
+    prints(
+        &rt,
+        alloc,
+        &func,
+        "function %sample() system_v {\nblock0:\n    v0 = iconst.i16 0xffff_ffff_ffff_d8f0\n    v1 = iconst.i8 16\n    return v0, v1  ; v0 = 0xffff_ffff_ffff_d8f0, v1 = 16\n}\n",
+    )
+}
