@@ -105,8 +105,8 @@ impl Model for FunctionBuilderContext {
 }
 
 impl FunctionBuilderContext {
-    ghost use Rattle.cranelift_frontend.specs.Context.{empty_context, status_of, SetsStatus, Begins, BeginsSome};
-    ghost use Rattle.clif_ssa.specs.Ssa.{record_of, sealed_of, completed, Records, SameBlocks, Seals, Waits, Zeroes};
+    ghost use Rattle.cranelift_frontend.specs.Context.{empty_context, status_of, SetsStatus, Begins, zero_blocks};
+    ghost use Rattle.clif_ssa.specs.Ssa.{record_of, sealed_of, completed, completing_blocks, Records, SameBlocks, Seals, Waits, Zeroes};
     ghost use Rattle.clif_ssa.specs.Tables.{is_yes, pending_of};
 
     /// A context for a first function.
@@ -230,7 +230,7 @@ impl FunctionBuilderContext {
         ensures waits { record_of self.old.ssa variable block ≡ None → is_yes (sealed_of self.old.ssa block) ≡ false → OnOk result (Waits self.old.ssa self.new.ssa func.old func.new variable ty block) × IfOk result (λ w. w ≡ length func.old.values) }
         ensures zero { record_of self.old.ssa variable block ≡ None → is_yes (sealed_of self.old.ssa block) ≡ true → OnOk result (Zeroes self.old.ssa self.new.ssa func.old func.new variable ty block) × IfOk result (λ w. w ≡ length func.old.values + 1) }
         ensures variables { self.new.variables ≡ self.old.variables }
-        ensures status { OnOk result (BeginsSome self.old self.new) }
+        ensures status { OnOk result (Begins self.old self.new (zero_blocks self.old.ssa variable block)) }
         ensures never_failed { result ≢ Err BuildError.Failed }
     {
         let (value, side_effects) = self.ssa.use_var(func, variable, ty, block)?;
@@ -245,7 +245,7 @@ impl FunctionBuilderContext {
         ensures records { self.new.ssa.records ≡ self.old.ssa.records }
         ensures function { OnOk result (func.new ≡ completed func.old (pending_of (sealed_of self.old.ssa block))) }
         ensures variables { self.new.variables ≡ self.old.variables }
-        ensures status { OnOk result (BeginsSome self.old self.new) }
+        ensures status { OnOk result (Begins self.old self.new (completing_blocks func.old (pending_of (sealed_of self.old.ssa block)))) }
         ensures never_failed { result ≢ Err BuildError.Failed }
     {
         let side_effects = self.ssa.seal_block(block, func)?;

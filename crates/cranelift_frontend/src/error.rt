@@ -24,10 +24,16 @@ impl fmt::Display for FinalizeError {
     fn fmt<W: fmt::Write>(&self, f: &mut fmt::Formatter<W>) -> fmt::Result {
         match self {
             FinalizeError::Unsealed(block) => {
-                write!(f, "FunctionBuilder finalized, but block {block} is not sealed")
+                write!(
+                    f,
+                    "FunctionBuilder finalized, but block {block} is not sealed"
+                )
             }
             FinalizeError::Unfilled(block) => {
-                write!(f, "FunctionBuilder finalized, but block {block} is not filled")
+                write!(
+                    f,
+                    "FunctionBuilder finalized, but block {block} is not filled"
+                )
             }
             FinalizeError::TrackedContext(inst) => {
                 write!(f, "the context of {inst} is a tracked value")

@@ -1,9 +1,9 @@
 //! The builder of a function.
 ghost use Rattle.std.specs.Prelude.{◌≡◌, ◌≢◌, ◌<◌, ◌-◌, ◌^◌, ◌+◌, ◌++◌, ◌∷◌, [], ◌==◌, ◌⊎◌, ℕ, IsTrue, ◌↔◌, OnOk, OnErr, IfOk, IfSome, IsSome, is_err, Some, None, true, false, length, slice_index, slice_get, EachIndex};
-ghost use Rattle.cranelift_frontend.specs.Context.{empty_context, status_of, begun, SetsStatus};
+ghost use Rattle.cranelift_frontend.specs.Context.{empty_context, status_of, begun, Begins, SetsStatus};
 ghost use Rattle.cranelift_frontend.specs.Builder.{SameLoans, with_position, is_unreachable, is_free, is_declarable, HasCurrent, Uses, UsesIn};
 ghost use Rattle.clif_ssa.specs.Tables.{is_yes, pending_of};
-ghost use Rattle.clif_ssa.specs.Ssa.{record_of, sealed_of, completed, Records, SameBlocks, Seals, Waits, Zeroes};
+ghost use Rattle.clif_ssa.specs.Ssa.{record_of, sealed_of, completed, completing_blocks, Records, SameBlocks, Seals, Waits, Zeroes};
 ghost use Rattle.clif_ir.specs.Body.{empty_body, inst_at, block_at, value_at};
 ghost use Rattle.clif_ir.specs.Changes.{with_block, inserted_in};
 
@@ -137,6 +137,7 @@ impl<'a> FunctionBuilder<'a> {
         ensures function { OnOk result (self.new.func.now ≡ completed self.old.func.now (pending_of (sealed_of self.old.ctx.now.ssa block))) }
         ensures sealed { OnOk result (Seals self.old.ctx.now.ssa self.new.ctx.now.ssa block) }
         ensures records { self.new.ctx.now.ssa.records ≡ self.old.ctx.now.ssa.records }
+        ensures status { OnOk result (Begins self.old.ctx.now self.new.ctx.now (completing_blocks self.old.func.now (pending_of (sealed_of self.old.ctx.now.ssa block)))) }
         ensures variables { self.new.ctx.now.variables ≡ self.old.ctx.now.variables }
         ensures position { self.new.position ≡ self.old.position }
         ensures failed { (result ≡ Err BuildError.Failed) ↔ IsTrue self.old.failed }
@@ -204,6 +205,7 @@ impl<'a> FunctionBuilder<'a> {
         requires declared { variable < length self.old.ctx.now.variables }
         ensures loans { SameLoans self.old self.new }
         ensures uses { IfSome self.old.position (λ block. IfOk result (Uses self.old self.new variable block)) }
+        ensures status { IfSome self.old.position (λ block. OnOk result (SetsStatus self.old.ctx.now self.new.ctx.now block (begun (status_of self.old.ctx.now block)))) }
         ensures variables { self.new.ctx.now.variables ≡ self.old.ctx.now.variables }
         ensures position { self.new.position ≡ self.old.position }
         ensures failed { (result ≡ Err BuildError.Failed) ↔ IsTrue self.old.failed }
@@ -244,6 +246,7 @@ pub(crate) fn begin_block(
     }
 }
 
+#[tactic(auto, using(crate::proofs::Statuses::use_rules))]
 // The value of a variable of type `ty` in a block.
 fn use_variable(
     func: &mut Function,
@@ -254,6 +257,7 @@ fn use_variable(
 ) -> Result<Value, BuildError>
     requires { block < length func.old.blocks }
     ensures uses { IfOk result (UsesIn func.old ctx.old func.new ctx.new variable ty block) }
+    ensures status { OnOk result (SetsStatus ctx.old ctx.new block (begun (status_of ctx.old block))) }
     ensures variables { ctx.new.variables ≡ ctx.old.variables }
     ensures never_failed { result ≢ Err BuildError.Failed }
 {
