@@ -4,7 +4,8 @@ use Rattle.std.specs.Prelude.{slice_index, slice_get, None, if◌then◌else◌,
 use Rattle.std.proofs.lemmas.Grind.{common_steps}
 use Rattle.std.proofs.lemmas.Bool.{cases_eq}
 use Rattle.clif_ir.specs.Consistent.{Stands, Once}
-use Rattle.clif_ir.specs.Reading.{next_in, without, place_of}
+use Rattle.std.proofs.lemmas.List.Folds.{list_any_at}
+use Rattle.clif_ir.specs.Reading.{next_in, without, place_of, stands_in}
 
 -- a choice by a test that is true, and by one that is false
 if_true : {X : Type 0} (y x : ℕ) (a b : X) → y ≡ x → (if y == x then a else b) ≡ a
@@ -113,3 +114,24 @@ Once-without v (y ∷ ys) once =
         λ equal. once 0 (suc there.0) (omega arith) (omega (arith, there.1)) (equal ∙ sym there.2)
     pairs rest stood (suc j) zero before inside = absurd (omega (arith, before))
     pairs rest stood (suc j) (suc k) before inside = rest j k (omega (arith, before)) (omega (arith, inside))
+
+-- the test whether a number stands in a list tells it
+pub Stands-from_test : (x : ℕ) (xs : List ℕ) → stands_in x xs ≡ true → Stands x xs
+Stands-from_test x [] test = let no : ⊥ = cc in absurd no
+Stands-from_test x (y ∷ ys) test =
+    elim (cases_eq y x) [
+      inl same ↦ (0, omega arith, same)
+    | inr other ↦
+        let rest : stands_in x ys ≡ true = grind (arith, common_steps, other, test) in
+        let there : Stands x ys = Stands-from_test x ys rest in
+        (suc there.0, omega (arith, there.1), there.2)
+    ]
+
+pub test-from_Stands : (x : ℕ) (xs : List ℕ) → Stands x xs → stands_in x xs ≡ true
+test-from_Stands x xs here = list_any_at (λ y. y == x) xs here.0 0 here.1 (grind (arith, common_steps, here.2))
+
+-- two answers are equal where each is yes if the other is
+pub same_answers : (a b : Bool) → (a ≡ true → b ≡ true) → (b ≡ true → a ≡ true) → a ≡ b
+same_answers true b there back = sym (there refl)
+same_answers false true there back = back refl
+same_answers false false there back = refl

@@ -1,5 +1,5 @@
 -- What each call that changes a function makes of it. Source: own.
-use Rattle.std.specs.Prelude.{ℕ, List, [], ◌∷◌, ◌++◌, ◌+◌, length, slice_set}
+use Rattle.std.specs.Prelude.{ℕ, List, [], ◌∷◌, ◌++◌, ◌+◌, length, slice_set, if◌then◌else◌}
 use Rattle.std.specs.List.{range_with_len}
 use Rattle.clif_types.specs.declared.types.«Type».{«Type»}
 use Rattle.clif_ir.specs.declared.instructions.InstructionData.{InstructionData}
@@ -10,7 +10,7 @@ use Rattle.clif_ir.specs.declared.function.InstNode.{InstNode}
 use Rattle.clif_ir.specs.declared.inst_list.BlockEnd.{BlockEnd}
 use Rattle.clif_ir.specs.declared.inst_list.BlockEnd.TheVariants.{Front, Back}
 use Rattle.clif_ir.specs.Body.{Body, empty_block, block_at, value_at, resolved}
-use Rattle.clif_ir.specs.Reading.{without}
+use Rattle.clif_ir.specs.Reading.{without, stands_in}
 
 -- with a new empty block
 abbrev pub with_block : Body → Body
@@ -19,6 +19,10 @@ with_block f = record f { blocks = f.blocks ++ empty_block ∷ [] }
 -- with block `b` at the end of the layout
 abbrev pub with_layout : Body → ℕ → Body
 with_layout f b = record f { layout = f.layout ++ b ∷ [] }
+
+-- with block `b` at the end of the layout, unless it is in the layout
+abbrev pub inserted_in : Body → ℕ → Body
+inserted_in f b = if stands_in b f.layout then f else with_layout f b
 
 -- with a new parameter at the end of those of block `b`
 abbrev pub with_param : Body → ℕ → «Type» → Body

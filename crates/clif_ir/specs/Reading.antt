@@ -1,5 +1,6 @@
 -- What the calls that read a function answer. Source: own, after the crate's documentation.
-use Rattle.std.specs.Prelude.{ℕ, ◌==◌, ◌+◌, ◌<◌, List, [], ◌∷◌, length, Option, Some, None, if◌then◌else◌, slice_get}
+use Rattle.std.specs.Prelude.{ℕ, ◌==◌, ◌+◌, ◌<◌, List, [], ◌∷◌, length, Option, Some, None, if◌then◌else◌, slice_get, Bool}
+use Rattle.std.specs.List.{list_any}
 use Rattle.clif_ir.specs.declared.function.ValueDef.{ValueDef}
 use Rattle.clif_ir.specs.declared.function.ValueDef.TheVariants as def
 use Rattle.clif_ir.specs.declared.function.ValueOrigin.{ValueOrigin}
@@ -45,3 +46,7 @@ home_of_node (Some node) = home_of_param node.origin
 
 abbrev pub param_home : Body → ℕ → Option ℕ
 param_home f v = home_of_node (slice_get f.values v)
+
+-- whether a number stands in a list
+abbrev pub stands_in : ℕ → List ℕ → Bool
+stands_in x xs = list_any (λ y. y == x) xs

@@ -1,5 +1,5 @@
 //! Functions: their tables, and the calls that read them.
-ghost use Rattle.std.specs.Prelude.{◌≡◌, [], ◌∷◌, ◌++◌, length, ◌+◌, ◌-◌, ◌^◌, ◌≤◌, ◌<◌, IfSome, IsSome, None, EachIndex, slice_index};
+ghost use Rattle.std.specs.Prelude.{◌≡◌, length, ◌<◌, ◌^◌, IfSome, IsSome, None, EachIndex, slice_index};
 ghost use Rattle.clif_ir.specs.Body.{empty_body, value_at, inst_at, block_at, resolved, alias_of};
 ghost use Rattle.clif_ir.specs.Consistent.{IsConsistent};
 ghost use Rattle.clif_ir.specs.Instruction.{operands};
@@ -239,5 +239,18 @@ impl Function {
             ValueOrigin::Param(block) => Some(block),
             ValueOrigin::Result(..) | ValueOrigin::Alias(_) => None,
         }
+    }
+
+    /// How many blocks there are.
+    pub fn block_count(&self) -> usize
+        ensures exact { result ≡ length self.now.blocks }
+        ensures fits { result < 2 ^ 32 }
+    {
+        self.blocks.len()
+    }
+
+    /// The allocator of the function.
+    pub fn allocator(&self) -> Global {
+        self.alloc
     }
 }

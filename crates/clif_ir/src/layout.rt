@@ -1,9 +1,9 @@
 //! The order of the blocks, and of the instructions in them.
 ghost use Rattle.std.specs.Prelude.{◌≡◌, ◌<◌, ◌-◌, ◌↔◌, length, IsTrue, Some, slice_get, slice_index, slice_index_or, ◌^◌, OnOk, OnErr};
 ghost use Rattle.clif_ir.specs.Body.{Body, inst_at, block_at};
-ghost use Rattle.clif_ir.specs.Changes.{with_layout};
+ghost use Rattle.clif_ir.specs.Changes.{inserted_in, with_layout};
 ghost use Rattle.clif_ir.specs.Consistent.{Stands};
-ghost use Rattle.clif_ir.specs.Reading.{next_in};
+ghost use Rattle.clif_ir.specs.Reading.{next_in, stands_in};
 ghost use Rattle.clif_ir.specs.Whole.{no_place};
 
 use crate::function::{BlockPlace, Function};
@@ -83,7 +83,8 @@ impl Function {
     /// Whether a block is in the layout.
     pub fn is_block_inserted(&self, block: Block) -> bool
         requires { block < length self.now.blocks }
-        ensures { IsTrue result ↔ Stands block self.now.layout }
+        ensures meaning { IsTrue result ↔ Stands block self.now.layout }
+        ensures test { result ≡ stands_in block self.now.layout }
     {
         place_at(&self.block_places, block).position.is_some()
     }
@@ -113,5 +114,18 @@ impl Function {
         self.layout.push(block)?;
         self.block_places[block.index()].position = Some(position);
         Ok(())
+    }
+
+    /// Puts a block at the end of the layout, unless it is in the layout.
+    pub fn ensure_block_inserted(&mut self, block: Block) -> Result<(), BuildError>
+        requires { block < length self.old.blocks }
+        ensures ok { OnOk result (self.new ≡ inserted_in self.old block) }
+        ensures only_memory { OnErr result (result ≡ Err BuildError.Memory) }
+        ensures err { OnErr result (self.new ≡ self.old) }
+    {
+        if self.is_block_inserted(block) {
+            return Ok(());
+        }
+        self.append_block(block)
     }
 }

@@ -17,7 +17,7 @@ pub mod layout;
 pub mod value_list;
 pub mod write;
 
-pub use function::{BlockNode, Function, InstNode, ValueNode, ValueOrigin};
+pub use function::{BlockNode, Function, InstNode, ValueDef, ValueNode, ValueOrigin};
 pub use instructions::{BinaryOpcode, InstructionData};
 pub use value_list::ValueList;
 

@@ -1,5 +1,5 @@
 -- The row `first` meets the premises in every world, and its function means what its script means.
-use Rattle.std.proofs.Common.{◌≡◌, ◌<◌, ◌≤◌, ℕ, zero, suc, List, [], ◌∷◌, refl, sym, ◌∙◌, arith, ◌⊎◌, inl, inr, subst, Bool}
+use Rattle.std.proofs.Common.{◌≡◌, ◌<◌, ◌≤◌, ℕ, zero, suc, List, [], ◌∷◌, refl, sym, ◌∙◌, arith, ◌⊎◌, inl, inr, subst}
 use Rattle.std.specs.List.{AllByRecursion}
 use Rattle.clif_types.specs.declared.types.«Type».{«Type»}
 use Rattle.clif_types.specs.declared.target.PointerWidth.TheVariants.{U64}
@@ -9,38 +9,41 @@ use Rattle.clif_meaning.specs.Instruction.{Operation, Compute, Return}
 use Rattle.clif_meaning.specs.Event.{CallShape, Event}
 use Rattle.clif_meaning.specs.World.{World, PlacesSlots}
 use Rattle.clif_meaning.specs.Machine.{Control, At, HasReturned, HasTrapped, IsStuck, state_after, IsEnd, EndStays}
-use Rattle.clif_meaning.specs.SameMeaning.{Behaviour, ShowsAllOf}
+use Rattle.clif_meaning.specs.SameMeaning.{Behaviour, ShowsAllOf, SameMeaning}
 use Rattle.clif_meaning.specs.Program.{Item, Instruct, Use, Assign}
 use Rattle.clif_meaning.specs.ScriptMachine.{ScriptRun, ScriptState, script_machine}
 use Rattle.clif_meaning.specs.Premises.{Premises, OfNextItem, InEachStep, SparesSpillSlots, ClaimsAreTrue}
 use Rattle.clif_meaning.specs.Headline.{script_run, function_run, script_behaviour, function_behaviour, IsWorldOf, MeansTheSame}
+use Rattle.clif_meaning.specs.FunctionView.{FunctionView}
 use Rattle.clif_meaning.specs.FunctionMachine.{ByMaps}
-use Rattle.clif_meaning.specs.Examples.{first_script, first_function, moved_by_16}
+use Rattle.clif_types.specs.StackSlot.{StackSlotShape}
+use Rattle.clif_meaning.specs.Examples.{i32, first_script, first_signature, first_function, first_function_with, empty_function, moved_by_16}
 use Rattle.clif_meaning.proofs.FirstRow
 use Rattle.clif_meaning.proofs.SampleWorld
+use Rattle.clif_meaning.proofs.WorkedExamples
 use Rattle.clif_meaning.proofs.Endings
 
-none_touched : (operation : Operation) (ty : «Type») (bits : List ℕ) → touched_ranges operation ty bits ≡ []
-none_touched (Compute arithmetic) ty bits = refl
-none_touched Return ty bits = refl
+none_touched : (world : World) (operation : Operation) (ty : «Type») (bits : List ℕ) → touched_ranges world operation ty bits ≡ []
+none_touched world (Compute arithmetic) ty bits = refl
+none_touched world Return ty bits = refl
 
-none_claimed : (operation : Operation) (ty : «Type») (bits : List ℕ) → claims_of operation ty bits ≡ []
-none_claimed (Compute arithmetic) ty bits = refl
-none_claimed Return ty bits = refl
+none_claimed : (world : World) (operation : Operation) (ty : «Type») (bits : List ℕ) → claims_of world operation ty bits ≡ []
+none_claimed world (Compute arithmetic) ty bits = refl
+none_claimed world Return ty bits = refl
 
 -- it holds of each element of no list
 of_none : {X : Type 0} (P : X → Type 0) (xs : List X) → xs ≡ [] → AllByRecursion P xs
 of_none P xs none = subst (λ (ys : List _). AllByRecursion P ys) (sym none) tt
 
 -- so far no item touches memory
-spares : (hidden : ℕ → Bool) (state : ScriptState) (item : Item) → SparesSpillSlots hidden state item
-spares hidden state (Instruct place instruction results) = of_none _ _ (none_touched instruction.operation _ _)
-spares hidden state (Use variable name) = tt
-spares hidden state (Assign variable name) = tt
+spares : (run : ScriptRun) (state : ScriptState) (item : Item) → SparesSpillSlots run state item
+spares run state (Instruct place instruction results) = of_none _ _ (none_touched run.world instruction.operation _ _)
+spares run state (Use variable name) = tt
+spares run state (Assign variable name) = tt
 
 -- and none claims anything
 claims : (run : ScriptRun) (state : ScriptState) (item : Item) → ClaimsAreTrue run state item
-claims run state (Instruct place instruction results) = of_none _ _ (none_claimed instruction.operation _ _)
+claims run state (Instruct place instruction results) = of_none _ _ (none_claimed run.world instruction.operation _ _)
 claims run state (Use variable name) = tt
 claims run state (Assign variable name) = tt
 
@@ -54,8 +57,9 @@ next_item P each IsStuck = tt
 each_step : (P : ScriptState → Item → Type 0) (run : ScriptRun) → ((state : ScriptState) (item : Item) → P state item) → InEachStep P run
 each_step P run each n = next_item _ (each (state_after (script_machine run) n)) (state_after (script_machine run) n).control
 
-pub first_premises : (world : World) → Premises first_script first_function.signature (pointer_type_of U64) (script_run first_script first_function world)
-first_premises world = record {
+-- beside any function
+premises_beside : (function : FunctionView) (world : World) → Premises first_script first_signature (pointer_type_of U64) (script_run first_script function world)
+premises_beside function world = record {
   targets_filled = FirstRow.first_items _ (tt, (tt, (tt, (tt, (tt, (tt, tt))))));
   tables_once = tt;
   well_typed = record {
@@ -79,10 +83,13 @@ first_premises world = record {
   };
   given_before = FirstRow.script_well_placed;
   tracked_apart = FirstRow.first_items _ ((λ h. h), (tt, (tt, ((λ h. h), ((λ h. h), (tt, tt))))));
-  spares_spill_slots = each_step _ (script_run first_script first_function world) (spares (script_run first_script first_function world).hidden);
-  claims_true = each_step _ (script_run first_script first_function world) (claims (script_run first_script first_function world));
+  spares_spill_slots = each_step _ (script_run first_script function world) (spares (script_run first_script function world));
+  claims_true = each_step _ (script_run first_script function world) (claims (script_run first_script function world));
   libc_as_named = FirstRow.first_items _ (tt, (tt, (tt, (tt, (tt, (tt, tt))))));
 }
+
+pub first_premises : (world : World) → Premises first_script first_signature (pointer_type_of U64) (script_run first_script first_function world)
+first_premises = premises_beside first_function
 
 -- a run that shows what the other begins with until it ends as the other does
 pub shows_all : (left right : Behaviour) (a b : ℕ) → EndStays left → IsEnd (left a).ending
@@ -112,7 +119,7 @@ function_before world (suc (suc zero)) h = refl
 function_before world (suc (suc (suc zero))) h = refl
 function_before world (suc (suc (suc (suc n)))) h = absurd (omega arith)
 
-pub first_same : MeansTheSame first_script U64 first_function
+pub first_same : MeansTheSame first_script first_signature U64 first_function
 first_same world fits premises = record {
   there = shows_all (script_behaviour first_script first_function world) (function_behaviour first_script first_function U64 world) 6 4
       (Endings.script_stays (script_run first_script first_function world)) tt (script_before world) refl;
@@ -126,8 +133,28 @@ no_slots world = record {
   aligned = λ s slot h. cc;
   accessible = λ s slot k h below. cc;
   within = λ s slot h. cc;
-  apart = λ s t slot other h. cc;
+  apart = λ s t slot other k l h. cc;
 }
 
-pub a_world : (world : World) × IsWorldOf first_function U64 world × ((events : List Event) (call : CallShape) → world.moved events call ≡ moved_by_16)
+pub a_world : (world : World) × IsWorldOf first_signature first_function U64 world × ((events : List Event) (call : CallShape) → world.moved events call ≡ moved_by_16)
 a_world = (SampleWorld.sample_world, record { arguments = tt; slots = no_slots SampleWorld.sample_world }, λ events call. refl)
+
+-- what the theorem says of a function in the sample world
+in_sample : (function : FunctionView) → function.slots ≡ [] → MeansTheSame first_script first_signature U64 function
+    → SameMeaning (script_behaviour first_script function SampleWorld.sample_world) (function_behaviour first_script function U64 SampleWorld.sample_world)
+in_sample function no_slot same =
+    same SampleWorld.sample_world
+    (record { arguments = tt; slots = subst (λ (slots : List StackSlotShape). PlacesSlots SampleWorld.sample_world slots 64) (sym no_slot) (no_slots SampleWorld.sample_world) })
+    (premises_beside function SampleWorld.sample_world)
+
+pub eight_refused : MeansTheSame first_script first_signature U64 (first_function_with 8) → ⊥
+eight_refused same = WorkedExamples.eight_is_not_seven SampleWorld.sample_world (in_sample (first_function_with 8) refl same)
+
+pub empty_refused : MeansTheSame first_script first_signature U64 empty_function → ⊥
+empty_refused same = WorkedExamples.stuck_is_not_seven SampleWorld.sample_world (in_sample empty_function refl same)
+
+pub other_signature : (function : FunctionView) (world : World)
+    → Premises first_script (record first_signature { params = record { value_type = i32 } ∷ [] }) (pointer_type_of U64) (script_run first_script function world) → ⊥
+other_signature function world premises =
+    let taken : [] ≡ i32 ∷ [] = premises.well_typed.entry in
+    cc

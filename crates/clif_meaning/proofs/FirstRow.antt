@@ -5,13 +5,13 @@ use Rattle.std.specs.List.{AllByRecursion}
 use Rattle.clif_meaning.specs.Name.{Name, answer_of, same_name}
 use Rattle.clif_meaning.specs.Program.{Item, program_of}
 use Rattle.clif_meaning.specs.Path.{Place, IsPath}
-use Rattle.clif_meaning.specs.WellPlaced.{Code, item_targets, item_gives, item_names, program_code, function_code, IsWellPlaced, WellPlaced, IsGivenAlong}
+use Rattle.clif_meaning.specs.WellPlaced.{Code, item_targets, item_gives, item_names, item_passes, program_code, function_code, IsWellPlaced, WellPlaced, IsGivenBefore, IsGivenAlong}
 use Rattle.clif_meaning.specs.Typing.{EdgesMatch}
 use Rattle.clif_meaning.specs.Premises.{EachItem}
 use Rattle.clif_meaning.specs.Examples.{first_script, first_function, block0}
 use Rattle.clif_meaning.proofs.StraightLine
 
-one_of : {X : Type 0} (a x : X) → Contains (a ∷ []) x → a ≡ x
+pub one_of : {X : Type 0} (a x : X) → Contains (a ∷ []) x → a ≡ x
 one_of a x h = by h.0 h.1 h.2
   where
     by : (k : ℕ) → k < 1 → slice_index_or (a ∷ []) k x ≡ x → a ≡ x
@@ -26,10 +26,10 @@ two_of a b x h = by h.0 h.1 h.2
     by (suc zero) below here = inr here
     by (suc (suc k)) below here = absurd (omega arith)
 
-first_of_one : {X : Type 0} (a x : X) → a ≡ x → Contains (a ∷ []) x
+pub first_of_one : {X : Type 0} (a x : X) → a ≡ x → Contains (a ∷ []) x
 first_of_one a x here = (0, omega arith, here)
 
-function_straight : (p : Place ℕ) → (function_code first_function).flow.targets p ≡ []
+pub function_straight : (p : Place ℕ) → (function_code first_function).flow.targets p ≡ []
 function_straight p = by p.block p.index
   where
     by : (b i : ℕ) → (function_code first_function).flow.targets (record { block = b; index = i }) ≡ []
@@ -57,8 +57,8 @@ abbrev first_list : List Item
 first_list = (program_of first_script).items block0
 
 -- the first place of the function gives 3, the next one 1, and the one behind it 2
-pub function_well_placed : WellPlaced first_function
-function_well_placed q x names path walk = inr (by q.block q.index names path walk)
+function_named : (q : Place ℕ) (x : ℕ) → Contains ((function_code first_function).names q) x → IsGivenBefore (function_code first_function) x q
+function_named q x names path walk = inr (by q.block q.index names path walk)
   where
     code : Code ℕ ℕ
     code = function_code first_function
@@ -76,6 +76,21 @@ function_well_placed q x names path walk = inr (by q.block q.index names path wa
         StraightLine.given_along code function_straight path (record { block = 0; index = 3 }) 2 x walk (omega arith) (first_of_one 2 x (one_of 2 x names))
     by zero (suc (suc (suc (suc i)))) names path walk = absurd (StraightLine.nothing_contained x names)
     by (suc b) i names path walk = absurd (StraightLine.nothing_contained x names)
+
+-- it has no edges
+function_passes : (b i : ℕ) → (function_code first_function).passes (record { block = b; index = i }) ≡ []
+function_passes zero zero = refl
+function_passes zero (suc zero) = refl
+function_passes zero (suc (suc zero)) = refl
+function_passes zero (suc (suc (suc zero))) = refl
+function_passes zero (suc (suc (suc (suc i)))) = refl
+function_passes (suc b) i = refl
+
+pub function_well_placed : WellPlaced first_function
+function_well_placed = record {
+  named = function_named;
+  passed = λ q x passes. absurd (StraightLine.none_of _ x (function_passes q.block q.index) passes);
+}
 
 -- the items of a block of the script: those of its one block, or none
 items_of : (block : Name) → ((program_of first_script).items block ≡ first_list) ⊎ ((program_of first_script).items block ≡ [])
@@ -116,8 +131,8 @@ givers x (suc (suc (suc (suc zero)))) names = absurd (StraightLine.nothing_conta
 givers x (suc (suc (suc (suc (suc zero))))) names = (4, omega arith, first_of_one (answer_of 7 0) x (one_of (answer_of 7 0) x names))
 givers x (suc (suc (suc (suc (suc (suc i)))))) names = absurd (StraightLine.nothing_contained x names)
 
-pub script_well_placed : IsWellPlaced (program_code (program_of first_script))
-script_well_placed q x names path walk = inr (by (items_of q.block))
+script_named : (q : Place Name) (x : Name) → Contains ((program_code (program_of first_script)).names q) x → IsGivenBefore (program_code (program_of first_script)) x q
+script_named q x names path walk = inr (by (items_of q.block))
   where
     by : ((program_of first_script).items q.block ≡ first_list) ⊎ ((program_of first_script).items q.block ≡ [])
         → IsGivenAlong (program_code (program_of first_script)) x path
@@ -127,3 +142,26 @@ script_well_placed q x names path walk = inr (by (items_of q.block))
         (subst (λ (items : List Item). Contains (item_gives (slice_get items giver.0)) x) (sym full) giver.2)
     by (inr empty) =
         absurd (StraightLine.nothing_contained x (subst (λ (items : List Item). Contains (item_names (slice_get items q.index)) x) empty names))
+
+passed_by : (i : ℕ) → item_passes (slice_get first_list i) ≡ []
+passed_by zero = refl
+passed_by (suc zero) = refl
+passed_by (suc (suc zero)) = refl
+passed_by (suc (suc (suc zero))) = refl
+passed_by (suc (suc (suc (suc zero)))) = refl
+passed_by (suc (suc (suc (suc (suc zero))))) = refl
+passed_by (suc (suc (suc (suc (suc (suc i)))))) = refl
+
+program_passes : (p : Place Name) → (program_code (program_of first_script)).passes p ≡ []
+program_passes p = by (items_of p.block)
+  where
+    by : ((program_of first_script).items p.block ≡ first_list) ⊎ ((program_of first_script).items p.block ≡ [])
+        → item_passes (slice_get ((program_of first_script).items p.block) p.index) ≡ []
+    by (inl full) = ap (λ (items : List Item). item_passes (slice_get items p.index)) full ∙ passed_by p.index
+    by (inr empty) = ap (λ (items : List Item). item_passes (slice_get items p.index)) empty
+
+pub script_well_placed : IsWellPlaced (program_code (program_of first_script))
+script_well_placed = record {
+  named = script_named;
+  passed = λ q x passes. absurd (StraightLine.none_of _ x (program_passes q) passes);
+}

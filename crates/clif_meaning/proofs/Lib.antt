@@ -5,6 +5,7 @@ pub mod Stuttering
 pub mod WorkedExamples
 pub mod StraightLine
 pub mod FirstRow
+pub mod FirstRecords
 pub mod SampleWorld
 pub mod FirstPremises
 pub mod LoopPaths

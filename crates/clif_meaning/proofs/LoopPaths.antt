@@ -1,8 +1,10 @@
--- Paths of the irreducible loop.
-use Rattle.std.proofs.Common.{◌≡◌, ◌≢◌, ◌<◌, ℕ, zero, suc, List, [], ◌∷◌, refl, ◌∙◌, ap, arith, inl, inr, Some, slice_index_or}
+-- Paths of the irreducible loop, and a function that isn't well placed.
+use Rattle.std.proofs.Common.{◌≡◌, ◌≢◌, ◌<◌, ℕ, zero, suc, List, [], ◌∷◌, refl, ◌∙◌, ap, arith, ◌⊎◌, inl, inr, Some, slice_index_or}
 use Rattle.std.specs.Prelude.{Contains}
 use Rattle.clif_meaning.specs.Path.{Place, Leads, IsPath, IsReachable, StrictlyBefore}
-use Rattle.clif_meaning.specs.ScriptExamples.{loop_flow, at_block}
+use Rattle.clif_meaning.specs.WellPlaced.{WellPlaced}
+use Rattle.clif_meaning.specs.ScriptExamples.{loop_flow, at_block, unplaced_function}
+use Rattle.clif_meaning.proofs.StraightLine
 
 contains_later : {X : Type 0} (y x : X) (xs : List X) → Contains xs x → Contains (y ∷ xs) x
 contains_later y x xs h = (suc h.0, omega (arith, h.1), h.2)
@@ -58,3 +60,11 @@ way_round always = by found.0 found.1 found.2
     by zero below same = absurd (omega (arith, ap (λ (p : Place ℕ). p.block) same))
     by (suc zero) below same = absurd (omega (arith, ap (λ (p : Place ℕ). p.block) same))
     by (suc (suc k)) below same = absurd (omega arith)
+
+-- the path that is the entry's first place comes to the return, and gave nothing before
+pub unplaced : WellPlaced unplaced_function → ⊥
+unplaced placed = by (placed.named (at_block 0) 2 (0, omega arith, refl) [] (refl, (refl, omega arith)))
+  where
+    by : Contains {X = ℕ} [] 2 ⊎ ⊥ → ⊥
+    by (inl given) = StraightLine.nothing_contained {X = ℕ} 2 given
+    by (inr given) = given

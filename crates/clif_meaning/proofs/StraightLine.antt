@@ -8,7 +8,7 @@ pub nothing_contained : {X : Type 0} (x : X) → Contains [] x → ⊥
 nothing_contained x h = absurd (omega (arith, h.1))
 
 -- nothing is contained in a list that is empty
-none_of : {X : Type 0} (xs : List X) (x : X) → xs ≡ [] → Contains xs x → ⊥
+pub none_of : {X : Type 0} (xs : List X) (x : X) → xs ≡ [] → Contains xs x → ⊥
 none_of {X} xs x e h = nothing_contained x (subst (λ (ys : List X). Contains ys x) e h)
 
 module _ {Block Thing : Type 0} (code : Code Block Thing) (straight : (p : Place Block) → code.flow.targets p ≡ []) where

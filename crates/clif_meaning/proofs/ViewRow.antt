@@ -7,7 +7,7 @@ use Rattle.clif_meaning.specs.FunctionMachine.{ByMaps}
 use Rattle.clif_meaning.specs.FunctionView.{FunctionView}
 use Rattle.clif_meaning.specs.Headline.{script_run, function_run, script_behaviour, function_behaviour, MeansTheSame}
 use Rattle.clif_meaning.specs.View.{view_of}
-use Rattle.clif_meaning.specs.Examples.{first_script}
+use Rattle.clif_meaning.specs.Examples.{first_script, first_signature}
 use Rattle.clif_meaning.specs.ViewExamples.{first_body}
 use Rattle.clif_meaning.proofs.Endings
 use Rattle.clif_meaning.proofs.FirstPremises.{shows_all}
@@ -31,7 +31,7 @@ function_before world (suc (suc zero)) h = refl
 function_before world (suc (suc (suc zero))) h = refl
 function_before world (suc (suc (suc (suc n)))) h = absurd (omega arith)
 
-pub same : MeansTheSame first_script U64 view
+pub same : MeansTheSame first_script first_signature U64 view
 unfolding follow
 same world fits premises = record {
   there = shows_all (script_behaviour first_script view world) (function_behaviour first_script view U64 world) 6 4

@@ -1,5 +1,5 @@
 -- Worked examples of outside calls: a collector that adds 16 to each number but zero, on both machines.
-use Rattle.std.specs.Prelude.{◌≡◌, ℕ, ◌==◌, nat_lt, nat_le, ◌&&◌, if◌then◌else◌, Bool, true, List, [], ◌∷◌, map}
+use Rattle.std.specs.Prelude.{◌≡◌, ℕ, ◌==◌, nat_lt, nat_le, ◌&&◌, if◌then◌else◌, Bool, true, List, [], ◌∷◌, map, Some}
 use Rattle.clif_types.specs.declared.types.«Type».{«Type»}
 use Rattle.clif_types.specs.declared.types.«Type».TheVariants as type
 use Rattle.clif_types.specs.declared.types.LaneType.TheVariants as lane
@@ -7,12 +7,14 @@ use Rattle.clif_types.specs.declared.call_conv.CallConv.TheVariants.{SystemV}
 use Rattle.clif_types.specs.declared.stackmap.UserStackMapEntry.{UserStackMapEntry}
 use Rattle.clif_meaning.specs.Bits.{Bits, value_of_bytes}
 use Rattle.clif_meaning.specs.Memory.{Memory, bytes_in}
-use Rattle.clif_meaning.specs.Instruction.{Edge, Known, CallResult, CallPayload}
-use Rattle.clif_meaning.specs.Event.{Callee, AtAddress, CallShape, Default, Answer, Results, Exception}
+use Rattle.clif_meaning.specs.Instruction.{Edge, Argument, Known, CallResult, CallPayload}
+use Rattle.clif_meaning.specs.Event.{Callee, AtAddress, CallShape, Default, Answer, Results, Exception, payload_types}
 use Rattle.clif_meaning.specs.World.{World}
+use Rattle.clif_meaning.specs.Outcome.{Goes}
 use Rattle.clif_meaning.specs.Machine.{At}
 use Rattle.clif_meaning.specs.Name.{Name, answer_of, same_name}
 use Rattle.clif_meaning.specs.Program.{empty_program}
+use Rattle.clif_meaning.specs.Typing.{EdgeMatches, EachEdgeMatches}
 use Rattle.clif_meaning.specs.ScriptMachine as script
 use Rattle.clif_meaning.specs.FunctionMachine as function
 use Rattle.clif_meaning.specs.Examples.{i32, empty_function}
@@ -64,6 +66,10 @@ sample_edges =
 abbrev pub script_answered : World → Answer → script.ScriptState
 script_answered world answer = script.take_answer (sample_script_run world) (script_called world) sample_edges [] [] answer
 
+-- the state after a call of a library function along the same edges, which answers 5 and leaves 3 in every byte
+abbrev pub library_called : World → script.ScriptState
+library_called world = script.carry_out (sample_script_run world) sample_script_state sample_edges [] [] (Goes 0 (5 ∷ []) (λ address. 3))
+
 -- value 4 lies in the slot, value 5 is an alias of value 4
 abbrev pub sample_function_run : World → function.Collector → function.FunctionRun
 sample_function_run world collector = record {
@@ -110,6 +116,11 @@ pub record CallIsSeen (world : World) : Type 0 where
   pub normal : (script_answered world (Results (5 ∷ []))).names (answer_of 9 0) ≡ 80
   pub result : (script_answered world (Results (5 ∷ []))).names (answer_of 9 1) ≡ 5
   pub raised : (script_answered world (Exception 0 (6 ∷ 7 ∷ []))).names (answer_of 9 1) ≡ 7
+  -- a call of a library function isn't seen, and moves nothing; it takes the normal edge with its result
+  pub library_unseen : (library_called world).events ≡ []
+  pub library_unmoved : (library_called world).names (answer_of 9 0) ≡ 64
+  pub library_result : (library_called world).names (answer_of 9 1) ≡ 5
+  pub library_memory : (library_called world).memory 1008 ≡ 3
   -- by maps the slot moves, and no value; over a set the member that isn't an alias moves, and no slot
   pub slot_moves : slot_value (function_called world function.ByMaps).memory ≡ 80
   pub value_stays : (function_called world function.ByMaps).values 4 ≡ 64
@@ -119,6 +130,25 @@ pub record CallIsSeen (world : World) : Type 0 where
   pub slot_stays : slot_value (function_called world (function.OverSet (λ v. true))).memory ≡ 64
   -- both machines show the same events
   pub same_events : (script_called world).events ≡ (function_called world function.ByMaps).events
+
+-- the normal edge of the call leads to a block of an `i64` and an `i32`, the other one to a block of two `i64`
+abbrev pub sample_parameters : Name → List «Type»
+sample_parameters block = if same_name block (answer_of 1 0) then i64 ∷ i32 ∷ [] else i64 ∷ i64 ∷ []
+
+-- an edge of an item that passes these
+abbrev pub item_edge : List (Argument Name) → Edge Name Name
+item_edge arguments = record { target = answer_of 2 0; arguments = arguments }
+
+-- What a call gives may stand on its own edge alone, and at its own type.
+pub record EdgeExamples : Type 0 where
+  pub agree : EachEdgeMatches (λ x. i64) sample_parameters (Some sample_call) sample_edges
+  -- a result on the edge of an item
+  pub misplaced : EdgeMatches (λ x. i64) (λ block. i32 ∷ []) [] payload_types (item_edge (CallResult 0 ∷ [])) → ⊥
+  -- a third part of an exception, which has two
+  pub missing : EdgeMatches (λ x. i64) (λ block. i64 ∷ []) [] payload_types (item_edge (CallPayload 2 ∷ [])) → ⊥
+  -- one argument too few, and one of another type
+  pub fewer : EdgeMatches (λ x. i64) (λ block. i64 ∷ i64 ∷ []) [] payload_types (item_edge (CallPayload 0 ∷ [])) → ⊥
+  pub other : EdgeMatches (λ x. i64) (λ block. i32 ∷ []) [] payload_types (item_edge (Known (answer_of 3 0) ∷ [])) → ⊥
 
 -- there is a world in which this is seen
 abbrev pub CallExamples : Type 0

@@ -1,6 +1,6 @@
 -- Worked examples of the definitions. The rows, their texts and their answers are those of the crate's documentation
 -- and of its hostile scripts.
-use Rattle.std.specs.Prelude.{◌≡◌, ℕ, zero, suc, ◌+◌, ◌-◌, ◌%◌, ◌^◌, ◌==◌, nat_lt, if◌then◌else◌, List, [], ◌∷◌, Some, None, pos, negsuc}
+use Rattle.std.specs.Prelude.{◌≡◌, ℕ, zero, suc, ◌+◌, ◌-◌, ◌%◌, ◌^◌, ◌==◌, nat_lt, if◌then◌else◌, List, [], ◌∷◌, ◌++◌, Some, None, pos, negsuc}
 use Rattle.std.specs.declared.cmp.Ordering.{Ordering}
 use Rattle.std.specs.declared.cmp.Ordering.TheVariants.{Less, Equal, Greater}
 use Rattle.clif_types.specs.declared.types.«Type».{«Type»}
@@ -8,6 +8,7 @@ use Rattle.clif_types.specs.declared.call_conv.CallConv.TheVariants.{SystemV, Fa
 use Rattle.clif_types.specs.declared.types.«Type».TheVariants as type
 use Rattle.clif_types.specs.declared.types.LaneType.TheVariants as lane
 use Rattle.clif_types.specs.Types.{bits_of}
+use Rattle.clif_types.specs.Signature.{SignatureShape}
 use Rattle.clif_types.specs.declared.target.PointerWidth.TheVariants.{U64}
 use Rattle.clif_types.specs.Target.{pointer_type_of}
 use Rattle.clif_meaning.specs.Bits.{value_bytes, value_of_bytes}
@@ -20,11 +21,11 @@ use Rattle.clif_meaning.specs.Outcome.{Values, Undefined, computed}
 use Rattle.clif_meaning.specs.Machine.{Observation, Returned, Stuck}
 use Rattle.clif_meaning.specs.SameMeaning.{SameMeaning}
 use Rattle.clif_meaning.specs.Name.{Name, answer_of}
-use Rattle.clif_meaning.specs.Request.{CreateBlock, SwitchToBlock, SealBlock, DeclareVar, DefVar, UseVar, Script}
+use Rattle.clif_meaning.specs.Request.{CreateBlock, SwitchToBlock, SealBlock, DeclareVar, DefVar, UseVar, Finalize, Script}
 use Rattle.clif_meaning.specs.Ledger.{ledger_after}
-use Rattle.clif_meaning.specs.Acceptance.{iconst, iadd, return_, Accepted, Misuse, Refused, verdict_on}
+use Rattle.clif_meaning.specs.Acceptance.{iconst, iadd, return_, Accepted, Misuse, Refused, verdict_on, Unsealed, Unfilled, refusal_of}
 use Rattle.clif_meaning.specs.FunctionView.{Placed, BlockView, FunctionView}
-use Rattle.clif_meaning.specs.WellPlaced.{WellPlaced}
+use Rattle.clif_meaning.specs.WellPlaced.{WellPlaced, Records, RecordsWellPlaced}
 use Rattle.clif_meaning.specs.Typing.{EdgesMatch}
 use Rattle.clif_meaning.specs.Premises.{Premises}
 use Rattle.clif_meaning.specs.Headline.{script_run, IsWorldOf, script_behaviour, function_behaviour, MeansTheSame}
@@ -99,6 +100,10 @@ abbrev pub one_block : List Placed → ℕ → BlockView
 one_block items zero = record { parameters = []; items = items }
 one_block items (suc block) = record { parameters = []; items = [] }
 
+-- the signature of the row: it takes nothing, and returns an `i32`
+abbrev pub first_signature : SignatureShape
+first_signature = record { params = []; returns = record { value_type = i32 } ∷ []; call_conv = SystemV }
+
 -- the function of the row, with `number` for the 7:
 --     v3 = iconst.i32 0
 --     v0 -> v3
@@ -107,7 +112,7 @@ one_block items (suc block) = record { parameters = []; items = [] }
 --     return v2
 abbrev pub first_function_with : ℕ → FunctionView
 first_function_with number = record {
-  signature = record { params = []; returns = record { value_type = i32 } ∷ []; call_conv = SystemV };
+  signature = first_signature;
   entry = Some 0;
   blocks = one_block (
       placed (Compute (Iconst (pos 0))) i32 [] (3 ∷ [])
@@ -123,6 +128,20 @@ first_function_with number = record {
 abbrev pub first_function : FunctionView
 first_function = first_function_with 7
 
+-- what the builder of the row knows: x is value 2 at the block's end; the first use of x, before the constant, was
+-- answered by value 0, and the second one, before the return, by value 2
+abbrev pub first_recorded : ℕ → List ℕ
+first_recorded zero = 2 ∷ []
+first_recorded (suc block) = []
+
+abbrev pub first_answered : ℕ → ℕ → List ℕ
+first_answered zero (suc zero) = 0 ∷ []
+first_answered zero (suc (suc (suc zero))) = 2 ∷ []
+first_answered _ _ = []
+
+abbrev pub first_records : Records
+first_records = record { recorded = first_recorded; answered = λ p. first_answered p.block p.index }
+
 -- both machines end with these bits, without an event, in every world
 abbrev pub ended_with : List ℕ → World → Observation
 ended_with results world = record { events = []; ending = Returned results world.memory }
@@ -132,6 +151,7 @@ pub record FirstAnswersSeven : Type 0 where
   pub function : (world : World) → function_behaviour first_script first_function U64 world 4 ≡ ended_with (7 ∷ []) world
   pub accepted : verdict_on first_script ≡ Accepted
   pub well_placed : WellPlaced first_function
+  pub records : RecordsWellPlaced first_function first_records
   pub edges_match : EdgesMatch first_function
 
 -- a number of 32 bits with the sign of the order
@@ -186,13 +206,47 @@ pub record VerdictExamples : Type 0 where
   pub other_type : verdict_on (CreateBlock ∷ SwitchToBlock block0 ∷ DeclareVar i32 ∷ iconst i8 (pos 1) ∷ DefVar 0 (answer_of 3 1) ∷ []) ≡ Misuse 4
   -- a block that was sealed before
   pub sealed : verdict_on (CreateBlock ∷ SealBlock block0 ∷ SealBlock block0 ∷ []) ≡ Misuse 2
+  -- a value where a block is asked for, and an instruction's number where a value is
+  pub no_such_block : verdict_on (CreateBlock ∷ SwitchToBlock block0 ∷ iconst i32 (pos 1) ∷ SealBlock (answer_of 2 1) ∷ []) ≡ Misuse 3
+  pub no_such_value : verdict_on (CreateBlock ∷ SwitchToBlock block0 ∷ iconst i32 (pos 1) ∷ return_ (answer_of 2 0 ∷ []) ∷ []) ≡ Misuse 3
+  -- operands of two types: types aren't a condition
+  pub mixed : verdict_on (CreateBlock ∷ SwitchToBlock block0 ∷ SealBlock block0 ∷ iconst i32 (pos 1) ∷ iconst i8 (pos 1)
+      ∷ iadd (ledger_after (CreateBlock ∷ SwitchToBlock block0 ∷ SealBlock block0 ∷ iconst i32 (pos 1) ∷ [])) (answer_of 3 1) (answer_of 4 1) ∷ return_ [] ∷ [])
+      ≡ Accepted
+  -- a constant that is no integer
+  pub no_integer : verdict_on (CreateBlock ∷ SwitchToBlock block0 ∷ iconst (type.Lane lane.F32) (pos 1) ∷ []) ≡ Misuse 2
   -- a block that was left before it was filled
   pub left_open : verdict_on (CreateBlock ∷ CreateBlock ∷ SwitchToBlock block0 ∷ iconst i32 (pos 1) ∷ SwitchToBlock (answer_of 1 0) ∷ []) ≡ Misuse 4
+  -- one that was left before anything was made in it, and needs no sealing
+  pub left_pristine : verdict_on (CreateBlock ∷ CreateBlock ∷ SwitchToBlock block0 ∷ SwitchToBlock (answer_of 1 0) ∷ return_ [] ∷ SealBlock (answer_of 1 0) ∷ []) ≡ Accepted
   pub nothing : verdict_on [] ≡ Accepted
+
+-- Block 0 returns. Block 1, to which nothing leads, was sealed and may be left with a constant alone. Block 2 has a
+-- constant, too.
+abbrev pub three_blocks : Script
+three_blocks =
+    CreateBlock ∷ CreateBlock ∷ CreateBlock ∷ SwitchToBlock block0 ∷ return_ [] ∷ SealBlock (answer_of 1 0) ∷ SwitchToBlock (answer_of 1 0) ∷ iconst i32 (pos 1)
+    ∷ SwitchToBlock (answer_of 2 0) ∷ iconst i32 (pos 1) ∷ []
+
+-- `finalize` names the first block that isn't finished, and that it isn't sealed before that it isn't filled.
+pub record RefusalExamples : Type 0 where
+  pub no_misuse : verdict_on three_blocks ≡ Refused 10
+  pub filled_unsealed : refusal_of (ledger_after three_blocks) Finalize ≡ Some (Unsealed block0)
+  pub sealed_unfilled : refusal_of (ledger_after (three_blocks ++ SealBlock block0 ∷ [])) Finalize ≡ Some (Unfilled (answer_of 1 0))
+  pub neither : refusal_of (ledger_after (CreateBlock ∷ SwitchToBlock block0 ∷ iconst i32 (pos 1) ∷ [])) Finalize ≡ Some (Unsealed block0)
+  pub pristine : refusal_of (ledger_after (CreateBlock ∷ SwitchToBlock block0 ∷ [])) Finalize ≡ None
 
 -- There is a world in which the function of the row `first` can run, with a collector that moves; every world meets the
 -- premises for the row; and the function means what the script means.
 pub record FirstMeansTheSame : Type 0 where
-  pub a_world : (world : World) × IsWorldOf first_function U64 world × ((events : List Event) (call : CallShape) → world.moved events call ≡ moved_by_16)
-  pub premises : (world : World) → Premises first_script first_function.signature (pointer_type_of U64) (script_run first_script first_function world)
-  pub same : MeansTheSame first_script U64 first_function
+  pub a_world : (world : World) × IsWorldOf first_signature first_function U64 world × ((events : List Event) (call : CallShape) → world.moved events call ≡ moved_by_16)
+  pub premises : (world : World) → Premises first_script first_signature (pointer_type_of U64) (script_run first_script first_function world)
+  pub same : MeansTheSame first_script first_signature U64 first_function
+
+-- What the theorem refuses: a function that answers 8 in place of 7, and one without blocks, whose signature is another.
+pub record WrongFunctionsAreRefused : Type 0 where
+  pub eight : MeansTheSame first_script first_signature U64 (first_function_with 8) → ⊥
+  pub empty : MeansTheSame first_script first_signature U64 empty_function → ⊥
+  -- the premises are no empty words: for a function that takes an argument the row meets them in no world
+  pub other_signature : (function : FunctionView) (world : World)
+      → Premises first_script (record first_signature { params = record { value_type = i32 } ∷ [] }) (pointer_type_of U64) (script_run first_script function world) → ⊥

@@ -111,7 +111,7 @@ answer_call run state call placed rest = take_answer run state placed.instructio
 -- what an instruction does to the state, with the rest of its block
 abbrev pub carry_out : FunctionRun → FunctionState → Placed → List Placed → Outcome → FunctionState
 carry_out run state placed rest (Gives values memory) = give_results (record state { memory = memory }) placed.results rest values
-carry_out run state placed rest (Goes edge) = follow_edge run state [] (slice_get placed.instruction.edges edge)
+carry_out run state placed rest (Goes edge given memory) = follow_edge run (record state { memory = memory }) given (slice_get placed.instruction.edges edge)
 carry_out run state placed rest (Returns values) = record state { control = HasReturned values }
 carry_out run state placed rest (Traps reason) = record state { control = HasTrapped reason }
 carry_out run state placed rest (Calls callee call arguments) =

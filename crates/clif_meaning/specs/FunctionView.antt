@@ -21,7 +21,7 @@ pub record FunctionView : Type 0 where
   pub signature : SignatureShape
   -- the first block of the layout
   pub entry : Option ℕ
-  -- by the number of a block; a block that stands outside the layout has no items
+  -- by the number of a block; a block outside the layout is no part of the function, and has no items
   pub blocks : ℕ → BlockView
   -- the value at the end of a value's aliases
   pub resolved : ℕ → ℕ

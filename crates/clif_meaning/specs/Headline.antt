@@ -4,6 +4,7 @@
 -- and the function's only what lies in the slots that the call's stack map names. Own.
 use Rattle.std.specs.Prelude.{ℕ, Bool, drop}
 use Rattle.clif_types.specs.Types.{bits_of}
+use Rattle.clif_types.specs.Signature.{SignatureShape}
 use Rattle.clif_types.specs.declared.target.PointerWidth.{PointerWidth}
 use Rattle.clif_types.specs.Target.{pointer_type_of}
 use Rattle.clif_meaning.specs.Bits.{AreValues}
@@ -52,9 +53,9 @@ function_run script function width world collector = record {
   world = world;
 }
 
--- a world in which the function can run: arguments by its signature, and places for its slots
-pub record IsWorldOf (function : FunctionView) (width : PointerWidth) (world : World) : Type 0 where
-  pub arguments : AreValues (types_of function.signature.params) world.arguments
+-- a world in which the function can run: arguments by the signature, and places for its slots
+pub record IsWorldOf (signature : SignatureShape) (function : FunctionView) (width : PointerWidth) (world : World) : Type 0 where
+  pub arguments : AreValues (types_of signature.params) world.arguments
   pub slots : PlacesSlots world function.slots (pointer_bits width)
 
 -- what the script shows, and what the function shows under the collector by maps
@@ -64,9 +65,10 @@ script_behaviour script function world = observed (script_machine (script_run sc
 abbrev pub function_behaviour : Script → FunctionView → PointerWidth → World → Behaviour
 function_behaviour script function width world = observed (function_machine (function_run script function width world ByMaps))
 
--- The finished function means what the script means, in every world under the premises.
-abbrev pub MeansTheSame : Script → PointerWidth → FunctionView → Type 0
-MeansTheSame script width function =
-    (world : World) → IsWorldOf function width world
-    → Premises script function.signature (pointer_type_of width) (script_run script function world)
+-- The finished function means what the script means, in every world under the premises. The signature is the one that
+-- the caller gave, and isn't read off the function: a function with another one doesn't empty the premises.
+abbrev pub MeansTheSame : Script → SignatureShape → PointerWidth → FunctionView → Type 0
+MeansTheSame script signature width function =
+    (world : World) → IsWorldOf signature function width world
+    → Premises script signature (pointer_type_of width) (script_run script function world)
     → SameMeaning (script_behaviour script function world) (function_behaviour script function width world)

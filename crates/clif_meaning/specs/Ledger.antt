@@ -59,10 +59,6 @@ empty_ledger = record { answers = []; blocks = []; current = None; layout = []; 
 abbrev pub answer_at : Ledger → Name → Option Answered
 answer_at ledger name = option_and_then (λ answers. slice_get answers name.index) (slice_get ledger.answers name.place)
 
-abbrev pub is_block_answer : Option Answered → Bool
-is_block_answer (Some ABlock) = true
-is_block_answer _ = false
-
 -- the type of a value, if the answer is one
 abbrev pub value_answer_type : Option Answered → Option «Type»
 value_answer_type (Some (AValue ty)) = Some ty

@@ -13,13 +13,15 @@ use Rattle.clif_meaning.specs.World.{World}
 pub data Outcome : Type 0 where
   -- the results get these bits, memory is this, and control goes to the next place
   Gives : (results : List Bits) (memory : Memory) → Outcome
-  -- control goes along this edge
-  Goes : (edge : ℕ) → Outcome
+  -- memory is this, and control goes along this edge, which may pass what is given beside operands (on the normal edge of
+  -- a try call of a library function its results; else nothing)
+  Goes : (edge : ℕ) (given : List Bits) (memory : Memory) → Outcome
   -- the run ends with these bits
   Returns : (results : List Bits) → Outcome
   -- the run ends so
   Traps : TrapCode → Outcome
-  -- an outside call with these arguments
+  -- an outside call with these arguments. A call of a function of the C library by its name is none: it gives its results
+  -- and memory by itself
   Calls : Callee → CallShape → (arguments : List Bits) → Outcome
   -- there is no meaning: the machine can't step
   NoStep : Outcome
@@ -30,7 +32,7 @@ pub data Computed : Type 0 where
   Fault : TrapCode → Computed
   Undefined : Computed
 
--- the table of arithmetic, at the controlling type
+-- the table of arithmetic, at the controlling type, which is an integer
 abbrev pub computed : Arithmetic → «Type» → List Bits → Computed
 -- the low bits of the constant, or its sign repeated
 computed (Iconst number) ty [] = Values (wrapped (bits_of ty) number ∷ [])

@@ -80,16 +80,16 @@ OfNextItem P (HasTrapped reason) = Unit {0}
 OfNextItem P IsStuck = Unit {0}
 
 -- the item's accesses spare spill slots, in this state
-abbrev pub SparesSpillSlots : (ℕ → Bool) → ScriptState → Item → Type 0
-SparesSpillSlots hidden state (Instruct place instruction results) =
-    AllByRecursion (SparesRange hidden) (touched_ranges instruction.operation instruction.controlling (map state.names instruction.operands))
-SparesSpillSlots hidden state (Use variable name) = Unit {0}
-SparesSpillSlots hidden state (Assign variable name) = Unit {0}
+abbrev pub SparesSpillSlots : ScriptRun → ScriptState → Item → Type 0
+SparesSpillSlots run state (Instruct place instruction results) =
+    AllByRecursion (SparesRange run.hidden) (touched_ranges run.world instruction.operation instruction.controlling (map state.names instruction.operands))
+SparesSpillSlots run state (Use variable name) = Unit {0}
+SparesSpillSlots run state (Assign variable name) = Unit {0}
 
 -- what the item claims is true, in this state
 abbrev pub ClaimsAreTrue : ScriptRun → ScriptState → Item → Type 0
 ClaimsAreTrue run state (Instruct place instruction results) =
-    AllByRecursion (Holds run.world) (claims_of instruction.operation instruction.controlling (map state.names instruction.operands))
+    AllByRecursion (Holds run.world) (claims_of run.world instruction.operation instruction.controlling (map state.names instruction.operands))
 ClaimsAreTrue run state (Use variable name) = Unit {0}
 ClaimsAreTrue run state (Assign variable name) = Unit {0}
 
@@ -123,7 +123,7 @@ CallsLibraryAsNamed pointer (Instruct place instruction results) = IfLibraryCall
 CallsLibraryAsNamed pointer (Use variable name) = Unit {0}
 CallsLibraryAsNamed pointer (Assign variable name) = Unit {0}
 
--- The premises on a script, in a function of this signature with pointers of this type, and on the run of it.
+-- The premises on a script, made for a function of this signature with pointers of this type, and on the run of it.
 pub record Premises (script : Script) (signature : SignatureShape) (pointer : «Type») (run : ScriptRun) : Type 0 where
   -- every target of a branch is filled, and isn't the entry
   pub targets_filled : EachItem (HasGoodTargets (ledger_after script) (program_of script)) (program_of script)
@@ -137,7 +137,7 @@ pub record Premises (script : Script) (signature : SignatureShape) (pointer : «
   -- no tracked name is assigned to an unmarked variable or answered by a use of one
   pub tracked_apart : EachItem (KeepsTrackedApart (ledger_after script) (is_tracked script)) (program_of script)
   -- no access of the script's run touches a spill slot
-  pub spares_spill_slots : InEachStep (SparesSpillSlots run.hidden) run
+  pub spares_spill_slots : InEachStep (SparesSpillSlots run) run
   -- what the script claims of accessible ranges, alignments and overlap is true in its run
   pub claims_true : InEachStep (ClaimsAreTrue run) run
   -- a callee with the name of a library function has that function's signature

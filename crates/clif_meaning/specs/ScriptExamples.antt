@@ -7,7 +7,11 @@ use Rattle.clif_meaning.specs.Ledger.{ledger_after, type_of, is_filled, is_seale
 use Rattle.clif_meaning.specs.Acceptance.{iconst}
 use Rattle.clif_meaning.specs.Tracked.{tracked_names}
 use Rattle.clif_meaning.specs.Path.{Place, Flow, IsReachable, StrictlyBefore}
-use Rattle.clif_meaning.specs.Examples.{i32, block0, first_calls, first_script}
+use Rattle.clif_meaning.specs.WellPlaced.{WellPlaced}
+use Rattle.clif_meaning.specs.FunctionView.{FunctionView}
+use Rattle.clif_meaning.specs.Instruction.{Return}
+use Rattle.clif_meaning.specs.Examples.{i32, block0, first_calls, first_script, first_function, one_block, placed}
+use Rattle.clif_types.specs.declared.types.«Type».TheVariants as type
 
 -- the calls of the row `first` up to its constant, with the numbers that the builder answers
 abbrev pub answered_calls : List AnsweredCall
@@ -54,8 +58,13 @@ loop_flow = record { entry = Some 0; size = λ block. 1; targets = λ p. loop_ta
 abbrev pub at_block : ℕ → Place ℕ
 at_block block = record { block = block; index = 0 }
 
+-- a function that returns value 2, which nothing gives
+abbrev pub unplaced_function : FunctionView
+unplaced_function = record first_function { blocks = one_block (placed Return type.Invalid (2 ∷ []) [] ∷ []) }
+
 -- Every way to block 3 goes through block 0, and not every way through block 1.
 pub record PathExamples : Type 0 where
+  pub unplaced : WellPlaced unplaced_function → ⊥
   pub reached : IsReachable loop_flow (at_block 3)
   pub entry_before : StrictlyBefore loop_flow (at_block 0) (at_block 3)
   pub way_round : StrictlyBefore loop_flow (at_block 1) (at_block 3) → ⊥

@@ -78,7 +78,7 @@ answer_call run state call edges results rest = take_answer run state edges resu
 -- what an instruction does to the state: the instruction's edges, the names of its results, and the rest of the block
 abbrev pub carry_out : ScriptRun → ScriptState → List (Edge Name Name) → List Name → List Item → Outcome → ScriptState
 carry_out run state edges results rest (Gives values memory) = give_results (record state { memory = memory }) results rest values
-carry_out run state edges results rest (Goes edge) = follow_edge run state [] (slice_get edges edge)
+carry_out run state edges results rest (Goes edge given memory) = follow_edge run (record state { memory = memory }) given (slice_get edges edge)
 carry_out run state edges results rest (Returns values) = record state { control = HasReturned values }
 carry_out run state edges results rest (Traps reason) = record state { control = HasTrapped reason }
 carry_out run state edges results rest (Calls callee call arguments) = answer_call run (call_outside run state callee call arguments) call edges results rest

@@ -2,12 +2,9 @@
 use Rattle.std.specs.Prelude.{◌≡◌, ℕ, Bool, true, List, [], ◌∷◌, map, Option, Some, None, slice_get, IsTrue}
 use Rattle.std.specs.List.{AllByRecursion}
 use Rattle.clif_types.specs.declared.types.«Type».{«Type»}
-use Rattle.clif_types.specs.declared.types.«Type».TheVariants as type
-use Rattle.clif_types.specs.declared.types.LaneType.TheVariants as lane
 use Rattle.clif_types.specs.Types.{is_int}
 use Rattle.clif_meaning.specs.Instruction.{Iconst, Iadd, Operation, Compute, Return, Argument, Known, CallResult, CallPayload, Edge, Instruction}
-use Rattle.clif_meaning.specs.Event.{CallShape, types_of}
-use Rattle.clif_meaning.specs.Ledger.{or_invalid}
+use Rattle.clif_meaning.specs.Event.{CallShape, types_of, payload_types}
 use Rattle.clif_meaning.specs.FunctionView.{FunctionView}
 
 -- The table of operations: whether the operation is there at the controlling type. Arithmetic is on integers only.
@@ -26,30 +23,39 @@ abbrev pub call_shape : Operation → Option CallShape
 call_shape (Compute arithmetic) = None
 call_shape Return = None
 
--- the types that a call returns
-abbrev pub returns_of : Option CallShape → List «Type»
-returns_of None = []
-returns_of (Some call) = types_of call.signature.returns
-
--- the type of what an edge passes: a part of an exception's payload is an integer of 64 bits
-abbrev pub argument_type : {Operand : Type 0} → (Operand → «Type») → List «Type» → Argument Operand → «Type»
-argument_type type_of returns (Known operand) = type_of operand
-argument_type type_of returns (CallResult index) = or_invalid (slice_get returns index)
-argument_type type_of returns (CallPayload index) = type.Lane lane.I64
+-- the type of what an edge passes, where the call at its start gives results and a payload of these types there. What
+-- the call doesn't give there has none.
+abbrev pub argument_type : {Operand : Type 0} → (Operand → «Type») → List «Type» → List «Type» → Argument Operand → Option «Type»
+argument_type type_of results payload (Known operand) = Some (type_of operand)
+argument_type type_of results payload (CallResult index) = slice_get results index
+argument_type type_of results payload (CallPayload index) = slice_get payload index
 
 -- the arguments of an edge and the parameters of its target agree in number, order and type
-abbrev pub EdgeMatches : {Block Operand : Type 0} → (Operand → «Type») → (Block → List «Type») → List «Type» → Edge Block Operand → Type 0
-EdgeMatches type_of parameter_types returns edge = map (argument_type type_of returns) edge.arguments ≡ parameter_types edge.target
+abbrev pub EdgeMatches : {Block Operand : Type 0} → (Operand → «Type») → (Block → List «Type») → List «Type» → List «Type» → Edge Block Operand → Type 0
+EdgeMatches type_of parameter_types results payload edge =
+    map (argument_type type_of results payload) edge.arguments ≡ map (λ ty. Some ty) (parameter_types edge.target)
+
+-- Each edge of an instruction does. The normal edge of a try call, the first one, may pass the call's results, and the
+-- edge of an item the parts of an exception's payload; every other edge passes operands alone.
+abbrev pub EachEdgeMatches : {Block Operand : Type 0} → (Operand → «Type») → (Block → List «Type») → Option CallShape → List (Edge Block Operand) → Type 0
+EachEdgeMatches type_of parameter_types None edges = AllByRecursion (EdgeMatches type_of parameter_types [] []) edges
+EachEdgeMatches type_of parameter_types (Some call) [] = Unit {0}
+EachEdgeMatches type_of parameter_types (Some call) (normal ∷ items) =
+    EdgeMatches type_of parameter_types (types_of call.signature.returns) [] normal
+    × AllByRecursion (EdgeMatches type_of parameter_types [] payload_types) items
 
 -- the operands have their types, and so has what each edge passes
 pub record IsWellTyped {Block Operand : Type 0} (type_of : Operand → «Type») (parameter_types : Block → List «Type») (returns : List «Type») (instruction : Instruction Block Operand) : Type 0 where
   pub made_at : IsTrue (is_made_at instruction.operation instruction.controlling)
   pub operands : map type_of instruction.operands ≡ operand_types returns instruction.operation instruction.controlling
-  pub edges : AllByRecursion (EdgeMatches type_of parameter_types (returns_of (call_shape instruction.operation))) instruction.edges
+  pub edges : EachEdgeMatches type_of parameter_types (call_shape instruction.operation) instruction.edges
+
+-- the types of a block's parameters in a function
+abbrev pub value_types_at : FunctionView → ℕ → List «Type»
+value_types_at function block = map function.value_type (function.blocks block).parameters
 
 -- In a function, the arguments of every edge and the parameters of its target agree in number, order and type.
 abbrev pub EdgesMatch : FunctionView → Type 0
 EdgesMatch function =
-    (block : ℕ) → AllByRecursion (λ placed. AllByRecursion
-    (EdgeMatches function.value_type (λ target. map function.value_type (function.blocks target).parameters) (returns_of (call_shape placed.instruction.operation)))
-    placed.instruction.edges) (function.blocks block).items
+    (block : ℕ) → AllByRecursion (λ placed. EachEdgeMatches function.value_type (value_types_at function)
+    (call_shape placed.instruction.operation) placed.instruction.edges) (function.blocks block).items

@@ -1,11 +1,13 @@
 -- A function of `clif_ir` as the machines see it: its instructions in the one shape. Own.
-use Rattle.std.specs.Prelude.{ℕ, List, [], ◌∷◌, map, slice_get}
+use Rattle.std.specs.Prelude.{ℕ, ◌==◌, if◌then◌else◌, List, [], ◌∷◌, map, slice_get}
+use Rattle.std.specs.List.{list_any}
 use Rattle.clif_types.specs.declared.types.«Type».{«Type»}
 use Rattle.clif_types.specs.declared.types.«Type».TheVariants as type
 use Rattle.clif_ir.specs.declared.instructions.BinaryOpcode.TheVariants as binary
 use Rattle.clif_ir.specs.declared.instructions.InstructionData.{InstructionData}
 use Rattle.clif_ir.specs.declared.instructions.InstructionData.TheVariants.{UnaryImm, Binary, MultiAry}
 use Rattle.clif_ir.specs.declared.function.InstNode.{InstNode}
+use Rattle.clif_ir.specs.Instruction.{operands}
 use Rattle.clif_ir.specs.Body.{Body, value_at, inst_at, block_at, resolved}
 use Rattle.clif_meaning.specs.Instruction.{Operation, Compute, Iconst, Iadd, Return, Edge}
 use Rattle.clif_meaning.specs.FunctionView.{Placed, BlockView, FunctionView}
@@ -15,12 +17,6 @@ abbrev pub operation_of : InstructionData → Operation
 operation_of (UnaryImm imm) = Compute (Iconst imm)
 operation_of (Binary binary.Iadd args) = Compute Iadd
 operation_of (MultiAry args) = Return
-
--- its operands,
-abbrev pub operands_of : InstructionData → List ℕ
-operands_of (UnaryImm imm) = []
-operands_of (Binary opcode args) = args
-operands_of (MultiAry args) = args
 
 -- and its edges: no instruction so far is a branch.
 abbrev pub edges_of : InstructionData → List (Edge ℕ ℕ)
@@ -45,19 +41,21 @@ placed_of body node = record {
   instruction = record {
     operation = operation_of node.shape;
     controlling = controlling_of body node.shape node.results;
-    operands = operands_of node.shape;
+    operands = operands node.shape;
     edges = edges_of node.shape;
   };
   results = node.results;
   stack_map = [];
 }
 
--- a block with its instructions, in order
+-- the instructions of a block, in order. A block outside the layout is no part of the function, and has none.
+abbrev pub items_of : Body → ℕ → List Placed
+items_of body block =
+    if list_any (λ other. other == block) body.layout then map (λ inst. placed_of body (inst_at body inst)) (block_at body block).insts else []
+
+-- a block
 abbrev pub block_of : Body → ℕ → BlockView
-block_of body block = record {
-  parameters = (block_at body block).params;
-  items = map (λ inst. placed_of body (inst_at body inst)) (block_at body block).insts;
-}
+block_of body block = record { parameters = (block_at body block).params; items = items_of body block }
 
 -- a function. There are no stack slots so far.
 abbrev pub view_of : Body → FunctionView

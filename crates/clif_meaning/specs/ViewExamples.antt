@@ -1,6 +1,5 @@
 -- The function of the row `first`, as the builder leaves it, and what the machines see of it.
 use Rattle.std.specs.Prelude.{◌≡◌, [], ◌∷◌, Some, pos}
-use Rattle.clif_types.specs.declared.call_conv.CallConv.TheVariants.{SystemV}
 use Rattle.clif_types.specs.declared.extname.UserFuncName.TheVariants.{Testcase}
 use Rattle.clif_types.specs.declared.target.PointerWidth.TheVariants.{U64}
 use Rattle.clif_ir.specs.declared.instructions.BinaryOpcode.TheVariants as binary
@@ -10,13 +9,13 @@ use Rattle.clif_ir.specs.Body.{Body}
 use Rattle.clif_meaning.specs.World.{World}
 use Rattle.clif_meaning.specs.Headline.{function_behaviour, MeansTheSame}
 use Rattle.clif_meaning.specs.View.{view_of}
-use Rattle.clif_meaning.specs.Examples.{i32, first_script, first_function, ended_with}
+use Rattle.clif_meaning.specs.Examples.{i32, first_script, first_signature, first_function, ended_with}
 
 -- The use of x made value 0 first, which is an alias of the zero now; the zero was made last, and stands first.
 abbrev pub first_body : Body
 first_body = record {
   name = Testcase (115 ∷ 97 ∷ 109 ∷ 112 ∷ 108 ∷ 101 ∷ []);
-  signature = record { params = []; returns = record { value_type = i32 } ∷ []; call_conv = SystemV };
+  signature = first_signature;
   values =
       record { ty = i32; origin = Alias 3 }
       ∷ record { ty = i32; origin = Result 0 0 }
@@ -32,11 +31,11 @@ first_body = record {
 }
 
 pub record ViewExamples : Type 0 where
-  pub signature : (view_of first_body).signature ≡ first_function.signature
+  pub signature : (view_of first_body).signature ≡ first_signature
   pub entry : (view_of first_body).entry ≡ Some 0
   pub items : ((view_of first_body).blocks 0).items ≡ (first_function.blocks 0).items
   pub parameters : ((view_of first_body).blocks 0).parameters ≡ []
   pub alias : (view_of first_body).resolved 0 ≡ 3
   pub no_alias : (view_of first_body).resolved 2 ≡ 2
   pub answers_seven : (world : World) → function_behaviour first_script (view_of first_body) U64 world 4 ≡ ended_with (7 ∷ []) world
-  pub means_the_same : MeansTheSame first_script U64 (view_of first_body)
+  pub means_the_same : MeansTheSame first_script first_signature U64 (view_of first_body)

@@ -1,6 +1,6 @@
 -- The world in which a program and a function run: what they are given, and what outside calls do. It is a parameter
 -- of the definitions only; no value of the program holds one. Own.
-use Rattle.std.specs.Prelude.{◌≡◌, ℕ, ◌+◌, ◌%◌, ◌^◌, ◌<◌, ◌≤◌, Bool, List, IsTrue, Some, slice_get, ◌≢◌, ◌⊎◌}
+use Rattle.std.specs.Prelude.{◌≡◌, ℕ, ◌+◌, ◌%◌, ◌^◌, ◌<◌, ◌≤◌, Bool, List, IsTrue, Some, slice_get, ◌≢◌}
 use Rattle.std.specs.declared.cmp.Ordering.{Ordering}
 use Rattle.std.specs.declared.cmp.Ordering.TheVariants.{Less, Equal, Greater}
 use Rattle.clif_types.specs.declared.types.«Type».{«Type»}
@@ -43,10 +43,11 @@ pub record World : Type 0 where
   pub moved_fits : (events : List Event) (call : CallShape) (ty : «Type») (bits : Bits) → IsValue ty bits → IsValue ty (moved events call ty bits)
   pub moved_zero : (events : List Event) (call : CallShape) (ty : «Type») → moved events call ty 0 ≡ 0
 
--- the places of the slots are what was asked: aligned, accessible, within the width of pointers, and apart
+-- the places of the slots are what was asked: aligned, accessible, within the width of pointers, and apart: no byte of
+-- the one is a byte of another
 pub record PlacesSlots (world : World) (slots : List StackSlotShape) (pointer_width : ℕ) : Type 0 where
   pub aligned : (s : ℕ) (slot : StackSlotShape) → slice_get slots s ≡ Some slot → world.slot_place s % 2 ^ slot.align_shift ≡ 0
   pub accessible : (s : ℕ) (slot : StackSlotShape) (k : ℕ) → slice_get slots s ≡ Some slot → k < slot.size → IsTrue (world.is_accessible (world.slot_place s + k))
   pub within : (s : ℕ) (slot : StackSlotShape) → slice_get slots s ≡ Some slot → world.slot_place s + slot.size ≤ 2 ^ pointer_width
-  pub apart : (s t : ℕ) (slot other : StackSlotShape) → slice_get slots s ≡ Some slot → slice_get slots t ≡ Some other → s ≢ t
-      → (world.slot_place s + slot.size ≤ world.slot_place t) ⊎ (world.slot_place t + other.size ≤ world.slot_place s)
+  pub apart : (s t : ℕ) (slot other : StackSlotShape) (k l : ℕ) → slice_get slots s ≡ Some slot → slice_get slots t ≡ Some other → s ≢ t
+      → k < slot.size → l < other.size → world.slot_place s + k ≢ world.slot_place t + l

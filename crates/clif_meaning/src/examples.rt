@@ -1,8 +1,8 @@
 //! Worked examples of the definitions, by computation.
 #![tactic(auto)]
 
-ghost use Rattle.clif_meaning.specs.CallExamples.{CallExamples};
-ghost use Rattle.clif_meaning.specs.Examples.{ArithmeticExamples, ByteExamples, SwitchExamples, FirstAnswersSeven, FirstMeansTheSame, EightIsNotSeven, EmptyIsStuck, VerdictExamples};
+ghost use Rattle.clif_meaning.specs.CallExamples.{CallExamples, EdgeExamples};
+ghost use Rattle.clif_meaning.specs.Examples.{ArithmeticExamples, ByteExamples, SwitchExamples, FirstAnswersSeven, FirstMeansTheSame, WrongFunctionsAreRefused, EightIsNotSeven, EmptyIsStuck, VerdictExamples, RefusalExamples};
 ghost use Rattle.clif_meaning.specs.ScriptExamples.{LedgerExamples, PathExamples};
 ghost use Rattle.clif_meaning.specs.ViewExamples.{ViewExamples};
 
@@ -29,6 +29,11 @@ pub fn first_answers_seven()
 /// The row `first` meets the premises, and its function means what its script means.
 pub fn first_means_the_same()
     ensures { FirstMeansTheSame }
+{}
+
+/// Functions of which the theorem isn't true, and a signature that doesn't meet the premises.
+pub fn wrong_functions_are_refused()
+    ensures { WrongFunctionsAreRefused }
 {}
 
 /// A function that answers 8 in its place has not the same meaning, in any world.
@@ -61,7 +66,17 @@ pub fn call_examples()
     ensures { CallExamples }
 {}
 
+/// What may stand on the edges of a try call.
+pub fn edge_examples()
+    ensures { EdgeExamples }
+{}
+
 /// Scripts that are a misuse, and scripts that are refused.
 pub fn verdict_examples()
     ensures { VerdictExamples }
+{}
+
+/// What `finalize` refuses, and which block it names.
+pub fn refusal_examples()
+    ensures { RefusalExamples }
 {}

@@ -8,4 +8,5 @@ pub mod ssa;
 pub mod tables;
 pub mod variable;
 
+pub use ssa::{SSABuilder, SideEffects};
 pub use variable::Variable;

@@ -49,7 +49,7 @@ impl Variable {
         ensures number { result ≡ self }
         ensures bounded { result < 2 ^ 32 - 1 }
     {
-        self.0 as usize
+        self.as_u32() as usize
     }
 }
 
@@ -57,7 +57,7 @@ impl fmt::Display for Variable {
     ghost output = { λ v. Some (codes "var" ++ decimal v) };
 
     fn fmt<W: fmt::Write>(&self, f: &mut fmt::Formatter<W>) -> fmt::Result {
-        let number = self.0;
+        let number = self.as_u32();
         write!(f, "var{number}")
     }
 }
@@ -66,7 +66,6 @@ impl fmt::Debug for Variable {
     ghost debug_output = { λ v. Some (codes "var" ++ decimal v) };
 
     fn fmt<W: fmt::Write>(&self, f: &mut fmt::Formatter<W>) -> fmt::Result {
-        let number = self.0;
-        write!(f, "var{number}")
+        fmt::Display::fmt(self, f)
     }
 }

@@ -14,13 +14,13 @@ has-head : (m n : ℕ) (ms : List ℕ) → m ≡ n → has (m ∷ ms) n ≡ true
 has-head m n ms h = grind (arith, nat_tests)
 
 -- a new member stands before the greater ones and behind the smaller ones
-with_member-skip : (m n : ℕ) (ms : List ℕ) → m < n → with_member (m ∷ ms) n ≡ m ∷ with_member ms n
+pub with_member-skip : (m n : ℕ) (ms : List ℕ) → m < n → with_member (m ∷ ms) n ≡ m ∷ with_member ms n
 with_member-skip m n ms h = grind (arith, nat_tests)
 
-with_member-front : (m n : ℕ) (ms : List ℕ) → n < m → with_member (m ∷ ms) n ≡ n ∷ m ∷ ms
+pub with_member-front : (m n : ℕ) (ms : List ℕ) → n < m → with_member (m ∷ ms) n ≡ n ∷ m ∷ ms
 with_member-front m n ms h = grind (arith, nat_tests)
 
-with_member-head : (m n : ℕ) (ms : List ℕ) → n ≡ m → with_member (m ∷ ms) n ≡ m ∷ ms
+pub with_member-head : (m n : ℕ) (ms : List ℕ) → n ≡ m → with_member (m ∷ ms) n ≡ m ∷ ms
 with_member-head m n ms h = grind (arith, nat_tests)
 
 or_swap : (a b c : Bool) → (a || (b || c)) ≡ (b || (a || c))

@@ -1,5 +1,5 @@
 -- The table of the regions of memory (own).
-use Rattle.std.specs.Prelude.{ℕ, ◌==◌, ◌++◌, ◌∷◌, [], List, Bool, length, Option, Some, None, unwrap_or, is_some, if◌then◌else◌}
+use Rattle.std.specs.Prelude.{ℕ, ◌==◌, ◌++◌, ◌∷◌, [], List, Bool, length, Option, Some, unwrap_or, is_some, if◌then◌else◌}
 use Rattle.std.specs.List.{position}
 use Rattle.clif_types.specs.declared.alias_region.AliasRegionData.{AliasRegionData}
 use Rattle.clif_types.specs.declared.error.BuildError.{BuildError}

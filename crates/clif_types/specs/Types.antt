@@ -1,6 +1,6 @@
 -- Types of the IR: a lane, or a vector of 2, 4, 8, 16, 32 or 64 equal lanes.
 -- After the documentation of Cranelift's `ir::Type`.
-use Rattle.std.specs.Prelude.{ℕ, ◌*◌, ◌/◌, ◌-◌, ◌^◌, Bool, true, false, nat_le, IsTrue, Option, Some, None, ◌==◌, if◌then◌else◌}
+use Rattle.std.specs.Prelude.{ℕ, ◌≡◌, ◌≤◌, ◌*◌, ◌/◌, ◌-◌, ◌^◌, Bool, true, false, nat_le, IsTrue, Option, Some, None, ◌==◌, if◌then◌else◌}
 use Rattle.clif_types.specs.declared.types.LaneType.{LaneType}
 use Rattle.clif_types.specs.declared.types.LaneType.TheVariants as lane
 use Rattle.clif_types.specs.declared.types.LaneCount.{LaneCount}
@@ -85,6 +85,22 @@ is_type (type.Vector l n) = nat_le (bytes_of (type.Vector l n)) 64
 abbrev pub IsType : «Type» → Type 0
 IsType t = IsTrue (is_type t)
 
+-- the integer type of a width in bits, if there is one
+abbrev pub int_of : ℕ → Option «Type»
+int_of bits = if bits == 8 then Some (type.Lane lane.I8) else (if bits == 16 then Some (type.Lane lane.I16) else (if bits == 32 then Some (type.Lane lane.I32) else (if bits == 64 then Some (type.Lane lane.I64) else (if bits == 128 then Some (type.Lane lane.I128) else None))))
+
+-- each type is whole bytes
+abbrev pub WholeBytes : Type 0
+WholeBytes = (t : «Type») → 8 * bytes_of t ≡ bits_of t
+
+-- a type of the IR has from 1 to 64 bytes
+abbrev pub TypesAreSmall : Type 0
+TypesAreSmall = (t : «Type») → IsType t → (1 ≤ bytes_of t) × (bytes_of t ≤ 64)
+
+-- an integer type is found by its width
+abbrev pub IntegersByWidth : Type 0
+IntegersByWidth = (t : «Type») → IsTrue (is_int t) → int_of (bits_of t) ≡ Some t
+
 -- the least number of a type's lanes as an unsigned bit pattern of 128 bits: signed it is negative, and
 -- stands as 2^128 less its absolute value
 abbrev pub least_of : «Type» → Bool → ℕ
@@ -95,7 +111,3 @@ least_of t true = 2 ^ 128 - 2 ^ (bits_of (lane_type_of t) - 1)
 abbrev pub greatest_of : «Type» → Bool → ℕ
 greatest_of t false = 2 ^ bits_of (lane_type_of t) - 1
 greatest_of t true = 2 ^ (bits_of (lane_type_of t) - 1) - 1
-
--- the integer type of a width in bits, if there is one
-abbrev pub int_of : ℕ → Option «Type»
-int_of bits = if bits == 8 then Some (type.Lane lane.I8) else (if bits == 16 then Some (type.Lane lane.I16) else (if bits == 32 then Some (type.Lane lane.I32) else (if bits == 64 then Some (type.Lane lane.I64) else (if bits == 128 then Some (type.Lane lane.I128) else None))))

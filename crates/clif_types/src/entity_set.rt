@@ -1,7 +1,7 @@
 //! Sets of numbers.
 #![tactic(auto)]
 
-ghost use Rattle.std.specs.Prelude.{◌≡◌, ◌↔◌, ◌+◌, ◌-◌, ◌^◌, ◌<◌, ◌≤◌, ℕ, [], ◌∷◌, ◌++◌, length, replicate, true, false, not, IsTrue, IfOk, OnOk, OnErr, IsOkUnless};
+ghost use Rattle.std.specs.Prelude.{◌≡◌, ◌↔◌, ◌+◌, ◌-◌, ◌^◌, ◌<◌, ◌≤◌, ℕ, [], ◌∷◌, ◌++◌, length, replicate, true, false, not, IsTrue, IfOk, OnOk, OnErr, IsOk, IsOkUnless};
 ghost use Rattle.std.specs.Iterator.{YieldsFirstBy, item_count};
 ghost use Rattle.std.specs.List.Sorted.{IsStrictlyIncreasing};
 ghost use Rattle.clif_types.specs.EntitySet.{has, with_member, marked_from};
@@ -59,10 +59,13 @@ impl<K: EntityRef> EntitySet<K> {
     }
 
     /// Makes the number a member, and answers whether it was none before.
+    ///
+    /// Errors: `Memory`, only for a number that is no member. Then nothing changes.
     pub fn insert(&mut self, key: K) -> Result<bool, BuildError>
         ensures members { OnOk result (self.new ≡ with_member self.old (K.index_of key)) }
         ensures added { IfOk result (λ added. added ≡ not (has self.old (K.index_of key))) }
         ensures memory_alone { IsOkUnless result BuildError.Memory }
+        ensures known { IsTrue (has self.old (K.index_of key)) → IsOk result }
         ensures unchanged { OnErr result (self.new ≡ self.old) }
     {
         let index = key.index();

@@ -134,7 +134,7 @@ impl fmt::Display for Signature {
 }
 
 /// A function that may be called. It prints as `colocated patchable %name sig0`.
-#[derive(Debug, Drop)]
+#[derive(PartialEq, Eq, Debug, Drop)]
 pub struct ExtFuncData {
     pub name: ExternalName,
     pub signature: SigRef,

@@ -75,6 +75,26 @@ impl Clone for TestcaseName {
     }
 }
 
+impl PartialEq for TestcaseName {
+    ghost use Rattle.std.specs.Prelude.{nat_eq};
+    ghost use Rattle.std.specs.Cmp.{partial_equiv_from_equiv};
+    ghost use Rattle.std.specs.Cmp.Lexicographic.{pointwise, nat_list_eq_equiv};
+
+    ghost eq = { pointwise nat_eq };
+
+    ghost laws = { partial_equiv_from_equiv nat_list_eq_equiv };
+
+    fn eq(&self, other: &TestcaseName) -> bool {
+        self.as_str() == other.as_str()
+    }
+}
+
+impl Eq for TestcaseName {
+    ghost use Rattle.std.specs.Cmp.Lexicographic.{nat_list_eq_equiv};
+
+    ghost laws = { nat_list_eq_equiv };
+}
+
 impl fmt::Display for TestcaseName {
     ghost output = { λ n. Some (testcase_text n) };
 
@@ -85,7 +105,7 @@ impl fmt::Display for TestcaseName {
 }
 
 /// The name of a function that is being built.
-#[derive(Debug, Drop)]
+#[derive(PartialEq, Eq, Debug, Drop)]
 pub enum UserFuncName {
     User(UserExternalName),
     Testcase(TestcaseName),
@@ -130,7 +150,7 @@ impl fmt::Display for UserFuncName {
 }
 
 /// The name of an imported function or symbol.
-#[derive(Debug, Drop)]
+#[derive(PartialEq, Eq, Debug, Drop)]
 pub enum ExternalName {
     User(UserExternalName),
     TestCase(TestcaseName),

@@ -9,7 +9,7 @@ use std::alloc::AllocError;
 use std::fmt;
 
 /// A value that is known before the function is entered.
-#[derive(Debug, Drop)]
+#[derive(PartialEq, Eq, Debug, Drop)]
 pub enum GlobalValueData {
     /// The address of the context that is passed to the function. It prints as `vmctx`.
     VMContext,

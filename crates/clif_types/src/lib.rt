@@ -11,6 +11,7 @@ pub mod error;
 pub mod extfunc;
 pub mod extname;
 pub mod globalvalue;
+pub mod laws;
 pub mod libcall;
 pub mod memflags;
 pub mod sourceloc;

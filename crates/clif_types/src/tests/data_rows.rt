@@ -74,7 +74,10 @@ fn names(rt: HostRuntime) -> Result<(), Fail> {
     prints(&rt, alloc, &UserExternalName::new(0, 0), "u0:0")?;
     let name = TestcaseName::new(String::from_str(alloc, "sample")?);
     assert_eq!(rt; name.as_str(), "sample");
-    prints(&rt, alloc, &name.clone()?, "%sample")?;
+    let copy = name.clone()?;
+    assert!(rt; copy == name);
+    assert!(rt; copy != TestcaseName::new(String::from_str(alloc, "simple")?));
+    prints(&rt, alloc, &copy, "%sample")?;
     prints(&rt, alloc, &UserFuncName::user(1, 2).clone()?, "u1:2")?;
     let sample = UserFuncName::testcase(String::from_str(alloc, "sample")?);
     prints(&rt, alloc, &sample.clone()?, "%sample")?;

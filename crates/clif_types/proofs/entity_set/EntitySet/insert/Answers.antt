@@ -1,6 +1,7 @@
 -- A mark that is set makes its number a member, within the marks and past the last one.
 use Rattle.std.proofs.Common.{◌≡◌, false, not, get_or, refl, sym, ap, ◌∙◌, arith, rules}
-use Rattle.clif_types.specs.EntitySet.{marked_from}
+use Rattle.std.proofs.lemmas.Bool.{both_ways}
+use Rattle.clif_types.specs.EntitySet.{has, marked_from}
 use Rattle.clif_types.proofs.Marks.{has-marks, has-past, with_member-set, with_member-extended, length-extended, last_is_set-extended, last_is_set-set, get_or-within}
 use Rattle.clif_types.proofs.entity_set.EntitySet.insert.Goals as goal
 
@@ -33,3 +34,9 @@ pub returns-clause-added : goal.returns-clause-added
 returns-clause-added g c =
     let read : c.index.result.now ≡ get_or c.self.inside.marks.items c.index-index.result false = c.index.ensures ∙ get_or-within c.self.inside.marks.items c.index-index.result c.index.result.now false (omega arith) in
     rw (← c.self.view_is, ← c.index-index.ensures.place) (ap not (read ∙ sym (has-marks c.self.inside.marks.items c.index-index.result)))
+
+pub returns-in_err-extend-clause-known : goal.returns-in_err-extend-clause-known
+returns-in_err-extend-clause-known g c =
+    λ h.
+    let none : has c.args.self.now (g.K.EntityRef.index_of c.args.key) ≡ false = rw (← c.self.view_is, ← c.index-index.ensures.place) (has-past c.self.inside.marks.items c.index-index.result (omega arith)) in
+    absurd (both_ways _ none h)

@@ -1,0 +1,5 @@
+use Rattle.clif_paths.proofs.Links.{ends_are_ends}
+use Rattle.clif_paths.proofs.blocks.ends_are_ends.Goals as goal
+
+pub returns : goal.returns
+returns c = ends_are_ends

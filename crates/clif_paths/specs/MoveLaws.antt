@@ -1,0 +1,16 @@
+-- Lists of moves whose tests pass are sound, and where they are finished, correct.
+-- Source: own.
+use Rattle.std.specs.Prelude.{◌≡◌, true, List}
+use Rattle.clif_paths.specs.Blocks.{state_of}
+use Rattle.clif_paths.specs.BlockLaws.{BlocksSound}
+use Rattle.clif_paths.specs.Laws.{IsCorrect}
+use Rattle.clif_paths.specs.Moves.{blank, Move, after_all, allows_all, Witness, is_finished}
+
+abbrev pub AllowedMovesAreSound : Type 0
+AllowedMovesAreSound =
+    (moves : List Move) → allows_all blank moves ≡ true → BlocksSound (after_all blank moves).blocks
+
+abbrev pub FinishedMovesAreCorrect : Type 0
+FinishedMovesAreCorrect =
+    (moves : List Move) (witnesses : List Witness) → allows_all blank moves ≡ true →
+    is_finished (after_all blank moves) witnesses ≡ true → IsCorrect (state_of (after_all blank moves).blocks)

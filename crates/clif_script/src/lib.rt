@@ -1,0 +1,11 @@
+//! Scripts: lists of builder calls that are made in order, and the rows of the program `rows`.
+#![tactic(auto)]
+
+pub mod call;
+pub mod make;
+pub mod rows;
+pub mod script;
+
+pub use call::{Call, Name};
+pub use rows::run;
+pub use script::{ReplayError, replay};

@@ -1,0 +1,336 @@
+//! The calls of a script, each made on a builder if its condition holds.
+ghost use Rattle.std.specs.Prelude.{◌≡◌, ◌<◌, ◌++◌, ◌∷◌, [], OnOk, IfOk, IfSome, length, slice_get, slice_index, slice_index_or, EachIndex, Some, IsTrue, ◌↔◌};
+ghost use Rattle.cranelift_frontend.specs.Builder.{SameLoans, AppendsValue, HasCurrent, is_declarable, is_free};
+ghost use Rattle.clif_types.specs.Types.{is_int};
+ghost use Rattle.clif_ir.specs.Body.{value_at};
+ghost use Rattle.clif_script.specs.Ready.{IsReady, AnswerExists, types_after};
+
+use crate::call::{Call, Name};
+use crate::script::{Answer, CallError};
+use clif_ir::{BinaryOpcode, Function, InstructionData, ValueDef};
+use clif_ssa::Variable;
+use clif_types::{Block, BuildError, LaneType, Type, Value};
+use cranelift_frontend::FunctionBuilder;
+
+/// Makes one call.
+pub fn make_call(
+    builder: &mut FunctionBuilder<'_>,
+    answers: &[Answer],
+    types: &[Type],
+    call: &Call,
+) -> Result<Answer, CallError>
+    requires ready { IsReady builder.old answers.now }
+    requires types { types.now ≡ builder.old.ctx.now.variables }
+    ensures loans { SameLoans builder.old builder.new }
+    ensures ready { IfOk result (λ answer. IsReady builder.new (answers.now ++ answer ∷ [])) }
+    ensures variables { OnOk result (builder.new.ctx.now.variables ≡ types_after call.now builder.old.ctx.now.variables) }
+{
+    match call {
+        Call::CreateBlock => create_block(builder, answers),
+        Call::SwitchToBlock { block } => switch_to_block(builder, answers, *block),
+        Call::SealBlock { block } => seal_block(builder, answers, *block),
+        Call::DeclareVar { ty } => declare_var(builder, answers, *ty),
+        Call::DefVar { variable, value } => def_var(builder, answers, types, *variable, *value),
+        Call::UseVar { variable } => use_var(builder, answers, types, *variable),
+        Call::Iconst { ty, imm } => iconst(builder, answers, *ty, *imm),
+        Call::Iadd { x, y } => iadd(builder, answers, *x, *y),
+        Call::Return { values } => return_(builder, answers, values.as_slice()),
+    }
+}
+
+// The block that a name leads to.
+fn block_named(answers: &[Answer], name: Name) -> Option<Block>
+    ensures { IfSome result (λ block. slice_get answers.now name.place ≡ Some (Answer.Block block)) }
+{
+    match answers.get(name.place) {
+        Some(Answer::Block(block)) if name.answer == 0 => Some(*block),
+        _ => None,
+    }
+}
+
+// The value that a name leads to.
+fn value_named(func: &Function, answers: &[Answer], name: Name) -> Option<Value>
+    requires { EachIndex answers.now (λ k. AnswerExists func.now (slice_index_or answers.now k Answer.Nothing)) }
+    ensures { IfSome result (λ value. value < length func.now.values) }
+{
+    match answers.get(name.place) {
+        Some(Answer::Value(value)) if name.answer == 0 => Some(*value),
+        Some(Answer::Inst(inst)) if name.answer > 0 => {
+            func.inst_results(*inst).get(name.answer - 1).copied()
+        }
+        _ => None,
+    }
+}
+
+// `create_block()`.
+fn create_block(builder: &mut FunctionBuilder<'_>, answers: &[Answer]) -> Result<Answer, CallError>
+    requires { IsReady builder.old answers.now }
+    ensures loans { SameLoans builder.old builder.new }
+    ensures ready { IfOk result (λ answer. IsReady builder.new (answers.now ++ answer ∷ [])) }
+    ensures variables { builder.new.ctx.now.variables ≡ builder.old.ctx.now.variables }
+{
+    let block = builder.create_block()?;
+    Ok(Answer::Block(block))
+}
+
+// `switch_to_block(block)`, where the current block may be left and the block isn't filled.
+fn switch_to_block(
+    builder: &mut FunctionBuilder<'_>,
+    answers: &[Answer],
+    name: Name,
+) -> Result<Answer, CallError>
+    requires { IsReady builder.old answers.now }
+    ensures loans { SameLoans builder.old builder.new }
+    ensures ready { IfOk result (λ answer. IsReady builder.new (answers.now ++ answer ∷ [])) }
+    ensures variables { builder.new.ctx.now.variables ≡ builder.old.ctx.now.variables }
+{
+    let block = block_named(answers, name).ok_or(CallError::Misuse)?;
+    if builder.is_filled(block) || !may_leave(builder) {
+        return Err(CallError::Misuse);
+    }
+    builder.switch_to_block(block);
+    Ok(Answer::Nothing)
+}
+
+// Whether the current block is absent, pristine, filled or unreachable.
+fn may_leave(builder: &FunctionBuilder<'_>) -> bool
+    ensures { result ≡ is_free builder.now }
+{
+    match builder.current_block() {
+        None => true,
+        Some(block) => {
+            builder.is_pristine(block) || builder.is_filled(block) || builder.is_unreachable()
+        }
+    }
+}
+
+// `seal_block(block)`, where it isn't sealed.
+fn seal_block(
+    builder: &mut FunctionBuilder<'_>,
+    answers: &[Answer],
+    name: Name,
+) -> Result<Answer, CallError>
+    requires { IsReady builder.old answers.now }
+    ensures loans { SameLoans builder.old builder.new }
+    ensures ready { IfOk result (λ answer. IsReady builder.new (answers.now ++ answer ∷ [])) }
+    ensures variables { builder.new.ctx.now.variables ≡ builder.old.ctx.now.variables }
+{
+    let block = block_named(answers, name).ok_or(CallError::Misuse)?;
+    if builder.is_sealed(block) {
+        return Err(CallError::Misuse);
+    }
+    builder.seal_block(block)?;
+    Ok(Answer::Nothing)
+}
+
+// `declare_var(ty)`, for a type that a variable may have so far.
+fn declare_var(
+    builder: &mut FunctionBuilder<'_>,
+    answers: &[Answer],
+    ty: Type,
+) -> Result<Answer, CallError>
+    requires { IsReady builder.old answers.now }
+    ensures loans { SameLoans builder.old builder.new }
+    ensures ready { IfOk result (λ answer. IsReady builder.new (answers.now ++ answer ∷ [])) }
+    ensures variables { OnOk result (builder.new.ctx.now.variables ≡ builder.old.ctx.now.variables ++ ty ∷ []) }
+{
+    if !is_declarable(ty) {
+        return Err(CallError::Misuse);
+    }
+    let variable = builder.declare_var(ty)?;
+    Ok(Answer::Variable(variable))
+}
+
+// Whether a variable may have this type so far.
+fn is_declarable(ty: Type) -> bool
+    ensures { result ≡ is_declarable ty }
+{
+    match ty {
+        Type::Lane(LaneType::I8 | LaneType::I16 | LaneType::I32 | LaneType::I64) => true,
+        Type::Lane(_) | Type::Vector(..) | Type::Invalid => false,
+    }
+}
+
+// Whether there is a current block to which no terminator was appended.
+fn has_current(builder: &FunctionBuilder<'_>) -> bool
+    requires { IfSome builder.now.position (λ block. block < length builder.now.func.now.blocks) }
+    ensures { IsTrue result → HasCurrent builder.now }
+{
+    match builder.current_block() {
+        None => false,
+        Some(block) => !builder.is_filled(block),
+    }
+}
+
+// Whether two types are equal.
+fn is_same_type(a: Type, b: Type) -> bool
+    ensures { IsTrue result ↔ (a ≡ b) }
+{
+    a == b
+}
+
+// The type of a variable, if it is declared.
+fn type_of(types: &[Type], variable: Variable) -> Option<Type>
+    ensures { result ≡ slice_get types.now variable }
+{
+    types.get(variable.index()).copied()
+}
+
+// `def_var(variable, value)`, in a current unfilled block, where the variable is declared with the value's type.
+fn def_var(
+    builder: &mut FunctionBuilder<'_>,
+    answers: &[Answer],
+    types: &[Type],
+    variable: Variable,
+    name: Name,
+) -> Result<Answer, CallError>
+    requires ready { IsReady builder.old answers.now }
+    requires types { types.now ≡ builder.old.ctx.now.variables }
+    ensures loans { SameLoans builder.old builder.new }
+    ensures ready { IfOk result (λ answer. IsReady builder.new (answers.now ++ answer ∷ [])) }
+    ensures variables { builder.new.ctx.now.variables ≡ builder.old.ctx.now.variables }
+{
+    let value = value_named(builder.func(), answers, name).ok_or(CallError::Misuse)?;
+    let ty = type_of(types, variable).ok_or(CallError::Misuse)?;
+    if !has_current(builder) || !is_same_type(ty, builder.func().value_type(value)) {
+        return Err(CallError::Misuse);
+    }
+    builder.def_var(variable, value)?;
+    Ok(Answer::Nothing)
+}
+
+// `use_var(variable)`, in a current unfilled block, where the variable is declared.
+fn use_var(
+    builder: &mut FunctionBuilder<'_>,
+    answers: &[Answer],
+    types: &[Type],
+    variable: Variable,
+) -> Result<Answer, CallError>
+    requires ready { IsReady builder.old answers.now }
+    requires types { types.now ≡ builder.old.ctx.now.variables }
+    ensures loans { SameLoans builder.old builder.new }
+    ensures ready { IfOk result (λ answer. IsReady builder.new (answers.now ++ answer ∷ [])) }
+    ensures variables { builder.new.ctx.now.variables ≡ builder.old.ctx.now.variables }
+{
+    if !has_current(builder) || variable.index() >= types.len() {
+        return Err(CallError::Misuse);
+    }
+    let value = builder.use_var(variable)?;
+    Ok(Answer::Value(value))
+}
+
+// The call itself.
+fn append_iconst(builder: &mut FunctionBuilder<'_>, ty: Type, imm: i64) -> Result<Value, BuildError>
+    requires current { HasCurrent builder.old }
+    requires integer { IsTrue (is_int ty) }
+    ensures loans { SameLoans builder.old builder.new }
+    ensures appends { IfSome builder.old.position (λ block. IfOk result (AppendsValue builder.old builder.new block (InstructionData.UnaryImm imm) ty)) }
+    ensures ssa { builder.new.ctx.now.ssa ≡ builder.old.ctx.now.ssa }
+    ensures variables { builder.new.ctx.now.variables ≡ builder.old.ctx.now.variables }
+    ensures position { builder.new.position ≡ builder.old.position }
+{
+    builder.ins().iconst(ty, imm)
+}
+
+// The call itself.
+fn append_iadd(builder: &mut FunctionBuilder<'_>, x: Value, y: Value) -> Result<Value, BuildError>
+    requires current { HasCurrent builder.old }
+    requires x_exists { x < length builder.old.func.now.values }
+    requires y_exists { y < length builder.old.func.now.values }
+    ensures loans { SameLoans builder.old builder.new }
+    ensures appends { IfSome builder.old.position (λ block. IfOk result (AppendsValue builder.old builder.new block (InstructionData.Binary BinaryOpcode.Iadd (x ∷ y ∷ [])) (value_at builder.old.func.now x).ty)) }
+    ensures ssa { builder.new.ctx.now.ssa ≡ builder.old.ctx.now.ssa }
+    ensures variables { builder.new.ctx.now.variables ≡ builder.old.ctx.now.variables }
+    ensures position { builder.new.position ≡ builder.old.position }
+{
+    builder.ins().iadd(x, y)
+}
+
+// `iconst(ty, imm)`, in a current unfilled block, at an integer type.
+fn iconst(
+    builder: &mut FunctionBuilder<'_>,
+    answers: &[Answer],
+    ty: Type,
+    imm: i64,
+) -> Result<Answer, CallError>
+    requires { IsReady builder.old answers.now }
+    ensures loans { SameLoans builder.old builder.new }
+    ensures ready { IfOk result (λ answer. IsReady builder.new (answers.now ++ answer ∷ [])) }
+    ensures variables { builder.new.ctx.now.variables ≡ builder.old.ctx.now.variables }
+{
+    if !has_current(builder) || !ty.is_int() {
+        return Err(CallError::Misuse);
+    }
+    let value = append_iconst(builder, ty, imm)?;
+    let answer = instruction_of(builder.func(), value)?;
+    Ok(answer)
+}
+
+// `iadd(x, y)`, in a current unfilled block.
+fn iadd(
+    builder: &mut FunctionBuilder<'_>,
+    answers: &[Answer],
+    x: Name,
+    y: Name,
+) -> Result<Answer, CallError>
+    requires { IsReady builder.old answers.now }
+    ensures loans { SameLoans builder.old builder.new }
+    ensures ready { IfOk result (λ answer. IsReady builder.new (answers.now ++ answer ∷ [])) }
+    ensures variables { builder.new.ctx.now.variables ≡ builder.old.ctx.now.variables }
+{
+    let x = value_named(builder.func(), answers, x).ok_or(CallError::Misuse)?;
+    let y = value_named(builder.func(), answers, y).ok_or(CallError::Misuse)?;
+    if !has_current(builder) {
+        return Err(CallError::Misuse);
+    }
+    let value = append_iadd(builder, x, y)?;
+    let answer = instruction_of(builder.func(), value)?;
+    Ok(answer)
+}
+
+// `return_(values)`, in a current unfilled block.
+fn return_(
+    builder: &mut FunctionBuilder<'_>,
+    answers: &[Answer],
+    values: &[Name],
+) -> Result<Answer, CallError>
+    requires { IsReady builder.old answers.now }
+    ensures loans { SameLoans builder.old builder.new }
+    ensures ready { IfOk result (λ answer. IsReady builder.new (answers.now ++ answer ∷ [])) }
+    ensures variables { builder.new.ctx.now.variables ≡ builder.old.ctx.now.variables }
+{
+    let values = values_named(builder.func(), answers, values)?;
+    if !has_current(builder) {
+        return Err(CallError::Misuse);
+    }
+    let inst = builder.ins().return_(values.as_slice())?;
+    Ok(Answer::Inst(inst))
+}
+
+// The instruction of which a value is the result.
+fn instruction_of(func: &Function, value: Value) -> Result<Answer, CallError>
+    requires { value < length func.now.values }
+    ensures { IfOk result (AnswerExists func.now) }
+{
+    match func.value_def(value) {
+        ValueDef::Result(inst, _) => Ok(Answer::Inst(inst)),
+        ValueDef::Param(..) => Ok(Answer::Value(value)),
+    }
+}
+
+// The values that names lead to.
+fn values_named(
+    func: &Function,
+    answers: &[Answer],
+    names: &[Name],
+) -> Result<Vec<Value>, CallError>
+    requires { EachIndex answers.now (λ k. AnswerExists func.now (slice_index_or answers.now k Answer.Nothing)) }
+    ensures { IfOk result (λ values. EachIndex values.items (λ k. slice_index values.items k < length func.now.values)) }
+{
+    let mut values = Vec::new(func.allocator());
+    for name in names.iter() {
+        let value = value_named(func, answers, *name).ok_or(CallError::Misuse)?;
+        values.push(value)?;
+    }
+    Ok(values)
+}

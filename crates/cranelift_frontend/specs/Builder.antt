@@ -1,0 +1,133 @@
+-- What clauses see of a builder. Source: the crate's documentation of `FunctionBuilder`.
+use Rattle.std.specs.Prelude.{◌≡◌, ◌≢◌, ◌<◌, ◌+◌, length, slice_get, ℕ, List, [], ◌∷◌, Bool, true, false, not, ◌&&◌, ◌||◌, ◌==◌, Option, Some, None, if◌then◌else◌, zero, suc, Result, Ok, Err}
+use Rattle.cranelift_frontend.specs.declared.error.FinalizeError.{FinalizeError}
+use Rattle.cranelift_frontend.specs.declared.error.FinalizeError.TheVariants.{Unsealed, Unfilled, Failed}
+use Rattle.clif_types.specs.declared.types.LaneType.TheVariants.{I8, I16, I32, I64}
+use Rattle.clif_types.specs.declared.types.«Type».{«Type»}
+use Rattle.clif_types.specs.declared.types.«Type».TheVariants.{Lane}
+use Rattle.clif_ir.specs.Body.{Body}
+use Rattle.clif_ir.specs.declared.inst_list.BlockEnd.TheVariants.{Back}
+use Rattle.clif_ir.specs.declared.instructions.InstructionData.{InstructionData}
+use Rattle.clif_ir.specs.Instruction.{is_terminator, result_types}
+use Rattle.clif_ir.specs.Changes.{inserted_in, with_inst}
+use Rattle.clif_ssa.specs.Tables.{is_yes}
+use Rattle.clif_ssa.specs.Ssa.{no_srcloc, record_of, sealed_of, Waits, Zeroes}
+use Rattle.cranelift_frontend.specs.declared.context.BlockStatus.{BlockStatus}
+use Rattle.cranelift_frontend.specs.declared.context.BlockStatus.TheVariants.{Empty, Partial, Filled}
+use Rattle.cranelift_frontend.specs.declared.frontend.FunctionBuilder.{FunctionBuilder}
+use Rattle.cranelift_frontend.specs.Context.{ContextState, status_of, begun, SetsStatus}
+
+-- both builders hold the same function and the same context
+pub record SameLoans (old new : FunctionBuilder) : Type 0 where
+  pub func : new.func.ghost_name ≡ old.func.ghost_name
+  pub ctx : new.ctx.ghost_name ≡ old.ctx.ghost_name
+
+-- with another current block
+abbrev pub with_position : FunctionBuilder → ℕ → FunctionBuilder
+with_position b block = record b { position = Some block }
+
+-- nothing leads to a block: the layout isn't empty, and the block isn't its first one and is sealed
+abbrev pub is_elsewhere : List ℕ → ℕ → Bool
+is_elsewhere [] block = false
+is_elsewhere (entry ∷ layout) block = not (entry == block)
+
+abbrev pub is_unreachable : Body → ContextState → ℕ → Bool
+is_unreachable f c block = is_elsewhere f.layout block && is_yes (sealed_of c.ssa block)
+
+-- a block of this status may be left, if something leads to it
+abbrev pub may_be_left : BlockStatus → Bool
+may_be_left Empty = true
+may_be_left Partial = false
+may_be_left Filled = true
+
+-- the current block is absent, pristine, filled or unreachable
+abbrev pub is_free_at : Option ℕ → Body → ContextState → Bool
+is_free_at None f c = true
+is_free_at (Some block) f c = may_be_left (status_of c block) || is_unreachable f c block
+
+abbrev pub is_free : FunctionBuilder → Bool
+is_free b = is_free_at b.position b.func.now b.ctx.now
+
+-- the types that a variable may have so far
+abbrev pub is_declarable : «Type» → Bool
+is_declarable (Lane I8) = true
+is_declarable (Lane I16) = true
+is_declarable (Lane I32) = true
+is_declarable (Lane I64) = true
+is_declarable ty = false
+
+abbrev pub is_empty_status : BlockStatus → Bool
+is_empty_status Empty = true
+is_empty_status Partial = false
+is_empty_status Filled = false
+
+abbrev pub is_filled_status : BlockStatus → Bool
+is_filled_status Empty = false
+is_filled_status Partial = false
+is_filled_status Filled = true
+
+-- there is a current block, and no terminator was appended to it
+abbrev pub HasCurrent : FunctionBuilder → Type 0
+HasCurrent b = (block : ℕ) × (b.position ≡ Some block) × (block < length b.func.now.blocks) × (status_of b.ctx.now block ≢ Filled)
+
+-- a use of a variable of type `ty` in a block answers `value`: the recorded value, or else a new
+-- parameter of the block, or a zero where the block is sealed
+pub record UsesIn (f : Body) (c : ContextState) (g : Body) (d : ContextState) (variable : ℕ) (ty : «Type») (block value : ℕ) : Type 0 where
+  pub known : (v : ℕ) → record_of c.ssa variable block ≡ Some v
+      → (g ≡ inserted_in f block) × (d.ssa ≡ c.ssa) × (value ≡ v)
+  pub waits : record_of c.ssa variable block ≡ None → is_yes (sealed_of c.ssa block) ≡ false
+      → Waits c.ssa d.ssa (inserted_in f block) g variable ty block × (value ≡ length f.values)
+  pub zero : record_of c.ssa variable block ≡ None → is_yes (sealed_of c.ssa block) ≡ true
+      → Zeroes c.ssa d.ssa (inserted_in f block) g variable ty block × (value ≡ length f.values + 1)
+
+-- the same in a builder, for the type of the variable
+abbrev pub Uses : FunctionBuilder → FunctionBuilder → ℕ → ℕ → ℕ → Type 0
+Uses old new variable block value =
+    (ty : «Type») → slice_get old.ctx.now.variables variable ≡ Some ty
+    → UsesIn old.func.now old.ctx.now new.func.now new.ctx.now variable ty block value
+
+-- a function with an instruction at the end of a block, which is in the layout then
+abbrev pub with_appended : Body → ℕ → InstructionData → «Type» → Body
+with_appended f block shape ty = with_inst (inserted_in f block) block Back shape (result_types shape ty) no_srcloc
+
+-- the status of a block to which an instruction was appended
+abbrev pub status_after : InstructionData → BlockStatus → BlockStatus
+status_after shape status = if is_terminator shape then Filled else begun status
+
+-- an instruction was appended to a block: `inst` is its number
+pub record AppendsIn (f : Body) (c : ContextState) (g : Body) (d : ContextState) (block : ℕ) (shape : InstructionData) (ty : «Type») (inst : ℕ) : Type 0 where
+  pub function : g ≡ with_appended f block shape ty
+  pub number : inst ≡ length f.insts
+  pub status : SetsStatus c d block (status_after shape (status_of c block))
+
+abbrev pub Appends : FunctionBuilder → FunctionBuilder → ℕ → InstructionData → «Type» → ℕ → Type 0
+Appends old new block shape ty inst =
+    AppendsIn old.func.now old.ctx.now new.func.now new.ctx.now block shape ty inst
+
+-- the same for an instruction with a result, which is the value `v`
+abbrev pub AppendsValue : FunctionBuilder → FunctionBuilder → ℕ → InstructionData → «Type» → ℕ → Type 0
+AppendsValue old new block shape ty v =
+    Appends old new block shape ty (length old.func.now.insts) × (v ≡ length old.func.now.values)
+
+-- the first block from `block` on, among `count` ones, that isn't finished, and what it lacks
+abbrev pub block_fault : ContextState → ℕ → Option FinalizeError
+block_fault c block =
+    if is_empty_status (status_of c block) then None
+    else if is_yes (sealed_of c.ssa block) then (if is_filled_status (status_of c block) then None else Some (Unfilled block))
+    else Some (Unsealed block)
+
+abbrev pub or_else : Option FinalizeError → Option FinalizeError → Option FinalizeError
+or_else None next = next
+or_else (Some fault) next = Some fault
+
+unfoldable pub first_fault : ContextState → ℕ → ℕ → Option FinalizeError
+first_fault c block zero = None
+first_fault c block (suc count) = or_else (block_fault c block) (first_fault c (block + 1) count)
+
+-- what `finalize` answers
+abbrev pub answer_of : Option FinalizeError → Result (Unit {0}) FinalizeError
+answer_of None = Ok tt
+answer_of (Some fault) = Err fault
+
+abbrev pub verdict_of : Bool → ContextState → ℕ → Result (Unit {0}) FinalizeError
+verdict_of failed c count = if failed then Err Failed else answer_of (first_fault c 0 count)

@@ -1,0 +1,50 @@
+-- What clauses see of a context, and what its calls make of it.
+-- Source: the crate's documentation of `FunctionBuilderContext`; the changes are own.
+use Rattle.std.specs.Prelude.{◌≡◌, ◌⊎◌, ℕ, ◌==◌, List, [], ◌∷◌, Option, Some, None, slice_index_or, slice_get, if◌then◌else◌}
+use Rattle.clif_types.specs.declared.types.«Type».{«Type»}
+use Rattle.clif_ssa.specs.Ssa.{SsaState, no_state, record_of, sealed_of}
+use Rattle.clif_ir.specs.Reading.{stands_in}
+use Rattle.clif_ssa.specs.declared.tables.Sealed.{Sealed}
+use Rattle.clif_ssa.specs.declared.tables.Sealed.TheVariants.{No, Yes}
+use Rattle.cranelift_frontend.specs.declared.context.BlockStatus.{BlockStatus}
+use Rattle.cranelift_frontend.specs.declared.context.BlockStatus.TheVariants.{Empty, Partial, Filled}
+
+-- records and sealed blocks; the status of each block; the type of each variable
+pub record ContextState : Type 0 where
+  pub ssa : SsaState
+  pub status : List BlockStatus
+  pub variables : List «Type»
+
+abbrev pub empty_context : ContextState
+empty_context = record { ssa = no_state; status = []; variables = [] }
+
+-- the status of a block; one that was never set is empty
+abbrev pub status_of : ContextState → ℕ → BlockStatus
+status_of c block = slice_index_or c.status block Empty
+
+-- one block has this status, and each other one the one that it had
+abbrev pub SetsStatus : ContextState → ContextState → ℕ → BlockStatus → Type 0
+SetsStatus old new block status = (b : ℕ) → status_of new b ≡ (if b == block then status else status_of old b)
+
+-- each block has the status that it had
+abbrev pub SameStatus : ContextState → ContextState → Type 0
+SameStatus old new = (b : ℕ) → status_of new b ≡ status_of old b
+
+-- a block in which something is made is no longer empty
+abbrev pub begun : BlockStatus → BlockStatus
+begun Empty = Partial
+begun Partial = Partial
+begun Filled = Filled
+
+-- something was made in these blocks, and nothing in the others
+abbrev pub Begins : ContextState → ContextState → List ℕ → Type 0
+Begins old new blocks = (b : ℕ) → status_of new b ≡ (if stands_in b blocks then begun (status_of old b) else status_of old b)
+
+-- the block of the zero that a use of a variable puts: a use of one that isn't recorded in a sealed block
+abbrev pub zero_block_of : Option ℕ → Sealed → ℕ → List ℕ
+zero_block_of (Some value) sealed block = []
+zero_block_of None (No pending) block = []
+zero_block_of None Yes block = block ∷ []
+
+abbrev pub zero_blocks : SsaState → ℕ → ℕ → List ℕ
+zero_blocks s variable block = zero_block_of (record_of s variable block) (sealed_of s block) block

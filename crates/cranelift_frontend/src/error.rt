@@ -1,0 +1,48 @@
+//! The refusals of the builder.
+use clif_types::{Block, Inst};
+use std::error::Error;
+use std::fmt;
+
+/// Why a function isn't finished.
+#[derive(Clone, Copy, Debug, PartialEq, Eq)]
+pub enum FinalizeError {
+    /// Something was made in this block, and it isn't sealed.
+    Unsealed(Block),
+    /// Something was made in this block, and it has no terminator.
+    Unfilled(Block),
+    /// The context of this instruction is a tracked value.
+    TrackedContext(Inst),
+    /// Memory was refused.
+    Memory,
+    /// A table holds 2^32 - 1 entries.
+    Full,
+    /// The builder had failed before.
+    Failed,
+}
+
+impl fmt::Display for FinalizeError {
+    fn fmt<W: fmt::Write>(&self, f: &mut fmt::Formatter<W>) -> fmt::Result {
+        match self {
+            FinalizeError::Unsealed(block) => {
+                write!(
+                    f,
+                    "FunctionBuilder finalized, but block {block} is not sealed"
+                )
+            }
+            FinalizeError::Unfilled(block) => {
+                write!(
+                    f,
+                    "FunctionBuilder finalized, but block {block} is not filled"
+                )
+            }
+            FinalizeError::TrackedContext(inst) => {
+                write!(f, "the context of {inst} is a tracked value")
+            }
+            FinalizeError::Memory => write!(f, "no memory"),
+            FinalizeError::Full => write!(f, "table full"),
+            FinalizeError::Failed => write!(f, "failed before"),
+        }
+    }
+}
+
+impl Error for FinalizeError {}

@@ -1,0 +1,64 @@
+//! The end of a function's building.
+ghost use Rattle.std.specs.Prelude.{◌≡◌, ◌<◌, ◌≤◌, ◌^◌, length};
+ghost use Rattle.cranelift_frontend.specs.Context.{empty_context};
+ghost use Rattle.cranelift_frontend.specs.Builder.{answer_of, block_fault, first_fault, verdict_of};
+
+use crate::context::{BlockStatus, FunctionBuilderContext};
+use crate::error::FinalizeError;
+use crate::frontend::FunctionBuilder;
+use clif_types::{Block, EntityRef, TargetFrontendConfig};
+
+impl<'a> FunctionBuilder<'a> {
+    /// Ends the building: the function is finished where each block in which something was made is
+    /// sealed and filled.
+    ///
+    /// The context is cleared in every case. After an error the function is as it was.
+    pub fn finalize(mut self, config: TargetFrontendConfig) -> Result<(), FinalizeError>
+        ensures answer { result ≡ verdict_of self.entry.failed self.entry.ctx.now (length self.entry.func.now.blocks) }
+        ensures function { self.exit.0.now ≡ self.entry.func.now }
+        ensures context { self.exit.1.0.now ≡ empty_context }
+    {
+        let _config = config;
+        let answer = self.verdict();
+        self.ctx.clear();
+        answer
+    }
+
+    // What `finalize` answers.
+    fn verdict(&self) -> Result<(), FinalizeError>
+        ensures { result ≡ verdict_of self.now.failed self.now.ctx.now (length self.now.func.now.blocks) }
+    {
+        if self.failed {
+            return Err(FinalizeError::Failed);
+        }
+        check_blocks(self.ctx, self.func.block_count())
+    }
+}
+
+// The first block, by number, in which something was made and that isn't sealed or isn't filled.
+fn check_blocks(ctx: &FunctionBuilderContext, count: usize) -> Result<(), FinalizeError>
+    requires { count < 2 ^ 32 }
+    ensures { result ≡ answer_of (first_fault ctx.now 0 count) }
+{
+    for number in 0..count {
+        check_block(ctx, Block::new(number))?;
+    }
+    Ok(())
+}
+
+// What a block lacks.
+fn check_block(ctx: &FunctionBuilderContext, block: Block) -> Result<(), FinalizeError>
+    ensures { result ≡ answer_of (block_fault ctx.now block) }
+{
+    let status = ctx.block_status(block);
+    if status == BlockStatus::Empty {
+        return Ok(());
+    }
+    if !ctx.is_sealed(block) {
+        return Err(FinalizeError::Unsealed(block));
+    }
+    if status != BlockStatus::Filled {
+        return Err(FinalizeError::Unfilled(block));
+    }
+    Ok(())
+}

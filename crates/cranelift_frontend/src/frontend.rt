@@ -1,0 +1,282 @@
+//! The builder of a function.
+ghost use Rattle.std.specs.Prelude.{◌≡◌, ◌≢◌, ◌<◌, ◌-◌, ◌^◌, ◌+◌, ◌++◌, ◌∷◌, [], ◌==◌, ◌⊎◌, ℕ, IsTrue, ◌↔◌, OnOk, OnErr, IfOk, IfSome, IsSome, is_err, Some, None, true, false, length, slice_index, slice_get, EachIndex};
+ghost use Rattle.cranelift_frontend.specs.Context.{empty_context, status_of, begun, Begins, SetsStatus};
+ghost use Rattle.cranelift_frontend.specs.Builder.{SameLoans, with_position, is_unreachable, is_free, is_declarable, HasCurrent, Uses, UsesIn};
+ghost use Rattle.clif_ssa.specs.Tables.{is_yes, pending_of};
+ghost use Rattle.clif_ssa.specs.Ssa.{record_of, sealed_of, completed, completing_blocks, Records, SameBlocks, Seals, Waits, Zeroes};
+ghost use Rattle.clif_ir.specs.Body.{empty_body, inst_at, block_at, value_at};
+ghost use Rattle.clif_ir.specs.Changes.{with_block, inserted_in};
+
+use crate::context::{BlockStatus, FunctionBuilderContext};
+use clif_ir::Function;
+use clif_ssa::Variable;
+use clif_types::{Block, BuildError, Inst, Type, Value};
+
+/// Builds one function.
+///
+/// After a call that answers `Memory` or `Full` each later call that may take memory answers `Failed`.
+#[derive(Drop)]
+pub struct FunctionBuilder<'a> {
+    pub(crate) func: &'a mut Function,
+    pub(crate) ctx: &'a mut FunctionBuilderContext,
+    pub(crate) position: Option<Block>,
+    pub(crate) failed: bool,
+}
+
+impl<'a> FunctionBuilder<'a> {
+    /// A builder of `func`, which is as its makers leave it, with an empty context.
+    pub fn new(func: &'a mut Function, ctx: &'a mut FunctionBuilderContext) -> Self
+        requires fresh { func.old ≡ empty_body func.old.name func.old.signature }
+        requires empty { ctx.old ≡ empty_context }
+        ensures { result ≡ record { func = func.entry; ctx = ctx.entry; position = None; failed = false } }
+    {
+        FunctionBuilder {
+            func,
+            ctx,
+            position: None,
+            failed: false,
+        }
+    }
+
+    /// The function as it is so far.
+    pub fn func(&self) -> &Function
+        ensures { result.now ≡ self.now.func.now }
+    {
+        self.func
+    }
+
+    /// The block in which instructions are made, if there is one.
+    pub fn current_block(&self) -> Option<Block>
+        ensures { result ≡ self.now.position }
+    {
+        self.position
+    }
+
+    /// Whether all predecessors of a block are known.
+    pub fn is_sealed(&self, block: Block) -> bool
+        ensures { result ≡ is_yes (sealed_of self.now.ctx.now.ssa block) }
+    {
+        self.ctx.is_sealed(block)
+    }
+
+    /// Whether a terminator was appended to a block.
+    pub fn is_filled(&self, block: Block) -> bool
+        ensures { IsTrue result ↔ (status_of self.now.ctx.now block ≡ BlockStatus.Filled) }
+    {
+        self.ctx.block_status(block) == BlockStatus::Filled
+    }
+
+    /// Whether nothing was made in a block so far.
+    pub fn is_pristine(&self, block: Block) -> bool
+        ensures { IsTrue result ↔ (status_of self.now.ctx.now block ≡ BlockStatus.Empty) }
+    {
+        self.ctx.block_status(block) == BlockStatus::Empty
+    }
+
+    /// Whether nothing leads to the current block: the layout isn't empty, and the current block isn't
+    /// its first one, is sealed, and has no predecessor, as no block has so far.
+    pub fn is_unreachable(&self) -> bool
+        requires { IsSome self.now.position }
+        ensures { IfSome self.now.position (λ block. result ≡ is_unreachable self.now.func.now self.now.ctx.now block) }
+    {
+        let Some(block) = self.position else {
+            return false;
+        };
+        match self.func.entry_block() {
+            None => false,
+            Some(entry) => entry != block && self.is_sealed(block),
+        }
+    }
+
+    /// The results of an instruction, in order.
+    pub fn inst_results(&self, inst: Inst) -> &[Value]
+        requires { inst < length self.now.func.now.insts }
+        ensures exact { result.now ≡ (inst_at self.now.func.now inst).results }
+        ensures exist { EachIndex result.now (λ k. slice_index result.now k < length self.now.func.now.values) }
+    {
+        self.func.inst_results(inst)
+    }
+
+    /// Makes `block` the current one, where the block that was current may be left.
+    pub fn switch_to_block(&mut self, block: Block)
+        requires exists { block < length self.old.func.now.blocks }
+        requires unfilled { status_of self.old.ctx.now block ≢ BlockStatus.Filled }
+        requires free { IsTrue (is_free self.old) }
+        ensures { self.new ≡ with_position self.old block }
+    {
+        self.position = Some(block);
+    }
+
+    /// Makes a block.
+    pub fn create_block(&mut self) -> Result<Block, BuildError>
+        ensures loans { SameLoans self.old self.new }
+        ensures function { OnOk result (self.new.func.now ≡ with_block self.old.func.now) }
+        ensures number { IfOk result (λ b. b ≡ length self.old.func.now.blocks) }
+        ensures records { self.new.ctx.now.ssa.records ≡ self.old.ctx.now.ssa.records }
+        ensures sealed { SameBlocks self.old.ctx.now.ssa self.new.ctx.now.ssa }
+        ensures status { self.new.ctx.now.status ≡ self.old.ctx.now.status }
+        ensures variables { self.new.ctx.now.variables ≡ self.old.ctx.now.variables }
+        ensures position { self.new.position ≡ self.old.position }
+        ensures full { result ≡ Err BuildError.Full → length self.old.func.now.blocks ≡ 2 ^ 32 - 1 }
+        ensures failed { (result ≡ Err BuildError.Failed) ↔ IsTrue self.old.failed }
+        ensures fails { self.new.failed ≡ is_err result }
+    {
+        if self.failed {
+            return Err(BuildError::Failed);
+        }
+        let made = make_block(self.func, self.ctx);
+        self.failed = made.is_err();
+        made
+    }
+
+    /// Says that all predecessors of a block are known.
+    pub fn seal_block(&mut self, block: Block) -> Result<(), BuildError>
+        requires exists { block < length self.old.func.now.blocks }
+        requires unsealed { is_yes (sealed_of self.old.ctx.now.ssa block) ≡ false }
+        ensures loans { SameLoans self.old self.new }
+        ensures function { OnOk result (self.new.func.now ≡ completed self.old.func.now (pending_of (sealed_of self.old.ctx.now.ssa block))) }
+        ensures sealed { OnOk result (Seals self.old.ctx.now.ssa self.new.ctx.now.ssa block) }
+        ensures records { self.new.ctx.now.ssa.records ≡ self.old.ctx.now.ssa.records }
+        ensures status { OnOk result (Begins self.old.ctx.now self.new.ctx.now (completing_blocks self.old.func.now (pending_of (sealed_of self.old.ctx.now.ssa block)))) }
+        ensures variables { self.new.ctx.now.variables ≡ self.old.ctx.now.variables }
+        ensures position { self.new.position ≡ self.old.position }
+        ensures failed { (result ≡ Err BuildError.Failed) ↔ IsTrue self.old.failed }
+        ensures fails { self.new.failed ≡ is_err result }
+    {
+        if self.failed {
+            return Err(BuildError::Failed);
+        }
+        let sealed = self.ctx.seal_block(block, self.func);
+        self.failed = sealed.is_err();
+        sealed
+    }
+
+    /// Makes a variable. So far its type is one of I8 to I64.
+    pub fn declare_var(&mut self, ty: Type) -> Result<Variable, BuildError>
+        requires { IsTrue (is_declarable ty) }
+        ensures loans { SameLoans self.old self.new }
+        ensures function { self.new.func.now ≡ self.old.func.now }
+        ensures variables { OnOk result (self.new.ctx.now ≡ record self.old.ctx.now { variables = self.old.ctx.now.variables ++ ty ∷ [] }) }
+        ensures number { IfOk result (λ v. v ≡ length self.old.ctx.now.variables) }
+        ensures position { self.new.position ≡ self.old.position }
+        ensures full { result ≡ Err BuildError.Full → length self.old.ctx.now.variables ≡ 2 ^ 32 - 1 }
+        ensures failed { (result ≡ Err BuildError.Failed) ↔ IsTrue self.old.failed }
+        ensures fails { self.new.failed ≡ is_err result }
+    {
+        if self.failed {
+            return Err(BuildError::Failed);
+        }
+        let declared = self.ctx.declare_var(ty);
+        self.failed = declared.is_err();
+        declared
+    }
+
+    /// Assigns a value to a variable of its type, in the current block.
+    pub fn def_var(&mut self, variable: Variable, value: Value) -> Result<(), BuildError>
+        requires current { HasCurrent self.old }
+        requires declared { variable < length self.old.ctx.now.variables }
+        requires value_exists { value < length self.old.func.now.values }
+        requires same_type { slice_get self.old.ctx.now.variables variable ≡ Some (value_at self.old.func.now value).ty }
+        ensures loans { SameLoans self.old self.new }
+        ensures function { self.new.func.now ≡ self.old.func.now }
+        ensures records { IfSome self.old.position (λ block. OnOk result (Records self.old.ctx.now.ssa self.new.ctx.now.ssa variable block value)) }
+        ensures sealed { self.new.ctx.now.ssa.blocks ≡ self.old.ctx.now.ssa.blocks }
+        ensures status { self.new.ctx.now.status ≡ self.old.ctx.now.status }
+        ensures variables { self.new.ctx.now.variables ≡ self.old.ctx.now.variables }
+        ensures position { self.new.position ≡ self.old.position }
+        ensures never_full { result ≢ Err BuildError.Full }
+        ensures failed { (result ≡ Err BuildError.Failed) ↔ IsTrue self.old.failed }
+        ensures fails { self.new.failed ≡ is_err result }
+    {
+        if self.failed {
+            return Err(BuildError::Failed);
+        }
+        let Some(block) = self.position else {
+            unreachable!();
+        };
+        let recorded = self.ctx.def_var(variable, value, block);
+        self.failed = recorded.is_err();
+        recorded
+    }
+
+    /// The value of a variable at this point of the current block.
+    pub fn use_var(&mut self, variable: Variable) -> Result<Value, BuildError>
+        requires current { HasCurrent self.old }
+        requires declared { variable < length self.old.ctx.now.variables }
+        ensures loans { SameLoans self.old self.new }
+        ensures uses { IfSome self.old.position (λ block. IfOk result (Uses self.old self.new variable block)) }
+        ensures status { IfSome self.old.position (λ block. OnOk result (SetsStatus self.old.ctx.now self.new.ctx.now block (begun (status_of self.old.ctx.now block)))) }
+        ensures variables { self.new.ctx.now.variables ≡ self.old.ctx.now.variables }
+        ensures position { self.new.position ≡ self.old.position }
+        ensures failed { (result ≡ Err BuildError.Failed) ↔ IsTrue self.old.failed }
+        ensures fails { self.new.failed ≡ is_err result }
+    {
+        if self.failed {
+            return Err(BuildError::Failed);
+        }
+        let Some(block) = self.position else {
+            unreachable!();
+        };
+        let Some(ty) = self.ctx.var_type(variable) else {
+            unreachable!();
+        };
+        let used = use_variable(self.func, self.ctx, variable, ty, block);
+        self.failed = used.is_err();
+        used
+    }
+}
+
+// Brings a block into the layout, where something is made in it.
+pub(crate) fn begin_block(
+    func: &mut Function,
+    ctx: &mut FunctionBuilderContext,
+    block: Block,
+) -> Result<(), BuildError>
+    requires { block < length func.old.blocks }
+    ensures function { OnOk result (func.new ≡ inserted_in func.old block) }
+    ensures status { OnOk result (SetsStatus ctx.old ctx.new block (begun (status_of ctx.old block))) }
+    ensures ssa { ctx.new.ssa ≡ ctx.old.ssa }
+    ensures variables { ctx.new.variables ≡ ctx.old.variables }
+    ensures only_memory { OnErr result (result ≡ Err BuildError.Memory) }
+{
+    func.ensure_block_inserted(block)?;
+    match ctx.block_status(block) {
+        BlockStatus::Empty => ctx.set_status(block, BlockStatus::Partial),
+        BlockStatus::Partial | BlockStatus::Filled => Ok(()),
+    }
+}
+
+#[tactic(auto, using(crate::proofs::Statuses::use_rules))]
+// The value of a variable of type `ty` in a block.
+fn use_variable(
+    func: &mut Function,
+    ctx: &mut FunctionBuilderContext,
+    variable: Variable,
+    ty: Type,
+    block: Block,
+) -> Result<Value, BuildError>
+    requires { block < length func.old.blocks }
+    ensures uses { IfOk result (UsesIn func.old ctx.old func.new ctx.new variable ty block) }
+    ensures status { OnOk result (SetsStatus ctx.old ctx.new block (begun (status_of ctx.old block))) }
+    ensures variables { ctx.new.variables ≡ ctx.old.variables }
+    ensures never_failed { result ≢ Err BuildError.Failed }
+{
+    begin_block(func, ctx, block)?;
+    ctx.use_var(func, variable, ty, block)
+}
+
+// Makes a block, and makes it known to the construction of SSA form.
+fn make_block(func: &mut Function, ctx: &mut FunctionBuilderContext) -> Result<Block, BuildError>
+    ensures function { OnOk result (func.new ≡ with_block func.old) }
+    ensures number { IfOk result (λ b. b ≡ length func.old.blocks) }
+    ensures records { ctx.new.ssa.records ≡ ctx.old.ssa.records }
+    ensures sealed { SameBlocks ctx.old.ssa ctx.new.ssa }
+    ensures status { ctx.new.status ≡ ctx.old.status }
+    ensures variables { ctx.new.variables ≡ ctx.old.variables }
+    ensures full { result ≡ Err BuildError.Full → length func.old.blocks ≡ 2 ^ 32 - 1 }
+    ensures never_failed { result ≢ Err BuildError.Failed }
+{
+    let block = func.create_block()?;
+    ctx.declare_block(block)?;
+    Ok(block)
+}

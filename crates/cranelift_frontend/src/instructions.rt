@@ -1,0 +1,139 @@
+//! The instructions that a builder makes: `builder.ins().iadd(x, y)?`.
+ghost use Rattle.std.specs.Prelude.{◌≡◌, ◌≢◌, ◌<◌, ◌-◌, ◌^◌, ◌⊎◌, ◌↔◌, ◌∷◌, [], ℕ, IsTrue, OnOk, OnErr, IfOk, IfSome, is_err, Some, true, false, length, slice_index, EachIndex, if◌then◌else◌};
+ghost use Rattle.clif_types.specs.Types.{is_int};
+ghost use Rattle.clif_ir.specs.Body.{value_at};
+ghost use Rattle.clif_ir.specs.Instruction.{operands, is_terminator, has_result};
+ghost use Rattle.cranelift_frontend.specs.Context.{SetsStatus, status_of, begun};
+ghost use Rattle.cranelift_frontend.specs.Builder.{SameLoans, HasCurrent, Appends, AppendsIn, AppendsValue};
+
+use crate::context::{BlockStatus, FunctionBuilderContext};
+use crate::frontend::{FunctionBuilder, begin_block};
+use clif_ir::inst_list::BlockEnd;
+use clif_ir::{BinaryOpcode, Function, InstructionData, ValueList};
+use clif_types::{Block, BuildError, Inst, SourceLoc, Type, Value};
+
+/// What [`FunctionBuilder::ins`] lends: the builder itself, whose methods make instructions.
+pub type FuncInstBuilder<'short, 'long> = &'short mut FunctionBuilder<'long>;
+
+impl<'a> FunctionBuilder<'a> {
+    /// The builder, to make an instruction at the end of the current block.
+    pub fn ins<'short>(&'short mut self) -> FuncInstBuilder<'short, 'a>
+        requires { HasCurrent self.old }
+        ensures same { result.ghost_name ≡ self.entry.ghost_name }
+        ensures builder { result.now ≡ self.old }
+    {
+        self
+    }
+
+    /// Appends an instruction to the current block; `ctrl_type` is its controlling type.
+    ///
+    /// A terminator fills the block.
+    pub fn build(&mut self, shape: InstructionData, ctrl_type: Type) -> Result<Inst, BuildError>
+        requires current { HasCurrent self.old }
+        requires operands_exist { EachIndex (operands shape) (λ k. slice_index (operands shape) k < length self.old.func.now.values) }
+        ensures loans { SameLoans self.old self.new }
+        ensures appends { IfSome self.old.position (λ block. IfOk result (Appends self.old self.new block shape ctrl_type)) }
+        ensures ssa { self.new.ctx.now.ssa ≡ self.old.ctx.now.ssa }
+        ensures variables { self.new.ctx.now.variables ≡ self.old.ctx.now.variables }
+        ensures position { self.new.position ≡ self.old.position }
+        ensures full { result ≡ Err BuildError.Full → (length self.old.func.now.insts ≡ 2 ^ 32 - 1) ⊎ (length self.old.func.now.values ≡ 2 ^ 32 - 1) }
+        ensures failed { (result ≡ Err BuildError.Failed) ↔ IsTrue self.old.failed }
+        ensures fails { self.new.failed ≡ is_err result }
+    {
+        if self.failed {
+            return Err(BuildError::Failed);
+        }
+        let Some(block) = self.position else {
+            unreachable!();
+        };
+        let built = append(self.func, self.ctx, block, shape, ctrl_type);
+        self.failed = built.is_err();
+        built
+    }
+
+    /// `iconst.ty imm`: the low bits of a 64-bit number, at an integer type.
+    pub fn iconst(&mut self, ty: Type, imm: i64) -> Result<Value, BuildError>
+        requires current { HasCurrent self.old }
+        requires integer { IsTrue (is_int ty) }
+        ensures loans { SameLoans self.old self.new }
+        ensures appends { IfSome self.old.position (λ block. IfOk result (AppendsValue self.old self.new block (InstructionData.UnaryImm imm) ty)) }
+        ensures ssa { self.new.ctx.now.ssa ≡ self.old.ctx.now.ssa }
+        ensures variables { self.new.ctx.now.variables ≡ self.old.ctx.now.variables }
+        ensures position { self.new.position ≡ self.old.position }
+        ensures failed { (result ≡ Err BuildError.Failed) ↔ IsTrue self.old.failed }
+        ensures fails { self.new.failed ≡ is_err result }
+    {
+        let inst = self.build(InstructionData::UnaryImm { imm }, ty)?;
+        Ok(self.func.inst_results(inst)[0])
+    }
+
+    /// `iadd x, y`: the sum, modulo two to the width of the type.
+    pub fn iadd(&mut self, x: Value, y: Value) -> Result<Value, BuildError>
+        requires current { HasCurrent self.old }
+        requires x_exists { x < length self.old.func.now.values }
+        requires y_exists { y < length self.old.func.now.values }
+        ensures loans { SameLoans self.old self.new }
+        ensures appends { IfSome self.old.position (λ block. IfOk result (AppendsValue self.old self.new block (InstructionData.Binary BinaryOpcode.Iadd (x ∷ y ∷ [])) (value_at self.old.func.now x).ty)) }
+        ensures ssa { self.new.ctx.now.ssa ≡ self.old.ctx.now.ssa }
+        ensures variables { self.new.ctx.now.variables ≡ self.old.ctx.now.variables }
+        ensures position { self.new.position ≡ self.old.position }
+        ensures failed { (result ≡ Err BuildError.Failed) ↔ IsTrue self.old.failed }
+        ensures fails { self.new.failed ≡ is_err result }
+    {
+        let ty = self.func.value_type(x);
+        let opcode = BinaryOpcode::Iadd;
+        let args = [x, y];
+        let inst = self.build(InstructionData::Binary { opcode, args }, ty)?;
+        Ok(self.func.inst_results(inst)[0])
+    }
+
+    /// `return x, ..`: ends the function with these values.
+    pub fn return_(&mut self, values: &[Value]) -> Result<Inst, BuildError>
+        requires current { HasCurrent self.old }
+        requires values_exist { EachIndex values.now (λ k. slice_index values.now k < length self.old.func.now.values) }
+        ensures loans { SameLoans self.old self.new }
+        ensures appends { IfSome self.old.position (λ block. IfOk result (Appends self.old self.new block (InstructionData.MultiAry values.now) Type.Invalid)) }
+        ensures ssa { self.new.ctx.now.ssa ≡ self.old.ctx.now.ssa }
+        ensures variables { self.new.ctx.now.variables ≡ self.old.ctx.now.variables }
+        ensures position { self.new.position ≡ self.old.position }
+        ensures failed { (result ≡ Err BuildError.Failed) ↔ IsTrue self.old.failed }
+        ensures fails { self.new.failed ≡ is_err result }
+    {
+        if self.failed {
+            return Err(BuildError::Failed);
+        }
+        match ValueList::from_slice(self.ctx.allocator(), values) {
+            Ok(args) => self.build(InstructionData::MultiAry { args }, Type::Invalid),
+            Err(error) => {
+                self.failed = true;
+                Err(error)
+            }
+        }
+    }
+}
+
+// Appends an instruction to a block, which is filled then if the instruction is a terminator.
+fn append(
+    func: &mut Function,
+    ctx: &mut FunctionBuilderContext,
+    block: Block,
+    shape: InstructionData,
+    ctrl_type: Type,
+) -> Result<Inst, BuildError>
+    requires block_exists { block < length func.old.blocks }
+    requires operands_exist { EachIndex (operands shape) (λ k. slice_index (operands shape) k < length func.old.values) }
+    ensures appends { IfOk result (AppendsIn func.old ctx.old func.new ctx.new block shape ctrl_type) }
+    ensures ssa { ctx.new.ssa ≡ ctx.old.ssa }
+    ensures variables { ctx.new.variables ≡ ctx.old.variables }
+    ensures full { result ≡ Err BuildError.Full → (length func.old.insts ≡ 2 ^ 32 - 1) ⊎ (length func.old.values ≡ 2 ^ 32 - 1) }
+    ensures never_failed { result ≢ Err BuildError.Failed }
+{
+    begin_block(func, ctx, block)?;
+    let ends = shape.is_terminator();
+    let no_place = SourceLoc::new(u32::MAX);
+    let inst = func.insert_inst(block, BlockEnd::Back, shape, ctrl_type, no_place)?;
+    if ends {
+        ctx.set_status(block, BlockStatus::Filled)?;
+    }
+    Ok(inst)
+}
