@@ -1,5 +1,5 @@
 -- Laws of the words for what the reading calls answer.
-use Rattle.std.proofs.Common.{◌≡◌, ◌≢◌, ℕ, zero, suc, ◌+◌, ◌<◌, List, [], ◌∷◌, length, refl, ap, arith, sym, ◌∙◌, subst, inl, inr, ◌==◌}
+use Rattle.std.proofs.Common.{◌≡◌, ◌≢◌, ℕ, zero, suc, ◌+◌, ◌<◌, List, [], ◌∷◌, length, refl, ap, arith, sym, ◌∙◌, subst, inl, inr, ◌==◌, Bool, true, false}
 use Rattle.std.specs.Prelude.{slice_index, slice_get, None, if◌then◌else◌, remove}
 use Rattle.std.proofs.lemmas.Grind.{common_steps}
 use Rattle.std.proofs.lemmas.Bool.{cases_eq}
@@ -120,11 +120,11 @@ pub Stands-from_test : (x : ℕ) (xs : List ℕ) → stands_in x xs ≡ true →
 Stands-from_test x [] test = let no : ⊥ = cc in absurd no
 Stands-from_test x (y ∷ ys) test =
     elim (cases_eq y x) [
-      inl same ↦ (0, omega arith, same)
-    | inr other ↦
-        let rest : stands_in x ys ≡ true = grind (arith, common_steps, other, test) in
-        let there : Stands x ys = Stands-from_test x ys rest in
-        (suc there.0, omega (arith, there.1), there.2)
+      | inl same ↦ (0, omega arith, same)
+      | inr other ↦
+          let rest : stands_in x ys ≡ true = grind (arith, common_steps, other, test) in
+          let there : Stands x ys = Stands-from_test x ys rest in
+          (suc there.0, omega (arith, there.1), there.2)
     ]
 
 pub test-from_Stands : (x : ℕ) (xs : List ℕ) → Stands x xs → stands_in x xs ≡ true

@@ -67,8 +67,8 @@ pub(crate) struct BlockPlace {
 /// A function: blocks with parameters, instructions and values.
 ///
 /// Contracts see it as a record of lists. Beside these it keeps what makes some questions cheap, and
-/// what no contract speaks of: where each instruction and each block stands, and which values are
-/// aliases of which. An instruction at place `k` of a block with `n` instructions put at its front has
+/// what no contract speaks of: where each instruction and each block stands, and the pairs of a value
+/// and an alias of it, in order. An instruction at place `k` of a block with `n` instructions put at its front has
 /// the slot 2^32 + `k` - `n`, so that no slot changes as instructions are put at either end.
 #[derive(Debug, Drop)]
 pub struct Function {
@@ -249,7 +249,7 @@ impl Function {
         self.blocks.len()
     }
 
-    /// The allocator of the function.
+    /// The allocator that the function grows by.
     pub fn allocator(&self) -> Global {
         self.alloc
     }

@@ -116,7 +116,8 @@ impl Function {
         Ok(())
     }
 
-    /// Puts a block at the end of the layout, unless it is in the layout.
+    /// Puts a block at the end of the layout, unless it is in the layout. The only error is `Memory`, and
+    /// the function is then as it was.
     pub fn ensure_block_inserted(&mut self, block: Block) -> Result<(), BuildError>
         requires { block < length self.old.blocks }
         ensures ok { OnOk result (self.new ≡ inserted_in self.old block) }

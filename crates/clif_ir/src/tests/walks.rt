@@ -25,6 +25,13 @@ fn along_blocks(rt: HostRuntime) -> Result<(), Fail> {
     assert_eq!(rt; func.next_block(block0), None);
     assert!(rt; func.is_block_inserted(block2));
     assert!(rt; !func.is_block_inserted(block0));
+    assert_eq!(rt; func.block_count(), 3);
+    func.ensure_block_inserted(block0)?;
+    assert!(rt; has_block(&func, block0) && has_block(&func, block2));
+    func.ensure_block_inserted(block0)?;
+    assert!(rt; has_block(&func, block0) && has_block(&func, block2));
+    assert_eq!(rt; func.next_block(block2), Some(block0));
+    assert_eq!(rt; func.next_block(block0), None);
     Ok(())
 }
 
