@@ -68,8 +68,9 @@ pub(crate) struct BlockPlace {
 ///
 /// Contracts see it as a record of lists. Beside these it keeps what makes some questions cheap, and
 /// what no contract speaks of: where each instruction and each block stands, and the pairs of a value
-/// and an alias of it, in order. An instruction at place `k` of a block with `n` instructions put at its front has
-/// the slot 2^32 + `k` - `n`, so that no slot changes as instructions are put at either end.
+/// and an alias of it, in order. An instruction at place `k` of a block with `n` instructions put at
+/// its front has the slot 2^32 + `k` - `n`, so that no slot changes as instructions are put at either
+/// end.
 #[derive(Debug, Drop)]
 pub struct Function {
     pub(crate) alloc: Global,
