@@ -10,7 +10,7 @@ use crate::script::{Answer, CallError};
 use clif_ir::{BinaryOpcode, Function, InstructionData, ValueDef};
 use clif_ssa::Variable;
 use clif_types::{Block, BuildError, LaneType, Type, Value};
-use cranelift_frontend::FunctionBuilder;
+use cranelift_frontend::{FunctionBuilder, InstBuilder};
 
 /// Makes one call.
 pub fn make_call(
