@@ -2,35 +2,46 @@
 use clif_ssa::Variable;
 use clif_types::Type;
 
-/// An answer of an earlier call: which call, from 0 on, and which of its answers.
+/// An answer of an earlier call: which call, and which of its answers.
 ///
-/// Answer 0 of an instruction is its number, and answer `k + 1` its result `k`. Every other call has
-/// at most answer 0.
+/// An instruction answers its number and then its results, so answer 0 is the instruction and answer
+/// `k + 1` its result `k`. Every other call has at most answer 0. A call is misused if a name in it leads
+/// to no answer, or to one of another kind than the call takes.
 #[derive(Clone, Copy, Debug, PartialEq, Eq)]
 pub struct Name {
+    /// The place of the call in the script, from 0 on.
     pub place: usize,
+    /// Which of its answers, from 0 on.
     pub answer: usize,
 }
 
-/// One builder call, with names in place of answers.
+/// One call on a builder, with names in place of what earlier calls answered.
+///
+/// Each variant is the builder's method, or the instruction, of its name, and has its conditions. A
+/// variable is named by its number.
 #[derive(Debug, Drop)]
 pub enum Call {
     /// `create_block()`: answers the block.
     CreateBlock,
-    /// `switch_to_block(block)`.
+    /// `switch_to_block(block)`: answers nothing. The block isn't filled, and the current block, if there
+    /// is one, is pristine, filled or unreachable.
     SwitchToBlock { block: Name },
-    /// `seal_block(block)`.
+    /// `seal_block(block)`: answers nothing. The block isn't sealed.
     SealBlock { block: Name },
-    /// `declare_var(ty)`: answers the variable.
+    /// `declare_var(ty)`: answers the variable, which is numbered from 0 on. So far the type is one of I8
+    /// to I64.
     DeclareVar { ty: Type },
-    /// `def_var(variable, value)`.
+    /// `def_var(variable, value)`: answers nothing. The variable is declared, the value has its type, and
+    /// there is a current block that isn't filled.
     DefVar { variable: Variable, value: Name },
-    /// `use_var(variable)`: answers the value.
+    /// `use_var(variable)`: answers the value. The variable is declared, and there is a current block that
+    /// isn't filled.
     UseVar { variable: Variable },
-    /// `iconst(ty, imm)`: an instruction.
+    /// `iconst.ty imm`, an instruction with one result. The type is one of integers, and there is a
+    /// current block that isn't filled, as for each instruction.
     Iconst { ty: Type, imm: i64 },
-    /// `iadd(x, y)`: an instruction.
+    /// `iadd x, y`, an instruction with one result.
     Iadd { x: Name, y: Name },
-    /// `return_(values)`: an instruction.
+    /// `return values`, an instruction without results, which fills the block.
     Return { values: Vec<Name> },
 }

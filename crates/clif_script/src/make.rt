@@ -1,5 +1,5 @@
 //! The calls of a script, each made on a builder if its condition holds.
-ghost use Rattle.std.specs.Prelude.{◌≡◌, ◌<◌, ◌++◌, ◌∷◌, [], OnOk, IfOk, IfSome, length, slice_get, slice_index, slice_index_or, EachIndex, Some, IsTrue, ◌↔◌};
+ghost use Rattle.std.specs.Prelude.{◌≡◌, ◌≢◌, ◌<◌, ◌++◌, ◌∷◌, [], OnOk, IfOk, IfSome, length, slice_get, slice_index, slice_index_or, EachIndex, Some, Err, IsTrue, ◌↔◌, false, is_err};
 ghost use Rattle.cranelift_frontend.specs.Builder.{SameLoans, AppendsValue, HasCurrent, is_declarable, is_free};
 ghost use Rattle.clif_types.specs.Types.{is_int};
 ghost use Rattle.clif_ir.specs.Body.{value_at};
@@ -10,10 +10,10 @@ use crate::script::{Answer, CallError};
 use clif_ir::{BinaryOpcode, Function, InstructionData, ValueDef};
 use clif_ssa::Variable;
 use clif_types::{Block, BuildError, LaneType, Type, Value};
-use cranelift_frontend::FunctionBuilder;
+use cranelift_frontend::{FunctionBuilder, InstBuilder};
 
-/// Makes one call.
-pub fn make_call(
+// Makes one call, where its conditions hold.
+pub(crate) fn make_call(
     builder: &mut FunctionBuilder<'_>,
     answers: &[Answer],
     types: &[Type],
@@ -21,8 +21,11 @@ pub fn make_call(
 ) -> Result<Answer, CallError>
     requires ready { IsReady builder.old answers.now }
     requires types { types.now ≡ builder.old.ctx.now.variables }
+    requires sound { builder.old.failed ≡ false }
     ensures loans { SameLoans builder.old builder.new }
     ensures ready { IfOk result (λ answer. IsReady builder.new (answers.now ++ answer ∷ [])) }
+    ensures sound { OnOk result (builder.new.failed ≡ false) }
+    ensures never_refused { result ≢ Err CallError.Refused }
     ensures variables { OnOk result (builder.new.ctx.now.variables ≡ types_after call.now builder.old.ctx.now.variables) }
 {
     match call {
@@ -64,9 +67,12 @@ fn value_named(func: &Function, answers: &[Answer], name: Name) -> Option<Value>
 
 // `create_block()`.
 fn create_block(builder: &mut FunctionBuilder<'_>, answers: &[Answer]) -> Result<Answer, CallError>
-    requires { IsReady builder.old answers.now }
+    requires ready { IsReady builder.old answers.now }
+    requires sound { builder.old.failed ≡ false }
     ensures loans { SameLoans builder.old builder.new }
     ensures ready { IfOk result (λ answer. IsReady builder.new (answers.now ++ answer ∷ [])) }
+    ensures sound { OnOk result (builder.new.failed ≡ false) }
+    ensures never_refused { result ≢ Err CallError.Refused }
     ensures variables { builder.new.ctx.now.variables ≡ builder.old.ctx.now.variables }
 {
     let block = builder.create_block()?;
@@ -79,9 +85,12 @@ fn switch_to_block(
     answers: &[Answer],
     name: Name,
 ) -> Result<Answer, CallError>
-    requires { IsReady builder.old answers.now }
+    requires ready { IsReady builder.old answers.now }
+    requires sound { builder.old.failed ≡ false }
     ensures loans { SameLoans builder.old builder.new }
     ensures ready { IfOk result (λ answer. IsReady builder.new (answers.now ++ answer ∷ [])) }
+    ensures sound { OnOk result (builder.new.failed ≡ false) }
+    ensures never_refused { result ≢ Err CallError.Refused }
     ensures variables { builder.new.ctx.now.variables ≡ builder.old.ctx.now.variables }
 {
     let block = block_named(answers, name).ok_or(CallError::Misuse)?;
@@ -110,9 +119,12 @@ fn seal_block(
     answers: &[Answer],
     name: Name,
 ) -> Result<Answer, CallError>
-    requires { IsReady builder.old answers.now }
+    requires ready { IsReady builder.old answers.now }
+    requires sound { builder.old.failed ≡ false }
     ensures loans { SameLoans builder.old builder.new }
     ensures ready { IfOk result (λ answer. IsReady builder.new (answers.now ++ answer ∷ [])) }
+    ensures sound { OnOk result (builder.new.failed ≡ false) }
+    ensures never_refused { result ≢ Err CallError.Refused }
     ensures variables { builder.new.ctx.now.variables ≡ builder.old.ctx.now.variables }
 {
     let block = block_named(answers, name).ok_or(CallError::Misuse)?;
@@ -129,9 +141,12 @@ fn declare_var(
     answers: &[Answer],
     ty: Type,
 ) -> Result<Answer, CallError>
-    requires { IsReady builder.old answers.now }
+    requires ready { IsReady builder.old answers.now }
+    requires sound { builder.old.failed ≡ false }
     ensures loans { SameLoans builder.old builder.new }
     ensures ready { IfOk result (λ answer. IsReady builder.new (answers.now ++ answer ∷ [])) }
+    ensures sound { OnOk result (builder.new.failed ≡ false) }
+    ensures never_refused { result ≢ Err CallError.Refused }
     ensures variables { OnOk result (builder.new.ctx.now.variables ≡ builder.old.ctx.now.variables ++ ty ∷ []) }
 {
     if !is_declarable(ty) {
@@ -186,8 +201,11 @@ fn def_var(
 ) -> Result<Answer, CallError>
     requires ready { IsReady builder.old answers.now }
     requires types { types.now ≡ builder.old.ctx.now.variables }
+    requires sound { builder.old.failed ≡ false }
     ensures loans { SameLoans builder.old builder.new }
     ensures ready { IfOk result (λ answer. IsReady builder.new (answers.now ++ answer ∷ [])) }
+    ensures sound { OnOk result (builder.new.failed ≡ false) }
+    ensures never_refused { result ≢ Err CallError.Refused }
     ensures variables { builder.new.ctx.now.variables ≡ builder.old.ctx.now.variables }
 {
     let value = value_named(builder.func(), answers, name).ok_or(CallError::Misuse)?;
@@ -208,8 +226,11 @@ fn use_var(
 ) -> Result<Answer, CallError>
     requires ready { IsReady builder.old answers.now }
     requires types { types.now ≡ builder.old.ctx.now.variables }
+    requires sound { builder.old.failed ≡ false }
     ensures loans { SameLoans builder.old builder.new }
     ensures ready { IfOk result (λ answer. IsReady builder.new (answers.now ++ answer ∷ [])) }
+    ensures sound { OnOk result (builder.new.failed ≡ false) }
+    ensures never_refused { result ≢ Err CallError.Refused }
     ensures variables { builder.new.ctx.now.variables ≡ builder.old.ctx.now.variables }
 {
     if !has_current(builder) || variable.index() >= types.len() {
@@ -228,6 +249,8 @@ fn append_iconst(builder: &mut FunctionBuilder<'_>, ty: Type, imm: i64) -> Resul
     ensures ssa { builder.new.ctx.now.ssa ≡ builder.old.ctx.now.ssa }
     ensures variables { builder.new.ctx.now.variables ≡ builder.old.ctx.now.variables }
     ensures position { builder.new.position ≡ builder.old.position }
+    ensures failed { (result ≡ Err BuildError.Failed) ↔ IsTrue builder.old.failed }
+    ensures fails { builder.new.failed ≡ is_err result }
 {
     builder.ins().iconst(ty, imm)
 }
@@ -242,6 +265,8 @@ fn append_iadd(builder: &mut FunctionBuilder<'_>, x: Value, y: Value) -> Result<
     ensures ssa { builder.new.ctx.now.ssa ≡ builder.old.ctx.now.ssa }
     ensures variables { builder.new.ctx.now.variables ≡ builder.old.ctx.now.variables }
     ensures position { builder.new.position ≡ builder.old.position }
+    ensures failed { (result ≡ Err BuildError.Failed) ↔ IsTrue builder.old.failed }
+    ensures fails { builder.new.failed ≡ is_err result }
 {
     builder.ins().iadd(x, y)
 }
@@ -253,16 +278,19 @@ fn iconst(
     ty: Type,
     imm: i64,
 ) -> Result<Answer, CallError>
-    requires { IsReady builder.old answers.now }
+    requires ready { IsReady builder.old answers.now }
+    requires sound { builder.old.failed ≡ false }
     ensures loans { SameLoans builder.old builder.new }
     ensures ready { IfOk result (λ answer. IsReady builder.new (answers.now ++ answer ∷ [])) }
+    ensures sound { OnOk result (builder.new.failed ≡ false) }
+    ensures never_refused { result ≢ Err CallError.Refused }
     ensures variables { builder.new.ctx.now.variables ≡ builder.old.ctx.now.variables }
 {
     if !has_current(builder) || !ty.is_int() {
         return Err(CallError::Misuse);
     }
     let value = append_iconst(builder, ty, imm)?;
-    let answer = instruction_of(builder.func(), value)?;
+    let answer = instruction_of(builder.func(), value);
     Ok(answer)
 }
 
@@ -273,9 +301,12 @@ fn iadd(
     x: Name,
     y: Name,
 ) -> Result<Answer, CallError>
-    requires { IsReady builder.old answers.now }
+    requires ready { IsReady builder.old answers.now }
+    requires sound { builder.old.failed ≡ false }
     ensures loans { SameLoans builder.old builder.new }
     ensures ready { IfOk result (λ answer. IsReady builder.new (answers.now ++ answer ∷ [])) }
+    ensures sound { OnOk result (builder.new.failed ≡ false) }
+    ensures never_refused { result ≢ Err CallError.Refused }
     ensures variables { builder.new.ctx.now.variables ≡ builder.old.ctx.now.variables }
 {
     let x = value_named(builder.func(), answers, x).ok_or(CallError::Misuse)?;
@@ -284,7 +315,7 @@ fn iadd(
         return Err(CallError::Misuse);
     }
     let value = append_iadd(builder, x, y)?;
-    let answer = instruction_of(builder.func(), value)?;
+    let answer = instruction_of(builder.func(), value);
     Ok(answer)
 }
 
@@ -294,9 +325,12 @@ fn return_(
     answers: &[Answer],
     values: &[Name],
 ) -> Result<Answer, CallError>
-    requires { IsReady builder.old answers.now }
+    requires ready { IsReady builder.old answers.now }
+    requires sound { builder.old.failed ≡ false }
     ensures loans { SameLoans builder.old builder.new }
     ensures ready { IfOk result (λ answer. IsReady builder.new (answers.now ++ answer ∷ [])) }
+    ensures sound { OnOk result (builder.new.failed ≡ false) }
+    ensures never_refused { result ≢ Err CallError.Refused }
     ensures variables { builder.new.ctx.now.variables ≡ builder.old.ctx.now.variables }
 {
     let values = values_named(builder.func(), answers, values)?;
@@ -308,13 +342,13 @@ fn return_(
 }
 
 // The instruction of which a value is the result.
-fn instruction_of(func: &Function, value: Value) -> Result<Answer, CallError>
+fn instruction_of(func: &Function, value: Value) -> Answer
     requires { value < length func.now.values }
-    ensures { IfOk result (AnswerExists func.now) }
+    ensures { AnswerExists func.now result }
 {
     match func.value_def(value) {
-        ValueDef::Result(inst, _) => Ok(Answer::Inst(inst)),
-        ValueDef::Param(..) => Ok(Answer::Value(value)),
+        ValueDef::Result(inst, _) => Answer::Inst(inst),
+        ValueDef::Param(..) => Answer::Value(value),
     }
 }
 
@@ -325,7 +359,8 @@ fn values_named(
     names: &[Name],
 ) -> Result<Vec<Value>, CallError>
     requires { EachIndex answers.now (λ k. AnswerExists func.now (slice_index_or answers.now k Answer.Nothing)) }
-    ensures { IfOk result (λ values. EachIndex values.items (λ k. slice_index values.items k < length func.now.values)) }
+    ensures exist { IfOk result (λ values. EachIndex values.items (λ k. slice_index values.items k < length func.now.values)) }
+    ensures never_refused { result ≢ Err CallError.Refused }
 {
     let mut values = Vec::new(func.allocator());
     for name in names.iter() {

@@ -1,5 +1,8 @@
 //! The rows of the program `rows`: functions that are built from a fixed list of calls, and the program
 //! itself, over two writers.
+ghost use Rattle.std.specs.Prelude.{◌≡◌, ◌<◌, ◌↔◌, length, string_bytes, slice_get, IfOk, IfSome, IsSome};
+ghost use Rattle.clif_script.specs.Rows.{IsRowName};
+
 use crate::call::{Call, Name};
 use crate::script::{ReplayError, replay};
 use clif_ir::Function;
@@ -11,21 +14,23 @@ use cranelift_frontend::FunctionBuilderContext;
 use std::alloc::{AllocError, Global};
 use std::io;
 
-/// The names of the rows that are built so far, in order.
-pub const NAMES: [&str; 2] = ["first", "empty"];
+// The names of the rows that are built so far, in order.
+const NAMES: [&str; 2] = ["first", "empty"];
 
-/// A function that is built from a list of calls.
+// A function that is built from a list of calls.
 #[derive(Drop)]
-pub struct Row {
-    pub name: UserFuncName,
-    pub signature: Signature,
-    pub calls: Vec<Call>,
+struct Row {
+    name: UserFuncName,
+    signature: Signature,
+    calls: Vec<Call>,
 }
 
 const I32: Type = Type::Lane(LaneType::I32);
 
-/// The row of this name, compared byte for byte.
-pub fn make_row(alloc: Global, name: &str) -> Result<Option<Row>, AllocError> {
+// The row of this name, compared byte for byte.
+fn make_row(alloc: Global, name: &str) -> Result<Option<Row>, AllocError>
+    ensures { IfOk result (λ row. IsSome row ↔ IsRowName name.now) }
+{
     match name {
         "first" => Ok(Some(first(alloc)?)),
         "empty" => Ok(Some(empty(alloc))),
@@ -83,17 +88,29 @@ fn empty(alloc: Global) -> Row {
     }
 }
 
-/// The program: prints the row that the one argument names, or the names of the rows where there is no
-/// argument, and answers the exit status.
+/// The program `rows NAME`: builds the function of the row that the argument names, for pointers of 64
+/// bits and the convention `system_v`, and prints it. Without an argument it prints the names of the
+/// rows, one a line. Answers the exit status.
 ///
-/// 0: printed to `out`. 1: a refusal, whose text is on `err`, or a write that failed. 2: an unknown row
-/// or more than one argument, told on `err`.
+/// | Status | When |
+/// |---|---|
+/// | 0 | the text was printed to `out`, and nothing to `err` |
+/// | 1 | the function couldn't be built, and `err` has the reason, as `no memory`; or a write failed |
+/// | 2 | `err` has `unknown row: NAME`, or `usage: rows [NAME]` where there is more than one argument |
+///
+/// Names are compared byte for byte. Where a write fails, what was written before it stays written.
 pub fn run<O: io::Write, E: io::Write>(
     alloc: Global,
     args: &[String],
     out: &mut O,
     err: &mut E,
-) -> u8 {
+) -> u8
+    ensures status { result < 3 }
+    ensures names { length args.now ≡ 0 → result < 2 }
+    ensures known { length args.now ≡ 1 → IfSome (slice_get args.now 0) (λ name. IsRowName (string_bytes name) → result < 2) }
+    ensures unknown { length args.now ≡ 1 → IfSome (slice_get args.now 0) (λ name. result ≡ 0 → IsRowName (string_bytes name)) }
+    ensures usage { 1 < length args.now → 0 < result }
+{
     let printed = match args {
         [] => print_names(out),
         [name] => print_row(alloc, name.as_str(), out, err),
@@ -106,12 +123,16 @@ pub fn run<O: io::Write, E: io::Write>(
 }
 
 // Writes a line, and answers a status.
-fn told<E: io::Write>(err: &mut E, status: u8, line: &str) -> io::Result<u8> {
+fn told<E: io::Write>(err: &mut E, status: u8, line: &str) -> io::Result<u8>
+    ensures { IfOk result (λ answer. answer ≡ status) }
+{
     writeln!(err, "{line}")?;
     Ok(status)
 }
 
-fn print_names<O: io::Write>(out: &mut O) -> io::Result<u8> {
+fn print_names<O: io::Write>(out: &mut O) -> io::Result<u8>
+    ensures { IfOk result (λ status. status ≡ 0) }
+{
     for name in NAMES.iter() {
         writeln!(out, "{name}")?;
     }
@@ -123,7 +144,11 @@ fn print_row<O: io::Write, E: io::Write>(
     name: &str,
     out: &mut O,
     err: &mut E,
-) -> io::Result<u8> {
+) -> io::Result<u8>
+    ensures known { IsRowName name.now → IfOk result (λ status. status < 2) }
+    ensures unknown { IfOk result (λ status. status ≡ 0 → IsRowName name.now) }
+    ensures status { IfOk result (λ status. status < 3) }
+{
     match make_row(alloc, name) {
         Ok(Some(row)) => print_function(build(alloc, row), out, err),
         Ok(None) => {
@@ -138,7 +163,9 @@ fn print_function<O: io::Write, E: io::Write>(
     built: Result<Function, ReplayError>,
     out: &mut O,
     err: &mut E,
-) -> io::Result<u8> {
+) -> io::Result<u8>
+    ensures { IfOk result (λ status. status < 2) }
+{
     match built {
         Ok(func) => {
             let text = func.display();
@@ -152,8 +179,8 @@ fn print_function<O: io::Write, E: io::Write>(
     }
 }
 
-/// Builds a row with pointers of 64 bits and the convention `system_v`.
-pub fn build(alloc: Global, row: Row) -> Result<Function, ReplayError> {
+// Builds a row with pointers of 64 bits and the convention `system_v`.
+fn build(alloc: Global, row: Row) -> Result<Function, ReplayError> {
     let Row {
         name,
         signature,

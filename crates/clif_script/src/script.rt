@@ -1,8 +1,9 @@
 //! Scripts are replayed: each call is made on a builder, in order, if its condition holds.
-ghost use Rattle.std.specs.Prelude.{◌≡◌, [], OnOk};
+ghost use Rattle.std.specs.Prelude.{◌≡◌, ◌≢◌, ℕ, ◌<◌, [], length, false, OnOk, Err, Some};
 ghost use Rattle.cranelift_frontend.specs.Builder.{SameLoans};
 ghost use Rattle.cranelift_frontend.specs.Context.{empty_context};
 ghost use Rattle.clif_script.specs.Ready.{IsReady};
+ghost use Rattle.clif_script.specs.Errors.{call_error_of, replay_error_at, call_memory, replay_memory, replay_error_text};
 
 use crate::call::Call;
 use crate::make::make_call;
@@ -17,19 +18,27 @@ use std::error::Error;
 use std::fmt;
 
 /// Why a script didn't become a function.
+///
+/// Calls are numbered from 0 on; `finalize`, which follows the last call, has the number of calls as its
+/// place. What is told is the first call that didn't succeed, and no call after it was made.
 #[derive(Clone, Copy, Debug, PartialEq, Eq)]
 pub enum ReplayError {
-    /// A condition of this call doesn't hold, or a name in it leads to no such answer.
+    /// A condition of the call at this place doesn't hold, or a name in it leads to no such answer: the
+    /// script is wrong. It prints as `misuse at call 3`.
     Misuse(usize),
-    /// This call was refused, for another cause than memory or a full table.
+    /// The call at this place was refused, for another cause than memory or a full table; so far only
+    /// `finalize` is, where a block was begun and not sealed or not filled. It prints as
+    /// `refused at call 4`.
     Refused(usize),
-    /// Memory was refused.
+    /// Memory was refused. It prints as `no memory`.
     Memory,
-    /// A table holds 2^32 - 1 entries.
+    /// A table holds 2^32 - 1 entries. It prints as `table full`.
     Full,
 }
 
 impl fmt::Display for ReplayError {
+    ghost output = { λ e. Some (replay_error_text e) };
+
     fn fmt<W: fmt::Write>(&self, f: &mut fmt::Formatter<W>) -> fmt::Result {
         match self {
             ReplayError::Misuse(place) => write!(f, "misuse at call {place}"),
@@ -42,9 +51,9 @@ impl fmt::Display for ReplayError {
 
 impl Error for ReplayError {}
 
-/// What a call answered. The results of an instruction are asked of the function.
+// What a call answered. The results of an instruction are asked of the function.
 #[derive(Clone, Copy, Debug, PartialEq, Eq)]
-pub enum Answer {
+pub(crate) enum Answer {
     Nothing,
     Block(Block),
     Variable(Variable),
@@ -52,9 +61,9 @@ pub enum Answer {
     Inst(Inst),
 }
 
-/// Why one call didn't succeed.
+// Why one call didn't succeed.
 #[derive(Clone, Copy, Debug, PartialEq, Eq)]
-pub enum CallError {
+pub(crate) enum CallError {
     Misuse,
     Refused,
     Memory,
@@ -62,6 +71,8 @@ pub enum CallError {
 }
 
 impl From<BuildError> for CallError {
+    ghost from_gives = { λ refusal error. error ≡ call_error_of refusal };
+
     fn from(error: BuildError) -> CallError {
         match error {
             BuildError::Memory => CallError::Memory,
@@ -72,20 +83,26 @@ impl From<BuildError> for CallError {
 }
 
 impl<T: Drop> From<AllocFailed<T>> for CallError {
+    ghost from_gives = { λ _ error. error ≡ call_memory };
+
     fn from(_error: AllocFailed<T>) -> CallError {
         CallError::Memory
     }
 }
 
 impl<T: Drop> From<AllocFailed<T>> for ReplayError {
+    ghost from_gives = { λ _ error. error ≡ replay_memory };
+
     fn from(_error: AllocFailed<T>) -> ReplayError {
-        ReplayError::Memory
+        Self::Memory
     }
 }
 
 impl CallError {
     // The same, of the call at a place.
-    fn at(self, place: usize) -> ReplayError {
+    fn at(self, place: usize) -> ReplayError
+        ensures { result ≡ replay_error_at self place }
+    {
         match self {
             CallError::Misuse => ReplayError::Misuse(place),
             CallError::Refused => ReplayError::Refused(place),
@@ -95,10 +112,15 @@ impl CallError {
     }
 }
 
-/// Makes the calls on a new function of this name and signature, and finishes it.
+/// Makes the calls, in order, on a builder of a new function with this name and signature, and finishes
+/// the function by `finalize(config)`.
 ///
-/// `ctx` is empty, and is empty afterwards in every case. The place of `finalize` is the number of
-/// calls.
+/// Each call is made only if its conditions hold, which are tested here, so every list of calls may be
+/// passed. `ctx` is empty, and is empty afterwards in every case, so it serves the next script.
+///
+/// # Errors
+///
+/// The first call that doesn't succeed ends the replay, and is told as [`ReplayError`] says.
 pub fn replay(
     alloc: Global,
     calls: &[Call],
@@ -109,6 +131,8 @@ pub fn replay(
 ) -> Result<Function, ReplayError>
     requires { ctx.old ≡ empty_context }
     ensures context { ctx.new ≡ empty_context }
+    ensures misuse { (i : ℕ) → result ≡ Err (ReplayError.Misuse i) → i < length calls.now }
+    ensures refused { (i : ℕ) → result ≡ Err (ReplayError.Refused i) → i ≡ length calls.now }
 {
     let mut func = Function::with_name_signature(alloc, name, signature);
     let mut builder = FunctionBuilder::new(&mut func, ctx);
@@ -131,7 +155,10 @@ fn make_calls(
 ) -> Result<(), ReplayError>
     requires ready { IsReady builder.old [] }
     requires types { builder.old.ctx.now.variables ≡ [] }
+    requires sound { builder.old.failed ≡ false }
     ensures loans { SameLoans builder.old builder.new }
+    ensures misuse { (i : ℕ) → result ≡ Err (ReplayError.Misuse i) → i < length calls.now }
+    ensures never_refused { (i : ℕ) → result ≢ Err (ReplayError.Refused i) }
 {
     let mut answers = Vec::new(alloc);
     let mut types = Vec::new(alloc);

@@ -12,23 +12,31 @@ use clif_ir::inst_list::BlockEnd;
 use clif_ir::{BinaryOpcode, Function, InstructionData, ValueList};
 use clif_types::{Block, BuildError, Inst, SourceLoc, Type, Value};
 
-/// What [`FunctionBuilder::ins`] lends: the builder itself, whose methods make instructions.
-pub type FuncInstBuilder<'short, 'long> = &'short mut FunctionBuilder<'long>;
+/// What makes an instruction of any shape at the end of the current block.
+pub trait InstBuilderBase<'f>: Sized {
+    ghost use Rattle.std.specs.Prelude.{ℕ};
 
-impl<'a> FunctionBuilder<'a> {
-    /// The builder, to make an instruction at the end of the current block.
-    pub fn ins<'short>(&'short mut self) -> FuncInstBuilder<'short, 'a>
-        requires { HasCurrent self.old }
-        ensures same { result.ghost_name ≡ self.entry.ghost_name }
-        ensures builder { result.now ≡ self.old }
-    {
-        self
-    }
+    // there is a current block, which may get an instruction
+    ghost can_build: { Self → Type 0 };
+
+    // the function has this value
+    ghost has_value: { Self → ℕ → Type 0 };
+
+    /// Appends an instruction; `ctrl_type` is its controlling type.
+    fn build(self, shape: InstructionData, ctrl_type: Type) -> Result<Inst, BuildError>
+        requires current { can_build self }
+        requires operands_exist { EachIndex (operands shape) (λ k. has_value self (slice_index (operands shape) k)) };
+}
+
+impl<'short, 'long> InstBuilderBase<'long> for &'short mut FunctionBuilder<'long> {
+    ghost can_build = { λ b. HasCurrent b.now };
+
+    ghost has_value = { λ b value. value < length b.now.func.now.values };
 
     /// Appends an instruction to the current block; `ctrl_type` is its controlling type.
     ///
     /// A terminator fills the block.
-    pub fn build(&mut self, shape: InstructionData, ctrl_type: Type) -> Result<Inst, BuildError>
+    fn build(self, shape: InstructionData, ctrl_type: Type) -> Result<Inst, BuildError>
         requires current { HasCurrent self.old }
         requires operands_exist { EachIndex (operands shape) (λ k. slice_index (operands shape) k < length self.old.func.now.values) }
         ensures loans { SameLoans self.old self.new }
@@ -50,9 +58,29 @@ impl<'a> FunctionBuilder<'a> {
         self.failed = built.is_err();
         built
     }
+}
 
+/// The instructions, by name.
+pub trait InstBuilder<'f>: InstBuilderBase<'f> {
     /// `iconst.ty imm`: the low bits of a 64-bit number, at an integer type.
-    pub fn iconst(&mut self, ty: Type, imm: i64) -> Result<Value, BuildError>
+    fn iconst(self, ty: Type, imm: i64) -> Result<Value, BuildError>
+        requires current { Self.can_build self }
+        requires integer { IsTrue (is_int ty) };
+
+    /// `iadd x, y`: the sum, modulo two to the width of the type.
+    fn iadd(self, x: Value, y: Value) -> Result<Value, BuildError>
+        requires current { Self.can_build self }
+        requires x_exists { Self.has_value self x }
+        requires y_exists { Self.has_value self y };
+
+    /// `return x, ..`: ends the function with these values.
+    fn return_(self, values: &[Value]) -> Result<Inst, BuildError>
+        requires current { Self.can_build self }
+        requires values_exist { EachIndex values.now (λ k. Self.has_value self (slice_index values.now k)) };
+}
+
+impl<'short, 'long> InstBuilder<'long> for &'short mut FunctionBuilder<'long> {
+    fn iconst(self, ty: Type, imm: i64) -> Result<Value, BuildError>
         requires current { HasCurrent self.old }
         requires integer { IsTrue (is_int ty) }
         ensures loans { SameLoans self.old self.new }
@@ -67,8 +95,7 @@ impl<'a> FunctionBuilder<'a> {
         Ok(self.func.inst_results(inst)[0])
     }
 
-    /// `iadd x, y`: the sum, modulo two to the width of the type.
-    pub fn iadd(&mut self, x: Value, y: Value) -> Result<Value, BuildError>
+    fn iadd(self, x: Value, y: Value) -> Result<Value, BuildError>
         requires current { HasCurrent self.old }
         requires x_exists { x < length self.old.func.now.values }
         requires y_exists { y < length self.old.func.now.values }
@@ -87,8 +114,7 @@ impl<'a> FunctionBuilder<'a> {
         Ok(self.func.inst_results(inst)[0])
     }
 
-    /// `return x, ..`: ends the function with these values.
-    pub fn return_(&mut self, values: &[Value]) -> Result<Inst, BuildError>
+    fn return_(self, values: &[Value]) -> Result<Inst, BuildError>
         requires current { HasCurrent self.old }
         requires values_exist { EachIndex values.now (λ k. slice_index values.now k < length self.old.func.now.values) }
         ensures loans { SameLoans self.old self.new }
@@ -109,6 +135,20 @@ impl<'a> FunctionBuilder<'a> {
                 Err(error)
             }
         }
+    }
+}
+
+/// What [`FunctionBuilder::ins`] lends: the builder itself, whose methods make instructions.
+pub type FuncInstBuilder<'short, 'long> = &'short mut FunctionBuilder<'long>;
+
+impl<'a> FunctionBuilder<'a> {
+    /// The builder, to make an instruction at the end of the current block.
+    pub fn ins<'short>(&'short mut self) -> FuncInstBuilder<'short, 'a>
+        requires { HasCurrent self.old }
+        ensures same { result.ghost_name ≡ self.entry.ghost_name }
+        ensures builder { result.now ≡ self.old }
+    {
+        self
     }
 }
 

@@ -11,7 +11,7 @@ pub use clif_ssa::Variable;
 pub use context::FunctionBuilderContext;
 pub use error::FinalizeError;
 pub use frontend::FunctionBuilder;
-pub use instructions::FuncInstBuilder;
+pub use instructions::{FuncInstBuilder, InstBuilder, InstBuilderBase};
 
 /// The version of the crate whose behaviour this one has.
 pub const VERSION: &str = "0.137.1";

@@ -1,0 +1,6 @@
+-- The names of the rows. Source: own.
+use Rattle.std.specs.Prelude.{◌≡◌, ◌⊎◌, ℕ, List, codes}
+
+-- a row of this name is built so far
+abbrev pub IsRowName : List ℕ → Type 0
+IsRowName name = (name ≡ codes "first") ⊎ (name ≡ codes "empty")
