@@ -6,6 +6,8 @@
 
 pub mod ssa;
 pub mod tables;
+#[cfg(test)]
+mod tests;
 pub mod variable;
 
 pub use ssa::{SSABuilder, SideEffects};

@@ -1,8 +1,8 @@
 -- Laws of the status of blocks.
-use Rattle.std.proofs.Common.{◌≡◌, ◌≢◌, ℕ, ◌+◌, ◌<◌, List, [], length, take, get_or, refl, ap, arith, sym, ◌∙◌, inl, inr, subst}
+use Rattle.std.proofs.Common.{◌≡◌, ◌≢◌, ℕ, ◌+◌, ◌<◌, List, [], length, take, get_or, refl, ap, arith, sym, ◌∙◌, inl, inr}
 use Rattle.std.specs.Prelude.{Bool, true, false, if◌then◌else◌, ◌==◌, ◌||◌, Option, Some, None, slice_index_or}
 use Rattle.std.proofs.lemmas.Grind.{common_steps}
-use Rattle.std.proofs.lemmas.Bool.{cases_eq, cases_Bool}
+use Rattle.std.proofs.lemmas.Bool.{cases_eq}
 use Rattle.std.proofs.lemmas.List.Folds.{list_any_more}
 use Rattle.clif_ir.specs.Reading.{stands_in}
 use Rattle.clif_ssa.specs.declared.tables.Sealed.{Sealed}

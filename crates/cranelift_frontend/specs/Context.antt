@@ -1,6 +1,6 @@
 -- What clauses see of a context, and what its calls make of it.
 -- Source: the crate's documentation of `FunctionBuilderContext`; the changes are own.
-use Rattle.std.specs.Prelude.{◌≡◌, ◌⊎◌, ℕ, ◌==◌, List, [], ◌∷◌, Option, Some, None, slice_index_or, slice_get, if◌then◌else◌}
+use Rattle.std.specs.Prelude.{◌≡◌, ℕ, ◌==◌, List, [], ◌∷◌, Option, Some, None, slice_index_or, if◌then◌else◌}
 use Rattle.clif_types.specs.declared.types.«Type».{«Type»}
 use Rattle.clif_ssa.specs.Ssa.{SsaState, no_state, record_of, sealed_of}
 use Rattle.clif_ir.specs.Reading.{stands_in}

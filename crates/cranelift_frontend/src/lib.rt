@@ -6,6 +6,8 @@ pub mod error;
 pub mod finalize;
 pub mod frontend;
 pub mod instructions;
+#[cfg(test)]
+mod tests;
 
 pub use clif_ssa::Variable;
 pub use context::FunctionBuilderContext;

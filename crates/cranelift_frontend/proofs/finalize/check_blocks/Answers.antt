@@ -1,7 +1,7 @@
 use Rattle.std.proofs.Common.{◌≡◌, ◌-◌, ◌+◌, ◌∙◌, sym, ap, arith}
-use Rattle.std.specs.Prelude.{Ok, Err, None}
+use Rattle.std.specs.Prelude.{Ok, Err}
 use Rattle.std.proofs.lemmas.Result.{err_from_is_err_and}
-use Rattle.cranelift_frontend.specs.Builder.{answer_of, block_fault, first_fault}
+use Rattle.cranelift_frontend.specs.Builder.{answer_of, block_fault}
 use Rattle.cranelift_frontend.proofs.Faults.{fault_next, fault_here, fault_none}
 use Rattle.cranelift_frontend.proofs.finalize.check_blocks.Goals as goal
 
