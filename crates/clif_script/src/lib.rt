@@ -5,6 +5,8 @@ pub mod call;
 pub mod make;
 pub mod rows;
 pub mod script;
+#[cfg(test)]
+mod tests;
 
 pub use call::{Call, Name};
 pub use rows::run;
