@@ -1,5 +1,5 @@
 -- What holds between the calls of a script: everything that was answered exists. Source: own.
-use Rattle.std.specs.Prelude.{◌≡◌, ℕ, ◌<◌, List, [], ◌∷◌, ◌++◌, length, slice_index_or, Option, Some, IfSome}
+use Rattle.std.specs.Prelude.{◌≡◌, ℕ, ◌<◌, List, [], ◌∷◌, ◌++◌, length, slice_index_or, Some, IfSome}
 use Rattle.clif_ir.specs.Body.{Body}
 use Rattle.clif_ssa.specs.Ssa.{record_of}
 use Rattle.cranelift_frontend.specs.declared.frontend.FunctionBuilder.{FunctionBuilder}

@@ -1,10 +1,12 @@
 //! Scripts: lists of builder calls that are made in order, and the rows of the program `rows`.
 #![tactic(auto)]
 
-pub mod call;
-pub mod make;
-pub mod rows;
-pub mod script;
+mod call;
+mod make;
+mod rows;
+mod script;
+#[cfg(test)]
+mod tests;
 
 pub use call::{Call, Name};
 pub use rows::run;

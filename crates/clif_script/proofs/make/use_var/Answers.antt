@@ -1,4 +1,4 @@
-use Rattle.std.proofs.Common.{rules, arith, ap, sym, ◌∙◌, subst, ◌<◌, length}
+use Rattle.std.proofs.Common.{rules, arith}
 use Rattle.std.proofs.lemmas.Grind.{common_steps}
 use Rattle.clif_script.proofs.ReadyLaws.{ready_used_here}
 use Rattle.clif_script.proofs.make.use_var.Goals as goal

@@ -1,0 +1,205 @@
+//! The program `rows` over writers: statuses, texts, and writes that are refused.
+#![tactic(auto)]
+
+use crate::rows::run;
+use std::alloc::{AllocError, Global};
+use std::io;
+use std::io::Write;
+use std::process::Abort;
+use std::test::Fail;
+
+// Takes so many writes, and refuses each later one.
+#[derive(Drop)]
+struct Limited {
+    bytes: Vec<u8>,
+    left: usize,
+}
+
+impl Limited {
+    // The room is there from the start, so that no write is refused for want of memory.
+    fn new(alloc: Global, writes: usize) -> Result<Limited, AllocError> {
+        Ok(Limited {
+            bytes: Vec::with_capacity(alloc, 4_096)?,
+            left: writes,
+        })
+    }
+}
+
+impl Write for Limited {
+    fn write(&mut self, buf: &[u8]) -> io::Result<usize> {
+        let Some(left) = self.left.checked_sub(1) else {
+            return Err(io::Error::from(io::ErrorKind::BrokenPipe));
+        };
+        self.bytes.extend_from_slice(buf)?;
+        self.left = left;
+        Ok(buf.len())
+    }
+
+    fn flush(&mut self) -> io::Result<()> {
+        Ok(())
+    }
+}
+
+// What a run answered and wrote.
+#[derive(Drop)]
+struct Outcome {
+    status: u8,
+    out: Vec<u8>,
+    err: Vec<u8>,
+}
+
+// Runs the program over writers that take so many writes; where memory was refused the test itself
+// fails.
+fn run_with(
+    alloc: Global,
+    args: &[&str],
+    out_writes: usize,
+    err_writes: usize,
+) -> Result<Outcome, Fail> {
+    let mut words = Vec::new(alloc);
+    for arg in args.iter() {
+        words.push(String::from_str(alloc, arg)?)?;
+    }
+    let mut out = Limited::new(alloc, out_writes)?;
+    let mut err = Limited::new(alloc, err_writes)?;
+    let status = run(alloc, words.as_slice(), &mut out, &mut err);
+    if err.bytes.as_slice() == b"no memory\n".as_slice() && out.bytes.is_empty() && status == 1 {
+        Err("no memory")?;
+    }
+    Ok(Outcome {
+        status,
+        out: out.bytes,
+        err: err.bytes,
+    })
+}
+
+const MANY: usize = 1_000;
+
+const FIRST: &str = "\
+function %first() -> i32 system_v {
+block0:
+    v3 = iconst.i32 0
+    v0 -> v3
+    v1 = iconst.i32 7
+    v2 = iadd v0, v1  ; v0 = 0, v1 = 7
+    return v2
+}
+";
+
+// One run with these arguments gives this status and these texts.
+fn gives(
+    rt: &impl Abort,
+    alloc: Global,
+    args: &[&str],
+    status: u8,
+    out: &str,
+    err: &str,
+) -> Result<(), Fail> {
+    let ran = run_with(alloc, args, MANY, MANY)?;
+    assert_eq!(rt; ran.status, status, "with {args:?}");
+    assert_eq!(rt; ran.out.as_slice(), out.as_bytes(), "with {args:?}");
+    assert_eq!(rt; ran.err.as_slice(), err.as_bytes(), "with {args:?}");
+    Ok(())
+}
+
+#[test]
+fn rows(rt: HostRuntime) -> Result<(), Fail> {
+    let alloc = rt.alloc();
+    gives(&rt, alloc, &["first"], 0, FIRST, "")?;
+    gives(&rt, alloc, &["empty"], 0, "function u0:0() fast {\n}\n", "")?;
+    gives(&rt, alloc, &[], 0, "first\nempty\n", "")
+}
+
+#[test]
+fn unknown_rows(rt: HostRuntime) -> Result<(), Fail> {
+    let alloc = rt.alloc();
+    gives(&rt, alloc, &["First"], 2, "", "unknown row: First\n")?;
+    gives(&rt, alloc, &["first "], 2, "", "unknown row: first \n")?;
+    gives(&rt, alloc, &["firs"], 2, "", "unknown row: firs\n")?;
+    gives(&rt, alloc, &[""], 2, "", "unknown row: \n")
+}
+
+#[test]
+fn too_many_arguments(rt: HostRuntime) -> Result<(), Fail> {
+    let alloc = rt.alloc();
+    gives(
+        &rt,
+        alloc,
+        &["first", "empty"],
+        2,
+        "",
+        "usage: rows [NAME]\n",
+    )?;
+    gives(
+        &rt,
+        alloc,
+        &["x", "", "first"],
+        2,
+        "",
+        "usage: rows [NAME]\n",
+    )
+}
+
+// With each write to `out` refused in turn the status is 1, until all writes are taken; what was
+// written begins the text, and nothing is told.
+fn stops_at_each_write(
+    rt: &impl Abort,
+    alloc: Global,
+    args: &[&str],
+    text: &str,
+) -> Result<(), Fail> {
+    for writes in 0..MANY {
+        let ran = run_with(alloc, args, writes, MANY)?;
+        assert!(rt; ran.err.is_empty(), "after {writes} writes with {args:?}");
+        assert!(rt;
+            text.as_bytes().starts_with(ran.out.as_slice()),
+            "after {writes} writes with {args:?}"
+        );
+        if ran.status == 0 {
+            assert!(rt; writes > 0);
+            assert_eq!(rt; ran.out.as_slice(), text.as_bytes());
+            return Ok(());
+        }
+        assert_eq!(rt; ran.status, 1, "after {writes} writes with {args:?}");
+    }
+    Err("no run wrote its text")?
+}
+
+#[test]
+fn refused_output(rt: HostRuntime) -> Result<(), Fail> {
+    let alloc = rt.alloc();
+    stops_at_each_write(&rt, alloc, &[], "first\nempty\n")?;
+    stops_at_each_write(&rt, alloc, &["first"], FIRST)?;
+    stops_at_each_write(&rt, alloc, &["empty"], "function u0:0() fast {\n}\n")
+}
+
+// The same for writes to `err`, after which the status is 2.
+fn stops_at_each_telling(
+    rt: &impl Abort,
+    alloc: Global,
+    args: &[&str],
+    text: &str,
+) -> Result<(), Fail> {
+    for writes in 0..MANY {
+        let ran = run_with(alloc, args, MANY, writes)?;
+        assert!(rt; ran.out.is_empty(), "after {writes} writes with {args:?}");
+        assert!(rt;
+            text.as_bytes().starts_with(ran.err.as_slice()),
+            "after {writes} writes with {args:?}"
+        );
+        if ran.status == 2 {
+            assert!(rt; writes > 0);
+            assert_eq!(rt; ran.err.as_slice(), text.as_bytes());
+            return Ok(());
+        }
+        assert_eq!(rt; ran.status, 1, "after {writes} writes with {args:?}");
+    }
+    Err("no run wrote its text")?
+}
+
+#[test]
+fn refused_errors(rt: HostRuntime) -> Result<(), Fail> {
+    let alloc = rt.alloc();
+    stops_at_each_telling(&rt, alloc, &["loop"], "unknown row: loop\n")?;
+    stops_at_each_telling(&rt, alloc, &["a", "b"], "usage: rows [NAME]\n")
+}

@@ -1,0 +1,130 @@
+//! Scripts that are refused: which call is told, and as what.
+#![tactic(auto)]
+
+use super::support::Step::{
+    Create, Declare, Def, Iadd, Iconst, Return, ReturnNone, Seal, Switch, Use,
+};
+use super::support::{F32, I32, I64, all_refuse};
+use crate::script::ReplayError::{Misuse, Refused};
+use std::test::Fail;
+
+// A block that was begun and isn't sealed, or isn't filled, is told by `finalize`.
+#[test]
+fn unfinished_blocks(rt: HostRuntime) -> Result<(), Fail> {
+    all_refuse(
+        &rt,
+        rt.alloc(),
+        &[
+            (&[Create, Switch(0, 0), Iconst(I32)], Refused(3)),
+            (&[Create, Switch(0, 0), Iconst(I32), Seal(0, 0)], Refused(4)),
+            (&[Create, Switch(0, 0), ReturnNone], Refused(3)),
+        ],
+    )
+}
+
+#[test]
+fn variables(rt: HostRuntime) -> Result<(), Fail> {
+    all_refuse(
+        &rt,
+        rt.alloc(),
+        &[
+            (&[Use(0)], Misuse(0)),
+            (&[Create, Switch(0, 0), Use(0)], Misuse(2)),
+            (
+                &[Create, Switch(0, 0), Iconst(I32), Def(0, 2, 1)],
+                Misuse(3),
+            ),
+            (&[Declare(I32), Create, Switch(1, 0), Use(1)], Misuse(3)),
+            // types that don't fit
+            (&[Declare(F32)], Misuse(0)),
+            (&[Create, Switch(0, 0), Iconst(F32)], Misuse(2)),
+            (
+                &[
+                    Declare(I64),
+                    Create,
+                    Switch(1, 0),
+                    Iconst(I32),
+                    Def(0, 3, 1),
+                ],
+                Misuse(4),
+            ),
+        ],
+    )
+}
+
+#[test]
+fn names_without_answer(rt: HostRuntime) -> Result<(), Fail> {
+    all_refuse(
+        &rt,
+        rt.alloc(),
+        &[
+            (&[Create, Switch(0, 1)], Misuse(1)),
+            // its own place, a later and a missing one
+            (&[Create, Switch(1, 0)], Misuse(1)),
+            (&[Switch(1, 0), Create], Misuse(0)),
+            (&[Create, Seal(usize::MAX, 0)], Misuse(1)),
+            (&[Create, Switch(0, 0), Return(2, 0)], Misuse(2)),
+            // results that the instruction hasn't
+            (
+                &[Create, Switch(0, 0), Iconst(I32), Iadd((2, 1), (2, 2))],
+                Misuse(3),
+            ),
+            (
+                &[Create, Switch(0, 0), Iconst(I32), Return(2, usize::MAX)],
+                Misuse(3),
+            ),
+        ],
+    )
+}
+
+#[test]
+fn names_of_another_kind(rt: HostRuntime) -> Result<(), Fail> {
+    all_refuse(
+        &rt,
+        rt.alloc(),
+        &[
+            // a result, an instruction and nothing where a block is named
+            (
+                &[Create, Switch(0, 0), Iconst(I32), Switch(2, 1)],
+                Misuse(3),
+            ),
+            (&[Create, Switch(0, 0), Iconst(I32), Seal(2, 0)], Misuse(3)),
+            (&[Create, Switch(0, 0), Seal(1, 0)], Misuse(2)),
+            // a block, an instruction and a variable where a value is named
+            (&[Create, Switch(0, 0), Return(0, 0)], Misuse(2)),
+            (
+                &[Create, Switch(0, 0), Iconst(I32), Iadd((2, 0), (2, 1))],
+                Misuse(3),
+            ),
+            (
+                &[Declare(I32), Create, Switch(1, 0), Def(0, 0, 0)],
+                Misuse(3),
+            ),
+        ],
+    )
+}
+
+#[test]
+fn order_of_calls(rt: HostRuntime) -> Result<(), Fail> {
+    all_refuse(
+        &rt,
+        rt.alloc(),
+        &[
+            (&[Iconst(I32)], Misuse(0)),
+            (&[Create, Seal(0, 0), Seal(0, 0)], Misuse(2)),
+            // away from a block that is filled in part, and back to one that is filled
+            (
+                &[Create, Create, Switch(0, 0), Iconst(I32), Switch(1, 0)],
+                Misuse(4),
+            ),
+            (&[Create, Switch(0, 0), ReturnNone, Switch(0, 0)], Misuse(3)),
+            (
+                &[Create, Switch(0, 0), Iconst(I32), Return(2, 1), Iconst(I32)],
+                Misuse(4),
+            ),
+            // of two faults the first is told, also before one of `finalize`
+            (&[Create, Switch(7, 0), Iconst(F32)], Misuse(1)),
+            (&[Create, Switch(0, 0), Iconst(I32), Seal(9, 0)], Misuse(3)),
+        ],
+    )
+}

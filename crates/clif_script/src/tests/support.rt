@@ -1,0 +1,169 @@
+//! Scripts of tests as plain data, and replays whose answers are compared.
+#![tactic(auto)]
+
+ghost use Rattle.std.specs.Prelude.{◌≡◌};
+ghost use Rattle.cranelift_frontend.specs.Context.{empty_context};
+
+use crate::call::{Call, Name};
+use crate::script::{ReplayError, replay};
+use clif_ir::Function;
+use clif_ssa::Variable;
+use clif_types::{
+    CallConv, LaneType, PointerWidth, Signature, TargetFrontendConfig, Type, UserFuncName,
+};
+use cranelift_frontend::FunctionBuilderContext;
+use std::alloc::{AllocError, Global};
+use std::process::Abort;
+use std::test::Fail;
+
+pub const I32: Type = Type::Lane(LaneType::I32);
+
+pub const I64: Type = Type::Lane(LaneType::I64);
+
+pub const F32: Type = Type::Lane(LaneType::F32);
+
+/// A call, where (place, answer) is a name; each constant is 1.
+#[derive(Clone, Copy, Debug)]
+pub enum Step {
+    Create,
+    Switch(usize, usize),
+    Seal(usize, usize),
+    Declare(Type),
+    Def(u8, usize, usize),
+    Use(u8),
+    Iconst(Type),
+    Iadd((usize, usize), (usize, usize)),
+    ReturnNone,
+    Return(usize, usize),
+}
+
+fn name(place: usize, answer: usize) -> Name {
+    Name { place, answer }
+}
+
+fn variable(number: u8) -> Variable {
+    Variable::new(usize::from(number))
+}
+
+/// The call of a step.
+pub fn call_of(alloc: Global, step: Step) -> Result<Call, AllocError> {
+    Ok(match step {
+        Step::Create => Call::CreateBlock,
+        Step::Switch(place, answer) => Call::SwitchToBlock {
+            block: name(place, answer),
+        },
+        Step::Seal(place, answer) => Call::SealBlock {
+            block: name(place, answer),
+        },
+        Step::Declare(ty) => Call::DeclareVar { ty },
+        Step::Def(number, place, answer) => Call::DefVar {
+            variable: variable(number),
+            value: name(place, answer),
+        },
+        Step::Use(number) => Call::UseVar {
+            variable: variable(number),
+        },
+        Step::Iconst(ty) => Call::Iconst { ty, imm: 1 },
+        Step::Iadd(x, y) => Call::Iadd {
+            x: name(x.0, x.1),
+            y: name(y.0, y.1),
+        },
+        Step::ReturnNone => Call::Return {
+            values: Vec::new(alloc),
+        },
+        Step::Return(place, answer) => return_one(alloc, name(place, answer))?,
+    })
+}
+
+fn return_one(alloc: Global, value: Name) -> Result<Call, AllocError> {
+    let mut values = Vec::new(alloc);
+    values.push(value)?;
+    Ok(Call::Return { values })
+}
+
+fn calls_of(alloc: Global, steps: &[Step]) -> Result<Vec<Call>, AllocError> {
+    let mut calls = Vec::new(alloc);
+    for step in steps.iter() {
+        calls.push(call_of(alloc, *step)?)?;
+    }
+    Ok(calls)
+}
+
+/// Replays the calls on `u0:0`, without parameters and returns, with the convention `fast`.
+pub fn replayed(
+    alloc: Global,
+    calls: &[Call],
+    ctx: &mut FunctionBuilderContext,
+) -> Result<Function, ReplayError>
+    requires { ctx.old ≡ empty_context }
+    ensures { ctx.new ≡ empty_context }
+{
+    let name = UserFuncName::user(0, 0);
+    let signature = Signature::new(alloc, CallConv::Fast);
+    let config = TargetFrontendConfig {
+        default_call_conv: CallConv::SystemV,
+        pointer_width: PointerWidth::U64,
+        page_size_align_log2: 12,
+    };
+    replay(alloc, calls, name, signature, ctx, config)
+}
+
+// The text or the refusal of a replay, after which the context is empty; where memory was refused the
+// test itself fails.
+fn answered(
+    rt: &impl Abort,
+    alloc: Global,
+    calls: &[Call],
+    ctx: &mut FunctionBuilderContext,
+) -> Result<Result<String, ReplayError>, Fail>
+    requires { ctx.old ≡ empty_context }
+    ensures { ctx.new ≡ empty_context }
+{
+    let built = replayed(alloc, calls, ctx);
+    assert!(rt; ctx.is_empty());
+    match built {
+        Ok(func) => Ok(Ok(format!(in alloc; "{}", func.display())?)),
+        Err(ReplayError::Memory) => Err(ReplayError::Memory)?,
+        Err(error) => Ok(Err(error)),
+    }
+}
+
+/// The steps give a function of this text, and again with the same context.
+pub fn builds(rt: &impl Abort, alloc: Global, steps: &[Step], text: &str) -> Result<(), Fail> {
+    let calls = calls_of(alloc, steps)?;
+    let mut ctx = FunctionBuilderContext::new(alloc);
+    let first = answered(rt, alloc, calls.as_slice(), &mut ctx)?;
+    assert_eq!(rt; first?.as_str(), text);
+    let second = answered(rt, alloc, calls.as_slice(), &mut ctx)?;
+    assert_eq!(rt; second?.as_str(), text);
+    Ok(())
+}
+
+/// The steps are answered by this error, and then a script without calls, with the same context, by its
+/// text.
+pub fn refuses(
+    rt: &impl Abort,
+    alloc: Global,
+    steps: &[Step],
+    error: ReplayError,
+) -> Result<(), Fail> {
+    let calls = calls_of(alloc, steps)?;
+    let mut ctx = FunctionBuilderContext::new(alloc);
+    let answer = answered(rt, alloc, calls.as_slice(), &mut ctx)?;
+    assert_eq!(rt; answer.err(), Some(error), "of {steps:?}");
+    let next = answered(rt, alloc, &[], &mut ctx)?;
+    assert_eq!(rt; next?.as_str(), "function u0:0() fast {\n}\n");
+    Ok(())
+}
+
+/// The same for each script of a table.
+pub fn all_refuse(
+    rt: &impl Abort,
+    alloc: Global,
+    rows: &[(&[Step], ReplayError)],
+) -> Result<(), Fail> {
+    for row in rows.iter() {
+        refuses(rt, alloc, row.0, row.1)?;
+    }
+    Ok(())
+}
