@@ -118,21 +118,21 @@ alias_count-set (n ∷ ns) (suc v) node inside none some =
     omega (arith, rest, after, before)
 
 -- where value `v`, which is no alias, is made one of `target`, the other values stay as they are
-alias_of-set_other : (values : List ValueNode) (v : ℕ) (node : ValueNode) (u : ℕ) → u ≢ v → alias_of (set values v node) u ≡ alias_of values u
+pub alias_of-set_other : (values : List ValueNode) (v : ℕ) (node : ValueNode) (u : ℕ) → u ≢ v → alias_of (set values v node) u ≡ alias_of values u
 alias_of-set_other values v node u other = ap (λ (n : ValueNode). alias_of_origin n.origin) (get_or-set_other values v u node no_value other)
 
-alias_of-set_same : (values : List ValueNode) (v : ℕ) (node : ValueNode) → v < length values → alias_of (set values v node) v ≡ alias_of_origin node.origin
+pub alias_of-set_same : (values : List ValueNode) (v : ℕ) (node : ValueNode) → v < length values → alias_of (set values v node) v ≡ alias_of_origin node.origin
 alias_of-set_same values v node inside = ap (λ (n : ValueNode). alias_of_origin n.origin) (get_or-set_same values v node no_value inside)
 
 not_both : {x : ℕ} → ◌≡◌ {A = Option ℕ} (Some x) None → ⊥
 not_both same = cc
 
 -- a step from `v` leads to `target`; all other ways go on as before, and stop there or go to `target`
-record MovesOn (values : List ValueNode) (v target : ℕ) (node : ValueNode) (steps u : ℕ) : Type 0 where
-  moved : follow steps values u ≡ v → follow (suc steps) (set values v node) u ≡ target
-  stayed : follow steps values u ≢ v → follow (suc steps) (set values v node) u ≡ follow steps values u
+pub record MovesOn (values : List ValueNode) (v target : ℕ) (node : ValueNode) (steps u : ℕ) : Type 0 where
+  pub moved : follow steps values u ≡ v → follow (suc steps) (set values v node) u ≡ target
+  pub stayed : follow steps values u ≢ v → follow (suc steps) (set values v node) u ≡ follow steps values u
 
-follow-set : (values : List ValueNode) (v target : ℕ) (node : ValueNode) (steps u : ℕ) → LeadsInside values → u < length values → v < length values
+pub follow-set : (values : List ValueNode) (v target : ℕ) (node : ValueNode) (steps u : ℕ) → LeadsInside values → u < length values → v < length values
     → alias_of values v ≡ None → alias_of values target ≡ None → target ≢ v → alias_of_origin node.origin ≡ Some target
     → alias_of values (follow steps values u) ≡ None → MovesOn values v target node steps u
 follow-set values v target node steps u leads inside v_inside v_none target_none apart is_target ended = by_steps steps u inside ended

@@ -5,7 +5,7 @@
 //! as a word of the old one (`specs/Changes.antt`), and leaves it as it was where it answers an error.
 //! What every function keeps is one record of facts (`specs/Consistent.antt`), which
 //! [`Function::law_consistent`] gives to other crates. No contract says which text is printed but for
-//! numbers: tests do.
+//! opcodes and numbers: tests do.
 #![tactic(auto)]
 
 pub mod dfg;

@@ -4,6 +4,7 @@
 mod aliases;
 mod lists;
 mod numbers;
+mod steps;
 mod support;
 mod texts;
 mod walks;

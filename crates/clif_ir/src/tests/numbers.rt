@@ -1,8 +1,10 @@
 //! Numbers at their borders and at each width.
 #![tactic(auto)]
 
+use super::steps::Step::{Create, Iconst, LayOut, ReturnTwo};
+use super::steps::makes;
 use crate::immediates::{Imm64, signed_at};
-use crate::tests::support::{block, iconst, prints, ret, sample, v};
+use crate::inst_list::BlockEnd::Back;
 use clif_types::{Type, types};
 use std::test::Fail;
 
@@ -54,16 +56,14 @@ fn widths(rt: HostRuntime) -> Result<(), Fail> {
 // In an instruction, and in the comment that repeats it.
 #[test]
 fn in_instructions(rt: HostRuntime) -> Result<(), Fail> {
-    let alloc = rt.alloc();
-    let mut func = sample(alloc)?;
-    let block0 = block(&rt, &mut func)?;
-    let _ = iconst(&rt, &mut func, block0, types::I16, -10000)?;
-    let _ = iconst(&rt, &mut func, block0, types::I8, 10000)?;
-    let _ = ret(&rt, alloc, &mut func, block0, &[v(0), v(1)])?;
-    prints(
-        &rt,
-        alloc,
-        &func,
-        "function %sample() system_v {\nblock0:\n    v0 = iconst.i16 0xffff_ffff_ffff_d8f0\n    v1 = iconst.i8 16\n    return v0, v1  ; v0 = 0xffff_ffff_ffff_d8f0, v1 = 16\n}\n",
-    )
+    let steps = [
+        Create,
+        LayOut(0),
+        Iconst(0, Back, types::I16, -10000),
+        Iconst(0, Back, types::I8, 10000),
+        ReturnTwo(0, 0, 1),
+    ];
+    let text =
+        "function %sample() system_v {\nblock0:\n    v0 = iconst.i16 0xffff_ffff_ffff_d8f0\n    v1 = iconst.i8 16\n    return v0, v1  ; v0 = 0xffff_ffff_ffff_d8f0, v1 = 16\n}\n";
+    makes(&rt, rt.alloc(), &steps, text)
 }

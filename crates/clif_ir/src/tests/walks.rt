@@ -1,86 +1,162 @@
 //! The calls that read a function, once each.
 #![tactic(auto)]
 
-use crate::function::ValueDef;
-use crate::inst_list::BlockEnd;
-use crate::instructions::InstructionData;
-use crate::tests::support::{
-    PLACE, alias, block, has_block, has_inst, has_value, iadd, iconst, insert, params, ret, sample,
-    v,
-};
-use clif_types::{CallConv, Inst, SourceLoc, types};
+use super::steps::Step::{Alias, Create, Iadd, Iconst, LayOut, Param, ReturnOne};
+use super::steps::made;
+use super::support::{PLACE, b, has_block, has_inst, has_value, i, sample, v};
+use crate::function::{Function, ValueDef};
+use crate::inst_list::BlockEnd::{Back, Front};
+use clif_types::types::{I8, I32, I64};
+use clif_types::{Block, CallConv, Inst, Type, Value};
+use std::process::Abort;
 use std::test::Fail;
+
+// Asserts which block follows a block in the layout.
+fn follows_block(rt: &impl Abort, func: &Function, block: Block, next: Option<Block>) {
+    assert!(rt; has_block(func, block));
+    assert_eq!(rt; func.next_block(block), next);
+}
+
+// Asserts whether a block is in the layout.
+fn is_laid_out(rt: &impl Abort, func: &Function, block: Block, laid_out: bool) {
+    assert!(rt; has_block(func, block));
+    assert_eq!(rt; func.is_block_inserted(block), laid_out);
+}
+
+// Puts a block at the end of the layout, unless it is in the layout.
+fn ensure_inserted(rt: &impl Abort, func: &mut Function, block: Block) -> Result<(), Fail> {
+    assert!(rt; has_block(func, block));
+    func.ensure_block_inserted(block)?;
+    Ok(())
+}
 
 #[test]
 fn along_blocks(rt: HostRuntime) -> Result<(), Fail> {
-    let mut func = sample(rt.alloc())?;
-    assert_eq!(rt; func.entry_block(), None);
-    let block0 = func.create_block()?;
-    let block1 = block(&rt, &mut func)?;
-    let block2 = block(&rt, &mut func)?;
-    assert!(rt; has_block(&func, block0) && has_block(&func, block1) && has_block(&func, block2));
-    assert_eq!(rt; func.entry_block(), Some(block1));
-    assert_eq!(rt; func.next_block(block1), Some(block2));
-    assert_eq!(rt; func.next_block(block2), None);
-    assert_eq!(rt; func.next_block(block0), None);
-    assert!(rt; func.is_block_inserted(block2));
-    assert!(rt; !func.is_block_inserted(block0));
+    let none = sample(rt.alloc())?;
+    assert_eq!(rt; none.entry_block(), None);
+    let steps = [Create, Create, Create, LayOut(1), LayOut(2)];
+    let mut func = made(&rt, rt.alloc(), &steps)?;
+    let blocks = [b(&rt, 0), b(&rt, 1), b(&rt, 2)];
     assert_eq!(rt; func.block_count(), 3);
-    func.ensure_block_inserted(block0)?;
-    assert!(rt; has_block(&func, block0) && has_block(&func, block2));
-    func.ensure_block_inserted(block0)?;
-    assert!(rt; has_block(&func, block0) && has_block(&func, block2));
-    assert_eq!(rt; func.next_block(block2), Some(block0));
-    assert_eq!(rt; func.next_block(block0), None);
+    assert_eq!(rt; func.entry_block(), Some(blocks[1]));
+    follows_block(&rt, &func, blocks[1], Some(blocks[2]));
+    follows_block(&rt, &func, blocks[2], None);
+    follows_block(&rt, &func, blocks[0], None);
+    is_laid_out(&rt, &func, blocks[2], true);
+    is_laid_out(&rt, &func, blocks[0], false);
+    ensure_inserted(&rt, &mut func, blocks[0])?;
+    ensure_inserted(&rt, &mut func, blocks[0])?;
+    follows_block(&rt, &func, blocks[2], Some(blocks[0]));
+    follows_block(&rt, &func, blocks[0], None);
     Ok(())
+}
+
+// Asserts the first and the last instruction of a block.
+fn has_ends(
+    rt: &impl Abort,
+    func: &Function,
+    block: Block,
+    first: Option<Inst>,
+    last: Option<Inst>,
+) {
+    assert!(rt; has_block(func, block));
+    assert_eq!(rt; func.first_inst(block), first);
+    assert_eq!(rt; func.last_inst(block), last);
+}
+
+// Asserts which instruction follows an instruction.
+fn follows_inst(rt: &impl Abort, func: &Function, inst: Inst, next: Option<Inst>) {
+    assert!(rt; has_inst(func, inst));
+    assert_eq!(rt; func.next_inst(inst), next);
+}
+
+// Asserts that an instruction stands in a block, and has the source place of each.
+fn stands_in(rt: &impl Abort, func: &Function, inst: Inst, block: Block) {
+    assert!(rt; has_inst(func, inst));
+    assert_eq!(rt; func.inst_block(inst), Some(block));
+    assert!(rt; func.srcloc(inst).bits() == PLACE);
 }
 
 #[test]
 fn along_instructions(rt: HostRuntime) -> Result<(), Fail> {
-    let mut func = sample(rt.alloc())?;
-    let block0 = block(&rt, &mut func)?;
-    assert!(rt; has_block(&func, block0));
-    assert_eq!(rt; func.first_inst(block0), None);
-    assert_eq!(rt; func.last_inst(block0), None);
-    let middle = iconst(&rt, &mut func, block0, types::I32, 1)?;
-    let last = ret(&rt, rt.alloc(), &mut func, block0, &[v(0)])?;
-    let two = InstructionData::UnaryImm { imm: 2 };
-    let first = insert(&rt, &mut func, block0, BlockEnd::Front, two, types::I32)?;
-    assert!(rt; has_block(&func, block0));
-    assert!(rt; has_inst(&func, first) && has_inst(&func, middle) && has_inst(&func, last));
-    assert_eq!(rt; func.first_inst(block0), Some(first));
-    assert_eq!(rt; func.next_inst(first), Some(middle));
-    assert_eq!(rt; func.next_inst(middle), Some(last));
-    assert_eq!(rt; func.next_inst(last), None);
-    assert_eq!(rt; func.last_inst(block0), Some(last));
-    assert_eq!(rt; func.inst_block(first), Some(block0));
-    assert_eq!(rt; func.srcloc(first), SourceLoc::new(PLACE));
+    let steps = [
+        Create,
+        Create,
+        LayOut(0),
+        Iconst(0, Back, I32, 1),
+        ReturnOne(0, 0),
+        Iconst(0, Front, I32, 2),
+    ];
+    let func = made(&rt, rt.alloc(), &steps)?;
+    let block = b(&rt, 0);
+    let insts = [i(&rt, 0), i(&rt, 1), i(&rt, 2)];
+    has_ends(&rt, &func, b(&rt, 1), None, None);
+    has_ends(&rt, &func, block, Some(insts[2]), Some(insts[1]));
+    follows_inst(&rt, &func, insts[2], Some(insts[0]));
+    follows_inst(&rt, &func, insts[0], Some(insts[1]));
+    follows_inst(&rt, &func, insts[1], None);
+    stands_in(&rt, &func, insts[2], block);
     Ok(())
+}
+
+// Asserts what a value stands for, and what defines it.
+fn stands_for(rt: &impl Abort, func: &Function, value: Value, original: Value, def: ValueDef) {
+    assert!(rt; has_value(func, value));
+    assert_eq!(rt; func.resolve_aliases(value), original);
+    assert_eq!(rt; func.value_def(value), def);
 }
 
 #[test]
 fn of_values(rt: HostRuntime) -> Result<(), Fail> {
-    let mut func = sample(rt.alloc())?;
-    let block0 = block(&rt, &mut func)?;
-    params(&rt, &mut func, block0, &[types::I64, types::I8, types::I64])?;
-    let sum = iadd(&rt, &mut func, block0, types::I64, [v(0), v(2)])?;
-    alias(&rt, &mut func, v(0), v(2))?;
-    assert!(rt; has_block(&func, block0) && has_inst(&func, sum));
-    assert!(rt; has_value(&func, v(0)) && has_value(&func, v(1)));
-    assert!(rt; has_value(&func, v(2)) && has_value(&func, v(3)));
-    assert_eq!(rt; func.block_params(block0), [v(1), v(2)].as_slice());
-    assert_eq!(rt; func.inst_results(sum), [v(3)].as_slice());
-    assert_eq!(rt; func.inst_data(sum).arguments(), [v(0), v(2)].as_slice());
-    assert_eq!(rt; func.value_type(v(1)), types::I8);
-    assert_eq!(rt; func.value_type(v(3)), types::I64);
-    assert_eq!(rt; func.resolve_aliases(v(0)), v(2));
-    assert_eq!(rt; func.value_def(v(0)), ValueDef::Param(block0, 1));
-    assert_eq!(rt; func.value_def(v(3)), ValueDef::Result(sum, 0));
-    assert_eq!(rt; func.param_home(v(1)), Some(block0));
-    assert_eq!(rt; func.param_home(v(0)), None);
-    assert_eq!(rt; func.param_home(v(3)), None);
-    assert_eq!(rt; func.param_home(v(4)), None);
+    let steps = [
+        Create,
+        LayOut(0),
+        Param(0, I64),
+        Param(0, I8),
+        Param(0, I64),
+        Iadd(0, I64, 0, 2),
+        Alias(0, 2),
+    ];
+    let func = made(&rt, rt.alloc(), &steps)?;
+    let block = b(&rt, 0);
+    let values = [v(&rt, 0), v(&rt, 1), v(&rt, 2), v(&rt, 3)];
+    stands_for(&rt, &func, values[0], values[2], ValueDef::Param(block, 1));
+    stands_for(&rt, &func, values[1], values[1], ValueDef::Param(block, 0));
+    stands_for(
+        &rt,
+        &func,
+        values[3],
+        values[3],
+        ValueDef::Result(i(&rt, 0), 0),
+    );
+    assert_eq!(rt; func.param_home(values[1]), Some(block));
+    assert_eq!(rt; func.param_home(values[0]), None);
+    assert_eq!(rt; func.param_home(values[3]), None);
+    assert_eq!(rt; func.param_home(v(&rt, 4)), None);
+    lists_of(&rt, &func);
     Ok(())
+}
+
+// Asserts the lists and the types of the function that `of_values` makes.
+fn lists_of(rt: &impl Abort, func: &Function) {
+    let block = b(rt, 0);
+    let sum = i(rt, 0);
+    let values = [v(rt, 0), v(rt, 1), v(rt, 2), v(rt, 3)];
+    assert!(rt; has_block(func, block) && has_inst(func, sum));
+    assert_eq!(rt; func.block_params(block), [values[1], values[2]].as_slice());
+    assert_eq!(rt; func.inst_results(sum), [values[3]].as_slice());
+    assert_eq!(rt;
+        func.inst_data(sum).arguments(),
+        [values[0], values[2]].as_slice()
+    );
+    has_type(rt, func, values[1], I8);
+    has_type(rt, func, values[3], I64);
+}
+
+// Asserts the type of a value.
+fn has_type(rt: &impl Abort, func: &Function, value: Value, ty: Type) {
+    assert!(rt; has_value(func, value));
+    assert_eq!(rt; func.value_type(value), ty);
 }
 
 #[test]

@@ -1,9 +1,11 @@
 //! Writers that refuse.
 #![tactic(auto)]
 
+use super::steps::Step::{Alias, Create, Iadd, Iconst, LayOut, Param, ReturnTwo};
+use super::steps::made;
 use crate::function::Function;
-use crate::tests::support::{alias, block, iadd, iconst, params, ret, sample, v};
-use clif_types::types;
+use crate::inst_list::BlockEnd::Back;
+use clif_types::types::I32;
 use std::alloc::Global;
 use std::fmt;
 use std::fmt::Write;
@@ -28,15 +30,19 @@ impl Write for Refusing {
 }
 
 fn all_forms(rt: &impl Abort, alloc: Global) -> Result<Function, Fail> {
-    let mut func = sample(alloc)?;
-    let block0 = block(rt, &mut func)?;
-    params(rt, &mut func, block0, &[types::I32, types::I32])?;
-    let _ = iconst(rt, &mut func, block0, types::I32, 70_000)?;
-    let block1 = block(rt, &mut func)?;
-    let _ = iadd(rt, &mut func, block1, types::I32, [v(0), v(2)])?;
-    let _ = ret(rt, alloc, &mut func, block1, &[v(1), v(3)])?;
-    alias(rt, &mut func, v(1), v(0))?;
-    Ok(func)
+    let steps = [
+        Create,
+        Create,
+        LayOut(0),
+        LayOut(1),
+        Param(0, I32),
+        Param(0, I32),
+        Iconst(0, Back, I32, 70_000),
+        Iadd(1, I32, 0, 2),
+        ReturnTwo(1, 1, 3),
+        Alias(1, 0),
+    ];
+    made(rt, alloc, &steps)
 }
 
 // A refusal at any piece is answered, and what was taken before it is the head of the whole text.

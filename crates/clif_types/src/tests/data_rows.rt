@@ -92,6 +92,13 @@ fn names(rt: HostRuntime) -> Result<(), Fail> {
     )
 }
 
+fn push_types(list: &mut Vec<AbiParam>, types: &[types::Type]) -> Result<(), AllocError> {
+    for ty in types {
+        list.push(AbiParam::new(*ty))?;
+    }
+    Ok(())
+}
+
 /// The signature of these parameters and returns.
 fn signature(
     alloc: Global,
@@ -100,12 +107,8 @@ fn signature(
     call_conv: CallConv,
 ) -> Result<Signature, AllocError> {
     let mut signature = Signature::new(alloc, call_conv);
-    for ty in params {
-        signature.params.push(AbiParam::new(*ty))?;
-    }
-    for ty in returns {
-        signature.returns.push(AbiParam::new(*ty))?;
-    }
+    push_types(&mut signature.params, params)?;
+    push_types(&mut signature.returns, returns)?;
     Ok(signature)
 }
 
