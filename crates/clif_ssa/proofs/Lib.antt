@@ -1,1 +1,12 @@
 pub mod RecordLaws
+pub mod Bodies
+pub mod Describing
+pub mod Entering
+pub mod Parameters
+pub mod Instructions
+pub mod Zeroing
+pub mod Completing
+pub mod Sealing
+pub mod Using
+pub mod Writing
+pub mod Owning

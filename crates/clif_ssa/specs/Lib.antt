@@ -1,3 +1,4 @@
 pub mod Tables
 pub mod Ssa
 pub mod Sound
+pub mod SoundLaws

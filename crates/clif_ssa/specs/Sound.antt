@@ -79,7 +79,7 @@ pub record Describes (own : ℕ → List ℕ) (f : Body) (s : SsaState) (complet
   -- parameters that wait, in unsealed blocks or to be completed now, and no others
   pub waiting : (b : ℕ) (p : Pending) → Contains (pending_of (sealed_of s b)) p → IsWaiting f blocks b p
   pub completed : (p : Pending) → Contains completing p
-      → (param_home f p.param ≡ None) ⊎ ((b : ℕ) × IsWaiting f blocks b p × (is_yes (sealed_of s b) ≡ true))
+      → ((param_home f p.param ≡ None) × (resolved f p.param ≢ p.param)) ⊎ ((b : ℕ) × IsWaiting f blocks b p × (is_yes (sealed_of s b) ≡ true))
   pub pends : (v x : ℕ) → resolved f v ≡ v → (blocks.function.definition v).kind ≡ pending x
       → ((b : ℕ) × Contains (pending_of (sealed_of s b)) (record { variable = x; param = v }))
       ⊎ Contains completing (record { variable = x; param = v })

@@ -1,10 +1,14 @@
 //! The builder of SSA form.
-ghost use Rattle.std.specs.Prelude.{◌≡◌, ◌≢◌, ◌<◌, ◌&&◌, ◌==◌, ◌↔◌, ◌++◌, [], ◌∷◌, ℕ, IsTrue, Some, None, true, false, length, OnOk, OnErr, IfOk, IfSome, MatchOption, ◌+◌};
+ghost use Rattle.std.specs.Prelude.{◌≡◌, ◌≢◌, ◌<◌, ◌&&◌, ◌==◌, ◌↔◌, ◌++◌, List, [], ◌∷◌, ℕ, IsTrue, Some, None, true, false, length, OnOk, OnErr, IfOk, IfSome, MatchOption, ◌+◌};
 ghost use Rattle.std.specs.Option.{option_to_list};
 ghost use Rattle.clif_ir.specs.Body.{Body, resolved};
 ghost use Rattle.clif_ir.specs.Changes.{with_param};
 ghost use Rattle.clif_ir.specs.Reading.{param_home};
 ghost use Rattle.clif_ssa.specs.Tables.{is_yes, pending_of};
+ghost use Rattle.clif_paths.specs.Places.{start};
+ghost use Rattle.clif_paths.specs.Blocks.{Blocks, last_place, with_write};
+ghost use Rattle.clif_ssa.specs.Sound.{Describes, Keeps, KeepsAndKnows};
+ghost use Rattle.clif_ssa.specs.SoundLaws.{DescribesSoundly};
 ghost use Rattle.clif_ssa.specs.Ssa.{no_state, record_of, sealed_of, with_zero, zeroed, zeroed_in, completed, completing_blocks, Records, SameRecords, Seals, Waits, Zeroes};
 
 use crate::tables::{BlockTable, Pending, VariableTable};
@@ -80,6 +84,7 @@ impl SSABuilder {
     pub fn declare_block(&mut self, block: Block) -> Result<(), BuildError>
         ensures records { self.new.records ≡ self.old.records }
         ensures blocks { (b : ℕ) → sealed_of self.new b ≡ sealed_of self.old b }
+        ensures described { (own : ℕ → List ℕ) (f : Body) (tables : Blocks) → Describes own f self.old [] tables → Describes own f self.new [] tables }
         ensures only_memory { OnErr result (result ≡ Err BuildError.Memory) }
     {
         self.ssa_blocks.declare(block)
@@ -102,6 +107,7 @@ impl SSABuilder {
         ensures ok { OnOk result (Records self.old self.new variable block value) }
         ensures err { OnErr result (SameRecords self.old self.new) }
         ensures blocks { self.new.blocks ≡ self.old.blocks }
+        ensures keeps { (own : ℕ → List ℕ) (f : Body) (tables : Blocks) (n : ℕ) → DescribesSoundly own f self.old tables → tables.answer n ≡ value → (tables.naming n).home ≢ start → tables.assigned (last_place tables block) variable ≡ None → OnOk result (DescribesSoundly own f self.new (with_write tables block variable n)) }
         ensures only_memory { OnErr result (result ≡ Err BuildError.Memory) }
     {
         self.variables.set(variable, block, value)
@@ -113,6 +119,25 @@ impl SSABuilder {
     /// it is the answer, and waits until the block is sealed. In a sealed one, which has no
     /// predecessors so far, it becomes another name of a zero, which is the answer.
     pub fn use_var(
+        &mut self,
+        func: &mut Function,
+        variable: Variable,
+        ty: Type,
+        block: Block,
+    ) -> Result<(Value, SideEffects), BuildError>
+        requires { block < length func.old.blocks }
+        ensures known { IfSome (record_of self.old variable block) (λ v. OnOk result ((func.new ≡ func.old) × (self.new ≡ self.old)) × IfOk result (λ r. (r.0 ≡ v) × (r.1.instructions_added_to_blocks.items ≡ []))) }
+        ensures waits { record_of self.old variable block ≡ None → is_yes (sealed_of self.old block) ≡ false → OnOk result (Waits self.old self.new func.old func.new variable ty block) × IfOk result (λ r. (r.0 ≡ length func.old.values) × (r.1.instructions_added_to_blocks.items ≡ [])) }
+        ensures zero { record_of self.old variable block ≡ None → is_yes (sealed_of self.old block) ≡ true → OnOk result (Zeroes self.old self.new func.old func.new variable ty block) × IfOk result (λ r. (r.0 ≡ length func.old.values + 1) × (r.1.instructions_added_to_blocks.items ≡ block ∷ [])) }
+        ensures keeps { (own : ℕ → List ℕ) (tables : Blocks) → DescribesSoundly own func.old self.old tables → IfOk result (λ r. KeepsAndKnows own tables func.new self.new block variable r.0) }
+        ensures never_failed { result ≢ Err BuildError.Failed }
+    {
+        func.law_consistent();
+        self.value_of(func, variable, ty, block)
+    }
+
+    // The value of a variable in a block, as [`SSABuilder::use_var`] says it.
+    fn value_of(
         &mut self,
         func: &mut Function,
         variable: Variable,
@@ -150,8 +175,10 @@ impl SSABuilder {
         ensures records { self.new.records ≡ self.old.records }
         ensures function { OnOk result (func.new ≡ completed func.old (pending_of (sealed_of self.old block))) }
         ensures told { IfOk result (λ r. r.instructions_added_to_blocks.items ≡ completing_blocks func.old (pending_of (sealed_of self.old block))) }
+        ensures keeps { (own : ℕ → List ℕ) (tables : Blocks) → DescribesSoundly own func.old self.old tables → OnOk result (Keeps own tables func.new self.new) }
         ensures never_failed { result ≢ Err BuildError.Failed }
     {
+        func.law_consistent();
         let mut side_effects = SideEffects::new(self.alloc);
         let waiting = self.ssa_blocks.seal(block)?;
         complete(func, waiting.as_slice(), &mut side_effects)?;

@@ -1,0 +1,77 @@
+-- A function with one instruction more.
+use Rattle.std.proofs.Common.{◌≡◌, ◌≢◌, ℕ, ◌+◌, ◌<◌, ◌≤◌, List, [], ◌∷◌, length, refl, arith, sym, ◌∙◌}
+use Rattle.std.proofs.Math.ListN.{get_or-append}
+use Rattle.std.proofs.lemmas.Grind.{common_steps}
+use Rattle.std.proofs.lemmas.List.Sums.{sum_by-cons}
+use Rattle.clif_types.specs.declared.types.«Type».{«Type»}
+use Rattle.clif_ir.specs.Body.{Body, block_at, inst_at, empty_block, no_inst, resolved}
+use Rattle.clif_ir.specs.Changes.{with_inst, inst_node, put_at, result_nodes}
+use Rattle.clif_ir.specs.Reading.{param_home}
+use Rattle.clif_ir.specs.Consistent.{alias_count}
+use Rattle.clif_ir.specs.declared.function.BlockNode.{BlockNode}
+use Rattle.clif_ir.specs.declared.function.ValueNode.{ValueNode}
+use Rattle.clif_ir.specs.declared.function.ValueOrigin.TheVariants.{Result}
+use Rattle.clif_ir.specs.declared.inst_list.BlockEnd.{BlockEnd}
+use Rattle.clif_ir.specs.declared.instructions.InstructionData.{InstructionData}
+use Rattle.clif_ir.proofs.Lists.{at_set}
+use Rattle.clif_ir.proofs.Aliases.{ways_end-append}
+use Rattle.clif_paths.specs.Blocks.{Blocks}
+use Rattle.clif_ssa.proofs.Bodies.{Firm, no_alias_behind, resolved-append, leads_inside-append, results_no_alias, results_no_home, home-append_none}
+use Rattle.clif_ssa.proofs.Describing.{Extends}
+
+results_count : (i k : ℕ) (types : List «Type») → alias_count (result_nodes i k types) ≡ 0
+results_count i k [] = refl
+results_count i k (ty ∷ types) =
+    let node : ValueNode = record { ty = ty; origin = Result i k } in
+    let rest : alias_count (result_nodes i (k + 1) types) ≡ 0 = results_count i (k + 1) types in
+    let here : alias_count (node ∷ result_nodes i (k + 1) types) ≡ 0 + alias_count (result_nodes i (k + 1) types) = sum_by-cons _ node (result_nodes i (k + 1) types) in
+    omega (arith, rest, here)
+
+module _ (f : Body) (b : ℕ) (end : BlockEnd) (shape : InstructionData) (types : List «Type») (loc : ℕ) where
+  pub inst_resolved : Firm f → (v : ℕ) → resolved (with_inst f b end shape types loc) v ≡ resolved f v
+  inst_resolved firm v = resolved-append f.values (result_nodes (length f.insts) 0 types) firm.leads firm.ends (results_no_alias (length f.insts) 0 types) v
+
+  pub inst_param_home : (v : ℕ) → param_home (with_inst f b end shape types loc) v ≡ param_home f v
+  inst_param_home v = home-append_none f.values (result_nodes (length f.insts) 0 types) (results_no_home (length f.insts) 0 types) v
+
+  pub inst_blocks : length (with_inst f b end shape types loc).blocks ≡ length f.blocks
+  inst_blocks = grind (arith, common_steps)
+
+  pub inst_insts_more : length (with_inst f b end shape types loc).insts ≡ length f.insts + 1
+  inst_insts_more = grind (arith, common_steps)
+
+  pub inst_values_more : length f.values ≤ length (with_inst f b end shape types loc).values
+  inst_values_more = grind (arith, common_steps)
+
+  pub inst_firm : Firm f → Firm (with_inst f b end shape types loc)
+  inst_firm firm = record {
+    leads = leads_inside-append f.values (result_nodes (length f.insts) 0 types) firm.leads (results_no_alias (length f.insts) 0 types);
+    ends = ways_end-append f.values (result_nodes (length f.insts) 0 types) firm.leads (results_count (length f.insts) 0 types)
+        (no_alias_behind f.values (result_nodes (length f.insts) 0 types) (results_no_alias (length f.insts) 0 types)) firm.ends;
+    homes_exist = λ v c is. omega (arith, firm.homes_exist v c (sym (inst_param_home v) ∙ is), inst_blocks);
+  }
+
+  pub inst_old : (i : ℕ) → i < length f.insts → inst_at (with_inst f b end shape types loc) i ≡ inst_at f i
+  inst_old i inside = get_or-append f.insts (inst_node f b shape types loc ∷ []) no_inst i inside
+
+  pub inst_new : inst_at (with_inst f b end shape types loc) (length f.insts) ≡ inst_node f b shape types loc
+  inst_new = grind (arith, common_steps)
+
+  pub inst_insts_here : b < length f.blocks → (block_at (with_inst f b end shape types loc) b).insts ≡ put_at end (length f.insts) (block_at f b).insts
+  inst_insts_here there =
+      at_set (λ (m : BlockNode). m.insts ≡ put_at end (length f.insts) (block_at f b).insts) f.blocks b (record (block_at f b) { insts = put_at end (length f.insts) (block_at f b).insts }) b empty_block there
+      (λ _. refl) (λ other. absurd (other refl))
+
+  pub inst_insts_other : (c : ℕ) → b < length f.blocks → c ≢ b → (block_at (with_inst f b end shape types loc) c).insts ≡ (block_at f c).insts
+  inst_insts_other c there apart =
+      at_set (λ (m : BlockNode). m.insts ≡ (block_at f c).insts) f.blocks b (record (block_at f b) { insts = put_at end (length f.insts) (block_at f b).insts }) c empty_block there
+      (λ same. absurd (apart same)) (λ _. refl)
+
+  pub inst_extends : (blocks blocks' : Blocks) → ((v : ℕ) → v < length f.values → blocks'.function.definition v ≡ blocks.function.definition v)
+      → Extends f (with_inst f b end shape types loc) blocks blocks'
+  inst_extends blocks blocks' same = record {
+    values_more = inst_values_more;
+    insts_more = omega (arith, inst_insts_more);
+    inst_same = inst_old;
+    definition_same = same;
+  }

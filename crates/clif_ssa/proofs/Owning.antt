@@ -1,0 +1,175 @@
+-- Instructions of the caller's.
+use Rattle.std.proofs.Common.{◌≡◌, ◌≢◌, ℕ, ◌+◌, ◌<◌, List, [], ◌∷◌, ◌++◌, length, refl, ap, arith, sym, ◌∙◌, subst, ◌⊎◌, inl, inr, append_assoc}
+use Rattle.std.proofs.lemmas.Grind.{common_steps}
+use Rattle.std.proofs.lemmas.Bool.{cases_eq}
+use Rattle.clif_types.specs.declared.types.«Type».{«Type»}
+use Rattle.clif_ir.specs.Body.{Body, resolved}
+use Rattle.clif_ir.specs.Changes.{with_inst}
+use Rattle.clif_ir.specs.declared.inst_list.BlockEnd.TheVariants.{Back}
+use Rattle.clif_ir.specs.declared.instructions.InstructionData.{InstructionData}
+use Rattle.clif_paths.specs.Places.{Place, start, inside}
+use Rattle.clif_paths.specs.State.{Naming, Kind, born, pending, fresh, Definition}
+use Rattle.clif_paths.specs.Steps.{IsNewName}
+use Rattle.clif_paths.specs.Blocks.{Blocks, last_place, state_of, with_item, with_born}
+use Rattle.clif_paths.proofs.BlockSteps.{born_keeps}
+use Rattle.clif_paths.proofs.Tables.{updated-same, updated-other}
+use Rattle.clif_ssa.specs.Ssa.{SsaState}
+use Rattle.clif_ssa.specs.Sound.{Describes, HasInstructions, HomeFits, IsWaiting}
+use Rattle.clif_ssa.specs.SoundLaws.{with_own, DescribesSoundly}
+use Rattle.clif_ssa.proofs.Bodies.{Firm}
+use Rattle.clif_ssa.proofs.Describing.{Extends, instructions_kept, zeros_kept, waiting_kept, waiting_exists, homes_kept, assigns_not_kept}
+use Rattle.clif_ssa.proofs.Parameters.{new_unaliased}
+use Rattle.clif_ssa.proofs.Instructions.{inst_resolved, inst_param_home, inst_insts_here, inst_insts_other, inst_extends}
+use Rattle.clif_ssa.proofs.Writing.{item_described, name_cases, names_kept, new_name_item}
+
+-- the caller's instructions of each block, with one more behind those of one
+own_instructions : (own : ℕ → List ℕ) (f : Body) (blocks blocks' : Blocks) (b : ℕ) (shape : InstructionData) (types : List «Type») (loc : ℕ) → b < length f.blocks
+    → Extends f (with_inst f b Back shape types loc) blocks blocks' → ((c : ℕ) → HasInstructions f blocks c (own c)) → (c : ℕ)
+    → HasInstructions (with_inst f b Back shape types loc) blocks' c (with_own own b (length f.insts) c)
+own_instructions own f blocks blocks' b shape types loc there extends has c =
+    let g : Body = with_inst f b Back shape types loc in
+    let i : ℕ = length f.insts in
+    elim (cases_eq c b) [
+      | inl same ↦
+          let here : HasInstructions f blocks b (own b) = has b in
+          let e : with_own own b i c ≡ own b ++ i ∷ [] = updated-same own b (own b ++ i ∷ []) c same in
+          let now : HasInstructions g blocks' b (own b ++ i ∷ []) = record {
+            zeros = here.zeros;
+            in_order = inst_insts_here f b Back shape types loc there ∙ ap (λ xs. xs ++ i ∷ []) here.in_order ∙ append_assoc here.zeros (own b) (i ∷ []);
+            are_zeros = zeros_kept f g blocks blocks' b here.zeros extends here.are_zeros;
+          } in
+          subst (λ xs. HasInstructions g blocks' c xs) (sym e) (subst (λ d. HasInstructions g blocks' d (own b ++ i ∷ [])) (sym same) now)
+      | inr apart ↦
+          let e : with_own own b i c ≡ own c = updated-other own b (own b ++ i ∷ []) c apart in
+          subst (λ xs. HasInstructions g blocks' c xs) (sym e)
+          (instructions_kept f g blocks blocks' c (own c) extends (inst_insts_other f b Back shape types loc c there apart) (has c))
+    ]
+
+pub own_described : (own : ℕ → List ℕ) (f : Body) (s : SsaState) (blocks : Blocks) (b : ℕ) (shape : InstructionData) (loc : ℕ) → Firm f
+    → DescribesSoundly own f s blocks → b < length f.blocks
+    → DescribesSoundly (with_own own b (length f.insts)) (with_inst f b Back shape [] loc) s (with_item blocks b)
+own_described own f s blocks b shape loc firm both there =
+    let item : DescribesSoundly own f s (with_item blocks b) = item_described own f s blocks b both in
+    let before : Describes own f s [] (with_item blocks b) = item.0 in
+    let after : Blocks = with_item blocks b in
+    let g : Body = with_inst f b Back shape [] loc in
+    let count : length g.values ≡ length f.values = grind (arith, common_steps) in
+    let extends : Extends f g after after = inst_extends f b Back shape [] loc after after (λ v below. refl) in
+    let same_end : (v : ℕ) → resolved g v ≡ resolved f v = inst_resolved f b Back shape [] loc firm in (
+      record {
+        sealed = before.sealed;
+        joined = before.joined;
+        entered = before.entered;
+        resolves = λ v. before.resolves v ∙ sym (same_end v);
+        recorded = before.recorded;
+        records_exist = λ c x v is. omega (arith, before.records_exist c x v is, count);
+        unrecorded = before.unrecorded;
+        unwritten = before.unwritten;
+        absent = λ v past. before.absent v (omega (arith, past, count));
+        homes = before.homes;
+        answered = λ m given. omega (arith, before.answered m given, count);
+        born_there = λ m given is_fresh.
+            let old : _ × (resolved f (blocks.answer m) ≡ blocks.answer m) = before.born_there m given is_fresh in
+            (old.0, same_end (blocks.answer m) ∙ old.1);
+        waiting = λ c p here. waiting_kept f g after after c p (inst_param_home f b Back shape [] loc p.param) refl (before.waiting c p here);
+        completed = λ p here. absurd (omega (arith, here.1));
+        pends = λ v x ends is. before.pends v x (sym (same_end v) ∙ ends) is;
+        instructions = own_instructions own f after after b shape [] loc there extends before.instructions;
+      },
+      item.1,
+    )
+
+-- A RESULT --------------------------------------------------------------------------------------------------------
+
+born_or_pending : {x y : ℕ} → ◌≡◌ {A = Kind} (born x) (pending y) → ⊥
+born_or_pending same = cc
+
+pub result_described : (own : ℕ → List ℕ) (f : Body) (s : SsaState) (blocks : Blocks) (b k n : ℕ) (shape : InstructionData) (ty : «Type») (loc : ℕ) → Firm f
+    → DescribesSoundly own f s blocks → b < length f.blocks → IsNewName (state_of blocks) n
+    → DescribesSoundly (with_own own b (length f.insts)) (with_inst f b Back shape (ty ∷ []) loc) s (with_born blocks (inside b k) n (length f.values))
+result_described own f s blocks b k n shape ty loc firm both there name =
+    let before : Describes own f s [] blocks = both.0 in
+    let g : Body = with_inst f b Back shape (ty ∷ []) loc in
+    let z : ℕ = length f.values in
+    let place : Place = inside b k in
+    let after : Blocks = with_born blocks place n z in
+    let new : Definition = record { home = place; kind = born n } in
+    let named : Naming = record { home = place; origin = fresh } in
+    let written : place ≢ start = λ none. (let same : inside b k ≡ start = none in cc) in
+    let long : length g.values ≡ z + 1 = grind (arith, common_steps) in
+    let is_new : after.function.definition z ≡ new = updated-same blocks.function.definition z new z refl in
+    let is_old : (v : ℕ) → v ≢ z → after.function.definition v ≡ blocks.function.definition v = λ v other. updated-other blocks.function.definition z new v other in
+    let old_below : (v : ℕ) → v < z → after.function.definition v ≡ blocks.function.definition v = λ v below. is_old v (λ same. absurd (omega (arith, below, same))) in
+    let extends : Extends f g blocks after = inst_extends f b Back shape (ty ∷ []) loc blocks after old_below in
+    let same_end : (v : ℕ) → resolved g v ≡ resolved f v = inst_resolved f b Back shape (ty ∷ []) loc firm in
+    let own_end : resolved f z ≡ z = new_unaliased f firm in
+    let cases : (m : ℕ) → ((m ≡ n) × (after.naming m ≡ named) × (after.answer m ≡ z)) ⊎ ((m ≢ n) × (after.naming m ≡ blocks.naming m) × (after.answer m ≡ blocks.answer m)) =
+    name_cases blocks.naming blocks.answer n z named in
+    let fits_new : HomeFits after z (born n) = (
+      updated-same blocks.naming n named n refl ∙ ap (λ (d : Definition). record { home = d.home; origin = fresh }) (sym is_new),
+      updated-same blocks.answer n z n refl,
+      λ none. written (sym (ap (λ (d : Definition). d.home) is_new) ∙ none),
+    ) in (
+      record {
+        sealed = before.sealed;
+        joined = before.joined;
+        entered = before.entered;
+        resolves = λ v. before.resolves v ∙ sym (same_end v);
+        recorded = before.recorded;
+        records_exist = λ c x v is. omega (arith, before.records_exist c x v is, long);
+        unrecorded = λ c x is. assigns_not_kept blocks after c x refl (λ j. refl) (before.unrecorded c x is);
+        unwritten = before.unwritten;
+        absent = λ v past. is_old v (λ same. absurd (omega (arith, past, same, long))) ∙ before.absent v (omega (arith, past, long));
+        homes = λ v.
+            elim (cases_eq v z) [
+              | inl same ↦
+                  subst (λ w. HomeFits after w (after.function.definition w).kind) (sym same)
+                  (subst (λ (d : Definition). HomeFits after z d.kind) (sym is_new) fits_new)
+              | inr other ↦ homes_kept blocks after v (is_old v other) (names_kept blocks.naming blocks.answer n z named name.new_name) (before.homes v)
+            ];
+        answered = λ m given.
+            elim (cases m) [
+              | inl now ↦ omega (arith, now.2, long)
+              | inr old ↦ omega (arith, old.2, long, before.answered m (λ none. given (ap (λ (j : Naming). j.home) old.1 ∙ none)))
+            ];
+        born_there = λ m given is_fresh.
+            elim (cases m) [
+              | inl now ↦ (
+                ap after.function.definition now.2 ∙ is_new ∙ ap (λ j. record { home = place; kind = born j }) (sym now.0)
+                    ∙ ap (λ (j : Naming). record { home = j.home; kind = born m }) (sym now.1),
+                ap (λ w. resolved g w) now.2 ∙ same_end z ∙ own_end ∙ sym now.2,
+              )
+              | inr old ↦
+                  let there : (blocks.naming m).home ≢ start = λ none. given (ap (λ (j : Naming). j.home) old.1 ∙ none) in
+                  let was : (blocks.function.definition (blocks.answer m) ≡ record { home = (blocks.naming m).home; kind = born m }) × (resolved f (blocks.answer m) ≡ blocks.answer m) =
+                  before.born_there m there (sym (ap (λ (j : Naming). j.origin) old.1) ∙ is_fresh) in (
+                    ap after.function.definition old.2 ∙ old_below (blocks.answer m) (before.answered m there) ∙ was.0 ∙ ap (λ (j : Naming). record { home = j.home; kind = born m }) (sym old.1),
+                    ap (λ w. resolved g w) old.2 ∙ same_end (blocks.answer m) ∙ was.1 ∙ sym old.2,
+                  )
+            ];
+        waiting = λ c p here.
+            let was : IsWaiting f blocks c p = before.waiting c p here in
+            waiting_kept f g blocks after c p (inst_param_home f b Back shape (ty ∷ []) loc p.param) (old_below p.param (waiting_exists f blocks c p was)) was;
+        completed = λ p here. absurd (omega (arith, here.1));
+        pends = λ v x ends is.
+            elim (cases_eq v z) [
+              | inl same ↦ absurd (born_or_pending (sym (ap (λ (d : Definition). d.kind) is_new) ∙ ap (λ w. (after.function.definition w).kind) (sym same) ∙ is))
+              | inr other ↦ before.pends v x (sym (same_end v) ∙ ends) (sym (ap (λ (d : Definition). d.kind) (is_old v other)) ∙ is)
+            ];
+        instructions = own_instructions own f blocks after b shape (ty ∷ []) loc there extends before.instructions;
+      },
+      born_keeps blocks place n z
+          (record {
+            written = written;
+            name = name;
+            new_value = ap (λ (d : Definition). d.home) (before.absent z (omega arith));
+            no_alias = before.resolves z ∙ own_end;
+          }) both.1,
+    )
+
+pub own_result_described : (own : ℕ → List ℕ) (f : Body) (s : SsaState) (blocks : Blocks) (b n : ℕ) (shape : InstructionData) (ty : «Type») (loc : ℕ) → Firm f
+    → DescribesSoundly own f s blocks → b < length f.blocks → IsNewName (state_of blocks) n
+    → DescribesSoundly (with_own own b (length f.insts)) (with_inst f b Back shape (ty ∷ []) loc) s
+    (with_born (with_item blocks b) (last_place (with_item blocks b) b) n (length f.values))
+own_result_described own f s blocks b n shape ty loc firm both there name =
+    result_described own f s (with_item blocks b) b ((with_item blocks b).count b) n shape ty loc firm (item_described own f s blocks b both) there (new_name_item blocks b n name)

@@ -1,0 +1,338 @@
+-- A parameter to which nothing comes becomes a name of a zero.
+use Rattle.std.proofs.Common.{◌≡◌, ◌≢◌, ℕ, zero, suc, ◌+◌, ◌<◌, ◌==◌, true, false, List, [], ◌∷◌, length, refl, ap, arith, sym, ◌∙◌, subst, ◌⊎◌, inl, inr}
+use Rattle.std.specs.Prelude.{Option, Some, None, Contains, cond, pos}
+use Rattle.std.proofs.lemmas.Grind.{common_steps}
+use Rattle.std.proofs.lemmas.Bool.{cases_eq}
+use Rattle.clif_types.specs.declared.types.«Type».{«Type»}
+use Rattle.clif_ir.specs.Body.{Body, block_at, inst_at, empty_block, value_at, resolved, alias_of, alias_of_origin}
+use Rattle.clif_ir.specs.Changes.{with_inst, with_alias, home_of, inst_node}
+use Rattle.clif_ir.specs.Reading.{param_home, without}
+use Rattle.clif_ir.specs.declared.function.BlockNode.{BlockNode}
+use Rattle.clif_ir.specs.declared.function.InstNode.{InstNode}
+use Rattle.clif_ir.specs.declared.function.ValueNode.{ValueNode}
+use Rattle.clif_ir.specs.declared.function.ValueOrigin.TheVariants.{Alias}
+use Rattle.clif_ir.specs.declared.inst_list.BlockEnd.TheVariants.{Front}
+use Rattle.clif_ir.specs.declared.instructions.InstructionData.TheVariants.{UnaryImm}
+use Rattle.clif_ir.proofs.Lists.{at_set}
+use Rattle.clif_ir.proofs.Aliases.{follow_end, resolved-no_alias, ways_end-set}
+use Rattle.clif_paths.specs.State.{Kind, born, pending, zero_of, Definition}
+use Rattle.clif_paths.specs.Steps.{aliased}
+use Rattle.clif_paths.specs.Blocks.{Blocks, front, with_zero_in, with_dropped}
+use Rattle.clif_paths.proofs.Tables.{updated-same, updated-other, aliased_cases}
+use Rattle.clif_ssa.specs.declared.tables.Pending.{Pending}
+use Rattle.clif_ssa.specs.declared.tables.Sealed.{Sealed}
+use Rattle.clif_ssa.specs.declared.tables.Sealed.TheVariants.{No, Yes}
+use Rattle.clif_ssa.specs.Tables.{is_yes, pending_of}
+use Rattle.clif_ssa.specs.Ssa.{SsaState, sealed_of, no_srcloc}
+use Rattle.clif_ssa.specs.Sound.{Describes, HomeFits, IsWaiting, IsZero, HasInstructions}
+use Rattle.clif_ssa.proofs.Bodies.{Firm, resolved-set, leads_inside-set, home-set_other, home-set_same, param_exists, param_origin}
+use Rattle.clif_ssa.proofs.Describing.{Extends, zeros_kept, instructions_kept, waiting_kept, waiting_exists, homes_kept, assigns_not_kept}
+use Rattle.clif_ssa.proofs.Instructions.{inst_resolved, inst_param_home, inst_new, inst_insts_here, inst_insts_other, inst_extends, inst_insts_more}
+
+-- THE ZERO --------------------------------------------------------------------------------------------------------
+
+abbrev pub put_zero : Body → ℕ → «Type» → Body
+put_zero f b ty = with_inst f b Front (UnaryImm (pos 0)) (ty ∷ []) no_srcloc
+
+pub zero_count : (f : Body) (b : ℕ) (ty : «Type») → length (put_zero f b ty).values ≡ length f.values + 1
+zero_count f b ty = grind (arith, common_steps)
+
+new_zero : (f : Body) (blocks : Blocks) (b x : ℕ) (ty : «Type») → IsZero (put_zero f b ty) (with_zero_in blocks b x (length f.values)) b (length f.insts)
+new_zero f blocks b x ty =
+    let new : inst_at (put_zero f b ty) (length f.insts) ≡ inst_node f b (UnaryImm (pos 0)) (ty ∷ []) no_srcloc = inst_new f b Front (UnaryImm (pos 0)) (ty ∷ []) no_srcloc in
+    record {
+      value = length f.values;
+      variable = x;
+      exists = omega (arith, inst_insts_more f b Front (UnaryImm (pos 0)) (ty ∷ []) no_srcloc);
+      value_exists = omega (arith, zero_count f b ty);
+      shape = ap (λ (n : InstNode). n.shape) new;
+      result = ap (λ (n : InstNode). n.results) new;
+      defined = updated-same blocks.function.definition (length f.values) (record { home = front b; kind = zero_of x }) (length f.values) refl;
+    }
+
+zero_instructions : (own : ℕ → List ℕ) (f : Body) (blocks : Blocks) (b x : ℕ) (ty : «Type») → b < length f.blocks
+    → Extends f (put_zero f b ty) blocks (with_zero_in blocks b x (length f.values)) → (c : ℕ) → HasInstructions f blocks c (own c)
+    → HasInstructions (put_zero f b ty) (with_zero_in blocks b x (length f.values)) c (own c)
+zero_instructions own f blocks b x ty there extends c has =
+    elim (cases_eq c b) [
+      | inl same ↦
+          let g : Body = put_zero f b ty in
+          let after : Blocks = with_zero_in blocks b x (length f.values) in
+          let here : HasInstructions f blocks b (own b) = subst (λ d. HasInstructions f blocks d (own d)) same has in
+          let now : HasInstructions g after b (own b) = record {
+            zeros = length f.insts ∷ here.zeros;
+            in_order = inst_insts_here f b Front (UnaryImm (pos 0)) (ty ∷ []) no_srcloc there ∙ ap (λ xs. length f.insts ∷ xs) here.in_order;
+            are_zeros = (new_zero f blocks b x ty, zeros_kept f g blocks after b here.zeros extends here.are_zeros);
+          } in
+          subst (λ d. HasInstructions g after d (own d)) (sym same) now
+      | inr apart ↦
+          instructions_kept f (put_zero f b ty) blocks (with_zero_in blocks b x (length f.values)) c (own c) extends
+          (inst_insts_other f b Front (UnaryImm (pos 0)) (ty ∷ []) no_srcloc c there apart) has
+    ]
+
+pub zero_described : (own : ℕ → List ℕ) (f : Body) (s : SsaState) (completing : List Pending) (blocks : Blocks) (b x : ℕ) (ty : «Type»)
+    → Firm f → Describes own f s completing blocks → b < length f.blocks
+    → Describes own (put_zero f b ty) s completing (with_zero_in blocks b x (length f.values))
+zero_described own f s completing blocks b x ty firm before there =
+    let g : Body = put_zero f b ty in
+    let z : ℕ = length f.values in
+    let after : Blocks = with_zero_in blocks b x z in
+    let new : Definition = record { home = front b; kind = zero_of x } in
+    let long : length g.values ≡ z + 1 = zero_count f b ty in
+    let is_new : after.function.definition z ≡ new = updated-same blocks.function.definition z new z refl in
+    let is_old : (v : ℕ) → v ≢ z → after.function.definition v ≡ blocks.function.definition v = λ v other. updated-other blocks.function.definition z new v other in
+    let old_below : (v : ℕ) → v < z → after.function.definition v ≡ blocks.function.definition v = λ v below. is_old v (λ same. absurd (omega (arith, below, same))) in
+    let extends : Extends f g blocks after = inst_extends f b Front (UnaryImm (pos 0)) (ty ∷ []) no_srcloc blocks after old_below in
+    let same_end : (v : ℕ) → resolved g v ≡ resolved f v = inst_resolved f b Front (UnaryImm (pos 0)) (ty ∷ []) no_srcloc firm in
+    let same_home : (v : ℕ) → param_home g v ≡ param_home f v = inst_param_home f b Front (UnaryImm (pos 0)) (ty ∷ []) no_srcloc in
+    let waits_still : (c : ℕ) (p : Pending) → IsWaiting f blocks c p → IsWaiting g after c p =
+    λ c p is. waiting_kept f g blocks after c p (same_home p.param) (old_below p.param (waiting_exists f blocks c p is)) is in
+    record {
+      sealed = before.sealed;
+      joined = before.joined;
+      entered = before.entered;
+      resolves = λ v. before.resolves v ∙ sym (same_end v);
+      recorded = before.recorded;
+      records_exist = λ c y v is. omega (arith, before.records_exist c y v is, long);
+      unrecorded = λ c y is. assigns_not_kept blocks after c y refl (λ k. refl) (before.unrecorded c y is);
+      unwritten = before.unwritten;
+      absent = λ v past. is_old v (λ same. absurd (omega (arith, past, same, long))) ∙ before.absent v (omega (arith, past, long));
+      homes = λ v.
+          elim (cases_eq v z) [
+            | inl same ↦
+                subst (λ w. HomeFits after w (after.function.definition w).kind) (sym same)
+                (subst (λ (d : Definition). HomeFits after z d.kind) (sym is_new) (b, ap (λ (d : Definition). d.home) is_new))
+            | inr other ↦ homes_kept blocks after v (is_old v other) (λ m given. (refl, refl)) (before.homes v)
+          ];
+      answered = λ m given. omega (arith, before.answered m given, long);
+      born_there = λ m given is_fresh.
+          let old : _ × (resolved f (blocks.answer m) ≡ blocks.answer m) = before.born_there m given is_fresh in
+          (old_below (blocks.answer m) (before.answered m given) ∙ old.0, same_end (blocks.answer m) ∙ old.1);
+      waiting = λ c p here. waits_still c p (before.waiting c p here);
+      completed = λ p here.
+          elim (before.completed p here) [
+            | inl gone ↦ inl (same_home p.param ∙ gone.0, λ same. gone.1 (sym (same_end p.param) ∙ same))
+            | inr there ↦ inr (there.0, waits_still there.0 p there.1, there.2)
+          ];
+      pends = λ v y ends is.
+          elim (cases_eq v z) [
+            | inl same ↦ absurd (zero_or_pending (sym (ap (λ (d : Definition). d.kind) is_new) ∙ ap (λ w. (after.function.definition w).kind) (sym same) ∙ is))
+            | inr other ↦ before.pends v y (sym (same_end v) ∙ ends) (sym (ap (λ (d : Definition). d.kind) (is_old v other)) ∙ is)
+          ];
+      instructions = λ c. zero_instructions own f blocks b x ty there extends c (before.instructions c);
+    }
+  where
+    zero_or_pending : {x y : ℕ} → ◌≡◌ {A = Kind} (zero_of x) (pending y) → ⊥
+    zero_or_pending same = cc
+
+-- THE ALIAS -------------------------------------------------------------------------------------------------------
+
+aliased_ap : (resolve resolve' : ℕ → ℕ) (v target u : ℕ) → resolve u ≡ resolve' u → aliased resolve v target u ≡ aliased resolve' v target u
+unfolding aliased
+aliased_ap resolve resolve' v target u same = ap (λ w. cond (w == v) target w) same
+
+abbrev alias_node : Body → ℕ → ℕ → ValueNode
+alias_node f v z = record (value_at f v) { origin = Alias (resolved f z) }
+
+-- a parameter that may become a name of another value
+pub record CanAlias (f : Body) (v z b : ℕ) : Type 0 where
+  pub firm : Firm f
+  pub parameter : param_home f v ≡ Some b
+  pub own_end : resolved f z ≡ z
+  pub exists : z < length f.values
+  pub apart : z ≢ v
+
+alias_free : (f : Body) (v z b : ℕ) → CanAlias f v z b → alias_of f.values v ≡ None
+alias_free f v z b can = ap alias_of_origin (param_origin f v b can.parameter)
+
+target_free : (f : Body) (v z b : ℕ) → CanAlias f v z b → alias_of f.values (resolved f z) ≡ None
+target_free f v z b can = resolved-no_alias f.values z can.firm.ends can.exists
+
+target_apart : (f : Body) (v z b : ℕ) → CanAlias f v z b → resolved f z ≢ v
+target_apart f v z b can same = can.apart (sym can.own_end ∙ same)
+
+alias_resolved : (f : Body) (v z b : ℕ) → CanAlias f v z b → (u : ℕ) → resolved (with_alias f v z) u ≡ aliased (λ w. resolved f w) v (resolved f z) u
+alias_resolved f v z b can u =
+    resolved-set f.values v (resolved f z) (alias_node f v z) can.firm.leads can.firm.ends (param_exists f v b can.parameter)
+    (alias_free f v z b can) (target_free f v z b can) (target_apart f v z b can) refl u
+
+alias_ends : (f : Body) (v z b : ℕ) → CanAlias f v z b → (u : ℕ)
+    → ((resolved f u ≡ v) × (resolved (with_alias f v z) u ≡ z)) ⊎ ((resolved f u ≢ v) × (resolved (with_alias f v z) u ≡ resolved f u))
+alias_ends f v z b can u =
+    elim (aliased_cases (λ w. resolved f w) v (resolved f z) u) [
+      | inl moved ↦ inl (moved.0, alias_resolved f v z b can u ∙ moved.1 ∙ can.own_end)
+      | inr stayed ↦ inr (stayed.0, alias_resolved f v z b can u ∙ stayed.1)
+    ]
+
+alias_home_other : (f : Body) (v z u : ℕ) → u ≢ v → param_home (with_alias f v z) u ≡ param_home f u
+alias_home_other f v z u other = home-set_other f.values v (alias_node f v z) u other
+
+alias_home_same : (f : Body) (v z b : ℕ) → CanAlias f v z b → param_home (with_alias f v z) v ≡ None
+alias_home_same f v z b can = home-set_same f.values v (alias_node f v z) (param_exists f v b can.parameter)
+
+alias_insts : (f : Body) (v z b : ℕ) → CanAlias f v z b → (c : ℕ) → (block_at (with_alias f v z) c).insts ≡ (block_at f c).insts
+alias_insts f v z b can c =
+    let home : ℕ = home_of (value_at f v).origin in
+    let at_home : home ≡ b = ap home_of (param_origin f v b can.parameter) in
+    let changed : BlockNode = record (block_at f home) { params = without v (block_at f home).params } in
+    at_set (λ (m : BlockNode). m.insts ≡ (block_at f c).insts) f.blocks home changed c empty_block (omega (arith, at_home, can.firm.homes_exist v b can.parameter))
+    (λ same. ap (λ d. (block_at f d).insts) (sym same)) (λ _. refl)
+
+alias_count_same : (f : Body) (v z : ℕ) → length (with_alias f v z).values ≡ length f.values
+alias_count_same f v z = grind (arith, common_steps)
+
+alias_blocks_same : (f : Body) (v z : ℕ) → length (with_alias f v z).blocks ≡ length f.blocks
+alias_blocks_same f v z = grind (arith, common_steps)
+
+none_some : {x : ℕ} → ◌≡◌ {A = Option ℕ} None (Some x) → ⊥
+none_some same = cc
+
+pub alias_firm : (f : Body) (v z b : ℕ) → CanAlias f v z b → Firm (with_alias f v z)
+alias_firm f v z b can =
+    let inside : v < length f.values = param_exists f v b can.parameter in
+    record {
+      leads = leads_inside-set f.values v (resolved f z) (alias_node f v z) can.firm.leads inside (omega (arith, can.own_end, can.exists)) refl;
+      ends = ways_end-set f.values v (resolved f z) (alias_node f v z) can.firm.leads inside (alias_free f v z b can) (target_free f v z b can) (target_apart f v z b can) refl can.firm.ends;
+      homes_exist = λ u c is.
+          elim (cases_eq u v) [
+            | inl same ↦ absurd (none_some (sym (alias_home_same f v z b can) ∙ ap (param_home (with_alias f v z)) (sym same) ∙ is))
+            | inr other ↦ omega (arith, can.firm.homes_exist u c (sym (alias_home_other f v z u other) ∙ is), alias_blocks_same f v z)
+          ];
+    }
+
+pub contains_cons : (p : Pending) (ps : List Pending) (q : Pending) → Contains (p ∷ ps) q → (p ≡ q) ⊎ Contains ps q
+contains_cons p ps q (zero, inside, at) = inl at
+contains_cons p ps q (suc k, inside, at) = inr (k, omega (arith, inside), at)
+
+pub contains_more : (p : Pending) (ps : List Pending) (q : Pending) → Contains ps q → Contains (p ∷ ps) q
+contains_more p ps q here = (suc here.0, omega (arith, here.1), here.2)
+
+pub contains_first : (p : Pending) (ps : List Pending) → Contains (p ∷ ps) p
+contains_first p ps = (0, omega arith, refl)
+
+pub none_contained : {X : Type 0} (p : X) → Contains [] p → ⊥
+none_contained p here = absurd (omega (arith, here.1))
+
+pub none_pending : (entry : Sealed) → is_yes entry ≡ true → pending_of entry ≡ []
+none_pending (No waiting) is = absurd (let no : false ≡ true = is in cc)
+none_pending Yes is = refl
+
+same_home : {x y : ℕ} → ◌≡◌ {A = Option ℕ} (Some x) (Some y) → x ≡ y
+same_home same = cc
+
+born_or_pending : {x y : ℕ} → ◌≡◌ {A = Kind} (born x) (pending y) → ⊥
+born_or_pending same = cc
+
+zero_or_pending : {x y : ℕ} → ◌≡◌ {A = Kind} (zero_of x) (pending y) → ⊥
+zero_or_pending same = cc
+
+-- the parameter waits in a sealed block, and the zero is at its front
+pub record Zeroable (s : SsaState) (blocks : Blocks) (p : Pending) (z b x : ℕ) : Type 0 where
+  pub waits : blocks.function.definition p.param ≡ record { home = front b; kind = pending p.variable }
+  pub is_sealed : is_yes (sealed_of s b) ≡ true
+  pub is_zero : blocks.function.definition z ≡ record { home = front b; kind = zero_of x }
+
+alias_waiting : (own : ℕ → List ℕ) (f : Body) (s : SsaState) (p : Pending) (ps : List Pending) (blocks : Blocks) (z b x : ℕ)
+    → CanAlias f p.param z b → Zeroable s blocks p z b x → Describes own f s (p ∷ ps) blocks
+    → (c : ℕ) (q : Pending) → Contains (pending_of (sealed_of s c)) q → IsWaiting (with_alias f p.param z) (with_dropped blocks p.param z) c q
+alias_waiting own f s p ps blocks z b x can zeroable before c q here =
+    let waits : IsWaiting f blocks c q = before.waiting c q here in
+    let other : q.param ≢ p.param = λ same.
+    let at : c ≡ b = same_home (sym waits.parameter ∙ ap (param_home f) same ∙ can.parameter) in
+    none_contained q (subst (λ xs. Contains xs q) (ap (λ d. pending_of (sealed_of s d)) at ∙ none_pending (sealed_of s b) zeroable.is_sealed) here) in
+    waiting_kept f (with_alias f p.param z) blocks (with_dropped blocks p.param z) c q (alias_home_other f p.param z q.param other) refl waits
+
+alias_completed : (own : ℕ → List ℕ) (f : Body) (s : SsaState) (p : Pending) (ps : List Pending) (blocks : Blocks) (z b : ℕ)
+    → CanAlias f p.param z b → Describes own f s (p ∷ ps) blocks → (q : Pending) → Contains ps q
+    → ((param_home (with_alias f p.param z) q.param ≡ None) × (resolved (with_alias f p.param z) q.param ≢ q.param))
+    ⊎ ((c : ℕ) × IsWaiting (with_alias f p.param z) (with_dropped blocks p.param z) c q × (is_yes (sealed_of s c) ≡ true))
+alias_completed own f s p ps blocks z b can before q here =
+    elim (before.completed q (contains_more p ps q here)) [
+      | inl gone ↦
+          let other : q.param ≢ p.param = λ same. none_some (sym gone.0 ∙ ap (param_home f) same ∙ can.parameter) in
+          inl (
+            alias_home_other f p.param z q.param other ∙ gone.0,
+            λ same.
+                elim (alias_ends f p.param z b can q.param) [
+                  | inl moved ↦
+                      let at : z ≡ q.param = sym moved.1 ∙ same in
+                      gone.1 (ap (λ w. resolved f w) (sym at) ∙ can.own_end ∙ at)
+                  | inr stayed ↦ gone.1 (sym stayed.1 ∙ same)
+                ],
+          )
+      | inr there ↦
+          elim (cases_eq q.param p.param) [
+            | inl same ↦
+                let own_end : resolved f p.param ≡ p.param = follow_end f.values (length f.values) p.param (alias_free f p.param z b can) in
+                inl (
+                  ap (param_home (with_alias f p.param z)) same ∙ alias_home_same f p.param z b can,
+                  λ ends.
+                      elim (alias_ends f p.param z b can p.param) [
+                        | inl moved ↦ can.apart (sym moved.1 ∙ ap (λ w. resolved (with_alias f p.param z) w) (sym same) ∙ ends ∙ same)
+                        | inr stayed ↦ stayed.0 own_end
+                      ],
+                )
+            | inr other ↦ inr (there.0, waiting_kept f (with_alias f p.param z) blocks (with_dropped blocks p.param z) there.0 q (alias_home_other f p.param z q.param other) refl there.1, there.2)
+          ]
+    ]
+
+alias_pends : (own : ℕ → List ℕ) (f : Body) (s : SsaState) (p : Pending) (ps : List Pending) (blocks : Blocks) (z b x : ℕ)
+    → CanAlias f p.param z b → Zeroable s blocks p z b x → Describes own f s (p ∷ ps) blocks → (v y : ℕ)
+    → resolved (with_alias f p.param z) v ≡ v → (blocks.function.definition v).kind ≡ pending y
+    → ((c : ℕ) × Contains (pending_of (sealed_of s c)) (record { variable = y; param = v })) ⊎ Contains ps (record { variable = y; param = v })
+alias_pends own f s p ps blocks z b x can zeroable before v y ends is =
+    elim (alias_ends f p.param z b can v) [
+      | inl moved ↦
+          let at : z ≡ v = sym moved.1 ∙ ends in
+          absurd (zero_or_pending (sym (ap (λ (d : Definition). d.kind) zeroable.is_zero) ∙ ap (λ w. (blocks.function.definition w).kind) at ∙ is))
+      | inr stayed ↦
+          let own_end : resolved f v ≡ v = sym stayed.1 ∙ ends in
+          elim (before.pends v y own_end is) [
+            | inl old ↦ inl old
+            | inr listed ↦
+                elim (contains_cons p ps (record { variable = y; param = v }) listed) [
+                  | inl first ↦ absurd (stayed.0 (own_end ∙ sym (ap (λ (q : Pending). q.param) first)))
+                  | inr later ↦ inr later
+                ]
+          ]
+    ]
+
+pub alias_described : (own : ℕ → List ℕ) (f : Body) (s : SsaState) (p : Pending) (ps : List Pending) (blocks : Blocks) (z b x : ℕ)
+    → CanAlias f p.param z b → Zeroable s blocks p z b x → Describes own f s (p ∷ ps) blocks
+    → Describes own (with_alias f p.param z) s ps (with_dropped blocks p.param z)
+alias_described own f s p ps blocks z b x can zeroable before =
+    let v : ℕ = p.param in
+    let g : Body = with_alias f v z in
+    let after : Blocks = with_dropped blocks v z in
+    let count : length g.values ≡ length f.values = alias_count_same f v z in
+    let extends : Extends f g blocks after =
+    record { values_more = omega (arith, count); insts_more = omega arith; inst_same = λ i here. refl; definition_same = λ u here. refl } in
+    record {
+      sealed = before.sealed;
+      joined = before.joined;
+      entered = before.entered;
+      resolves = λ u.
+          aliased_ap blocks.function.resolve (λ w. resolved f w) v z u (before.resolves u)
+          ∙ ap (λ t. aliased (λ w. resolved f w) v t u) (sym can.own_end) ∙ sym (alias_resolved f v z b can u);
+      recorded = before.recorded;
+      records_exist = λ c y u is. omega (arith, before.records_exist c y u is, count);
+      unrecorded = λ c y is. assigns_not_kept blocks after c y refl (λ k. refl) (before.unrecorded c y is);
+      unwritten = before.unwritten;
+      absent = λ u past. before.absent u (omega (arith, past, count));
+      homes = before.homes;
+      answered = λ m given. omega (arith, before.answered m given, count);
+      born_there = λ m given is_fresh.
+          let old : (blocks.function.definition (blocks.answer m) ≡ record { home = (blocks.naming m).home; kind = born m }) × (resolved f (blocks.answer m) ≡ blocks.answer m) = before.born_there m given is_fresh in
+          let other : resolved f (blocks.answer m) ≢ v = λ same.
+          born_or_pending (sym (ap (λ (d : Definition). d.kind) old.0) ∙ ap (λ w. (blocks.function.definition w).kind) (sym old.1 ∙ same) ∙ ap (λ (d : Definition). d.kind) zeroable.waits) in (
+            old.0,
+            elim (alias_ends f v z b can (blocks.answer m)) [
+              | inl moved ↦ absurd (other moved.0)
+              | inr stayed ↦ stayed.1 ∙ old.1
+            ],
+          );
+      waiting = alias_waiting own f s p ps blocks z b x can zeroable before;
+      completed = alias_completed own f s p ps blocks z b can before;
+      pends = alias_pends own f s p ps blocks z b x can zeroable before;
+      instructions = λ c. instructions_kept f g blocks after c (own c) extends (alias_insts f v z b can c) (before.instructions c);
+    }

@@ -1,0 +1,141 @@
+-- How the tables of the theory of variables on paths change as a function and the state of its construction do.
+-- Source: own.
+use Rattle.std.specs.Prelude.{◌≡◌, ◌≢◌, ℕ, ◌<◌, ◌==◌, ◌&&◌, List, [], ◌∷◌, ◌++◌, ◌+◌, length, Bool, true, false, None}
+use Rattle.clif_types.specs.declared.types.«Type».{«Type»}
+use Rattle.clif_types.specs.declared.extname.UserFuncName.{UserFuncName}
+use Rattle.clif_types.specs.Signature.{SignatureShape}
+use Rattle.clif_ir.specs.Body.{Body, empty_body}
+use Rattle.clif_ir.specs.Changes.{inserted_in, with_block, with_inst}
+use Rattle.clif_ir.specs.Consistent.{IsConsistent}
+use Rattle.clif_ir.specs.declared.instructions.InstructionData.{InstructionData}
+use Rattle.clif_ir.specs.declared.inst_list.BlockEnd.TheVariants.{Back}
+use Rattle.clif_paths.specs.Places.{start, Edges, same_place}
+use Rattle.clif_paths.specs.Steps.{updated, IsNewName}
+use Rattle.clif_paths.specs.Blocks.{Blocks, front, last_place, state_of, no_blocks, with_blocks_sealed, with_block_sealed, with_zero_in, with_dropped, with_item, with_born, with_read, with_write, Knows}
+use Rattle.clif_paths.specs.BlockLaws.{BlocksSound}
+use Rattle.clif_ssa.specs.declared.tables.Pending.{Pending}
+use Rattle.clif_ssa.specs.Tables.{is_yes, pending_of}
+use Rattle.clif_ssa.specs.Ssa.{SsaState, no_state, record_of, sealed_of, completed, Records, SameRecords, SameBlocks, Seals, Waits, Zeroes}
+use Rattle.clif_ssa.specs.Sound.{Describes, SameProgram, Keeps, KeepsAndKnows}
+
+-- the one arm into the entry's front, from the virtual start
+abbrev pub enters : ℕ → Edges
+enters entry arm = same_place arm.source start && (same_place arm.target (front entry) && (arm.edge == 0))
+
+-- The tables as a block enters a layout: the first one is the entry, and the blocks that are sealed already are so for
+-- the paths from then on.
+abbrev pub with_entry : List ℕ → SsaState → ℕ → Blocks → Blocks
+with_entry [] s b blocks = with_blocks_sealed blocks (λ c. is_yes (sealed_of s c)) (enters b)
+with_entry (c ∷ layout) s b blocks = blocks
+
+-- The tables as parameter `v` of block `b`, which waits for `x`, becomes a name of a new zero `z`.
+abbrev pub with_zeroed : List ℕ → SsaState → ℕ → ℕ → ℕ → ℕ → Blocks → Blocks
+with_zeroed layout s b x v z blocks = with_dropped (with_zero_in (with_entry layout s b blocks) b x z) v z
+
+-- The tables as a block is sealed: the arms into it are known from then on, if there is an entry.
+abbrev pub with_seal : List ℕ → Bool → ℕ → Blocks → Blocks
+with_seal [] was_sealed b blocks = blocks
+with_seal (entry ∷ layout) true b blocks = blocks
+with_seal (entry ∷ layout) false b blocks = with_block_sealed blocks b (enters entry)
+
+-- the instructions that the caller made, with one more in block `b`
+abbrev pub with_own : (ℕ → List ℕ) → ℕ → ℕ → ℕ → List ℕ
+with_own own b inst = updated own b (own b ++ inst ∷ [])
+
+-- tables that describe a function and a state, and are sound
+abbrev pub DescribesSoundly : (ℕ → List ℕ) → Body → SsaState → Blocks → Type 0
+DescribesSoundly own f s blocks = Describes own f s [] blocks × BlocksSound blocks
+
+-- the first tables describe a function without blocks, of which nothing is known
+abbrev pub FirstDescribes : Type 0
+FirstDescribes =
+    (name : UserFuncName) (signature : SignatureShape) →
+    DescribesSoundly (λ b. []) (empty_body name signature) no_state no_blocks
+
+-- the tables describe each state with the same records and the same blocks
+abbrev pub SameStateKeeps : Type 0
+SameStateKeeps =
+    (own : ℕ → List ℕ) (f : Body) (s t : SsaState) (blocks : Blocks) → SameRecords s t → SameBlocks s t →
+    Describes own f s [] blocks → Describes own f t [] blocks
+
+-- a block enters the layout, unless it is there
+abbrev pub InsertionKeeps : Type 0
+InsertionKeeps =
+    (own : ℕ → List ℕ) (f : Body) (s : SsaState) (completing : List Pending) (blocks : Blocks) (b : ℕ) →
+    Describes own f s completing blocks → BlocksSound blocks →
+    Describes own (inserted_in f b) s completing (with_entry f.layout s b blocks)
+    × BlocksSound (with_entry f.layout s b blocks)
+    × SameProgram blocks (with_entry f.layout s b blocks)
+
+-- a new block
+abbrev pub NewBlockKeeps : Type 0
+NewBlockKeeps =
+    (own : ℕ → List ℕ) (f : Body) (s : SsaState) (blocks : Blocks) →
+    Describes own f s [] blocks → Describes own (with_block f) s [] blocks
+
+-- an item that uses a variable: the new name is answered by a value that the block knows to hold it
+abbrev pub ReadItemKeeps : Type 0
+ReadItemKeeps =
+    (own : ℕ → List ℕ) (f : Body) (s : SsaState) (blocks : Blocks) (b n x v : ℕ) → DescribesSoundly own f s blocks →
+    IsNewName (state_of blocks) n → Knows blocks b x v → v < length f.values →
+    DescribesSoundly own f s (with_read (with_item blocks b) b n x v)
+
+-- an assignment at the last place of a block, which doesn't assign the variable
+abbrev pub WriteHereKeeps : Type 0
+WriteHereKeeps =
+    (own : ℕ → List ℕ) (f : Body) (s t : SsaState) (blocks : Blocks) (b x n : ℕ) → DescribesSoundly own f s blocks →
+    (blocks.naming n).home ≢ start → blocks.assigned (last_place blocks b) x ≡ None →
+    Records s t x b (blocks.answer n) → SameBlocks s t →
+    DescribesSoundly own f t (with_write blocks b x n)
+
+-- an item that assigns a name to a variable
+abbrev pub WriteItemKeeps : Type 0
+WriteItemKeeps =
+    (own : ℕ → List ℕ) (f : Body) (s t : SsaState) (blocks : Blocks) (b x n : ℕ) → DescribesSoundly own f s blocks →
+    (blocks.naming n).home ≢ start → Records s t x b (blocks.answer n) → SameBlocks s t →
+    DescribesSoundly own f t (with_write (with_item blocks b) b x n)
+
+-- an instruction of the caller's without results, at the end of a block
+abbrev pub OwnInstructionKeeps : Type 0
+OwnInstructionKeeps =
+    (own : ℕ → List ℕ) (f : Body) (s : SsaState) (blocks : Blocks) (b : ℕ) (shape : InstructionData) (loc : ℕ) →
+    IsConsistent f → DescribesSoundly own f s blocks → b < length f.blocks →
+    DescribesSoundly (with_own own b (length f.insts)) (with_inst f b Back shape [] loc) s (with_item blocks b)
+
+-- the same with one result, by which a new name is given
+abbrev pub OwnResultKeeps : Type 0
+OwnResultKeeps =
+    (own : ℕ → List ℕ) (f : Body) (s : SsaState) (blocks : Blocks) (b n : ℕ) (shape : InstructionData) (ty : «Type»)
+    (loc : ℕ) →
+    IsConsistent f → DescribesSoundly own f s blocks → b < length f.blocks → IsNewName (state_of blocks) n →
+    DescribesSoundly (with_own own b (length f.insts)) (with_inst f b Back shape (ty ∷ []) loc) s
+    (with_born (with_item blocks b) (last_place (with_item blocks b) b) n (length f.values))
+
+-- a use of a variable that isn't recorded in an unsealed block
+abbrev pub WaitingUseKeeps : Type 0
+WaitingUseKeeps =
+    (own : ℕ → List ℕ) (f g : Body) (s t : SsaState) (blocks : Blocks) (x : ℕ) (ty : «Type») (b : ℕ) →
+    IsConsistent f → DescribesSoundly own f s blocks → b < length f.blocks →
+    record_of s x b ≡ None → is_yes (sealed_of s b) ≡ false → Waits s t f g x ty b →
+    KeepsAndKnows own blocks g t b x (length f.values)
+
+-- the same in a sealed block
+abbrev pub ZeroUseKeeps : Type 0
+ZeroUseKeeps =
+    (own : ℕ → List ℕ) (f g : Body) (s t : SsaState) (blocks : Blocks) (x : ℕ) (ty : «Type») (b : ℕ) →
+    IsConsistent f → DescribesSoundly own f s blocks → b < length f.blocks →
+    record_of s x b ≡ None → is_yes (sealed_of s b) ≡ true → Zeroes s t f g x ty b →
+    KeepsAndKnows own blocks g t b x (length f.values + 1)
+
+-- a block is sealed, and what waited in it is completed
+abbrev pub SealingKeeps : Type 0
+SealingKeeps =
+    (own : ℕ → List ℕ) (f : Body) (s t : SsaState) (blocks : Blocks) (b : ℕ) →
+    IsConsistent f → DescribesSoundly own f s blocks → SameRecords s t → Seals s t b →
+    Keeps own blocks (completed f (pending_of (sealed_of s b))) t
+
+-- tables with the same program have the same new names
+abbrev pub NewNameStays : Type 0
+NewNameStays =
+    (blocks blocks' : Blocks) (n : ℕ) → SameProgram blocks blocks' → IsNewName (state_of blocks) n →
+    IsNewName (state_of blocks') n

@@ -1,0 +1,69 @@
+//! Laws for the builder above: the tables of the theory of variables on paths describe what it makes of a function by
+//! itself, and stay sound.
+
+ghost use Rattle.clif_ssa.specs.SoundLaws.{FirstDescribes, SameStateKeeps, InsertionKeeps, NewBlockKeeps, ReadItemKeeps, WriteHereKeeps, WriteItemKeeps, OwnInstructionKeeps, OwnResultKeeps, WaitingUseKeeps, ZeroUseKeeps, SealingKeeps, NewNameStays};
+
+/// The first tables describe a function without blocks, of which nothing is known.
+pub fn first_describes()
+    ensures { FirstDescribes }
+{}
+
+/// What the tables say of a state depends on its records and its blocks alone.
+pub fn same_state_keeps()
+    ensures { SameStateKeeps }
+{}
+
+/// A block enters the layout.
+pub fn insertion_keeps()
+    ensures { InsertionKeeps }
+{}
+
+/// A new block changes nothing that the tables say.
+pub fn new_block_keeps()
+    ensures { NewBlockKeeps }
+{}
+
+/// An item uses a variable.
+pub fn read_item_keeps()
+    ensures { ReadItemKeeps }
+{}
+
+/// A variable is assigned at the last place of a block.
+pub fn write_here_keeps()
+    ensures { WriteHereKeeps }
+{}
+
+/// An item assigns a variable.
+pub fn write_item_keeps()
+    ensures { WriteItemKeeps }
+{}
+
+/// The caller's own instruction, without results.
+pub fn own_instruction_keeps()
+    ensures { OwnInstructionKeeps }
+{}
+
+/// The caller's own instruction with one result, which a new name is given.
+pub fn own_result_keeps()
+    ensures { OwnResultKeeps }
+{}
+
+/// A use in an unsealed block makes a parameter that waits.
+pub fn waiting_use_keeps()
+    ensures { WaitingUseKeeps }
+{}
+
+/// A use in a sealed block makes a parameter that is a name of a zero.
+pub fn zero_use_keeps()
+    ensures { ZeroUseKeeps }
+{}
+
+/// A block is sealed, and what waited in it is completed.
+pub fn sealing_keeps()
+    ensures { SealingKeeps }
+{}
+
+/// Tables with the same program have the same new names.
+pub fn new_name_stays()
+    ensures { NewNameStays }
+{}
