@@ -1,0 +1,73 @@
+-- A finished function that carries a list of calls means what the list's program means.
+use Rattle.std.proofs.Common.{◌≡◌, List, Option, Some, None, refl, sym, ◌∙◌, ap, subst, arith}
+use Rattle.clif_types.specs.declared.target.PointerWidth.{PointerWidth}
+use Rattle.clif_types.specs.Target.{pointer_type_of}
+use Rattle.clif_ir.specs.Body.{Body}
+use Rattle.clif_ir.specs.Consistent.{IsConsistent}
+use Rattle.clif_paths.specs.Blocks.{state_of}
+use Rattle.clif_paths.specs.Laws.{IsCorrect}
+use Rattle.clif_ssa.specs.Ssa.{SsaState}
+use Rattle.clif_meaning.specs.Event.{types_of}
+use Rattle.clif_meaning.specs.Name.{Name}
+use Rattle.clif_meaning.specs.Request.{AnsweredCall, script_of}
+use Rattle.clif_meaning.specs.World.{World}
+use Rattle.clif_meaning.specs.Machine.{Machine, Observation, IsEnd, observed}
+use Rattle.clif_meaning.specs.SameMeaning.{SameMeaning}
+use Rattle.clif_meaning.specs.ScriptMachine as script
+use Rattle.clif_meaning.specs.ScriptMachine.{ScriptRun, ScriptState, script_machine}
+use Rattle.clif_meaning.specs.FunctionMachine as function_machine_of
+use Rattle.clif_meaning.specs.FunctionMachine.{FunctionRun, FunctionState, ByMaps, function_machine}
+use Rattle.clif_meaning.specs.View.{view_of}
+use Rattle.clif_meaning.specs.Premises.{Premises}
+use Rattle.clif_meaning.specs.Headline.{script_run, function_run, script_behaviour, function_behaviour, IsWorldOf}
+use Rattle.clif_meaning.proofs.Endings
+use Rattle.clif_meaning.proofs.Stuttering
+use Rattle.clif_simulation.specs.Tables.{program_so_far}
+use Rattle.clif_simulation.specs.Carries.{Carries}
+use Rattle.clif_simulation.specs.Laws.{IsFinished}
+use Rattle.clif_simulation.proofs.Entry
+use Rattle.clif_simulation.proofs.Stepping
+use Rattle.clif_simulation.proofs.Starting
+
+module _ (calls : List AnsweredCall) (f : Body) (ssa : SsaState) (width : PointerWidth) (consistent : IsConsistent f) (carries : Carries calls f ssa)
+    (finished : IsFinished f ssa) (world : World) (fits : IsWorldOf f.signature (view_of f) width world)
+    (premises : Premises (script_of calls) f.signature (pointer_type_of width) (script_run (script_of calls) (view_of f) world))
+  where
+    abbrev left : Machine ScriptState Observation
+    left = script_machine (script_run (script_of calls) (view_of f) world)
+
+    abbrev right : Machine FunctionState Observation
+    right = function_machine (function_run (script_of calls) (view_of f) width world ByMaps)
+
+    -- with an entry
+    entered : (entry : Name) → (program_so_far calls).entry ≡ Some entry → SameMeaning (observed left) (observed right)
+    entered entry is_entry =
+        let correct : IsCorrect (state_of carries.tables) = Entry.is_correct calls f ssa carries entry is_entry consistent finished premises.given_before in
+        let empty = Starting.no_arguments calls entry (types_of f.signature.params) world is_entry premises.well_typed.entry fits.arguments in
+        Stuttering.same_meaning left right
+        (Stepping.Related calls f ssa carries finished width world entry is_entry premises.given_before correct)
+        (Stepping.measure calls f ssa carries finished width world entry is_entry premises.given_before correct)
+        (Starting.simulates calls f ssa carries finished width world entry is_entry premises.given_before correct empty)
+
+    -- with none both are stuck at once
+    not_entered : (program_so_far calls).entry ≡ None → SameMeaning (observed left) (observed right)
+    not_entered none =
+        let left_is : left.start ≡ script.blank_state (script_run (script_of calls) (view_of f) world) =
+        ap (script.start_at (script_run (script_of calls) (view_of f) world)) none in
+        let right_is : right.start ≡ function_machine_of.blank_state (function_run (script_of calls) (view_of f) width world ByMaps) =
+        ap (function_machine_of.start_at (function_run (script_of calls) (view_of f) width world ByMaps)) (carries.entry.none none) in
+        let same : observed left 0 ≡ observed right 0 = ap left.shown left_is ∙ sym (ap right.shown right_is) in
+        let left_end : IsEnd (observed left 0).ending = subst (λ (p : ScriptState). IsEnd (left.shown p).ending) (sym left_is) tt in
+        let right_end : IsEnd (observed right 0).ending = subst (λ (q : FunctionState). IsEnd (right.shown q).ending) (sym right_is) tt in
+        record {
+          there = λ n. (0, Endings.script_stays (script_run (script_of calls) (view_of f) world) 0 n (omega arith) left_end ∙ same);
+          back = λ n. (0, Endings.function_stays (function_run (script_of calls) (view_of f) width world ByMaps) 0 n (omega arith) right_end ∙ sym same);
+        }
+
+    by_entry : (o : Option Name) → (program_so_far calls).entry ≡ o → SameMeaning (observed left) (observed right)
+    by_entry None none = not_entered none
+    by_entry (Some entry) is_entry = entered entry is_entry
+
+    pub means_the_same :
+        SameMeaning (script_behaviour (script_of calls) (view_of f) world) (function_behaviour (script_of calls) (view_of f) width world)
+    means_the_same = by_entry (program_so_far calls).entry refl

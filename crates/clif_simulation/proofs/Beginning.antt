@@ -1,0 +1,104 @@
+-- A new function carries the empty list of calls; and the current block of a list is one for program and ledger.
+use Rattle.std.proofs.Common.{◌≡◌, List, [], ◌∷◌, ◌++◌, length, refl, sym, ◌∙◌, Some, None, inl, Bool, true, false}
+use Rattle.std.specs.Prelude.{Option, fold, if◌then◌else◌}
+use Rattle.clif_types.specs.declared.extname.UserFuncName.{UserFuncName}
+use Rattle.clif_types.specs.Signature.{SignatureShape}
+use Rattle.clif_ir.specs.Body.{empty_body}
+use Rattle.clif_paths.specs.Blocks.{no_blocks}
+use Rattle.clif_ssa.specs.Ssa.{no_state}
+use Rattle.clif_ssa.proofs.Writing.{first_described}
+use Rattle.clif_meaning.specs.Name.{Name, answer_of}
+use Rattle.clif_meaning.specs.Instruction.{Operation, Edge}
+use Rattle.clif_meaning.specs.Request.{Request, CreateBlock, SwitchToBlock, SealBlock, DeclareVar, DefVar, UseVar, Build, Finalize, Script, AnsweredCall, script_of}
+use Rattle.clif_meaning.specs.Ledger.{Ledger, ledger_after, ledger_with, empty_ledger, with_layout, with_begun_at, with_begun, with_filled_at, with_terminator, with_predecessor, is_inserted, is_terminator}
+use Rattle.clif_meaning.specs.Program.{Program, Item, with_call, empty_program, with_item_at, with_inserted}
+use Rattle.clif_simulation.specs.Tables.{program_so_far, IsProgramOf}
+use Rattle.clif_simulation.specs.Carries.{Carries}
+use Rattle.clif_simulation.proofs.Values.{false_is}
+
+some_none : {X : Type 0} (x : X) → None ≡ Some x → ⊥
+some_none x h = cc
+
+-- an item leaves the current block
+current-item : (program : Program) (o : Option Name) (item : Item) → (with_item_at program o item).current ≡ program.current
+current-item program None item = refl
+current-item program (Some block) item = refl
+
+current-layout : (ledger : Ledger) (block : Name) → (with_layout ledger block).current ≡ ledger.current
+current-layout ledger block = by (is_inserted ledger block)
+  where
+    by : (c : Bool) → (if c then ledger else record ledger { layout = ledger.layout ++ block ∷ [] }).current ≡ ledger.current
+    by true = refl
+    by false = refl
+
+current-begun : (ledger : Ledger) (o : Option Name) → (with_begun_at ledger o).current ≡ ledger.current
+current-begun ledger None = refl
+current-begun ledger (Some block) = current-layout ledger block
+
+current-filled : (ledger : Ledger) (o : Option Name) → (with_filled_at ledger o).current ≡ ledger.current
+current-filled ledger None = refl
+current-filled ledger (Some block) = refl
+
+current-terminator : (ledger : Ledger) (operation : Operation) → (with_terminator ledger operation).current ≡ ledger.current
+current-terminator ledger operation = by (is_terminator operation)
+  where
+    by : (c : Bool) → (if c then with_filled_at ledger ledger.current else ledger).current ≡ ledger.current
+    by true = current-filled ledger ledger.current
+    by false = refl
+
+current-edges : (branch : Name) (ledger : Ledger) (edges : List (Edge Name Name)) → (fold (with_predecessor branch) ledger edges).current ≡ ledger.current
+current-edges branch ledger [] = refl
+current-edges branch ledger (edge ∷ edges) = current-edges branch (with_predecessor branch ledger edge) edges
+
+-- one more call leaves program and ledger with one current block
+current_next : (program : Program) (ledger : Ledger) (request : Request) → program.current ≡ ledger.current → (with_call program request).current ≡ (ledger_with ledger request).current
+current_next program ledger CreateBlock same = same
+current_next program ledger (SwitchToBlock block) same = refl
+current_next program ledger (SealBlock block) same = same
+current_next program ledger (DeclareVar ty) same = same
+current_next program ledger (DefVar variable value) same = current-item program program.current _ ∙ same
+current_next program ledger (UseVar variable) same = current-item (with_inserted program) program.current _ ∙ same ∙ sym (current-begun ledger ledger.current)
+current_next program ledger (Build instruction) same =
+    current-item (with_inserted program) program.current _ ∙ same
+    ∙ sym (current-edges (answer_of (length ledger.answers) 0) (with_terminator (with_begun ledger) instruction.operation) instruction.edges ∙ current-terminator (with_begun ledger) instruction.operation ∙ current-begun ledger ledger.current)
+current_next program ledger Finalize same = same
+
+current_fold : (script : Script) (program : Program) (ledger : Ledger) → program.current ≡ ledger.current → (fold with_call program script).current ≡ (fold ledger_with ledger script).current
+current_fold [] program ledger same = same
+current_fold (request ∷ script) program ledger same = current_fold script (with_call program request) (ledger_with ledger request) (current_next program ledger request same)
+
+pub one_current : (calls : List AnsweredCall) → (program_so_far calls).current ≡ (ledger_after (script_of calls)).current
+one_current calls = current_fold (script_of calls) empty_program empty_ledger refl
+
+nothing_so_far : IsProgramOf [] no_blocks
+nothing_so_far = record {
+  counts = λ b N named. absurd (some_none N named);
+  no_count = λ b none. refl;
+  assigned = λ b index N named. absurd (some_none N named);
+  front_assigns_nothing = λ b x. refl;
+  start_assigns_nothing = λ x. refl;
+  elsewhere_nothing = λ b index x none. refl;
+  given = λ b index N item named. absurd (some_none N named);
+  given_only = λ n home. absurd (home refl);
+  assigned_earlier = λ place x n is. absurd (some_none n is);
+  distinct = λ b c N first second. absurd (some_none N first);
+  blocks_earlier = λ b N named. absurd (some_none N named);
+  only_blocks = λ N. inl refl;
+}
+
+-- a new function carries the empty list of calls
+pub carries_nothing : (name : UserFuncName) (signature : SignatureShape) → Carries [] (empty_body name signature) no_state
+carries_nothing name signature =
+    let first = first_described name signature in
+    record {
+      tables = no_blocks;
+      own = λ b. [];
+      program = nothing_so_far;
+      items = λ b N named. absurd (some_none N named);
+      earlier = λ N. tt;
+      own_exist = λ b. tt;
+      values_given = λ x is. absurd (false_is is);
+      entry = record { none = λ none. refl; some = λ e is. absurd (some_none e is) };
+      describes = first.0;
+      sound = first.1;
+    }

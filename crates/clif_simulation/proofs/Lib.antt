@@ -1,0 +1,26 @@
+-- Names and their numbers.
+pub mod Codes
+-- A finished function that carries calls means what their program means.
+mod Giving
+mod Agreement
+mod Straight
+mod Listed
+mod Entry
+mod Items
+mod Matching
+mod Stepping
+mod Starting
+pub mod Assembly
+-- A function goes on to carry one more call.
+pub mod Numbers
+pub mod NameLists
+pub mod Extending
+pub mod ItemCalls
+pub mod Growing
+pub mod Carrying
+pub mod Staying
+pub mod Requests
+pub mod Values
+pub mod Calls
+pub mod Building
+pub mod Beginning

@@ -1,0 +1,72 @@
+-- What a script's program has, and places of lists.
+use Rattle.std.proofs.Common.{◌≡◌, ℕ, zero, suc, ◌<◌, List, [], ◌∷◌, length, fold, slice_get, Option, Some, None, Contains, ◌⊎◌, inl, inr, refl, ◌∙◌, ap, arith}
+use Rattle.clif_meaning.specs.Name.{Name}
+use Rattle.clif_meaning.specs.Request.{Request, CreateBlock, SwitchToBlock, SealBlock, DeclareVar, DefVar, UseVar, Build, Finalize, Script}
+use Rattle.clif_meaning.specs.Program.{Program, Item, with_item_at, with_inserted, extended, with_call, empty_program, program_of}
+use Rattle.clif_meaning.specs.Path.{Place, IsPath}
+use Rattle.clif_meaning.specs.WellPlaced.{item_gives, program_flow, program_code, IsGivenAlong, given_on_entry}
+use Rattle.clif_meaning.proofs.StraightLine.{nothing_contained, none_of}
+
+-- Blocks have no parameters -----------------------------------------------------------------------------------------
+
+item_leaves : (program : Program) (current : Option Name) (item : Item) → (with_item_at program current item).parameters ≡ program.parameters
+item_leaves program None item = refl
+item_leaves program (Some block) item = refl
+
+call_leaves : (program : Program) (request : Request) → (extended program request).parameters ≡ program.parameters
+call_leaves program CreateBlock = refl
+call_leaves program (SwitchToBlock block) = refl
+call_leaves program (SealBlock block) = refl
+call_leaves program (DeclareVar ty) = refl
+call_leaves program (DefVar variable value) = item_leaves program program.current _
+call_leaves program (UseVar variable) = item_leaves (with_inserted program) program.current _
+call_leaves program (Build instruction) = item_leaves (with_inserted program) program.current _
+call_leaves program Finalize = refl
+
+none_from : (program : Program) (script : Script) → (fold with_call program script).parameters ≡ program.parameters
+none_from program [] = refl
+none_from program (request ∷ script) = none_from (with_call program request) script ∙ call_leaves program request
+
+pub no_parameters : (script : Script) (block : Name) → (program_of script).parameters block ≡ []
+no_parameters script block = ap (λ (parameters : Name → List Name). parameters block) (none_from empty_program script)
+
+-- Places of lists ---------------------------------------------------------------------------------------------------
+
+pub place_within : {X : Type 0} (xs : List X) (k : ℕ) (x : X) → slice_get xs k ≡ Some x → k < length xs
+place_within [] k x found = cc
+place_within (y ∷ xs) zero x found = omega arith
+place_within (y ∷ xs) (suc k) x found = omega (arith, place_within xs k x found)
+
+-- The straight path through a block ---------------------------------------------------------------------------------
+
+abbrev pub through_block : Name → ℕ → List (Place Name)
+through_block block zero = []
+through_block block (suc k) = record { block = block; index = k } ∷ through_block block k
+
+module _ (program : Program) (entry : Name) (is_entry : program.entry ≡ Some entry) where
+  pub is_path : (k : ℕ) → k < length (program.items entry) → IsPath (program_flow program) (record { block = entry; index = k } ∷ through_block entry k)
+  is_path zero within = (is_entry, (refl, within))
+  is_path (suc k) within = (inl (refl, omega arith, within), is_path k (omega arith))
+
+  -- nothing is given as a place of it is come to
+  pub none_on_entry : ((block : Name) → program.parameters block ≡ []) → (x : Name) (k : ℕ) → Contains (given_on_entry (program_code program) entry k) x → ⊥
+  none_on_entry none x zero there = none_of (program.parameters entry) x (none entry) there
+  none_on_entry none x (suc k) there = nothing_contained x there
+
+  -- what is given along it is given by an item before
+  pub given_earlier : ((block : Name) → program.parameters block ≡ []) → (x : Name) (k : ℕ) → IsGivenAlong (program_code program) x (through_block entry k)
+      → (j : ℕ) × (j < k) × Contains (item_gives (slice_get (program.items entry) j)) x
+  given_earlier none x zero along = absurd along
+  given_earlier none x (suc k) along = by along (given_earlier none x k)
+    where
+      later : (j : ℕ) × (j < k) × Contains (item_gives (slice_get (program.items entry) j)) x
+          → (j : ℕ) × (j < suc k) × Contains (item_gives (slice_get (program.items entry) j)) x
+      later found = (found.0, omega (arith, found.1), found.2)
+
+      by : Contains (item_gives (slice_get (program.items entry) k)) x
+          ⊎ Contains (given_on_entry (program_code program) entry k) x ⊎ IsGivenAlong (program_code program) x (through_block entry k)
+          → (IsGivenAlong (program_code program) x (through_block entry k) → (j : ℕ) × (j < k) × Contains (item_gives (slice_get (program.items entry) j)) x)
+          → (j : ℕ) × (j < suc k) × Contains (item_gives (slice_get (program.items entry) j)) x
+      by (inl here) earlier = (k, omega arith, here)
+      by (inr (inl entering)) earlier = absurd (none_on_entry none x k entering)
+      by (inr (inr before)) earlier = later (earlier before)

@@ -1,0 +1,106 @@
+-- How one step of the script's machine is matched, and what both machines show at an end.
+use Rattle.std.proofs.Common.{◌≡◌, ℕ, zero, suc, ◌<◌, List, [], ◌∷◌, map, drop, slice_get, Some, inl, inr, refl, ap₂, arith}
+use Rattle.clif_meaning.specs.Bits.{Bits}
+use Rattle.clif_meaning.specs.Memory.{Memory}
+use Rattle.clif_meaning.specs.Machine.{Machine, Control, At, HasReturned, HasTrapped, IsStuck, Observation, ending_of}
+use Rattle.clif_meaning.specs.Instruction.{Operation, Compute, Return}
+use Rattle.clif_types.specs.declared.types.«Type».{«Type»}
+use Rattle.clif_meaning.specs.World.{World}
+use Rattle.clif_meaning.specs.Outcome.{Outcome, Gives, Goes, Returns, Traps, Calls, NoStep, Computed, Values, Fault, Undefined, computed, outcome_of_computed, outcome_of}
+use Rattle.clif_meaning.proofs.Stuttering.{Matched, ShowsOnlyEnds}
+use Rattle.clif_simulation.proofs.Giving.{In}
+
+-- Lists -----------------------------------------------------------------------------------------------------------------
+
+-- the item at a place, and what is behind it
+pub item_here : {X : Type 0} (xs : List X) (k : ℕ) (x : X) (rest : List X) → drop k xs ≡ x ∷ rest → slice_get xs k ≡ Some x
+item_here [] zero x rest e = cc
+item_here [] (suc k) x rest e = cc
+item_here (y ∷ xs) zero x rest e = cc
+item_here (y ∷ xs) (suc k) x rest e = item_here xs k x rest e
+
+pub rest_behind : {X : Type 0} (xs : List X) (k : ℕ) (x : X) (rest : List X) → drop k xs ≡ x ∷ rest → drop (suc k) xs ≡ rest
+rest_behind [] zero x rest e = cc
+rest_behind [] (suc k) x rest e = cc
+rest_behind (y ∷ xs) zero x rest e = cc
+rest_behind (y ∷ xs) (suc k) x rest e = rest_behind xs k x rest e
+
+-- the bits of things and of what stands for them
+pub same_bits : {X Y : Type 0} (xs : List X) (g : X → ℕ) (h : Y → ℕ) (other : X → Y) → ((x : X) → In x xs → g x ≡ h (other x)) → map g xs ≡ map h (map other xs)
+same_bits [] g h other same = refl
+same_bits (x ∷ xs) g h other same =
+    ap₂ (λ (n : ℕ) (ns : List ℕ). n ∷ ns) (same x (inl refl)) (same_bits xs g h other (λ y there. same y (inr there)))
+
+-- Steps -----------------------------------------------------------------------------------------------------------------
+
+module _ {S T : Type 0} (left : Machine S Observation) (right : Machine T Observation) (Related : S → T → Type 0) (measure : S → ℕ) (s : S) (t : T) where
+  -- by one step
+  pub matched_by_one : Related (left.next s) (right.next t) → Matched left right Related measure s t
+  matched_by_one related = record { steps = 1; related = related; quiet = quiet; gets_on = inl (omega arith) }
+    where
+      quiet : ShowsOnlyEnds right 1 t
+      quiet zero h = inl refl
+      quiet (suc zero) h = inr refl
+      quiet (suc (suc j)) h = absurd (omega arith)
+
+  -- by none
+  pub matched_by_none : Related (left.next s) t → measure (left.next s) < measure s → Matched left right Related measure s t
+  matched_by_none related falls = record { steps = 0; related = related; quiet = quiet; gets_on = inr falls }
+    where
+      quiet : ShowsOnlyEnds right 0 t
+      quiet zero h = inl refl
+      quiet (suc j) h = absurd (omega arith)
+
+-- Ends ------------------------------------------------------------------------------------------------------------------
+
+-- both ended, and in one way
+abbrev pub SameEnd : {X Y : Type 0} → Control X → Control Y → Type 0
+SameEnd (At rest) d = ⊥
+SameEnd (HasReturned a) (At rest) = ⊥
+SameEnd (HasReturned a) (HasReturned b) = a ≡ b
+SameEnd (HasReturned a) (HasTrapped reason) = ⊥
+SameEnd (HasReturned a) IsStuck = ⊥
+SameEnd (HasTrapped reason) (At rest) = ⊥
+SameEnd (HasTrapped reason) (HasReturned b) = ⊥
+SameEnd (HasTrapped reason) (HasTrapped other) = reason ≡ other
+SameEnd (HasTrapped reason) IsStuck = ⊥
+SameEnd IsStuck (At rest) = ⊥
+SameEnd IsStuck (HasReturned b) = ⊥
+SameEnd IsStuck (HasTrapped reason) = ⊥
+SameEnd IsStuck IsStuck = Unit {0}
+
+pub same_ending : {X Y : Type 0} (c : Control X) (d : Control Y) (memory : Memory) → SameEnd c d → ending_of c memory ≡ ending_of d memory
+same_ending (At rest) d memory same = absurd same
+same_ending (HasReturned a) (At rest) memory same = absurd same
+same_ending (HasReturned a) (HasReturned b) memory same = cc
+same_ending (HasReturned a) (HasTrapped reason) memory same = absurd same
+same_ending (HasReturned a) IsStuck memory same = absurd same
+same_ending (HasTrapped reason) (At rest) memory same = absurd same
+same_ending (HasTrapped reason) (HasReturned b) memory same = absurd same
+same_ending (HasTrapped reason) (HasTrapped other) memory same = cc
+same_ending (HasTrapped reason) IsStuck memory same = absurd same
+same_ending IsStuck (At rest) memory same = absurd same
+same_ending IsStuck (HasReturned b) memory same = absurd same
+same_ending IsStuck (HasTrapped reason) memory same = absurd same
+same_ending IsStuck IsStuck memory same = refl
+
+-- Outcomes --------------------------------------------------------------------------------------------------------------
+
+-- it goes on in its block, or ends
+abbrev pub IsPlain : Outcome → Type 0
+IsPlain (Gives results memory) = Unit {0}
+IsPlain (Goes edge given memory) = ⊥
+IsPlain (Returns results) = Unit {0}
+IsPlain (Traps reason) = Unit {0}
+IsPlain (Calls callee call arguments) = ⊥
+IsPlain NoStep = Unit {0}
+
+computed_plain : (c : Computed) (memory : Memory) → IsPlain (outcome_of_computed c memory)
+computed_plain (Values results) memory = tt
+computed_plain (Fault reason) memory = tt
+computed_plain Undefined memory = tt
+
+-- no instruction so far is a branch or a call
+pub outcome_plain : (world : World) (operation : Operation) (ty : «Type») (operands : List Bits) (memory : Memory) → IsPlain (outcome_of world operation ty operands memory)
+outcome_plain world (Compute arithmetic) ty operands memory = computed_plain (computed arithmetic ty operands) memory
+outcome_plain world Return ty operands memory = tt

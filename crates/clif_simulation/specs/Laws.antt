@@ -1,0 +1,31 @@
+-- The laws, as the contracts of this crate's functions state them.
+use Rattle.std.specs.Prelude.{◌≡◌, ℕ, true, List, [], Some}
+use Rattle.clif_types.specs.declared.target.PointerWidth.{PointerWidth}
+use Rattle.clif_ir.specs.Body.{Body}
+use Rattle.clif_ir.specs.Consistent.{IsConsistent}
+use Rattle.clif_ssa.specs.Ssa.{SsaState, sealed_of}
+use Rattle.clif_ssa.specs.Tables.{is_yes, pending_of}
+use Rattle.clif_ssa.specs.Sound.{entry_of}
+use Rattle.clif_meaning.specs.Name.{Name}
+use Rattle.clif_meaning.specs.Request.{AnsweredCall, script_of}
+use Rattle.clif_meaning.specs.View.{view_of}
+use Rattle.clif_meaning.specs.Headline.{MeansTheSame}
+use Rattle.clif_simulation.specs.Tables.{code}
+use Rattle.clif_simulation.specs.Carries.{Carries}
+
+-- Different names have different numbers.
+abbrev pub CodesDiffer : Type 0
+CodesDiffer = (a b : Name) → code a ≡ code b → a ≡ b
+
+-- The construction is finished: no parameter waits, and the entry is sealed.
+pub record IsFinished (f : Body) (s : SsaState) : Type 0 where
+  pub none_waits : (block : ℕ) → pending_of (sealed_of s block) ≡ []
+  pub entry_sealed : (entry : ℕ) → entry_of f ≡ Some entry → is_yes (sealed_of s entry) ≡ true
+
+-- A finished function that carries a list of calls means what the list's program means. Each function keeps
+-- consistency, of which it needs that aliases end.
+abbrev pub CarryingMeansTheSame : Type 0
+CarryingMeansTheSame =
+    (calls : List AnsweredCall) (f : Body) (s : SsaState) (width : PointerWidth)
+    → IsConsistent f → Carries calls f s → IsFinished f s
+    → MeansTheSame (script_of calls) f.signature width (view_of f)
