@@ -1,1 +1,3 @@
 pub mod ReadyLaws
+pub mod Conditions
+pub mod Verdicts

@@ -1,253 +1,381 @@
--- Everything that was answered goes on existing as the builder's calls are made.
-use Rattle.std.proofs.Common.{◌≡◌, ℕ, zero, suc, ◌+◌, ◌<◌, ◌≤◌, List, [], ◌∷◌, ◌++◌, length, refl, ap, arith, sym, ◌∙◌, subst, ◌⊎◌, inl, inr}
-use Rattle.std.specs.Prelude.{pos, slice_get, Option, Some, None, IfSome, unwrap_or, Bool, true, false, if◌then◌else◌, ◌==◌, ◌&&◌}
-use Rattle.std.proofs.lemmas.Grind.{common_steps}
+-- What names lead to, where the builder agrees with the ledger of the calls.
+use Rattle.std.proofs.Common.{◌≡◌, ℕ, zero, suc, ◌+◌, ◌-◌, ◌<◌, List, [], ◌∷◌, ◌++◌, length, refl, ap, arith, sym, ◌∙◌, subst, ◌⊎◌, inl, inr, length-append}
+use Rattle.std.specs.Prelude.{map, slice_get, slice_index_or, Option, Some, None, option_map, option_and_then, is_some, IfSome, false, if◌then◌else◌, ◌==◌}
+use Rattle.std.proofs.lemmas.Option.{slice_get_within, slice_get_past, same_Some, none-some, get_or_from_slice_get, slice_get-map}
+use Rattle.std.proofs.lemmas.Bool.{cases_lt, ne_eqb, false_from_ne_true}
+use Rattle.std.proofs.lemmas.List.{length-map}
 use Rattle.clif_types.specs.declared.types.«Type».{«Type»}
-use Rattle.clif_ir.specs.declared.inst_list.BlockEnd.{BlockEnd}
-use Rattle.clif_ir.specs.declared.instructions.InstructionData.{InstructionData}
-use Rattle.clif_ir.specs.Body.{Body, value_at}
-use Rattle.clif_ir.specs.Changes.{inserted_in, with_block, with_layout, with_param, with_inst, with_alias, result_nodes}
-use Rattle.clif_ir.specs.Reading.{param_home, stands_in}
-use Rattle.clif_ssa.specs.Tables.{record_at, is_yes}
-use Rattle.cranelift_frontend.specs.Builder.{Appends, AppendsValue, HasCurrent, Uses, UsesIn, with_appended}
-use Rattle.clif_ir.specs.Instruction.{result_types}
-use Rattle.clif_ssa.specs.declared.tables.Pending.{Pending}
-use Rattle.clif_ir.specs.declared.inst_list.BlockEnd.TheVariants.{Front, Back}
-use Rattle.clif_ir.specs.declared.instructions.InstructionData.TheVariants.{UnaryImm}
-use Rattle.clif_ssa.specs.Ssa.{SsaState, no_srcloc, record_of, sealed_of, Records, Waits, Zeroes, with_zero, zeroed, zeroed_in, completed}
+use Rattle.clif_types.specs.Signature.{SignatureShape}
+use Rattle.clif_ir.specs.declared.function.InstNode.{InstNode}
+use Rattle.clif_ir.specs.declared.function.ValueNode.{ValueNode}
+use Rattle.clif_ir.specs.Body.{inst_at, no_inst}
+use Rattle.clif_meaning.specs.Request.{AnsweredCall, number_of}
+use Rattle.clif_meaning.specs.Ledger.{Answered, ABlock, AVariable, AValue, AnInstruction, BlockState, Ledger, answer_at, answers_to, block_state, has_block, has_value, type_of, value_answer_type}
 use Rattle.cranelift_frontend.specs.declared.frontend.FunctionBuilder.{FunctionBuilder}
+use Rattle.cranelift_frontend.specs.StandsFor.{StandsFor}
+use Rattle.cranelift_frontend.specs.Ledger.{AnswersAgree, ResultsFollow, NamesBlock, NamesValue, block_name, value_type, ledger_of}
+use Rattle.cranelift_frontend.proofs.LedgerLists.{get-push, get-below, map-some, some-is, if-no, name-of-some}
+use Rattle.cranelift_frontend.proofs.LedgerNames.{find-some, name-number, named-block, state-by-name}
+use Rattle.cranelift_frontend.proofs.LedgerKept.{ledger-more, named-value}
+use Rattle.cranelift_frontend.proofs.LedgerMade.{block-exists}
+use Rattle.clif_script.specs.declared.call.Name.{Name}
 use Rattle.clif_script.specs.declared.script.Answer.{Answer}
 use Rattle.clif_script.specs.declared.script.Answer.TheVariants as answer
-use Rattle.clif_script.specs.Ready.{IsReady, AnswerExists}
-use Rattle.clif_ir.proofs.Lists.{at_push}
+use Rattle.clif_script.specs.Requests.{name_of}
+use Rattle.clif_script.specs.Ready.{AnswerIs, AnswerExists, IsReady, block_in, block_of, value_in, value_of}
 
--- no table gets shorter
-pub record Grows (f g : Body) : Type 0 where
-  pub values : length f.values ≤ length g.values
-  pub insts : length f.insts ≤ length g.insts
-  pub blocks : length f.blocks ≤ length g.blocks
+-- a number that isn't 0
+past : {X : Type 0} (k : ℕ) (x y : X) → (if suc k == 0 then x else y) ≡ y
+past k x y = if-no (suc k == 0) x y (ne_eqb (suc k) 0 (λ same. omega (arith, same)))
 
-pub Grows-same : (f g : Body) → g ≡ f → Grows f g
-Grows-same f g same = subst (λ h. Grows f h) (sym same) (record { values = omega arith; insts = omega arith; blocks = omega arith })
+-- an answer of a call, with what the ledger and the builder say of it
+record Entry (calls : List AnsweredCall) (b : FunctionBuilder) (place : ℕ) (a : Answer) : Type 0 where
+  pub call : AnsweredCall
+  pub given : List Answered
+  pub at_call : slice_get calls place ≡ Some call
+  pub at_given : slice_get (ledger_of calls).answers place ≡ Some given
+  pub is : AnswerIs a given call.numbers
+  pub agree : AnswersAgree (ledger_of calls) b.func.now place given call.numbers
 
-pub Grows-then : (f g h : Body) → Grows f g → Grows g h → Grows f h
-Grows-then f g h first next =
-    record { values = omega (arith, first.values, next.values); insts = omega (arith, first.insts, next.insts); blocks = omega (arith, first.blocks, next.blocks) }
-
-pub Grows-with_block : (f : Body) → Grows f (with_block f)
-Grows-with_block f = record { values = omega arith; insts = omega arith; blocks = grind (arith, common_steps) }
-
-pub Grows-inserted : (f : Body) (b : ℕ) → Grows f (inserted_in f b)
-Grows-inserted f b = by_test (stands_in b f.layout)
-  where
-    by_test : (c : Bool) → Grows f (if c then f else with_layout f b)
-    by_test true = record { values = omega arith; insts = omega arith; blocks = omega arith }
-    by_test false = record { values = omega arith; insts = omega arith; blocks = omega arith }
-
-pub Grows-with_param : (f : Body) (b : ℕ) (ty : «Type») → Grows f (with_param f b ty)
-Grows-with_param f b ty = record { values = grind (arith, common_steps); insts = omega arith; blocks = grind (arith, common_steps) }
-
-pub Grows-with_inst : (f : Body) (b : ℕ) (end : BlockEnd) (shape : InstructionData) (types : List «Type») (loc : ℕ) → Grows f (with_inst f b end shape types loc)
-Grows-with_inst f b end shape types loc = record { values = grind (arith, common_steps); insts = grind (arith, common_steps); blocks = grind (arith, common_steps) }
-
-pub Grows-with_alias : (f : Body) (v original : ℕ) → Grows f (with_alias f v original)
-Grows-with_alias f v original = record { values = grind (arith, common_steps); insts = omega arith; blocks = grind (arith, common_steps) }
-
-pub Grows-with_zero : (f : Body) (b : ℕ) (ty : «Type») → Grows f (with_zero f b ty)
-Grows-with_zero f b ty = Grows-then _ _ _ (Grows-inserted f b) (Grows-with_inst (inserted_in f b) b Front (UnaryImm (pos 0)) (ty ∷ []) no_srcloc)
-
-pub Grows-zeroed : (f : Body) (b v : ℕ) → Grows f (zeroed f b v)
-Grows-zeroed f b v = Grows-then _ _ _ (Grows-with_zero f b _) (Grows-with_alias _ v _)
-
-pub Grows-zeroed_in : (o : Option ℕ) (f : Body) (v : ℕ) → Grows f (zeroed_in o f v)
-Grows-zeroed_in None f v = Grows-same f f refl
-Grows-zeroed_in (Some b) f v = Grows-zeroed f b v
-
-pub Grows-completed : (f : Body) (pending : List Pending) → Grows f (completed f pending)
-Grows-completed f [] = Grows-same f f refl
-Grows-completed f (p ∷ pending) =
-    Grows-then _ _ _ (Grows-zeroed_in (param_home f p.param) f p.param) (Grows-completed (zeroed_in (param_home f p.param) f p.param) pending)
-
--- what exists goes on existing
-pub exists_on : (f g : Body) (a : Answer) → Grows f g → AnswerExists f a → AnswerExists g a
-exists_on f g answer.Nothing grows here = tt
-exists_on f g (answer.Block b) grows here = omega (arith, here, grows.blocks)
-exists_on f g (answer.Variable v) grows here = tt
-exists_on f g (answer.Value v) grows here = omega (arith, here, grows.values)
-exists_on f g (answer.Inst i) grows here = omega (arith, here, grows.insts)
-
--- a current block goes on existing
-pub placed_on : (f g : Body) (o : Option ℕ) → Grows f g → IfSome o (λ block. block < length f.blocks) → IfSome o (λ block. block < length g.blocks)
-placed_on f g None grows here = tt
-placed_on f g (Some block) grows here = omega (arith, here, grows.blocks)
-
--- a call was made: what it answered exists, and each record is an old one or of a value that exists
-pub ready_after : (old new : FunctionBuilder) (answers : List Answer) (a : Answer) → IsReady old answers → Grows old.func.now new.func.now → AnswerExists new.func.now a
-    → ((v b x : ℕ) → record_of new.ctx.now.ssa v b ≡ Some x → (record_of old.ctx.now.ssa v b ≡ Some x) ⊎ (x < length new.func.now.values))
-    → IfSome new.position (λ block. block < length new.func.now.blocks)
-    → IsReady new (answers ++ a ∷ [])
-ready_after old new answers a ready grows exists records placed =
+entry : {declared : SignatureShape} (calls : List AnsweredCall) (b : FunctionBuilder) (answers : List Answer) → IsReady declared calls b answers
+    → (place : ℕ) (a : Answer) → slice_get answers place ≡ Some a → Entry calls b place a
+entry calls b answers ready place a at =
+    let inside : place < length answers = slice_get_within answers place a at in
+    let call = get-below calls place (omega (arith, inside, ready.count)) in
+    let given = get-below (ledger_of calls).answers place (omega (arith, inside, ready.count, ready.stands.ledger.places)) in
     record {
-      answered = λ k inside.
-          at_push (AnswerExists new.func.now) answers a k answer.Nothing
-          (λ here. exists_on _ _ _ grows (ready.answered k here)) (λ _. exists) (λ _. tt);
-      recorded = λ v b x is.
-          elim (records v b x is) [
-            | inl was ↦ let here : x < length old.func.now.values = ready.recorded v b x was in omega (arith, here, grows.values)
-            | inr here ↦ here
-          ];
-      placed = placed;
+      call = call.0;
+      given = given.0;
+      at_call = call.1;
+      at_given = given.1;
+      is = ready.answered place a call.0 given.0 at call.1 given.1;
+      agree = ready.stands.ledger.answers place call.0 given.0 call.1 given.1;
     }
 
--- a fact of the value of an option, where it is known
-pub at_some : (o : Option ℕ) (P : ℕ → Type 0) (b : ℕ) → o ≡ Some b → IfSome o P → P b
-at_some o P b is holds = let Q : Option ℕ → Type 0 = λ p. IfSome p P in subst Q is holds
+-- a name's number and its answer are those of its call
+number-at : (calls : List AnsweredCall) (b : FunctionBuilder) (place index : ℕ) (a : Answer) (e : Entry calls b place a)
+    → number_of calls (record { place = place; index = index }) ≡ slice_get e.call.numbers index
+number-at calls b place index a e = ap (option_and_then (λ (call : AnsweredCall). slice_get call.numbers index)) e.at_call
 
--- an instruction was appended
-pub ready_instruction : (old new : FunctionBuilder) (answers : List Answer) (a : Answer) (block : ℕ) (shape : InstructionData) (ty : «Type») (inst : ℕ)
-    → IsReady old answers → Appends old new block shape ty inst → new.ctx.now.ssa ≡ old.ctx.now.ssa → new.position ≡ old.position
-    → AnswerExists new.func.now a → IsReady new (answers ++ a ∷ [])
-ready_instruction old new answers a block shape ty inst ready appends ssa position exists =
-    let grows : Grows old.func.now new.func.now =
-    subst (Grows old.func.now) (sym appends.function) (Grows-then _ _ _ (Grows-inserted old.func.now block) (Grows-with_inst (inserted_in old.func.now block) block Back shape (result_types shape ty) no_srcloc)) in
-    ready_after old new answers a ready grows exists
-    (λ v b x is. inl (ap (λ s. record_of s v b) (sym ssa) ∙ is))
-    (subst (λ (p : Option ℕ). IfSome p (λ c. c < length new.func.now.blocks)) (sym position) (placed_on _ _ _ grows ready.placed))
+answer-at : (calls : List AnsweredCall) (b : FunctionBuilder) (place index : ℕ) (a : Answer) (e : Entry calls b place a)
+    → answer_at (ledger_of calls) (record { place = place; index = index }) ≡ slice_get e.given index
+answer-at calls b place index a e = ap (option_and_then (λ (answers : List Answered). slice_get answers index)) e.at_given
 
--- a block was sealed
-pub ready_sealed : (old new : FunctionBuilder) (answers : List Answer) (a : Answer) (pending : List Pending)
-    → IsReady old answers → new.func.now ≡ completed old.func.now pending → new.ctx.now.ssa.records ≡ old.ctx.now.ssa.records → new.position ≡ old.position
-    → AnswerExists new.func.now a → IsReady new (answers ++ a ∷ [])
-ready_sealed old new answers a pending ready function records position exists =
-    let grows : Grows old.func.now new.func.now = subst (Grows old.func.now) (sym function) (Grows-completed old.func.now pending) in
-    ready_after old new answers a ready grows exists
-    (λ v b x is. inl (ap (λ rows. record_at rows v b) (sym records) ∙ is))
-    (subst (λ (p : Option ℕ). IfSome p (λ c. c < length new.func.now.blocks)) (sym position) (placed_on _ _ _ grows ready.placed))
+-- there is no answer behind the last call
+answer-past : {declared : SignatureShape} (calls : List AnsweredCall) (b : FunctionBuilder) (answers : List Answer) → IsReady declared calls b answers
+    → (place index : ℕ) → slice_get answers place ≡ None → answer_at (ledger_of calls) (record { place = place; index = index }) ≡ None
+answer-past calls b answers ready place index none =
+    elim (cases_lt place (length answers)) [
+      | inl inside ↦ let there = get-below answers place inside in absurd (none-some there.0 (sym none ∙ there.1))
+      | inr past ↦
+          ap (option_and_then (λ (xs : List Answered). slice_get xs index))
+          (slice_get_past (ledger_of calls).answers place (omega (arith, past, ready.count, ready.stands.ledger.places)))
+    ]
 
--- a value that was written into one record exists, and all other records are old
-records_after : (old new : SsaState) (variable block value n : ℕ) → Records old new variable block value → value < n
-    → (v b x : ℕ) → record_of new v b ≡ Some x → (record_of old v b ≡ Some x) ⊎ (x < n)
-records_after old new variable block value n records exists v b x is = by_test (v == variable && b == block) refl
+-- what a call with one answer answered
+one-answer : (given : List Answered) (a : Answered) (index : ℕ) (x : Answered) → given ≡ a ∷ [] → slice_get given index ≡ Some x → (index ≡ 0) × (a ≡ x)
+one-answer given a zero x is at = (refl, same_Some a x (ap (λ (xs : List Answered). slice_get xs 0) (sym is) ∙ at))
+one-answer given a (suc index) x is at = absurd (none-some x (ap (λ (xs : List Answered). slice_get xs (suc index)) (sym is) ∙ at))
+
+no-answer : (given : List Answered) (index : ℕ) (x : Answered) → given ≡ [] → slice_get given index ≡ Some x → ⊥
+no-answer given index x is at = none-some x (ap (λ (xs : List Answered). slice_get xs index) (sym is) ∙ at)
+
+-- what an instruction answered
+instruction-answer : (given : List Answered) (types : List «Type») (index : ℕ) (x : Answered) → given ≡ AnInstruction ∷ map AValue types → slice_get given index ≡ Some x
+    → ((index ≡ 0) × (AnInstruction ≡ x)) ⊎ ((k : ℕ) × (index ≡ suc k) × (ty : «Type») × (AValue ty ≡ x))
+instruction-answer given types zero x is at = inl (refl, same_Some AnInstruction x (ap (λ (xs : List Answered). slice_get xs 0) (sym is) ∙ at))
+instruction-answer given types (suc k) x is at =
+    let value = map-some AValue (slice_get types k) x (sym (slice_get-map AValue types k) ∙ ap (λ (xs : List Answered). slice_get xs (suc k)) (sym is) ∙ at) in
+    inr (k, refl, value.0, value.2)
+
+-- a name that leads to a block names it
+pub block-found : {declared : SignatureShape} (calls : List AnsweredCall) (b : FunctionBuilder) (answers : List Answer) → IsReady declared calls b answers
+    → (name : Name) (block : ℕ) → block_of answers name ≡ Some block → NamesBlock calls (name_of name) block
+block-found calls b answers ready name block found = by (slice_get answers name.place) refl found
   where
-    some_value : (y : ℕ) → ◌≡◌ {A = Option ℕ} (Some y) (Some x) → y ≡ x
-    some_value y same = ap (λ (o : Option ℕ). unwrap_or o 0) same
+    by_block : (x : ℕ) → slice_get answers name.place ≡ Some (answer.Block x) → (index : ℕ) → name.answer ≡ index → (if index == 0 then Some x else None) ≡ Some block → NamesBlock calls (name_of name) block
+    by_block x at zero is found =
+        let e = entry calls b answers ready name.place (answer.Block x) at in
+        let number : number_of calls (name_of name) ≡ Some x =
+        number-at calls b name.place name.answer (answer.Block x) e ∙ ap (slice_get e.call.numbers) is ∙ ap (λ (xs : List ℕ). slice_get xs 0) e.is.1 in
+        let answered : slice_get e.given 0 ≡ Some ABlock = ap (λ (xs : List Answered). slice_get xs 0) e.is.0 in
+        let named : block_name (ledger_of calls) x ≡ Some (record { place = name.place; index = 0 }) = e.agree.each 0 ABlock x answered (ap (λ (xs : List ℕ). slice_get xs 0) e.is.1) in
+        let here : block_name (ledger_of calls) x ≡ Some (name_of name) = named ∙ ap (λ (n : ℕ). Some (name_of (record { place = name.place; answer = n }))) (sym is) in
+        let state = state-by-name calls (ledger_of calls) (name-number calls (ledger_of calls) b.func.now b.ctx.now b.position ready.stands.ledger) x (name_of name) here in
+        record { number = number ∙ found; is_block = ap is_some state.3 }
+    by_block x at (suc k) is found = absurd (none-some block (sym (past k (Some x) None) ∙ found))
 
-    by_test : (c : Bool) → (v == variable && b == block) ≡ c → (record_of old v b ≡ Some x) ⊎ (x < n)
-    by_test true here =
-        let same : value ≡ x = some_value value (sym (ap (λ c. if c then Some value else record_of old v b) here) ∙ sym (records v b) ∙ is) in
-        inr (omega (arith, exists, same))
-    by_test false other = inl (sym (ap (λ c. if c then Some value else record_of old v b) other) ∙ sym (records v b) ∙ is)
+    by : (o : Option Answer) → slice_get answers name.place ≡ o → block_in name.answer o ≡ Some block → NamesBlock calls (name_of name) block
+    by None at found = absurd (none-some block found)
+    by (Some answer.Nothing) at found = absurd (none-some block found)
+    by (Some (answer.Variable v)) at found = absurd (none-some block found)
+    by (Some (answer.Value v)) at found = absurd (none-some block found)
+    by (Some (answer.Inst i)) at found = absurd (none-some block found)
+    by (Some (answer.Block x)) at found = by_block x at name.answer refl found
 
--- a block that enters the layout changes no value
-values-inserted : (f : Body) (b : ℕ) → length (inserted_in f b).values ≡ length f.values
-values-inserted f b = by_test (stands_in b f.layout)
+-- a name that leads to no block names none
+pub block-missing : {declared : SignatureShape} (calls : List AnsweredCall) (b : FunctionBuilder) (answers : List Answer) → IsReady declared calls b answers
+    → (name : Name) → block_of answers name ≡ None → has_block (ledger_of calls) (name_of name) ≡ false
+block-missing calls b answers ready name missing =
+    false_from_ne_true (has_block (ledger_of calls) (name_of name)) (λ there.
+    let state = some-is (block_state (ledger_of calls) (name_of name)) there in
+    let found = find-some (ledger_of calls).blocks (name_of name) state.0 state.1 in
+    let named : block_name (ledger_of calls) found.0 ≡ Some (name_of name) = ap (option_map (λ (s : BlockState). s.block)) found.1 ∙ ap Some found.2 in
+    by (slice_get answers name.place) refl missing (ready.stands.ledger.block_answers found.0 (name_of name) named))
   where
-    by_test : (c : Bool) → length (if c then f else with_layout f b).values ≡ length f.values
-    by_test true = refl
-    by_test false = refl
+    by_block : (x : ℕ) (index : ℕ) → index ≡ 0 → (if index == 0 then Some x else None) ≡ None → ⊥
+    by_block x zero is missing = none-some x (sym missing)
+    by_block x (suc k) is missing = omega (arith, is)
 
-insts-inserted : (f : Body) (b : ℕ) → length (inserted_in f b).insts ≡ length f.insts
-insts-inserted f b = by_test (stands_in b f.layout)
+    by : (o : Option Answer) → slice_get answers name.place ≡ o → block_in name.answer o ≡ None → answer_at (ledger_of calls) (name_of name) ≡ Some ABlock → ⊥
+    by None at missing answered = none-some ABlock (sym (answer-past calls b answers ready name.place name.answer at) ∙ answered)
+    by (Some answer.Nothing) at missing answered =
+        let e = entry calls b answers ready name.place answer.Nothing at in
+        no-answer e.given name.answer ABlock e.is.0 (sym (answer-at calls b name.place name.answer answer.Nothing e) ∙ answered)
+    by (Some (answer.Variable v)) at missing answered =
+        let e = entry calls b answers ready name.place (answer.Variable v) at in
+        let one = one-answer e.given (AVariable v) name.answer ABlock e.is.0 (sym (answer-at calls b name.place name.answer (answer.Variable v) e) ∙ answered) in
+        let wrong : AVariable v ≡ ABlock = one.1 in
+        cc
+    by (Some (answer.Value v)) at missing answered =
+        let e = entry calls b answers ready name.place (answer.Value v) at in
+        let one = one-answer e.given (AValue e.is.0) name.answer ABlock e.is.1 (sym (answer-at calls b name.place name.answer (answer.Value v) e) ∙ answered) in
+        let wrong : AValue e.is.0 ≡ ABlock = one.1 in
+        cc
+    by (Some (answer.Inst i)) at missing answered =
+        let e = entry calls b answers ready name.place (answer.Inst i) at in
+        elim (instruction-answer e.given e.is.0 name.answer ABlock e.is.2 (sym (answer-at calls b name.place name.answer (answer.Inst i) e) ∙ answered)) [
+          | inl first ↦ let wrong : AnInstruction ≡ ABlock = first.1 in cc
+          | inr later ↦ let wrong : AValue later.2 ≡ ABlock = later.3 in cc
+        ]
+    by (Some (answer.Block x)) at missing answered =
+        let e = entry calls b answers ready name.place (answer.Block x) at in
+        let one = one-answer e.given ABlock name.answer ABlock e.is.0 (sym (answer-at calls b name.place name.answer (answer.Block x) e) ∙ answered) in
+        by_block x name.answer one.0 missing
+
+-- the results of an instruction that was answered
+record Results (calls : List AnsweredCall) (b : FunctionBuilder) (place i : ℕ) : Type 0 where
+  pub types : List «Type»
+  pub call : AnsweredCall
+  pub given : List Answered
+  pub at_call : slice_get calls place ≡ Some call
+  pub at_given : slice_get (ledger_of calls).answers place ≡ Some given
+  pub answered : given ≡ AnInstruction ∷ map AValue types
+  pub node : InstNode
+  pub there : slice_get b.func.now.insts i ≡ Some node
+  pub numbers : call.numbers ≡ i ∷ node.results
+  pub count : length node.results ≡ length types
+
+results-of : {declared : SignatureShape} (calls : List AnsweredCall) (b : FunctionBuilder) (answers : List Answer) → IsReady declared calls b answers
+    → (place i : ℕ) → slice_get answers place ≡ Some (answer.Inst i) → Results calls b place i
+results-of calls b answers ready place i at =
+    let e = entry calls b answers ready place (answer.Inst i) at in
+    let follow = subst (λ (xs : List ℕ). ResultsFollow b.func.now (AnInstruction ∷ map AValue e.is.0) xs) e.is.3
+    (subst (λ (xs : List Answered). ResultsFollow b.func.now xs e.call.numbers) e.is.2 e.agree.results) in
+    let many : suc (length e.is.1) ≡ suc (length (map AValue e.is.0)) =
+    ap (λ (xs : List ℕ). length xs) (sym e.is.3) ∙ e.agree.count ∙ ap (λ (xs : List Answered). length xs) e.is.2 in
+    record {
+      types = e.is.0;
+      call = e.call;
+      given = e.given;
+      at_call = e.at_call;
+      at_given = e.at_given;
+      answered = e.is.2;
+      node = follow.0;
+      there = follow.1;
+      numbers = e.is.3 ∙ ap (λ (xs : List ℕ). i ∷ xs) follow.2;
+      count = ap (λ (xs : List ℕ). length xs) (sym follow.2) ∙ omega (arith, many, length-map e.is.0 AValue);
+    }
+
+-- a name that leads to a value names it
+pub value-found : {declared : SignatureShape} (calls : List AnsweredCall) (b : FunctionBuilder) (answers : List Answer) → IsReady declared calls b answers
+    → (name : Name) (value : ℕ) → value_of b.func.now answers name ≡ Some value → NamesValue calls (name_of name) value
+value-found calls b answers ready name value found = by (slice_get answers name.place) refl found
   where
-    by_test : (c : Bool) → length (if c then f else with_layout f b).insts ≡ length f.insts
-    by_test true = refl
-    by_test false = refl
+    by_value : (x : ℕ) → slice_get answers name.place ≡ Some (answer.Value x) → (index : ℕ) → name.answer ≡ index → (if index == 0 then Some x else None) ≡ Some value → NamesValue calls (name_of name) value
+    by_value x at zero is found =
+        let e = entry calls b answers ready name.place (answer.Value x) at in
+        let answered : answer_at (ledger_of calls) (name_of name) ≡ Some (AValue e.is.0) =
+        answer-at calls b name.place name.answer (answer.Value x) e ∙ ap (slice_get e.given) is ∙ ap (λ (xs : List Answered). slice_get xs 0) e.is.1 in
+        record {
+          number = number-at calls b name.place name.answer (answer.Value x) e ∙ ap (slice_get e.call.numbers) is ∙ ap (λ (xs : List ℕ). slice_get xs 0) e.is.2 ∙ found;
+          is_value = ap (λ (o : Option Answered). is_some (value_answer_type o)) answered;
+        }
+    by_value x at (suc k) is found = absurd (none-some value (sym (past k (Some x) None) ∙ found))
 
--- a zero is one more value
-values-zeroed : (f : Body) (b v : ℕ) → length (zeroed f b v).values ≡ length f.values + 1
-values-zeroed f b v =
-    let ty : «Type» = (value_at f v).ty in
-    let nodes : length (result_nodes (length (inserted_in f b).insts) 0 (ty ∷ [])) ≡ 1 = refl in
-    let zero_made : length (with_zero f b ty).values ≡ length f.values + 1 = grind (arith, common_steps, values-inserted f b, nodes) in
-    let kept : length (zeroed f b v).values ≡ length (with_zero f b ty).values = grind (arith, common_steps) in
-    kept ∙ zero_made
+    by_inst : (i : ℕ) → slice_get answers name.place ≡ Some (answer.Inst i) → (index : ℕ) → name.answer ≡ index
+        → (if index == 0 then None else slice_get (inst_at b.func.now i).results (index - 1)) ≡ Some value → NamesValue calls (name_of name) value
+    by_inst i at zero is found = absurd (none-some value found)
+    by_inst i at (suc k) is found =
+        let r = results-of calls b answers ready name.place i at in
+        let less : suc k - 1 ≡ k = omega arith in
+        let result : slice_get r.node.results k ≡ Some value =
+        ap (λ (n : InstNode). slice_get n.results k) (sym (get_or_from_slice_get b.func.now.insts i r.node no_inst r.there))
+        ∙ ap (slice_get (inst_at b.func.now i).results) (sym less) ∙ sym (past k None (slice_get (inst_at b.func.now i).results (suc k - 1))) ∙ found in
+        let inside : k < length r.node.results = slice_get_within r.node.results k value result in
+        let ty = get-below r.types k (omega (arith, inside, r.count)) in
+        let answered : answer_at (ledger_of calls) (name_of name) ≡ Some (AValue ty.0) =
+        ap (option_and_then (λ (xs : List Answered). slice_get xs name.answer)) r.at_given ∙ ap (slice_get r.given) is
+        ∙ ap (λ (xs : List Answered). slice_get xs (suc k)) r.answered ∙ slice_get-map AValue r.types k ∙ ap (option_map AValue) ty.1 in
+        record {
+          number = ap (option_and_then (λ (call : AnsweredCall). slice_get call.numbers name.answer)) r.at_call ∙ ap (slice_get r.call.numbers) is
+              ∙ ap (λ (xs : List ℕ). slice_get xs (suc k)) r.numbers ∙ result;
+          is_value = ap (λ (o : Option Answered). is_some (value_answer_type o)) answered;
+        }
 
--- a variable was used
-pub ready_used : (old new : FunctionBuilder) (answers : List Answer) (variable : ℕ) (ty : «Type») (block value : ℕ)
-    → IsReady old answers → UsesIn old.func.now old.ctx.now new.func.now new.ctx.now variable ty block value → new.position ≡ old.position
-    → IsReady new (answers ++ answer.Value value ∷ [])
-ready_used old new answers variable ty block value ready uses position =
-    by_record (record_of old.ctx.now.ssa variable block) refl (is_yes (sealed_of old.ctx.now.ssa block)) refl
+    by : (o : Option Answer) → slice_get answers name.place ≡ o → value_in b.func.now name.answer o ≡ Some value → NamesValue calls (name_of name) value
+    by None at found = absurd (none-some value found)
+    by (Some answer.Nothing) at found = absurd (none-some value found)
+    by (Some (answer.Variable v)) at found = absurd (none-some value found)
+    by (Some (answer.Block x)) at found = absurd (none-some value found)
+    by (Some (answer.Value x)) at found = by_value x at name.answer refl found
+    by (Some (answer.Inst i)) at found = by_inst i at name.answer refl found
+
+-- a name that leads to no value names none
+pub value-missing : {declared : SignatureShape} (calls : List AnsweredCall) (b : FunctionBuilder) (answers : List Answer) → IsReady declared calls b answers
+    → (name : Name) → value_of b.func.now answers name ≡ None → has_value (ledger_of calls) (name_of name) ≡ false
+value-missing calls b answers ready name missing =
+    false_from_ne_true (has_value (ledger_of calls) (name_of name)) (λ there.
+    let typed = some-is (type_of (ledger_of calls) (name_of name)) there in
+    by typed.0 (slice_get answers name.place) refl missing (answer_is (answer_at (ledger_of calls) (name_of name)) typed.0 typed.1))
   where
-    inserted : Body
-    inserted = inserted_in old.func.now block
+    answer_is : (o : Option Answered) (ty : «Type») → value_answer_type o ≡ Some ty → o ≡ Some (AValue ty)
+    answer_is None ty is = absurd (none-some ty is)
+    answer_is (Some ABlock) ty is = absurd (none-some ty is)
+    answer_is (Some (AVariable variable)) ty is = absurd (none-some ty is)
+    answer_is (Some (AValue other)) ty is = ap (λ (t : «Type»). Some (AValue t)) (same_Some other ty is)
+    answer_is (Some AnInstruction) ty is = absurd (none-some ty is)
 
-    placed : Grows old.func.now new.func.now → IfSome new.position (λ c. c < length new.func.now.blocks)
-    placed grows = subst (λ (p : Option ℕ). IfSome p (λ c. c < length new.func.now.blocks)) (sym position) (placed_on _ _ _ grows ready.placed)
+    by_value : (x : ℕ) (index : ℕ) → index ≡ 0 → (if index == 0 then Some x else None) ≡ None → ⊥
+    by_value x zero is missing = none-some x (sym missing)
+    by_value x (suc k) is missing = omega (arith, is)
 
-    by_record : (o : Option ℕ) → record_of old.ctx.now.ssa variable block ≡ o → (c : Bool) → is_yes (sealed_of old.ctx.now.ssa block) ≡ c
-        → IsReady new (answers ++ answer.Value value ∷ [])
-    by_record (Some v) is c sealed =
-        let known : (new.func.now ≡ inserted_in old.func.now block) × (new.ctx.now.ssa ≡ old.ctx.now.ssa) × (value ≡ v) = uses.known v is in
-        let grows : Grows old.func.now new.func.now = subst (Grows old.func.now) (sym known.0) (Grows-inserted old.func.now block) in
-        let here : v < length old.func.now.values = ready.recorded variable block v is in
-        ready_after old new answers (answer.Value value) ready grows (omega (arith, here, known.2, grows.values))
-        (λ w b x at. inl (ap (λ s. record_of s w b) (sym known.1) ∙ at)) (placed grows)
-    by_record None is false sealed =
-        let waits : Waits old.ctx.now.ssa new.ctx.now.ssa (inserted_in old.func.now block) new.func.now variable ty block × (value ≡ length old.func.now.values) = uses.waits is sealed in
-        let grows : Grows old.func.now new.func.now = subst (Grows old.func.now) (sym waits.0.function) (Grows-then _ _ _ (Grows-inserted old.func.now block) (Grows-with_param (inserted_in old.func.now block) block ty)) in
-        let count : length new.func.now.values ≡ length (inserted_in old.func.now block).values + 1 = ap (λ (g : Body). length g.values) waits.0.function ∙ grind (arith, common_steps) in
-        ready_after old new answers (answer.Value value) ready grows (omega (arith, count, waits.1, values-inserted old.func.now block))
-        (records_after old.ctx.now.ssa new.ctx.now.ssa variable block _ (length new.func.now.values) waits.0.recorded (omega (arith, count))) (placed grows)
-    by_record None is true sealed =
-        let zeroes : Zeroes old.ctx.now.ssa new.ctx.now.ssa (inserted_in old.func.now block) new.func.now variable ty block × (value ≡ length old.func.now.values + 1) = uses.zero is sealed in
-        let param : Body = with_param (inserted_in old.func.now block) block ty in
-        let grows : Grows old.func.now new.func.now =
-        subst (Grows old.func.now) (sym zeroes.0.function)
-        (Grows-then _ _ _ (Grows-inserted old.func.now block) (Grows-then _ _ _ (Grows-with_param (inserted_in old.func.now block) block ty) (Grows-zeroed param block _))) in
-        let made : length param.values ≡ length (inserted_in old.func.now block).values + 1 = grind (arith, common_steps) in
-        let count : length new.func.now.values ≡ length param.values + 1 = ap (λ (g : Body). length g.values) zeroes.0.function ∙ values-zeroed param block _ in
-        ready_after old new answers (answer.Value value) ready grows (omega (arith, count, made, zeroes.1, values-inserted old.func.now block))
-        (records_after old.ctx.now.ssa new.ctx.now.ssa variable block _ (length new.func.now.values) zeroes.0.recorded (omega (arith, count, made))) (placed grows)
+    by : (ty : «Type») (o : Option Answer) → slice_get answers name.place ≡ o → value_in b.func.now name.answer o ≡ None → answer_at (ledger_of calls) (name_of name) ≡ Some (AValue ty) → ⊥
+    by ty None at missing answered = none-some (AValue ty) (sym (answer-past calls b answers ready name.place name.answer at) ∙ answered)
+    by ty (Some answer.Nothing) at missing answered =
+        let e = entry calls b answers ready name.place answer.Nothing at in
+        no-answer e.given name.answer (AValue ty) e.is.0 (sym (answer-at calls b name.place name.answer answer.Nothing e) ∙ answered)
+    by ty (Some (answer.Variable v)) at missing answered =
+        let e = entry calls b answers ready name.place (answer.Variable v) at in
+        let one = one-answer e.given (AVariable v) name.answer (AValue ty) e.is.0 (sym (answer-at calls b name.place name.answer (answer.Variable v) e) ∙ answered) in
+        let wrong : AVariable v ≡ AValue ty = one.1 in
+        cc
+    by ty (Some (answer.Block x)) at missing answered =
+        let e = entry calls b answers ready name.place (answer.Block x) at in
+        let one = one-answer e.given ABlock name.answer (AValue ty) e.is.0 (sym (answer-at calls b name.place name.answer (answer.Block x) e) ∙ answered) in
+        let wrong : ABlock ≡ AValue ty = one.1 in
+        cc
+    by ty (Some (answer.Value x)) at missing answered =
+        let e = entry calls b answers ready name.place (answer.Value x) at in
+        let one = one-answer e.given (AValue e.is.0) name.answer (AValue ty) e.is.1 (sym (answer-at calls b name.place name.answer (answer.Value x) e) ∙ answered) in
+        by_value x name.answer one.0 missing
+    by ty (Some (answer.Inst i)) at missing answered =
+        let r = results-of calls b answers ready name.place i at in
+        let given_at : slice_get r.given name.answer ≡ Some (AValue ty) = sym (ap (option_and_then (λ (xs : List Answered). slice_get xs name.answer)) r.at_given) ∙ answered in
+        elim (instruction-answer r.given r.types name.answer (AValue ty) r.answered given_at) [
+          | inl first ↦ let wrong : AnInstruction ≡ AValue ty = first.1 in cc
+          | inr later ↦
+              let k : ℕ = later.0 in
+              let inside : name.answer < length r.given = slice_get_within r.given name.answer (AValue ty) given_at in
+              let many : length r.given ≡ suc (length r.types) = ap (λ (xs : List Answered). length xs) r.answered ∙ ap suc (length-map r.types AValue) in
+              let result = get-below r.node.results k (omega (arith, inside, later.1, many, r.count)) in
+              let less : name.answer - 1 ≡ k = omega (arith, later.1) in
+              let not_zero : (name.answer == 0) ≡ false = ne_eqb name.answer 0 (λ same. omega (arith, same, later.1)) in
+              let found : slice_get (inst_at b.func.now i).results (name.answer - 1) ≡ Some result.0 =
+              ap (slice_get (inst_at b.func.now i).results) less ∙ ap (λ (n : InstNode). slice_get n.results k) (get_or_from_slice_get b.func.now.insts i r.node no_inst r.there) ∙ result.1 in
+              none-some result.0 (sym missing ∙ if-no (name.answer == 0) None (slice_get (inst_at b.func.now i).results (name.answer - 1)) not_zero ∙ found)
+        ]
 
--- a variable was assigned
-pub ready_assigned : (old new : FunctionBuilder) (answers : List Answer) (variable block value : ℕ)
-    → IsReady old answers → new.func.now ≡ old.func.now → Records old.ctx.now.ssa new.ctx.now.ssa variable block value → value < length old.func.now.values → new.position ≡ old.position
-    → IsReady new (answers ++ answer.Nothing ∷ [])
-ready_assigned old new answers variable block value ready function records exists position =
-    let grows : Grows old.func.now new.func.now = Grows-same _ _ function in
-    ready_after old new answers answer.Nothing ready grows tt
-    (records_after old.ctx.now.ssa new.ctx.now.ssa variable block value (length new.func.now.values) records (omega (arith, exists, grows.values)))
-    (subst (λ (p : Option ℕ). IfSome p (λ c. c < length new.func.now.blocks)) (sym position) (placed_on _ _ _ grows ready.placed))
+-- every answer exists
+pub answers-exist : {declared : SignatureShape} (calls : List AnsweredCall) (b : FunctionBuilder) (answers : List Answer) → IsReady declared calls b answers
+    → (k : ℕ) → k < length answers → AnswerExists b.func.now (slice_index_or answers k answer.Nothing)
+answers-exist calls b answers ready k inside =
+    let there = get-below answers k inside in
+    subst (AnswerExists b.func.now) (sym (get_or_from_slice_get answers k there.0 answer.Nothing there.1)) (by there.0 there.1)
+  where
+    by : (a : Answer) → slice_get answers k ≡ Some a → AnswerExists b.func.now a
+    by answer.Nothing at = tt
+    by (answer.Block x) at = tt
+    by (answer.Variable v) at = tt
+    by (answer.Value x) at =
+        let e = entry calls b answers ready k (answer.Value x) at in
+        let typed : value_type b.func.now x ≡ Some e.is.0 = e.agree.each 0 (AValue e.is.0) x (ap (λ (xs : List Answered). slice_get xs 0) e.is.1) (ap (λ (xs : List ℕ). slice_get xs 0) e.is.2) in
+        let node = map-some (λ (n : ValueNode). n.ty) (slice_get b.func.now.values x) e.is.0 typed in
+        slice_get_within b.func.now.values x node.0 node.1
+    by (answer.Inst i) at = let r = results-of calls b answers ready k i at in slice_get_within b.func.now.insts i r.node r.there
 
--- an entry that is there
-entry_there : (xs : List «Type») (k : ℕ) → k < length xs → (x : «Type») × (slice_get xs k ≡ Some x)
-entry_there [] k inside = absurd (omega (arith, inside))
-entry_there (x ∷ xs) zero inside = (x, refl)
-entry_there (x ∷ xs) (suc k) inside = entry_there xs k (omega (arith, inside))
+-- a value that is named exists
+pub value-exists : {declared : SignatureShape} (calls : List AnsweredCall) (b : FunctionBuilder) (answers : List Answer) → IsReady declared calls b answers
+    → (name : Name) (value : ℕ) → value_of b.func.now answers name ≡ Some value → value < length b.func.now.values
+value-exists calls b answers ready name value found =
+    let names = value-found calls b answers ready name value found in
+    let typed = named-value calls (ledger_of calls) b.func.now b.ctx.now b.position ready.stands.ledger (name_of name) value names.number names.is_value in
+    let node = map-some (λ (n : ValueNode). n.ty) (slice_get b.func.now.values value) typed.0 typed.2 in
+    slice_get_within b.func.now.values value node.0 node.1
 
-pub ready_used_here : (old new : FunctionBuilder) (answers : List Answer) (variable value : ℕ)
-    → IsReady old answers → HasCurrent old → variable < length old.ctx.now.variables
-    → IfSome old.position (λ block. Uses old new variable block value) → new.position ≡ old.position
-    → IsReady new (answers ++ answer.Value value ∷ [])
-ready_used_here old new answers variable value ready current declared uses position =
-    let entry : (x : «Type») × (slice_get old.ctx.now.variables variable ≡ Some x) = entry_there old.ctx.now.variables variable declared in
-    let here : Uses old new variable current.0 value = at_some old.position (λ block. Uses old new variable block value) current.0 current.1 uses in
-    ready_used old new answers variable entry.0 current.0 value ready (here entry.0 entry.1) position
+-- a block that is named exists
+pub block-there : {declared : SignatureShape} (calls : List AnsweredCall) (b : FunctionBuilder) (answers : List Answer) → IsReady declared calls b answers
+    → (name : Name) (block : ℕ) → block_of answers name ≡ Some block → block < length b.func.now.blocks
+block-there calls b answers ready name block found =
+    let names = block-found calls b answers ready name block found in
+    let named = named-block calls (name-number calls (ledger_of calls) b.func.now b.ctx.now b.position ready.stands.ledger) (name_of name) block names in
+    block-exists calls (ledger_of calls) b.func.now b.ctx.now b.position ready.stands.ledger block (name_of name) named
 
-pub ready_instruction_here : (old new : FunctionBuilder) (answers : List Answer) (a : Answer) (shape : InstructionData) (ty : «Type») (v : ℕ)
-    → IsReady old answers → HasCurrent old → IfSome old.position (λ block. AppendsValue old new block shape ty v)
-    → new.ctx.now.ssa ≡ old.ctx.now.ssa → new.position ≡ old.position → AnswerExists new.func.now a → IsReady new (answers ++ a ∷ [])
-ready_instruction_here old new answers a shape ty v ready current appends ssa position exists =
-    let here : AppendsValue old new current.0 shape ty v = at_some old.position (λ block. AppendsValue old new block shape ty v) current.0 current.1 appends in
-    ready_instruction old new answers a current.0 shape ty _ ready here.0 ssa position exists
+-- the current block exists
+pub current-exists : {declared : SignatureShape} (calls : List AnsweredCall) (b : FunctionBuilder) (answers : List Answer) → IsReady declared calls b answers → IfSome b.position (λ block. block < length b.func.now.blocks)
+current-exists calls b answers ready = by b.position refl
+  where
+    by : (o : Option ℕ) → b.position ≡ o → IfSome o (λ block. block < length b.func.now.blocks)
+    by None at = tt
+    by (Some block) at =
+        let current = name-of-some (block_name (ledger_of calls)) (ledger_of calls).current block (ready.stands.ledger.current ∙ ap (option_map (block_name (ledger_of calls))) at) in
+        block-exists calls (ledger_of calls) b.func.now b.ctx.now b.position ready.stands.ledger block current.0 current.2
 
-pub ready_returned_here : (old new : FunctionBuilder) (answers : List Answer) (shape : InstructionData) (ty : «Type») (inst : ℕ)
-    → IsReady old answers → HasCurrent old → IfSome old.position (λ block. Appends old new block shape ty inst)
-    → new.ctx.now.ssa ≡ old.ctx.now.ssa → new.position ≡ old.position → IsReady new (answers ++ answer.Inst inst ∷ [])
-ready_returned_here old new answers shape ty inst ready current appends ssa position =
-    let here : Appends old new current.0 shape ty inst = at_some old.position (λ block. Appends old new block shape ty inst) current.0 current.1 appends in
-    let made : inst < length new.func.now.insts =
-    let count : length (with_appended old.func.now current.0 shape ty).insts ≡ length (inserted_in old.func.now current.0).insts + 1 = grind (arith, common_steps) in
-    let same : length (inserted_in old.func.now current.0).insts ≡ length old.func.now.insts = insts-inserted old.func.now current.0 in
-    let new_count : length new.func.now.insts ≡ length (with_appended old.func.now current.0 shape ty).insts = ap (λ (g : Body). length g.insts) here.function in
-    omega (arith, count, same, new_count, here.number) in
-    ready_instruction old new answers (answer.Inst inst) current.0 shape ty inst ready here ssa position made
+-- one more call was answered
+pub ready-more : {declared : SignatureShape} (calls : List AnsweredCall) (call : AnsweredCall) (old new : FunctionBuilder) (answers : List Answer) (a : Answer)
+    → IsReady declared calls old answers → StandsFor declared (calls ++ call ∷ []) new → AnswerIs a (answers_to (ledger_of calls) call.request) call.numbers
+    → IsReady declared (calls ++ call ∷ []) new (answers ++ a ∷ [])
+ready-more calls call old new answers a ready stands is =
+    record {
+      stands = stands;
+      count = length-append answers (a ∷ []) ∙ ap (λ (n : ℕ). n + 1) ready.count ∙ sym (length-append calls (call ∷ []));
+      answered = answered;
+    }
+  where
+    more : (ledger_of (calls ++ call ∷ [])).answers ≡ (ledger_of calls).answers ++ answers_to (ledger_of calls) call.request ∷ []
+    more = ap (λ (l : Ledger). l.answers) (ledger-more calls call)
 
-pub ready_assigned_here : (old new : FunctionBuilder) (answers : List Answer) (variable value : ℕ)
-    → IsReady old answers → HasCurrent old → new.func.now ≡ old.func.now → IfSome old.position (λ block. Records old.ctx.now.ssa new.ctx.now.ssa variable block value)
-    → value < length old.func.now.values → new.position ≡ old.position → IsReady new (answers ++ answer.Nothing ∷ [])
-ready_assigned_here old new answers variable value ready current function records exists position =
-    let here : Records old.ctx.now.ssa new.ctx.now.ssa variable current.0 value =
-    at_some old.position (λ block. Records old.ctx.now.ssa new.ctx.now.ssa variable block value) current.0 current.1 records in
-    ready_assigned old new answers variable current.0 value ready function here exists position
+    answered : (place : ℕ) (x : Answer) (other : AnsweredCall) (given : List Answered) → slice_get (answers ++ a ∷ []) place ≡ Some x → slice_get (calls ++ call ∷ []) place ≡ Some other
+        → slice_get (ledger_of (calls ++ call ∷ [])).answers place ≡ Some given → AnswerIs x given other.numbers
+    answered place x other given at_answer at_call at_given =
+        let at_more : slice_get ((ledger_of calls).answers ++ answers_to (ledger_of calls) call.request ∷ []) place ≡ Some given = ap (λ (xs : List (List Answered)). slice_get xs place) (sym more) ∙ at_given in
+        elim (get-push answers a place x at_answer) [
+          | inl old_answer ↦
+              let inside : place < length answers = slice_get_within answers place x old_answer in
+              elim (get-push calls call place other at_call) [
+                | inl old_call ↦
+                    elim (get-push (ledger_of calls).answers (answers_to (ledger_of calls) call.request) place given at_more) [
+                      | inl old_given ↦ ready.answered place x other given old_answer old_call old_given
+                      | inr last ↦ absurd (omega (arith, inside, last.0, ready.count, ready.stands.ledger.places))
+                    ]
+                | inr last ↦ absurd (omega (arith, inside, last.0, ready.count))
+              ]
+          | inr last ↦
+              elim (get-push calls call place other at_call) [
+                | inl old_call ↦ let inside : place < length calls = slice_get_within calls place other old_call in absurd (omega (arith, inside, last.0, ready.count))
+                | inr last_call ↦
+                    elim (get-push (ledger_of calls).answers (answers_to (ledger_of calls) call.request) place given at_more) [
+                      | inl old_given ↦
+                          let inside : place < length (ledger_of calls).answers = slice_get_within (ledger_of calls).answers place given old_given in
+                          absurd (omega (arith, inside, last.0, ready.count, ready.stands.ledger.places))
+                      | inr last_given ↦
+                          subst (λ (y : Answer). AnswerIs y given other.numbers) last.1
+                          (subst (λ (g : List Answered). AnswerIs a g other.numbers) last_given.1
+                          (subst (λ (y : AnsweredCall). AnswerIs a (answers_to (ledger_of calls) call.request) y.numbers) last_call.1 is))
+                    ]
+              ]
+        ]
+
+-- nothing was called
+pub ready-empty : {declared : SignatureShape} (b : FunctionBuilder) → StandsFor declared [] b → IsReady declared [] b []
+ready-empty b stands = record { stands = stands; count = refl; answered = λ place x other given at_answer at_call at_given. absurd (none-some x at_answer) }

@@ -1,3 +1,4 @@
 pub mod Errors
 pub mod Ready
+pub mod Requests
 pub mod Rows

@@ -1,27 +1,141 @@
--- What holds between the calls of a script: everything that was answered exists. Source: own.
-use Rattle.std.specs.Prelude.{◌≡◌, ℕ, ◌<◌, List, [], ◌∷◌, ◌++◌, length, slice_index_or, Some, IfSome}
-use Rattle.clif_ir.specs.Body.{Body}
-use Rattle.clif_ssa.specs.Ssa.{record_of}
-use Rattle.cranelift_frontend.specs.declared.frontend.FunctionBuilder.{FunctionBuilder}
+-- What holds between the calls of a script: the builder stands for the calls that were made, whose numbers are those
+-- that were answered. Own.
+use Rattle.std.specs.Prelude.{◌≡◌, ℕ, ◌<◌, List, [], ◌∷◌, ◌++◌, length, map, slice_get, is_some, not, ◌&&◌, ◌-◌, ◌==◌, Bool, true, false, Option, Some, None, if◌then◌else◌, Result, Ok, Err}
+use Rattle.std.specs.List.{list_all}
 use Rattle.clif_types.specs.declared.types.«Type».{«Type»}
+use Rattle.clif_types.specs.Types.{is_int}
+use Rattle.clif_ir.specs.Body.{Body, inst_at, value_at, resolved}
+use Rattle.clif_ir.specs.Reading.{def_of}
+use Rattle.clif_ir.specs.declared.function.ValueDef.{ValueDef}
+use Rattle.clif_ir.specs.declared.function.ValueDef.TheVariants as def
+use Rattle.clif_meaning.specs.SameType.{same_type}
+use Rattle.clif_meaning.specs.Request.{AnsweredCall, Request}
+use Rattle.clif_meaning.specs.Ledger.{Answered, ABlock, AVariable, AValue, AnInstruction}
+use Rattle.clif_ssa.specs.Tables.{is_yes}
+use Rattle.clif_ssa.specs.Ssa.{sealed_of}
+use Rattle.cranelift_frontend.specs.declared.frontend.FunctionBuilder.{FunctionBuilder}
+use Rattle.cranelift_frontend.specs.Context.{ContextState, status_of}
+use Rattle.cranelift_frontend.specs.Builder.{is_filled_status, is_free}
+use Rattle.clif_types.specs.Signature.{SignatureShape}
+use Rattle.cranelift_frontend.specs.Ledger.{ledger_of}
+use Rattle.cranelift_frontend.specs.StandsFor.{StandsFor}
+use Rattle.clif_script.specs.declared.call.Name.{Name}
 use Rattle.clif_script.specs.declared.call.Call.{Call}
 use Rattle.clif_script.specs.declared.call.Call.TheVariants as call
 use Rattle.clif_script.specs.declared.script.Answer.{Answer}
 use Rattle.clif_script.specs.declared.script.Answer.TheVariants as answer
+use Rattle.clif_script.specs.declared.script.CallError.{CallError}
+use Rattle.clif_script.specs.declared.script.CallError.TheVariants as error
 
--- what a call answered exists in the function
+-- what a call answered: the ledger's answers to it, and their numbers
+abbrev pub AnswerIs : Answer → List Answered → List ℕ → Type 0
+AnswerIs answer.Nothing answered numbers = (answered ≡ []) × (numbers ≡ [])
+AnswerIs (answer.Block b) answered numbers = (answered ≡ ABlock ∷ []) × (numbers ≡ b ∷ [])
+AnswerIs (answer.Variable v) answered numbers = (answered ≡ AVariable v ∷ []) × (numbers ≡ v ∷ [])
+AnswerIs (answer.Value v) answered numbers = (ty : «Type») × (answered ≡ AValue ty ∷ []) × (numbers ≡ v ∷ [])
+AnswerIs (answer.Inst i) answered numbers =
+    (types : List «Type») × (results : List ℕ) × (answered ≡ AnInstruction ∷ map AValue types) × (numbers ≡ i ∷ results)
+
+-- the builder stands for these calls, on a function of this signature, and these are their answers
+pub record IsReady (declared : SignatureShape) (calls : List AnsweredCall) (b : FunctionBuilder) (answers : List Answer) : Type 0 where
+  pub stands : StandsFor declared calls b
+  pub count : length answers ≡ length calls
+  pub answered : (place : ℕ) (answer : Answer) (call : AnsweredCall) (answered : List Answered)
+      → slice_get answers place ≡ Some answer → slice_get calls place ≡ Some call → slice_get (ledger_of calls).answers place ≡ Some answered
+      → AnswerIs answer answered call.numbers
+
+-- it stands for these calls, on a function of some signature
+abbrev pub IsReadyWith : List AnsweredCall → FunctionBuilder → List Answer → Type 0
+IsReadyWith calls b answers = (declared : SignatureShape) × IsReady declared calls b answers
+
+-- it stands for some calls
+abbrev pub IsReadyNow : FunctionBuilder → List Answer → Type 0
+IsReadyNow b answers = (declared : SignatureShape) × (calls : List AnsweredCall) × IsReady declared calls b answers
+
+-- it stands for one more call, which was this request and gave this answer
+abbrev pub IsReadyAfter : SignatureShape → List AnsweredCall → Request → FunctionBuilder → List Answer → Answer → Type 0
+IsReadyAfter declared calls request b answers answer =
+    (numbers : List ℕ) × IsReady declared (calls ++ record { request = request; numbers = numbers } ∷ []) b (answers ++ answer ∷ [])
+
+-- a call succeeds only where it is allowed, and is a misuse only where it isn't
+abbrev pub IsJudged : Bool → Result Answer CallError → Type 0
+IsJudged allowed (Ok answer) = allowed ≡ true
+IsJudged allowed (Err error.Misuse) = allowed ≡ false
+IsJudged allowed (Err error.Refused) = allowed ≡ true
+IsJudged allowed (Err error.Memory) = Unit {0}
+IsJudged allowed (Err error.Full) = allowed ≡ true
+
+-- the block that a name leads to
+abbrev pub block_in : ℕ → Option Answer → Option ℕ
+block_in index (Some (answer.Block b)) = if index == 0 then Some b else None
+block_in index (Some answer.Nothing) = None
+block_in index (Some (answer.Variable v)) = None
+block_in index (Some (answer.Value v)) = None
+block_in index (Some (answer.Inst i)) = None
+block_in index None = None
+
+abbrev pub block_of : List Answer → Name → Option ℕ
+block_of answers name = block_in name.answer (slice_get answers name.place)
+
+-- the value that a name leads to: results follow the number of an instruction
+abbrev pub value_in : Body → ℕ → Option Answer → Option ℕ
+value_in f index (Some (answer.Value v)) = if index == 0 then Some v else None
+value_in f index (Some (answer.Inst i)) = if index == 0 then None else slice_get (inst_at f i).results (index - 1)
+value_in f index (Some answer.Nothing) = None
+value_in f index (Some (answer.Block b)) = None
+value_in f index (Some (answer.Variable v)) = None
+value_in f index None = None
+
+abbrev pub value_of : Body → List Answer → Name → Option ℕ
+value_of f answers name = value_in f name.answer (slice_get answers name.place)
+
+-- an answer that is an instruction is one of the function
 abbrev pub AnswerExists : Body → Answer → Type 0
+AnswerExists f (answer.Inst i) = i < length f.insts
 AnswerExists f answer.Nothing = Unit {0}
-AnswerExists f (answer.Block b) = b < length f.blocks
+AnswerExists f (answer.Block b) = Unit {0}
 AnswerExists f (answer.Variable v) = Unit {0}
 AnswerExists f (answer.Value v) = v < length f.values
-AnswerExists f (answer.Inst i) = i < length f.insts
 
--- every answer, every record and the current block exist
-pub record IsReady (b : FunctionBuilder) (answers : List Answer) : Type 0 where
-  pub answered : (k : ℕ) → k < length answers → AnswerExists b.func.now (slice_index_or answers k answer.Nothing)
-  pub recorded : (v block x : ℕ) → record_of b.ctx.now.ssa v block ≡ Some x → x < length b.func.now.values
-  pub placed : IfSome b.position (λ block. block < length b.func.now.blocks)
+-- the answer of an instruction call: the instruction of which the value is the result
+abbrev pub instruction_in : ValueDef → ℕ → Answer
+instruction_in (def.Result i k) value = answer.Inst i
+instruction_in (def.Param b k) value = answer.Value value
+
+abbrev pub instruction_answer : Body → ℕ → Answer
+instruction_answer f value = instruction_in (def_of f (resolved f value) (value_at f (resolved f value)).origin) value
+
+-- there is a current block, and no terminator was appended to it
+abbrev pub is_open_at : Option ℕ → ContextState → Bool
+is_open_at None c = false
+is_open_at (Some block) c = not (is_filled_status (status_of c block))
+
+abbrev pub is_open : FunctionBuilder → Bool
+is_open b = is_open_at b.position b.ctx.now
+
+-- a block may be made current
+abbrev pub can_switch : FunctionBuilder → ℕ → Bool
+can_switch b block = not (is_filled_status (status_of b.ctx.now block)) && is_free b
+
+-- a block may be sealed
+abbrev pub can_seal : FunctionBuilder → ℕ → Bool
+can_seal b block = not (is_yes (sealed_of b.ctx.now.ssa block))
+
+-- a value may be assigned to a variable of this type
+abbrev pub can_define : FunctionBuilder → «Type» → ℕ → Bool
+can_define b ty value = is_open b && same_type ty (value_at b.func.now value).ty
+
+-- a variable of these may be used
+abbrev pub can_use : FunctionBuilder → List «Type» → ℕ → Bool
+can_use b types variable = is_open b && is_some (slice_get types variable)
+
+-- a constant of this type may be made
+abbrev pub can_make_constant : FunctionBuilder → «Type» → Bool
+can_make_constant b ty = is_open b && is_int ty
+
+-- each name leads to a value
+abbrev pub all_values : Body → List Answer → List Name → Bool
+all_values f answers names = list_all (λ name. is_some (value_of f answers name)) names
 
 -- the types of the variables after a call that succeeded
 abbrev pub types_after : Call → List «Type» → List «Type»

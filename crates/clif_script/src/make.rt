@@ -1,15 +1,22 @@
 //! The calls of a script, each made on a builder if its condition holds.
-ghost use Rattle.std.specs.Prelude.{◌≡◌, ◌≢◌, ◌<◌, ◌++◌, ◌∷◌, [], OnOk, IfOk, IfSome, length, slice_get, slice_index, slice_index_or, EachIndex, Some, Err, IsTrue, ◌↔◌, false, is_err};
+ghost use Rattle.std.specs.Prelude.{◌≡◌, ◌≢◌, ◌<◌, ◌++◌, ◌∷◌, [], List, map, OnOk, IfOk, IfSome, length, slice_get, slice_index, slice_index_or, EachIndex, Some, Err, IsTrue, ◌↔◌, false, is_err};
 ghost use Rattle.cranelift_frontend.specs.Builder.{SameLoans, AppendsValue, HasCurrent, is_declarable, is_free};
+ghost use Rattle.clif_types.specs.Signature.{SignatureShape};
+ghost use Rattle.cranelift_frontend.specs.Ledger.{NamesValue, ledger_of};
+ghost use Rattle.cranelift_frontend.specs.StandsFor.{StandsFor};
 ghost use Rattle.clif_types.specs.Types.{is_int};
 ghost use Rattle.clif_ir.specs.Body.{value_at};
-ghost use Rattle.clif_script.specs.Ready.{IsReady, AnswerExists, types_after};
+ghost use Rattle.clif_meaning.specs.Name as meaning;
+ghost use Rattle.clif_meaning.specs.Request.{AnsweredCall, number_of, CreateBlock, SwitchToBlock, SealBlock, DeclareVar, DefVar, UseVar};
+ghost use Rattle.clif_meaning.specs.Acceptance.{allows, iconst, iadd, return_};
+ghost use Rattle.clif_script.specs.Requests.{name_of, request_of};
+ghost use Rattle.clif_script.specs.Ready.{IsReady, IsReadyNow, IsReadyWith, IsReadyAfter, IsJudged, AnswerExists, block_of, value_of, all_values, instruction_answer, is_open, can_switch, can_seal, can_define, can_use, can_make_constant, types_after};
 
 use crate::call::{Call, Name};
 use crate::script::{Answer, CallError};
 use clif_ir::{BinaryOpcode, Function, InstructionData, ValueDef};
 use clif_ssa::Variable;
-use clif_types::{Block, BuildError, LaneType, Type, Value};
+use clif_types::{Block, BuildError, Inst, LaneType, Type, Value};
 use cranelift_frontend::{FunctionBuilder, InstBuilder};
 
 // Makes one call, where its conditions hold.
@@ -19,11 +26,12 @@ pub(crate) fn make_call(
     types: &[Type],
     call: &Call,
 ) -> Result<Answer, CallError>
-    requires ready { IsReady builder.old answers.now }
+    requires ready { IsReadyNow builder.old answers.now }
     requires types { types.now ≡ builder.old.ctx.now.variables }
     requires sound { builder.old.failed ≡ false }
     ensures loans { SameLoans builder.old builder.new }
-    ensures ready { IfOk result (λ answer. IsReady builder.new (answers.now ++ answer ∷ [])) }
+    ensures ready { (declared : SignatureShape) (calls : List AnsweredCall) → IsReady declared calls builder.old answers.now → IfOk result (IsReadyAfter declared calls (request_of (ledger_of calls) call.now) builder.new answers.now) }
+    ensures judged { (calls : List AnsweredCall) → IsReadyWith calls builder.old answers.now → IsJudged (allows (ledger_of calls) (request_of (ledger_of calls) call.now)) result }
     ensures sound { OnOk result (builder.new.failed ≡ false) }
     ensures never_refused { result ≢ Err CallError.Refused }
     ensures variables { OnOk result (builder.new.ctx.now.variables ≡ types_after call.now builder.old.ctx.now.variables) }
@@ -43,7 +51,7 @@ pub(crate) fn make_call(
 
 // The block that a name leads to.
 fn block_named(answers: &[Answer], name: Name) -> Option<Block>
-    ensures { IfSome result (λ block. slice_get answers.now name.place ≡ Some (Answer.Block block)) }
+    ensures { result ≡ block_of answers.now name }
 {
     match answers.get(name.place) {
         Some(Answer::Block(block)) if name.answer == 0 => Some(*block),
@@ -54,7 +62,7 @@ fn block_named(answers: &[Answer], name: Name) -> Option<Block>
 // The value that a name leads to.
 fn value_named(func: &Function, answers: &[Answer], name: Name) -> Option<Value>
     requires { EachIndex answers.now (λ k. AnswerExists func.now (slice_index_or answers.now k Answer.Nothing)) }
-    ensures { IfSome result (λ value. value < length func.now.values) }
+    ensures { result ≡ value_of func.now answers.now name }
 {
     match answers.get(name.place) {
         Some(Answer::Value(value)) if name.answer == 0 => Some(*value),
@@ -67,10 +75,11 @@ fn value_named(func: &Function, answers: &[Answer], name: Name) -> Option<Value>
 
 // `create_block()`.
 fn create_block(builder: &mut FunctionBuilder<'_>, answers: &[Answer]) -> Result<Answer, CallError>
-    requires ready { IsReady builder.old answers.now }
+    requires ready { IsReadyNow builder.old answers.now }
     requires sound { builder.old.failed ≡ false }
     ensures loans { SameLoans builder.old builder.new }
-    ensures ready { IfOk result (λ answer. IsReady builder.new (answers.now ++ answer ∷ [])) }
+    ensures ready { (declared : SignatureShape) (calls : List AnsweredCall) → IsReady declared calls builder.old answers.now → IfOk result (IsReadyAfter declared calls CreateBlock builder.new answers.now) }
+    ensures judged { (calls : List AnsweredCall) → IsReadyWith calls builder.old answers.now → IsJudged (allows (ledger_of calls) CreateBlock) result }
     ensures sound { OnOk result (builder.new.failed ≡ false) }
     ensures never_refused { result ≢ Err CallError.Refused }
     ensures variables { builder.new.ctx.now.variables ≡ builder.old.ctx.now.variables }
@@ -85,20 +94,30 @@ fn switch_to_block(
     answers: &[Answer],
     name: Name,
 ) -> Result<Answer, CallError>
-    requires ready { IsReady builder.old answers.now }
+    requires ready { IsReadyNow builder.old answers.now }
     requires sound { builder.old.failed ≡ false }
     ensures loans { SameLoans builder.old builder.new }
-    ensures ready { IfOk result (λ answer. IsReady builder.new (answers.now ++ answer ∷ [])) }
+    ensures ready { (declared : SignatureShape) (calls : List AnsweredCall) → IsReady declared calls builder.old answers.now → IfOk result (IsReadyAfter declared calls (SwitchToBlock (name_of name)) builder.new answers.now) }
+    ensures judged { (calls : List AnsweredCall) → IsReadyWith calls builder.old answers.now → IsJudged (allows (ledger_of calls) (SwitchToBlock (name_of name))) result }
     ensures sound { OnOk result (builder.new.failed ≡ false) }
     ensures never_refused { result ≢ Err CallError.Refused }
     ensures variables { builder.new.ctx.now.variables ≡ builder.old.ctx.now.variables }
 {
-    let block = block_named(answers, name).ok_or(CallError::Misuse)?;
-    if builder.is_filled(block) || !may_leave(builder) {
+    let Some(block) = block_named(answers, name) else {
+        return Err(CallError::Misuse);
+    };
+    if !may_switch(builder, block) {
         return Err(CallError::Misuse);
     }
     builder.switch_to_block(block);
     Ok(Answer::Nothing)
+}
+
+// Whether a block isn't filled, and the current block may be left.
+fn may_switch(builder: &FunctionBuilder<'_>, block: Block) -> bool
+    ensures { result ≡ can_switch builder.now block }
+{
+    !builder.is_filled(block) && may_leave(builder)
 }
 
 // Whether the current block is absent, pristine, filled or unreachable.
@@ -113,22 +132,32 @@ fn may_leave(builder: &FunctionBuilder<'_>) -> bool
     }
 }
 
+// Whether a block isn't sealed.
+fn may_seal(builder: &FunctionBuilder<'_>, block: Block) -> bool
+    ensures { result ≡ can_seal builder.now block }
+{
+    !builder.is_sealed(block)
+}
+
 // `seal_block(block)`, where it isn't sealed.
 fn seal_block(
     builder: &mut FunctionBuilder<'_>,
     answers: &[Answer],
     name: Name,
 ) -> Result<Answer, CallError>
-    requires ready { IsReady builder.old answers.now }
+    requires ready { IsReadyNow builder.old answers.now }
     requires sound { builder.old.failed ≡ false }
     ensures loans { SameLoans builder.old builder.new }
-    ensures ready { IfOk result (λ answer. IsReady builder.new (answers.now ++ answer ∷ [])) }
+    ensures ready { (declared : SignatureShape) (calls : List AnsweredCall) → IsReady declared calls builder.old answers.now → IfOk result (IsReadyAfter declared calls (SealBlock (name_of name)) builder.new answers.now) }
+    ensures judged { (calls : List AnsweredCall) → IsReadyWith calls builder.old answers.now → IsJudged (allows (ledger_of calls) (SealBlock (name_of name))) result }
     ensures sound { OnOk result (builder.new.failed ≡ false) }
     ensures never_refused { result ≢ Err CallError.Refused }
     ensures variables { builder.new.ctx.now.variables ≡ builder.old.ctx.now.variables }
 {
-    let block = block_named(answers, name).ok_or(CallError::Misuse)?;
-    if builder.is_sealed(block) {
+    let Some(block) = block_named(answers, name) else {
+        return Err(CallError::Misuse);
+    };
+    if !may_seal(builder, block) {
         return Err(CallError::Misuse);
     }
     builder.seal_block(block)?;
@@ -141,10 +170,11 @@ fn declare_var(
     answers: &[Answer],
     ty: Type,
 ) -> Result<Answer, CallError>
-    requires ready { IsReady builder.old answers.now }
+    requires ready { IsReadyNow builder.old answers.now }
     requires sound { builder.old.failed ≡ false }
     ensures loans { SameLoans builder.old builder.new }
-    ensures ready { IfOk result (λ answer. IsReady builder.new (answers.now ++ answer ∷ [])) }
+    ensures ready { (declared : SignatureShape) (calls : List AnsweredCall) → IsReady declared calls builder.old answers.now → IfOk result (IsReadyAfter declared calls (DeclareVar ty) builder.new answers.now) }
+    ensures judged { (calls : List AnsweredCall) → IsReadyWith calls builder.old answers.now → IsJudged (allows (ledger_of calls) (DeclareVar ty)) result }
     ensures sound { OnOk result (builder.new.failed ≡ false) }
     ensures never_refused { result ≢ Err CallError.Refused }
     ensures variables { OnOk result (builder.new.ctx.now.variables ≡ builder.old.ctx.now.variables ++ ty ∷ []) }
@@ -168,8 +198,7 @@ fn is_declarable(ty: Type) -> bool
 
 // Whether there is a current block to which no terminator was appended.
 fn has_current(builder: &FunctionBuilder<'_>) -> bool
-    requires { IfSome builder.now.position (λ block. block < length builder.now.func.now.blocks) }
-    ensures { IsTrue result → HasCurrent builder.now }
+    ensures { result ≡ is_open builder.now }
 {
     match builder.current_block() {
         None => false,
@@ -182,6 +211,22 @@ fn is_same_type(a: Type, b: Type) -> bool
     ensures { IsTrue result ↔ (a ≡ b) }
 {
     a == b
+}
+
+// Whether a value may be assigned to a variable of a type: in a current unfilled block, if the value has the type.
+#[tactic(auto, using(crate::proofs::Conditions::same_from_iff))]
+fn may_define(builder: &FunctionBuilder<'_>, ty: Type, value: Value) -> bool
+    requires { value < length builder.now.func.now.values }
+    ensures { result ≡ can_define builder.now ty value }
+{
+    has_current(builder) && is_same_type(ty, builder.func().value_type(value))
+}
+
+// Whether a variable may be used: in a current unfilled block, if it is declared.
+fn may_use(builder: &FunctionBuilder<'_>, types: &[Type], variable: Variable) -> bool
+    ensures { result ≡ can_use builder.now types.now variable }
+{
+    has_current(builder) && type_of(types, variable).is_some()
 }
 
 // The type of a variable, if it is declared.
@@ -199,18 +244,23 @@ fn def_var(
     variable: Variable,
     name: Name,
 ) -> Result<Answer, CallError>
-    requires ready { IsReady builder.old answers.now }
+    requires ready { IsReadyNow builder.old answers.now }
     requires types { types.now ≡ builder.old.ctx.now.variables }
     requires sound { builder.old.failed ≡ false }
     ensures loans { SameLoans builder.old builder.new }
-    ensures ready { IfOk result (λ answer. IsReady builder.new (answers.now ++ answer ∷ [])) }
+    ensures ready { (declared : SignatureShape) (calls : List AnsweredCall) → IsReady declared calls builder.old answers.now → IfOk result (IsReadyAfter declared calls (DefVar variable (name_of name)) builder.new answers.now) }
+    ensures judged { (calls : List AnsweredCall) → IsReadyWith calls builder.old answers.now → IsJudged (allows (ledger_of calls) (DefVar variable (name_of name))) result }
     ensures sound { OnOk result (builder.new.failed ≡ false) }
     ensures never_refused { result ≢ Err CallError.Refused }
     ensures variables { builder.new.ctx.now.variables ≡ builder.old.ctx.now.variables }
 {
-    let value = value_named(builder.func(), answers, name).ok_or(CallError::Misuse)?;
-    let ty = type_of(types, variable).ok_or(CallError::Misuse)?;
-    if !has_current(builder) || !is_same_type(ty, builder.func().value_type(value)) {
+    let Some(value) = value_named(builder.func(), answers, name) else {
+        return Err(CallError::Misuse);
+    };
+    let Some(ty) = type_of(types, variable) else {
+        return Err(CallError::Misuse);
+    };
+    if !may_define(builder, ty, value) {
         return Err(CallError::Misuse);
     }
     builder.def_var(variable, value)?;
@@ -224,16 +274,17 @@ fn use_var(
     types: &[Type],
     variable: Variable,
 ) -> Result<Answer, CallError>
-    requires ready { IsReady builder.old answers.now }
+    requires ready { IsReadyNow builder.old answers.now }
     requires types { types.now ≡ builder.old.ctx.now.variables }
     requires sound { builder.old.failed ≡ false }
     ensures loans { SameLoans builder.old builder.new }
-    ensures ready { IfOk result (λ answer. IsReady builder.new (answers.now ++ answer ∷ [])) }
+    ensures ready { (declared : SignatureShape) (calls : List AnsweredCall) → IsReady declared calls builder.old answers.now → IfOk result (IsReadyAfter declared calls (UseVar variable) builder.new answers.now) }
+    ensures judged { (calls : List AnsweredCall) → IsReadyWith calls builder.old answers.now → IsJudged (allows (ledger_of calls) (UseVar variable)) result }
     ensures sound { OnOk result (builder.new.failed ≡ false) }
     ensures never_refused { result ≢ Err CallError.Refused }
     ensures variables { builder.new.ctx.now.variables ≡ builder.old.ctx.now.variables }
 {
-    if !has_current(builder) || variable.index() >= types.len() {
+    if !may_use(builder, types, variable) {
         return Err(CallError::Misuse);
     }
     let value = builder.use_var(variable)?;
@@ -246,6 +297,7 @@ fn append_iconst(builder: &mut FunctionBuilder<'_>, ty: Type, imm: i64) -> Resul
     requires integer { IsTrue (is_int ty) }
     ensures loans { SameLoans builder.old builder.new }
     ensures appends { IfSome builder.old.position (λ block. IfOk result (AppendsValue builder.old builder.new block (InstructionData.UnaryImm imm) ty)) }
+    ensures stands { (declared : SignatureShape) (calls : List AnsweredCall) → StandsFor declared calls builder.old → IfOk result (λ value. StandsFor declared (calls ++ record { request = iconst ty imm; numbers = length builder.old.func.now.insts ∷ value ∷ [] } ∷ []) builder.new) }
     ensures ssa { builder.new.ctx.now.ssa ≡ builder.old.ctx.now.ssa }
     ensures variables { builder.new.ctx.now.variables ≡ builder.old.ctx.now.variables }
     ensures position { builder.new.position ≡ builder.old.position }
@@ -262,6 +314,7 @@ fn append_iadd(builder: &mut FunctionBuilder<'_>, x: Value, y: Value) -> Result<
     requires y_exists { y < length builder.old.func.now.values }
     ensures loans { SameLoans builder.old builder.new }
     ensures appends { IfSome builder.old.position (λ block. IfOk result (AppendsValue builder.old builder.new block (InstructionData.Binary BinaryOpcode.Iadd (x ∷ y ∷ [])) (value_at builder.old.func.now x).ty)) }
+    ensures stands { (declared : SignatureShape) (calls : List AnsweredCall) (a b : meaning.Name) → StandsFor declared calls builder.old → NamesValue calls a x → NamesValue calls b y → IfOk result (λ value. StandsFor declared (calls ++ record { request = iadd (ledger_of calls) a b; numbers = length builder.old.func.now.insts ∷ value ∷ [] } ∷ []) builder.new) }
     ensures ssa { builder.new.ctx.now.ssa ≡ builder.old.ctx.now.ssa }
     ensures variables { builder.new.ctx.now.variables ≡ builder.old.ctx.now.variables }
     ensures position { builder.new.position ≡ builder.old.position }
@@ -271,6 +324,26 @@ fn append_iadd(builder: &mut FunctionBuilder<'_>, x: Value, y: Value) -> Result<
     builder.ins().iadd(x, y)
 }
 
+// The call itself.
+fn append_return(builder: &mut FunctionBuilder<'_>, values: &[Value]) -> Result<Inst, BuildError>
+    requires current { HasCurrent builder.old }
+    requires values_exist { EachIndex values.now (λ k. slice_index values.now k < length builder.old.func.now.values) }
+    ensures loans { SameLoans builder.old builder.new }
+    ensures stands { (declared : SignatureShape) (calls : List AnsweredCall) (names : List meaning.Name) → StandsFor declared calls builder.old → map (number_of calls) names ≡ map Some values.now → IfOk result (λ inst. StandsFor declared (calls ++ record { request = return_ names; numbers = inst ∷ [] } ∷ []) builder.new) }
+    ensures variables { builder.new.ctx.now.variables ≡ builder.old.ctx.now.variables }
+    ensures failed { (result ≡ Err BuildError.Failed) ↔ IsTrue builder.old.failed }
+    ensures fails { builder.new.failed ≡ is_err result }
+{
+    builder.ins().return_(values)
+}
+
+// Whether a constant of a type may be made: in a current unfilled block, if the type is one of integers.
+fn may_make_constant(builder: &FunctionBuilder<'_>, ty: Type) -> bool
+    ensures { result ≡ can_make_constant builder.now ty }
+{
+    has_current(builder) && ty.is_int()
+}
+
 // `iconst(ty, imm)`, in a current unfilled block, at an integer type.
 fn iconst(
     builder: &mut FunctionBuilder<'_>,
@@ -278,15 +351,16 @@ fn iconst(
     ty: Type,
     imm: i64,
 ) -> Result<Answer, CallError>
-    requires ready { IsReady builder.old answers.now }
+    requires ready { IsReadyNow builder.old answers.now }
     requires sound { builder.old.failed ≡ false }
     ensures loans { SameLoans builder.old builder.new }
-    ensures ready { IfOk result (λ answer. IsReady builder.new (answers.now ++ answer ∷ [])) }
+    ensures ready { (declared : SignatureShape) (calls : List AnsweredCall) → IsReady declared calls builder.old answers.now → IfOk result (IsReadyAfter declared calls (iconst ty imm) builder.new answers.now) }
+    ensures judged { (calls : List AnsweredCall) → IsReadyWith calls builder.old answers.now → IsJudged (allows (ledger_of calls) (iconst ty imm)) result }
     ensures sound { OnOk result (builder.new.failed ≡ false) }
     ensures never_refused { result ≢ Err CallError.Refused }
     ensures variables { builder.new.ctx.now.variables ≡ builder.old.ctx.now.variables }
 {
-    if !has_current(builder) || !ty.is_int() {
+    if !may_make_constant(builder, ty) {
         return Err(CallError::Misuse);
     }
     let value = append_iconst(builder, ty, imm)?;
@@ -301,20 +375,25 @@ fn iadd(
     x: Name,
     y: Name,
 ) -> Result<Answer, CallError>
-    requires ready { IsReady builder.old answers.now }
+    requires ready { IsReadyNow builder.old answers.now }
     requires sound { builder.old.failed ≡ false }
     ensures loans { SameLoans builder.old builder.new }
-    ensures ready { IfOk result (λ answer. IsReady builder.new (answers.now ++ answer ∷ [])) }
+    ensures ready { (declared : SignatureShape) (calls : List AnsweredCall) → IsReady declared calls builder.old answers.now → IfOk result (IsReadyAfter declared calls (iadd (ledger_of calls) (name_of x) (name_of y)) builder.new answers.now) }
+    ensures judged { (calls : List AnsweredCall) → IsReadyWith calls builder.old answers.now → IsJudged (allows (ledger_of calls) (iadd (ledger_of calls) (name_of x) (name_of y))) result }
     ensures sound { OnOk result (builder.new.failed ≡ false) }
     ensures never_refused { result ≢ Err CallError.Refused }
     ensures variables { builder.new.ctx.now.variables ≡ builder.old.ctx.now.variables }
 {
-    let x = value_named(builder.func(), answers, x).ok_or(CallError::Misuse)?;
-    let y = value_named(builder.func(), answers, y).ok_or(CallError::Misuse)?;
+    let Some(left) = value_named(builder.func(), answers, x) else {
+        return Err(CallError::Misuse);
+    };
+    let Some(right) = value_named(builder.func(), answers, y) else {
+        return Err(CallError::Misuse);
+    };
     if !has_current(builder) {
         return Err(CallError::Misuse);
     }
-    let value = append_iadd(builder, x, y)?;
+    let value = append_iadd(builder, left, right)?;
     let answer = instruction_of(builder.func(), value);
     Ok(answer)
 }
@@ -325,10 +404,11 @@ fn return_(
     answers: &[Answer],
     values: &[Name],
 ) -> Result<Answer, CallError>
-    requires ready { IsReady builder.old answers.now }
+    requires ready { IsReadyNow builder.old answers.now }
     requires sound { builder.old.failed ≡ false }
     ensures loans { SameLoans builder.old builder.new }
-    ensures ready { IfOk result (λ answer. IsReady builder.new (answers.now ++ answer ∷ [])) }
+    ensures ready { (declared : SignatureShape) (calls : List AnsweredCall) → IsReady declared calls builder.old answers.now → IfOk result (IsReadyAfter declared calls (return_ (map name_of values.now)) builder.new answers.now) }
+    ensures judged { (calls : List AnsweredCall) → IsReadyWith calls builder.old answers.now → IsJudged (allows (ledger_of calls) (return_ (map name_of values.now))) result }
     ensures sound { OnOk result (builder.new.failed ≡ false) }
     ensures never_refused { result ≢ Err CallError.Refused }
     ensures variables { builder.new.ctx.now.variables ≡ builder.old.ctx.now.variables }
@@ -337,14 +417,14 @@ fn return_(
     if !has_current(builder) {
         return Err(CallError::Misuse);
     }
-    let inst = builder.ins().return_(values.as_slice())?;
+    let inst = append_return(builder, values.as_slice())?;
     Ok(Answer::Inst(inst))
 }
 
 // The instruction of which a value is the result.
 fn instruction_of(func: &Function, value: Value) -> Answer
     requires { value < length func.now.values }
-    ensures { AnswerExists func.now result }
+    ensures { result ≡ instruction_answer func.now value }
 {
     match func.value_def(value) {
         ValueDef::Result(inst, _) => Answer::Inst(inst),
@@ -359,7 +439,9 @@ fn values_named(
     names: &[Name],
 ) -> Result<Vec<Value>, CallError>
     requires { EachIndex answers.now (λ k. AnswerExists func.now (slice_index_or answers.now k Answer.Nothing)) }
-    ensures exist { IfOk result (λ values. EachIndex values.items (λ k. slice_index values.items k < length func.now.values)) }
+    ensures values { IfOk result (λ values. map (value_of func.now answers.now) names.now ≡ map Some values.items) }
+    ensures misuse { result ≡ Err CallError.Misuse → all_values func.now answers.now names.now ≡ false }
+    ensures never_full { result ≢ Err CallError.Full }
     ensures never_refused { result ≢ Err CallError.Refused }
 {
     let mut values = Vec::new(func.allocator());

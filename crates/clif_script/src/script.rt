@@ -1,8 +1,13 @@
 //! Scripts are replayed: each call is made on a builder, in order, if its condition holds.
-ghost use Rattle.std.specs.Prelude.{◌≡◌, ◌≢◌, ℕ, ◌<◌, [], length, false, OnOk, Err, Some};
+ghost use Rattle.std.specs.Prelude.{◌≡◌, ◌≢◌, ℕ, ◌<◌, List, [], length, false, OnOk, IfOk, Err, Some};
+ghost use Rattle.clif_meaning.specs.Request.{AnsweredCall};
+ghost use Rattle.clif_meaning.specs.Acceptance as acceptance;
+ghost use Rattle.cranelift_frontend.specs.StandsFor.{StandsFor};
+ghost use Rattle.clif_meaning.specs.View.{view_of};
+ghost use Rattle.clif_meaning.specs.Headline.{MeansTheSame};
+ghost use Rattle.clif_script.specs.Requests.{IsBuiltBy, IsReplayed, requests_of, verdict_of};
 ghost use Rattle.cranelift_frontend.specs.Builder.{SameLoans};
 ghost use Rattle.cranelift_frontend.specs.Context.{empty_context};
-ghost use Rattle.clif_script.specs.Ready.{IsReady};
 ghost use Rattle.clif_script.specs.Errors.{call_error_of, replay_error_at, call_memory, replay_memory, replay_error_text};
 
 use crate::call::Call;
@@ -130,9 +135,12 @@ pub fn replay(
     config: TargetFrontendConfig,
 ) -> Result<Function, ReplayError>
     requires { ctx.old ≡ empty_context }
+    ensures same_meaning { IfOk result (λ function. MeansTheSame (requests_of calls.now) signature config.pointer_width (view_of function)) }
+    ensures built { IfOk result (λ function. IsBuiltBy calls.now signature function) }
     ensures context { ctx.new ≡ empty_context }
     ensures misuse { (i : ℕ) → result ≡ Err (ReplayError.Misuse i) → i < length calls.now }
     ensures refused { (i : ℕ) → result ≡ Err (ReplayError.Refused i) → i ≡ length calls.now }
+    ensures verdict { result ≢ Err ReplayError.Memory → result ≢ Err ReplayError.Full → verdict_of result ≡ Some (acceptance.verdict_on (requests_of calls.now)) }
 {
     let mut func = Function::with_name_signature(alloc, name, signature);
     let mut builder = FunctionBuilder::new(&mut func, ctx);
@@ -153,11 +161,14 @@ fn make_calls(
     builder: &mut FunctionBuilder<'_>,
     calls: &[Call],
 ) -> Result<(), ReplayError>
-    requires ready { IsReady builder.old [] }
+    requires ready { StandsFor builder.old.func.now.signature [] builder.old }
     requires types { builder.old.ctx.now.variables ≡ [] }
     requires sound { builder.old.failed ≡ false }
     ensures loans { SameLoans builder.old builder.new }
+    ensures ready { OnOk result ((made : List AnsweredCall) × StandsFor builder.old.func.now.signature made builder.new × IsReplayed calls.now (length calls.now) made) }
+    ensures sound { OnOk result (builder.new.failed ≡ false) }
     ensures misuse { (i : ℕ) → result ≡ Err (ReplayError.Misuse i) → i < length calls.now }
+    ensures judged { (i : ℕ) → result ≡ Err (ReplayError.Misuse i) → acceptance.verdict_on (requests_of calls.now) ≡ acceptance.Misuse i }
     ensures never_refused { (i : ℕ) → result ≢ Err (ReplayError.Refused i) }
 {
     let mut answers = Vec::new(alloc);

@@ -1,2 +1,5 @@
 pub mod Context
 pub mod Builder
+pub mod Ledger
+pub mod Growth
+pub mod StandsFor

@@ -1,7 +1,14 @@
 //! The end of a function's building.
-ghost use Rattle.std.specs.Prelude.{◌≡◌, ◌<◌, ◌≤◌, ◌^◌, length};
+ghost use Rattle.std.specs.Prelude.{OnOk, ◌≡◌, ◌<◌, ◌≤◌, ◌^◌, List, length, false};
 ghost use Rattle.cranelift_frontend.specs.Context.{empty_context};
 ghost use Rattle.cranelift_frontend.specs.Builder.{answer_of, block_fault, first_fault, verdict_of};
+ghost use Rattle.clif_types.specs.Signature.{SignatureShape};
+ghost use Rattle.clif_meaning.specs.Request.{AnsweredCall, Finalize, script_of};
+ghost use Rattle.clif_meaning.specs.View.{view_of};
+ghost use Rattle.clif_meaning.specs.Headline.{MeansTheSame};
+ghost use Rattle.cranelift_frontend.specs.StandsFor.{StandsFor};
+ghost use Rattle.clif_meaning.specs.Acceptance.{refusal_of};
+ghost use Rattle.cranelift_frontend.specs.Ledger.{AgreesWithLedger, RefusalAgrees, ledger_of};
 
 use crate::context::{BlockStatus, FunctionBuilderContext};
 use crate::error::FinalizeError;
@@ -15,10 +22,12 @@ impl<'a> FunctionBuilder<'a> {
     /// The context is cleared in every case. After an error the function is as it was.
     pub fn finalize(mut self, config: TargetFrontendConfig) -> Result<(), FinalizeError>
         ensures answer { result ≡ verdict_of self.entry.failed self.entry.ctx.now (length self.entry.func.now.blocks) }
+        ensures ledger { (calls : List AnsweredCall) → AgreesWithLedger calls self.entry → self.entry.failed ≡ false → RefusalAgrees calls (refusal_of (ledger_of calls) Finalize) result }
+        ensures same_meaning { (signature : SignatureShape) (calls : List AnsweredCall) → StandsFor signature calls self.entry → OnOk result (MeansTheSame (script_of calls) signature config.pointer_width (view_of self.exit.0.now)) }
         ensures function { self.exit.0.now ≡ self.entry.func.now }
         ensures context { self.exit.1.0.now ≡ empty_context }
     {
-        let _config = config;
+        self.func.law_consistent();
         let answer = self.verdict();
         self.ctx.clear();
         answer

@@ -1,11 +1,17 @@
 //! The builder of a function.
-ghost use Rattle.std.specs.Prelude.{◌≡◌, ◌≢◌, ◌<◌, ◌-◌, ◌^◌, ◌+◌, ◌++◌, ◌∷◌, [], ◌==◌, ◌⊎◌, ℕ, IsTrue, ◌↔◌, OnOk, OnErr, IfOk, IfSome, IsSome, is_err, Some, None, true, false, length, slice_index, slice_get, EachIndex};
+ghost use Rattle.std.specs.Prelude.{◌≡◌, ◌≢◌, ◌<◌, ◌-◌, ◌^◌, ◌+◌, ◌++◌, ◌∷◌, [], ◌==◌, ◌⊎◌, ℕ, List, IsTrue, ◌↔◌, OnOk, OnErr, IfOk, IfSome, IsSome, is_err, Some, None, true, false, length, slice_index, slice_get, EachIndex};
 ghost use Rattle.cranelift_frontend.specs.Context.{empty_context, status_of, begun, Begins, SetsStatus};
+ghost use Rattle.cranelift_frontend.specs.Growth.{Grows, RecordsExist};
 ghost use Rattle.cranelift_frontend.specs.Builder.{SameLoans, with_position, is_unreachable, is_free, is_declarable, HasCurrent, Uses, UsesIn};
 ghost use Rattle.clif_ssa.specs.Tables.{is_yes, pending_of};
 ghost use Rattle.clif_ssa.specs.Ssa.{record_of, sealed_of, completed, completing_blocks, Records, SameBlocks, Seals, Waits, Zeroes};
 ghost use Rattle.clif_ir.specs.Body.{empty_body, inst_at, block_at, value_at};
 ghost use Rattle.clif_ir.specs.Changes.{with_block, inserted_in};
+ghost use Rattle.clif_meaning.specs.Name.{Name};
+ghost use Rattle.clif_meaning.specs.Request.{AnsweredCall, CreateBlock, SwitchToBlock, SealBlock, DeclareVar, DefVar, UseVar};
+ghost use Rattle.clif_types.specs.Signature.{SignatureShape};
+ghost use Rattle.cranelift_frontend.specs.StandsFor.{StandsFor};
+ghost use Rattle.cranelift_frontend.specs.Ledger.{AgreesWithLedger, NamesBlock, NamesValue};
 
 use crate::context::{BlockStatus, FunctionBuilderContext};
 use clif_ir::Function;
@@ -28,7 +34,10 @@ impl<'a> FunctionBuilder<'a> {
     pub fn new(func: &'a mut Function, ctx: &'a mut FunctionBuilderContext) -> Self
         requires fresh { func.old ≡ empty_body func.old.name func.old.signature }
         requires empty { ctx.old ≡ empty_context }
-        ensures { result ≡ record { func = func.entry; ctx = ctx.entry; position = None; failed = false } }
+        ensures builder { result ≡ record { func = func.entry; ctx = ctx.entry; position = None; failed = false } }
+        ensures ledger { AgreesWithLedger [] result }
+        ensures stands { StandsFor func.old.signature [] result }
+        ensures recorded { RecordsExist result.func.now result.ctx.now.ssa }
     {
         FunctionBuilder {
             func,
@@ -102,7 +111,11 @@ impl<'a> FunctionBuilder<'a> {
         requires exists { block < length self.old.func.now.blocks }
         requires unfilled { status_of self.old.ctx.now block ≢ BlockStatus.Filled }
         requires free { IsTrue (is_free self.old) }
-        ensures { self.new ≡ with_position self.old block }
+        ensures builder { self.new ≡ with_position self.old block }
+        ensures ledger { (calls : List AnsweredCall) (name : Name) → AgreesWithLedger calls self.old → NamesBlock calls name block → AgreesWithLedger (calls ++ record { request = SwitchToBlock name; numbers = [] } ∷ []) self.new }
+        ensures stands { (signature : SignatureShape) (calls : List AnsweredCall) (name : Name) → StandsFor signature calls self.old → NamesBlock calls name block → StandsFor signature (calls ++ record { request = SwitchToBlock name; numbers = [] } ∷ []) self.new }
+        ensures recorded { RecordsExist self.old.func.now self.old.ctx.now.ssa → RecordsExist self.new.func.now self.new.ctx.now.ssa }
+        ensures current { HasCurrent self.new }
     {
         self.position = Some(block);
     }
@@ -120,6 +133,12 @@ impl<'a> FunctionBuilder<'a> {
         ensures full { result ≡ Err BuildError.Full → length self.old.func.now.blocks ≡ 2 ^ 32 - 1 }
         ensures failed { (result ≡ Err BuildError.Failed) ↔ IsTrue self.old.failed }
         ensures fails { self.new.failed ≡ is_err result }
+        ensures ledger { (calls : List AnsweredCall) → AgreesWithLedger calls self.old → IfOk result (λ block. AgreesWithLedger (calls ++ record { request = CreateBlock; numbers = block ∷ [] } ∷ []) self.new) }
+        ensures stands { (signature : SignatureShape) (calls : List AnsweredCall) → StandsFor signature calls self.old → IfOk result (λ block. StandsFor signature (calls ++ record { request = CreateBlock; numbers = block ∷ [] } ∷ []) self.new) }
+        ensures exists { IfOk result (λ b. b < length self.new.func.now.blocks) }
+        ensures grows { OnOk result (Grows self.old.func.now self.new.func.now) }
+        ensures recorded { RecordsExist self.old.func.now self.old.ctx.now.ssa → OnOk result (RecordsExist self.new.func.now self.new.ctx.now.ssa) }
+        ensures current { HasCurrent self.old → OnOk result (HasCurrent self.new) }
     {
         if self.failed {
             return Err(BuildError::Failed);
@@ -142,10 +161,16 @@ impl<'a> FunctionBuilder<'a> {
         ensures position { self.new.position ≡ self.old.position }
         ensures failed { (result ≡ Err BuildError.Failed) ↔ IsTrue self.old.failed }
         ensures fails { self.new.failed ≡ is_err result }
+        ensures ledger { (calls : List AnsweredCall) (name : Name) → AgreesWithLedger calls self.old → NamesBlock calls name block → OnOk result (AgreesWithLedger (calls ++ record { request = SealBlock name; numbers = [] } ∷ []) self.new) }
+        ensures stands { (signature : SignatureShape) (calls : List AnsweredCall) (name : Name) → StandsFor signature calls self.old → NamesBlock calls name block → OnOk result (StandsFor signature (calls ++ record { request = SealBlock name; numbers = [] } ∷ []) self.new) }
+        ensures grows { OnOk result (Grows self.old.func.now self.new.func.now) }
+        ensures recorded { RecordsExist self.old.func.now self.old.ctx.now.ssa → OnOk result (RecordsExist self.new.func.now self.new.ctx.now.ssa) }
+        ensures current { HasCurrent self.old → OnOk result (HasCurrent self.new) }
     {
         if self.failed {
             return Err(BuildError::Failed);
         }
+        self.func.law_consistent();
         let sealed = self.ctx.seal_block(block, self.func);
         self.failed = sealed.is_err();
         sealed
@@ -162,6 +187,11 @@ impl<'a> FunctionBuilder<'a> {
         ensures full { result ≡ Err BuildError.Full → length self.old.ctx.now.variables ≡ 2 ^ 32 - 1 }
         ensures failed { (result ≡ Err BuildError.Failed) ↔ IsTrue self.old.failed }
         ensures fails { self.new.failed ≡ is_err result }
+        ensures ledger { (calls : List AnsweredCall) → AgreesWithLedger calls self.old → IfOk result (λ variable. AgreesWithLedger (calls ++ record { request = DeclareVar ty; numbers = variable ∷ [] } ∷ []) self.new) }
+        ensures stands { (signature : SignatureShape) (calls : List AnsweredCall) → StandsFor signature calls self.old → IfOk result (λ variable. StandsFor signature (calls ++ record { request = DeclareVar ty; numbers = variable ∷ [] } ∷ []) self.new) }
+        ensures grows { OnOk result (Grows self.old.func.now self.new.func.now) }
+        ensures recorded { RecordsExist self.old.func.now self.old.ctx.now.ssa → OnOk result (RecordsExist self.new.func.now self.new.ctx.now.ssa) }
+        ensures current { HasCurrent self.old → OnOk result (HasCurrent self.new) }
     {
         if self.failed {
             return Err(BuildError::Failed);
@@ -187,6 +217,11 @@ impl<'a> FunctionBuilder<'a> {
         ensures never_full { result ≢ Err BuildError.Full }
         ensures failed { (result ≡ Err BuildError.Failed) ↔ IsTrue self.old.failed }
         ensures fails { self.new.failed ≡ is_err result }
+        ensures ledger { (calls : List AnsweredCall) (name : Name) → AgreesWithLedger calls self.old → NamesValue calls name value → OnOk result (AgreesWithLedger (calls ++ record { request = DefVar variable name; numbers = [] } ∷ []) self.new) }
+        ensures stands { (signature : SignatureShape) (calls : List AnsweredCall) (name : Name) → StandsFor signature calls self.old → NamesValue calls name value → OnOk result (StandsFor signature (calls ++ record { request = DefVar variable name; numbers = [] } ∷ []) self.new) }
+        ensures grows { OnOk result (Grows self.old.func.now self.new.func.now) }
+        ensures recorded { RecordsExist self.old.func.now self.old.ctx.now.ssa → OnOk result (RecordsExist self.new.func.now self.new.ctx.now.ssa) }
+        ensures current { OnOk result (HasCurrent self.new) }
     {
         if self.failed {
             return Err(BuildError::Failed);
@@ -210,6 +245,12 @@ impl<'a> FunctionBuilder<'a> {
         ensures position { self.new.position ≡ self.old.position }
         ensures failed { (result ≡ Err BuildError.Failed) ↔ IsTrue self.old.failed }
         ensures fails { self.new.failed ≡ is_err result }
+        ensures ledger { (calls : List AnsweredCall) → AgreesWithLedger calls self.old → IfOk result (λ value. AgreesWithLedger (calls ++ record { request = UseVar variable; numbers = value ∷ [] } ∷ []) self.new) }
+        ensures stands { (signature : SignatureShape) (calls : List AnsweredCall) → StandsFor signature calls self.old → IfOk result (λ value. StandsFor signature (calls ++ record { request = UseVar variable; numbers = value ∷ [] } ∷ []) self.new) }
+        ensures exists { RecordsExist self.old.func.now self.old.ctx.now.ssa → IfOk result (λ v. v < length self.new.func.now.values) }
+        ensures grows { OnOk result (Grows self.old.func.now self.new.func.now) }
+        ensures recorded { RecordsExist self.old.func.now self.old.ctx.now.ssa → OnOk result (RecordsExist self.new.func.now self.new.ctx.now.ssa) }
+        ensures current { OnOk result (HasCurrent self.new) }
     {
         if self.failed {
             return Err(BuildError::Failed);
@@ -220,6 +261,7 @@ impl<'a> FunctionBuilder<'a> {
         let Some(ty) = self.ctx.var_type(variable) else {
             unreachable!();
         };
+        self.func.law_consistent();
         let used = use_variable(self.func, self.ctx, variable, ty, block);
         self.failed = used.is_err();
         used
@@ -275,6 +317,8 @@ fn make_block(func: &mut Function, ctx: &mut FunctionBuilderContext) -> Result<B
     ensures variables { ctx.new.variables ≡ ctx.old.variables }
     ensures full { result ≡ Err BuildError.Full → length func.old.blocks ≡ 2 ^ 32 - 1 }
     ensures never_failed { result ≢ Err BuildError.Failed }
+    ensures exists { IfOk result (λ b. b < length func.new.blocks) }
+    ensures grows { OnOk result (Grows func.old func.new) }
 {
     let block = func.create_block()?;
     ctx.declare_block(block)?;

@@ -1,10 +1,17 @@
 //! The instructions that a builder makes: `builder.ins().iadd(x, y)?`.
-ghost use Rattle.std.specs.Prelude.{◌≡◌, ◌≢◌, ◌<◌, ◌-◌, ◌^◌, ◌⊎◌, ◌↔◌, ◌∷◌, [], ℕ, IsTrue, OnOk, OnErr, IfOk, IfSome, is_err, Some, true, false, length, slice_index, EachIndex, if◌then◌else◌};
+ghost use Rattle.std.specs.Prelude.{◌≡◌, ◌≢◌, ◌<◌, ◌-◌, ◌^◌, ◌⊎◌, ◌↔◌, ◌∷◌, [], ◌++◌, List, ℕ, IsTrue, OnOk, OnErr, IfOk, IfSome, is_err, Some, true, false, length, map, slice_index, EachIndex, if◌then◌else◌};
 ghost use Rattle.clif_types.specs.Types.{is_int};
 ghost use Rattle.clif_ir.specs.Body.{value_at};
-ghost use Rattle.clif_ir.specs.Instruction.{operands, is_terminator, has_result};
+ghost use Rattle.clif_ir.specs.Instruction.{operands, is_terminator, has_result, result_types};
 ghost use Rattle.cranelift_frontend.specs.Context.{SetsStatus, status_of, begun};
+ghost use Rattle.cranelift_frontend.specs.Growth.{Grows, RecordsExist};
 ghost use Rattle.cranelift_frontend.specs.Builder.{SameLoans, HasCurrent, Appends, AppendsIn, AppendsValue};
+ghost use Rattle.clif_meaning.specs.Name.{Name};
+ghost use Rattle.clif_meaning.specs.Request.{AnsweredCall, number_of};
+ghost use Rattle.clif_meaning.specs.Acceptance.{iconst, iadd, return_};
+ghost use Rattle.clif_types.specs.Signature.{SignatureShape};
+ghost use Rattle.cranelift_frontend.specs.StandsFor.{StandsFor};
+ghost use Rattle.cranelift_frontend.specs.Ledger.{AgreesWithLedger, NamesValue, ledger_of};
 
 use crate::context::{BlockStatus, FunctionBuilderContext};
 use crate::frontend::{FunctionBuilder, begin_block};
@@ -47,6 +54,10 @@ impl<'short, 'long> InstBuilderBase<'long> for &'short mut FunctionBuilder<'long
         ensures full { result ≡ Err BuildError.Full → (length self.old.func.now.insts ≡ 2 ^ 32 - 1) ⊎ (length self.old.func.now.values ≡ 2 ^ 32 - 1) }
         ensures failed { (result ≡ Err BuildError.Failed) ↔ IsTrue self.old.failed }
         ensures fails { self.new.failed ≡ is_err result }
+        ensures exists { IfOk result (λ inst. inst < length self.new.func.now.insts) }
+        ensures grows { OnOk result (Grows self.old.func.now self.new.func.now) }
+        ensures recorded { RecordsExist self.old.func.now self.old.ctx.now.ssa → OnOk result (RecordsExist self.new.func.now self.new.ctx.now.ssa) }
+        ensures current { is_terminator shape ≡ false → OnOk result (HasCurrent self.new) }
     {
         if self.failed {
             return Err(BuildError::Failed);
@@ -88,11 +99,18 @@ impl<'short, 'long> InstBuilder<'long> for &'short mut FunctionBuilder<'long> {
         ensures ssa { self.new.ctx.now.ssa ≡ self.old.ctx.now.ssa }
         ensures variables { self.new.ctx.now.variables ≡ self.old.ctx.now.variables }
         ensures position { self.new.position ≡ self.old.position }
+        ensures full { result ≡ Err BuildError.Full → (length self.old.func.now.insts ≡ 2 ^ 32 - 1) ⊎ (length self.old.func.now.values ≡ 2 ^ 32 - 1) }
         ensures failed { (result ≡ Err BuildError.Failed) ↔ IsTrue self.old.failed }
         ensures fails { self.new.failed ≡ is_err result }
+        ensures ledger { (calls : List AnsweredCall) → AgreesWithLedger calls self.old → IfOk result (λ value. AgreesWithLedger (calls ++ record { request = iconst ty imm; numbers = length self.old.func.now.insts ∷ value ∷ [] } ∷ []) self.new) }
+        ensures stands { (signature : SignatureShape) (calls : List AnsweredCall) → StandsFor signature calls self.old → IfOk result (λ value. StandsFor signature (calls ++ record { request = iconst ty imm; numbers = length self.old.func.now.insts ∷ value ∷ [] } ∷ []) self.new) }
+        ensures exists { IfOk result (λ v. v < length self.new.func.now.values) }
+        ensures grows { OnOk result (Grows self.old.func.now self.new.func.now) }
+        ensures recorded { RecordsExist self.old.func.now self.old.ctx.now.ssa → OnOk result (RecordsExist self.new.func.now self.new.ctx.now.ssa) }
+        ensures current { OnOk result (HasCurrent self.new) }
     {
-        let inst = self.build(InstructionData::UnaryImm { imm }, ty)?;
-        Ok(self.func.inst_results(inst)[0])
+        self.func.law_consistent();
+        append_value(self, InstructionData::UnaryImm { imm }, ty)
     }
 
     fn iadd(self, x: Value, y: Value) -> Result<Value, BuildError>
@@ -104,14 +122,21 @@ impl<'short, 'long> InstBuilder<'long> for &'short mut FunctionBuilder<'long> {
         ensures ssa { self.new.ctx.now.ssa ≡ self.old.ctx.now.ssa }
         ensures variables { self.new.ctx.now.variables ≡ self.old.ctx.now.variables }
         ensures position { self.new.position ≡ self.old.position }
+        ensures full { result ≡ Err BuildError.Full → (length self.old.func.now.insts ≡ 2 ^ 32 - 1) ⊎ (length self.old.func.now.values ≡ 2 ^ 32 - 1) }
         ensures failed { (result ≡ Err BuildError.Failed) ↔ IsTrue self.old.failed }
         ensures fails { self.new.failed ≡ is_err result }
+        ensures ledger { (calls : List AnsweredCall) (a b : Name) → AgreesWithLedger calls self.old → NamesValue calls a x → NamesValue calls b y → IfOk result (λ value. AgreesWithLedger (calls ++ record { request = iadd (ledger_of calls) a b; numbers = length self.old.func.now.insts ∷ value ∷ [] } ∷ []) self.new) }
+        ensures stands { (signature : SignatureShape) (calls : List AnsweredCall) (a b : Name) → StandsFor signature calls self.old → NamesValue calls a x → NamesValue calls b y → IfOk result (λ value. StandsFor signature (calls ++ record { request = iadd (ledger_of calls) a b; numbers = length self.old.func.now.insts ∷ value ∷ [] } ∷ []) self.new) }
+        ensures exists { IfOk result (λ v. v < length self.new.func.now.values) }
+        ensures grows { OnOk result (Grows self.old.func.now self.new.func.now) }
+        ensures recorded { RecordsExist self.old.func.now self.old.ctx.now.ssa → OnOk result (RecordsExist self.new.func.now self.new.ctx.now.ssa) }
+        ensures current { OnOk result (HasCurrent self.new) }
     {
+        self.func.law_consistent();
         let ty = self.func.value_type(x);
         let opcode = BinaryOpcode::Iadd;
         let args = [x, y];
-        let inst = self.build(InstructionData::Binary { opcode, args }, ty)?;
-        Ok(self.func.inst_results(inst)[0])
+        append_value(self, InstructionData::Binary { opcode, args }, ty)
     }
 
     fn return_(self, values: &[Value]) -> Result<Inst, BuildError>
@@ -122,12 +147,19 @@ impl<'short, 'long> InstBuilder<'long> for &'short mut FunctionBuilder<'long> {
         ensures ssa { self.new.ctx.now.ssa ≡ self.old.ctx.now.ssa }
         ensures variables { self.new.ctx.now.variables ≡ self.old.ctx.now.variables }
         ensures position { self.new.position ≡ self.old.position }
+        ensures full { result ≡ Err BuildError.Full → (length self.old.func.now.insts ≡ 2 ^ 32 - 1) ⊎ (length self.old.func.now.values ≡ 2 ^ 32 - 1) }
         ensures failed { (result ≡ Err BuildError.Failed) ↔ IsTrue self.old.failed }
         ensures fails { self.new.failed ≡ is_err result }
+        ensures ledger { (calls : List AnsweredCall) (names : List Name) → AgreesWithLedger calls self.old → map (number_of calls) names ≡ map Some values.now → IfOk result (λ inst. AgreesWithLedger (calls ++ record { request = return_ names; numbers = inst ∷ [] } ∷ []) self.new) }
+        ensures stands { (signature : SignatureShape) (calls : List AnsweredCall) (names : List Name) → StandsFor signature calls self.old → map (number_of calls) names ≡ map Some values.now → IfOk result (λ inst. StandsFor signature (calls ++ record { request = return_ names; numbers = inst ∷ [] } ∷ []) self.new) }
+        ensures exists { IfOk result (λ inst. inst < length self.new.func.now.insts) }
+        ensures grows { OnOk result (Grows self.old.func.now self.new.func.now) }
+        ensures recorded { RecordsExist self.old.func.now self.old.ctx.now.ssa → OnOk result (RecordsExist self.new.func.now self.new.ctx.now.ssa) }
     {
         if self.failed {
             return Err(BuildError::Failed);
         }
+        self.func.law_consistent();
         match ValueList::from_slice(self.ctx.allocator(), values) {
             Ok(args) => self.build(InstructionData::MultiAry { args }, Type::Invalid),
             Err(error) => {
@@ -150,6 +182,33 @@ impl<'a> FunctionBuilder<'a> {
     {
         self
     }
+}
+
+// Appends an instruction to the current block, and answers its result.
+fn append_value(
+    builder: &mut FunctionBuilder<'_>,
+    shape: InstructionData,
+    ty: Type,
+) -> Result<Value, BuildError>
+    requires current { HasCurrent builder.old }
+    requires operands_exist { EachIndex (operands shape) (λ k. slice_index (operands shape) k < length builder.old.func.now.values) }
+    requires result { result_types shape ty ≡ ty ∷ [] }
+    requires goes_on { is_terminator shape ≡ false }
+    ensures loans { SameLoans builder.old builder.new }
+    ensures appends { IfSome builder.old.position (λ block. IfOk result (AppendsValue builder.old builder.new block shape ty)) }
+    ensures ssa { builder.new.ctx.now.ssa ≡ builder.old.ctx.now.ssa }
+    ensures variables { builder.new.ctx.now.variables ≡ builder.old.ctx.now.variables }
+    ensures position { builder.new.position ≡ builder.old.position }
+    ensures full { result ≡ Err BuildError.Full → (length builder.old.func.now.insts ≡ 2 ^ 32 - 1) ⊎ (length builder.old.func.now.values ≡ 2 ^ 32 - 1) }
+    ensures failed { (result ≡ Err BuildError.Failed) ↔ IsTrue builder.old.failed }
+    ensures fails { builder.new.failed ≡ is_err result }
+    ensures exists { IfOk result (λ v. v < length builder.new.func.now.values) }
+    ensures grows { OnOk result (Grows builder.old.func.now builder.new.func.now) }
+    ensures recorded { RecordsExist builder.old.func.now builder.old.ctx.now.ssa → OnOk result (RecordsExist builder.new.func.now builder.new.ctx.now.ssa) }
+    ensures current { OnOk result (HasCurrent builder.new) }
+{
+    let inst = builder.build(shape, ty)?;
+    Ok(builder.func.inst_results(inst)[0])
 }
 
 // Appends an instruction to a block, which is filled then if the instruction is a terminator.

@@ -2,6 +2,8 @@
 //! texts of errors.
 #![tactic(auto)]
 
+mod by_calls;
+
 ghost use Rattle.std.specs.Prelude.{◌≡◌, ◌<◌, length, IsTrue, IfOk, Some};
 ghost use Rattle.cranelift_frontend.specs.Builder.{HasCurrent};
 ghost use Rattle.cranelift_frontend.specs.Context.{empty_context};
@@ -16,7 +18,7 @@ use std::fmt::Write;
 use std::process::Abort;
 use std::test::Fail;
 
-const CONFIG: TargetFrontendConfig = TargetFrontendConfig {
+pub const CONFIG: TargetFrontendConfig = TargetFrontendConfig {
     default_call_conv: CallConv::SystemV,
     pointer_width: PointerWidth::U64,
     page_size_align_log2: 12,

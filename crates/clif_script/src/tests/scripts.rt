@@ -4,7 +4,7 @@
 use super::support::Step::{
     Create, Declare, Def, Iadd, Iconst, Return, ReturnNone, Seal, Switch, Use,
 };
-use super::support::{I32, I64, builds, call_of, replayed};
+use super::support::{I32, I64, builds, call_of, calls_of, replayed};
 use crate::script::ReplayError;
 use cranelift_frontend::FunctionBuilderContext;
 use std::test::Fail;
@@ -64,10 +64,7 @@ fn errors(rt: HostRuntime) -> Result<(), Fail> {
 #[test]
 fn long_script(rt: HostRuntime) -> Result<(), Fail> {
     let alloc = rt.alloc();
-    let mut calls = Vec::new(alloc);
-    for step in [Create, Switch(0, 0), Iconst(I32)].iter() {
-        calls.push(call_of(alloc, *step)?)?;
-    }
+    let mut calls = calls_of(alloc, &[Create, Switch(0, 0), Iconst(I32)])?;
     for place in 2..2_002 {
         calls.push(call_of(alloc, Iadd((2, 1), (place, 1)))?)?;
     }

@@ -81,7 +81,8 @@ fn return_one(alloc: Global, value: Name) -> Result<Call, AllocError> {
     Ok(Call::Return { values })
 }
 
-fn calls_of(alloc: Global, steps: &[Step]) -> Result<Vec<Call>, AllocError> {
+/// The calls of the steps.
+pub fn calls_of(alloc: Global, steps: &[Step]) -> Result<Vec<Call>, AllocError> {
     let mut calls = Vec::new(alloc);
     for step in steps.iter() {
         calls.push(call_of(alloc, *step)?)?;

@@ -1,9 +1,45 @@
-use Rattle.clif_ssa.specs.Tables.{pending_of}
+use Rattle.std.proofs.Common.{[], sym, ◌∙◌, refl}
+use Rattle.std.proofs.lemmas.Bool.{not-true}
+use Rattle.std.proofs.lemmas.Result.{err_from_is_err_and}
+use Rattle.clif_ssa.specs.Tables.{is_yes}
 use Rattle.clif_ssa.specs.Ssa.{sealed_of}
-use Rattle.clif_script.proofs.ReadyLaws.{ready_sealed}
+use Rattle.clif_script.specs.declared.script.Answer.TheVariants as answer
+use Rattle.clif_script.specs.Requests.{name_of}
+use Rattle.clif_script.proofs.ReadyLaws.{ready-more, block-found, block-there}
+use Rattle.clif_script.proofs.Conditions
 use Rattle.clif_script.proofs.make.seal_block.Goals as goal
 
+pub returns-in_default-clause-judged : goal.returns-in_default-clause-judged
+returns-in_default-clause-judged c = λ calls given.
+    let ready = given.1 in Conditions.seal-none calls c.args.builder.now c.args.answers.now ready c.args.name (sym c.block_named.ensures ∙ c.in_default.is)
+
+pub returns-then-not-may_seal-clause-judged : goal.returns-then-not-may_seal-clause-judged
+returns-then-not-may_seal-clause-judged c = λ calls given.
+    let ready = given.1 in
+    Conditions.seal-some calls c.args.builder.now c.args.answers.now ready c.args.name c.in-Some.block (sym c.block_named.ensures ∙ c.in-Some.is)
+    ∙ sym c.may_seal.ensures ∙ c.if-not-may_seal.true
+
+pub seal_block-requires-clause-exists : goal.seal_block-requires-clause-exists
+seal_block-requires-clause-exists c = block-there c.requires.ready.1 c.args.builder.now c.args.answers.now c.requires.ready.2 c.args.name c.in-Some.block (sym c.block_named.ensures ∙ c.in-Some.is)
+
+pub seal_block-requires-clause-unsealed : goal.seal_block-requires-clause-unsealed
+seal_block-requires-clause-unsealed c = not-true (is_yes (sealed_of c.args.builder.now.ctx.now.ssa c.in-Some.block)) (sym c.may_seal.ensures ∙ c.if-not-may_seal.false)
+
+pub returns-in_err-seal_block-clause-judged : goal.returns-in_err-seal_block-clause-judged
+returns-in_err-seal_block-clause-judged c = λ calls given.
+    let ready = given.1 in
+    let p = err_from_is_err_and c.from_residual.result c.from_residual.ensures.1 in
+    let holds = Conditions.seal-some calls c.args.builder.now c.args.answers.now ready c.args.name c.in-Some.block (sym c.block_named.ensures ∙ c.in-Some.is)
+    ∙ sym c.may_seal.ensures ∙ c.if-not-may_seal.false in
+    Conditions.judged-err _ c.from_residual.result p.0 c.in_err-seal_block.field-0.0 p.1 p.2 holds
+
 pub returns-clause-ready : goal.returns-clause-ready
-returns-clause-ready c =
-    ready_sealed _ _ _ _ (pending_of (sealed_of c.args.builder.now.ctx.now.ssa c.in_ok-block.block)) c.requires.ready
-    c.in_ok-seal_block.ensures.function c.seal_block.ensures.records c.seal_block.ensures.position tt
+returns-clause-ready c = λ declared calls ready.
+    let names = block-found calls c.args.builder.now c.args.answers.now ready c.args.name c.in-Some.block (sym c.block_named.ensures ∙ c.in-Some.is) in
+    ([], ready-more calls _ c.args.builder.now c.seal_block.new.self _ answer.Nothing ready (c.in_ok-seal_block.ensures.stands declared calls (name_of c.args.name) ready.stands names) (refl, refl))
+
+pub returns-clause-judged : goal.returns-clause-judged
+returns-clause-judged c = λ calls given.
+    let ready = given.1 in
+    Conditions.seal-some calls c.args.builder.now c.args.answers.now ready c.args.name c.in-Some.block (sym c.block_named.ensures ∙ c.in-Some.is)
+    ∙ sym c.may_seal.ensures ∙ c.if-not-may_seal.false

@@ -1,9 +1,51 @@
-use Rattle.std.proofs.Common.{rules, arith}
+use Rattle.std.proofs.Common.{◌≡◌, List, [], ◌∷◌, rules, arith, sym, ◌∙◌, ap, refl}
+use Rattle.std.specs.Prelude.{true, false}
 use Rattle.std.proofs.lemmas.Grind.{common_steps}
-use Rattle.clif_script.proofs.ReadyLaws.{ready_used_here}
+use Rattle.std.proofs.lemmas.Bool.{and_parts}
+use Rattle.std.proofs.lemmas.Result.{err_from_is_err_and}
+use Rattle.clif_types.specs.declared.types.«Type».{«Type»}
+use Rattle.clif_script.specs.declared.script.Answer.TheVariants as answer
+use Rattle.clif_script.specs.Ready.{can_use}
+use Rattle.clif_script.proofs.ReadyLaws.{ready-more}
+use Rattle.clif_script.proofs.Conditions
 use Rattle.clif_script.proofs.make.use_var.Goals as goal
 
+pub returns-then-not-may_use-clause-judged : goal.returns-then-not-may_use-clause-judged
+returns-then-not-may_use-clause-judged c = λ calls given.
+    let ready = given.1 in
+    let fails : c.may_use.result ≡ false = first_of (search rules, grind (arith, common_steps)) in
+    Conditions.use-same calls c.args.builder.now c.args.answers.now ready c.args.variable
+    ∙ ap (λ (types : List «Type»). can_use c.args.builder.now types c.args.variable) (sym c.requires.types) ∙ sym c.may_use.ensures ∙ fails
+
+pub use_var-requires-clause-current : goal.use_var-requires-clause-current
+use_var-requires-clause-current c =
+    let holds : c.may_use.result ≡ true = first_of (search rules, grind (arith, common_steps)) in
+    Conditions.has-current c.requires.ready.1 c.args.builder.now c.args.answers.now c.requires.ready.2 (and_parts _ _ (sym c.may_use.ensures ∙ holds)).0
+
+pub use_var-requires-clause-declared : goal.use_var-requires-clause-declared
+use_var-requires-clause-declared c =
+    let holds : c.may_use.result ≡ true = first_of (search rules, grind (arith, common_steps)) in
+    Conditions.declared-there c.args.builder.now c.args.types.now c.args.builder.now.ctx.now.variables c.args.variable c.requires.types (sym c.may_use.ensures ∙ holds)
+
+pub returns-in_err-value-clause-judged : goal.returns-in_err-value-clause-judged
+returns-in_err-value-clause-judged c = λ calls given.
+    let ready = given.1 in
+    let p = err_from_is_err_and c.from_residual.result c.from_residual.ensures.1 in
+    let holds : c.may_use.result ≡ true = first_of (search rules, grind (arith, common_steps)) in
+    Conditions.judged-err _ c.from_residual.result p.0 c.in_err-value.field-0.0 p.1 p.2
+    (Conditions.use-same calls c.args.builder.now c.args.answers.now ready c.args.variable
+    ∙ ap (λ (types : List «Type»). can_use c.args.builder.now types c.args.variable) (sym c.requires.types) ∙ sym c.may_use.ensures ∙ holds)
+
 pub returns-clause-ready : goal.returns-clause-ready
-returns-clause-ready c =
-    ready_used_here _ _ _ _ _ c.requires.ready (c.has_current.ensures (first_of (search rules, grind (arith, common_steps))))
-    (first_of (search rules, grind (arith, common_steps))) c.in_ok-value.ensures.uses c.use_var.ensures.position
+returns-clause-ready c = λ declared calls ready. (
+  c.in_ok-value.value ∷ [],
+  ready-more calls _ c.args.builder.now c.use_var.new.self _ (answer.Value c.in_ok-value.value) ready
+      (c.in_ok-value.ensures.stands declared calls ready.stands) (_, refl, refl),
+)
+
+pub returns-clause-judged : goal.returns-clause-judged
+returns-clause-judged c = λ calls given.
+    let ready = given.1 in
+    let holds : c.may_use.result ≡ true = first_of (search rules, grind (arith, common_steps)) in
+    Conditions.use-same calls c.args.builder.now c.args.answers.now ready c.args.variable
+    ∙ ap (λ (types : List «Type»). can_use c.args.builder.now types c.args.variable) (sym c.requires.types) ∙ sym c.may_use.ensures ∙ holds

@@ -1,6 +1,7 @@
-use Rattle.std.proofs.Common.{ℕ, ◌<◌, length}
-use Rattle.std.specs.Prelude.{slice_index}
+use Rattle.std.proofs.Common.{◌≡◌, take, map}
+use Rattle.std.specs.Prelude.{Some}
+use Rattle.clif_script.specs.Ready.{value_of}
 use Rattle.clif_script.proofs.make.values_named.Given as goal
 
 abbrev pub invariant-loop-name : goal.invariant-loop-name
-invariant-loop-name l = (k : ℕ) → k < length l.values.items → slice_index l.values.items k < length l.func.values
+invariant-loop-name l = map (value_of l.func l.answers) (take l.name-index l.names) ≡ map Some l.values.items

@@ -1,12 +1,15 @@
-use Rattle.std.proofs.Common.{◌≡◌}
+use Rattle.std.proofs.Common.{◌≡◌, List}
 use Rattle.std.specs.Prelude.{false}
+use Rattle.clif_meaning.specs.Request.{AnsweredCall}
 use Rattle.cranelift_frontend.specs.Builder.{SameLoans}
 use Rattle.clif_script.specs.Ready.{IsReady}
+use Rattle.clif_script.specs.Requests.{IsReplayed}
 use Rattle.clif_script.proofs.script.make_calls.Given as goal
 
 abbrev pub invariant-loop-place : goal.invariant-loop-place
-invariant-loop-place l =
-    IsReady l.builder l.answers.items
-    × (l.types.items ≡ l.builder.ctx.now.variables)
-    × SameLoans l.initial.builder l.builder
-    × (l.builder.failed ≡ false)
+invariant-loop-place l = record {
+  made : (made : List AnsweredCall) × IsReady l.initial.builder.func.now.signature made l.builder l.answers.items × IsReplayed l.calls l.place made;
+  types : l.types.items ≡ l.builder.ctx.now.variables;
+  loans : SameLoans l.initial.builder l.builder;
+  sound : l.builder.failed ≡ false;
+}

@@ -1,0 +1,485 @@
+-- The tests before a call are the condition of its request in the ledger.
+use Rattle.std.proofs.Common.{◌≡◌, ◌≢◌, ℕ, zero, suc, ◌<◌, List, [], ◌∷◌, length, refl, ap, arith, sym, ◌∙◌, subst}
+use Rattle.std.specs.Prelude.{map, slice_get, Option, Some, None, option_map, is_some, IfSome, Bool, true, false, not, ◌&&◌, ◌||◌, if◌then◌else◌, ◌==◌, Err, Result, ℤ, slice_index, ◌↔◌}
+use Rattle.std.specs.List.{list_all}
+use Rattle.std.proofs.lemmas.Option.{slice_get_within, get_or_from_slice_get}
+use Rattle.std.proofs.lemmas.Bool.{and_from, and_parts, and_right, eq-eqb, eqb-true, false_from_ne_true, false≢true}
+use Rattle.clif_types.specs.declared.error.BuildError.{BuildError}
+use Rattle.clif_types.specs.declared.error.BuildError.TheVariants as build
+use Rattle.clif_types.specs.declared.types.LaneType.{LaneType}
+use Rattle.clif_types.specs.declared.types.LaneType.TheVariants as lane
+use Rattle.clif_types.specs.declared.types.LaneCount.{LaneCount}
+use Rattle.clif_types.specs.declared.types.LaneCount.TheVariants as count
+use Rattle.clif_types.specs.declared.types.«Type».{«Type»}
+use Rattle.clif_types.specs.Signature.{SignatureShape}
+use Rattle.clif_types.specs.declared.types.«Type».TheVariants as type
+use Rattle.clif_types.specs.Types.{is_int, lanes_of}
+use Rattle.clif_ir.specs.declared.function.ValueNode.{ValueNode}
+use Rattle.clif_ir.specs.declared.function.ValueOrigin.TheVariants as origin
+use Rattle.clif_ir.specs.declared.inst_list.BlockEnd.TheVariants.{Back}
+use Rattle.clif_ir.specs.declared.instructions.InstructionData.{InstructionData}
+use Rattle.clif_ir.specs.Reading.{def_of}
+use Rattle.clif_ir.specs.Changes.{inserted_in, with_inst}
+use Rattle.clif_ir.specs.Body.{Body, alias_of, alias_of_origin, follow, follow_link, no_value, resolved, value_at}
+use Rattle.clif_meaning.specs.Name as meaning
+use Rattle.clif_meaning.specs.SameType.{lane_number, same_lane, same_type}
+use Rattle.clif_meaning.specs.Request.{AnsweredCall, number_of, SwitchToBlock, SealBlock, DefVar, UseVar}
+use Rattle.clif_meaning.specs.Ledger.{BlockState, Ledger, begins_with, block_state, has_predecessors, has_value, is_empty, is_filled, is_pristine, is_sealed, state_has, type_of, variable_type}
+use Rattle.clif_meaning.specs.Acceptance.{allows, can_assign, can_leave, is_variable_type, iconst, iadd, return_}
+use Rattle.clif_meaning.specs.Acceptance as acceptance
+use Rattle.clif_ssa.specs.Tables.{is_yes}
+use Rattle.clif_ssa.specs.Ssa.{no_srcloc, sealed_of}
+use Rattle.cranelift_frontend.specs.declared.context.BlockStatus.{BlockStatus}
+use Rattle.cranelift_frontend.specs.declared.context.BlockStatus.TheVariants.{Empty, Partial, Filled}
+use Rattle.cranelift_frontend.specs.declared.frontend.FunctionBuilder.{FunctionBuilder}
+use Rattle.cranelift_frontend.specs.Context.{status_of}
+use Rattle.cranelift_frontend.specs.Builder.{AppendsValue, HasCurrent, is_declarable, is_elsewhere, is_empty_status, is_filled_status, is_free, is_free_at, may_be_left}
+use Rattle.cranelift_frontend.specs.Ledger.{BlockAgrees, block_name, ledger_of}
+use Rattle.cranelift_frontend.proofs.LedgerLists.{get-last, map-some, name-of-none, name-of-some, some-is}
+use Rattle.cranelift_frontend.proofs.LedgerNames.{IsNumbered, name-number, named-block, same-block, state-by-name}
+use Rattle.cranelift_frontend.proofs.LedgerKept.{inserted-insts, inserted-values, named-value}
+use Rattle.cranelift_frontend.proofs.LedgerMade.{block-exists}
+use Rattle.cranelift_frontend.proofs.LedgerUsed.{ledger-type}
+use Rattle.clif_script.specs.declared.call.Name.{Name}
+use Rattle.clif_script.specs.declared.script.Answer.{Answer}
+use Rattle.clif_script.specs.declared.script.Answer.TheVariants as answer
+use Rattle.clif_script.specs.declared.script.CallError.{CallError}
+use Rattle.clif_script.specs.declared.script.CallError.TheVariants as error
+use Rattle.clif_script.specs.Errors.{call_error_of}
+use Rattle.clif_script.specs.Requests.{name_of}
+use Rattle.clif_script.specs.Ready.{IsReady, IsJudged, all_values, block_of, can_define, can_seal, can_switch, can_use, instruction_answer, instruction_in, is_open, is_open_at, value_of}
+use Rattle.clif_script.proofs.ReadyLaws.{block-found, block-missing, value-exists, value-found, value-missing}
+
+-- a refusal of the builder is no misuse
+pub judged-from : (allowed : Bool) (e : BuildError) → allowed ≡ true → IsJudged allowed (Err (call_error_of e))
+judged-from allowed build.Memory is = tt
+judged-from allowed build.Full is = is
+judged-from allowed build.Failed is = is
+
+-- the state of a block of the ledger, by its name
+record Stated (calls : List AnsweredCall) (b : FunctionBuilder) (name : meaning.Name) (block : ℕ) : Type 0 where
+  pub state : BlockState
+  pub found : block_state (ledger_of calls) name ≡ Some state
+  pub agrees : BlockAgrees calls b.ctx.now block state
+
+stated : {declared : SignatureShape} (calls : List AnsweredCall) (b : FunctionBuilder) (answers : List Answer) → IsReady declared calls b answers
+    → (name : meaning.Name) (block : ℕ) → block_name (ledger_of calls) block ≡ Some name → Stated calls b name block
+stated calls b answers ready name block named =
+    let state = state-by-name calls (ledger_of calls) (name-number calls (ledger_of calls) b.func.now b.ctx.now b.position ready.stands.ledger) block name named in
+    record { state = state.0; found = state.3; agrees = ready.stands.ledger.blocks block state.0 state.1 }
+
+filled-same : {declared : SignatureShape} (calls : List AnsweredCall) (b : FunctionBuilder) (answers : List Answer) → IsReady declared calls b answers
+    → (name : meaning.Name) (block : ℕ) → block_name (ledger_of calls) block ≡ Some name → is_filled (ledger_of calls) name ≡ is_filled_status (status_of b.ctx.now block)
+filled-same calls b answers ready name block named =
+    let s = stated calls b answers ready name block named in
+    ap (state_has (λ (state : BlockState). state.is_filled)) s.found ∙ s.agrees.is_filled
+
+pristine-same : {declared : SignatureShape} (calls : List AnsweredCall) (b : FunctionBuilder) (answers : List Answer) → IsReady declared calls b answers
+    → (name : meaning.Name) (block : ℕ) → block_name (ledger_of calls) block ≡ Some name → is_pristine (ledger_of calls) name ≡ is_empty_status (status_of b.ctx.now block)
+pristine-same calls b answers ready name block named =
+    let s = stated calls b answers ready name block named in
+    ap (state_has (λ (state : BlockState). state.is_pristine)) s.found ∙ s.agrees.is_pristine
+
+sealed-same : {declared : SignatureShape} (calls : List AnsweredCall) (b : FunctionBuilder) (answers : List Answer) → IsReady declared calls b answers
+    → (name : meaning.Name) (block : ℕ) → block_name (ledger_of calls) block ≡ Some name → is_sealed (ledger_of calls) name ≡ is_yes (sealed_of b.ctx.now.ssa block)
+sealed-same calls b answers ready name block named =
+    let s = stated calls b answers ready name block named in
+    ap (state_has (λ (state : BlockState). state.is_sealed)) s.found ∙ s.agrees.is_sealed
+
+no-predecessors : {declared : SignatureShape} (calls : List AnsweredCall) (b : FunctionBuilder) (answers : List Answer) → IsReady declared calls b answers
+    → (name : meaning.Name) (block : ℕ) → block_name (ledger_of calls) block ≡ Some name → has_predecessors (ledger_of calls) name ≡ false
+no-predecessors calls b answers ready name block named =
+    let s = stated calls b answers ready name block named in
+    ap (state_has (λ (state : BlockState). not (is_empty state.predecessors))) s.found
+    ∙ ap (λ (names : List meaning.Name). not (is_empty names)) s.agrees.predecessors
+
+-- there is a current block that isn't filled
+pub open-same : {declared : SignatureShape} (calls : List AnsweredCall) (b : FunctionBuilder) (answers : List Answer) → IsReady declared calls b answers
+    → acceptance.is_open (ledger_of calls) (ledger_of calls).current ≡ is_open b
+open-same calls b answers ready = by b.position refl
+  where
+    by : (p : Option ℕ) → b.position ≡ p → acceptance.is_open (ledger_of calls) (ledger_of calls).current ≡ is_open b
+    by None at =
+        let none : (ledger_of calls).current ≡ None = name-of-none (block_name (ledger_of calls)) (ledger_of calls).current (ready.stands.ledger.current ∙ ap (option_map (block_name (ledger_of calls))) at) in
+        ap (acceptance.is_open (ledger_of calls)) none ∙ ap (λ (o : Option ℕ). is_open_at o b.ctx.now) (sym at)
+    by (Some block) at =
+        let current = name-of-some (block_name (ledger_of calls)) (ledger_of calls).current block (ready.stands.ledger.current ∙ ap (option_map (block_name (ledger_of calls))) at) in
+        ap (acceptance.is_open (ledger_of calls)) current.1 ∙ ap not (filled-same calls b answers ready current.0 block current.2)
+        ∙ ap (λ (o : Option ℕ). is_open_at o b.ctx.now) (sym at)
+
+-- the first block of the layout, by name and by number
+elsewhere-same : (calls : List AnsweredCall) (ledger : Ledger) → IsNumbered calls ledger → (block : ℕ) (name : meaning.Name) → block_name ledger block ≡ Some name
+    → (names : List meaning.Name) (numbers : List ℕ) → map Some names ≡ map (block_name ledger) numbers
+    → (not (is_empty names) && not (begins_with names name)) ≡ is_elsewhere numbers block
+elsewhere-same calls ledger numbered block name named [] [] same = refl
+elsewhere-same calls ledger numbered block name named [] (k ∷ numbers) same = let no_way : ⊥ = cc in absurd no_way
+elsewhere-same calls ledger numbered block name named (x ∷ names) [] same = let no_way : ⊥ = cc in absurd no_way
+elsewhere-same calls ledger numbered block name named (x ∷ names) (k ∷ numbers) same =
+    let here : block_name ledger k ≡ Some x = cc in
+    ap not (same-block calls ledger numbered k block x name here named)
+
+-- whether the current block may be left
+pub leave-same : {declared : SignatureShape} (calls : List AnsweredCall) (b : FunctionBuilder) (answers : List Answer) → IsReady declared calls b answers
+    → can_leave (ledger_of calls) (ledger_of calls).current ≡ is_free b
+leave-same calls b answers ready = by b.position refl
+  where
+    numbered : IsNumbered calls (ledger_of calls)
+    numbered = name-number calls (ledger_of calls) b.func.now b.ctx.now b.position ready.stands.ledger
+
+    cases : (away sealed : Bool) (s : BlockStatus) → ((((away && sealed) && true) || is_empty_status s) || is_filled_status s) ≡ (may_be_left s || (away && sealed))
+    cases true true Empty = refl
+    cases true true Partial = refl
+    cases true true Filled = refl
+    cases true false Empty = refl
+    cases true false Partial = refl
+    cases true false Filled = refl
+    cases false sealed Empty = refl
+    cases false sealed Partial = refl
+    cases false sealed Filled = refl
+
+    by : (p : Option ℕ) → b.position ≡ p → can_leave (ledger_of calls) (ledger_of calls).current ≡ is_free b
+    by None at =
+        let none : (ledger_of calls).current ≡ None = name-of-none (block_name (ledger_of calls)) (ledger_of calls).current (ready.stands.ledger.current ∙ ap (option_map (block_name (ledger_of calls))) at) in
+        ap (can_leave (ledger_of calls)) none ∙ ap (λ (o : Option ℕ). is_free_at o b.func.now b.ctx.now) (sym at)
+    by (Some block) at =
+        let current = name-of-some (block_name (ledger_of calls)) (ledger_of calls).current block (ready.stands.ledger.current ∙ ap (option_map (block_name (ledger_of calls))) at) in
+        let filled = filled-same calls b answers ready current.0 block current.2 in
+        let pristine = pristine-same calls b answers ready current.0 block current.2 in
+        let sealed = sealed-same calls b answers ready current.0 block current.2 in
+        let alone = no-predecessors calls b answers ready current.0 block current.2 in
+        let away = elsewhere-same calls (ledger_of calls) numbered block current.0 current.2 (ledger_of calls).layout b.func.now.layout ready.stands.ledger.layout in
+        ap (can_leave (ledger_of calls)) current.1
+        ∙ rw (filled, pristine, sealed, alone, away) (cases (is_elsewhere b.func.now.layout block) (is_yes (sealed_of b.ctx.now.ssa block)) (status_of b.ctx.now block))
+        ∙ ap (λ (o : Option ℕ). is_free_at o b.func.now b.ctx.now) (sym at)
+
+-- `switch_to_block`
+pub switch-none : {declared : SignatureShape} (calls : List AnsweredCall) (b : FunctionBuilder) (answers : List Answer) → IsReady declared calls b answers
+    → (name : Name) → block_of answers name ≡ None → allows (ledger_of calls) (SwitchToBlock (name_of name)) ≡ false
+switch-none calls b answers ready name missing = let none = block-missing calls b answers ready name missing in rw none refl
+
+pub switch-some : {declared : SignatureShape} (calls : List AnsweredCall) (b : FunctionBuilder) (answers : List Answer) → IsReady declared calls b answers
+    → (name : Name) (block : ℕ) → block_of answers name ≡ Some block → allows (ledger_of calls) (SwitchToBlock (name_of name)) ≡ can_switch b block
+switch-some calls b answers ready name block found =
+    let names = block-found calls b answers ready name block found in
+    let there = names.is_block in
+    let named = named-block calls (name-number calls (ledger_of calls) b.func.now b.ctx.now b.position ready.stands.ledger) (name_of name) block names in
+    let filled = filled-same calls b answers ready (name_of name) block named in
+    let leaves = leave-same calls b answers ready in
+    rw (there, filled, leaves) refl
+
+-- `seal_block`
+pub seal-none : {declared : SignatureShape} (calls : List AnsweredCall) (b : FunctionBuilder) (answers : List Answer) → IsReady declared calls b answers
+    → (name : Name) → block_of answers name ≡ None → allows (ledger_of calls) (SealBlock (name_of name)) ≡ false
+seal-none calls b answers ready name missing = let none = block-missing calls b answers ready name missing in rw none refl
+
+pub seal-some : {declared : SignatureShape} (calls : List AnsweredCall) (b : FunctionBuilder) (answers : List Answer) → IsReady declared calls b answers
+    → (name : Name) (block : ℕ) → block_of answers name ≡ Some block → allows (ledger_of calls) (SealBlock (name_of name)) ≡ can_seal b block
+seal-some calls b answers ready name block found =
+    let names = block-found calls b answers ready name block found in
+    let there = names.is_block in
+    let named = named-block calls (name-number calls (ledger_of calls) b.func.now b.ctx.now b.position ready.stands.ledger) (name_of name) block names in
+    let sealed = sealed-same calls b answers ready (name_of name) block named in
+    rw (there, sealed) refl
+
+-- `declare_var`
+pub declare-same : (ty : «Type») → is_variable_type ty ≡ is_declarable ty
+declare-same type.Invalid = refl
+declare-same (type.Lane lane.I8) = refl
+declare-same (type.Lane lane.I16) = refl
+declare-same (type.Lane lane.I32) = refl
+declare-same (type.Lane lane.I64) = refl
+declare-same (type.Lane lane.I128) = refl
+declare-same (type.Lane lane.F16) = refl
+declare-same (type.Lane lane.F32) = refl
+declare-same (type.Lane lane.F64) = refl
+declare-same (type.Lane lane.F128) = refl
+declare-same (type.Vector l n) = refl
+
+-- `def_var`
+no-value-assigned : (ty : Option «Type») → can_assign ty None ≡ false
+no-value-assigned None = refl
+no-value-assigned (Some ty) = refl
+
+no-variable-assigned : (other : Option «Type») → can_assign None other ≡ false
+no-variable-assigned None = refl
+no-variable-assigned (Some ty) = refl
+
+no-type : (o : Option «Type») → is_some o ≡ false → o ≡ None
+no-type None is = refl
+no-type (Some ty) is = let no_way : ⊥ = cc in absurd no_way
+
+pub define-none : {declared : SignatureShape} (calls : List AnsweredCall) (b : FunctionBuilder) (answers : List Answer) → IsReady declared calls b answers
+    → (variable : ℕ) (name : Name) → value_of b.func.now answers name ≡ None → allows (ledger_of calls) (DefVar variable (name_of name)) ≡ false
+define-none calls b answers ready variable name missing =
+    let none : type_of (ledger_of calls) (name_of name) ≡ None = no-type (type_of (ledger_of calls) (name_of name)) (value-missing calls b answers ready name missing) in
+    and_right _ _ (ap (can_assign (variable_type (ledger_of calls) variable)) none ∙ no-value-assigned (variable_type (ledger_of calls) variable))
+
+pub define-undeclared : {declared : SignatureShape} (calls : List AnsweredCall) (b : FunctionBuilder) (answers : List Answer) → IsReady declared calls b answers
+    → (variable : ℕ) (name : meaning.Name) → slice_get b.ctx.now.variables variable ≡ None → allows (ledger_of calls) (DefVar variable name) ≡ false
+define-undeclared calls b answers ready variable name missing =
+    let none : variable_type (ledger_of calls) variable ≡ None = ledger-type calls (ledger_of calls) b.func.now b.ctx.now b.position ready.stands.ledger variable ∙ missing in
+    and_right _ _ (ap (λ (o : Option «Type»). can_assign o (type_of (ledger_of calls) name)) none ∙ no-variable-assigned (type_of (ledger_of calls) name))
+
+-- the ledger's type of a value is the function's
+value-type-same : {declared : SignatureShape} (calls : List AnsweredCall) (b : FunctionBuilder) (answers : List Answer) → IsReady declared calls b answers
+    → (name : Name) (value : ℕ) → value_of b.func.now answers name ≡ Some value → type_of (ledger_of calls) (name_of name) ≡ Some (value_at b.func.now value).ty
+value-type-same calls b answers ready name value found =
+    let names = value-found calls b answers ready name value found in
+    let typed = named-value calls (ledger_of calls) b.func.now b.ctx.now b.position ready.stands.ledger (name_of name) value names.number names.is_value in
+    let node = map-some (λ (n : ValueNode). n.ty) (slice_get b.func.now.values value) typed.0 typed.2 in
+    typed.1 ∙ ap Some (sym (ap (λ (n : ValueNode). n.ty) (get_or_from_slice_get b.func.now.values value node.0 no_value node.1) ∙ node.2))
+
+pub define-some : {declared : SignatureShape} (calls : List AnsweredCall) (b : FunctionBuilder) (answers : List Answer) → IsReady declared calls b answers
+    → (variable : ℕ) (name : Name) (value : ℕ) (ty : «Type») → value_of b.func.now answers name ≡ Some value → slice_get b.ctx.now.variables variable ≡ Some ty
+    → allows (ledger_of calls) (DefVar variable (name_of name)) ≡ can_define b ty value
+define-some calls b answers ready variable name value ty found declared =
+    let opens = open-same calls b answers ready in
+    let of_value = value-type-same calls b answers ready name value found in
+    let of_variable : variable_type (ledger_of calls) variable ≡ Some ty = ledger-type calls (ledger_of calls) b.func.now b.ctx.now b.position ready.stands.ledger variable ∙ declared in
+    rw (opens, of_variable, of_value) refl
+
+-- `use_var`
+pub use-same : {declared : SignatureShape} (calls : List AnsweredCall) (b : FunctionBuilder) (answers : List Answer) → IsReady declared calls b answers
+    → (variable : ℕ) → allows (ledger_of calls) (UseVar variable) ≡ can_use b b.ctx.now.variables variable
+use-same calls b answers ready variable =
+    let opens = open-same calls b answers ready in
+    let of_variable = ledger-type calls (ledger_of calls) b.func.now b.ctx.now b.position ready.stands.ledger variable in
+    rw (opens, of_variable) refl
+
+-- `iconst`
+pub iconst-same : {declared : SignatureShape} (calls : List AnsweredCall) (b : FunctionBuilder) (answers : List Answer) → IsReady declared calls b answers
+    → (ty : «Type») (imm : ℤ) → allows (ledger_of calls) (iconst ty imm) ≡ (is_open b && is_int ty)
+iconst-same calls b answers ready ty imm = let opens = open-same calls b answers ready in rw opens (by (is_open b))
+  where
+    by : (test : Bool) → (((test && true) && true) && is_int ty) ≡ (test && is_int ty)
+    by true = refl
+    by false = refl
+
+-- `iadd`
+pub iadd-first : {declared : SignatureShape} (calls : List AnsweredCall) (b : FunctionBuilder) (answers : List Answer) → IsReady declared calls b answers
+    → (x y : Name) → value_of b.func.now answers x ≡ None → allows (ledger_of calls) (iadd (ledger_of calls) (name_of x) (name_of y)) ≡ false
+iadd-first calls b answers ready x y missing =
+    let none = value-missing calls b answers ready x missing in
+    rw none (by (acceptance.is_open (ledger_of calls) (ledger_of calls).current))
+  where
+    by : (test : Bool) → (((test && false) && true) && true) ≡ false
+    by true = refl
+    by false = refl
+
+pub iadd-second : {declared : SignatureShape} (calls : List AnsweredCall) (b : FunctionBuilder) (answers : List Answer) → IsReady declared calls b answers
+    → (x y : Name) → value_of b.func.now answers y ≡ None → allows (ledger_of calls) (iadd (ledger_of calls) (name_of x) (name_of y)) ≡ false
+iadd-second calls b answers ready x y missing =
+    let none = value-missing calls b answers ready y missing in
+    rw none (by (acceptance.is_open (ledger_of calls) (ledger_of calls).current) (has_value (ledger_of calls) (name_of x)))
+  where
+    by : (test other : Bool) → (((test && (other && false)) && true) && true) ≡ false
+    by true true = refl
+    by true false = refl
+    by false other = refl
+
+pub iadd-some : {declared : SignatureShape} (calls : List AnsweredCall) (b : FunctionBuilder) (answers : List Answer) → IsReady declared calls b answers
+    → (x y : Name) (v w : ℕ) → value_of b.func.now answers x ≡ Some v → value_of b.func.now answers y ≡ Some w
+    → allows (ledger_of calls) (iadd (ledger_of calls) (name_of x) (name_of y)) ≡ is_open b
+iadd-some calls b answers ready x y v w first second =
+    let left = (value-found calls b answers ready x v first).is_value in
+    let right = (value-found calls b answers ready y w second).is_value in
+    let opens = open-same calls b answers ready in
+    rw (left, right, opens) (by (is_open b))
+  where
+    by : (test : Bool) → (((test && true) && true) && true) ≡ test
+    by true = refl
+    by false = refl
+
+-- `return_`
+values-same : {declared : SignatureShape} (calls : List AnsweredCall) (b : FunctionBuilder) (answers : List Answer) → IsReady declared calls b answers
+    → (names : List Name) → list_all (has_value (ledger_of calls)) (map name_of names) ≡ all_values b.func.now answers names
+values-same calls b answers ready [] = refl
+values-same calls b answers ready (name ∷ names) =
+    let rest = values-same calls b answers ready names in
+    let here : has_value (ledger_of calls) (name_of name) ≡ is_some (value_of b.func.now answers name) = by (value_of b.func.now answers name) refl in
+    cc
+  where
+    by : (o : Option ℕ) → value_of b.func.now answers name ≡ o → has_value (ledger_of calls) (name_of name) ≡ is_some (value_of b.func.now answers name)
+    by None is = value-missing calls b answers ready name is ∙ ap is_some (sym is)
+    by (Some value) is = (value-found calls b answers ready name value is).is_value ∙ ap is_some (sym is)
+
+pub return-same : {declared : SignatureShape} (calls : List AnsweredCall) (b : FunctionBuilder) (answers : List Answer) → IsReady declared calls b answers
+    → (names : List Name) → allows (ledger_of calls) (return_ (map name_of names)) ≡ (is_open b && all_values b.func.now answers names)
+return-same calls b answers ready names =
+    let opens = open-same calls b answers ready in
+    let all = values-same calls b answers ready names in
+    rw (opens, all) (by (is_open b && all_values b.func.now answers names))
+  where
+    by : (test : Bool) → ((test && true) && true) ≡ test
+    by true = refl
+    by false = refl
+
+-- values that were found are all there
+pub all-found : (f : Body) (answers : List Answer) (names : List Name) (values : List ℕ) → map (value_of f answers) names ≡ map Some values → all_values f answers names ≡ true
+all-found f answers [] values found = refl
+all-found f answers (name ∷ names) [] found = let no_way : ⊥ = cc in absurd no_way
+all-found f answers (name ∷ names) (value ∷ values) found =
+    let here : value_of f answers name ≡ Some value = cc in
+    let rest : map (value_of f answers) names ≡ map Some values = cc in
+    rw here (all-found f answers names values rest)
+
+-- a current block that isn't filled
+pub has-current : {declared : SignatureShape} (calls : List AnsweredCall) (b : FunctionBuilder) (answers : List Answer) → IsReady declared calls b answers → is_open b ≡ true → HasCurrent b
+has-current calls b answers ready opens = by b.position refl opens
+  where
+    not_filled : (s : BlockStatus) → not (is_filled_status s) ≡ true → s ≢ Filled
+    not_filled Empty is same = let no_way : ⊥ = cc in absurd no_way
+    not_filled Partial is same = let no_way : ⊥ = cc in absurd no_way
+    not_filled Filled is same = let no_way : ⊥ = cc in absurd no_way
+
+    by : (p : Option ℕ) → b.position ≡ p → is_open_at p b.ctx.now ≡ true → HasCurrent b
+    by None at is = let no_way : ⊥ = cc in absurd no_way
+    by (Some block) at is =
+        let current = name-of-some (block_name (ledger_of calls)) (ledger_of calls).current block (ready.stands.ledger.current ∙ ap (option_map (block_name (ledger_of calls))) at) in
+        (block, at, block-exists calls (ledger_of calls) b.func.now b.ctx.now b.position ready.stands.ledger block current.0 current.2, not_filled (status_of b.ctx.now block) is)
+
+-- a refusal of the builder, told as that of a call
+pub judged-err : (allowed : Bool) (r : Result Answer CallError) (y : CallError) (e : BuildError) → r ≡ Err y → y ≡ call_error_of e → allowed ≡ true → IsJudged allowed r
+judged-err allowed r y e is gives holds =
+    subst (λ (s : Result Answer CallError). IsJudged allowed s) (sym (is ∙ ap Err gives)) (judged-from allowed e holds)
+
+-- a refusal of names, told as that of a call
+pub judged-names : {X : Type 0} (allowed all : Bool) (v : Result X CallError) (r : Result Answer CallError) (e : CallError) → r ≡ Err e → v ≡ Err e
+    → (v ≡ Err error.Misuse → all ≡ false) → (all ≡ false → allowed ≡ false) → v ≢ Err error.Refused → v ≢ Err error.Full → IsJudged allowed r
+judged-names allowed all v r e is was misuse condition never_refused never_full =
+    subst (λ (s : Result Answer CallError). IsJudged allowed s) (sym is) (by e was)
+  where
+    by : (e : CallError) → v ≡ Err e → IsJudged allowed (Err e)
+    by error.Misuse was = condition (misuse was)
+    by error.Refused was = absurd (never_refused was)
+    by error.Memory was = tt
+    by error.Full was = absurd (never_full was)
+
+-- equal by the test is equal
+lane_of : ℕ → LaneType
+lane_of n =
+    if n == 0 then lane.I8
+    else if n == 1 then lane.I16
+    else if n == 2 then lane.I32
+    else if n == 3 then lane.I64
+    else if n == 4 then lane.I128
+    else if n == 5 then lane.F16
+    else if n == 6 then lane.F32
+    else if n == 7 then lane.F64
+    else lane.F128
+
+lane-back : (l : LaneType) → lane_of (lane_number l) ≡ l
+unfolding lane_of
+lane-back lane.I8 = refl
+lane-back lane.I16 = refl
+lane-back lane.I32 = refl
+lane-back lane.I64 = refl
+lane-back lane.I128 = refl
+lane-back lane.F16 = refl
+lane-back lane.F32 = refl
+lane-back lane.F64 = refl
+lane-back lane.F128 = refl
+
+count_of : ℕ → LaneCount
+count_of n =
+    if n == 2 then count.Two
+    else if n == 4 then count.Four
+    else if n == 8 then count.Eight
+    else if n == 16 then count.Sixteen
+    else if n == 32 then count.ThirtyTwo
+    else count.SixtyFour
+
+count-back : (n : LaneCount) → count_of (lanes_of n) ≡ n
+unfolding count_of
+count-back count.Two = refl
+count-back count.Four = refl
+count-back count.Eight = refl
+count-back count.Sixteen = refl
+count-back count.ThirtyTwo = refl
+count-back count.SixtyFour = refl
+
+same-lane : (a b : LaneType) → same_lane a b ≡ true → a ≡ b
+same-lane a b same = sym (lane-back a) ∙ ap lane_of (eqb-true (lane_number a) (lane_number b) same) ∙ lane-back b
+
+pub same-type : (a b : «Type») → same_type a b ≡ true → a ≡ b
+same-type type.Invalid type.Invalid same = refl
+same-type type.Invalid (type.Lane l) same = let no_way : ⊥ = cc in absurd no_way
+same-type type.Invalid (type.Vector l n) same = let no_way : ⊥ = cc in absurd no_way
+same-type (type.Lane k) type.Invalid same = let no_way : ⊥ = cc in absurd no_way
+same-type (type.Lane k) (type.Lane l) same = ap type.Lane (same-lane k l same)
+same-type (type.Lane k) (type.Vector l n) same = let no_way : ⊥ = cc in absurd no_way
+same-type (type.Vector k m) type.Invalid same = let no_way : ⊥ = cc in absurd no_way
+same-type (type.Vector k m) (type.Lane l) same = let no_way : ⊥ = cc in absurd no_way
+same-type (type.Vector k m) (type.Vector l n) same =
+    let parts = and_parts (same_lane k l) (lanes_of m == lanes_of n) same in
+    let counts : m ≡ n = sym (count-back m) ∙ ap count_of (eqb-true (lanes_of m) (lanes_of n) parts.1) ∙ count-back n in
+    ap (λ (x : LaneType). type.Vector x m) (same-lane k l parts.0) ∙ ap (λ (x : LaneCount). type.Vector l x) counts
+
+-- the values that names lead to exist, and have the names' numbers
+pub all-exist : {declared : SignatureShape} (calls : List AnsweredCall) (b : FunctionBuilder) (answers : List Answer) → IsReady declared calls b answers
+    → (names : List Name) (values : List ℕ) → map (value_of b.func.now answers) names ≡ map Some values
+    → (k : ℕ) → k < length values → slice_index values k < length b.func.now.values
+all-exist calls b answers ready [] [] found k inside = absurd (omega (arith, inside))
+all-exist calls b answers ready [] (value ∷ values) found k inside = let no_way : ⊥ = cc in absurd no_way
+all-exist calls b answers ready (name ∷ names) [] found k inside = let no_way : ⊥ = cc in absurd no_way
+all-exist calls b answers ready (name ∷ names) (value ∷ values) found zero inside =
+    let here : value_of b.func.now answers name ≡ Some value = cc in value-exists calls b answers ready name value here
+all-exist calls b answers ready (name ∷ names) (value ∷ values) found (suc k) inside =
+    let rest : map (value_of b.func.now answers) names ≡ map Some values = cc in all-exist calls b answers ready names values rest k (omega (arith, inside))
+
+pub all-numbered : {declared : SignatureShape} (calls : List AnsweredCall) (b : FunctionBuilder) (answers : List Answer) → IsReady declared calls b answers
+    → (names : List Name) (values : List ℕ) → map (value_of b.func.now answers) names ≡ map Some values → map (number_of calls) (map name_of names) ≡ map Some values
+all-numbered calls b answers ready [] [] found = refl
+all-numbered calls b answers ready [] (value ∷ values) found = let no_way : ⊥ = cc in absurd no_way
+all-numbered calls b answers ready (name ∷ names) [] found = let no_way : ⊥ = cc in absurd no_way
+all-numbered calls b answers ready (name ∷ names) (value ∷ values) found =
+    let here : value_of b.func.now answers name ≡ Some value = cc in
+    let rest : map (value_of b.func.now answers) names ≡ map Some values = cc in
+    let number : number_of calls (name_of name) ≡ Some value = (value-found calls b answers ready name value here).number in
+    let others = all-numbered calls b answers ready names values rest in
+    cc
+
+-- a value that is no other name stands for itself
+follow-stays : (steps : ℕ) (values : List ValueNode) (v : ℕ) → alias_of values v ≡ None → follow steps values v ≡ v
+unfolding follow
+follow-stays zero values v none = refl
+follow-stays (suc steps) values v none = ap (λ (o : Option ℕ). follow_link o (follow steps values) v) none
+
+-- the new value of an instruction is its result
+pub new-instruction : (f g : Body) (block : ℕ) (form : InstructionData) (ty : «Type») → g ≡ with_inst (inserted_in f block) block Back form (ty ∷ []) no_srcloc
+    → (length f.values < length g.values) × (instruction_answer g (length f.values) ≡ answer.Inst (length f.insts))
+new-instruction f g block form ty function =
+    let made : Body = with_inst (inserted_in f block) block Back form (ty ∷ []) no_srcloc in
+    let node : ValueNode = record { ty = ty; origin = origin.Result (length (inserted_in f block).insts) 0 } in
+    let there : slice_get g.values (length f.values) ≡ Some node =
+    ap (λ (h : Body). slice_get h.values (length f.values)) function ∙ ap (slice_get made.values) (sym (inserted-values f block)) ∙ get-last (inserted_in f block).values node in
+    let value : value_at g (length f.values) ≡ node = get_or_from_slice_get g.values (length f.values) node no_value there in
+    let stays : resolved g (length f.values) ≡ length f.values = follow-stays (length g.values) g.values (length f.values) (ap (λ (n : ValueNode). alias_of_origin n.origin) value) in (
+      slice_get_within g.values (length f.values) node there,
+      ap (λ (v : ℕ). instruction_in (def_of g v (value_at g v).origin) (length f.values)) stays
+          ∙ ap (λ (n : ValueNode). instruction_in (def_of g (length f.values) n.origin) (length f.values)) value
+          ∙ ap answer.Inst (inserted-insts f block),
+    )
+
+-- what was appended with a value
+pub appended : (old new : FunctionBuilder) (form : InstructionData) (ty : «Type») (value : ℕ) → HasCurrent old
+    → IfSome old.position (λ block. AppendsValue old new block form ty value)
+    → (block : ℕ) × AppendsValue old new block form ty value
+appended old new form ty value current appends = (current.0, subst (λ (o : Option ℕ). IfSome o (λ block. AppendsValue old new block form ty value)) current.1 appends)
+
+-- a variable that may be used was declared
+pub declared-there : (b : FunctionBuilder) (types variables : List «Type») (variable : ℕ) → types ≡ variables → can_use b types variable ≡ true → variable < length variables
+declared-there b types variables variable same holds =
+    let parts = and_parts (is_open b) (is_some (slice_get types variable)) holds in
+    let entry = some-is (slice_get types variable) parts.1 in
+    subst (λ (xs : List «Type»). variable < length xs) same (slice_get_within types variable entry.0 entry.1)
+
+same-type-refl : (a : «Type») → same_type a a ≡ true
+same-type-refl type.Invalid = refl
+same-type-refl (type.Lane l) = eq-eqb (lane_number l) (lane_number l) refl
+same-type-refl (type.Vector l n) = and_from (same_lane l l) (lanes_of n == lanes_of n) (eq-eqb (lane_number l) (lane_number l) refl) (eq-eqb (lanes_of n) (lanes_of n) refl)
+
+-- a test that tells whether types are equal is that test
+pub same_from_iff : (r : Bool) (a b : «Type») → ((r ≡ true) ↔ (a ≡ b)) → r ≡ same_type a b
+same_from_iff true a b tells = sym (subst (λ (x : «Type»). same_type a x ≡ true) (tells.0 refl) (same-type-refl a))
+same_from_iff false a b tells = sym (false_from_ne_true (same_type a b) (λ same. false≢true (tells.1 (same-type a b same))))

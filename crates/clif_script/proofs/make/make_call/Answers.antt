@@ -1,0 +1,67 @@
+use Rattle.std.proofs.Common.{List, rules, arith, sym, subst}
+use Rattle.std.proofs.lemmas.Grind.{common_steps}
+use Rattle.std.specs.Prelude.{IfOk, map}
+use Rattle.clif_meaning.specs.Acceptance.{allows, return_}
+use Rattle.cranelift_frontend.specs.Ledger.{ledger_of}
+use Rattle.clif_script.specs.declared.call.Call.{Call}
+use Rattle.clif_script.specs.declared.call.Name.{Name}
+use Rattle.clif_script.specs.Requests.{name_of, request_of}
+use Rattle.clif_script.specs.Ready.{IsJudged, IsReadyAfter}
+use Rattle.clif_script.proofs.make.make_call.Goals as goal
+
+pub returns-in-CreateBlock-clause-judged : goal.returns-in-CreateBlock-clause-judged
+returns-in-CreateBlock-clause-judged c = λ calls given.
+    let done = c.create_block.ensures.judged calls given in
+    subst (λ (x : Call). IsJudged (allows (ledger_of calls) (request_of (ledger_of calls) x)) c.create_block.result) (sym c.in-CreateBlock.is) done
+
+pub returns-in-SwitchToBlock-clause-judged : goal.returns-in-SwitchToBlock-clause-judged
+returns-in-SwitchToBlock-clause-judged c = λ calls given.
+    let done = c.switch_to_block.ensures.judged calls given in
+    subst (λ (x : Call). IsJudged (allows (ledger_of calls) (request_of (ledger_of calls) x)) c.switch_to_block.result) (sym c.in-SwitchToBlock.is) done
+
+pub returns-in-SealBlock-clause-judged : goal.returns-in-SealBlock-clause-judged
+returns-in-SealBlock-clause-judged c = λ calls given.
+    let done = c.seal_block.ensures.judged calls given in
+    subst (λ (x : Call). IsJudged (allows (ledger_of calls) (request_of (ledger_of calls) x)) c.seal_block.result) (sym c.in-SealBlock.is) done
+
+pub returns-in-DeclareVar-clause-judged : goal.returns-in-DeclareVar-clause-judged
+returns-in-DeclareVar-clause-judged c = λ calls given.
+    let done = c.declare_var.ensures.judged calls given in
+    subst (λ (x : Call). IsJudged (allows (ledger_of calls) (request_of (ledger_of calls) x)) c.declare_var.result) (sym c.in-DeclareVar.is) done
+
+pub returns-in-DefVar-clause-judged : goal.returns-in-DefVar-clause-judged
+returns-in-DefVar-clause-judged c = λ calls given.
+    let done = c.def_var.ensures.judged calls given in
+    subst (λ (x : Call). IsJudged (allows (ledger_of calls) (request_of (ledger_of calls) x)) c.def_var.result) (sym c.in-DefVar.is) done
+
+pub returns-in-UseVar-clause-judged : goal.returns-in-UseVar-clause-judged
+returns-in-UseVar-clause-judged c = λ calls given.
+    let done = c.use_var.ensures.judged calls given in
+    subst (λ (x : Call). IsJudged (allows (ledger_of calls) (request_of (ledger_of calls) x)) c.use_var.result) (sym c.in-UseVar.is) done
+
+pub returns-in-Iconst-clause-judged : goal.returns-in-Iconst-clause-judged
+returns-in-Iconst-clause-judged c = λ calls given.
+    let done = c.iconst.ensures.judged calls given in
+    subst (λ (x : Call). IsJudged (allows (ledger_of calls) (request_of (ledger_of calls) x)) c.iconst.result) (sym c.in-Iconst.is) done
+
+pub returns-in-Iadd-clause-judged : goal.returns-in-Iadd-clause-judged
+returns-in-Iadd-clause-judged c = λ calls given.
+    let done = c.iadd.ensures.judged calls given in
+    subst (λ (x : Call). IsJudged (allows (ledger_of calls) (request_of (ledger_of calls) x)) c.iadd.result) (sym c.in-Iadd.is) done
+
+pub returns-in-Return-clause-judged : goal.returns-in-Return-clause-judged
+returns-in-Return-clause-judged c = λ calls given.
+    let done = c.return_.ensures.judged calls given in
+    let listed = subst (λ (names : List Name). IsJudged (allows (ledger_of calls) (return_ (map name_of names))) c.return_.result) c.as_slice.ensures.value done in
+    subst (λ (x : Call). IsJudged (allows (ledger_of calls) (request_of (ledger_of calls) x)) c.return_.result) (sym c.in-Return.is) listed
+
+pub returns-in-Iconst-clause-ready : goal.returns-in-Iconst-clause-ready
+returns-in-Iconst-clause-ready c = λ declared calls ready.
+    let done = c.iconst.ensures.ready declared calls ready in
+    let is = c.in-Iconst.is in
+    first_of (search rules, grind (arith, common_steps))
+
+pub returns-in-Iadd-clause-ready : goal.returns-in-Iadd-clause-ready
+returns-in-Iadd-clause-ready c = λ declared calls ready.
+    let done = c.iadd.ensures.ready declared calls ready in
+    subst (λ (x : Call). IfOk c.iadd.result (IsReadyAfter declared calls (request_of (ledger_of calls) x) c.iadd.new.builder c.args.answers.now)) (sym c.in-Iadd.is) done

@@ -1,0 +1,42 @@
+use Rattle.std.proofs.Common.{◌≡◌, List, [], ◌∷◌, ◌++◌, rules, arith, ap, sym, ◌∙◌, subst}
+use Rattle.std.proofs.lemmas.Grind.{common_steps}
+use Rattle.clif_meaning.specs.Request.{AnsweredCall}
+use Rattle.cranelift_frontend.specs.Ledger.{ledger_of}
+use Rattle.clif_script.specs.declared.script.Answer.{Answer}
+use Rattle.clif_script.specs.Ready.{IsReady}
+use Rattle.clif_script.specs.Requests.{request_of}
+use Rattle.std.specs.Prelude.{ℕ, Err, Result}
+use Rattle.clif_script.specs.declared.script.ReplayError.{ReplayError}
+use Rattle.clif_script.specs.declared.script.ReplayError.TheVariants.{Misuse}
+use Rattle.clif_script.proofs.Verdicts.{replayed-more, misuse-told}
+use Rattle.clif_script.proofs.script.make_calls.Goals as goal
+
+pub loop-place-preserved : goal.loop-place-preserved
+loop-place-preserved c =
+    let made = c.loop-place.invariant.made.0 in
+    let call = c.index-calls-place.result in
+    let ready = subst (λ (xs : List Answer). IsReady c.args.builder.now.func.now.signature made c.loop-place.builder xs) (sym c.as_slice.ensures.value) c.loop-place.invariant.made.1 in
+    let after = c.in-Ok.ensures.ready c.args.builder.now.func.now.signature made ready in
+    let more : AnsweredCall = record { request = request_of (ledger_of made) call; numbers = after.0 } in
+    let answers = ap (λ (xs : List Answer). xs ++ c.in-Ok.answer ∷ []) c.as_slice.ensures.value ∙ sym c.in_ok-push-in-Ok.ensures.items in
+    record {
+      made = (
+        made ++ more ∷ [],
+        subst (λ (xs : List Answer). IsReady c.args.builder.now.func.now.signature (made ++ more ∷ []) c.make_call.new.builder xs) answers after.1,
+        replayed-more c.args.calls.now c.loop-place.place call made after.0 c.loop-place-test.true c.index-calls-place.is c.loop-place.invariant.made.2 (c.in-Ok.ensures.judged made (c.args.builder.now.func.now.signature, ready)),
+      );
+      types = first_of (search rules, grind (arith, common_steps));
+      loans = first_of (search rules, grind (arith, common_steps));
+      sound = first_of (search rules, grind (arith, common_steps));
+    }
+
+pub returns-in-Err-clause-judged : goal.returns-in-Err-clause-judged
+returns-in-Err-clause-judged c = λ i told.
+    let made = c.loop-place.invariant.made.0 in
+    let declared = c.args.builder.now.func.now.signature in
+    let ready = subst (λ (xs : List Answer). IsReady declared made c.loop-place.builder xs) (sym c.as_slice.ensures.value) c.loop-place.invariant.made.1 in
+    misuse-told c.args.calls.now c.loop-place.place i c.index-calls-place.result made c.in-Err.error c.at.result c.loop-place-test.true c.index-calls-place.is c.loop-place.invariant.made.2
+    (c.in-Err.ensures.judged made (declared, ready)) c.at.ensures (same c.at.result i told)
+  where
+    same : (e : ReplayError) (k : ℕ) → ◌≡◌ {A = Result (Unit {0}) ReplayError} (Err e) (Err (Misuse k)) → e ≡ Misuse k
+    same e k h = cc

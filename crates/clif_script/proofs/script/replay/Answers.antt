@@ -1,0 +1,47 @@
+use Rattle.std.proofs.Common.{◌≡◌, ap, sym, ◌∙◌, subst, rules, arith}
+use Rattle.std.proofs.lemmas.Grind.{common_steps}
+use Rattle.clif_meaning.specs.View.{view_of}
+use Rattle.clif_meaning.specs.Headline.{MeansTheSame}
+use Rattle.clif_script.specs.Requests.{requests_of}
+use Rattle.clif_types.specs.Signature.{SignatureShape}
+use Rattle.clif_ir.specs.Body.{Body}
+use Rattle.cranelift_frontend.specs.declared.frontend.FunctionBuilder.{FunctionBuilder}
+use Rattle.cranelift_frontend.specs.StandsFor.{StandsFor, StandsIn}
+use Rattle.std.specs.Prelude.{Some}
+use Rattle.clif_script.proofs.Verdicts.{verdict-refused, all-replayed, means-replayed}
+use Rattle.clif_script.proofs.script.replay.Goals as goal
+
+pub returns-clause-verdict : goal.returns-clause-verdict
+returns-clause-verdict c = λ not_memory not_full.
+    let made = c.in_ok-made.ensures.ready in
+    let refusal = c.finalize-finished.ensures.ledger made.0 made.1.ledger c.in_ok-made.ensures.sound in
+    ap Some (sym (verdict-refused c.args.calls.now made.0 c.finalize-finished.result c.in-Err.field-0 made.2 refusal c.in-Err.is))
+
+pub returns-in-Ok-clause-same_meaning : goal.returns-in-Ok-clause-same_meaning
+returns-in-Ok-clause-same_meaning c =
+    let made = c.in_ok-made.ensures.ready in
+    let fresh : c.new-builder.result.func.now.signature ≡ c.args.signature =
+    ap (λ (b : FunctionBuilder). b.func.now.signature) c.new-builder.ensures.builder ∙ ap (λ (f : Body). f.signature) c.with_name_signature-func.ensures in
+    let stands = subst (λ (s : SignatureShape). StandsFor s made.0 c.make_calls-made.new.builder) fresh made.1 in
+    let done = means-replayed c.args.calls.now made.0 c.args.signature c.args.config.pointer_width c.finalize-finished.new.self.0 made.2 (c.in-Ok.ensures.same_meaning c.args.signature made.0 stands) in
+    -- `func-2-1` is the checker's own name of the function once the builder's loan has ended
+    let ended = c.func-2-1.given.1 (first_of (search rules, grind (arith, common_steps))) in
+    subst (λ (f : Body). MeansTheSame (requests_of c.args.calls.now) c.args.signature c.args.config.pointer_width (view_of f)) (sym ended) done
+
+pub returns-in-Ok-clause-built : goal.returns-in-Ok-clause-built
+returns-in-Ok-clause-built c =
+    let made = c.in_ok-made.ensures.ready in
+    let builder = c.make_calls-made.new.builder in
+    let fresh : c.new-builder.result.func.now.signature ≡ c.args.signature =
+    ap (λ (b : FunctionBuilder). b.func.now.signature) c.new-builder.ensures.builder ∙ ap (λ (f : Body). f.signature) c.with_name_signature-func.ensures in
+    let stands = subst (λ (s : SignatureShape). StandsFor s made.0 builder) fresh made.1 in
+    let left = subst (λ (f : Body). StandsIn c.args.signature made.0 f builder.ctx.now builder.position) (sym c.finalize-finished.ensures.function) stands in
+    -- `func-2-1` is the checker's own name of the function once the builder's loan has ended
+    let ended = c.func-2-1.given.1 (first_of (search rules, grind (arith, common_steps))) in
+    record {
+      made = made.0;
+      script = all-replayed c.args.calls.now made.0 made.2;
+      context = builder.ctx.now;
+      position = builder.position;
+      stands = subst (λ (f : Body). StandsIn c.args.signature made.0 f builder.ctx.now builder.position) (sym ended) left;
+    }

@@ -1,0 +1,62 @@
+-- What a list of calls is as a script, and what comes of it as a verdict on that script. Own.
+use Rattle.std.specs.Prelude.{◌≡◌, ℕ, List, [], ◌∷◌, ◌++◌, map, take, drop, Option, Some, None, Result, Ok, Err}
+use Rattle.clif_ir.specs.Body.{Body}
+use Rattle.clif_meaning.specs.Name.{Name}
+use Rattle.clif_meaning.specs.Request.{Request, CreateBlock, SwitchToBlock, SealBlock, DeclareVar, DefVar, UseVar, Finalize, Script, AnsweredCall, script_of}
+use Rattle.clif_meaning.specs.Ledger.{Ledger, empty_ledger, ledger_after, ledger_with}
+use Rattle.clif_meaning.specs.Acceptance.{Verdict, Accepted, Misuse, Refused, iconst, iadd, return_, verdict_from, verdict_on}
+use Rattle.clif_types.specs.Signature.{SignatureShape}
+use Rattle.cranelift_frontend.specs.Context.{ContextState}
+use Rattle.cranelift_frontend.specs.StandsFor.{StandsIn}
+use Rattle.clif_script.specs.declared.call.Name as named
+use Rattle.clif_script.specs.declared.call.Call.{Call}
+use Rattle.clif_script.specs.declared.call.Call.TheVariants as call
+use Rattle.clif_script.specs.declared.script.ReplayError.{ReplayError}
+use Rattle.clif_script.specs.declared.script.ReplayError.TheVariants as replay
+
+-- an answer's name: the place of the call, and the number among its answers
+abbrev pub name_of : named.Name → Name
+name_of name = record { place = name.place; index = name.answer }
+
+-- the request of a call. `iadd` is made at the type of its first operand, which the ledger tells.
+abbrev pub request_of : Ledger → Call → Request
+request_of ledger call.CreateBlock = CreateBlock
+request_of ledger (call.SwitchToBlock block) = SwitchToBlock (name_of block)
+request_of ledger (call.SealBlock block) = SealBlock (name_of block)
+request_of ledger (call.DeclareVar ty) = DeclareVar ty
+request_of ledger (call.DefVar variable value) = DefVar variable (name_of value)
+request_of ledger (call.UseVar variable) = UseVar variable
+request_of ledger (call.Iconst ty imm) = iconst ty imm
+request_of ledger (call.Iadd x y) = iadd ledger (name_of x) (name_of y)
+request_of ledger (call.Return values) = return_ (map name_of values.items)
+
+-- the requests of calls, each at the ledger of the ones before it
+abbrev pub requests_from : Ledger → List Call → Script
+requests_from ledger [] = []
+requests_from ledger (call ∷ calls) = request_of ledger call ∷ requests_from (ledger_with ledger (request_of ledger call)) calls
+
+abbrev pub requests_of : List Call → Script
+requests_of calls = requests_from empty_ledger calls
+
+-- the first calls of a list were made, as many as `place` says, and the verdict on the list is that on the rest
+pub record IsReplayed (calls : List Call) (place : ℕ) (made : List AnsweredCall) : Type 0 where
+  pub script : script_of made ≡ requests_of (take place calls)
+  pub rest : verdict_on (requests_of calls)
+      ≡ verdict_from place (ledger_after (script_of made)) (requests_from (ledger_after (script_of made)) (drop place calls) ++ Finalize ∷ [])
+
+-- the verdict that a replay's answer tells; refused memory and a full table tell none
+abbrev pub verdict_of : Result Body ReplayError → Option Verdict
+verdict_of (Ok function) = Some Accepted
+verdict_of (Err (replay.Misuse place)) = Some (Misuse place)
+verdict_of (Err (replay.Refused place)) = Some (Refused place)
+verdict_of (Err replay.Memory) = None
+verdict_of (Err replay.Full) = None
+
+-- The function was built by these calls, and by no others: a builder of it, with this context and current block, stands
+-- for them, on a function of the caller's signature.
+pub record IsBuiltBy (calls : List Call) (declared : SignatureShape) (f : Body) : Type 0 where
+  pub made : List AnsweredCall
+  pub script : script_of made ≡ requests_of calls
+  pub context : ContextState
+  pub position : Option ℕ
+  pub stands : StandsIn declared made f context position

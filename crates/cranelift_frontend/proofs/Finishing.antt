@@ -1,0 +1,134 @@
+-- Where `finalize` succeeds, no parameter waits and the entry is sealed, so the finished function means what the list
+-- of calls means.
+use Rattle.std.proofs.Common.{◌≡◌, ◌≢◌, ℕ, zero, suc, ◌+◌, ◌<◌, ◌≤◌, List, [], ◌∷◌, length, refl, sym, ◌∙◌, ap, subst, arith, ◌⊎◌, inl, inr}
+use Rattle.std.specs.Prelude.{slice_get, Option, Some, None, Bool, true, false, if◌then◌else◌, ◌==◌, OnOk, Err, Contains}
+use Rattle.std.proofs.lemmas.Option.{same_Some}
+use Rattle.std.proofs.lemmas.Grind.{common_steps}
+use Rattle.clif_types.specs.Signature.{SignatureShape}
+use Rattle.clif_types.specs.declared.target.PointerWidth.{PointerWidth}
+use Rattle.clif_ir.specs.Body.{Body}
+use Rattle.clif_ir.specs.Consistent.{IsConsistent}
+use Rattle.clif_ir.specs.Reading.{stands_in}
+use Rattle.clif_ssa.specs.declared.tables.Pending.{Pending}
+use Rattle.clif_ssa.specs.declared.tables.Sealed.{Sealed}
+use Rattle.clif_ssa.specs.declared.tables.Sealed.TheVariants.{No, Yes}
+use Rattle.clif_ssa.specs.Tables.{is_yes, pending_of}
+use Rattle.clif_ssa.specs.Ssa.{sealed_of}
+use Rattle.clif_meaning.specs.Request.{AnsweredCall, script_of}
+use Rattle.clif_meaning.specs.View.{view_of}
+use Rattle.clif_meaning.specs.Headline.{MeansTheSame}
+use Rattle.clif_simulation.specs.Laws.{IsFinished}
+use Rattle.clif_simulation.proofs.Assembly.{means_the_same}
+use Rattle.cranelift_frontend.specs.declared.error.FinalizeError.{FinalizeError}
+use Rattle.cranelift_frontend.specs.declared.error.FinalizeError.TheVariants.{Unsealed, Unfilled, Failed}
+use Rattle.cranelift_frontend.specs.declared.context.BlockStatus.{BlockStatus}
+use Rattle.cranelift_frontend.specs.declared.context.BlockStatus.TheVariants.{Empty, Partial, Filled}
+use Rattle.cranelift_frontend.specs.declared.frontend.FunctionBuilder.{FunctionBuilder}
+use Rattle.cranelift_frontend.specs.Context.{ContextState, status_of}
+use Rattle.cranelift_frontend.specs.Builder.{answer_of, block_fault, first_fault, or_else, verdict_of, is_empty_status, is_filled_status}
+use Rattle.cranelift_frontend.specs.StandsFor.{StandsIn, StandsFor}
+
+-- no block is at fault, where none is the first
+no_fault : (c : ContextState) (count from k : ℕ) → first_fault c from count ≡ None → from ≤ k → k < from + count → block_fault c k ≡ None
+unfolding first_fault
+no_fault c zero from k none above below = absurd (omega arith)
+no_fault c (suc count) from k none above below =
+    by (block_fault c from) refl none (order from k above) (λ rest later. no_fault c count (from + 1) k rest later (omega arith))
+  where
+    order : (a b : ℕ) → a ≤ b → (a ≡ b) ⊎ (a + 1 ≤ b)
+    order a b h = grind arith
+
+    by : (o : Option FinalizeError) → block_fault c from ≡ o → or_else o (first_fault c (from + 1) count) ≡ None → (from ≡ k) ⊎ (from + 1 ≤ k)
+        → (first_fault c (from + 1) count ≡ None → from + 1 ≤ k → block_fault c k ≡ None) → block_fault c k ≡ None
+    by (Some fault) is first o next = absurd (some fault first)
+      where
+        some : (e : FinalizeError) → Some e ≡ None → ⊥
+        some e h = cc
+    by None is first (inl here) next = ap (block_fault c) (sym here) ∙ is
+    by None is first (inr later) next = next first later
+
+-- a block at no fault is empty or sealed
+sealed_unless_empty : (s : BlockStatus) (t : Bool) (k : ℕ)
+    → (if is_empty_status s then None else if t then (if is_filled_status s then None else Some (Unfilled k)) else Some (Unsealed k)) ≡ None → (s ≡ Empty) ⊎ (t ≡ true)
+sealed_unless_empty Empty t k none = inl refl
+sealed_unless_empty Partial true k none = inr refl
+sealed_unless_empty Partial false k none = absurd (unsealed k none)
+  where
+    unsealed : (k : ℕ) → Some (Unsealed k) ≡ None → ⊥
+    unsealed k h = cc
+sealed_unless_empty Filled true k none = inr refl
+sealed_unless_empty Filled false k none = absurd (unsealed k none)
+  where
+    unsealed : (k : ℕ) → Some (Unsealed k) ≡ None → ⊥
+    unsealed k h = cc
+
+-- in a sealed block no parameter waits
+none_in_sealed : (s : Sealed) → is_yes s ≡ true → pending_of s ≡ []
+none_in_sealed Yes is = refl
+none_in_sealed (No pending) is = absurd (apart is)
+  where
+    apart : false ≡ true → ⊥
+    apart h = cc
+
+-- the entry stands in the layout
+entry_stands : (layout : List ℕ) (e : ℕ) → slice_get layout 0 ≡ Some e → stands_in e layout ≡ true
+entry_stands [] e is = absurd (none e is)
+  where
+    none : (x : ℕ) → None ≡ Some x → ⊥
+    none x h = cc
+entry_stands (b ∷ layout) e is = rw (equal b e (same_Some b e is)) refl
+  where
+    equal : (x y : ℕ) → x ≡ y → (x == y) ≡ true
+    equal x y h = grind (arith, common_steps)
+
+module _ (declared : SignatureShape) (calls : List AnsweredCall) (f : Body) (c : ContextState) (p : Option ℕ) (stands : StandsIn declared calls f c p)
+    (none : first_fault c 0 (length f.blocks) ≡ None) where
+  -- a block in which something was made is sealed
+  begun_sealed : (b : ℕ) → status_of c b ≢ Empty → is_yes (sealed_of c.ssa b) ≡ true
+  begun_sealed b made = by (order (length f.blocks) b)
+    where
+      order : (n k : ℕ) → (n ≤ k) ⊎ (k < n)
+      order n k = grind arith
+
+      or_empty : (status_of c b ≡ Empty) ⊎ (is_yes (sealed_of c.ssa b) ≡ true) → is_yes (sealed_of c.ssa b) ≡ true
+      or_empty (inl empty) = absurd (made empty)
+      or_empty (inr sealed) = sealed
+
+      by : (length f.blocks ≤ b) ⊎ (b < length f.blocks) → is_yes (sealed_of c.ssa b) ≡ true
+      by (inl past) = absurd (made (stands.ledger.fresh b past).1)
+      by (inr there) = or_empty (sealed_unless_empty (status_of c b) (is_yes (sealed_of c.ssa b)) b (no_fault c (length f.blocks) 0 b none (omega arith) (omega (arith, there))))
+
+  none_waits : (b : ℕ) → pending_of (sealed_of c.ssa b) ≡ []
+  none_waits b = by (pending_of (sealed_of c.ssa b)) refl
+    where
+      by : (ps : List Pending) → pending_of (sealed_of c.ssa b) ≡ ps → pending_of (sealed_of c.ssa b) ≡ []
+      by [] is = is
+      by (q ∷ ps) is =
+          let first : Contains (q ∷ ps) q = (0, omega arith, refl) in
+          let here : Contains (pending_of (sealed_of c.ssa b)) q = subst (λ (qs : List Pending). Contains qs q) (sym is) first in
+          let waits = stands.carries.describes.waiting b q here in
+          none_in_sealed (sealed_of c.ssa b) (begun_sealed b (stands.ledger.parameters q.param b waits.parameter).begun)
+
+  is_finished : IsFinished f c.ssa
+  is_finished = record {
+    none_waits = none_waits;
+    entry_sealed = λ entry is. begun_sealed entry (stands.begun entry (entry_stands f.layout entry is));
+  }
+
+  pub means : (width : PointerWidth) → IsConsistent f → MeansTheSame (script_of calls) declared width (view_of f)
+  means width consistent =
+      subst (λ (s : SignatureShape). MeansTheSame (script_of calls) s width (view_of f)) stands.signature
+      (λ world. means_the_same calls f c.ssa width consistent stands.carries is_finished world)
+
+-- what `finalize` answers where it succeeds
+pub finished_means : (declared : SignatureShape) (calls : List AnsweredCall) (b : FunctionBuilder) (width : PointerWidth) → StandsFor declared calls b → IsConsistent b.func.now
+    → OnOk (verdict_of b.failed b.ctx.now (length b.func.now.blocks)) (MeansTheSame (script_of calls) declared width (view_of b.func.now))
+finished_means declared calls b width stands consistent = by b.failed
+  where
+    of_fault : (o : Option FinalizeError) → first_fault b.ctx.now 0 (length b.func.now.blocks) ≡ o → OnOk (answer_of o) (MeansTheSame (script_of calls) declared width (view_of b.func.now))
+    of_fault (Some fault) is = tt
+    of_fault None is = means declared calls b.func.now b.ctx.now b.position stands is width consistent
+
+    by : (failed : Bool) → OnOk (if failed then Err Failed else answer_of (first_fault b.ctx.now 0 (length b.func.now.blocks))) (MeansTheSame (script_of calls) declared width (view_of b.func.now))
+    by true = tt
+    by false = of_fault (first_fault b.ctx.now 0 (length b.func.now.blocks)) refl

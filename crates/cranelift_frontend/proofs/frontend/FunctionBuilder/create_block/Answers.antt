@@ -1,0 +1,13 @@
+use Rattle.cranelift_frontend.proofs.LedgerBlocks.{created}
+use Rattle.cranelift_frontend.proofs.StandingResults.{created_stands}
+use Rattle.cranelift_frontend.proofs.frontend.FunctionBuilder.create_block.Goals as goal
+
+pub returns-clause-ledger : goal.returns-clause-ledger
+returns-clause-ledger c = λ calls agrees.
+    let made = c.make_block-made.ensures in
+    created calls _ _ _ _ _ _ agrees made.function made.number made.records made.sealed made.status made.variables
+
+pub returns-clause-stands : goal.returns-clause-stands
+returns-clause-stands c = λ signature calls stands.
+    let made = c.make_block-made.ensures in
+    created_stands signature calls _ _ _ _ _ _ stands made.function made.records made.sealed made.status (returns-clause-ledger c calls stands.ledger)

@@ -1,0 +1,14 @@
+use Rattle.cranelift_frontend.proofs.LedgerVariables.{assigned}
+use Rattle.cranelift_frontend.proofs.StandingResults.{assigned_stands}
+use Rattle.cranelift_frontend.proofs.frontend.FunctionBuilder.def_var.Goals as goal
+
+pub returns-clause-ledger : goal.returns-clause-ledger
+returns-clause-ledger c = λ calls name agrees names.
+    let done = c.def_var-recorded.ensures in
+    assigned calls _ _ _ _ c.args.variable name c.in-Some.block c.args.value _ agrees c.requires.value_exists c.requires.same_type done.ok done.blocks done.status done.variables
+
+pub returns-clause-stands : goal.returns-clause-stands
+returns-clause-stands c = λ signature calls name stands names.
+    let done = c.def_var-recorded.ensures in
+    assigned_stands signature calls _ _ _ _ c.args.variable c.args.value c.in-Some.block name _ stands c.in-Some.is names done.ok done.blocks done.status
+    (returns-clause-ledger c calls name stands.ledger names)

@@ -1,0 +1,29 @@
+use Rattle.cranelift_frontend.proofs.LedgerBlocks.{sealed}
+use Rattle.cranelift_frontend.proofs.frontend.FunctionBuilder.seal_block.Goals as goal
+use Rattle.clif_ssa.specs.Tables.{pending_of}
+use Rattle.clif_ssa.specs.Ssa.{sealed_of}
+use Rattle.cranelift_frontend.proofs.StandingResults.{sealed_stands}
+use Rattle.cranelift_frontend.proofs.Growing.{seal_current, seal_grows, recorded_on}
+
+pub returns-clause-ledger : goal.returns-clause-ledger
+returns-clause-ledger c = λ calls name agrees names.
+    let done = c.seal_block-sealed.ensures in
+    sealed calls _ _ _ _ _ name c.args.block _ agrees names done.function done.sealed done.records done.status done.variables
+
+pub returns-clause-grows : goal.returns-clause-grows
+returns-clause-grows c =
+    seal_grows c.seal_block-sealed.result c.args.self.now.func.now c.seal_block-sealed.new.func (pending_of (sealed_of c.args.self.now.ctx.now.ssa c.args.block)) c.seal_block-sealed.ensures.function
+
+pub returns-clause-recorded : goal.returns-clause-recorded
+returns-clause-recorded c = recorded_on c.seal_block-sealed.result _ _ _ _ (returns-clause-grows c) c.seal_block-sealed.ensures.records
+
+pub returns-clause-current : goal.returns-clause-current
+returns-clause-current c =
+    seal_current c.seal_block-sealed.result c.args.self.now.position c.args.self.now.func.now c.seal_block-sealed.new.func c.args.self.now.ctx.now c.seal_block-sealed.new.self _
+    (returns-clause-grows c) c.seal_block-sealed.ensures.status
+
+pub returns-clause-stands : goal.returns-clause-stands
+returns-clause-stands c = λ signature calls name stands names.
+    let done = c.seal_block-sealed.ensures in
+    sealed_stands signature calls _ _ _ _ _ name c.args.block _ stands c.law_consistent.ensures done.function done.records done.sealed done.status
+    (returns-clause-ledger c calls name stands.ledger names)

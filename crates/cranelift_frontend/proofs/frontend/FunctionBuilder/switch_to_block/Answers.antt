@@ -1,0 +1,10 @@
+use Rattle.cranelift_frontend.proofs.LedgerBlocks.{switched}
+use Rattle.cranelift_frontend.proofs.Standing.{stands_switched}
+use Rattle.cranelift_frontend.proofs.frontend.FunctionBuilder.switch_to_block.Goals as goal
+
+pub returns-clause-ledger : goal.returns-clause-ledger
+returns-clause-ledger c = λ calls name agrees names. switched calls _ _ _ name c.args.block agrees names
+
+pub returns-clause-stands : goal.returns-clause-stands
+returns-clause-stands c = λ signature calls name stands names.
+    stands_switched signature calls _ _ _ stands _ name (returns-clause-ledger c calls name stands.ledger names)

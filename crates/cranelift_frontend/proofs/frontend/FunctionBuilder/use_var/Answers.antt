@@ -1,0 +1,19 @@
+use Rattle.std.proofs.Common.{sym, ◌∙◌}
+use Rattle.cranelift_frontend.proofs.LedgerUsed.{used}
+use Rattle.cranelift_frontend.proofs.frontend.FunctionBuilder.use_var.Goals as goal
+use Rattle.cranelift_frontend.proofs.Standing.{current_exists}
+use Rattle.cranelift_frontend.proofs.StandingResults.{used_stands}
+use Rattle.cranelift_frontend.proofs.Growing.{use_recorded}
+
+pub returns-clause-ledger : goal.returns-clause-ledger
+returns-clause-ledger c = λ calls agrees.
+    used calls _ _ _ _ _ c.args.variable c.in-Some-var_type.ty c.in-Some.block _ agrees c.in-Some.is (sym c.var_type.ensures ∙ c.in-Some-var_type.is)
+    c.use_variable-used.ensures.uses c.use_variable-used.ensures.status c.use_variable-used.ensures.variables
+
+pub returns-clause-recorded : goal.returns-clause-recorded
+returns-clause-recorded c = use_recorded c.use_variable-used.result _ _ _ _ _ _ _ c.use_variable-used.ensures.uses
+
+pub returns-clause-stands : goal.returns-clause-stands
+returns-clause-stands c = λ signature calls stands.
+    used_stands signature calls _ _ _ _ _ c.args.variable c.in-Some-var_type.ty c.in-Some.block _ stands c.law_consistent.ensures c.in-Some.is (current_exists c.args.self.now c.requires.current c.in-Some.block c.in-Some.is)
+    c.use_variable-used.ensures.uses c.use_variable-used.ensures.status (returns-clause-ledger c calls stands.ledger)

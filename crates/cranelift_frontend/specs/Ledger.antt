@@ -1,0 +1,114 @@
+-- How a builder agrees with the ledger of the calls that were made on it: what the ledger tells of answers, blocks,
+-- layout and variables is what the builder answered and its queries answer. Own.
+use Rattle.std.specs.Prelude.{◌≡◌, ◌≢◌, ℕ, ◌≤◌, List, [], ◌∷◌, length, map, slice_get, Option, Some, None, option_map, false, true, IsTrue, Result, Ok, Err}
+use Rattle.clif_types.specs.declared.types.«Type».{«Type»}
+use Rattle.clif_ir.specs.declared.function.ValueNode.{ValueNode}
+use Rattle.clif_ir.specs.declared.function.InstNode.{InstNode}
+use Rattle.clif_ir.specs.Body.{Body}
+use Rattle.clif_ir.specs.Reading.{param_home, stands_in}
+use Rattle.clif_meaning.specs.Name.{Name, answer_of}
+use Rattle.clif_meaning.specs.Request.{AnsweredCall, script_of, number_of}
+use Rattle.clif_meaning.specs.Ledger.{Answered, ABlock, AVariable, AValue, AnInstruction, BlockState, Ledger, ledger_after, answer_at, has_block, has_value}
+use Rattle.clif_meaning.specs.Acceptance.{Refusal}
+use Rattle.clif_meaning.specs.Acceptance as refusal
+use Rattle.clif_ssa.specs.Tables.{is_yes}
+use Rattle.clif_ssa.specs.Ssa.{record_of, sealed_of}
+use Rattle.cranelift_frontend.specs.declared.context.BlockStatus.TheVariants.{Empty}
+use Rattle.cranelift_frontend.specs.declared.error.FinalizeError.{FinalizeError}
+use Rattle.cranelift_frontend.specs.declared.error.FinalizeError.TheVariants as error
+use Rattle.cranelift_frontend.specs.declared.frontend.FunctionBuilder.{FunctionBuilder}
+use Rattle.cranelift_frontend.specs.Context.{ContextState, status_of}
+use Rattle.cranelift_frontend.specs.Builder.{is_empty_status, is_filled_status}
+
+-- the ledger of answered calls
+abbrev pub ledger_of : List AnsweredCall → Ledger
+ledger_of calls = ledger_after (script_of calls)
+
+-- the name of the block with this number: blocks are numbered as they were created
+abbrev pub block_name : Ledger → ℕ → Option Name
+block_name ledger k = option_map (λ (state : BlockState). state.block) (slice_get ledger.blocks k)
+
+-- the type of the value with this number, if it exists
+abbrev pub value_type : Body → ℕ → Option «Type»
+value_type f v = option_map (λ (node : ValueNode). node.ty) (slice_get f.values v)
+
+-- a name of the block with this number
+pub record NamesBlock (calls : List AnsweredCall) (name : Name) (block : ℕ) : Type 0 where
+  pub number : number_of calls name ≡ Some block
+  pub is_block : IsTrue (has_block (ledger_of calls) name)
+
+-- a name of the value with this number
+pub record NamesValue (calls : List AnsweredCall) (name : Name) (value : ℕ) : Type 0 where
+  pub number : number_of calls name ≡ Some value
+  pub is_value : IsTrue (has_value (ledger_of calls) name)
+
+-- a block of the ledger is the builder's block with number `k`, and is sealed, pristine and filled exactly where
+-- that one is; so far no block has a caller's parameter or a predecessor
+pub record BlockAgrees (calls : List AnsweredCall) (c : ContextState) (k : ℕ) (state : BlockState) : Type 0 where
+  pub number : number_of calls state.block ≡ Some k
+  pub is_sealed : state.is_sealed ≡ is_yes (sealed_of c.ssa k)
+  pub is_pristine : state.is_pristine ≡ is_empty_status (status_of c k)
+  pub is_filled : state.is_filled ≡ is_filled_status (status_of c k)
+  pub parameters : state.parameters ≡ []
+  pub predecessors : state.predecessors ≡ []
+
+-- an answer of the ledger with this name is the builder's answer with this number: the block that the ledger has
+-- under the name, the variable, an existing value of the type, an existing instruction
+abbrev pub AnswerAgrees : Ledger → Body → Name → Answered → ℕ → Type 0
+AnswerAgrees ledger f name ABlock number = block_name ledger number ≡ Some name
+AnswerAgrees ledger f name (AVariable variable) number = number ≡ variable
+AnswerAgrees ledger f name (AValue ty) number = value_type f number ≡ Some ty
+AnswerAgrees ledger f name AnInstruction number = (node : InstNode) × (slice_get f.insts number ≡ Some node)
+
+-- what follows the number of an instruction are its results, all of them and in order
+abbrev pub ResultsFollow : Body → List Answered → List ℕ → Type 0
+ResultsFollow f (AnInstruction ∷ answers) (inst ∷ numbers) =
+    (node : InstNode) × (slice_get f.insts inst ≡ Some node) × (numbers ≡ node.results)
+ResultsFollow f _ _ = Unit {0}
+
+-- the answers of the ledger to the call at this place are the builder's, with these numbers
+pub record AnswersAgree (ledger : Ledger) (f : Body) (place : ℕ) (answers : List Answered) (numbers : List ℕ) : Type 0 where
+  pub count : length numbers ≡ length answers
+  pub each : (index : ℕ) (answer : Answered) (number : ℕ) → slice_get answers index ≡ Some answer → slice_get numbers index ≡ Some number
+      → AnswerAgrees ledger f (answer_of place index) answer number
+  pub results : ResultsFollow f answers numbers
+
+-- something was made in a block: it is in the layout, and no longer empty
+pub record IsBegun (f : Body) (c : ContextState) (block : ℕ) : Type 0 where
+  pub inserted : stands_in block f.layout ≡ true
+  pub begun : status_of c block ≢ Empty
+
+-- a ledger of calls agrees with the parts of a builder: its function, its context and its current block
+pub record LedgerAgrees (calls : List AnsweredCall) (ledger : Ledger) (f : Body) (c : ContextState) (position : Option ℕ) : Type 0 where
+  -- each call is in the ledger, with its answers
+  pub places : length ledger.answers ≡ length calls
+  pub answers : (place : ℕ) (call : AnsweredCall) (answers : List Answered) → slice_get calls place ≡ Some call → slice_get ledger.answers place ≡ Some answers
+      → AnswersAgree ledger f place answers call.numbers
+  -- each block is in the ledger, in its place
+  pub block_count : length ledger.blocks ≡ length f.blocks
+  pub blocks : (k : ℕ) (state : BlockState) → slice_get ledger.blocks k ≡ Some state → BlockAgrees calls c k state
+  pub block_answers : (k : ℕ) (name : Name) → block_name ledger k ≡ Some name → answer_at ledger name ≡ Some ABlock
+  -- the current block, and the blocks of the layout in their order: one has the name, the other the number
+  pub current : option_map Some ledger.current ≡ option_map (block_name ledger) position
+  pub layout : map Some ledger.layout ≡ map (block_name ledger) f.layout
+  -- the types of the variables, in order
+  pub variables : map (λ variable. variable.ty) ledger.variables ≡ c.variables
+  -- a record is an existing value of the variable's type
+  pub recorded : (variable block value : ℕ) → record_of c.ssa variable block ≡ Some value
+      → (ty : «Type») × (slice_get c.variables variable ≡ Some ty) × (value_type f value ≡ Some ty)
+  -- a parameter of a block was made in it
+  pub parameters : (value block : ℕ) → param_home f value ≡ Some block → IsBegun f c block
+  -- a block that doesn't exist yet is neither sealed nor begun
+  pub fresh : (k : ℕ) → length f.blocks ≤ k → (is_yes (sealed_of c.ssa k) ≡ false) × (status_of c k ≡ Empty)
+
+-- the ledger of the calls that were made on a builder agrees with it
+abbrev pub AgreesWithLedger : List AnsweredCall → FunctionBuilder → Type 0
+AgreesWithLedger calls b = LedgerAgrees calls (ledger_of calls) b.func.now b.ctx.now b.position
+
+-- what `finalize` answers is the refusal of the ledger, with the number of the block
+abbrev pub RefusalAgrees : List AnsweredCall → Option Refusal → Result (Unit {0}) FinalizeError → Type 0
+RefusalAgrees calls None result = result ≡ Ok tt
+RefusalAgrees calls (Some (refusal.Unsealed name)) result =
+    (block : ℕ) × (number_of calls name ≡ Some block) × (result ≡ Err (error.Unsealed block))
+RefusalAgrees calls (Some (refusal.Unfilled name)) result =
+    (block : ℕ) × (number_of calls name ≡ Some block) × (result ≡ Err (error.Unfilled block))

@@ -1,0 +1,28 @@
+-- When a builder stands for a list of calls with their answers. From it follows that the finished function means what
+-- the list's program means. Own.
+use Rattle.std.specs.Prelude.{◌≡◌, ◌≢◌, ℕ, List, Option, true}
+use Rattle.clif_types.specs.Signature.{SignatureShape}
+use Rattle.clif_ir.specs.Body.{Body}
+use Rattle.clif_ir.specs.Reading.{stands_in}
+use Rattle.clif_meaning.specs.Request.{AnsweredCall}
+use Rattle.clif_simulation.specs.Carries.{Carries}
+use Rattle.cranelift_frontend.specs.declared.context.BlockStatus.TheVariants.{Empty}
+use Rattle.cranelift_frontend.specs.declared.frontend.FunctionBuilder.{FunctionBuilder}
+use Rattle.cranelift_frontend.specs.Context.{ContextState, status_of}
+use Rattle.cranelift_frontend.specs.Ledger.{LedgerAgrees, ledger_of}
+
+-- the parts of a builder stand for a list of calls on a function of the caller's signature
+pub record StandsIn (declared : SignatureShape) (calls : List AnsweredCall) (f : Body) (c : ContextState) (position : Option ℕ) : Type 0 where
+  -- the function has the signature that the caller gave it
+  pub signature : f.signature ≡ declared
+  -- the ledger of the calls agrees with what the queries answer
+  pub ledger : LedgerAgrees calls (ledger_of calls) f c position
+  -- each block's instructions are the program's, in order, operands being the answers of the names, with only zeros
+  -- before them; and the state on paths is sound
+  pub carries : Carries calls f c.ssa
+  -- in each block of the layout something was made
+  pub begun : (block : ℕ) → stands_in block f.layout ≡ true → status_of c block ≢ Empty
+
+-- the builder stands for the list of calls
+abbrev pub StandsFor : SignatureShape → List AnsweredCall → FunctionBuilder → Type 0
+StandsFor declared calls b = StandsIn declared calls b.func.now b.ctx.now b.position
