@@ -1,12 +1,16 @@
 -- What the changes of a function have in common in keeping it consistent.
 use Rattle.std.proofs.Common.{◌≡◌, ℕ, zero, suc, ◌+◌, ◌<◌, ◌≤◌, List, [], ◌∷◌, ◌++◌, length, refl, ap, arith, sym, ◌∙◌, subst, inl, inr}
-use Rattle.std.specs.Prelude.{slice_index, Option, Some, None, unwrap_or}
+use Rattle.std.specs.Prelude.{slice_index, Option, Some, None, unwrap_or, All}
+use Rattle.std.proofs.lemmas.List.Elements.{All-weaker}
+use Rattle.clif_ir.specs.declared.block_call.BlockArg.{BlockArg}
+use Rattle.clif_ir.specs.declared.block_call.BlockArg.TheVariants as arg
+use Rattle.clif_ir.specs.declared.block_call.BlockCall.{BlockCall}
 use Rattle.std.proofs.Math.ListN.{get_or-append}
 use Rattle.std.proofs.lemmas.Grind.{common_steps}
 use Rattle.clif_ir.specs.declared.function.ValueOrigin.{ValueOrigin}
 use Rattle.clif_ir.specs.declared.function.ValueOrigin.TheVariants.{Result, Param, Alias}
 use Rattle.clif_ir.specs.Body.{Body, value_at, inst_at, block_at, alias_of_origin}
-use Rattle.clif_ir.specs.Consistent.{IsConsistent, IsOrigin, Stands, Once}
+use Rattle.clif_ir.specs.Consistent.{IsConsistent, IsOrigin, Stands, Once, PassedExists, EdgeExists}
 use Rattle.clif_ir.proofs.Aliases.{LeadsInside}
 use Rattle.clif_ir.proofs.Lists.{below_or_not}
 
@@ -26,6 +30,21 @@ larger_origin f g v (Result i k) insts blocks values here =
     (there.0, subst (λ xs. k < length xs) (sym there.1) here.1, subst (λ xs. slice_index xs k ≡ v) (sym there.1) here.2)
 larger_origin f g v (Param b) insts blocks values here = ((blocks b here.0).0, (blocks b here.0).1 here.1)
 larger_origin f g v (Alias original) insts blocks values here = omega (arith, here, values)
+
+-- what an edge names goes on existing where the function grows round it
+larger_passed : (f g : Body) → length f.values ≤ length g.values → (a : BlockArg) → PassedExists f a → PassedExists g a
+larger_passed f g values (arg.Value v) here = omega (arith, values, here)
+larger_passed f g values (arg.TryCallRet k) here = tt
+larger_passed f g values (arg.TryCallExn k) here = tt
+
+pub larger_edge : (f g : Body) → length f.blocks ≤ length g.blocks → length f.values ≤ length g.values
+    → (edge : BlockCall) → EdgeExists f edge → EdgeExists g edge
+larger_edge f g blocks values edge here =
+    (omega (arith, blocks, here.0), All-weaker (PassedExists f) (PassedExists g) (larger_passed f g values) edge.args here.1)
+
+pub larger_edges : (f g : Body) → length f.blocks ≤ length g.blocks → length f.values ≤ length g.values
+    → (edges : List BlockCall) → All (EdgeExists f) edges → All (EdgeExists g) edges
+larger_edges f g blocks values edges here = All-weaker (EdgeExists f) (EdgeExists g) (larger_edge f g blocks values) edges here
 
 -- what stands in a list stands in one with more at its end
 pub Stands-append : (x : ℕ) (xs ys : List ℕ) → Stands x xs → Stands x (xs ++ ys)

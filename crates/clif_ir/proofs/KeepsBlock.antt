@@ -7,7 +7,7 @@ use Rattle.clif_ir.specs.Body.{Body, value_at, inst_at, block_at, empty_block}
 use Rattle.clif_ir.specs.Changes.{with_block}
 use Rattle.clif_ir.specs.Consistent.{IsConsistent, Stands, Once}
 use Rattle.clif_ir.proofs.Lists.{at_push}
-use Rattle.clif_ir.proofs.Keeps.{larger_origin}
+use Rattle.clif_ir.proofs.Keeps.{larger_edges, larger_origin}
 use Rattle.clif_ir.specs.declared.function.BlockNode.{BlockNode}
 use Rattle.clif_ir.specs.declared.function.ValueOrigin.TheVariants.{Param}
 
@@ -25,6 +25,7 @@ with_block_consistent f known room =
           (λ b here. (omega (arith, here, count), λ stands. subst (λ (n : BlockNode). Stands v n.params) (sym (old b here)) stands))
           (omega arith) (known.origins v inside);
       operands_exist = known.operands_exist;
+      edges_exist = λ i. larger_edges f g (omega (arith, count)) (omega arith) _ (known.edges_exist i);
       results_known = known.results_known;
       params_known = λ b.
           at_push (λ n. (k : ℕ) → k < length n.params → (slice_index n.params k < length f.values) × ((value_at f (slice_index n.params k)).origin ≡ Param b)) f.blocks empty_block b empty_block

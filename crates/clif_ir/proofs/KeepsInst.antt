@@ -1,6 +1,6 @@
 -- A new instruction keeps a function consistent.
 use Rattle.std.proofs.Common.{◌≡◌, ℕ, zero, suc, ◌+◌, ◌-◌, ◌^◌, ◌<◌, ◌≤◌, List, [], ◌∷◌, ◌++◌, length, get_or, refl, ap, arith, sym, ◌∙◌, subst}
-use Rattle.std.specs.Prelude.{slice_index, EachIndex, None}
+use Rattle.std.specs.Prelude.{slice_index, EachIndex, None, All, ◌≢◌}
 use Rattle.std.specs.List.{range_with_len}
 use Rattle.std.proofs.Math.ListN.{get_or-append}
 use Rattle.std.proofs.Math.Seq.{get_or-append_right}
@@ -14,20 +14,30 @@ use Rattle.clif_ir.specs.declared.function.ValueOrigin.TheVariants.{Result, Para
 use Rattle.clif_ir.specs.declared.inst_list.BlockEnd.{BlockEnd}
 use Rattle.clif_ir.specs.declared.inst_list.BlockEnd.TheVariants.{Front, Back}
 use Rattle.clif_ir.specs.declared.instructions.InstructionData.{InstructionData}
-use Rattle.clif_ir.specs.declared.instructions.InstructionData.TheVariants.{UnaryImm, Binary, MultiAry}
-use Rattle.clif_ir.specs.Instruction.{operands, result_types}
+use Rattle.clif_ir.specs.declared.instructions.InstructionData.TheVariants.{UnaryImm, Binary, Jump, Brif, MultiAry}
+use Rattle.clif_ir.specs.Instruction.{operands, destinations, result_types}
 use Rattle.clif_ir.specs.Body.{Body, value_at, inst_at, block_at, empty_block, no_value, no_inst, alias_of_origin, resolved}
 use Rattle.clif_ir.specs.Changes.{with_inst, inst_node, put_at, result_nodes}
-use Rattle.clif_ir.specs.Consistent.{IsConsistent, IsOrigin, Stands, Once, alias_count}
+use Rattle.clif_ir.specs.Consistent.{IsConsistent, IsOrigin, Stands, Once, EdgeExists, alias_count}
 use Rattle.clif_ir.proofs.Lists.{at_push, at_set, at_append}
-use Rattle.clif_ir.proofs.Keeps.{leads_inside, larger_origin, Stands-append, Stands-push, Stands-cons, Once-push, Once-cons}
+use Rattle.clif_ir.proofs.Keeps.{larger_edges, leads_inside, larger_origin, Stands-append, Stands-push, Stands-cons, Once-push, Once-cons}
 use Rattle.clif_ir.proofs.Aliases.{ways_end-append, follow_end}
 
 -- no instruction has more than one result so far
 pub length-result_types-le : (shape : InstructionData) (ty : «Type») → length (result_types shape ty) ≤ 1
 length-result_types-le (UnaryImm imm) ty = omega arith
 length-result_types-le (Binary opcode args) ty = omega arith
+length-result_types-le (Jump destination) ty = omega arith
+length-result_types-le (Brif arg blocks) ty = omega arith
 length-result_types-le (MultiAry args) ty = omega arith
+
+-- an instruction with edges has no results
+pub branch-result_types : (shape : InstructionData) (ty : «Type») → destinations shape ≢ [] → result_types shape ty ≡ []
+branch-result_types (UnaryImm imm) ty branch = absurd (branch refl)
+branch-result_types (Binary opcode args) ty branch = absurd (branch refl)
+branch-result_types (Jump destination) ty branch = refl
+branch-result_types (Brif arg blocks) ty branch = refl
+branch-result_types (MultiAry args) ty branch = refl
 
 length-result_nodes : (i k : ℕ) (types : List «Type») → length (result_nodes i k types) ≡ length types
 length-result_nodes i k [] = refl
@@ -75,9 +85,9 @@ put_at-Once Back x xs once below = Once-push xs x once below
 
 pub with_inst_consistent : (f : Body) (b : ℕ) (end : BlockEnd) (shape : InstructionData) (types : List «Type») (loc : ℕ)
     → IsConsistent f → b < length f.blocks → EachIndex (operands shape) (λ k. slice_index (operands shape) k < length f.values)
-    → length f.insts < 2 ^ 32 - 1 → length f.values + length types < 2 ^ 32
+    → All (EdgeExists f) (destinations shape) → (destinations shape ≢ [] → types ≡ []) → length f.insts < 2 ^ 32 - 1 → length f.values + length types < 2 ^ 32
     → IsConsistent (with_inst f b end shape types loc)
-with_inst_consistent f b end shape types loc known exists operands_exist inst_room value_room =
+with_inst_consistent f b end shape types loc known exists operands_exist edges_exist without_results inst_room value_room =
     let g : Body = with_inst f b end shape types loc in
     let n : ℕ = length f.values in
     let i0 : ℕ = length f.insts in
@@ -124,6 +134,11 @@ with_inst_consistent f b end shape types loc known exists operands_exist inst_ro
           (λ _ k inside. omega (arith, count, known.operands_exist i k inside))
           (λ _ k inside. omega (arith, count, operands_exist k inside))
           (λ _ k inside. absurd (omega (arith, inside)));
+      edges_exist = λ i.
+          at_push (λ m. All (EdgeExists g) (destinations m.shape)) f.insts node i no_inst
+          (λ _. larger_edges f g (omega (arith, block_count)) (omega (arith, count)) _ (known.edges_exist i))
+          (λ _. larger_edges f g (omega (arith, block_count)) (omega (arith, count)) _ edges_exist)
+          (λ _ k d inside. absurd (omega (arith, inside)));
       results_known = λ i.
           at_push (λ m. (k : ℕ) → k < length m.results → (slice_index m.results k < length g.values) × ((value_at g (slice_index m.results k)).origin ≡ Result i k)) f.insts node i no_inst
           (λ _ k inside. (omega (arith, count, (known.results_known i k inside).0), ap (λ (m : ValueNode). m.origin) (old_value _ (known.results_known i k inside).0) ∙ (known.results_known i k inside).1))
@@ -160,7 +175,11 @@ with_inst_consistent f b end shape types loc known exists operands_exist inst_ro
       layout_once = known.layout_once;
       aliases_end = ways_end-append f.values nodes (leads_inside f known) (alias_count-result_nodes i0 0 types)
           (λ v behind. ap (λ (m : ValueNode). alias_of_origin m.origin) (get_or-append_right f.values nodes v no_value behind) ∙ alias_of-result_nodes i0 0 types (v - n)) known.aliases_end;
-      edges_without_results = λ i edges. absurd (edges refl);
+      edges_without_results = λ i.
+          at_push (λ m. destinations m.shape ≢ [] → m.results ≡ []) f.insts node i no_inst
+          (λ _. known.edges_without_results i)
+          (λ _ branch. ap (λ (none : List «Type»). range_with_len n (length none)) (without_results branch))
+          (λ _ _. refl);
     }
 
 -- the first result of a new instruction stands for itself

@@ -11,7 +11,7 @@ use Rattle.clif_ir.specs.Body.{Body, value_at, inst_at, block_at, empty_block, n
 use Rattle.clif_ir.specs.Changes.{with_param}
 use Rattle.clif_ir.specs.Consistent.{IsConsistent, IsOrigin, Stands, Once}
 use Rattle.clif_ir.proofs.Lists.{at_push, at_set}
-use Rattle.clif_ir.proofs.Keeps.{leads_inside, larger_origin, Stands-append, Stands-push, Once-push}
+use Rattle.clif_ir.proofs.Keeps.{larger_edges, leads_inside, larger_origin, Stands-append, Stands-push, Once-push}
 use Rattle.clif_ir.proofs.Aliases.{ways_end-append}
 
 pub with_param_consistent : (f : Body) (b : ℕ) (ty : «Type») → IsConsistent f → b < length f.blocks → length f.values < 2 ^ 32 - 1
@@ -49,6 +49,7 @@ with_param_consistent f b ty known exists room =
           ))
           (λ past. absurd (omega (arith, past, inside, count)));
       operands_exist = λ i k inside. omega (arith, count, known.operands_exist i k inside);
+      edges_exist = λ i. larger_edges f g (omega (arith, block_count)) (omega (arith, count)) _ (known.edges_exist i);
       results_known = λ i k inside.
           let here : (slice_index (inst_at f i).results k < n) × ((value_at f (slice_index (inst_at f i).results k)).origin ≡ _) = known.results_known i k inside in
           (omega (arith, count, here.0), ap (λ (m : ValueNode). m.origin) (old_value _ here.0) ∙ here.1);

@@ -169,6 +169,7 @@ with_layout_consistent f b known exists outside =
       blocks_fit = known.blocks_fit;
       origins = λ v inside. larger_origin f (with_layout f b) v _ (λ i here. (here, refl)) (λ c here. (here, λ stands. stands)) (omega arith) (known.origins v inside);
       operands_exist = known.operands_exist;
+      edges_exist = known.edges_exist;
       results_known = known.results_known;
       params_known = known.params_known;
       params_once = known.params_once;

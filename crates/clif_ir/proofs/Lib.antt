@@ -9,3 +9,5 @@ pub mod KeepsPlaces
 pub mod Reading
 pub mod KeepsAlias
 pub mod KeepsListed
+pub mod Edges
+pub mod KeepsBranch

@@ -9,7 +9,8 @@ use Rattle.clif_ir.specs.declared.function.ValueNode.{ValueNode}
 use Rattle.clif_ir.specs.declared.function.InstNode.{InstNode}
 use Rattle.clif_ir.specs.declared.inst_list.BlockEnd.{BlockEnd}
 use Rattle.clif_ir.specs.declared.inst_list.BlockEnd.TheVariants.{Front, Back}
-use Rattle.clif_ir.specs.Body.{Body, empty_block, block_at, value_at, resolved}
+use Rattle.clif_ir.specs.Instruction.{with_argument}
+use Rattle.clif_ir.specs.Body.{Body, empty_block, block_at, inst_at, value_at, resolved}
 use Rattle.clif_ir.specs.Reading.{without, stands_in}
 
 -- with a new empty block
@@ -55,6 +56,11 @@ with_inst f b end shape types loc =
       insts = f.insts ++ inst_node f b shape types loc ∷ [];
       blocks = slice_set f.blocks b (record (block_at f b) { insts = put_at end (length f.insts) (block_at f b).insts });
     }
+
+-- with one more argument at the end of each edge of instruction `i` that goes to block `b`
+abbrev pub with_branch_argument : Body → ℕ → ℕ → ℕ → Body
+with_branch_argument f i b v =
+    record f { insts = slice_set f.insts i (record (inst_at f i) { shape = with_argument b v (inst_at f i).shape }) }
 
 -- the block of a value that is a parameter
 abbrev pub home_of : ValueOrigin → ℕ

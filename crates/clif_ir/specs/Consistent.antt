@@ -1,11 +1,14 @@
 -- What every function keeps.
 -- Source: own, after the crate's documentation of its data flow graph and its layout.
-use Rattle.std.specs.Prelude.{◌≡◌, ◌≢◌, ℕ, ◌<◌, ◌^◌, List, [], length, slice_index, None, is_some, count_by}
+use Rattle.std.specs.Prelude.{◌≡◌, ◌≢◌, ℕ, ◌<◌, ◌^◌, List, [], length, slice_index, None, is_some, count_by, All}
 use Rattle.clif_ir.specs.declared.function.ValueOrigin.{ValueOrigin}
 use Rattle.clif_ir.specs.declared.function.ValueOrigin.TheVariants.{Result, Param, Alias}
 use Rattle.clif_ir.specs.declared.function.ValueNode.{ValueNode}
 use Rattle.clif_ir.specs.Body.{Body, value_at, inst_at, block_at, alias_of, alias_of_origin, follow}
-use Rattle.clif_ir.specs.Instruction.{operands, edge_arguments}
+use Rattle.clif_ir.specs.declared.block_call.BlockCall.{BlockCall}
+use Rattle.clif_ir.specs.declared.block_call.BlockArg.{BlockArg}
+use Rattle.clif_ir.specs.declared.block_call.BlockArg.TheVariants as arg
+use Rattle.clif_ir.specs.Instruction.{operands, destinations}
 
 -- a number stands in a list
 abbrev pub Stands : ℕ → List ℕ → Type 0
@@ -26,6 +29,15 @@ IsOrigin f v (Alias original) = original < length f.values
 abbrev pub alias_count : List ValueNode → ℕ
 alias_count values = count_by (λ (n : ValueNode). is_some (alias_of_origin n.origin)) values
 
+-- the target of an edge exists, and so do the values that it passes
+abbrev pub PassedExists : Body → BlockArg → Type 0
+PassedExists f (arg.Value v) = v < length f.values
+PassedExists f (arg.TryCallRet k) = Unit {0}
+PassedExists f (arg.TryCallExn k) = Unit {0}
+
+abbrev pub EdgeExists : Body → BlockCall → Type 0
+EdgeExists f edge = (edge.block < length f.blocks) × All (PassedExists f) edge.args
+
 pub record IsConsistent (f : Body) : Type 0 where
   -- no table has more than 2^32 - 1 entries
   pub values_fit : length f.values < 2 ^ 32
@@ -35,6 +47,7 @@ pub record IsConsistent (f : Body) : Type 0 where
   pub origins : (v : ℕ) → v < length f.values → IsOrigin f v (value_at f v).origin
   pub operands_exist : (i k : ℕ) → k < length (operands (inst_at f i).shape)
       → slice_index (operands (inst_at f i).shape) k < length f.values
+  pub edges_exist : (i : ℕ) → All (EdgeExists f) (destinations (inst_at f i).shape)
   -- results and parameters know their place
   pub results_known : (i k : ℕ) → k < length (inst_at f i).results
       → (slice_index (inst_at f i).results k < length f.values)
@@ -55,5 +68,5 @@ pub record IsConsistent (f : Body) : Type 0 where
   pub layout_once : Once f.layout
   -- along aliases one reaches a value that is none, in no more steps than there are aliases
   pub aliases_end : (v : ℕ) → v < length f.values → alias_of f.values (follow (alias_count f.values) f.values v) ≡ None
-  -- an instruction with edge arguments has no results
-  pub edges_without_results : (i : ℕ) → edge_arguments (inst_at f i).shape ≢ [] → (inst_at f i).results ≡ []
+  -- an instruction with edges has no results
+  pub edges_without_results : (i : ℕ) → destinations (inst_at f i).shape ≢ [] → (inst_at f i).results ≡ []

@@ -1,3 +1,4 @@
+pub mod Edges
 pub mod Instruction
 pub mod Body
 pub mod Changes

@@ -3,12 +3,12 @@
 //! Each call first makes room and then changes, so that after an error the function is as it was. The
 //! errors are `Memory`, where memory was refused, and `Full`, which comes exactly where a table that
 //! the call grows holds 2^32 - 1 entries already.
-ghost use Rattle.std.specs.Prelude.{◌≡◌, ◌≢◌, [], ◌∷◌, ◌++◌, length, ◌+◌, ◌-◌, ◌^◌, ◌≤◌, ◌<◌, ◌⊎◌, ℕ, true, slice_index, EachIndex, vec_len, vec_capacity, IfOk, OnOk, OnErr};
+ghost use Rattle.std.specs.Prelude.{◌≡◌, ◌≢◌, [], ◌∷◌, ◌++◌, length, ◌+◌, ◌-◌, ◌^◌, ◌≤◌, ◌<◌, ◌⊎◌, ℕ, true, slice_index, EachIndex, vec_len, vec_capacity, All, IfOk, OnOk, OnErr};
 ghost use Rattle.clif_ir.specs.Body.{Body, value_at, block_at, resolved};
-ghost use Rattle.clif_ir.specs.Consistent.{Stands};
-ghost use Rattle.clif_ir.specs.Instruction.{operands, has_result, result_types};
+ghost use Rattle.clif_ir.specs.Consistent.{Stands, EdgeExists};
+ghost use Rattle.clif_ir.specs.Instruction.{operands, destinations, has_result, result_types};
 ghost use Rattle.clif_ir.specs.Whole.{next_slot, placed_at};
-ghost use Rattle.clif_ir.specs.Changes.{with_block, with_param, with_inst, with_alias, home_of, result_nodes};
+ghost use Rattle.clif_ir.specs.Changes.{with_block, with_param, with_inst, with_branch_argument, with_alias, home_of, result_nodes};
 ghost use Rattle.std.specs.List.{range_with_len};
 
 use crate::function::{BlockNode, BlockPlace, Function, InstNode, ValueNode, ValueOrigin};
@@ -149,6 +149,7 @@ impl Function {
     ) -> Result<Inst, BuildError>
         requires block_exists { block < length self.old.blocks }
         requires operands_exist { EachIndex (operands shape) (λ k. slice_index (operands shape) k < length self.old.values) }
+        requires edges_exist { All (EdgeExists self.old) (destinations shape) }
         ensures ok { OnOk result (self.new ≡ with_inst self.old block end shape (result_types shape ctrl_type) srcloc) }
         ensures number { IfOk result (λ i. i ≡ length self.old.insts) }
         ensures unaliased { OnOk result (has_result shape ≡ true → resolved self.new (length self.old.values) ≡ length self.old.values) }
@@ -180,6 +181,27 @@ impl Function {
             srcloc,
         });
         Ok(inst)
+    }
+
+    /// Puts `value` at the end of what each edge of branch `inst` passes that goes to `block`.
+    ///
+    /// The only error is `Memory`.
+    pub fn append_branch_argument(
+        &mut self,
+        inst: Inst,
+        block: Block,
+        value: Value,
+    ) -> Result<(), BuildError>
+        requires inst_exists { inst < length self.old.insts }
+        requires value_exists { value < length self.old.values }
+        ensures ok { OnOk result (self.new ≡ with_branch_argument self.old inst block value) }
+        ensures only_memory { OnErr result (result ≡ Err BuildError.Memory) }
+        ensures err { OnErr result (self.new ≡ self.old) }
+    {
+        self.insts[inst.index()]
+            .shape
+            .append_argument(block, value)?;
+        Ok(())
     }
 
     /// Takes parameter `param` away from its block and makes it another name of what `original`

@@ -1,16 +1,19 @@
 //! Instructions: their shapes, operands and results.
-ghost use Rattle.std.specs.Prelude.{◌≡◌, Some};
-ghost use Rattle.clif_ir.specs.Instruction.{operands, has_result, is_terminator, opcode_text};
+ghost use Rattle.std.specs.Prelude.{◌≡◌, Some, OnOk, OnErr};
+ghost use Rattle.clif_ir.specs.Instruction.{operands, destinations, with_argument, has_result, is_terminator, opcode_text};
 
+use crate::block_call::{BlockCall, append_to_edge, append_to_edges};
 use crate::value_list::ValueList;
-use clif_types::Value;
-use std::fmt;
+use clif_types::{Block, BuildError, Value};
+use std::{fmt, slice};
 
 /// Operations that take two operands of one type and give a result of it.
 #[derive(Clone, Copy, Debug, PartialEq, Eq, Hash)]
 pub enum BinaryOpcode {
     /// The sum, modulo two to the type's width.
     Iadd,
+    /// The difference, modulo two to the type's width.
+    Isub,
 }
 
 impl fmt::Display for BinaryOpcode {
@@ -19,6 +22,7 @@ impl fmt::Display for BinaryOpcode {
     fn fmt<W: fmt::Write>(&self, f: &mut fmt::Formatter<W>) -> fmt::Result {
         f.write_str(match self {
             BinaryOpcode::Iadd => "iadd",
+            BinaryOpcode::Isub => "isub",
         })
     }
 }
@@ -37,6 +41,16 @@ pub enum InstructionData {
         opcode: BinaryOpcode,
         args: [Value; 2],
     },
+    /// `jump block(x, ..)`: goes along its one edge.
+    Jump {
+        destination: BlockCall,
+    },
+    /// `brif c, block(x, ..), block(y, ..)`: goes along the first edge where `c` isn't zero, and else along
+    /// the second.
+    Brif {
+        arg: Value,
+        blocks: [BlockCall; 2],
+    },
     /// `return x, ..`: ends the function with these values.
     MultiAry {
         args: ValueList,
@@ -51,7 +65,38 @@ impl InstructionData {
         match self {
             InstructionData::UnaryImm { .. } => &[],
             InstructionData::Binary { args, .. } => args,
+            InstructionData::Jump { .. } => &[],
+            InstructionData::Brif { arg, .. } => slice::from_ref(arg),
             InstructionData::MultiAry { args } => args.as_slice(),
+        }
+    }
+
+    /// The edges, in the order in which they are printed; none where the instruction is no branch.
+    pub fn branch_destination(&self) -> &[BlockCall]
+        ensures { result.now ≡ destinations self.now }
+    {
+        match self {
+            InstructionData::Jump { destination } => slice::from_ref(destination),
+            InstructionData::Brif { blocks, .. } => blocks,
+            InstructionData::UnaryImm { .. }
+            | InstructionData::Binary { .. }
+            | InstructionData::MultiAry { .. } => &[],
+        }
+    }
+
+    // Puts a value at the end of what each edge passes that goes to `block`. The only error is `Memory`, and
+    // the instruction is then as it was.
+    pub(crate) fn append_argument(&mut self, block: Block, value: Value) -> Result<(), BuildError>
+        ensures ok { OnOk result (self.new ≡ with_argument block value self.old) }
+        ensures err { OnErr result (self.new ≡ self.old) }
+        ensures only_memory { OnErr result (result ≡ Err BuildError.Memory) }
+    {
+        match self {
+            InstructionData::Jump { destination } => append_to_edge(destination, block, value),
+            InstructionData::Brif { blocks, .. } => append_to_edges(blocks, block, value),
+            InstructionData::UnaryImm { .. }
+            | InstructionData::Binary { .. }
+            | InstructionData::MultiAry { .. } => Ok(()),
         }
     }
 
@@ -66,6 +111,11 @@ impl InstructionData {
     pub fn is_terminator(&self) -> bool
         ensures { result ≡ is_terminator self.now }
     {
-        matches!(self, InstructionData::MultiAry { .. })
+        match self {
+            InstructionData::Jump { .. }
+            | InstructionData::Brif { .. }
+            | InstructionData::MultiAry { .. } => true,
+            InstructionData::UnaryImm { .. } | InstructionData::Binary { .. } => false,
+        }
     }
 }

@@ -8,6 +8,7 @@
 //! opcodes and numbers: tests do.
 #![tactic(auto)]
 
+pub mod block_call;
 pub mod dfg;
 pub mod function;
 pub mod immediates;
@@ -17,6 +18,7 @@ pub mod layout;
 pub mod value_list;
 pub mod write;
 
+pub use block_call::{BlockArg, BlockArgs, BlockCall};
 pub use function::{BlockNode, Function, InstNode, ValueDef, ValueNode, ValueOrigin};
 pub use instructions::{BinaryOpcode, InstructionData};
 pub use value_list::ValueList;

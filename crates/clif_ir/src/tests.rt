@@ -2,6 +2,7 @@
 #![tactic(auto)]
 
 mod aliases;
+mod edges;
 mod lists;
 mod numbers;
 mod steps;

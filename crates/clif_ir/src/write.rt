@@ -7,8 +7,11 @@
 //!
 //! Nothing here takes memory or recurses: alias lines are found by a walk over the pairs of a value and
 //! its aliases. It is proved that each call is safe and ends, and tested which text it writes.
-ghost use Rattle.std.specs.Prelude.{ℕ, ◌≡◌, ◌<◌, length, EachIndex, slice_index};
+ghost use Rattle.std.specs.Prelude.{ℕ, ◌≡◌, ◌<◌, length, EachIndex, All, slice_index};
+ghost use Rattle.clif_ir.specs.Consistent.{EdgeExists};
+ghost use Rattle.clif_ir.specs.Instruction.{operands, destinations};
 
+use crate::block_call::{BlockArg, BlockCall};
 use crate::function::{Function, ValueDef};
 use crate::immediates::{Imm64, signed_at};
 use crate::instructions::InstructionData;
@@ -99,7 +102,7 @@ fn write_inst<W: fmt::Write>(f: &mut fmt::Formatter<W>, func: &Function, inst: I
         f.write_str(" = ")?;
     }
     write_operation(f, func, inst)?;
-    write_comment(f, func, func.inst_data(inst).arguments())?;
+    write_comment(f, func, func.inst_data(inst))?;
     f.write_str("\n")?;
     write_alias_lines(f, func, results)
 }
@@ -137,6 +140,17 @@ fn write_operation<W: fmt::Write>(
             f.write_str(" ")?;
             write_values(f, args)
         }
+        InstructionData::Jump { destination } => {
+            f.write_str("jump ")?;
+            write_edge(f, destination)
+        }
+        InstructionData::Brif { arg, blocks } => {
+            f.write_str("brif")?;
+            write_type_suffix(f, func, inst, *arg)?;
+            let arg = *arg;
+            write!(f, " {arg}, ")?;
+            write_edges(f, blocks)
+        }
         InstructionData::MultiAry { args } => {
             f.write_str("return")?;
             if !args.as_slice().is_empty() {
@@ -145,6 +159,33 @@ fn write_operation<W: fmt::Write>(
             write_values(f, args.as_slice())
         }
     }
+}
+
+// Edges, joined by `, `.
+fn write_edges<W: fmt::Write>(f: &mut fmt::Formatter<W>, edges: &[BlockCall]) -> fmt::Result {
+    for (place, edge) in edges.iter().enumerate() {
+        if place > 0 {
+            f.write_str(", ")?;
+        }
+        write_edge(f, edge)?;
+    }
+    Ok(())
+}
+
+// The target of an edge, and in parentheses what it passes; without these where it passes nothing.
+fn write_edge<W: fmt::Write>(f: &mut fmt::Formatter<W>, edge: &BlockCall) -> fmt::Result {
+    let block = edge.block;
+    write!(f, "{block}")?;
+    if edge.args.as_slice().is_empty() {
+        return Ok(());
+    }
+    let mut separator = "(";
+    for arg in edge.args.as_slice().iter() {
+        let arg = *arg;
+        write!(f, "{separator}{arg}")?;
+        separator = ", ";
+    }
+    f.write_str(")")
 }
 
 // The type of the first result of an instruction.
@@ -179,23 +220,57 @@ fn write_type_suffix<W: fmt::Write>(
     write!(f, ".{ty}")
 }
 
-// A comment that names each operand that stands for a constant.
+// A comment that names each operand, and then each argument of an edge, that stands for a constant.
 fn write_comment<W: fmt::Write>(
     f: &mut fmt::Formatter<W>,
     func: &Function,
-    args: &[Value],
+    shape: &InstructionData,
 ) -> fmt::Result
-    requires { EachIndex args.now (λ k. slice_index args.now k < length func.now.values) }
+    requires operands_exist { EachIndex (operands shape.now) (λ k. slice_index (operands shape.now) k < length func.now.values) }
+    requires edges_exist { All (EdgeExists func.now) (destinations shape.now) }
 {
     let mut separator = "  ; ";
-    for value in args.iter() {
-        let value = *value;
-        if let Some(number) = constant(func, value) {
-            write!(f, "{separator}{value} = {number}")?;
-            separator = ", ";
-        }
+    for value in shape.arguments().iter() {
+        separator = write_constant(f, func, *value, separator)?;
+    }
+    for edge in shape.branch_destination().iter() {
+        separator = write_edge_constants(f, func, edge, separator)?;
     }
     Ok(())
+}
+
+// The part of a comment on what an edge passes; answers what goes before the next part.
+fn write_edge_constants<'a, W: fmt::Write>(
+    f: &mut fmt::Formatter<W>,
+    func: &Function,
+    edge: &BlockCall,
+    separator: &'a str,
+) -> Result<&'a str, fmt::Error>
+    requires { EdgeExists func.now edge.now }
+{
+    let mut separator = separator;
+    for arg in edge.args.as_slice().iter() {
+        if let BlockArg::Value(value) = arg {
+            separator = write_constant(f, func, *value, separator)?;
+        }
+    }
+    Ok(separator)
+}
+
+// The part of a comment on one value, if it stands for a constant; answers what goes before the next part.
+fn write_constant<'a, W: fmt::Write>(
+    f: &mut fmt::Formatter<W>,
+    func: &Function,
+    value: Value,
+    separator: &'a str,
+) -> Result<&'a str, fmt::Error>
+    requires { value < length func.now.values }
+{
+    let Some(number) = constant(func, value) else {
+        return Ok(separator);
+    };
+    write!(f, "{separator}{value} = {number}")?;
+    Ok(", ")
 }
 
 // The number that a value stands for, where an `iconst` makes it.

@@ -7,7 +7,7 @@ use Rattle.clif_types.specs.declared.types.«Type».TheVariants as type
 use Rattle.clif_types.specs.declared.types.LaneType.TheVariants as lane
 use Rattle.clif_types.specs.Types.{is_int}
 use Rattle.clif_meaning.specs.SameType.{same_type}
-use Rattle.clif_meaning.specs.Instruction.{Iconst, Iadd, Operation, Compute, Return, Argument, Known, CallResult, CallPayload, Edge}
+use Rattle.clif_meaning.specs.Instruction.{Iconst, Iadd, Isub, Operation, Compute, Jump, Brif, Return, Argument, Known, CallResult, CallPayload, Edge}
 use Rattle.clif_meaning.specs.Name.{Name}
 use Rattle.clif_meaning.specs.Request.{Request, CreateBlock, SwitchToBlock, SealBlock, DeclareVar, DefVar, UseVar, Build, Finalize, Script}
 use Rattle.clif_meaning.specs.Ledger.{BlockState, Ledger, empty_ledger, type_of, or_invalid, has_value, has_block, is_filled, is_sealed, is_pristine, is_unreachable, variable_type, ledger_with}
@@ -49,6 +49,9 @@ can_lead ledger edge = has_block ledger edge.target && not (is_sealed ledger edg
 abbrev pub can_operate : Operation → «Type» → Bool
 can_operate (Compute (Iconst number)) ty = is_int ty
 can_operate (Compute Iadd) ty = true
+can_operate (Compute Isub) ty = true
+can_operate Jump ty = true
+can_operate Brif ty = true
 can_operate Return ty = true
 
 -- The condition of each kind of call.
@@ -100,12 +103,22 @@ verdict_from place ledger (request ∷ script) =
 abbrev pub verdict_on : Script → Verdict
 verdict_on script = verdict_from 0 empty_ledger (script ++ Finalize ∷ [])
 
--- The instruction calls of this stage. `iadd` is made at the type of its first operand.
+-- The instruction calls of this stage. `iadd`, `isub` and `brif` are made at the type of their first operand.
 abbrev pub iconst : «Type» → ℤ → Request
 iconst ty number = Build (record { operation = Compute (Iconst number); controlling = ty; operands = []; edges = [] })
 
 abbrev pub iadd : Ledger → Name → Name → Request
 iadd ledger a b = Build (record { operation = Compute Iadd; controlling = or_invalid (type_of ledger a); operands = a ∷ b ∷ []; edges = [] })
+
+abbrev pub isub : Ledger → Name → Name → Request
+isub ledger a b = Build (record { operation = Compute Isub; controlling = or_invalid (type_of ledger a); operands = a ∷ b ∷ []; edges = [] })
+
+abbrev pub jump : Edge Name Name → Request
+jump edge = Build (record { operation = Jump; controlling = type.Invalid; operands = []; edges = edge ∷ [] })
+
+abbrev pub brif : Ledger → Name → Edge Name Name → Edge Name Name → Request
+brif ledger condition taken other =
+    Build (record { operation = Brif; controlling = or_invalid (type_of ledger condition); operands = condition ∷ []; edges = taken ∷ other ∷ [] })
 
 abbrev pub return_ : List Name → Request
 return_ values = Build (record { operation = Return; controlling = type.Invalid; operands = values; edges = [] })

@@ -6,7 +6,7 @@ use Rattle.clif_types.specs.Signature.{SignatureShape}
 use Rattle.clif_types.specs.declared.libcall.LibCall.{LibCall}
 use Rattle.clif_meaning.specs.Bits.{Bits}
 use Rattle.clif_meaning.specs.Memory.{Range, address_in, lies_in}
-use Rattle.clif_meaning.specs.Instruction.{Operation, Compute, Return}
+use Rattle.clif_meaning.specs.Instruction.{Operation, Compute, Jump, Brif, Return}
 use Rattle.clif_meaning.specs.World.{World}
 
 -- a claim: each byte of the range may be read and written; the address is a multiple of the alignment, which is a
@@ -25,11 +25,15 @@ Holds world (Apart left right) = (address : ℕ) → (lies_in left address && li
 -- instruction touches. No operation reaches memory so far.
 abbrev pub touched_ranges : World → Operation → «Type» → List Bits → List Range
 touched_ranges world (Compute arithmetic) ty operands = []
+touched_ranges world Jump ty operands = []
+touched_ranges world Brif ty operands = []
 touched_ranges world Return ty operands = []
 
 -- The table of operations: what the instruction claims.
 abbrev pub claims_of : World → Operation → «Type» → List Bits → List Claim
 claims_of world (Compute arithmetic) ty operands = []
+claims_of world Jump ty operands = []
+claims_of world Brif ty operands = []
 claims_of world Return ty operands = []
 
 -- a call of a function of the C library, by the signature that it gives
@@ -40,4 +44,6 @@ pub record LibraryCall : Type 0 where
 -- The table of operations: the call of a library function that it makes, if it makes one. No operation does so far.
 abbrev pub library_call : Operation → Option LibraryCall
 library_call (Compute arithmetic) = None
+library_call Jump = None
+library_call Brif = None
 library_call Return = None

@@ -9,11 +9,17 @@ pub data Arithmetic : Type 0 where
   Iconst : (number : ℤ) → Arithmetic
   -- the sum modulo 2 to the width
   Iadd : Arithmetic
+  -- the difference modulo 2 to the width
+  Isub : Arithmetic
 
 -- what an instruction does
 pub data Operation : Type 0 where
   -- computes its results
   Compute : Arithmetic → Operation
+  -- goes along its one edge
+  Jump : Operation
+  -- goes along its first edge where its operand isn't zero, and else along its second
+  Brif : Operation
   -- ends the run with the operands
   Return : Operation
 

@@ -3,7 +3,7 @@
 -- what variables mean is from the documentation of Cranelift's `FunctionBuilder`.
 use Rattle.std.specs.Prelude.{ℕ, suc, if◌then◌else◌, List, [], ◌∷◌, ◌++◌, Option, Some, None, fold}
 use Rattle.clif_types.specs.declared.types.«Type».{«Type»}
-use Rattle.clif_meaning.specs.Instruction.{Iconst, Iadd, Operation, Compute, Return, Instruction}
+use Rattle.clif_meaning.specs.Instruction.{Iconst, Iadd, Isub, Operation, Compute, Jump, Brif, Return, Instruction}
 use Rattle.clif_meaning.specs.Name.{Name, answer_of, same_name}
 use Rattle.clif_meaning.specs.Request.{Request, CreateBlock, SwitchToBlock, SealBlock, DeclareVar, DefVar, UseVar, Build, Finalize, Script}
 
@@ -11,6 +11,9 @@ use Rattle.clif_meaning.specs.Request.{Request, CreateBlock, SwitchToBlock, Seal
 abbrev pub result_types : Operation → «Type» → List «Type»
 result_types (Compute (Iconst number)) ty = ty ∷ []
 result_types (Compute Iadd) ty = ty ∷ []
+result_types (Compute Isub) ty = ty ∷ []
+result_types Jump ty = []
+result_types Brif ty = []
 result_types Return ty = []
 
 -- the answers to the call at this place from this one on, as many as types

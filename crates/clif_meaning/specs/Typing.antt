@@ -3,24 +3,32 @@ use Rattle.std.specs.Prelude.{◌≡◌, ℕ, Bool, true, List, [], ◌∷◌, m
 use Rattle.std.specs.List.{AllByRecursion}
 use Rattle.clif_types.specs.declared.types.«Type».{«Type»}
 use Rattle.clif_types.specs.Types.{is_int}
-use Rattle.clif_meaning.specs.Instruction.{Iconst, Iadd, Operation, Compute, Return, Argument, Known, CallResult, CallPayload, Edge, Instruction}
+use Rattle.clif_meaning.specs.Instruction.{Iconst, Iadd, Isub, Operation, Compute, Jump, Brif, Return, Argument, Known, CallResult, CallPayload, Edge, Instruction}
 use Rattle.clif_meaning.specs.Event.{CallShape, types_of, payload_types}
 use Rattle.clif_meaning.specs.FunctionView.{FunctionView}
 
--- The table of operations: whether the operation is there at the controlling type. Arithmetic is on integers only.
+-- The table of operations: whether the operation is there at the controlling type. Arithmetic is on integers only, and
+-- so are conditions.
 abbrev pub is_made_at : Operation → «Type» → Bool
 is_made_at (Compute arithmetic) ty = is_int ty
+is_made_at Jump ty = true
+is_made_at Brif ty = is_int ty
 is_made_at Return ty = true
 
 -- The table of operations: the types of the operands, in a function that returns these types.
 abbrev pub operand_types : List «Type» → Operation → «Type» → List «Type»
 operand_types returns (Compute (Iconst number)) ty = []
 operand_types returns (Compute Iadd) ty = ty ∷ ty ∷ []
+operand_types returns (Compute Isub) ty = ty ∷ ty ∷ []
+operand_types returns Jump ty = []
+operand_types returns Brif ty = ty ∷ []
 operand_types returns Return ty = returns
 
 -- The table of operations: the shape of the call that it makes, if it makes one. No operation does so far.
 abbrev pub call_shape : Operation → Option CallShape
 call_shape (Compute arithmetic) = None
+call_shape Jump = None
+call_shape Brif = None
 call_shape Return = None
 
 -- the type of what an edge passes, where the call at its start gives results and a payload of these types there. What

@@ -5,24 +5,39 @@ use Rattle.clif_types.specs.declared.types.«Type».{«Type»}
 use Rattle.clif_types.specs.declared.types.«Type».TheVariants as type
 use Rattle.clif_ir.specs.declared.instructions.BinaryOpcode.TheVariants as binary
 use Rattle.clif_ir.specs.declared.instructions.InstructionData.{InstructionData}
-use Rattle.clif_ir.specs.declared.instructions.InstructionData.TheVariants.{UnaryImm, Binary, MultiAry}
+use Rattle.clif_ir.specs.declared.instructions.InstructionData.TheVariants.{UnaryImm, Binary, Jump, Brif, MultiAry}
 use Rattle.clif_ir.specs.declared.function.InstNode.{InstNode}
-use Rattle.clif_ir.specs.Instruction.{operands}
+use Rattle.clif_ir.specs.declared.block_call.BlockArg.{BlockArg}
+use Rattle.clif_ir.specs.declared.block_call.BlockArg.TheVariants as arg
+use Rattle.clif_ir.specs.declared.block_call.BlockCall.{BlockCall}
+use Rattle.clif_ir.specs.Instruction.{operands, destinations}
 use Rattle.clif_ir.specs.Body.{Body, value_at, inst_at, block_at, resolved}
-use Rattle.clif_meaning.specs.Instruction.{Operation, Compute, Iconst, Iadd, Return, Edge}
+use Rattle.clif_meaning.specs.Instruction.{Operation, Compute, Iconst, Iadd, Isub, Return, Edge, Argument, Known, CallResult, CallPayload}
+use Rattle.clif_meaning.specs.Instruction as operation
 use Rattle.clif_meaning.specs.FunctionView.{Placed, BlockView, FunctionView}
 
 -- The table of instructions: what each one does,
 abbrev pub operation_of : InstructionData → Operation
 operation_of (UnaryImm imm) = Compute (Iconst imm)
 operation_of (Binary binary.Iadd args) = Compute Iadd
+operation_of (Binary binary.Isub args) = Compute Isub
+operation_of (Jump destination) = operation.Jump
+operation_of (Brif arg blocks) = operation.Brif
 operation_of (MultiAry args) = Return
 
--- and its edges: no instruction so far is a branch.
+-- what an edge passes,
+abbrev pub argument_of : BlockArg → Argument ℕ
+argument_of (arg.Value value) = Known value
+argument_of (arg.TryCallRet index) = CallResult index
+argument_of (arg.TryCallExn index) = CallPayload index
+
+-- an edge,
+abbrev pub edge_of : BlockCall → Edge ℕ ℕ
+edge_of call = record { target = call.block; arguments = map argument_of call.args }
+
+-- and the edges of an instruction, in the order in which they are printed.
 abbrev pub edges_of : InstructionData → List (Edge ℕ ℕ)
-edges_of (UnaryImm imm) = []
-edges_of (Binary opcode args) = []
-edges_of (MultiAry args) = []
+edges_of shape = map edge_of (destinations shape)
 
 -- the type of the first of these values, if there is one
 abbrev pub first_type : Body → List ℕ → «Type»
@@ -33,6 +48,8 @@ first_type body (value ∷ values) = (value_at body value).ty
 abbrev pub controlling_of : Body → InstructionData → List ℕ → «Type»
 controlling_of body (UnaryImm imm) results = first_type body results
 controlling_of body (Binary opcode args) results = first_type body results
+controlling_of body (Jump destination) results = type.Invalid
+controlling_of body (Brif arg blocks) results = (value_at body arg).ty
 controlling_of body (MultiAry args) results = type.Invalid
 
 -- an instruction with its results. There are no stack maps so far.

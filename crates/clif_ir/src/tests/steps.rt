@@ -1,12 +1,16 @@
 //! Functions that are made by tables of steps, where the conditions of each call are asserted.
 #![tactic(auto)]
 
-use super::support::{PLACE, b, has_block, has_operands, has_value, is_param, prints, sample, v};
+use super::support::{
+    PLACE, b, has_block, has_edges, has_inst, has_operands, has_value, i, is_param, prints, sample,
+    v,
+};
+use crate::block_call::BlockCall;
 use crate::function::Function;
 use crate::inst_list::BlockEnd;
 use crate::instructions::{BinaryOpcode, InstructionData};
 use crate::value_list::ValueList;
-use clif_types::{Block, SourceLoc, Type, Value};
+use clif_types::{Block, Inst, SourceLoc, Type, Value};
 use std::alloc::Global;
 use std::process::Abort;
 use std::test::Fail;
@@ -24,6 +28,15 @@ pub enum Step {
     Iconst(u32, BlockEnd, Type, i64),
     /// Puts a sum of two values at the end of a block.
     Iadd(u32, Type, u32, u32),
+    /// Puts a difference of two values at the end of a block.
+    Isub(u32, Type, u32, u32),
+    /// Puts a jump at the end of a block.
+    Jump(u32, u32),
+    /// Puts a branch by a value at the end of a block: the block that it goes to where the value isn't zero, and
+    /// the other one.
+    Brif(u32, u32, u32, u32),
+    /// Puts a value at the end of what each edge of an instruction passes that goes to a block.
+    Append(u32, u32, u32),
     /// Puts a return of no values at the end of a block.
     Return(u32),
     /// Puts a return of one value at the end of a block.
@@ -59,20 +72,54 @@ fn insert(
 ) -> Result<(), Fail> {
     assert!(rt; has_block(func, block));
     assert!(rt; has_operands(func, shape.arguments()));
+    assert!(rt; has_edges(func, shape.branch_destination()));
     func.insert_inst(block, end, shape, ty, SourceLoc::new(PLACE))?;
     Ok(())
 }
 
-fn iadd(
+fn binary(
     rt: &impl Abort,
     func: &mut Function,
     block: Block,
+    opcode: BinaryOpcode,
     ty: Type,
     args: [Value; 2],
 ) -> Result<(), Fail> {
-    let opcode = BinaryOpcode::Iadd;
     let shape = InstructionData::Binary { opcode, args };
     insert(rt, func, block, BlockEnd::Back, shape, ty)
+}
+
+fn jump(rt: &impl Abort, func: &mut Function, block: Block, target: Block) -> Result<(), Fail> {
+    let destination = BlockCall::new(func.allocator(), target, &[])?;
+    let shape = InstructionData::Jump { destination };
+    insert(rt, func, block, BlockEnd::Back, shape, Type::Invalid)
+}
+
+fn brif(
+    rt: &impl Abort,
+    func: &mut Function,
+    block: Block,
+    arg: Value,
+    targets: [Block; 2],
+) -> Result<(), Fail> {
+    let taken = BlockCall::new(func.allocator(), targets[0], &[])?;
+    let other = BlockCall::new(func.allocator(), targets[1], &[])?;
+    let blocks = [taken, other];
+    let shape = InstructionData::Brif { arg, blocks };
+    insert(rt, func, block, BlockEnd::Back, shape, Type::Invalid)
+}
+
+fn append(
+    rt: &impl Abort,
+    func: &mut Function,
+    inst: Inst,
+    block: Block,
+    value: Value,
+) -> Result<(), Fail> {
+    assert!(rt; has_inst(func, inst));
+    assert!(rt; has_value(func, value));
+    func.append_branch_argument(inst, block, value)?;
+    Ok(())
 }
 
 fn ret(rt: &impl Abort, func: &mut Function, block: Block, values: &[Value]) -> Result<(), Fail> {
@@ -102,7 +149,20 @@ fn make(rt: &impl Abort, func: &mut Function, step: Step) -> Result<(), Fail> {
             let shape = InstructionData::UnaryImm { imm };
             insert(rt, func, b(rt, block), end, shape, ty)
         }
-        Step::Iadd(block, ty, x, y) => iadd(rt, func, b(rt, block), ty, [v(rt, x), v(rt, y)]),
+        Step::Iadd(block, ty, x, y) => {
+            let args = [v(rt, x), v(rt, y)];
+            binary(rt, func, b(rt, block), BinaryOpcode::Iadd, ty, args)
+        }
+        Step::Isub(block, ty, x, y) => {
+            let args = [v(rt, x), v(rt, y)];
+            binary(rt, func, b(rt, block), BinaryOpcode::Isub, ty, args)
+        }
+        Step::Jump(block, target) => jump(rt, func, b(rt, block), b(rt, target)),
+        Step::Brif(block, x, taken, other) => {
+            let targets = [b(rt, taken), b(rt, other)];
+            brif(rt, func, b(rt, block), v(rt, x), targets)
+        }
+        Step::Append(inst, block, x) => append(rt, func, i(rt, inst), b(rt, block), v(rt, x)),
         Step::Return(block) => ret(rt, func, b(rt, block), &[]),
         Step::ReturnOne(block, x) => ret(rt, func, b(rt, block), &[v(rt, x)]),
         Step::ReturnTwo(block, x, y) => ret(rt, func, b(rt, block), &[v(rt, x), v(rt, y)]),

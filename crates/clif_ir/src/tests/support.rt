@@ -1,10 +1,12 @@
 //! What several tests use.
 #![tactic(auto)]
 
-ghost use Rattle.std.specs.Prelude.{◌≡◌, ◌↔◌, ◌<◌, length, IsTrue, EachIndex, slice_index};
+ghost use Rattle.std.specs.Prelude.{◌≡◌, ◌↔◌, ◌<◌, length, IsTrue, EachIndex, All, slice_index};
 ghost use Rattle.clif_ir.specs.Body.{value_at};
 ghost use Rattle.clif_ir.specs.Changes.{home_of};
+ghost use Rattle.clif_ir.specs.Consistent.{PassedExists, EdgeExists};
 
+use crate::block_call::{BlockArg, BlockCall};
 use crate::function::{Function, ValueOrigin};
 use clif_types::{
     AbiParam, Block, CallConv, EntityRef, Inst, Signature, Type, UserFuncName, Value,
@@ -39,6 +41,32 @@ pub fn has_operands(func: &Function, args: &[Value]) -> bool
 {
     let count = func.values.len();
     args.iter().all(|value| value.index() < count)
+}
+
+fn has_passed(func: &Function, arg: BlockArg) -> bool
+    ensures { IsTrue result ↔ PassedExists func.now arg }
+{
+    match arg {
+        BlockArg::Value(value) => value.index() < func.values.len(),
+        BlockArg::TryCallRet(_) | BlockArg::TryCallExn(_) => true,
+    }
+}
+
+fn has_edge(func: &Function, edge: &BlockCall) -> bool
+    ensures { IsTrue result ↔ EdgeExists func.now edge.now }
+{
+    has_block(func, edge.block)
+        && edge
+            .args
+            .as_slice()
+            .iter()
+            .all(|arg| has_passed(func, *arg))
+}
+
+pub fn has_edges(func: &Function, edges: &[BlockCall]) -> bool
+    ensures { IsTrue result ↔ All (EdgeExists func.now) edges.now }
+{
+    edges.iter().all(|edge| has_edge(func, edge))
 }
 
 pub fn is_param(func: &Function, value: Value) -> bool

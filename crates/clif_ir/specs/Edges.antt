@@ -1,0 +1,28 @@
+-- What changes the edges of a branch. Source: own.
+use Rattle.std.specs.Prelude.{ℕ, ◌==◌, ◌-◌, ◌++◌, List, [], ◌∷◌, length, map, take, drop, if◌then◌else◌, codes}
+use Rattle.std.specs.Fmt.{decimal}
+use Rattle.clif_ir.specs.declared.block_call.BlockArg.{BlockArg}
+use Rattle.clif_ir.specs.declared.block_call.BlockArg.TheVariants.{Value, TryCallRet, TryCallExn}
+use Rattle.clif_ir.specs.declared.block_call.BlockCall.{BlockCall}
+
+-- an edge that passes this value as well, at the end, if it goes to the block
+abbrev pub appended_to : ℕ → ℕ → BlockCall → BlockCall
+appended_to block value edge = if edge.block == block then record edge { args = edge.args ++ Value value ∷ [] } else edge
+
+-- edges, of which each that goes to the block passes this value as well
+abbrev pub with_argument_to : ℕ → ℕ → List BlockCall → List BlockCall
+with_argument_to block value edges = map (appended_to block value) edges
+
+-- an edge without its last argument, if it goes to the block
+abbrev pub taken_from : ℕ → BlockCall → BlockCall
+taken_from block edge = if edge.block == block then record edge { args = take (length edge.args - 1) edge.args } else edge
+
+-- edges, of which the first ones that go to the block are without their last argument
+abbrev pub taken_back : ℕ → ℕ → List BlockCall → List BlockCall
+taken_back block count edges = map (taken_from block) (take count edges) ++ drop count edges
+
+-- what an argument of an edge prints
+abbrev pub argument_text : BlockArg → List ℕ
+argument_text (Value v) = codes "v" ++ decimal v
+argument_text (TryCallRet k) = codes "ret" ++ decimal k
+argument_text (TryCallExn k) = codes "exn" ++ decimal k

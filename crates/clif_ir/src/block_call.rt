@@ -1,0 +1,173 @@
+//! Edges: the target of a branch, and what it passes to the target's parameters.
+ghost use Rattle.std.specs.Prelude.{◌≡◌, ◌≤◌, ◌-◌, [], ◌∷◌, ◌++◌, length, take, Some, OnOk, OnErr, IfOk};
+ghost use Rattle.clif_ir.specs.Edges.{appended_to, with_argument_to, taken_from, taken_back, argument_text};
+
+use clif_types::{Block, BuildError, Value};
+use smallvec::SmallVec;
+use std::alloc::Global;
+use std::fmt;
+use std::marker::Model;
+
+/// What an edge passes to a parameter of its target.
+#[derive(Clone, Copy, Debug, PartialEq, Eq, Hash)]
+pub enum BlockArg {
+    /// A value.
+    Value(Value),
+    /// What a try call gave: its result at this place. It stands on the normal edge alone.
+    TryCallRet(u32),
+    /// What a try call gave: this part of an exception. It stands on the edge of an item alone.
+    TryCallExn(u32),
+}
+
+impl fmt::Display for BlockArg {
+    ghost output = { λ a. Some (argument_text a) };
+
+    fn fmt<W: fmt::Write>(&self, f: &mut fmt::Formatter<W>) -> fmt::Result {
+        match self {
+            BlockArg::Value(value) => write!(f, "{value}"),
+            BlockArg::TryCallRet(place) => write!(f, "ret{place}"),
+            BlockArg::TryCallExn(place) => write!(f, "exn{place}"),
+        }
+    }
+}
+
+impl Default for BlockArg {
+    fn default() -> Self {
+        BlockArg::TryCallRet(0)
+    }
+}
+
+/// What an edge passes, in order: most of the time few, and up to four take no memory of their own.
+#[derive(Debug, Drop)]
+pub struct BlockArgs {
+    args: SmallVec<BlockArg, 4>,
+}
+
+impl Model for BlockArgs {
+    ghost use Rattle.std.specs.Prelude.{List};
+    ghost use Rattle.clif_ir.specs.declared.block_call.BlockArg.{BlockArg};
+
+    ghost Value = { List BlockArg };
+
+    ghost view = { λ l. l.args.items };
+}
+
+impl BlockArgs {
+    /// The empty list.
+    pub fn new(alloc: Global) -> Self
+        ensures { result ≡ [] }
+    {
+        BlockArgs {
+            args: SmallVec::new(alloc),
+        }
+    }
+
+    /// A list of these arguments. The only error is `Memory`.
+    pub fn from_slice(alloc: Global, args: &[BlockArg]) -> Result<Self, BuildError>
+        ensures ok { IfOk result (λ l. l ≡ args.now) }
+        ensures only_memory { OnErr result (result ≡ Err BuildError.Memory) }
+    {
+        let args = SmallVec::from_slice(alloc, args)?;
+        Ok(BlockArgs { args })
+    }
+
+    /// The arguments, in order.
+    pub fn as_slice(&self) -> &[BlockArg]
+        ensures { result.now ≡ self.now }
+    {
+        self.args.as_slice()
+    }
+
+    /// Puts an argument at the end. The only error is `Memory`, and the list is then as it was.
+    pub fn push(&mut self, arg: BlockArg) -> Result<(), BuildError>
+        ensures ok { OnOk result (self.new ≡ self.old ++ arg ∷ []) }
+        ensures err { OnErr result (self.new ≡ self.old) }
+        ensures only_memory { OnErr result (result ≡ Err BuildError.Memory) }
+    {
+        self.args.push(arg)?;
+        Ok(())
+    }
+
+    /// Takes the last argument away, if there is one.
+    pub fn pop(&mut self)
+        ensures { self.new ≡ take (length self.old - 1) self.old }
+    {
+        let _ = self.args.pop();
+    }
+}
+
+/// An edge: a block, and what is passed to its parameters, in order.
+#[derive(Debug, Drop)]
+pub struct BlockCall {
+    /// The target.
+    pub block: Block,
+    /// What the target's parameters get.
+    pub args: BlockArgs,
+}
+
+impl BlockCall {
+    /// An edge to `block` that passes these arguments. The only error is `Memory`.
+    pub fn new(alloc: Global, block: Block, args: &[BlockArg]) -> Result<Self, BuildError>
+        ensures ok { IfOk result (λ call. (call.block ≡ block) × (call.args ≡ args.now)) }
+        ensures only_memory { OnErr result (result ≡ Err BuildError.Memory) }
+    {
+        let args = BlockArgs::from_slice(alloc, args)?;
+        Ok(BlockCall { block, args })
+    }
+}
+
+// Puts a value at the end of what each edge passes that goes to `block`. The only error is `Memory`, and the
+// edges are then as they were.
+pub(crate) fn append_to_edges(
+    edges: &mut [BlockCall],
+    block: Block,
+    value: Value,
+) -> Result<(), BuildError>
+    ensures ok { OnOk result (edges.new ≡ with_argument_to block value edges.old) }
+    ensures err { OnErr result (edges.new ≡ edges.old) }
+    ensures only_memory { OnErr result (result ≡ Err BuildError.Memory) }
+{
+    for place in 0..edges.len() {
+        if let Err(error) = append_to_edge(&mut edges[place], block, value) {
+            take_back(edges, place, block);
+            return Err(error);
+        }
+    }
+    Ok(())
+}
+
+// Puts a value at the end of what an edge passes, if it goes to `block`. The only error is `Memory`, and the edge
+// is then as it was.
+pub(crate) fn append_to_edge(
+    edge: &mut BlockCall,
+    block: Block,
+    value: Value,
+) -> Result<(), BuildError>
+    ensures ok { OnOk result (edge.new ≡ appended_to block value edge.old) }
+    ensures err { OnErr result (edge.new ≡ edge.old) }
+    ensures only_memory { OnErr result (result ≡ Err BuildError.Memory) }
+{
+    if edge.block == block {
+        edge.args.push(BlockArg::Value(value))?;
+    }
+    Ok(())
+}
+
+// Takes the last argument from each of the first `count` edges that goes to `block`.
+fn take_back(edges: &mut [BlockCall], count: usize, block: Block)
+    requires { count ≤ length edges.old }
+    ensures { edges.new ≡ taken_back block count edges.old }
+{
+    for place in 0..count {
+        take_from_edge(&mut edges[place], block);
+    }
+}
+
+// Takes the last argument from an edge, if it goes to `block`.
+fn take_from_edge(edge: &mut BlockCall, block: Block)
+    ensures { edge.new ≡ taken_from block edge.old }
+{
+    if edge.block == block {
+        edge.args.pop();
+    }
+}
