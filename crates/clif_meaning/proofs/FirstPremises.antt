@@ -5,7 +5,7 @@ use Rattle.clif_types.specs.declared.types.«Type».{«Type»}
 use Rattle.clif_types.specs.declared.target.PointerWidth.TheVariants.{U64}
 use Rattle.clif_types.specs.Target.{pointer_type_of}
 use Rattle.clif_meaning.specs.Access.{touched_ranges, claims_of}
-use Rattle.clif_meaning.specs.Instruction.{Operation, Compute, Return}
+use Rattle.clif_meaning.specs.Instruction.{Operation, Compute, Jump, Brif, Return}
 use Rattle.clif_meaning.specs.Event.{CallShape, Event}
 use Rattle.clif_meaning.specs.World.{World, PlacesSlots}
 use Rattle.clif_meaning.specs.Machine.{Control, At, HasReturned, HasTrapped, IsStuck, state_after, IsEnd, EndStays}
@@ -25,10 +25,14 @@ use Rattle.clif_meaning.proofs.Endings
 
 none_touched : (world : World) (operation : Operation) (ty : «Type») (bits : List ℕ) → touched_ranges world operation ty bits ≡ []
 none_touched world (Compute arithmetic) ty bits = refl
+none_touched world Jump ty bits = refl
+none_touched world Brif ty bits = refl
 none_touched world Return ty bits = refl
 
 none_claimed : (world : World) (operation : Operation) (ty : «Type») (bits : List ℕ) → claims_of world operation ty bits ≡ []
 none_claimed world (Compute arithmetic) ty bits = refl
+none_claimed world Jump ty bits = refl
+none_claimed world Brif ty bits = refl
 none_claimed world Return ty bits = refl
 
 -- it holds of each element of no list

@@ -12,3 +12,4 @@ pub mod LoopPaths
 pub mod ViewRow
 pub mod Ranges
 pub mod CallLists
+pub mod BranchRow

@@ -29,4 +29,5 @@ pub mod Laws
 pub mod Examples
 pub mod CallExamples
 pub mod ScriptExamples
+pub mod BranchExamples
 pub mod ViewExamples

@@ -1,6 +1,7 @@
 //! Worked examples of the definitions, by computation.
 #![tactic(auto)]
 
+ghost use Rattle.clif_meaning.specs.BranchExamples.{BranchExamples};
 ghost use Rattle.clif_meaning.specs.CallExamples.{CallExamples, EdgeExamples};
 ghost use Rattle.clif_meaning.specs.Examples.{ArithmeticExamples, ByteExamples, SwitchExamples, FirstAnswersSeven, FirstMeansTheSame, WrongFunctionsAreRefused, EightIsNotSeven, EmptyIsStuck, VerdictExamples, RefusalExamples};
 ghost use Rattle.clif_meaning.specs.ScriptExamples.{LedgerExamples, PathExamples};
@@ -9,6 +10,11 @@ ghost use Rattle.clif_meaning.specs.ViewExamples.{ViewExamples};
 /// Constants and sums.
 pub fn arithmetic_examples()
     ensures { ArithmeticExamples }
+{}
+
+/// Differences, branches, and the row `both_arms`, which answers 0 on both machines in every world.
+pub fn branch_examples()
+    ensures { BranchExamples }
 {}
 
 /// Bytes of values, copies over themselves, fills and comparisons.

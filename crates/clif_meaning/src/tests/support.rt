@@ -14,7 +14,12 @@ pub enum End {
     Returned(Vec<u128>),
     /// It can't step.
     Stuck,
+    /// Not within so many steps.
+    Running,
 }
+
+/// How many steps a run has at most.
+pub const STEPS: u32 = 1000;
 
 /// The greatest value of a type's width.
 fn greatest(ty: Type) -> u128 {
@@ -39,4 +44,9 @@ pub fn constant(ty: Type, number: i64) -> u128 {
 /// The sum modulo 2 to the width.
 pub fn sum(ty: Type, a: u128, b: u128) -> u128 {
     a.wrapping_add(b) & greatest(ty)
+}
+
+/// The difference modulo 2 to the width.
+pub fn difference(ty: Type, a: u128, b: u128) -> u128 {
+    a.wrapping_sub(b) & greatest(ty)
 }

@@ -1,23 +1,40 @@
 //! The interpreter of functions. It has the bits of all values, and follows aliases.
 #![tactic(auto)]
 
-use crate::tests::support::{End, constant, sum};
+use crate::tests::support::{End, STEPS, constant, difference, sum};
 use clif_types::Type;
 use std::alloc::{AllocError, Global};
 
-/// An instruction: its result, and its operands. `Iadd` is made at a type.
+/// An edge: the block that it leads to, and what it passes.
+#[derive(Debug, Drop)]
+pub struct Edge {
+    pub block: usize,
+    pub args: Vec<u32>,
+}
+
+/// An instruction: its result, its operands and its edges. Sums and differences are made at a type.
 #[derive(Debug, Drop)]
 pub enum Inst {
     Iconst(u32, Type, i64),
     Iadd(u32, Type, u32, u32),
+    Isub(u32, Type, u32, u32),
+    Jump(Edge),
+    Brif(u32, Edge, Edge),
     Return(Vec<u32>),
 }
 
-/// A function: the entry, the instructions of each block, and aliases with what each stands for.
+/// A block: its parameters and its instructions.
+#[derive(Debug, Drop)]
+pub struct CodeBlock {
+    pub params: Vec<u32>,
+    pub insts: Vec<Inst>,
+}
+
+/// A function: the entry, the blocks, and aliases with what each stands for.
 #[derive(Debug, Drop)]
 pub struct Code {
     pub entry: Option<usize>,
-    pub blocks: Vec<Vec<Inst>>,
+    pub blocks: Vec<CodeBlock>,
     pub aliases: Vec<(u32, u32)>,
 }
 
@@ -34,10 +51,12 @@ impl Code {
     }
 }
 
-/// The bits of the values that were given, newest last. All others are zero.
+/// The bits of the values that were given, newest last: all others are zero. And where the next instruction stands.
 #[derive(Drop)]
 struct State {
     values: Vec<(u32, u128)>,
+    block: usize,
+    place: usize,
 }
 
 impl State {
@@ -45,6 +64,37 @@ impl State {
         let end = code.resolve(value);
         let found = self.values.iter().rev().find(|given| given.0 == end);
         found.map_or(0, |given| given.1)
+    }
+
+    fn all_bits(
+        &self,
+        alloc: Global,
+        code: &Code,
+        values: &[u32],
+    ) -> Result<Vec<u128>, AllocError> {
+        let mut bits = Vec::new(alloc);
+        for value in values {
+            bits.push(self.bits(code, *value))?;
+        }
+        Ok(bits)
+    }
+
+    /// Goes to a block, whose parameters get these bits, all at once.
+    fn enter(&mut self, code: &Code, block: usize, bits: &[u128]) -> Result<(), AllocError> {
+        self.block = block;
+        self.place = 0;
+        let Some(entered) = code.blocks.get(block) else {
+            return Ok(());
+        };
+        for (param, value) in entered.params.iter().zip(bits.iter()) {
+            self.values.push((*param, *value))?;
+        }
+        Ok(())
+    }
+
+    fn follow(&mut self, alloc: Global, code: &Code, edge: &Edge) -> Result<(), AllocError> {
+        let bits = self.all_bits(alloc, code, edge.args.as_slice())?;
+        self.enter(code, edge.block, bits.as_slice())
     }
 
     /// What an instruction does; `Some` where it ends the run.
@@ -57,11 +107,17 @@ impl State {
                 let bits = sum(*ty, self.bits(code, *a), self.bits(code, *b));
                 self.values.push((*result, bits))?;
             }
+            Inst::Isub(result, ty, a, b) => {
+                let bits = difference(*ty, self.bits(code, *a), self.bits(code, *b));
+                self.values.push((*result, bits))?;
+            }
+            Inst::Jump(edge) => self.follow(alloc, code, edge)?,
+            Inst::Brif(condition, taken, other) => {
+                let is_taken = self.bits(code, *condition) != 0;
+                self.follow(alloc, code, if is_taken { taken } else { other })?;
+            }
             Inst::Return(values) => {
-                let mut results = Vec::new(alloc);
-                for value in values {
-                    results.push(self.bits(code, *value))?;
-                }
+                let results = self.all_bits(alloc, code, values.as_slice())?;
                 return Ok(Some(End::Returned(results)));
             }
         }
@@ -69,18 +125,26 @@ impl State {
     }
 }
 
-/// Runs the function from its entry on.
-pub fn run(alloc: Global, code: &Code) -> Result<End, AllocError> {
-    let Some(block) = code.entry.and_then(|entry| code.blocks.get(entry)) else {
+/// Runs the function from its entry on, with these arguments.
+pub fn run(alloc: Global, code: &Code, args: &[u128]) -> Result<End, AllocError> {
+    let Some(entry) = code.entry else {
         return Ok(End::Stuck);
     };
     let mut state = State {
         values: Vec::new(alloc),
+        block: entry,
+        place: 0,
     };
-    for inst in block {
+    state.enter(code, entry, args)?;
+    for _ in 0..STEPS {
+        let block = code.blocks.get(state.block);
+        let Some(inst) = block.and_then(|block| block.insts.get(state.place)) else {
+            return Ok(End::Stuck);
+        };
+        state.place = state.place.saturating_add(1);
         if let Some(end) = state.step(alloc, code, inst)? {
             return Ok(end);
         }
     }
-    Ok(End::Stuck)
+    Ok(End::Running)
 }

@@ -1,0 +1,17 @@
+use Rattle.std.proofs.Common.{refl}
+use Rattle.clif_meaning.proofs.BranchRow
+use Rattle.clif_meaning.proofs.examples.branch_examples.Goals as goal
+
+pub returns : goal.returns
+returns c = record {
+  difference = refl;
+  no_difference = refl;
+  taken = λ world. refl;
+  other = λ world. refl;
+  script = λ world. refl;
+  function = λ world. refl;
+  accepted = refl;
+  edges_match = BranchRow.edges_match;
+  one_arm = BranchRow.one_arm;
+  sealed = refl;
+}

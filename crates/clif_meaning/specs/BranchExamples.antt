@@ -1,0 +1,108 @@
+-- Branches, by computation: differences, the edge that a condition takes, and the row `both_arms` on both machines.
+-- Own; the row is from the project's worked examples.
+use Rattle.std.specs.Prelude.{◌≡◌, ℕ, zero, suc, List, [], ◌∷◌, Some, pos, negsuc}
+use Rattle.clif_types.specs.declared.types.«Type».TheVariants as type
+use Rattle.clif_types.specs.declared.call_conv.CallConv.TheVariants.{SystemV}
+use Rattle.clif_types.specs.declared.target.PointerWidth.TheVariants.{U64}
+use Rattle.clif_types.specs.Signature.{SignatureShape}
+use Rattle.clif_meaning.specs.World.{World}
+use Rattle.clif_meaning.specs.Instruction.{Iconst, Iadd, Isub, Compute, Jump, Brif, Return, Known, Edge}
+use Rattle.clif_meaning.specs.Outcome.{Goes, Values, computed, outcome_of}
+use Rattle.clif_meaning.specs.Name.{Name, answer_of}
+use Rattle.clif_meaning.specs.Request.{Request, CreateBlock, SwitchToBlock, SealBlock, DeclareVar, DefVar, UseVar, Build, Script}
+use Rattle.clif_meaning.specs.Acceptance.{iconst, jump, return_, Accepted, Misuse, verdict_on}
+use Rattle.clif_meaning.specs.FunctionView.{Placed, BlockView, FunctionView}
+use Rattle.clif_meaning.specs.Typing.{EdgesMatch}
+use Rattle.clif_meaning.specs.Headline.{script_behaviour, function_behaviour}
+use Rattle.clif_meaning.specs.Examples.{i8, i32, placed, ended_with}
+
+-- an edge that passes nothing
+abbrev pub plain : {Block Operand : Type 0} → Block → Edge Block Operand
+plain block = record { target = block; arguments = [] }
+
+-- an edge that passes one value
+abbrev pub passing : ℕ → ℕ → Edge ℕ ℕ
+passing block value = record { target = block; arguments = Known value ∷ [] }
+
+-- a branch of 32 bits
+abbrev pub branch : Name → Name → Name → Request
+branch condition taken other =
+    Build (record { operation = Brif; controlling = i32; operands = condition ∷ []; edges = plain taken ∷ plain other ∷ [] })
+
+abbrev pub block : ℕ → Name
+block number = answer_of number 0
+
+-- The row: block0: x = 5, jump to block1; block1: by x to block2 or block3; block2: x = x + (-1), by x to block1 or block1;
+-- block3 returns x. block1 is sealed behind block2, the other ones as soon as their branches are there.
+abbrev pub both_arms_script : Script
+both_arms_script =
+    CreateBlock ∷ CreateBlock ∷ CreateBlock ∷ CreateBlock ∷ DeclareVar i32
+    ∷ SwitchToBlock (block 0) ∷ SealBlock (block 0) ∷ iconst i32 (pos 5) ∷ DefVar 0 (answer_of 7 1) ∷ jump (plain (block 1))
+    ∷ SwitchToBlock (block 1) ∷ UseVar 0 ∷ branch (answer_of 11 0) (block 2) (block 3)
+    ∷ SwitchToBlock (block 2) ∷ SealBlock (block 2) ∷ UseVar 0 ∷ iconst i32 (negsuc 0)
+    ∷ Build (record { operation = Compute Iadd; controlling = i32; operands = answer_of 15 0 ∷ answer_of 16 1 ∷ []; edges = [] })
+    ∷ DefVar 0 (answer_of 17 1) ∷ branch (answer_of 17 1) (block 1) (block 1) ∷ SealBlock (block 1)
+    ∷ SwitchToBlock (block 3) ∷ SealBlock (block 3) ∷ UseVar 0 ∷ return_ (answer_of 23 0 ∷ []) ∷ []
+
+abbrev pub no_block : BlockView
+no_block = record { parameters = []; items = [] }
+
+-- an instruction without results and stack map, at these edges
+abbrev pub going : List ℕ → List (Edge ℕ ℕ) → Placed
+going [] edges = record {
+  instruction = record { operation = Jump; controlling = type.Invalid; operands = []; edges = edges };
+  results = [];
+  stack_map = [];
+}
+going (condition ∷ more) edges = record {
+  instruction = record { operation = Brif; controlling = i32; operands = condition ∷ []; edges = edges };
+  results = [];
+  stack_map = [];
+}
+
+-- the function of the row, where block2 ends in a branch with these edges
+abbrev pub both_arms_blocks : List (Edge ℕ ℕ) → ℕ → BlockView
+both_arms_blocks edges zero =
+    record { parameters = []; items = placed (Compute (Iconst (pos 5))) i32 [] (0 ∷ []) ∷ going [] (passing 1 0 ∷ []) ∷ [] }
+both_arms_blocks edges (suc zero) = record { parameters = 1 ∷ []; items = going (1 ∷ []) (plain 2 ∷ plain 3 ∷ []) ∷ [] }
+both_arms_blocks edges (suc (suc zero)) =
+    record {
+      parameters = [];
+      items = placed (Compute (Iconst (negsuc 0))) i32 [] (2 ∷ []) ∷ placed (Compute Iadd) i32 (1 ∷ 2 ∷ []) (3 ∷ []) ∷ going (3 ∷ []) edges ∷ [];
+    }
+both_arms_blocks edges (suc (suc (suc zero))) = record { parameters = []; items = placed Return type.Invalid (1 ∷ []) [] ∷ [] }
+both_arms_blocks edges (suc (suc (suc (suc number)))) = no_block
+
+abbrev pub both_arms_signature : SignatureShape
+both_arms_signature = record { params = []; returns = record { value_type = i32 } ∷ []; call_conv = SystemV }
+
+abbrev pub both_arms_with : List (Edge ℕ ℕ) → FunctionView
+both_arms_with edges = record {
+  signature = both_arms_signature;
+  entry = Some 0;
+  blocks = both_arms_blocks edges;
+  resolved = λ v. v;
+  value_type = λ v. i32;
+  slots = [];
+}
+
+abbrev pub both_arms_function : FunctionView
+both_arms_function = both_arms_with (passing 1 3 ∷ passing 1 3 ∷ [])
+
+-- the argument stands on one arm alone
+abbrev pub one_arm_function : FunctionView
+one_arm_function = both_arms_with (passing 1 3 ∷ plain 1 ∷ [])
+
+pub record BranchExamples : Type 0 where
+  pub difference : computed Isub i8 (3 ∷ 5 ∷ []) ≡ Values (254 ∷ [])
+  pub no_difference : computed Isub i8 (200 ∷ 200 ∷ []) ≡ Values (0 ∷ [])
+  pub taken : (world : World) → outcome_of world Brif i8 (7 ∷ []) world.memory ≡ Goes 0 [] world.memory
+  pub other : (world : World) → outcome_of world Brif i8 (0 ∷ []) world.memory ≡ Goes 1 [] world.memory
+  -- the row answers 0 on both machines, in every world
+  pub script : (world : World) → script_behaviour both_arms_script both_arms_function world 42 ≡ ended_with (0 ∷ []) world
+  pub function : (world : World) → function_behaviour both_arms_script both_arms_function U64 world 24 ≡ ended_with (0 ∷ []) world
+  pub accepted : verdict_on both_arms_script ≡ Accepted
+  pub edges_match : EdgesMatch both_arms_function
+  pub one_arm : EdgesMatch one_arm_function → ⊥
+  -- a jump to a sealed block
+  pub sealed : verdict_on (CreateBlock ∷ SwitchToBlock (block 0) ∷ SealBlock (block 0) ∷ jump (plain (block 0)) ∷ []) ≡ Misuse 3
