@@ -44,11 +44,6 @@ use Rattle.clif_simulation.proofs.Growing.{placed_kept, goes_on-then, goes_on-in
 use Rattle.clif_simulation.proofs.Values.{is_value_at, false_is, values_added, next_is_new}
 use Rattle.clif_simulation.proofs.Calls.{values_same, name_stays, longer_calls}
 
-no_edges : (shape : InstructionData) → edges_of shape ≡ []
-no_edges (UnaryImm imm) = refl
-no_edges (Binary opcode args) = refl
-no_edges (MultiAry args) = refl
-
 -- an instruction as the machine sees it, by its parts
 abbrev placed_parts : Operation → «Type» → List ℕ → List (Edge ℕ ℕ) → List ℕ → Placed
 placed_parts operation controlling arguments edges results =
@@ -64,6 +59,7 @@ placed_same o p c d xs ys es fs rs ss a b e g h =
 pub record SameInstruction (calls : List AnsweredCall) (shape : InstructionData) (instruction : Instruction Name Name) : Type 0 where
   pub operation : operation_of shape ≡ instruction.operation
   pub arguments : operands shape ≡ map (answered calls) instruction.operands
+  pub no_edges : edges_of shape ≡ []
   pub edges : instruction.edges ≡ []
   pub earlier : AllByRecursion (IsEarlier calls) instruction.operands
 
@@ -110,7 +106,7 @@ module _ (calls : List AnsweredCall) (f : Body) (s : SsaState) (c : Carries call
   earlier_after = all_mapped (IsEarlier calls) (IsEarlier after) (earlier_name calls call) instruction.operands matches.earlier
 
   edges_same : edges_of shape ≡ map (answered_edge after) instruction.edges
-  edges_same = no_edges shape ∙ sym (edges_answered after instruction.edges matches.edges)
+  edges_same = matches.no_edges ∙ sym (edges_answered after instruction.edges matches.edges)
 
   own_here : with_own c.own b (length h.insts) b ≡ c.own b ++ length h.insts ∷ []
   own_here = updated-same c.own b (c.own b ++ length h.insts ∷ []) b refl

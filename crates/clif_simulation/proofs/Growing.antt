@@ -8,7 +8,8 @@ use Rattle.clif_ir.specs.declared.function.ValueNode.{ValueNode}
 use Rattle.clif_ir.specs.declared.inst_list.BlockEnd.{BlockEnd}
 use Rattle.clif_ir.specs.declared.inst_list.BlockEnd.TheVariants.{Front}
 use Rattle.clif_ir.specs.declared.instructions.InstructionData.{InstructionData}
-use Rattle.clif_ir.specs.declared.instructions.InstructionData.TheVariants.{UnaryImm, Binary, MultiAry}
+use Rattle.clif_ir.specs.declared.instructions.InstructionData.TheVariants.{UnaryImm, Binary, Jump, Brif, MultiAry}
+use Rattle.clif_ir.specs.Instruction.{operands}
 use Rattle.clif_ir.specs.Body.{Body, no_value, inst_at}
 use Rattle.clif_ir.specs.Consistent.{IsConsistent}
 use Rattle.clif_ir.specs.Changes.{inserted_in, with_layout, with_param, with_inst, with_alias}
@@ -92,14 +93,17 @@ first_kept f g on [] exist = refl
 first_kept f g on (v ∷ values) exist = on.types v (exist 0 (omega arith))
 
 controlling_kept : (f g : Body) → GoesOn f g → (shape : InstructionData) (values : List ℕ) → ((k : ℕ) → k < length values → slice_index values k < length f.values)
+    → ((k : ℕ) → k < length (operands shape) → slice_index (operands shape) k < length f.values)
     → controlling_of g shape values ≡ controlling_of f shape values
-controlling_kept f g on (UnaryImm imm) values exist = first_kept f g on values exist
-controlling_kept f g on (Binary opcode args) values exist = first_kept f g on values exist
-controlling_kept f g on (MultiAry args) values exist = refl
+controlling_kept f g on (UnaryImm imm) values exist operands_exist = first_kept f g on values exist
+controlling_kept f g on (Binary opcode args) values exist operands_exist = first_kept f g on values exist
+controlling_kept f g on (Jump destination) values exist operands_exist = refl
+controlling_kept f g on (Brif arg blocks) values exist operands_exist = on.types arg (operands_exist 0 (omega arith))
+controlling_kept f g on (MultiAry args) values exist operands_exist = refl
 
 -- what the machine sees of an instruction stays
 pub placed_kept : (f g : Body) → IsConsistent f → GoesOn f g → (i : ℕ) → i < length f.insts → placed_of g (inst_at g i) ≡ placed_of f (inst_at f i)
 placed_kept f g consistent on i below =
     ap (placed_of g) (on.insts i below)
     ∙ ap (λ (controlling : «Type»). record (placed_of f (inst_at f i)) { instruction = record (placed_of f (inst_at f i)).instruction { controlling = controlling } })
-    (controlling_kept f g on (inst_at f i).shape (inst_at f i).results (λ k h. (consistent.results_known i k h).0))
+    (controlling_kept f g on (inst_at f i).shape (inst_at f i).results (λ k h. (consistent.results_known i k h).0) (consistent.operands_exist i))

@@ -15,13 +15,13 @@ use Rattle.clif_meaning.specs.Program.{Item, Instruct, Use, Assign}
 use Rattle.clif_meaning.specs.WellPlaced.{item_names, program_code, IsWellPlaced}
 use Rattle.clif_meaning.proofs.StraightLine.{nothing_contained}
 use Rattle.clif_simulation.specs.Tables.{code, answered, program_so_far, assigned_by}
-use Rattle.clif_simulation.specs.Carries.{Carries}
+use Rattle.clif_simulation.specs.Carries.{Carries, NamesEarlier}
 use Rattle.clif_simulation.specs.Laws.{IsFinished}
 use Rattle.clif_simulation.proofs.Codes
 use Rattle.clif_simulation.proofs.Giving.{In, contained_in, in_contained}
 use Rattle.clif_simulation.proofs.Agreement.{Agrees, GivesThere, UsesThere, AssignsThere}
 use Rattle.clif_simulation.proofs.Straight.{arms, next_arm, straight, straight_end, straight_follows, visits_so_far, absent_name, absent_value, dominates}
-use Rattle.clif_simulation.proofs.Listed.{place_within}
+use Rattle.clif_simulation.proofs.Listed.{place_within, all_at}
 use Rattle.clif_simulation.proofs.Entry
 
 module _ (calls : List AnsweredCall) (f : Body) (s : SsaState) (carries : Carries calls f s)
@@ -39,6 +39,12 @@ module _ (calls : List AnsweredCall) (f : Body) (s : SsaState) (carries : Carrie
 
     abbrev pub function : Function
     function = carries.tables.function
+
+    -- an instruction has no edges so far
+    pub no_edges : (k place : ℕ) (instruction : Instruction Name Name) (results : List Name) → slice_get items k ≡ Some (Instruct place instruction results)
+        → instruction.edges ≡ []
+    no_edges k place instruction results stands =
+        (all_at (NamesEarlier calls) items k (Instruct place instruction results) (carries.earlier entry) stands).2
 
     not_start : (p : Place) (b k : ℕ) → p ≡ inside b k → p ≢ start
     not_start p b k at none = no_start (sym none ∙ at)

@@ -1,5 +1,6 @@
 -- What a script's program has, and places of lists.
-use Rattle.std.proofs.Common.{◌≡◌, ℕ, zero, suc, ◌<◌, List, [], ◌∷◌, length, fold, slice_get, Option, Some, None, Contains, ◌⊎◌, inl, inr, refl, ◌∙◌, ap, arith}
+use Rattle.std.proofs.Common.{◌≡◌, ℕ, zero, suc, ◌<◌, List, [], ◌∷◌, length, fold, slice_get, Option, Some, None, Contains, ◌⊎◌, inl, inr, refl, ◌∙◌, ap, subst, arith}
+use Rattle.std.specs.List.{AllByRecursion}
 use Rattle.clif_meaning.specs.Name.{Name}
 use Rattle.clif_meaning.specs.Request.{Request, CreateBlock, SwitchToBlock, SealBlock, DeclareVar, DefVar, UseVar, Build, Finalize, Script}
 use Rattle.clif_meaning.specs.Program.{Program, Item, with_item_at, with_inserted, extended, with_call, empty_program, program_of}
@@ -36,6 +37,12 @@ pub place_within : {X : Type 0} (xs : List X) (k : ℕ) (x : X) → slice_get xs
 place_within [] k x found = cc
 place_within (y ∷ xs) zero x found = omega arith
 place_within (y ∷ xs) (suc k) x found = omega (arith, place_within xs k x found)
+
+-- what holds of each entry of a list holds of the one at this place
+pub all_at : {X : Type 0} (P : X → Type 0) (xs : List X) (k : ℕ) (x : X) → AllByRecursion P xs → slice_get xs k ≡ Some x → P x
+all_at P [] k x all found = cc
+all_at P (y ∷ xs) zero x all found = let same : y ≡ x = cc in subst P same all.0
+all_at P (y ∷ xs) (suc k) x all found = all_at P xs k x all.1 found
 
 -- The straight path through a block ---------------------------------------------------------------------------------
 

@@ -3,7 +3,7 @@ use Rattle.std.proofs.Common.{◌≡◌, ℕ, zero, suc, ◌<◌, List, [], ◌�
 use Rattle.clif_meaning.specs.Bits.{Bits}
 use Rattle.clif_meaning.specs.Memory.{Memory}
 use Rattle.clif_meaning.specs.Machine.{Machine, Control, At, HasReturned, HasTrapped, IsStuck, Observation, ending_of}
-use Rattle.clif_meaning.specs.Instruction.{Operation, Compute, Return}
+use Rattle.clif_meaning.specs.Instruction.{Operation, Compute, Jump, Brif, Return}
 use Rattle.clif_types.specs.declared.types.«Type».{«Type»}
 use Rattle.clif_meaning.specs.World.{World}
 use Rattle.clif_meaning.specs.Outcome.{Outcome, Gives, Goes, Returns, Traps, Calls, NoStep, Computed, Values, Fault, Undefined, computed, outcome_of_computed, outcome_of}
@@ -86,10 +86,10 @@ same_ending IsStuck IsStuck memory same = refl
 
 -- Outcomes --------------------------------------------------------------------------------------------------------------
 
--- it goes on in its block, or ends
+-- it goes on in its block, along an edge, or ends
 abbrev pub IsPlain : Outcome → Type 0
 IsPlain (Gives results memory) = Unit {0}
-IsPlain (Goes edge given memory) = ⊥
+IsPlain (Goes edge given memory) = Unit {0}
 IsPlain (Returns results) = Unit {0}
 IsPlain (Traps reason) = Unit {0}
 IsPlain (Calls callee call arguments) = ⊥
@@ -100,7 +100,15 @@ computed_plain (Values results) memory = tt
 computed_plain (Fault reason) memory = tt
 computed_plain Undefined memory = tt
 
--- no instruction so far is a branch or a call
+-- what a condition takes is an edge
+goes_plain : (ty : «Type») (world : World) (operands : List Bits) (memory : Memory) → IsPlain (outcome_of world Jump ty operands memory) × IsPlain (outcome_of world Brif ty operands memory)
+goes_plain ty world [] memory = (tt, tt)
+goes_plain ty world (x ∷ []) memory = (tt, tt)
+goes_plain ty world (x ∷ y ∷ operands) memory = (tt, tt)
+
+-- no instruction so far is a call
 pub outcome_plain : (world : World) (operation : Operation) (ty : «Type») (operands : List Bits) (memory : Memory) → IsPlain (outcome_of world operation ty operands memory)
 outcome_plain world (Compute arithmetic) ty operands memory = computed_plain (computed arithmetic ty operands) memory
+outcome_plain world Jump ty operands memory = (goes_plain ty world operands memory).0
+outcome_plain world Brif ty operands memory = (goes_plain ty world operands memory).1
 outcome_plain world Return ty operands memory = tt

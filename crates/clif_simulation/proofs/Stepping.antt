@@ -8,7 +8,7 @@ use Rattle.clif_paths.specs.Laws.{IsCorrect}
 use Rattle.clif_ssa.specs.Ssa.{SsaState}
 use Rattle.clif_meaning.specs.Name.{Name}
 use Rattle.clif_meaning.specs.Request.{AnsweredCall, script_of}
-use Rattle.clif_meaning.specs.Instruction.{Instruction}
+use Rattle.clif_meaning.specs.Instruction.{Instruction, Edge}
 use Rattle.clif_meaning.specs.Program.{Item, Instruct, Use, Assign}
 use Rattle.clif_meaning.specs.World.{World}
 use Rattle.clif_meaning.specs.Event.{Event}
@@ -26,7 +26,7 @@ use Rattle.clif_meaning.specs.Headline.{script_run, function_run}
 use Rattle.clif_meaning.specs.WellPlaced.{program_code, IsWellPlaced}
 use Rattle.clif_meaning.proofs.Stuttering.{Matched}
 use Rattle.clif_simulation.specs.Tables.{answered, program_so_far}
-use Rattle.clif_simulation.specs.Carries.{Carries, carried, answered_instruction}
+use Rattle.clif_simulation.specs.Carries.{Carries, carried, answered_instruction, answered_edge}
 use Rattle.clif_simulation.specs.Laws.{IsFinished}
 use Rattle.clif_simulation.proofs.Giving.{in_contained}
 use Rattle.clif_simulation.proofs.Agreement.{Agrees, given_agrees, used_agrees, assigned_agrees}
@@ -192,6 +192,16 @@ module _ (calls : List AnsweredCall) (f : Body) (ssa : SsaState) (carries : Carr
     placed_of_item instruction results =
         record { instruction = answered_instruction calls instruction; results = map (answered calls) results; stack_map = [] }
 
+    -- where there are no edges, both machines are stuck at a branch
+    no_edge_taken : {k : ℕ} {rest : List Item} {p : ScriptState} {q : FunctionState} → Running k rest p q → {edges : List (Edge Name Name)} → edges ≡ []
+        → (edge : ℕ) (given : List ℕ) (memory : Memory)
+        → Related (script.follow_edge left_run (record p { memory = memory }) given (slice_get edges edge))
+        (function_machine_of.follow_edge right_run (record q { memory = memory }) given (slice_get (map (answered_edge calls) edges) edge))
+    no_edge_taken {k} {rest} {p} {q} r {edges} none edge given memory =
+        subst (λ (es : List (Edge Name Name)). Related (script.follow_edge left_run (record p { memory = memory }) given (slice_get es edge))
+        (function_machine_of.follow_edge right_run (record q { memory = memory }) given (slice_get (map (answered_edge calls) es) edge))) (sym none)
+        (inr (record { same_end = tt; same_memory = refl; same_events = r.same_events }))
+
     after_outcome : (k place : ℕ) (instruction : Instruction Name Name) (results : List Name) (rest : List Item) (p : ScriptState) (q : FunctionState)
         → Running k (Instruct place instruction results ∷ rest) p q → (o : Outcome) → IsPlain o
         → Related (script.carry_out left_run p instruction.edges results rest o)
@@ -211,7 +221,8 @@ module _ (calls : List AnsweredCall) (f : Body) (ssa : SsaState) (carries : Carr
             p.variables p.names q.values r.agrees bits;
       },
     )
-    after_outcome k place instruction results rest p q r (Goes edge given memory) plain = absurd plain
+    after_outcome k place instruction results rest p q r (Goes edge given memory) plain =
+        no_edge_taken r (Items.no_edges calls f ssa carries entry is_entry k place instruction results (item_here items k (Instruct place instruction results) rest r.behind)) edge given memory
     after_outcome k place instruction results rest p q r (Returns bits) plain =
         inr (record { same_end = refl; same_memory = r.same_memory; same_events = r.same_events })
     after_outcome k place instruction results rest p q r (Traps reason) plain =
