@@ -13,7 +13,7 @@ use Rattle.clif_ir.specs.Changes.{inserted_in, with_inst, inst_node}
 use Rattle.clif_ir.specs.declared.instructions.BinaryOpcode.TheVariants as binary
 use Rattle.clif_ir.specs.declared.instructions.InstructionData.TheVariants.{UnaryImm, Binary, MultiAry}
 use Rattle.clif_meaning.specs.Name.{Name}
-use Rattle.clif_meaning.specs.Instruction.{Arithmetic, Iconst, Iadd, Compute, Return}
+use Rattle.clif_meaning.specs.Instruction.{Arithmetic, Iconst, Iadd, Isub, Compute, Return}
 use Rattle.clif_meaning.specs.Request.{AnsweredCall, Build, Request}
 use Rattle.clif_meaning.specs.Program as program
 use Rattle.clif_meaning.specs.Ledger.{AValue, AnInstruction, BlockState, Ledger, ledger_with, with_begun, with_filled_at, with_state, or_invalid, type_of}
@@ -89,6 +89,7 @@ agrees-computed calls ledger f g c d p block shape arithmetic ty operands inst v
     types_of : (a : Arithmetic) → program.result_types (Compute a) ty ≡ ty ∷ []
     types_of (Iconst number) = refl
     types_of Iadd = refl
+    types_of Isub = refl
 
 -- the state of a block that gets its terminator
 abbrev pub filled : BlockState → BlockState

@@ -96,7 +96,7 @@ stands_iconst declared calls old new ty imm value stands consistent current appe
     let here : AppendsValue old new block (UnaryImm imm) ty value = subst (λ (o : Option ℕ). IfSome o (λ b. AppendsValue old new b (UnaryImm imm) ty value)) current.1 appends in
     let name = current_name declared calls old.func.now old.ctx.now old.position stands block current.1 in
     let ledger = built-iconst calls old new ty imm value stands.ledger current appends ssa variables position in
-    let matches : SameInstruction calls (UnaryImm imm) _ = record { operation = refl; arguments = refl; edges = refl; earlier = tt } in
+    let matches : SameInstruction calls (UnaryImm imm) _ = record { operation = refl; arguments = refl; no_edges = refl; edges = refl; earlier = tt } in
     let carries = carries_result calls old.func.now old.ctx.now.ssa stands.carries consistent block name.0 name.1 current.2 (UnaryImm imm) _ no_srcloc (length old.func.now.insts ∷ value ∷ []) matches
     ty refl refl (λ g values. refl) (ap (λ (v : ℕ). Some v) (here.1 ∙ sym (inserted-values old.func.now block))) in
     subst (λ (o : Option ℕ). StandsIn declared (calls ++ call ∷ []) new.func.now new.ctx.now o) (sym position)
@@ -124,6 +124,7 @@ stands_iadd declared calls old new a b x y value stands consistent first second 
     let matches : SameInstruction calls shape _ = record {
       operation = refl;
       arguments = ap (λ (v : ℕ). v ∷ y ∷ []) (answer_is calls a x first.number) ∙ ap (λ (v : ℕ). answered calls a ∷ v ∷ []) (answer_is calls b y second.number);
+      no_edges = refl;
       edges = refl;
       earlier = (named_earlier calls a x first.number, (named_earlier calls b y second.number, tt));
     } in
@@ -146,7 +147,7 @@ stands_return declared calls old new names values inst stands consistent named c
     let name = current_name declared calls old.func.now old.ctx.now old.position stands block current.1 in
     let ledger = built-return calls old new names values inst stands.ledger current appends ssa variables position in
     let all = all_named calls names values named in
-    let matches : SameInstruction calls (MultiAry values) _ = record { operation = refl; arguments = all.0; edges = refl; earlier = all.1 } in
+    let matches : SameInstruction calls (MultiAry values) _ = record { operation = refl; arguments = all.0; no_edges = refl; edges = refl; earlier = all.1 } in
     let carries = carries_terminator calls old.func.now old.ctx.now.ssa stands.carries consistent block name.0 name.1 current.2 (MultiAry values) _ no_srcloc (inst ∷ []) matches refl (λ g. refl) in
     subst (λ (o : Option ℕ). StandsIn declared (calls ++ call ∷ []) new.func.now new.ctx.now o) (sym position)
     (stands_built declared calls old.func.now new.func.now old.ctx.now new.ctx.now old.position stands consistent block current.1 current.2 ssa Filled here.status filled

@@ -2,7 +2,7 @@
 ghost use Rattle.std.specs.Prelude.{◌≡◌, ◌≢◌, ◌<◌, ◌-◌, ◌^◌, ◌⊎◌, ◌↔◌, ◌∷◌, [], ◌++◌, List, ℕ, IsTrue, OnOk, OnErr, IfOk, IfSome, is_err, Some, true, false, length, map, slice_index, EachIndex, if◌then◌else◌};
 ghost use Rattle.clif_types.specs.Types.{is_int};
 ghost use Rattle.clif_ir.specs.Body.{value_at};
-ghost use Rattle.clif_ir.specs.Instruction.{operands, is_terminator, has_result, result_types};
+ghost use Rattle.clif_ir.specs.Instruction.{operands, destinations, is_terminator, has_result, result_types};
 ghost use Rattle.cranelift_frontend.specs.Context.{SetsStatus, status_of, begun};
 ghost use Rattle.cranelift_frontend.specs.Growth.{Grows, RecordsExist};
 ghost use Rattle.cranelift_frontend.specs.Builder.{SameLoans, HasCurrent, Appends, AppendsIn, AppendsValue};
@@ -29,10 +29,11 @@ pub trait InstBuilderBase<'f>: Sized {
     // the function has this value
     ghost has_value: { Self → ℕ → Type 0 };
 
-    /// Appends an instruction; `ctrl_type` is its controlling type.
+    /// Appends an instruction, which is no branch so far; `ctrl_type` is its controlling type.
     fn build(self, shape: InstructionData, ctrl_type: Type) -> Result<Inst, BuildError>
         requires current { can_build self }
-        requires operands_exist { EachIndex (operands shape) (λ k. has_value self (slice_index (operands shape) k)) };
+        requires operands_exist { EachIndex (operands shape) (λ k. has_value self (slice_index (operands shape) k)) }
+        requires no_branch { destinations shape ≡ [] };
 }
 
 impl<'short, 'long> InstBuilderBase<'long> for &'short mut FunctionBuilder<'long> {
@@ -40,12 +41,14 @@ impl<'short, 'long> InstBuilderBase<'long> for &'short mut FunctionBuilder<'long
 
     ghost has_value = { λ b value. value < length b.now.func.now.values };
 
-    /// Appends an instruction to the current block; `ctrl_type` is its controlling type.
+    /// Appends an instruction, which is no branch so far, to the current block; `ctrl_type` is its controlling
+    /// type.
     ///
     /// A terminator fills the block.
     fn build(self, shape: InstructionData, ctrl_type: Type) -> Result<Inst, BuildError>
         requires current { HasCurrent self.old }
         requires operands_exist { EachIndex (operands shape) (λ k. slice_index (operands shape) k < length self.old.func.now.values) }
+        requires no_branch { destinations shape ≡ [] }
         ensures loans { SameLoans self.old self.new }
         ensures appends { IfSome self.old.position (λ block. IfOk result (Appends self.old self.new block shape ctrl_type)) }
         ensures ssa { self.new.ctx.now.ssa ≡ self.old.ctx.now.ssa }
@@ -192,6 +195,7 @@ fn append_value(
 ) -> Result<Value, BuildError>
     requires current { HasCurrent builder.old }
     requires operands_exist { EachIndex (operands shape) (λ k. slice_index (operands shape) k < length builder.old.func.now.values) }
+    requires no_branch { destinations shape ≡ [] }
     requires result { result_types shape ty ≡ ty ∷ [] }
     requires goes_on { is_terminator shape ≡ false }
     ensures loans { SameLoans builder.old builder.new }
@@ -221,6 +225,7 @@ fn append(
 ) -> Result<Inst, BuildError>
     requires block_exists { block < length func.old.blocks }
     requires operands_exist { EachIndex (operands shape) (λ k. slice_index (operands shape) k < length func.old.values) }
+    requires no_branch { destinations shape ≡ [] }
     ensures appends { IfOk result (AppendsIn func.old ctx.old func.new ctx.new block shape ctrl_type) }
     ensures ssa { ctx.new.ssa ≡ ctx.old.ssa }
     ensures variables { ctx.new.variables ≡ ctx.old.variables }
