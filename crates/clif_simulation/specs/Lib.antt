@@ -1,3 +1,4 @@
 pub mod Tables
 pub mod Carries
+pub mod Reading
 pub mod Laws
