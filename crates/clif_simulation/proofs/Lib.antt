@@ -19,6 +19,8 @@ mod Reaching
 mod Alongside
 mod Setting
 pub mod RightReading
+-- The row `first`, half built.
+mod HalfRow
 -- A function goes on to carry one more call.
 pub mod Numbers
 pub mod NameLists

@@ -46,7 +46,7 @@ module _ (calls : List AnsweredCall) where
   item_leads (Use variable name) earlier = refl
   item_leads (Assign variable name) earlier = refl
 
-  leads_nowhere : (items : List Item) (k : ℕ) → AllByRecursion (NamesEarlier calls) items → item_targets (slice_get items k) ≡ []
+  pub leads_nowhere : (items : List Item) (k : ℕ) → AllByRecursion (NamesEarlier calls) items → item_targets (slice_get items k) ≡ []
   leads_nowhere [] k all = refl
   leads_nowhere (item ∷ items) zero all = item_leads item all.0
   leads_nowhere (item ∷ items) (suc k) all = leads_nowhere items k all.1

@@ -3,5 +3,6 @@
 //! in `specs/`; the functions here have empty bodies, and their contracts are the laws.
 #![tactic(auto)]
 
+pub mod examples;
 pub mod meaning;
 pub mod names;
