@@ -8,7 +8,7 @@ use Rattle.clif_ssa.specs.declared.tables.Pending.{Pending}
 use Rattle.clif_ssa.specs.Ssa.{SsaState, record_of, sealed_of}
 use Rattle.clif_ssa.specs.Tables.{is_yes, pending_of}
 use Rattle.clif_meaning.specs.Bits.{Bits}
-use Rattle.clif_meaning.specs.Event.{Event}
+use Rattle.clif_meaning.specs.Event.{Event, types_of}
 use Rattle.clif_meaning.specs.Memory.{Memory}
 use Rattle.clif_meaning.specs.Name.{Name, answer_of, same_name}
 use Rattle.clif_meaning.specs.Instruction.{Operation, Compute, Iconst}
@@ -18,7 +18,7 @@ use Rattle.clif_meaning.specs.Machine.{Machine, Control, At, IsStuck, Observatio
 use Rattle.clif_meaning.specs.ScriptMachine as script
 use Rattle.clif_meaning.specs.ScriptMachine.{ScriptRun, ScriptState, script_machine}
 use Rattle.clif_meaning.specs.FunctionMachine as function_machine_of
-use Rattle.clif_meaning.specs.FunctionMachine.{Collector, ByMaps, FunctionRun, FunctionState, function_machine}
+use Rattle.clif_meaning.specs.FunctionMachine.{same_value, Collector, ByMaps, FunctionRun, FunctionState, function_machine}
 use Rattle.clif_meaning.specs.FunctionView.{Placed}
 use Rattle.clif_meaning.specs.View.{view_of, block_of}
 use Rattle.clif_meaning.specs.Path.{Place}
@@ -33,6 +33,7 @@ use Rattle.clif_meaning.proofs.SampleWorld
 use Rattle.clif_simulation.specs.Tables.{answered, program_so_far, block_name}
 use Rattle.clif_simulation.specs.Reading.{code_so_far, behind, PremisesSoFar, script_run_so_far, function_run_so_far, starting_at, StandAlike, StartAlike, SideBySide, ReadsRight}
 use Rattle.clif_simulation.specs.ReadingExamples.{half_body_with, half_body, half_state_with, half_state, waiting_parameter, with_nine, first_value, with_bits}
+use Rattle.clif_simulation.proofs.Starting.{no_arguments, none_assigned}
 use Rattle.clif_simulation.proofs.Reaching.{given_behind, leads_nowhere}
 use Rattle.clif_simulation.specs.Carries.{NamesEarlier}
 
@@ -157,43 +158,54 @@ no_block block name named = cc
 the_name : (name : Name) → block_name answered_calls 0 ≡ Some name → block0 ≡ name
 the_name name named = cc
 
-pub reads_right : ReadsRight answered_calls first_signature half_body half_state
-reads_right width world tracked collector fits premises = record {
-  from_entry = λ block name named is_entry sealed. absurd (unsealed block name named sealed);
-  from_unsealed = λ block name named reached unsealed_here p q start. from block name named p q start;
-}
+module _ (width : PointerWidth) (world : World) (tracked : Name → Bool) (collector : Collector)
   where
-    unsealed : (block : ℕ) (name : Name) → block_name answered_calls block ≡ Some name → is_yes (sealed_of half_state block) ≡ true → ⊥
-    unsealed zero name named sealed = cc
-    unsealed (suc block) name named sealed = no_block block name named
+    abbrev left_machine : Machine ScriptState Observation
+    left_machine = script_machine (script_run_so_far answered_calls half_body world tracked)
 
-    sides : (p : ScriptState) (q : FunctionState) → StartAlike answered_calls half_body half_state 0 block0 p q
-        → SideBySide answered_calls half_body half_state 0 block0
-        (starting_at (script_machine (script_run_so_far answered_calls half_body world tracked)) p)
-        (starting_at (function_machine (function_run_so_far answered_calls half_body width world collector)) q)
+    abbrev right_machine : Machine FunctionState Observation
+    right_machine = function_machine (function_run_so_far answered_calls half_body width world collector)
+
+    abbrev Sides : ℕ → Name → ScriptState → FunctionState → Type 0
+    Sides block name p q = SideBySide answered_calls half_body half_state block name (starting_at left_machine p) (starting_at right_machine q)
+
+    sides : (p : ScriptState) (q : FunctionState) → StartAlike answered_calls half_body half_state 0 block0 p q → Sides 0 block0 p q
     sides p q start =
         let p_is : p ≡ record p { control = At items } = ap (λ (c : Control Item). record p { control = c }) start.script_at in
         let q_is : q ≡ record q { control = At (block_of half_body 0).items } = ap (λ (c : Control Placed). record q { control = c }) start.function_at in
-        subst (λ (s : ScriptState). SideBySide answered_calls half_body half_state 0 block0
-        (starting_at (script_machine (script_run_so_far answered_calls half_body world tracked)) s)
-        (starting_at (function_machine (function_run_so_far answered_calls half_body width world collector)) q)) (sym p_is)
-        (subst (λ (t : FunctionState). SideBySide answered_calls half_body half_state 0 block0
-        (starting_at (script_machine (script_run_so_far answered_calls half_body world tracked)) (record p { control = At items }))
-        (starting_at (function_machine (function_run_so_far answered_calls half_body width world collector)) t)) (sym q_is)
+        subst (λ (s : ScriptState). Sides 0 block0 s q) (sym p_is)
+        (subst (λ (t : FunctionState). Sides 0 block0 (record p { control = At items }) t) (sym q_is)
         (side_by_side width world tracked collector p.variables p.names q.values p.memory q.memory p.events q.events
         (start.waiting waiting_parameter (first_of_one waiting_parameter waiting_parameter refl)) start.same_memory start.same_events))
 
     from : (block : ℕ) (name : Name) → block_name answered_calls block ≡ Some name → (p : ScriptState) (q : FunctionState)
-        → StartAlike answered_calls half_body half_state block name p q
-        → SideBySide answered_calls half_body half_state block name
-        (starting_at (script_machine (script_run_so_far answered_calls half_body world tracked)) p)
-        (starting_at (function_machine (function_run_so_far answered_calls half_body width world collector)) q)
+        → StartAlike answered_calls half_body half_state block name p q → Sides block name p q
     from zero name named p q start =
-        subst (λ (n : Name). StartAlike answered_calls half_body half_state 0 n p q → SideBySide answered_calls half_body half_state 0 n
-        (starting_at (script_machine (script_run_so_far answered_calls half_body world tracked)) p)
-        (starting_at (function_machine (function_run_so_far answered_calls half_body width world collector)) q))
+        subst (λ (n : Name). StartAlike answered_calls half_body half_state 0 n p q → Sides 0 n p q)
         (the_name name named) (λ alike. sides p q alike) start
     from (suc block) name named p q start = absurd (no_block block name named)
+
+    -- the machines' own start, where nothing is passed
+    from_entry : world.arguments ≡ [] → (block : ℕ) (name : Name) → block_name answered_calls block ≡ Some name → Sides block name left_machine.start right_machine.start
+    from_entry empty zero name named =
+        subst (λ (n : Name). Sides 0 n left_machine.start right_machine.start) (the_name name named)
+        (sides left_machine.start right_machine.start (record {
+          script_at = refl;
+          function_at = refl;
+          same_memory = refl;
+          same_events = refl;
+          waiting = λ parameter there. sym (ap (λ (values : ℕ → Bits). values parameter.param) (none_assigned same_value (0 ∷ []) world.arguments (λ v. 0) empty));
+          names = λ x given. absurd (none_given x given);
+        }))
+    from_entry empty (suc block) name named = absurd (no_block block name named)
+
+pub reads_right : ReadsRight answered_calls first_signature half_body half_state
+reads_right width world tracked collector fits premises = record {
+  from_entry = λ block name named is_entry.
+      from_entry width world tracked collector
+      (no_arguments answered_calls block0 (types_of first_signature.params) world refl premises.well_typed.entry fits.arguments) block name named;
+  from_unsealed = λ block name named reached unsealed p q start. from width world tracked collector block name named p q start;
+}
 
 -- Starts --------------------------------------------------------------------------------------------------------------------
 

@@ -1,7 +1,7 @@
 -- An unfinished function, read on runs and bits: from each start both machines of the calls so far run side by side. A
 -- name's value has the name's bits then, and at a block's end so far each record has its variable's bits. It is a law
 -- of `Carries`, which speaks of paths. Own.
-use Rattle.std.specs.Prelude.{◌≡◌, ℕ, suc, true, false, Bool, List, length, drop, flat_map, Some, Contains}
+use Rattle.std.specs.Prelude.{◌≡◌, ℕ, suc, false, Bool, List, length, drop, flat_map, Some, Contains}
 use Rattle.clif_types.specs.Signature.{SignatureShape}
 use Rattle.clif_types.specs.declared.target.PointerWidth.{PointerWidth}
 use Rattle.clif_ir.specs.Body.{Body, resolved}
@@ -80,11 +80,10 @@ pub record StartAlike (calls : List AnsweredCall) (f : Body) (s : SsaState) (blo
   pub waiting : (parameter : Pending) → Contains (pending_of (sealed_of s block)) parameter → p.variables parameter.variable ≡ q.values parameter.param
   pub names : (x : Name) → IsGivenBefore (code_so_far calls) x (behind name 0) → p.names x ≡ q.values (resolved f (answered calls x))
 
--- The runs: from the entry, if it is sealed, as the machines start; and from each unsealed block that a path from the
--- entry reaches, the entry among them.
+-- The runs: from the entry as the machines start, and from each unsealed block that a path from the entry reaches, the
+-- entry among them, with any bits.
 pub record RunSideBySide (calls : List AnsweredCall) (f : Body) (s : SsaState) (left : ScriptRun) (right : FunctionRun) : Type 0 where
   pub from_entry : (block : ℕ) (name : Name) → block_name calls block ≡ Some name → (program_so_far calls).entry ≡ Some name
-      → is_yes (sealed_of s block) ≡ true
       → SideBySide calls f s block name (script_machine left) (function_machine right)
   pub from_unsealed : (block : ℕ) (name : Name) → block_name calls block ≡ Some name → IsReachable (code_so_far calls).flow (behind name 0)
       → is_yes (sealed_of s block) ≡ false → (p : ScriptState) (q : FunctionState) → StartAlike calls f s block name p q
