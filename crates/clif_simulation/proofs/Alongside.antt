@@ -10,6 +10,7 @@ use Rattle.clif_paths.specs.Denotation.{variable, name, instances, denotes}
 use Rattle.clif_paths.specs.Sound.{SoundUnder, Holds}
 use Rattle.clif_paths.specs.Blocks.{Blocks, state_of}
 use Rattle.clif_paths.proofs.BlockTables.{recorded_at-last}
+use Rattle.clif_paths.proofs.Executing.{variable-kept, denotes-past}
 use Rattle.clif_ssa.specs.Ssa.{SsaState, record_of}
 use Rattle.clif_meaning.specs.Name.{Name, same_name}
 use Rattle.clif_meaning.specs.Request.{AnsweredCall, script_of}
@@ -253,6 +254,48 @@ module _ (calls : List AnsweredCall) (f : Body) (ssa : SsaState) (consistent : I
           no_names = u.no_names;
           no_values = λ w at. u.no_values w (defined_there w k at);
         }
+
+    -- before the instruction that ends the block, too: it gives nothing and assigns nothing
+    pub recorded_before_end : (k : ℕ) (p : ScriptState) (q : FunctionState) → Alongside k p q → (place : ℕ) (instruction : Instruction Name Name) (results : List Name)
+        → slice_get items k ≡ Some (Instruct place instruction results) → suc k ≡ length items → results ≡ []
+        → (x v : ℕ) → record_of ssa x e ≡ Some v → p.variables x ≡ q.values (resolved f v)
+    recorded_before_end k p q a place instruction results stands at_end none x v is = by (order at.i k at.before)
+      where
+        gives : GivesThere program function (next_arm e k) (straight e k) results (answered calls)
+        gives = gives_there k place instruction results stands
+
+        holds : Holds edges program tables.function v (variable x) (inside e (suc k))
+        holds =
+            subst (λ (c : ℕ). Holds edges program tables.function v (variable x) (inside e c)) (counted ∙ sym at_end)
+            (under.records (inside e (tables.count e)) x v (recorded_at-last tables.count tables.recorded e x ∙ carries.describes.recorded e x ∙ is))
+
+        way : Follows edges (straight e (suc k))
+        way = follows (suc k) (omega (arith, at_end))
+
+        at : Found v (suc k)
+        at = found v (suc k) (omega (arith, at_end)) (holds.there.on_every_path (straight e (suc k)) way (straight_end e (suc k)))
+
+        order : (i k : ℕ) → i ≤ suc k → (i ≤ k) ⊎ (i ≡ suc k)
+        order i k within = grind arith
+
+        nothing_in : (n : Name) → In n results → ⊥
+        nothing_in n there = subst (λ (names : List Name). In n names) none there
+
+        not_given : (function.definition (tables.function.resolve v)).home ≢ inside e (suc k)
+        not_given here = let one = gives.only_values (tables.function.resolve v) here in nothing_in one.0 one.1
+
+        same : instances program (straight e k) (variable x) ≡ denotes program function (straight e k) (tables.function.resolve v)
+        same =
+            sym (variable-kept program (next_arm e k) (straight e k) x gives.known (gives.unassigned x))
+            ∙ sym (holds.agrees (straight e (suc k)) way (straight_end e (suc k)))
+            ∙ sym at.same
+            ∙ denotes-past program function (next_arm e k) (straight e k) (tables.function.resolve v) not_given
+
+        by : (at.i ≤ k) ⊎ (at.i ≡ suc k) → p.variables x ≡ q.values (resolved f v)
+        by (inl before) =
+            a.agrees.of_variable x (tables.function.resolve v) same ∙ a.values_are (tables.function.resolve v) at.i before at.home
+            ∙ ap q.values (carries.describes.resolves v)
+        by (inr here) = absurd (not_given (at.home ∙ ap (inside e) here))
 
     -- Each item -------------------------------------------------------------------------------------------------------
 

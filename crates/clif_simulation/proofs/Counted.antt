@@ -1,5 +1,6 @@
 -- An instruction of a script's program gives as many names as it gives bits.
 use Rattle.std.proofs.Common.{◌≡◌, ℕ, zero, suc, if◌then◌else◌, Bool, true, false, List, [], ◌∷◌, ◌++◌, length, fold, slice_get, Option, Some, None, refl, sym, ◌∙◌, ap, subst}
+use Rattle.std.specs.Prelude.{IsTrue}
 use Rattle.std.specs.List.{AllByRecursion}
 use Rattle.clif_types.specs.declared.types.«Type».{«Type»}
 use Rattle.clif_meaning.specs.Bits.{Bits}
@@ -8,6 +9,7 @@ use Rattle.clif_meaning.specs.Name.{Name, same_name, answer_of}
 use Rattle.clif_meaning.specs.Instruction.{Instruction, Operation, Compute, Return, Arithmetic, Iconst, Iadd}
 use Rattle.clif_meaning.specs.Request.{Request, CreateBlock, SwitchToBlock, SealBlock, DeclareVar, DefVar, UseVar, Build, Finalize, Script}
 use Rattle.clif_meaning.specs.Program.{Program, Item, Instruct, Use, Assign, result_types, result_names, answers_from, with_item_at, with_inserted, extended, with_call, empty_program, program_of}
+use Rattle.clif_meaning.specs.Ledger.{is_terminator}
 use Rattle.clif_meaning.specs.World.{World}
 use Rattle.clif_meaning.specs.Outcome.{Outcome, Gives, Goes, Returns, Traps, Calls, NoStep, computed, outcome_of_computed, outcome_of}
 
@@ -102,3 +104,11 @@ as_many world place instruction results named operands memory after bits is =
     subst (λ (o : Outcome). GivesCount (length (result_types instruction.operation instruction.controlling)) o) is
     (counted_outcome world instruction.operation instruction.controlling operands memory)
     ∙ sym (as_many_names place 1 (result_types instruction.operation instruction.controlling)) ∙ ap length (sym named)
+
+-- an instruction that ends its block gives nothing
+pub terminator_gives_none : (place : ℕ) (instruction : Instruction Name Name) → IsTrue (is_terminator instruction.operation) → result_names place instruction ≡ []
+terminator_gives_none place instruction ends = ap (answers_from place 1) (none instruction.operation ends)
+  where
+    none : (operation : Operation) → IsTrue (is_terminator operation) → result_types operation instruction.controlling ≡ []
+    none (Compute arithmetic) ends = cc
+    none Return ends = refl

@@ -1,5 +1,5 @@
 -- The row `first` up to its constant, read on bits.
-use Rattle.std.proofs.Common.{◌≡◌, ℕ, zero, suc, ◌<◌, Bool, true, false, pos, List, [], ◌∷◌, length, slice_get, Option, Some, None, Contains, ◌⊎◌, inl, inr, refl, sym, ◌∙◌, ap, subst, arith}
+use Rattle.std.proofs.Common.{◌≡◌, ℕ, zero, suc, ◌<◌, Bool, true, false, pos, List, [], ◌∷◌, slice_get, Option, Some, None, Contains, ◌⊎◌, inl, inr, refl, sym, ◌∙◌, ap, subst, arith}
 use Rattle.std.specs.List.{AllByRecursion}
 use Rattle.clif_types.specs.declared.target.PointerWidth.{PointerWidth}
 use Rattle.clif_types.specs.declared.target.PointerWidth.TheVariants.{U64}
@@ -34,6 +34,7 @@ use Rattle.clif_simulation.specs.Tables.{answered, program_so_far, block_name}
 use Rattle.clif_simulation.specs.Reading.{code_so_far, behind, PremisesSoFar, script_run_so_far, function_run_so_far, starting_at, StandAlike, StartAlike, SideBySide, ReadsRight}
 use Rattle.clif_simulation.specs.ReadingExamples.{half_body_with, half_body, half_state_with, half_state, waiting_parameter, with_nine, first_value, with_bits}
 use Rattle.clif_simulation.proofs.Starting.{no_arguments, none_assigned}
+use Rattle.clif_simulation.proofs.Values.{false_is}
 use Rattle.clif_simulation.proofs.Reaching.{given_behind, leads_nowhere}
 use Rattle.clif_simulation.specs.Carries.{NamesEarlier}
 
@@ -91,9 +92,6 @@ module _ (width : PointerWidth) (world : World) (tracked : Name → Bool) (colle
     abbrev Alike : ℕ → ℕ → Type 0
     Alike count steps = StandAlike answered_calls half_body half_state 0 block0 count (state_after left count) (state_after right steps)
 
-    not_yet : (count : ℕ) → count < 2 → count ≡ length items → ⊥
-    not_yet count below at_end = absurd (omega (arith, below, at_end))
-
     at_front : Alike 0 0
     at_front = record {
       script_at = refl;
@@ -101,7 +99,7 @@ module _ (width : PointerWidth) (world : World) (tracked : Name → Bool) (colle
       same_memory = same_memory;
       same_events = same_events;
       names = λ x given. absurd (none_given x given);
-      records = λ at_end. absurd (not_yet 0 (omega arith) at_end);
+      records = λ at_end. absurd at_end;
     }
 
     used : Alike 1 0
@@ -112,7 +110,7 @@ module _ (width : PointerWidth) (world : World) (tracked : Name → Bool) (colle
       same_memory = same_memory;
       same_events = same_events;
       names = λ x given. subst (λ (n : Name). (state_after left 1).names n ≡ values (resolved half_body (answered answered_calls n))) (use_given x given) waiting;
-      records = λ at_end. absurd (not_yet 1 (omega arith) at_end);
+      records = λ at_end. absurd (false_is at_end.0);
     }
 
     recorded : (x v : ℕ) → record_of half_state x 0 ≡ Some v → variables x ≡ (state_after right 1).values (resolved half_body v)
@@ -337,7 +335,7 @@ other_record right = by (alike 7 9 (half_state_with 1 (waiting_parameter ∷ [])
     by : (steps : ℕ) × StandAlike answered_calls half_body (half_state_with 1 (waiting_parameter ∷ [])) 0 block0 2 (state_after (left_here 7 9) 2) (state_after (right_here 7 9) steps) → ⊥
     by found =
         let last : found.0 ≡ 1 = last_step 7 9 found.0 found.1.function_at in
-        let same : 9 ≡ 7 = found.1.records refl 0 1 refl ∙ ap (λ (steps : ℕ). (state_after (right_here 7 9) steps).values (resolved half_body 1)) last in
+        let same : 9 ≡ 7 = found.1.records tt 0 1 refl ∙ ap (λ (steps : ℕ). (state_after (right_here 7 9) steps).values (resolved half_body 1)) last in
         absurd (omega (arith, same))
 
 pub none_waiting : ReadsRight answered_calls first_signature half_body (half_state_with 0 []) → ⊥

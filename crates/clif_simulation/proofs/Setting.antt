@@ -1,11 +1,11 @@
 -- How both machines of an unfinished function come to stand side by side at the front of the entry, and go on so.
-use Rattle.std.proofs.Common.{◌≡◌, ◌≢◌, ℕ, zero, suc, ◌≤◌, ◌%◌, ◌^◌, if◌then◌else◌, Bool, true, false, List, [], ◌∷◌, ◌++◌, map, flat_map, slice_get, Option, Some, None, Contains, ◌⊎◌, inl, inr, refl, sym, ◌∙◌, ap, subst, arith}
+use Rattle.std.proofs.Common.{◌≡◌, ◌≢◌, ℕ, zero, suc, ◌≤◌, ◌%◌, ◌^◌, if◌then◌else◌, Bool, true, false, List, [], ◌∷◌, ◌++◌, length, map, drop, flat_map, slice_get, Option, Some, None, Contains, ◌⊎◌, inl, inr, refl, sym, ◌∙◌, ap, subst, arith}
 use Rattle.std.proofs.lemmas.Bool.Decides.{nat_tests}
 use Rattle.std.proofs.lemmas.List.{map-append}
 use Rattle.std.specs.List.{AllByRecursion}
 use Rattle.clif_types.specs.Types.{bits_of}
 use Rattle.clif_types.specs.declared.target.PointerWidth.{PointerWidth}
-use Rattle.clif_ir.specs.Body.{Body, inst_at, block_at}
+use Rattle.clif_ir.specs.Body.{Body, inst_at, block_at, resolved}
 use Rattle.clif_ir.specs.Consistent.{IsConsistent}
 use Rattle.clif_paths.specs.Places.{start, inside, same_place, Edges}
 use Rattle.clif_paths.specs.State.{Program, Function, Kind, unborn, born, pending, complete, zero_of, Definition}
@@ -14,13 +14,13 @@ use Rattle.clif_paths.specs.Blocks.{front}
 use Rattle.clif_paths.proofs.PathLemmas.{dec_place, same_place-equal, same_place-other}
 use Rattle.clif_paths.proofs.Executing.{entered-unsealed, variable-entered, denotes-here}
 use Rattle.clif_ssa.specs.declared.tables.Pending.{Pending}
-use Rattle.clif_ssa.specs.Ssa.{SsaState, sealed_of}
+use Rattle.clif_ssa.specs.Ssa.{SsaState, record_of, sealed_of}
 use Rattle.clif_ssa.specs.Tables.{is_yes, pending_of}
 use Rattle.clif_ssa.specs.Sound.{IsZero, HasInstructions, HomeFits}
 use Rattle.clif_meaning.specs.Bits.{Bits}
 use Rattle.clif_meaning.specs.Name.{Name}
-use Rattle.clif_meaning.specs.Request.{AnsweredCall}
-use Rattle.clif_meaning.specs.Program.{Item}
+use Rattle.clif_meaning.specs.Request.{AnsweredCall, script_of}
+use Rattle.clif_meaning.specs.Program.{Item, Instruct, Use, Assign}
 use Rattle.clif_meaning.specs.World.{World}
 use Rattle.clif_meaning.specs.Machine.{Machine, Control, At, HasReturned, HasTrapped, IsStuck, Observation, state_after}
 use Rattle.clif_meaning.specs.ScriptMachine as script
@@ -33,16 +33,25 @@ use Rattle.clif_meaning.specs.WellPlaced.{item_gives, program_code, IsWellPlaced
 use Rattle.clif_meaning.proofs.StraightLine.{nothing_contained}
 use Rattle.clif_simulation.specs.Tables.{code, answered, program_so_far, IsGiven}
 use Rattle.clif_simulation.specs.Carries.{Carries, carried}
-use Rattle.clif_simulation.specs.Reading.{starting_at, StandAlike, StartAlike, SideBySide}
+use Rattle.clif_simulation.specs.Reading.{starting_at, IsAtEnd, StandAlike, StartAlike, SideBySide}
 use Rattle.clif_simulation.proofs.Agreement.{zeros_agree}
 use Rattle.clif_simulation.proofs.Straight.{first_arm, straight, same_block, same_step, absent_name, absent_value}
 use Rattle.clif_simulation.proofs.Ended.{defined-end, is-end}
 use Rattle.clif_simulation.proofs.Opened.{Opens}
 use Rattle.clif_simulation.proofs.Opened
+use Rattle.clif_simulation.proofs.Counted.{gives_results, terminator_gives_none}
+use Rattle.clif_simulation.proofs.Matching.{item_here, rest_behind}
+use Rattle.clif_simulation.proofs.Listed.{place_within}
 use Rattle.clif_simulation.proofs.Reaching
 use Rattle.clif_simulation.proofs.Starting.{zero_placed, is_zero_placed, any_first, zero_bits}
 use Rattle.clif_simulation.proofs.Entry
 use Rattle.clif_simulation.proofs.Alongside
+
+-- where nothing is left, so many items there are
+nothing_behind : {X : Type 0} (xs : List X) (k : ℕ) → drop k xs ≡ [] → length xs ≤ k
+nothing_behind [] k none = omega arith
+nothing_behind (x ∷ xs) zero none = cc
+nothing_behind (x ∷ xs) (suc k) none = let below = nothing_behind xs k none in omega (arith, below)
 
 module _ (calls : List AnsweredCall) (f : Body) (ssa : SsaState) (consistent : IsConsistent f) (carries : Carries calls f ssa)
     (entry : Name) (is_entry : (program_so_far calls).entry ≡ Some entry) (placed : IsWellPlaced (program_code (program_so_far calls)))
@@ -115,6 +124,20 @@ module _ (calls : List AnsweredCall) (f : Body) (ssa : SsaState) (consistent : I
             let there = Entry.given_at calls f ssa carries entry is_entry j item is x (subst (λ (o : Option Item). Contains (item_gives o) x) is gives) in
             (ap (λ naming. naming.home) there.0, there.1)
 
+        records_alike : (k : ℕ) (a : ScriptState) (b : FunctionState) → IsAlongside k a b → (ahead : List Item) → drop k items ≡ ahead → IsAtEnd ahead
+            → (x v : ℕ) → record_of ssa x e ≡ Some v → a.variables x ≡ b.values (resolved f v)
+        records_alike k a b s [] here at_end x v is =
+            Alongside.recorded_bits calls f ssa consistent carries entry is_entry placed sealed joins opens width world tracked collector
+            k a b s (omega (arith, s.within, nothing_behind items k here)) x v is
+        records_alike k a b s (Instruct place instruction results ∷ rest) here at_end x v is =
+            let stands : slice_get items k ≡ Some (Instruct place instruction results) = item_here items k (Instruct place instruction results) rest here in
+            let last : length items ≤ suc k = nothing_behind items (suc k) (rest_behind items k (Instruct place instruction results) rest here ∙ at_end.1) in
+            Alongside.recorded_before_end calls f ssa consistent carries entry is_entry placed sealed joins opens width world tracked collector
+            k a b s place instruction results stands (omega (arith, last, place_within items k (Instruct place instruction results) stands))
+            (gives_results (script_of calls) entry k (Instruct place instruction results) stands ∙ terminator_gives_none place instruction at_end.0) x v is
+        records_alike k a b s (Use y used ∷ rest) here at_end x v is = absurd at_end
+        records_alike k a b s (Assign y from ∷ rest) here at_end x v is = absurd at_end
+
         stand_alike : (k : ℕ) (a : ScriptState) (b : FunctionState) → IsAlongside k a b → StandAlike calls f ssa e entry k a b
         stand_alike k a b s = record {
           script_at = s.script_at;
@@ -126,9 +149,7 @@ module _ (calls : List AnsweredCall) (f : Body) (ssa : SsaState) (consistent : I
               let there = item_gives_at x before.0 before.2 (slice_get items before.0) refl in
               Alongside.given_bits calls f ssa consistent carries entry is_entry placed sealed joins opens width world tracked collector
               k a b s x before.0 before.1 there.0 there.1;
-          records = λ at_end x v is.
-              Alongside.recorded_bits calls f ssa consistent carries entry is_entry placed sealed joins opens width world tracked collector
-              k a b s at_end x v is;
+          records = λ at_end x v is. records_alike k a b s (drop k items) refl at_end x v is;
         }
 
         pub side_by_side : SideBySide calls f ssa e entry left right

@@ -1,7 +1,7 @@
 -- An unfinished function, read on runs and bits: from each start both machines of the calls so far run side by side. A
 -- name's value has the name's bits then, and at a block's end so far each record has its variable's bits. It is a law
 -- of `Carries`, which speaks of paths. Own.
-use Rattle.std.specs.Prelude.{◌≡◌, ℕ, suc, false, Bool, List, length, drop, flat_map, Some, Contains}
+use Rattle.std.specs.Prelude.{◌≡◌, ℕ, suc, false, Bool, List, [], ◌∷◌, drop, flat_map, Some, Contains, IsTrue}
 use Rattle.clif_types.specs.Signature.{SignatureShape}
 use Rattle.clif_types.specs.declared.target.PointerWidth.{PointerWidth}
 use Rattle.clif_ir.specs.Body.{Body, resolved}
@@ -10,8 +10,8 @@ use Rattle.clif_ssa.specs.Ssa.{SsaState, record_of, sealed_of}
 use Rattle.clif_ssa.specs.Tables.{is_yes, pending_of}
 use Rattle.clif_meaning.specs.Name.{Name}
 use Rattle.clif_meaning.specs.Request.{AnsweredCall, script_of}
-use Rattle.clif_meaning.specs.Ledger.{ledger_after}
-use Rattle.clif_meaning.specs.Program.{Item}
+use Rattle.clif_meaning.specs.Ledger.{ledger_after, is_terminator}
+use Rattle.clif_meaning.specs.Program.{Item, Instruct, Use, Assign}
 use Rattle.clif_meaning.specs.World.{World}
 use Rattle.clif_meaning.specs.Machine.{Machine, At, Observation, state_after}
 use Rattle.clif_meaning.specs.ScriptMachine.{ScriptRun, ScriptState, script_machine}
@@ -52,6 +52,13 @@ function_run_so_far calls f width world collector = function_run (script_of call
 abbrev pub starting_at : {State Seen : Type 0} → Machine State Seen → State → Machine State Seen
 starting_at machine state = record machine { start = state }
 
+-- what is left of a block at its end so far: nothing, or the one instruction that ends it
+abbrev pub IsAtEnd : List Item → Type 0
+IsAtEnd [] = Unit {0}
+IsAtEnd (Instruct place instruction results ∷ rest) = IsTrue (is_terminator instruction.operation) × (rest ≡ [])
+IsAtEnd (Use variable name ∷ rest) = ⊥
+IsAtEnd (Assign variable name ∷ rest) = ⊥
+
 -- Both stand behind so many items of the block: a name that is given before that place has its value's bits, and at the
 -- block's end so far each variable has its record's.
 pub record StandAlike (calls : List AnsweredCall) (f : Body) (s : SsaState) (block : ℕ) (name : Name) (count : ℕ) (p : ScriptState) (q : FunctionState) : Type 0 where
@@ -60,7 +67,7 @@ pub record StandAlike (calls : List AnsweredCall) (f : Body) (s : SsaState) (blo
   pub same_memory : p.memory ≡ q.memory
   pub same_events : p.events ≡ q.events
   pub names : (x : Name) → IsGivenBefore (code_so_far calls) x (behind name count) → p.names x ≡ q.values (resolved f (answered calls x))
-  pub records : count ≡ length ((program_so_far calls).items name)
+  pub records : IsAtEnd (drop count ((program_so_far calls).items name))
       → (variable value : ℕ) → record_of s variable block ≡ Some value → p.variables variable ≡ q.values (resolved f value)
 
 -- Side by side, from a block's front, as far as the script's run goes on: after each item the function's machine comes
