@@ -11,6 +11,16 @@ mod Matching
 mod Stepping
 mod Starting
 pub mod Assembly
+-- An unfinished function that carries calls reads right.
+mod Opened
+mod Ended
+mod Counted
+mod Reaching
+mod Alongside
+mod Setting
+pub mod RightReading
+-- The row `first`, half built.
+mod HalfRow
 -- A function goes on to carry one more call.
 pub mod Numbers
 pub mod NameLists

@@ -64,7 +64,7 @@ no_arguments calls entry types world is_entry takes are =
     no_values types world.arguments
     (sym taken ∙ no_types (ledger_after (script_of calls)) (program_so_far calls) entry (no_parameters (script_of calls) entry)) are
 
-none_assigned : {Place : Type 0} (same : Place → Place → Bool) (places : List Place) (values : List Bits) (old : Place → Bits) → values ≡ []
+pub none_assigned : {Place : Type 0} (same : Place → Place → Bool) (places : List Place) (values : List Bits) (old : Place → Bits) → values ≡ []
     → assigned same places values old ≡ old
 none_assigned same [] values old none = refl
 none_assigned same (place ∷ places) [] old none = refl
@@ -72,14 +72,14 @@ none_assigned same (place ∷ places) (bits ∷ values) old none = cc
 
 -- Zeros -----------------------------------------------------------------------------------------------------------------
 
-any_first : (layout : List ℕ) (block : ℕ) → slice_get layout 0 ≡ Some block → list_any (λ other. other == block) layout ≡ true
+pub any_first : (layout : List ℕ) (block : ℕ) → slice_get layout 0 ≡ Some block → list_any (λ other. other == block) layout ≡ true
 any_first [] block first = cc
 any_first (other ∷ layout) block first =
     let same : other ≡ block = cc in
     let here : (other == block) ≡ true = grind (arith, nat_tests) in
     rw here refl
 
-zero_bits : (width : ℕ) → 0 % 2 ^ width ≡ 0
+pub zero_bits : (width : ℕ) → 0 % 2 ^ width ≡ 0
 zero_bits width = zero-mod (2 ^ width)
 
 placed_with : Body → InstructionData → List ℕ → Placed
@@ -90,14 +90,14 @@ placed_with f shape results = record {
 }
 
 -- the instruction of a zero
-zero_placed : Body → ℕ → Placed
+unfoldable pub zero_placed : Body → ℕ → Placed
 zero_placed f value = record {
   instruction = record { operation = Compute (Iconst (pos 0)); controlling = first_type f (value ∷ []); operands = []; edges = [] };
   results = value ∷ [];
   stack_map = [];
 }
 
-is_zero_placed : (f : Body) (node : InstNode) (value : ℕ) → node.shape ≡ UnaryImm (pos 0) → node.results ≡ value ∷ [] → placed_of f node ≡ zero_placed f value
+pub is_zero_placed : (f : Body) (node : InstNode) (value : ℕ) → node.shape ≡ UnaryImm (pos 0) → node.results ≡ value ∷ [] → placed_of f node ≡ zero_placed f value
 unfolding placed_with zero_placed
 is_zero_placed f node value shape results = ap₂ (λ (data_of : InstructionData) (values : List ℕ). placed_with f data_of values) shape results
 

@@ -1,6 +1,7 @@
 -- The laws, as the contracts of this crate's functions state them.
 use Rattle.std.specs.Prelude.{◌≡◌, ℕ, true, List, [], Some}
 use Rattle.clif_types.specs.declared.target.PointerWidth.{PointerWidth}
+use Rattle.clif_types.specs.Signature.{SignatureShape}
 use Rattle.clif_ir.specs.Body.{Body}
 use Rattle.clif_ir.specs.Consistent.{IsConsistent}
 use Rattle.clif_ssa.specs.Ssa.{SsaState, sealed_of}
@@ -12,6 +13,7 @@ use Rattle.clif_meaning.specs.View.{view_of}
 use Rattle.clif_meaning.specs.Headline.{MeansTheSame}
 use Rattle.clif_simulation.specs.Tables.{code}
 use Rattle.clif_simulation.specs.Carries.{Carries}
+use Rattle.clif_simulation.specs.Reading.{ReadsRight}
 
 -- Different names have different numbers.
 abbrev pub CodesDiffer : Type 0
@@ -29,3 +31,9 @@ CarryingMeansTheSame =
     (calls : List AnsweredCall) (f : Body) (s : SsaState) (width : PointerWidth)
     → IsConsistent f → Carries calls f s → IsFinished f s
     → MeansTheSame (script_of calls) f.signature width (view_of f)
+
+-- A function that carries a list of calls reads right on runs and bits, whether it is finished or not.
+abbrev pub CarryingReadsRight : Type 0
+CarryingReadsRight =
+    (calls : List AnsweredCall) (signature : SignatureShape) (f : Body) (s : SsaState)
+    → IsConsistent f → Carries calls f s → ReadsRight calls signature f s

@@ -1,3 +1,5 @@
 pub mod Tables
 pub mod Carries
+pub mod Reading
+pub mod ReadingExamples
 pub mod Laws

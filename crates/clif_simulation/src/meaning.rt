@@ -1,8 +1,14 @@
 //! What a function that carries a list of calls means.
 
-ghost use Rattle.clif_simulation.specs.Laws.{CarryingMeansTheSame};
+ghost use Rattle.clif_simulation.specs.Laws.{CarryingMeansTheSame, CarryingReadsRight};
 
 /// A finished function that carries a list of calls means what the list's variable program means.
 pub fn carrying_means_the_same()
     ensures { CarryingMeansTheSame }
+{}
+
+/// An unfinished function that carries a list of calls has, side by side with the list's program, the bits of its names
+/// and variables.
+pub fn carrying_reads_right()
+    ensures { CarryingReadsRight }
 {}

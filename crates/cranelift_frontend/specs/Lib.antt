@@ -3,3 +3,4 @@ pub mod Builder
 pub mod Ledger
 pub mod Growth
 pub mod StandsFor
+pub mod Laws

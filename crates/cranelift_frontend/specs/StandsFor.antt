@@ -1,5 +1,5 @@
--- When a builder stands for a list of calls with their answers. From it follows that the finished function means what
--- the list's program means. Own.
+-- When a builder stands for a list of calls with their answers. From it follows that the unfinished function reads right
+-- on runs and bits (`Laws`), and that the finished function means what the list's program means. Own.
 use Rattle.std.specs.Prelude.{◌≡◌, ◌≢◌, ℕ, List, Option, true}
 use Rattle.clif_types.specs.Signature.{SignatureShape}
 use Rattle.clif_ir.specs.Body.{Body}

@@ -1,0 +1,114 @@
+-- An instruction of a script's program gives as many names as it gives bits.
+use Rattle.std.proofs.Common.{◌≡◌, ℕ, zero, suc, if◌then◌else◌, Bool, true, false, List, [], ◌∷◌, ◌++◌, length, fold, slice_get, Option, Some, None, refl, sym, ◌∙◌, ap, subst}
+use Rattle.std.specs.Prelude.{IsTrue}
+use Rattle.std.specs.List.{AllByRecursion}
+use Rattle.clif_types.specs.declared.types.«Type».{«Type»}
+use Rattle.clif_meaning.specs.Bits.{Bits}
+use Rattle.clif_meaning.specs.Memory.{Memory}
+use Rattle.clif_meaning.specs.Name.{Name, same_name, answer_of}
+use Rattle.clif_meaning.specs.Instruction.{Instruction, Operation, Compute, Return, Arithmetic, Iconst, Iadd}
+use Rattle.clif_meaning.specs.Request.{Request, CreateBlock, SwitchToBlock, SealBlock, DeclareVar, DefVar, UseVar, Build, Finalize, Script}
+use Rattle.clif_meaning.specs.Program.{Program, Item, Instruct, Use, Assign, result_types, result_names, answers_from, with_item_at, with_inserted, extended, with_call, empty_program, program_of}
+use Rattle.clif_meaning.specs.Ledger.{is_terminator}
+use Rattle.clif_meaning.specs.World.{World}
+use Rattle.clif_meaning.specs.Outcome.{Outcome, Gives, Goes, Returns, Traps, Calls, NoStep, computed, outcome_of_computed, outcome_of}
+
+-- an instruction gives the names of its results
+abbrev pub GivesResults : Item → Type 0
+GivesResults (Instruct place instruction results) = results ≡ result_names place instruction
+GivesResults (Use variable name) = Unit {0}
+GivesResults (Assign variable name) = Unit {0}
+
+abbrev AllGive : Program → Type 0
+AllGive program = (block : Name) → AllByRecursion GivesResults (program.items block)
+
+all_and_one : (items : List Item) (item : Item) → AllByRecursion GivesResults items → GivesResults item → AllByRecursion GivesResults (items ++ item ∷ [])
+all_and_one [] item all one = (one, tt)
+all_and_one (first ∷ items) item all one = (all.0, all_and_one items item all.1 one)
+
+with_one : (program : Program) (current : Option Name) (item : Item) → AllGive program → GivesResults item → AllGive (with_item_at program current item)
+with_one program None item all one block = all block
+with_one program (Some current) item all one block = by (same_name block current)
+  where
+    by : (t : Bool) → AllByRecursion GivesResults (if t then program.items block ++ item ∷ [] else program.items block)
+    by true = all_and_one (program.items block) item (all block) one
+    by false = all block
+
+with_request : (program : Program) (request : Request) → AllGive program → AllGive (extended program request)
+with_request program CreateBlock all = all
+with_request program (SwitchToBlock block) all = all
+with_request program (SealBlock block) all = all
+with_request program (DeclareVar ty) all = all
+with_request program (DefVar variable value) all = with_one program program.current (Assign variable value) all tt
+with_request program (UseVar variable) all = with_one (with_inserted program) program.current (Use variable (answer_of program.place 0)) all tt
+with_request program (Build instruction) all =
+    with_one (with_inserted program) program.current (Instruct program.place instruction (result_names program.place instruction)) all refl
+with_request program Finalize all = all
+
+all_from : (program : Program) (script : Script) → AllGive program → AllGive (fold with_call program script)
+all_from program [] all = all
+all_from program (request ∷ script) all = all_from (with_call program request) script (with_request program request all)
+
+at_place : (items : List Item) (k : ℕ) (item : Item) → AllByRecursion GivesResults items → slice_get items k ≡ Some item → GivesResults item
+at_place [] k item all stands = cc
+at_place (first ∷ items) zero item all stands = subst GivesResults (first_is first item stands) all.0
+  where
+    first_is : (a b : Item) → Some a ≡ Some b → a ≡ b
+    first_is a b e = cc
+at_place (first ∷ items) (suc k) item all stands = at_place items k item all.1 stands
+
+pub gives_results : (script : Script) (block : Name) (k : ℕ) (item : Item) → slice_get ((program_of script).items block) k ≡ Some item → GivesResults item
+gives_results script block k item stands =
+    at_place ((program_of script).items block) k item (all_from empty_program script (λ other. tt) block) stands
+
+-- Bits ----------------------------------------------------------------------------------------------------------------------
+
+as_many_names : (place index : ℕ) (types : List «Type») → length (answers_from place index types) ≡ length types
+as_many_names place index [] = refl
+as_many_names place index (ty ∷ types) = ap suc (as_many_names place (suc index) types)
+
+-- how many bits an outcome gives, if it gives any
+abbrev GivesCount : ℕ → Outcome → Type 0
+GivesCount count (Gives bits memory) = length bits ≡ count
+GivesCount count (Goes edge given memory) = Unit {0}
+GivesCount count (Returns bits) = Unit {0}
+GivesCount count (Traps reason) = Unit {0}
+GivesCount count (Calls callee call arguments) = Unit {0}
+GivesCount count NoStep = Unit {0}
+
+counted_arithmetic : (arithmetic : Arithmetic) (ty : «Type») (operands : List Bits) (memory : Memory)
+    → GivesCount 1 (outcome_of_computed (computed arithmetic ty operands) memory)
+counted_arithmetic (Iconst number) ty [] memory = refl
+counted_arithmetic (Iconst number) ty (x ∷ operands) memory = tt
+counted_arithmetic Iadd ty [] memory = tt
+counted_arithmetic Iadd ty (x ∷ []) memory = tt
+counted_arithmetic Iadd ty (x ∷ y ∷ []) memory = refl
+counted_arithmetic Iadd ty (x ∷ y ∷ z ∷ operands) memory = tt
+
+one_type : (arithmetic : Arithmetic) (ty : «Type») → length (result_types (Compute arithmetic) ty) ≡ 1
+one_type (Iconst number) ty = refl
+one_type Iadd ty = refl
+
+counted_outcome : (world : World) (operation : Operation) (ty : «Type») (operands : List Bits) (memory : Memory)
+    → GivesCount (length (result_types operation ty)) (outcome_of world operation ty operands memory)
+counted_outcome world (Compute arithmetic) ty operands memory =
+    subst (λ (n : ℕ). GivesCount n (outcome_of_computed (computed arithmetic ty operands) memory)) (sym (one_type arithmetic ty))
+    (counted_arithmetic arithmetic ty operands memory)
+counted_outcome world Return ty operands memory = tt
+
+-- an instruction that gives bits gives one for each name
+pub as_many : (world : World) (place : ℕ) (instruction : Instruction Name Name) (results : List Name) → results ≡ result_names place instruction
+    → (operands : List Bits) (memory after : Memory) (bits : List Bits)
+    → outcome_of world instruction.operation instruction.controlling operands memory ≡ Gives bits after → length bits ≡ length results
+as_many world place instruction results named operands memory after bits is =
+    subst (λ (o : Outcome). GivesCount (length (result_types instruction.operation instruction.controlling)) o) is
+    (counted_outcome world instruction.operation instruction.controlling operands memory)
+    ∙ sym (as_many_names place 1 (result_types instruction.operation instruction.controlling)) ∙ ap length (sym named)
+
+-- an instruction that ends its block gives nothing
+pub terminator_gives_none : (place : ℕ) (instruction : Instruction Name Name) → IsTrue (is_terminator instruction.operation) → result_names place instruction ≡ []
+terminator_gives_none place instruction ends = ap (answers_from place 1) (none instruction.operation ends)
+  where
+    none : (operation : Operation) → IsTrue (is_terminator operation) → result_types operation instruction.controlling ≡ []
+    none (Compute arithmetic) ends = cc
+    none Return ends = refl

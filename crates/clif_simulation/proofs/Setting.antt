@@ -1,0 +1,443 @@
+-- How both machines of an unfinished function come to stand side by side at the front of the entry, and go on so.
+use Rattle.std.proofs.Common.{◌≡◌, ◌≢◌, ℕ, zero, suc, ◌≤◌, ◌%◌, ◌^◌, if◌then◌else◌, Bool, true, false, List, [], ◌∷◌, ◌++◌, length, map, drop, flat_map, slice_get, Option, Some, None, Contains, ◌⊎◌, inl, inr, refl, sym, ◌∙◌, ap, subst, arith}
+use Rattle.std.proofs.lemmas.Bool.Decides.{nat_tests}
+use Rattle.std.proofs.lemmas.List.{map-append}
+use Rattle.std.specs.List.{AllByRecursion}
+use Rattle.clif_types.specs.Types.{bits_of}
+use Rattle.clif_types.specs.declared.target.PointerWidth.{PointerWidth}
+use Rattle.clif_ir.specs.Body.{Body, inst_at, block_at, resolved}
+use Rattle.clif_ir.specs.Consistent.{IsConsistent}
+use Rattle.clif_paths.specs.Places.{start, inside, same_place, Edges}
+use Rattle.clif_paths.specs.State.{Program, Function, Kind, unborn, born, pending, complete, zero_of, Definition}
+use Rattle.clif_paths.specs.Denotation.{absent, zero, given, unknown, variable, name, instances, defined, denotes}
+use Rattle.clif_paths.specs.Blocks.{front}
+use Rattle.clif_paths.proofs.PathLemmas.{dec_place, same_place-equal, same_place-other}
+use Rattle.clif_paths.proofs.Executing.{entered-unsealed, variable-entered, denotes-here}
+use Rattle.clif_ssa.specs.declared.tables.Pending.{Pending}
+use Rattle.clif_ssa.specs.Ssa.{SsaState, record_of, sealed_of}
+use Rattle.clif_ssa.specs.Tables.{is_yes, pending_of}
+use Rattle.clif_ssa.specs.Sound.{IsZero, HasInstructions, HomeFits}
+use Rattle.clif_meaning.specs.Bits.{Bits}
+use Rattle.clif_meaning.specs.Name.{Name}
+use Rattle.clif_meaning.specs.Request.{AnsweredCall, script_of}
+use Rattle.clif_meaning.specs.Program.{Item, Instruct, Use, Assign}
+use Rattle.clif_meaning.specs.World.{World}
+use Rattle.clif_meaning.specs.Machine.{Machine, Control, At, HasReturned, HasTrapped, IsStuck, Observation, state_after}
+use Rattle.clif_meaning.specs.ScriptMachine as script
+use Rattle.clif_meaning.specs.ScriptMachine.{ScriptRun, ScriptState, script_machine}
+use Rattle.clif_meaning.specs.FunctionMachine as function_machine_of
+use Rattle.clif_meaning.specs.FunctionMachine.{Collector, FunctionRun, FunctionState, function_machine, same_value}
+use Rattle.clif_meaning.specs.FunctionView.{Placed}
+use Rattle.clif_meaning.specs.View.{placed_of, items_of, first_type}
+use Rattle.clif_meaning.specs.WellPlaced.{item_gives, program_code, IsWellPlaced}
+use Rattle.clif_meaning.proofs.StraightLine.{nothing_contained}
+use Rattle.clif_simulation.specs.Tables.{code, answered, program_so_far, IsGiven}
+use Rattle.clif_simulation.specs.Carries.{Carries, carried}
+use Rattle.clif_simulation.specs.Reading.{starting_at, IsAtEnd, StandAlike, StartAlike, SideBySide}
+use Rattle.clif_simulation.proofs.Agreement.{zeros_agree}
+use Rattle.clif_simulation.proofs.Straight.{first_arm, straight, same_block, same_step, absent_name, absent_value}
+use Rattle.clif_simulation.proofs.Ended.{defined-end, is-end}
+use Rattle.clif_simulation.proofs.Opened.{Opens}
+use Rattle.clif_simulation.proofs.Opened
+use Rattle.clif_simulation.proofs.Counted.{gives_results, terminator_gives_none}
+use Rattle.clif_simulation.proofs.Matching.{item_here, rest_behind}
+use Rattle.clif_simulation.proofs.Listed.{place_within}
+use Rattle.clif_simulation.proofs.Reaching
+use Rattle.clif_simulation.proofs.Starting.{zero_placed, is_zero_placed, any_first, zero_bits}
+use Rattle.clif_simulation.proofs.Entry
+use Rattle.clif_simulation.proofs.Alongside
+
+-- where nothing is left, so many items there are
+nothing_behind : {X : Type 0} (xs : List X) (k : ℕ) → drop k xs ≡ [] → length xs ≤ k
+nothing_behind [] k none = omega arith
+nothing_behind (x ∷ xs) zero none = cc
+nothing_behind (x ∷ xs) (suc k) none = let below = nothing_behind xs k none in omega (arith, below)
+
+module _ (calls : List AnsweredCall) (f : Body) (ssa : SsaState) (consistent : IsConsistent f) (carries : Carries calls f ssa)
+    (entry : Name) (is_entry : (program_so_far calls).entry ≡ Some entry) (placed : IsWellPlaced (program_code (program_so_far calls)))
+    (sealed : ℕ → Bool) (joins : Edges) (opens : Opens carries.tables (Entry.e calls f ssa carries entry is_entry) sealed joins)
+    (width : PointerWidth) (world : World) (tracked : Name → Bool) (collector : Collector)
+  where
+    abbrev pub left_run : ScriptRun
+    left_run = Alongside.left_run calls f ssa consistent carries entry is_entry placed sealed joins opens width world tracked collector
+
+    abbrev pub right_run : FunctionRun
+    right_run = Alongside.right_run calls f ssa consistent carries entry is_entry placed sealed joins opens width world tracked collector
+
+    abbrev pub IsAlongside : ℕ → ScriptState → FunctionState → Type 0
+    IsAlongside = Alongside.Alongside calls f ssa consistent carries entry is_entry placed sealed joins opens width world tracked collector
+
+    abbrev pub items : List Item
+    items = Entry.items calls f ssa carries entry is_entry
+
+    abbrev pub e : ℕ
+    e = Entry.e calls f ssa carries entry is_entry
+
+    -- On from there ---------------------------------------------------------------------------------------------------
+
+    module _ (p : ScriptState) (q : FunctionState) (ahead : ℕ)
+        (starts : IsAlongside 0 p (state_after (starting_at (function_machine right_run) q) ahead))
+      where
+        abbrev left : Machine ScriptState Observation
+        left = starting_at (script_machine left_run) p
+
+        abbrev right : Machine FunctionState Observation
+        right = starting_at (function_machine right_run) q
+
+        abbrev IsMet : ℕ → Type 0
+        IsMet k = (steps : ℕ) × IsAlongside k (state_after left k) (state_after right steps)
+
+        -- a run that goes on went on before
+        went_on : (state : ScriptState) (c : Control Item) → state.control ≡ c → (rest : List Item) → (script.script_step left_run state).control ≡ At rest
+            → (before : List Item) × (c ≡ At before)
+        went_on state (At before) is rest on = (before, refl)
+        went_on state (HasReturned bits) is rest on = absurd (other bits (sym (ap (λ (s : ScriptState). s.control) (ap (script.step_at left_run state) is)) ∙ on) is)
+          where
+            other : (bits : List Bits) → state.control ≡ At rest → state.control ≡ HasReturned bits → ⊥
+            other bits at is = cc
+        went_on state (HasTrapped reason) is rest on = absurd (other (sym (ap (λ (s : ScriptState). s.control) (ap (script.step_at left_run state) is)) ∙ on) is)
+          where
+            other : state.control ≡ At rest → state.control ≡ HasTrapped reason → ⊥
+            other at is = cc
+        went_on state IsStuck is rest on = absurd (other (sym (ap (λ (s : ScriptState). s.control) (ap (script.step_at left_run state) is)) ∙ on) is)
+          where
+            other : state.control ≡ At rest → state.control ≡ IsStuck → ⊥
+            other at is = cc
+
+        met : (k : ℕ) (rest : List Item) → (state_after left k).control ≡ At rest → IsMet k
+        met zero rest on = (ahead, starts)
+        met (suc k) rest on =
+            let before = went_on (state_after left k) (state_after left k).control refl rest on in
+            let now : IsMet k = met k before.0 before.1 in
+            by now.0 (Alongside.step calls f ssa consistent carries entry is_entry placed sealed joins opens width world tracked collector
+            k (state_after left k) (state_after right now.0) now.1 rest on)
+          where
+            by : (steps : ℕ) → IsAlongside (suc k) (state_after left (suc k)) (state_after right steps)
+                ⊎ IsAlongside (suc k) (state_after left (suc k)) (state_after right (suc steps)) → IsMet (suc k)
+            by steps (inl same) = (steps, same)
+            by steps (inr one) = (suc steps, one)
+
+        item_gives_at : (x : Name) (j : ℕ) → Contains (item_gives (slice_get items j)) x → (o : Option Item) → slice_get items j ≡ o
+            → ((carries.tables.naming (code x)).home ≡ inside e (suc j)) × (carries.tables.answer (code x) ≡ answered calls x)
+        item_gives_at x j gives None is = absurd (nothing_contained x (subst (λ (o : Option Item). Contains (item_gives o) x) is gives))
+        item_gives_at x j gives (Some item) is =
+            let there = Entry.given_at calls f ssa carries entry is_entry j item is x (subst (λ (o : Option Item). Contains (item_gives o) x) is gives) in
+            (ap (λ naming. naming.home) there.0, there.1)
+
+        records_alike : (k : ℕ) (a : ScriptState) (b : FunctionState) → IsAlongside k a b → (ahead : List Item) → drop k items ≡ ahead → IsAtEnd ahead
+            → (x v : ℕ) → record_of ssa x e ≡ Some v → a.variables x ≡ b.values (resolved f v)
+        records_alike k a b s [] here at_end x v is =
+            Alongside.recorded_bits calls f ssa consistent carries entry is_entry placed sealed joins opens width world tracked collector
+            k a b s (omega (arith, s.within, nothing_behind items k here)) x v is
+        records_alike k a b s (Instruct place instruction results ∷ rest) here at_end x v is =
+            let stands : slice_get items k ≡ Some (Instruct place instruction results) = item_here items k (Instruct place instruction results) rest here in
+            let last : length items ≤ suc k = nothing_behind items (suc k) (rest_behind items k (Instruct place instruction results) rest here ∙ at_end.1) in
+            Alongside.recorded_before_end calls f ssa consistent carries entry is_entry placed sealed joins opens width world tracked collector
+            k a b s place instruction results stands (omega (arith, last, place_within items k (Instruct place instruction results) stands))
+            (gives_results (script_of calls) entry k (Instruct place instruction results) stands ∙ terminator_gives_none place instruction at_end.0) x v is
+        records_alike k a b s (Use y used ∷ rest) here at_end x v is = absurd at_end
+        records_alike k a b s (Assign y from ∷ rest) here at_end x v is = absurd at_end
+
+        stand_alike : (k : ℕ) (a : ScriptState) (b : FunctionState) → IsAlongside k a b → StandAlike calls f ssa e entry k a b
+        stand_alike k a b s = record {
+          script_at = s.script_at;
+          function_at = s.function_at;
+          same_memory = s.same_memory;
+          same_events = s.same_events;
+          names = λ x given.
+              let before = Reaching.given_behind calls entry is_entry x k s.within given in
+              let there = item_gives_at x before.0 before.2 (slice_get items before.0) refl in
+              Alongside.given_bits calls f ssa consistent carries entry is_entry placed sealed joins opens width world tracked collector
+              k a b s x before.0 before.1 there.0 there.1;
+          records = λ at_end x v is. records_alike k a b s (drop k items) refl at_end x v is;
+        }
+
+        pub side_by_side : SideBySide calls f ssa e entry left right
+        side_by_side k rest on =
+            let now : IsMet k = met k rest on in
+            (now.0, stand_alike k (state_after left k) (state_after right now.0) now.1)
+
+    -- The zeros come first --------------------------------------------------------------------------------------------
+
+    placed_inst : ℕ → Placed
+    placed_inst inst = placed_of f (inst_at f inst)
+
+    has : HasInstructions f carries.tables e (carries.own e)
+    has = carries.describes.instructions e
+
+    block_items : items_of f e ≡ map placed_inst has.zeros ++ flat_map (carried calls) items
+    unfolding placed_inst
+    block_items =
+        ap (λ (b : Bool). if b then map placed_inst (block_at f e).insts else []) (any_first f.layout e (Entry.found calls f ssa carries entry is_entry))
+        ∙ ap (map placed_inst) has.in_order
+        ∙ map-append placed_inst has.zeros (carries.own e)
+        ∙ ap (λ (rest : List Placed). map placed_inst has.zeros ++ rest) (carries.items e entry (Entry.named calls f ssa carries entry is_entry))
+
+    -- the value is a zero's
+    abbrev IsZeroValue : ℕ → Type 0
+    IsZeroValue w = (x : ℕ) × (carries.tables.function.definition w ≡ record { home = front e; kind = zero_of x })
+
+    module _ (q : FunctionState) where
+      abbrev right_from : Machine FunctionState Observation
+      right_from = starting_at (function_machine right_run) q
+
+      -- these zeros are left to do, and the others' values are zero now
+      record ZerosLeft (left : List ℕ) (state : FunctionState) : Type 0 where
+        pub at : state.control ≡ At (map placed_inst left ++ flat_map (carried calls) items)
+        pub memory : state.memory ≡ q.memory
+        pub events : state.events ≡ q.events
+        pub values : (w : ℕ) → (state.values w ≡ q.values w) ⊎ ((state.values w ≡ 0) × IsZeroValue w)
+
+      zero_step : (inst : ℕ) (left : List ℕ) (state : FunctionState) → IsZero f carries.tables e inst → ZerosLeft (inst ∷ left) state
+          → ZerosLeft left (function_machine_of.function_step right_run state)
+      unfolding zero_placed placed_inst
+      zero_step inst left state put z =
+          subst (λ (s : FunctionState). ZerosLeft left s) (sym next) (record {
+            at = refl;
+            memory = z.memory;
+            events = z.events;
+            values = λ w. by w (same_value w put.value) refl (z.values w);
+          })
+        where
+          is : placed_of f (inst_at f inst) ≡ zero_placed f put.value
+          is = is_zero_placed f (inst_at f inst) put.value put.shape put.result
+
+          next : function_machine_of.function_step right_run state ≡ function_machine_of.run_placed right_run state (zero_placed f put.value) (map (λ i. placed_of f (inst_at f i)) left ++ flat_map (carried calls) items)
+          next =
+              ap (function_machine_of.step_at right_run state) z.at
+              ∙ ap (λ (item : Placed). function_machine_of.run_placed right_run state item (map (λ i. placed_of f (inst_at f i)) left ++ flat_map (carried calls) items)) is
+
+          by : (w : ℕ) (test : Bool) → same_value w put.value ≡ test
+              → (state.values w ≡ q.values w) ⊎ ((state.values w ≡ 0) × IsZeroValue w)
+              → ((if test then 0 % 2 ^ bits_of (first_type f (put.value ∷ [])) else state.values w) ≡ q.values w)
+              ⊎ (((if test then 0 % 2 ^ bits_of (first_type f (put.value ∷ [])) else state.values w) ≡ 0) × IsZeroValue w)
+          by w true one before =
+              let same : w ≡ put.value = grind (arith, nat_tests) in
+              inr (zero_bits (bits_of (first_type f (put.value ∷ []))), (put.variable, ap carries.tables.function.definition same ∙ put.defined))
+          by w false other before = before
+
+      zeros_done : (left : List ℕ) → AllByRecursion (IsZero f carries.tables e) left → (n : ℕ) → ZerosLeft left (state_after right_from n)
+          → (m : ℕ) × ZerosLeft [] (state_after right_from m)
+      zeros_done [] all n z = (n, z)
+      zeros_done (inst ∷ left) all n z = zeros_done left all.1 (suc n) (zero_step inst left (state_after right_from n) all.0 z)
+
+      -- behind the zeros
+      past_zeros : q.control ≡ At (items_of f e) → (m : ℕ) × ZerosLeft [] (state_after right_from m)
+      past_zeros at = zeros_done has.zeros has.are_zeros 0 (record {
+        at = at ∙ ap (λ (rest : List Placed). At rest) block_items;
+        memory = refl;
+        events = refl;
+        values = λ w. inl refl;
+      })
+
+    -- At the front of the entry ---------------------------------------------------------------------------------------
+
+    -- where all bits are zero
+    pub from_blank : (p : ScriptState) (q : FunctionState) → p.control ≡ At items → q.control ≡ At (items_of f e) → p.memory ≡ q.memory → p.events ≡ q.events
+        → ((x : ℕ) → p.variables x ≡ 0) → ((n : Name) → p.names n ≡ 0) → ((w : ℕ) → q.values w ≡ 0)
+        → (ahead : ℕ) × IsAlongside 0 p (state_after (starting_at (function_machine right_run) q) ahead)
+    from_blank p q script_at function_at memory events variables names values =
+        let past = past_zeros q function_at in
+        (past.0, alongside (state_after (starting_at (function_machine right_run) q) past.0) past.1)
+      where
+        alongside : (state : FunctionState) → ZerosLeft q [] state → IsAlongside 0 p state
+        alongside state z = record {
+          within = omega arith;
+          script_at = script_at;
+          function_at = z.at;
+          same_memory = memory ∙ sym z.memory;
+          same_events = events ∙ sym z.events;
+          names = p.names;
+          values = state.values;
+          agrees = zeros_agree (Alongside.program calls f ssa consistent carries entry is_entry placed sealed joins opens width world tracked collector)
+              (Alongside.function calls f ssa consistent carries entry is_entry placed sealed joins opens width world tracked collector)
+              (straight e 0) p.variables p.names state.values variables names (λ w. zero_now w (z.values w));
+          names_are = λ x j below home. refl;
+          values_are = λ w i within home. refl;
+        }
+          where
+            zero_now : (w : ℕ) → (state.values w ≡ q.values w) ⊎ ((state.values w ≡ 0) × IsZeroValue w) → state.values w ≡ 0
+            zero_now w (inl same) = same ∙ values w
+            zero_now w (inr put) = put.0
+
+    -- where the entry isn't sealed: variables have any bits
+    module _ (unsealed : is_yes (sealed_of ssa e) ≡ false) (p : ScriptState) (q : FunctionState) (start_alike : StartAlike calls f ssa e entry p q) where
+      abbrev program : Program
+      program = Alongside.program calls f ssa consistent carries entry is_entry placed sealed joins opens width world tracked collector
+
+      abbrev function : Function
+      function = Alongside.function calls f ssa consistent carries entry is_entry placed sealed joins opens width world tracked collector
+
+      variable_unknown : (x : ℕ) → instances program (straight e 0) (variable x) ≡ unknown x (straight e 0)
+      variable_unknown x =
+          variable-entered program (first_arm e) [] x (carries.program.front_assigns_nothing e x)
+          ∙ entered-unsealed program (first_arm e) [] x (Opened.seal_is calls f ssa carries entry is_entry false unsealed)
+
+      no_name : (n : ℕ) → (carries.tables.naming n).home ≢ front e
+      no_name n at = by (carries.program.given_only n (λ none. other (sym none ∙ at)))
+        where
+          other : start ≡ front e → ⊥
+          other h = cc
+
+          by : IsGiven calls carries.tables n → ⊥
+          by g = absurd (omega (arith, same_step (sym (ap (λ naming. naming.home) g.naming) ∙ at)))
+
+      name_absent : (n : ℕ) → instances program (straight e 0) (name n) ≡ absent
+      name_absent n = absent_name program n (straight e 0) (λ visits. never visits)
+        where
+          never : ((carries.tables.naming n).home ≡ front e) ⊎ ⊥ → ⊥
+          never (inl here) = no_name n here
+          never (inr none) = none
+
+      value_absent : (w : ℕ) → (function.definition w).home ≢ front e → denotes program function (straight e 0) w ≡ absent
+      value_absent w elsewhere = absent_value program function w (straight e 0) (λ visits. never visits)
+        where
+          never : ((function.definition w).home ≡ front e) ⊎ ⊥ → ⊥
+          never (inl here) = elsewhere here
+          never (inr none) = none
+
+      -- a value at the front, as the tables define it
+      at_front : (w : ℕ) → (function.definition w).home ≡ front e → (carries.tables.function.definition w).home ≡ front e
+      at_front w at = sym (ap (λ (d : Definition). d.home) (defined-end carries.tables.function w (is-end carries.tables.function w e 0 at))) ∙ at
+
+      front_kind : (w : ℕ) → (function.definition w).home ≡ front e → (kind : Kind) → (function.definition w).kind ≡ kind → (carries.tables.function.definition w).kind ≡ kind
+      front_kind w at kind is = sym (ap (λ (d : Definition). d.kind) (defined-end carries.tables.function w (is-end carries.tables.function w e 0 at))) ∙ is
+
+      denotes_front : (w : ℕ) → (function.definition w).home ≡ front e → (kind : Kind) → (function.definition w).kind ≡ kind
+          → denotes program function (straight e 0) w ≡ defined program function (first_arm e) [] (λ u. denotes program function [] u) w kind
+      denotes_front w at kind is =
+          denotes-here program function (first_arm e) [] w at ∙ ap (λ (k : Kind). defined program function (first_arm e) [] (λ u. denotes program function [] u) w k) is
+
+      nothing_yet : (w : ℕ) → denotes program function [] w ≡ absent
+      nothing_yet w = absent_value program function w [] (λ visits. visits)
+
+      -- a parameter at the front waits for its variable, and has its bits
+      waits : (state : FunctionState) → ZerosLeft q [] state → (w x : ℕ) → (function.definition w).home ≡ front e → (function.definition w).kind ≡ pending x
+          → p.variables x ≡ state.values w
+      waits state z w x at is = by (carries.describes.pends w x (sym (carries.describes.resolves w) ∙ is-end carries.tables.function w e 0 at) (front_kind w at (pending x) is)) (z.values w)
+        where
+          waiting_bits : (b : ℕ) → Contains (pending_of (sealed_of ssa b)) (record { variable = x; param = w }) → p.variables x ≡ q.values w
+          waiting_bits b there =
+              let home : front b ≡ front e = sym (ap (λ (d : Definition). d.home) (carries.describes.waiting b (record { variable = x; param = w }) there).defined) ∙ at_front w at in
+              start_alike.waiting (record { variable = x; param = w })
+              (subst (λ (c : ℕ). Contains (pending_of (sealed_of ssa c)) (record { variable = x; param = w })) (same_block home) there)
+
+          no_zero : IsZeroValue w → ⊥
+          no_zero put = other (sym (front_kind w at (pending x) is) ∙ ap (λ (d : Definition). d.kind) put.1)
+            where
+              other : pending x ≡ zero_of put.0 → ⊥
+              other h = cc
+
+          by : ((b : ℕ) × Contains (pending_of (sealed_of ssa b)) (record { variable = x; param = w })) ⊎ Contains {X = Pending} [] (record { variable = x; param = w })
+              → (state.values w ≡ q.values w) ⊎ ((state.values w ≡ 0) × IsZeroValue w) → p.variables x ≡ state.values w
+          by (inl found) (inl same) = waiting_bits found.0 found.1 ∙ sym same
+          by (inl found) (inr put) = absurd (no_zero put.1)
+          by (inr none) now = absurd (nothing_contained {X = Pending} (record { variable = x; param = w }) none)
+
+      -- The bits of what is at the front; zero for all else, which is absent on both sides.
+      front_values : FunctionState → ℕ → ℕ
+      front_values state w = if same_place (function.definition w).home (front e) then state.values w else 0
+
+      values_here : (state : FunctionState) (w : ℕ) → (function.definition w).home ≡ front e → front_values state w ≡ state.values w
+      unfolding front_values
+      values_here state w at = rw (same_place-equal (function.definition w).home (front e) at) refl
+
+      values_elsewhere : (state : FunctionState) (w : ℕ) → (function.definition w).home ≢ front e → front_values state w ≡ 0
+      unfolding front_values
+      values_elsewhere state w elsewhere = rw (same_place-other (function.definition w).home (front e) elsewhere) refl
+
+      -- only a parameter that waits denotes what a variable holds here
+      of_variable : (state : FunctionState) → ZerosLeft q [] state → (x w : ℕ)
+          → instances program (straight e 0) (variable x) ≡ denotes program function (straight e 0) w → p.variables x ≡ front_values state w
+      of_variable state z x w same = by (dec_place (function.definition w).home (front e))
+        where
+          is : unknown x (straight e 0) ≡ denotes program function (straight e 0) w
+          is = sym (variable_unknown x) ∙ same
+
+          by_kind : (function.definition w).home ≡ front e → (kind : Kind) → (function.definition w).kind ≡ kind
+              → unknown x (straight e 0) ≡ defined program function (first_arm e) [] (λ u. denotes program function [] u) w kind → p.variables x ≡ state.values w
+          by_kind at unborn of_kind one = absurd (other one)
+            where
+              other : unknown x (straight e 0) ≡ absent → ⊥
+              other h = cc
+          by_kind at (born n) of_kind one = absurd (other one)
+            where
+              other : unknown x (straight e 0) ≡ given n (straight e 0) → ⊥
+              other h = cc
+          by_kind at (pending y) of_kind one =
+              waits state z w x at (of_kind ∙ ap pending (sym (same_variable (one ∙ entered-unsealed program (first_arm e) [] y (Opened.seal_is calls f ssa carries entry is_entry false unsealed)))))
+            where
+              same_variable : unknown x (straight e 0) ≡ unknown y (straight e 0) → x ≡ y
+              same_variable h = cc
+          by_kind at complete of_kind one = absurd (other (one ∙ nothing_yet (function.resolve (function.argument w (first_arm e)))))
+            where
+              other : unknown x (straight e 0) ≡ absent → ⊥
+              other h = cc
+          by_kind at (zero_of y) of_kind one = absurd (other one)
+            where
+              other : unknown x (straight e 0) ≡ zero y → ⊥
+              other h = cc
+
+          by : Dec ((function.definition w).home ≡ front e) → p.variables x ≡ front_values state w
+          by (yes at) = by_kind at (function.definition w).kind refl (is ∙ denotes_front w at (function.definition w).kind refl) ∙ sym (values_here state w at)
+          by (no elsewhere) = absurd (other (is ∙ value_absent w elsewhere))
+            where
+              other : unknown x (straight e 0) ≡ absent → ⊥
+              other h = cc
+
+      -- and no value at the front denotes nothing
+      of_name : (state : FunctionState) (n : Name) (w : ℕ)
+          → instances program (straight e 0) (name (code n)) ≡ denotes program function (straight e 0) w → 0 ≡ front_values state w
+      of_name state n w same = by (dec_place (function.definition w).home (front e))
+        where
+          is : absent ≡ denotes program function (straight e 0) w
+          is = sym (name_absent (code n)) ∙ same
+
+          fits : (function.definition w).home ≡ front e → (kind : Kind) → (function.definition w).kind ≡ kind → HomeFits carries.tables w kind
+          fits at kind of_kind = subst (λ (k : Kind). HomeFits carries.tables w k) (front_kind w at kind of_kind) (carries.describes.homes w)
+
+          by_kind : (function.definition w).home ≡ front e → (kind : Kind) → (function.definition w).kind ≡ kind
+              → absent ≡ defined program function (first_arm e) [] (λ u. denotes program function [] u) w kind → ⊥
+          by_kind at unborn of_kind one = other (sym (fits at unborn of_kind) ∙ at_front w at)
+            where
+              other : start ≡ front e → ⊥
+              other h = cc
+          by_kind at (born n) of_kind one = other one
+            where
+              other : absent ≡ given n (straight e 0) → ⊥
+              other h = cc
+          by_kind at (pending y) of_kind one = other (one ∙ entered-unsealed program (first_arm e) [] y (Opened.seal_is calls f ssa carries entry is_entry false unsealed))
+            where
+              other : absent ≡ unknown y (straight e 0) → ⊥
+              other h = cc
+          by_kind at complete of_kind one = fits at complete of_kind
+          by_kind at (zero_of y) of_kind one = other one
+            where
+              other : absent ≡ zero y → ⊥
+              other h = cc
+
+          by : Dec ((function.definition w).home ≡ front e) → 0 ≡ front_values state w
+          by (yes at) = absurd (by_kind at (function.definition w).kind refl (is ∙ denotes_front w at (function.definition w).kind refl))
+          by (no elsewhere) = sym (values_elsewhere state w elsewhere)
+
+      pub from_any : (ahead : ℕ) × IsAlongside 0 p (state_after (starting_at (function_machine right_run) q) ahead)
+      from_any =
+          let past = past_zeros q start_alike.function_at in
+          (past.0, alongside (state_after (starting_at (function_machine right_run) q) past.0) past.1)
+        where
+          alongside : (state : FunctionState) → ZerosLeft q [] state → IsAlongside 0 p state
+          alongside state z = record {
+            within = omega arith;
+            script_at = start_alike.script_at;
+            function_at = z.at;
+            same_memory = start_alike.same_memory ∙ sym z.memory;
+            same_events = start_alike.same_events ∙ sym z.events;
+            names = λ n. 0;
+            values = front_values state;
+            agrees = record { of_variable = of_variable state z; of_name = of_name state };
+            names_are = λ x j below home. absurd (omega (arith, below));
+            values_are = λ w i within home. values_here state w (home ∙ ap (inside e) (none_below i within));
+          }
+            where
+              none_below : (i : ℕ) → i ≤ 0 → i ≡ 0
+              none_below i within = omega arith

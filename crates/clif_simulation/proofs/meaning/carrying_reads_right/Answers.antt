@@ -1,0 +1,6 @@
+use Rattle.clif_simulation.proofs.RightReading
+use Rattle.clif_simulation.proofs.meaning.carrying_reads_right.Goals as goal
+
+pub returns : goal.returns
+returns c = λ calls signature f s consistent carries width world tracked collector fits premises.
+    RightReading.runs calls signature f s consistent carries width world tracked collector fits premises

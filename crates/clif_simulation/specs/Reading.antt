@@ -1,0 +1,104 @@
+-- An unfinished function, read on runs and bits: from each start both machines of the calls so far run side by side. A
+-- name's value has the name's bits then, and at a block's end so far each record has its variable's bits. It is a law
+-- of `Carries`, which speaks of paths. Own.
+use Rattle.std.specs.Prelude.{◌≡◌, ℕ, suc, false, Bool, List, [], ◌∷◌, drop, flat_map, Some, Contains, IsTrue}
+use Rattle.clif_types.specs.Signature.{SignatureShape}
+use Rattle.clif_types.specs.declared.target.PointerWidth.{PointerWidth}
+use Rattle.clif_ir.specs.Body.{Body, resolved}
+use Rattle.clif_ssa.specs.declared.tables.Pending.{Pending}
+use Rattle.clif_ssa.specs.Ssa.{SsaState, record_of, sealed_of}
+use Rattle.clif_ssa.specs.Tables.{is_yes, pending_of}
+use Rattle.clif_meaning.specs.Name.{Name}
+use Rattle.clif_meaning.specs.Request.{AnsweredCall, script_of}
+use Rattle.clif_meaning.specs.Ledger.{ledger_after, is_terminator}
+use Rattle.clif_meaning.specs.Program.{Item, Instruct, Use, Assign}
+use Rattle.clif_meaning.specs.World.{World}
+use Rattle.clif_meaning.specs.Machine.{Machine, At, Observation, state_after}
+use Rattle.clif_meaning.specs.ScriptMachine.{ScriptRun, ScriptState, script_machine}
+use Rattle.clif_meaning.specs.FunctionMachine.{Collector, FunctionRun, FunctionState, function_machine}
+use Rattle.clif_meaning.specs.View.{view_of, block_of}
+use Rattle.clif_meaning.specs.Path.{Place, IsReachable}
+use Rattle.clif_meaning.specs.WellPlaced.{Code, IsGivenBefore, IsWellPlaced, program_code}
+use Rattle.clif_meaning.specs.Premises.{WellTyped}
+use Rattle.clif_meaning.specs.Headline.{script_run, function_run, IsWorldOf}
+use Rattle.clif_simulation.specs.Tables.{answered, block_name, program_so_far}
+use Rattle.clif_simulation.specs.Carries.{carried}
+
+-- Code so far: each block has one more place, its end so far, at which nothing stands yet.
+abbrev pub with_ends : {Block Thing : Type 0} → Code Block Thing → Code Block Thing
+with_ends code = record code { flow = record code.flow { size = λ block. suc (code.flow.size block) } }
+
+abbrev pub code_so_far : List AnsweredCall → Code Name Name
+code_so_far calls = with_ends (program_code (program_so_far calls))
+
+-- the place of a block behind so many items
+abbrev pub behind : Name → ℕ → Place Name
+behind block count = record { block = block; index = count }
+
+-- the premises on the calls so far, on types and on the order of names
+pub record PremisesSoFar (calls : List AnsweredCall) (signature : SignatureShape) : Type 0 where
+  pub well_typed : WellTyped (ledger_after (script_of calls)) (program_so_far calls) signature
+  pub given_before : IsWellPlaced (program_code (program_so_far calls))
+
+-- what a run of the calls so far goes by, where these names are tracked
+abbrev pub script_run_so_far : List AnsweredCall → Body → World → (Name → Bool) → ScriptRun
+script_run_so_far calls f world tracked = record (script_run (script_of calls) (view_of f) world) { is_tracked = tracked }
+
+-- what a run of the function so far goes by, under this collector
+abbrev pub function_run_so_far : List AnsweredCall → Body → PointerWidth → World → Collector → FunctionRun
+function_run_so_far calls f width world collector = function_run (script_of calls) (view_of f) width world collector
+
+-- the machine that starts in this state
+abbrev pub starting_at : {State Seen : Type 0} → Machine State Seen → State → Machine State Seen
+starting_at machine state = record machine { start = state }
+
+-- what is left of a block at its end so far: nothing, or the one instruction that ends it
+abbrev pub IsAtEnd : List Item → Type 0
+IsAtEnd [] = Unit {0}
+IsAtEnd (Instruct place instruction results ∷ rest) = IsTrue (is_terminator instruction.operation) × (rest ≡ [])
+IsAtEnd (Use variable name ∷ rest) = ⊥
+IsAtEnd (Assign variable name ∷ rest) = ⊥
+
+-- Both stand behind so many items of the block: a name that is given before that place has its value's bits, and at the
+-- block's end so far each variable has its record's.
+pub record StandAlike (calls : List AnsweredCall) (f : Body) (s : SsaState) (block : ℕ) (name : Name) (count : ℕ) (p : ScriptState) (q : FunctionState) : Type 0 where
+  pub script_at : p.control ≡ At (drop count ((program_so_far calls).items name))
+  pub function_at : q.control ≡ At (flat_map (carried calls) (drop count ((program_so_far calls).items name)))
+  pub same_memory : p.memory ≡ q.memory
+  pub same_events : p.events ≡ q.events
+  pub names : (x : Name) → IsGivenBefore (code_so_far calls) x (behind name count) → p.names x ≡ q.values (resolved f (answered calls x))
+  pub records : IsAtEnd (drop count ((program_so_far calls).items name))
+      → (variable value : ℕ) → record_of s variable block ≡ Some value → p.variables variable ≡ q.values (resolved f value)
+
+-- Side by side, from a block's front, as far as the script's run goes on: after each item the function's machine comes
+-- to a state in which both stand alike.
+abbrev pub SideBySide : List AnsweredCall → Body → SsaState → ℕ → Name → Machine ScriptState Observation → Machine FunctionState Observation → Type 0
+SideBySide calls f s block name left right =
+    (count : ℕ) (rest : List Item) → (state_after left count).control ≡ At rest
+    → (steps : ℕ) × StandAlike calls f s block name count (state_after left count) (state_after right steps)
+
+-- States at the front of an unsealed block, however control came there: variables have any bits, a parameter that waits
+-- has its variable's, and a name that is given before has its value's.
+pub record StartAlike (calls : List AnsweredCall) (f : Body) (s : SsaState) (block : ℕ) (name : Name) (p : ScriptState) (q : FunctionState) : Type 0 where
+  pub script_at : p.control ≡ At ((program_so_far calls).items name)
+  pub function_at : q.control ≡ At (block_of f block).items
+  pub same_memory : p.memory ≡ q.memory
+  pub same_events : p.events ≡ q.events
+  pub waiting : (parameter : Pending) → Contains (pending_of (sealed_of s block)) parameter → p.variables parameter.variable ≡ q.values parameter.param
+  pub names : (x : Name) → IsGivenBefore (code_so_far calls) x (behind name 0) → p.names x ≡ q.values (resolved f (answered calls x))
+
+-- The runs: from the entry as the machines start, and from each unsealed block that a path from the entry reaches, the
+-- entry among them, with any bits.
+pub record RunSideBySide (calls : List AnsweredCall) (f : Body) (s : SsaState) (left : ScriptRun) (right : FunctionRun) : Type 0 where
+  pub from_entry : (block : ℕ) (name : Name) → block_name calls block ≡ Some name → (program_so_far calls).entry ≡ Some name
+      → SideBySide calls f s block name (script_machine left) (function_machine right)
+  pub from_unsealed : (block : ℕ) (name : Name) → block_name calls block ≡ Some name → IsReachable (code_so_far calls).flow (behind name 0)
+      → is_yes (sealed_of s block) ≡ false → (p : ScriptState) (q : FunctionState) → StartAlike calls f s block name p q
+      → SideBySide calls f s block name (starting_at (script_machine left) p) (starting_at (function_machine right) q)
+
+-- In every world, whatever names are tracked and whatever the collector is: no call moves anything yet.
+abbrev pub ReadsRight : List AnsweredCall → SignatureShape → Body → SsaState → Type 0
+ReadsRight calls signature f s =
+    (width : PointerWidth) (world : World) (tracked : Name → Bool) (collector : Collector)
+    → IsWorldOf signature (view_of f) width world → PremisesSoFar calls signature
+    → RunSideBySide calls f s (script_run_so_far calls f world tracked) (function_run_so_far calls f width world collector)

@@ -1,0 +1,17 @@
+-- The laws of what a builder stands for, as the contracts of this crate's law functions state them. Own.
+use Rattle.std.specs.Prelude.{ℕ, List, Option}
+use Rattle.clif_types.specs.Signature.{SignatureShape}
+use Rattle.clif_ir.specs.Body.{Body}
+use Rattle.clif_ir.specs.Consistent.{IsConsistent}
+use Rattle.clif_meaning.specs.Request.{AnsweredCall}
+use Rattle.clif_simulation.specs.Reading.{ReadsRight}
+use Rattle.cranelift_frontend.specs.Context.{ContextState}
+use Rattle.cranelift_frontend.specs.StandsFor.{StandsIn}
+
+-- Where the parts of a builder stand for a list of calls, they read right on runs and bits: beside a run of the list's
+-- program, a run of the unfinished function has the bits of the names and, at a block's end so far, of the variables.
+-- Each function is consistent (`Function::law_consistent`).
+abbrev pub StandingReadsRight : Type 0
+StandingReadsRight =
+    (declared : SignatureShape) (calls : List AnsweredCall) (f : Body) (c : ContextState) (position : Option ℕ)
+    → IsConsistent f → StandsIn declared calls f c position → ReadsRight calls declared f c.ssa

@@ -1,0 +1,9 @@
+//! Laws of what a builder stands for. The functions here have empty bodies, and their contracts are the laws.
+
+ghost use Rattle.cranelift_frontend.specs.Laws.{StandingReadsRight};
+
+/// The unfinished function of a builder that stands for a list of calls has, beside each run of the list's program, the
+/// bits of its names and variables.
+pub fn standing_reads_right()
+    ensures { StandingReadsRight }
+{}
