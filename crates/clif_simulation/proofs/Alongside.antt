@@ -14,7 +14,7 @@ use Rattle.clif_paths.proofs.Executing.{variable-kept, denotes-past}
 use Rattle.clif_ssa.specs.Ssa.{SsaState, record_of}
 use Rattle.clif_meaning.specs.Name.{Name, same_name}
 use Rattle.clif_meaning.specs.Request.{AnsweredCall, script_of}
-use Rattle.clif_meaning.specs.Instruction.{Instruction}
+use Rattle.clif_meaning.specs.Instruction.{Instruction, Edge}
 use Rattle.clif_meaning.specs.Program.{Item, Instruct, Use, Assign}
 use Rattle.clif_meaning.specs.World.{World}
 use Rattle.clif_meaning.specs.Memory.{Memory}
@@ -437,6 +437,12 @@ module _ (calls : List AnsweredCall) (f : Body) (ssa : SsaState) (consistent : I
             (same_given_places same_value value_cases (map (answered calls) results) bits a.values q.values (answered calls found.0)
             (as_many ∙ sym (mapped_count (answered calls) results)) (in_mapped (answered calls) results found.0 found.1))
 
+    -- where there are no edges, a run doesn't go on at a branch
+    no_edge_taken : (p : ScriptState) {edges : List (Edge Name Name)} → edges ≡ [] → (edge : ℕ) (given : List ℕ) (memory : Memory) (left : List Item)
+        → (script.follow_edge left_run (record p { memory = memory }) given (slice_get edges edge)).control ≡ At left → ⊥
+    no_edge_taken p {edges} none edge given memory left =
+        subst (λ (es : List (Edge Name Name)). (script.follow_edge left_run (record p { memory = memory }) given (slice_get es edge)).control ≡ At left → ⊥) (sym none) (λ on. cc)
+
     -- whatever it does, if the run goes on
     after_outcome : (k place : ℕ) (instruction : Instruction Name Name) (results : List Name) (rest : List Item) (p : ScriptState) (q : FunctionState)
         → drop k items ≡ Instruct place instruction results ∷ rest → Alongside k p q → (o : Outcome) → IsPlain o
@@ -450,7 +456,9 @@ module _ (calls : List AnsweredCall) (f : Body) (ssa : SsaState) (consistent : I
         (as_many world place instruction results
         (gives_results (script_of calls) entry k (Instruct place instruction results) (item_here items k (Instruct place instruction results) rest here))
         (map p.names instruction.operands) p.memory memory bits is)
-    after_outcome k place instruction results rest p q here a (Goes edge given memory) plain is left on = absurd plain
+    after_outcome k place instruction results rest p q here a (Goes edge given memory) plain is left on =
+        absurd (no_edge_taken p (Items.no_edges calls f ssa carries entry is_entry k place instruction results (item_here items k (Instruct place instruction results) rest here))
+        edge given memory left on)
     after_outcome k place instruction results rest p q here a (Returns bits) plain is left on = cc
     after_outcome k place instruction results rest p q here a (Traps reason) plain is left on = cc
     after_outcome k place instruction results rest p q here a (Calls callee call arguments) plain is left on = absurd plain

@@ -6,7 +6,7 @@ use Rattle.clif_types.specs.declared.types.«Type».{«Type»}
 use Rattle.clif_meaning.specs.Bits.{Bits}
 use Rattle.clif_meaning.specs.Memory.{Memory}
 use Rattle.clif_meaning.specs.Name.{Name, same_name, answer_of}
-use Rattle.clif_meaning.specs.Instruction.{Instruction, Operation, Compute, Return, Arithmetic, Iconst, Iadd}
+use Rattle.clif_meaning.specs.Instruction.{Instruction, Operation, Compute, Jump, Brif, Return, Arithmetic, Iconst, Iadd, Isub}
 use Rattle.clif_meaning.specs.Request.{Request, CreateBlock, SwitchToBlock, SealBlock, DeclareVar, DefVar, UseVar, Build, Finalize, Script}
 use Rattle.clif_meaning.specs.Program.{Program, Item, Instruct, Use, Assign, result_types, result_names, answers_from, with_item_at, with_inserted, extended, with_call, empty_program, program_of}
 use Rattle.clif_meaning.specs.Ledger.{is_terminator}
@@ -84,16 +84,26 @@ counted_arithmetic Iadd ty [] memory = tt
 counted_arithmetic Iadd ty (x ∷ []) memory = tt
 counted_arithmetic Iadd ty (x ∷ y ∷ []) memory = refl
 counted_arithmetic Iadd ty (x ∷ y ∷ z ∷ operands) memory = tt
+counted_arithmetic Isub ty [] memory = tt
+counted_arithmetic Isub ty (x ∷ []) memory = tt
+counted_arithmetic Isub ty (x ∷ y ∷ []) memory = refl
+counted_arithmetic Isub ty (x ∷ y ∷ z ∷ operands) memory = tt
 
 one_type : (arithmetic : Arithmetic) (ty : «Type») → length (result_types (Compute arithmetic) ty) ≡ 1
 one_type (Iconst number) ty = refl
 one_type Iadd ty = refl
+one_type Isub ty = refl
 
 counted_outcome : (world : World) (operation : Operation) (ty : «Type») (operands : List Bits) (memory : Memory)
     → GivesCount (length (result_types operation ty)) (outcome_of world operation ty operands memory)
 counted_outcome world (Compute arithmetic) ty operands memory =
     subst (λ (n : ℕ). GivesCount n (outcome_of_computed (computed arithmetic ty operands) memory)) (sym (one_type arithmetic ty))
     (counted_arithmetic arithmetic ty operands memory)
+counted_outcome world Jump ty [] memory = tt
+counted_outcome world Jump ty (x ∷ operands) memory = tt
+counted_outcome world Brif ty [] memory = tt
+counted_outcome world Brif ty (x ∷ []) memory = tt
+counted_outcome world Brif ty (x ∷ y ∷ operands) memory = tt
 counted_outcome world Return ty operands memory = tt
 
 -- an instruction that gives bits gives one for each name
@@ -111,4 +121,6 @@ terminator_gives_none place instruction ends = ap (answers_from place 1) (none i
   where
     none : (operation : Operation) → IsTrue (is_terminator operation) → result_types operation instruction.controlling ≡ []
     none (Compute arithmetic) ends = cc
+    none Jump ends = refl
+    none Brif ends = refl
     none Return ends = refl
