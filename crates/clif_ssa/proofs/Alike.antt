@@ -20,7 +20,7 @@ use Rattle.clif_ssa.proofs.Zeroing.{put_zero, zero_count, CanAlias, alias_resolv
 use Rattle.clif_ssa.proofs.Completing.{inserted_same, inserted_firm, inserted_param_home}
 
 -- a parameter is no alias
-unaliased_home : (f : Body) (v b : ℕ) → param_home f v ≡ Some b → resolved f v ≡ v
+pub unaliased_home : (f : Body) (v b : ℕ) → param_home f v ≡ Some b → resolved f v ≡ v
 unaliased_home f v b is = follow_end f.values (length f.values) v (ap alias_of_origin (param_origin f v b is))
 
 -- values that end where they ended

@@ -12,3 +12,4 @@ pub mod Writing
 pub mod Owning
 pub mod Alike
 pub mod Losing
+pub mod Straying

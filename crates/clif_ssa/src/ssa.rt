@@ -9,7 +9,7 @@ ghost use Rattle.clif_paths.specs.Places.{start};
 ghost use Rattle.clif_paths.specs.Blocks.{Blocks, last_place, with_write};
 ghost use Rattle.clif_ssa.specs.Sound.{Describes, Keeps, KeepsAndKnows};
 ghost use Rattle.clif_ssa.specs.SoundLaws.{DescribesSoundly};
-ghost use Rattle.clif_ssa.specs.Structure.{HasRecordOf, LosesWaiting, Remembers};
+ghost use Rattle.clif_ssa.specs.Structure.{HasRecordOf, LosesWaiting, NothingStray, Remembers};
 ghost use Rattle.clif_ssa.specs.Ssa.{no_state, record_of, sealed_of, with_zero, zeroed, zeroed_in, completed, completing_blocks, Records, SameRecords, Seals, Waits, Zeroes};
 
 use crate::tables::{BlockTable, Pending, VariableTable};
@@ -134,6 +134,7 @@ impl SSABuilder {
         ensures recorded { IfOk result (λ r. HasRecordOf func.new self.new variable block r.0) }
         ensures remembers { (x b : ℕ) → OnOk result (Remembers x b func.old self.old func.new self.new) }
         ensures parameters { is_yes (sealed_of self.old block) ≡ true → (b : ℕ) → OnOk result ((block_at func.new b).params ≡ (block_at func.old b).params) }
+        ensures nothing_stray { (own : ℕ → List ℕ) → NothingStray own func.old self.old → OnOk result (NothingStray own func.new self.new) }
         ensures never_failed { result ≢ Err BuildError.Failed }
     {
         func.law_consistent();
@@ -182,6 +183,7 @@ impl SSABuilder {
         ensures keeps { (own : ℕ → List ℕ) (tables : Blocks) → DescribesSoundly own func.old self.old tables → OnOk result (Keeps own tables func.new self.new) }
         ensures remembers { (x b : ℕ) → OnOk result (Remembers x b func.old self.old func.new self.new) }
         ensures parameters { OnOk result (LosesWaiting func.old func.new (pending_of (sealed_of self.old block))) }
+        ensures nothing_stray { (own : ℕ → List ℕ) → NothingStray own func.old self.old → OnOk result (NothingStray own func.new self.new) }
         ensures never_failed { result ≢ Err BuildError.Failed }
     {
         func.law_consistent();

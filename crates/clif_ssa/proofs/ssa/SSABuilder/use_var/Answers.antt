@@ -1,6 +1,7 @@
 use Rattle.clif_ssa.proofs.Bodies.{firm_from}
 use Rattle.clif_ssa.proofs.Using.{use_keeps}
 use Rattle.clif_ssa.proofs.Losing.{use_used, used_recorded, used_remembers, used_params}
+use Rattle.clif_ssa.proofs.Straying.{use_stray}
 use Rattle.clif_ssa.proofs.ssa.SSABuilder.use_var.Goals as goal
 
 pub returns-clause-keeps : goal.returns-clause-keeps
@@ -25,3 +26,8 @@ returns-clause-parameters c = λ sealed b.
     used_params c.args.variable c.args.block b c.args.func.now c.value_of.new.func c.args.self.now c.value_of.new.self c.value_of.result
     (use_used c.args.func.now c.value_of.new.func c.args.self.now c.value_of.new.self c.args.variable c.args.ty c.args.block c.value_of.result
     c.law_consistent.ensures c.requires c.value_of.ensures.known c.value_of.ensures.waits c.value_of.ensures.zero) sealed
+
+pub returns-clause-nothing_stray : goal.returns-clause-nothing_stray
+returns-clause-nothing_stray c = λ own before.
+    use_stray own c.args.func.now c.value_of.new.func c.args.self.now c.value_of.new.self c.args.variable c.args.ty c.args.block c.value_of.result
+    c.law_consistent.ensures c.requires before c.value_of.ensures.known c.value_of.ensures.waits c.value_of.ensures.zero
