@@ -10,6 +10,7 @@ use Rattle.clif_paths.specs.Blocks.{Blocks}
 use Rattle.clif_paths.specs.BlockLaws.{BlocksSound}
 use Rattle.clif_ssa.specs.Ssa.{SsaState}
 use Rattle.clif_ssa.specs.Sound.{Describes}
+use Rattle.clif_ssa.specs.Structure.{NothingStray}
 use Rattle.clif_meaning.specs.Name.{Name}
 use Rattle.clif_meaning.specs.Instruction.{Edge}
 use Rattle.clif_meaning.specs.Request.{AnsweredCall}
@@ -105,8 +106,8 @@ module _ (calls : List AnsweredCall) (call : AnsweredCall) where
     pub carries_on : (T : Blocks) → IsProgramOf after T
         → ((block : ℕ) (name : Name) → block_name after block ≡ Some name → (block_name calls block ≡ Some name) ⊎ ((c.own block ≡ []) × ((program_so_far calls).items name ≡ [])))
         → ((name : Name) → (program_so_far after).items name ≡ (program_so_far calls).items name)
-        → ValuesGiven after T → HasEntry after g → Describes c.own g t [] T → BlocksSound T → Carries after g t
-    carries_on T program named items values entry describes sound = record {
+        → ValuesGiven after T → HasEntry after g → Describes c.own g t [] T → BlocksSound T → NothingStray c.own g t → Carries after g t
+    carries_on T program named items values entry describes sound nothing_stray = record {
       tables = T;
       own = c.own;
       program = program;
@@ -117,6 +118,7 @@ module _ (calls : List AnsweredCall) (call : AnsweredCall) where
       entry = entry;
       describes = describes;
       sound = sound;
+      nothing_stray = nothing_stray;
     }
       where
         by : (block : ℕ) (name : Name) → (block_name calls block ≡ Some name) ⊎ ((c.own block ≡ []) × ((program_so_far calls).items name ≡ []))
@@ -177,8 +179,8 @@ module _ (calls : List AnsweredCall) (call : AnsweredCall) where
               (subst (AllByRecursion (λ (i : ℕ). i < length g.insts)) (sym own_here) (all_append (λ (i : ℕ). i < length g.insts) (c.own b) new (own_exists (c.own b) (c.own_exist b)) new_exist))
           by (no other) = subst (AllByRecursion (λ (i : ℕ). i < length g.insts)) (sym (own_elsewhere block other)) (own_exists (c.own block) (c.own_exist block))
 
-      pub carries_item : ValuesGiven after T → HasEntry after g → Describes own g t [] T → BlocksSound T → Carries after g t
-      carries_item values entry describes sound = record {
+      pub carries_item : ValuesGiven after T → HasEntry after g → Describes own g t [] T → BlocksSound T → NothingStray own g t → Carries after g t
+      carries_item values entry describes sound nothing_stray = record {
         tables = T;
         own = own;
         program = extended calls after T1 T b B item adds was;
@@ -189,4 +191,5 @@ module _ (calls : List AnsweredCall) (call : AnsweredCall) where
         entry = entry;
         describes = describes;
         sound = sound;
+        nothing_stray = nothing_stray;
       }

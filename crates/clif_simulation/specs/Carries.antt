@@ -6,6 +6,7 @@ use Rattle.std.specs.List.{AllByRecursion}
 use Rattle.clif_ir.specs.Body.{Body, inst_at, value_at}
 use Rattle.clif_ssa.specs.Ssa.{SsaState}
 use Rattle.clif_ssa.specs.Sound.{Describes, entry_of}
+use Rattle.clif_ssa.specs.Structure.{NothingStray}
 use Rattle.clif_paths.specs.Places.{start}
 use Rattle.clif_paths.specs.Blocks.{Blocks}
 use Rattle.clif_paths.specs.BlockLaws.{BlocksSound}
@@ -86,6 +87,7 @@ pub record Carries (calls : List AnsweredCall) (f : Body) (s : SsaState) : Type 
   pub entry : HasEntry calls f
   pub describes : Describes own f s [] tables
   pub sound : BlocksSound tables
+  pub nothing_stray : NothingStray own f s
 
 -- A function that goes on: its signature and its instructions stay, and its values keep their types.
 pub record GoesOn (f g : Body) : Type 0 where

@@ -127,10 +127,9 @@ own_zeros own f b shape types loc firm there c has =
     own_other c other = sym (updated-other own b (own b ++ length f.insts ∷ []) c other)
 
 -- one more instruction of the caller's
-pub own_stray : (own : ℕ → List ℕ) (f : Body) (s : SsaState) (b : ℕ) (shape : InstructionData) (types : List «Type») (loc : ℕ) → IsConsistent f → b < length f.blocks
+pub own_stray : (own : ℕ → List ℕ) (f : Body) (s : SsaState) (b : ℕ) (shape : InstructionData) (types : List «Type») (loc : ℕ) → Firm f → b < length f.blocks
     → NothingStray own f s → NothingStray (with_own own b (length f.insts)) (with_inst f b Back shape types loc) s
-own_stray own f s b shape types loc known there before =
-    let firm : Firm f = firm_from f known in
+own_stray own f s b shape types loc firm there before =
     let g : Body = with_inst f b Back shape types loc in
     record {
       parameters = λ v c is. before.parameters v c (sym (inst_param_home f b Back shape types loc v) ∙ is);
@@ -384,11 +383,10 @@ seal_other : (c b : ℕ) (x y : Sealed) → c ≢ b → (if c == b then x else y
 seal_other c b x y apart = grind (arith, common_steps, apart)
 
 -- a block is sealed
-pub seal_stray : (own : ℕ → List ℕ) (f g : Body) (s t : SsaState) (b : ℕ) → IsConsistent f → Seals s t b → g ≡ completed f (pending_of (sealed_of s b))
+pub seal_stray : (own : ℕ → List ℕ) (f g : Body) (s t : SsaState) (b : ℕ) → Firm f → Seals s t b → g ≡ completed f (pending_of (sealed_of s b))
     → NothingStray own f s → NothingStray own g t
-seal_stray own f g s t b known seals is before =
+seal_stray own f g s t b firm seals is before =
     let waited : List Pending = pending_of (sealed_of s b) in
-    let firm : Firm f = firm_from f known in
     let done : Body = completed f waited in
     let needed : OnlyNeeded own done = completed_needed own waited f firm (needed_of own f s before) in
     let left : LeavesAll f done waited = completed_leaves waited f firm in
@@ -413,10 +411,10 @@ param_home_cases f b ty v c is =
           inr (other, sym (home-append f.values (param_node ty b ∷ []) v here) ∙ is)
     ]
 
-waits_stray : (own : ℕ → List ℕ) (f g : Body) (s t : SsaState) (x : ℕ) (ty : «Type») (b : ℕ) → IsConsistent f → b < length f.blocks → Waits s t f g x ty b
+pub waits_stray : (own : ℕ → List ℕ) (f g : Body) (s t : SsaState) (x : ℕ) (ty : «Type») (b : ℕ) → Firm f → b < length f.blocks → Waits s t f g x ty b
     → NothingStray own f s → NothingStray own g t
-waits_stray own f g s t x ty b known there waits before =
-    let needed : OnlyNeeded own (with_param f b ty) = param_needed own f b ty (firm_from f known) there (needed_of own f s before) in
+waits_stray own f g s t x ty b firm_f there waits before =
+    let needed : OnlyNeeded own (with_param f b ty) = param_needed own f b ty firm_f there (needed_of own f s before) in
     let new : Pending = record { variable = x; param = length f.values } in
     let now : sealed_of t b ≡ No (pending_of (sealed_of s b) ++ new ∷ []) = waits.waiting b ∙ seal_here b b _ _ refl in
     subst (λ h. NothingStray own h t) (sym waits.function) (record {
@@ -445,13 +443,13 @@ waits_stray own f g s t x ty b known there waits before =
       zeros = needed.zeros;
     })
 
-zeroes_stray : (own : ℕ → List ℕ) (f g : Body) (s t : SsaState) (x : ℕ) (ty : «Type») (b : ℕ) → IsConsistent f → b < length f.blocks → Zeroes s t f g x ty b
+pub zeroes_stray : (own : ℕ → List ℕ) (f g : Body) (s t : SsaState) (x : ℕ) (ty : «Type») (b : ℕ) → Firm f → b < length f.blocks → Zeroes s t f g x ty b
     → NothingStray own f s → NothingStray own g t
-zeroes_stray own f g s t x ty b known there zeroes before =
+zeroes_stray own f g s t x ty b firm_f there zeroes before =
     let h : Body = with_param f b ty in
     let n : ℕ = length f.values in
-    let firm : Firm h = param_firm f b ty (firm_from f known) there in
-    let needed : OnlyNeeded own (zeroed h b n) = zeroed_needed own h b n firm (param_home_new f b ty) (param_needed own f b ty (firm_from f known) there (needed_of own f s before)) in
+    let firm : Firm h = param_firm f b ty firm_f there in
+    let needed : OnlyNeeded own (zeroed h b n) = zeroed_needed own h b n firm (param_home_new f b ty) (param_needed own f b ty firm_f there (needed_of own f s before)) in
     let left : Leaves h (zeroed h b n) n = zeroed_leaves h b n firm (param_home_new f b ty) in
     subst (λ k. NothingStray own k t) (sym zeroes.function) (record {
       parameters = λ v c home.
@@ -480,8 +478,8 @@ use_stray own f g s t x ty b (Err error) consistent there before known waits zer
 use_stray own f g s t x ty b (Ok r) consistent there before known waits zeroes = by (record_of s x b) refl known
   where
     by_sealed : record_of s x b ≡ None → (sealed : Bool) → is_yes (sealed_of s b) ≡ sealed → NothingStray own g t
-    by_sealed none true sealed = zeroes_stray own f g s t x ty b consistent there (zeroes none sealed).0 before
-    by_sealed none false sealed = waits_stray own f g s t x ty b consistent there (waits none sealed).0 before
+    by_sealed none true sealed = zeroes_stray own f g s t x ty b (firm_from f consistent) there (zeroes none sealed).0 before
+    by_sealed none false sealed = waits_stray own f g s t x ty b (firm_from f consistent) there (waits none sealed).0 before
 
     by : (entry : Option ℕ) → record_of s x b ≡ entry
         → IfSome entry (λ v. ((g ≡ f) × (t ≡ s)) × ((r.0 ≡ v) × (r.1.instructions_added_to_blocks.items ≡ [])))

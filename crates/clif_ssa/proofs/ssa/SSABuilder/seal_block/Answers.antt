@@ -37,4 +37,4 @@ returns-clause-nothing_stray c = λ own before.
     let t : SsaState = record { records = c.self.inside.variables; blocks = c.seal.new.self } in
     let function : c.complete.new.func ≡ completed c.args.func.now (pending_of (sealed_of c.args.self.now c.args.block)) = grind (arith, common_steps) in
     let seals : Seals c.args.self.now t c.args.block = λ b. c.in_ok-waiting.ensures.ok b ∙ ap (λ (s : SsaState). cond (b == c.args.block) Yes (sealed_of s b)) c.self.view_is in
-    seal_stray own c.args.func.now c.complete.new.func c.args.self.now t c.args.block c.law_consistent.ensures seals function before
+    seal_stray own c.args.func.now c.complete.new.func c.args.self.now t c.args.block (firm_from c.args.func.now c.law_consistent.ensures) seals function before
