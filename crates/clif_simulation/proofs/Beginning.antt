@@ -98,6 +98,7 @@ carries_nothing name signature =
       items = λ b N named. absurd (some_none N named);
       earlier = λ N. tt;
       own_exist = λ b. tt;
+      own_named = λ b none. refl;
       values_given = λ x is. absurd (false_is is);
       entry = record { none = λ none. refl; some = λ e is. absurd (some_none e is) };
       describes = first.0;

@@ -95,7 +95,7 @@ module _ (calls : List AnsweredCall) (f : Body) (s : SsaState) (c : Carries call
       let call : AnsweredCall = the_call CreateBlock numbers in
       carries_on calls call f (with_block f) s t c (λ i below. refl) (omega arith) c.tables
       (created calls call refl c.tables c.tables (same_program c.tables) (Requests.items_created calls call refl) c.program)
-      named (Requests.items_created calls call refl)
+      named (kept calls call refl) (Requests.items_created calls call refl)
       (values_kept calls call c.tables c.tables (same_program c.tables) one_answer_none c.values_given)
       (entry_stays calls (calls ++ call ∷ []) f (with_block f) (Requests.entry_created calls call refl) refl (kept calls call refl) c.entry)
       (same_state c.own (with_block f) s t c.tables records same (block_described c.own f s c.tables c.describes))
@@ -128,7 +128,7 @@ module _ (calls : List AnsweredCall) (f : Body) (s : SsaState) (c : Carries call
       let call : AnsweredCall = the_call (SwitchToBlock block) numbers in
       carries_on calls call f f s s c (λ i below. refl) (omega arith) c.tables
       (unchanged calls call c.tables c.tables (same_program c.tables) tt (Requests.items_switched calls call block refl) c.program)
-      (name_was call tt) (Requests.items_switched calls call block refl)
+      (name_was call tt) (name_stays call tt) (Requests.items_switched calls call block refl)
       (values_kept calls call c.tables c.tables (same_program c.tables) (λ index. refl) c.values_given)
       (entry_stays calls (calls ++ call ∷ []) f f (Requests.entry_switched calls call block refl) refl (name_stays call tt) c.entry)
       c.describes c.sound c.nothing_stray
@@ -139,7 +139,7 @@ module _ (calls : List AnsweredCall) (f : Body) (s : SsaState) (c : Carries call
       let call : AnsweredCall = the_call (DeclareVar ty) numbers in
       carries_on calls call f f s s c (λ i below. refl) (omega arith) c.tables
       (unchanged calls call c.tables c.tables (same_program c.tables) tt (Requests.items_declared calls call ty refl) c.program)
-      (name_was call tt) (Requests.items_declared calls call ty refl)
+      (name_was call tt) (name_stays call tt) (Requests.items_declared calls call ty refl)
       (values_kept calls call c.tables c.tables (same_program c.tables) (one_variable_none (length (ledger_after (script_of calls)).variables)) c.values_given)
       (entry_stays calls (calls ++ call ∷ []) f f (Requests.entry_declared calls call ty refl) refl (name_stays call tt) c.entry)
       c.describes c.sound c.nothing_stray
@@ -155,7 +155,7 @@ module _ (calls : List AnsweredCall) (f : Body) (s : SsaState) (c : Carries call
       let on = goes_on-completed f (pending_of (sealed_of s b)) in
       carries_on calls call f g s t c (placed_kept f g consistent on) on.more_insts after.tables
       (unchanged calls call c.tables after.tables after.same tt (Requests.items_sealed calls call block refl) c.program)
-      (name_was call tt) (Requests.items_sealed calls call block refl)
+      (name_was call tt) (name_stays call tt) (Requests.items_sealed calls call block refl)
       (values_kept calls call c.tables after.tables after.same (λ index. refl) c.values_given)
       (entry_stays calls (calls ++ call ∷ []) f g (Requests.entry_sealed calls call block refl) entry (name_stays call tt) c.entry)
       after.describes after.sound (seal_stray c.own f g s t b (firm_from f consistent) seals refl c.nothing_stray)

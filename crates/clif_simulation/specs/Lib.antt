@@ -1,3 +1,4 @@
 pub mod Tables
 pub mod Carries
 pub mod Laws
+pub mod Structure
