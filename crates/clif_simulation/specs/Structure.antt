@@ -9,6 +9,8 @@ use Rattle.clif_meaning.specs.Request.{AnsweredCall, script_of}
 use Rattle.clif_meaning.specs.Program.{Use, program_of}
 use Rattle.clif_meaning.specs.Path.{Place}
 use Rattle.clif_meaning.specs.View.{view_of}
+use Rattle.clif_meaning.specs.Typing.{EdgesMatch}
+use Rattle.clif_meaning.specs.Premises.{CallersEdgesMatch}
 use Rattle.clif_meaning.specs.WellPlaced.{program_code, IsWellPlaced, WellPlaced, Records, RecordsWellPlaced}
 use Rattle.clif_simulation.specs.Tables.{answered, program_so_far, block_name, item_at}
 use Rattle.clif_simulation.specs.Carries.{Carries, carried}
@@ -29,6 +31,14 @@ CarryingLeavesNoParameters =
     (calls : List AnsweredCall) (f : Body) (s : SsaState)
     → IsConsistent f → Carries calls f s → IsFinished f s
     → HasCallersParameters calls f
+
+-- Where the caller's arguments match the caller's parameters, a finished function's edges match.
+abbrev pub CarryingMatchesEdges : Type 0
+CarryingMatchesEdges =
+    (calls : List AnsweredCall) (f : Body) (s : SsaState)
+    → IsConsistent f → Carries calls f s → IsFinished f s
+    → CallersEdgesMatch (script_of calls)
+    → EdgesMatch (view_of f)
 
 -- Where the names of the program are given before they are named, a finished function's values are defined before they
 -- are.

@@ -5,3 +5,4 @@
 
 pub mod meaning;
 pub mod names;
+pub mod structure;
