@@ -53,7 +53,7 @@ pub record Leaves (f g : Body) (v : ℕ) : Type 0 where
   pub gone : param_home g v ≡ None
   pub others : (u : ℕ) → u ≢ v → param_home g u ≡ param_home f u
 
-inserted_resolved : (f : Body) (b v : ℕ) → resolved (inserted_in f b) v ≡ resolved f v
+pub inserted_resolved : (f : Body) (b v : ℕ) → resolved (inserted_in f b) v ≡ resolved f v
 inserted_resolved f b v = by (stands_in b f.layout)
   where
     by : (test : Bool) → resolved (cond test f (with_layout f b)) v ≡ resolved f v

@@ -126,7 +126,7 @@ zeroes_params f b ty known there c =
 -- THE CLAUSES OF A USE --------------------------------------------------------------------------------------------
 
 -- what a use leaves of records
-records_stay : (s t : SsaState) (x b v : ℕ) → record_of s x b ≡ None → Records s t x b v → (y c w : ℕ) → record_of s y c ≡ Some w → record_of t y c ≡ Some w
+pub records_stay : (s t : SsaState) (x b v : ℕ) → record_of s x b ≡ None → Records s t x b v → (y c w : ℕ) → record_of s y c ≡ Some w → record_of t y c ≡ Some w
 records_stay s t x b v none written y c w is = written y c ∙ by (y == x && c == b) refl
   where
     by : (test : Bool) → (y == x && c == b) ≡ test → (if test then Some v else record_of s y c) ≡ Some w
@@ -136,7 +136,7 @@ records_stay s t x b v none written y c w is = written y c ∙ by (y == x && c =
         let second : c ≡ b = grind (arith, nat_tests) in
         absurd (none_some (sym (ap (λ z. record_of s z c) first ∙ ap (λ d. record_of s x d) second ∙ none) ∙ is))
 
-zeroes_resolved : (f : Body) (b : ℕ) (ty : «Type») → Firm f → b < length f.blocks
+pub zeroes_resolved : (f : Body) (b : ℕ) (ty : «Type») → Firm f → b < length f.blocks
     → resolved (zeroed (with_param f b ty) b (length f.values)) (length f.values) ≡ resolved (zeroed (with_param f b ty) b (length f.values)) (length f.values + 1)
 zeroes_resolved f b ty firm there =
     let h : Body = with_param f b ty in
