@@ -19,7 +19,7 @@ use Rattle.clif_meaning.specs.Program.{Program, Item, Instruct, Use, Assign, pro
 use Rattle.clif_meaning.specs.Tracked.{is_tracked}
 use Rattle.clif_meaning.specs.ScriptMachine.{ScriptRun, ScriptState, script_machine}
 use Rattle.clif_meaning.specs.WellPlaced.{program_code, IsWellPlaced}
-use Rattle.clif_meaning.specs.Typing.{IsWellTyped}
+use Rattle.clif_meaning.specs.Typing.{call_shape, EachEdgeMatches, IsWellTyped}
 use Rattle.clif_meaning.specs.Access.{Holds, touched_ranges, claims_of, LibraryCall, library_call}
 
 -- it holds of each item of each block
@@ -142,3 +142,21 @@ pub record Premises (script : Script) (signature : SignatureShape) (pointer : «
   pub claims_true : InEachStep (ClaimsAreTrue run) run
   -- a callee with the name of a library function has that function's signature
   pub libc_as_named : EachItem (CallsLibraryAsNamed pointer) (program_of script)
+
+-- The premises under which a finished function is well placed: those of the script alone that speak of branches, types
+-- and names.
+pub record PlacementPremises (script : Script) (signature : SignatureShape) : Type 0 where
+  pub targets_filled : EachItem (HasGoodTargets (ledger_after script) (program_of script)) (program_of script)
+  pub well_typed : WellTyped (ledger_after script) (program_of script) signature
+  pub given_before : IsWellPlaced (program_code (program_of script))
+
+-- The premise under which a finished function's edges match: the arguments that the caller gives an edge and the
+-- caller's parameters of its target agree.
+abbrev pub ItemEdgesMatch : Ledger → Program → Item → Type 0
+ItemEdgesMatch ledger program (Instruct place instruction results) =
+    EachEdgeMatches (λ name. or_invalid (type_of ledger name)) (parameter_types ledger program) (call_shape instruction.operation) instruction.edges
+ItemEdgesMatch ledger program (Use variable name) = Unit {0}
+ItemEdgesMatch ledger program (Assign variable name) = Unit {0}
+
+abbrev pub CallersEdgesMatch : Script → Type 0
+CallersEdgesMatch script = EachItem (ItemEdgesMatch (ledger_after script) (program_of script)) (program_of script)

@@ -7,7 +7,7 @@ use Rattle.clif_meaning.specs.Ledger.{Ledger, empty_ledger, ledger_after, ledger
 use Rattle.clif_meaning.specs.Acceptance.{Verdict, Accepted, Misuse, Refused, iconst, iadd, return_, verdict_from, verdict_on}
 use Rattle.clif_types.specs.Signature.{SignatureShape}
 use Rattle.cranelift_frontend.specs.Context.{ContextState}
-use Rattle.cranelift_frontend.specs.StandsFor.{StandsIn}
+use Rattle.cranelift_frontend.specs.StandsFor.{HasCallersParameters, StandsIn}
 use Rattle.clif_script.specs.declared.call.Name as named
 use Rattle.clif_script.specs.declared.call.Call.{Call}
 use Rattle.clif_script.specs.declared.call.Call.TheVariants as call
@@ -53,10 +53,11 @@ verdict_of (Err replay.Memory) = None
 verdict_of (Err replay.Full) = None
 
 -- The function was built by these calls, and by no others: a builder of it, with this context and current block, stands
--- for them, on a function of the caller's signature.
+-- for them, on a function of the caller's signature; and no variable's parameter is left.
 pub record IsBuiltBy (calls : List Call) (declared : SignatureShape) (f : Body) : Type 0 where
   pub made : List AnsweredCall
   pub script : script_of made ≡ requests_of calls
   pub context : ContextState
   pub position : Option ℕ
   pub stands : StandsIn declared made f context position
+  pub parameters : HasCallersParameters made f

@@ -5,6 +5,9 @@ ghost use Rattle.clif_meaning.specs.Acceptance as acceptance;
 ghost use Rattle.cranelift_frontend.specs.StandsFor.{StandsFor};
 ghost use Rattle.clif_meaning.specs.View.{view_of};
 ghost use Rattle.clif_meaning.specs.Headline.{MeansTheSame};
+ghost use Rattle.clif_meaning.specs.Premises.{CallersEdgesMatch, PlacementPremises};
+ghost use Rattle.clif_meaning.specs.Typing.{EdgesMatch};
+ghost use Rattle.clif_meaning.specs.WellPlaced.{WellPlaced};
 ghost use Rattle.clif_script.specs.Requests.{IsBuiltBy, IsReplayed, requests_of, verdict_of};
 ghost use Rattle.cranelift_frontend.specs.Builder.{SameLoans};
 ghost use Rattle.cranelift_frontend.specs.Context.{empty_context};
@@ -137,6 +140,8 @@ pub fn replay(
     requires { ctx.old ≡ empty_context }
     ensures same_meaning { IfOk result (λ function. MeansTheSame (requests_of calls.now) signature config.pointer_width (view_of function)) }
     ensures built { IfOk result (λ function. IsBuiltBy calls.now signature function) }
+    ensures edges_match { IfOk result (λ function. CallersEdgesMatch (requests_of calls.now) → EdgesMatch (view_of function)) }
+    ensures well_placed { IfOk result (λ function. PlacementPremises (requests_of calls.now) signature → WellPlaced (view_of function)) }
     ensures context { ctx.new ≡ empty_context }
     ensures misuse { (i : ℕ) → result ≡ Err (ReplayError.Misuse i) → i < length calls.now }
     ensures refused { (i : ℕ) → result ≡ Err (ReplayError.Refused i) → i ≡ length calls.now }

@@ -6,6 +6,7 @@ use Rattle.clif_types.specs.Signature.{SignatureShape}
 use Rattle.clif_ir.specs.Body.{empty_body}
 use Rattle.clif_paths.specs.Blocks.{no_blocks}
 use Rattle.clif_ssa.specs.Ssa.{no_state}
+use Rattle.clif_ssa.proofs.Straying.{first_stray}
 use Rattle.clif_ssa.proofs.Writing.{first_described}
 use Rattle.clif_meaning.specs.Name.{Name, answer_of}
 use Rattle.clif_meaning.specs.Instruction.{Operation, Edge}
@@ -97,8 +98,10 @@ carries_nothing name signature =
       items = λ b N named. absurd (some_none N named);
       earlier = λ N. tt;
       own_exist = λ b. tt;
+      own_named = λ b none. refl;
       values_given = λ x is. absurd (false_is is);
       entry = record { none = λ none. refl; some = λ e is. absurd (some_none e is) };
       describes = first.0;
       sound = first.1;
+      nothing_stray = first_stray name signature;
     }

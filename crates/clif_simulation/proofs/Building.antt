@@ -19,6 +19,8 @@ use Rattle.clif_paths.proofs.Tables.{updated-same, updated-other}
 use Rattle.clif_ssa.specs.Ssa.{SsaState}
 use Rattle.clif_ssa.specs.Sound.{SameProgram}
 use Rattle.clif_ssa.specs.SoundLaws.{with_entry, with_own, DescribesSoundly}
+use Rattle.clif_ssa.specs.Structure.{NothingStray}
+use Rattle.clif_ssa.proofs.Straying.{own_stray, inserted_stray}
 use Rattle.clif_ssa.proofs.Bodies.{Firm, firm_from}
 use Rattle.clif_ssa.proofs.Completing.{SameButLayout, inserted_same, inserted_firm, entry_same}
 use Rattle.clif_ssa.proofs.Entering.{inserted}
@@ -116,6 +118,10 @@ module _ (calls : List AnsweredCall) (f : Body) (s : SsaState) (c : Carries call
   longer_insts : (types : List «Type») → length h.insts < length (with_inst h b Back shape types loc).insts
   longer_insts types = grind (arith, common_steps)
 
+  -- nothing stays behind that isn't needed
+  stray_after : (types : List «Type») → NothingStray (with_own c.own b (length h.insts)) (with_inst h b Back shape types loc) s
+  stray_after types = own_stray c.own h s b shape types loc firm there_still (inserted_stray c.own f s b c.nothing_stray)
+
   -- without results
   module _ (no_results : result_types instruction.operation instruction.controlling ≡ []) (controlling : (g : Body) → controlling_of g shape [] ≡ instruction.controlling) where
     abbrev g : Body
@@ -153,7 +159,7 @@ module _ (calls : List AnsweredCall) (f : Body) (s : SsaState) (c : Carries call
         (with_own c.own b (length h.insts)) (length h.insts ∷ []) own_here own_elsewhere new_is (longer_insts [], tt) (earlier_after, tt, matches.edges)
         (values_added calls call T (with_item T b) b B (Instruct (length calls) instruction []) adds none_given (values_same calls c.tables T same_side c.values_given))
         (entry_begun calls after f g b B (Requests.entry_instructed calls call B current.current instruction refl) refl current.named (name_stays calls f s c call matches.edges) c.entry)
-        described.0 described.1
+        described.0 described.1 (stray_after [])
 
   -- with one result
   module _ (ty : «Type») (one_result : result_types instruction.operation instruction.controlling ≡ ty ∷ []) (controlling : instruction.controlling ≡ ty)
@@ -203,4 +209,4 @@ module _ (calls : List AnsweredCall) (f : Body) (s : SsaState) (c : Carries call
         (earlier_after, (let l = longer_calls calls f s c call in omega (arith, l), tt), matches.edges)
         (values_added calls call T T' b B (Instruct (length calls) instruction (result ∷ [])) adds given_result (values_same calls c.tables T same_side c.values_given))
         (entry_begun calls after f k b B (Requests.entry_instructed calls call B current.current instruction refl) refl current.named (name_stays calls f s c call matches.edges) c.entry)
-        described.0 described.1
+        described.0 described.1 (stray_after (ty ∷ []))

@@ -15,6 +15,8 @@ use Rattle.clif_ssa.specs.Sound.{SameProgram, KeepsAndKnows, entry_of}
 use Rattle.clif_ssa.proofs.Bodies.{firm_from}
 use Rattle.clif_ssa.proofs.Completing.{same_program}
 use Rattle.clif_ssa.proofs.Sealing.{seal_keeps}
+use Rattle.clif_ssa.specs.Structure.{NothingStray}
+use Rattle.clif_ssa.proofs.Straying.{block_stray, same_stray, seal_stray}
 use Rattle.clif_ssa.proofs.Writing.{same_state, block_described, write_item_described, read_item_described}
 use Rattle.clif_meaning.specs.Name.{Name, answer_of}
 use Rattle.clif_meaning.specs.Request.{Request, CreateBlock, SwitchToBlock, SealBlock, DeclareVar, DefVar, UseVar, AnsweredCall, script_of, number_of}
@@ -93,11 +95,11 @@ module _ (calls : List AnsweredCall) (f : Body) (s : SsaState) (c : Carries call
       let call : AnsweredCall = the_call CreateBlock numbers in
       carries_on calls call f (with_block f) s t c (λ i below. refl) (omega arith) c.tables
       (created calls call refl c.tables c.tables (same_program c.tables) (Requests.items_created calls call refl) c.program)
-      named (Requests.items_created calls call refl)
+      named (kept calls call refl) (Requests.items_created calls call refl)
       (values_kept calls call c.tables c.tables (same_program c.tables) one_answer_none c.values_given)
       (entry_stays calls (calls ++ call ∷ []) f (with_block f) (Requests.entry_created calls call refl) refl (kept calls call refl) c.entry)
       (same_state c.own (with_block f) s t c.tables records same (block_described c.own f s c.tables c.describes))
-      c.sound
+      c.sound (same_stray c.own (with_block f) s t same (block_stray c.own f s c.nothing_stray))
     where
       empty : (b : ℕ) → b ≡ length (names_of (ledger_after (script_of calls)).blocks) → c.own b ≡ []
       empty b last =
@@ -126,10 +128,10 @@ module _ (calls : List AnsweredCall) (f : Body) (s : SsaState) (c : Carries call
       let call : AnsweredCall = the_call (SwitchToBlock block) numbers in
       carries_on calls call f f s s c (λ i below. refl) (omega arith) c.tables
       (unchanged calls call c.tables c.tables (same_program c.tables) tt (Requests.items_switched calls call block refl) c.program)
-      (name_was call tt) (Requests.items_switched calls call block refl)
+      (name_was call tt) (name_stays call tt) (Requests.items_switched calls call block refl)
       (values_kept calls call c.tables c.tables (same_program c.tables) (λ index. refl) c.values_given)
       (entry_stays calls (calls ++ call ∷ []) f f (Requests.entry_switched calls call block refl) refl (name_stays call tt) c.entry)
-      c.describes c.sound
+      c.describes c.sound c.nothing_stray
 
   -- a variable is declared
   pub carries_declared : (ty : «Type») (numbers : List ℕ) → Carries (with_answers (DeclareVar ty) numbers) f s
@@ -137,10 +139,10 @@ module _ (calls : List AnsweredCall) (f : Body) (s : SsaState) (c : Carries call
       let call : AnsweredCall = the_call (DeclareVar ty) numbers in
       carries_on calls call f f s s c (λ i below. refl) (omega arith) c.tables
       (unchanged calls call c.tables c.tables (same_program c.tables) tt (Requests.items_declared calls call ty refl) c.program)
-      (name_was call tt) (Requests.items_declared calls call ty refl)
+      (name_was call tt) (name_stays call tt) (Requests.items_declared calls call ty refl)
       (values_kept calls call c.tables c.tables (same_program c.tables) (one_variable_none (length (ledger_after (script_of calls)).variables)) c.values_given)
       (entry_stays calls (calls ++ call ∷ []) f f (Requests.entry_declared calls call ty refl) refl (name_stays call tt) c.entry)
-      c.describes c.sound
+      c.describes c.sound c.nothing_stray
 
   -- a block is sealed, and the entry stays
   pub carries_sealed : (t : SsaState) (block : Name) (numbers : List ℕ) (b : ℕ) → IsConsistent f → SameRecords s t → Seals s t b
@@ -153,10 +155,10 @@ module _ (calls : List AnsweredCall) (f : Body) (s : SsaState) (c : Carries call
       let on = goes_on-completed f (pending_of (sealed_of s b)) in
       carries_on calls call f g s t c (placed_kept f g consistent on) on.more_insts after.tables
       (unchanged calls call c.tables after.tables after.same tt (Requests.items_sealed calls call block refl) c.program)
-      (name_was call tt) (Requests.items_sealed calls call block refl)
+      (name_was call tt) (name_stays call tt) (Requests.items_sealed calls call block refl)
       (values_kept calls call c.tables after.tables after.same (λ index. refl) c.values_given)
       (entry_stays calls (calls ++ call ∷ []) f g (Requests.entry_sealed calls call block refl) entry (name_stays call tt) c.entry)
-      after.describes after.sound
+      after.describes after.sound (seal_stray c.own f g s t b (firm_from f consistent) seals refl c.nothing_stray)
 
   -- a value is assigned to a variable in the current block
   pub carries_assigned : (t : SsaState) (x : ℕ) (n : Name) (value b : ℕ) (B : Name) (numbers : List ℕ) → IsCurrent calls b B
@@ -174,13 +176,13 @@ module _ (calls : List AnsweredCall) (f : Body) (s : SsaState) (c : Carries call
       (sym (append-nil (c.own b))) (λ d other. refl) refl tt (let e = known.1 in let l = longer_calls call in omega (arith, e, l))
       (values_added calls call c.tables (with_write (with_item c.tables b) b x (code n)) b B (Assign x n) adds (λ index is. absurd (false_is is)) c.values_given)
       (entry_stays calls (calls ++ call ∷ []) f f (Requests.entry_assigned calls call B current.current x n refl) refl (name_stays call tt) c.entry)
-      after.0 after.1
+      after.0 after.1 (same_stray c.own f s t same c.nothing_stray)
 
   -- a variable is used in the current block
-  pub carries_used : (g : Body) (t : SsaState) (x v b : ℕ) (B : Name) → IsConsistent f → IsCurrent calls b B → KeepsAndKnows c.own c.tables g t b x v → GoesOn f g → v < length g.values
+  pub carries_used : (g : Body) (t : SsaState) (x v b : ℕ) (B : Name) → IsConsistent f → IsCurrent calls b B → KeepsAndKnows c.own c.tables g t b x v → NothingStray c.own g t → GoesOn f g → v < length g.values
       → g.layout ≡ (inserted_in f b).layout
       → Carries (with_answers (UseVar x) (v ∷ [])) g t
-  carries_used g t x v b B consistent current after on exists layout =
+  carries_used g t x v b B consistent current after nothing_stray on exists layout =
       let call : AnsweredCall = the_call (UseVar x) (v ∷ []) in
       let T : Blocks = after.kept.tables in
       let was = restated calls c.tables T after.kept.same c.program in
@@ -195,4 +197,4 @@ module _ (calls : List AnsweredCall) (f : Body) (s : SsaState) (c : Carries call
       (λ index is. first_value (length calls) (or_invalid (variable_type (ledger_after (script_of calls)) x)) index is)
       (values_same calls c.tables T after.kept.same c.values_given))
       (entry_begun calls (calls ++ call ∷ []) f g b B (Requests.entry_used calls call B current.current x refl) layout current.named (name_stays call tt) c.entry)
-      read.0 read.1
+      read.0 read.1 nothing_stray

@@ -1,5 +1,5 @@
 -- A function carries one more call: with an item, or without.
-use Rattle.std.proofs.Common.{◌≡◌, ◌≢◌, ℕ, suc, ◌<◌, ◌≤◌, List, [], ◌∷◌, ◌++◌, length, map, refl, sym, ◌∙◌, ap, subst, arith, Some, ◌⊎◌, inl, inr}
+use Rattle.std.proofs.Common.{◌≡◌, ◌≢◌, ℕ, suc, ◌<◌, ◌≤◌, List, [], ◌∷◌, ◌++◌, length, map, refl, sym, ◌∙◌, ap, subst, arith, Option, Some, None, ◌⊎◌, inl, inr}
 use Rattle.std.proofs.Math.Decide.{ℕ_discrete}
 use Rattle.std.specs.Prelude.{flat_map}
 use Rattle.std.specs.List.{AllByRecursion}
@@ -10,6 +10,7 @@ use Rattle.clif_paths.specs.Blocks.{Blocks}
 use Rattle.clif_paths.specs.BlockLaws.{BlocksSound}
 use Rattle.clif_ssa.specs.Ssa.{SsaState}
 use Rattle.clif_ssa.specs.Sound.{Describes}
+use Rattle.clif_ssa.specs.Structure.{NothingStray}
 use Rattle.clif_meaning.specs.Name.{Name}
 use Rattle.clif_meaning.specs.Instruction.{Edge}
 use Rattle.clif_meaning.specs.Request.{AnsweredCall}
@@ -33,6 +34,9 @@ all_append P (x ∷ xs) ys first second = (first.0, all_append P xs ys first.1 s
 pub map_same : {X Y : Type 0} (f g : X → Y) (P : X → Type 0) → ((x : X) → P x → f x ≡ g x) → (xs : List X) → AllByRecursion P xs → map f xs ≡ map g xs
 map_same f g P same [] all = refl
 map_same f g P same (x ∷ xs) all = ap (λ y. y ∷ map f xs) (same x all.0) ∙ ap (λ ys. g x ∷ ys) (map_same f g P same xs all.1)
+
+none_some : (name : Name) → None ≡ Some name → ⊥
+none_some name same = cc
 
 module _ (calls : List AnsweredCall) (call : AnsweredCall) where
   abbrev after : List AnsweredCall
@@ -104,21 +108,28 @@ module _ (calls : List AnsweredCall) (call : AnsweredCall) where
     -- a call without an item
     pub carries_on : (T : Blocks) → IsProgramOf after T
         → ((block : ℕ) (name : Name) → block_name after block ≡ Some name → (block_name calls block ≡ Some name) ⊎ ((c.own block ≡ []) × ((program_so_far calls).items name ≡ [])))
+        → ((block : ℕ) (name : Name) → block_name calls block ≡ Some name → block_name after block ≡ Some name)
         → ((name : Name) → (program_so_far after).items name ≡ (program_so_far calls).items name)
-        → ValuesGiven after T → HasEntry after g → Describes c.own g t [] T → BlocksSound T → Carries after g t
-    carries_on T program named items values entry describes sound = record {
+        → ValuesGiven after T → HasEntry after g → Describes c.own g t [] T → BlocksSound T → NothingStray c.own g t → Carries after g t
+    carries_on T program named stays items values entry describes sound nothing_stray = record {
       tables = T;
       own = c.own;
       program = program;
       items = λ block name here. by block name (named block name here);
       earlier = λ name. subst (AllByRecursion (NamesEarlier after)) (sym (items name)) (all_mapped (NamesEarlier calls) (NamesEarlier after) earlier_stays ((program_so_far calls).items name) (c.earlier name));
       own_exist = λ block. own_exists (c.own block) (c.own_exist block);
+      own_named = λ block none. c.own_named block (unnamed block none (block_name calls block) refl);
       values_given = values;
       entry = entry;
       describes = describes;
       sound = sound;
+      nothing_stray = nothing_stray;
     }
       where
+        unnamed : (block : ℕ) → block_name after block ≡ None → (o : Option Name) → block_name calls block ≡ o → block_name calls block ≡ None
+        unnamed block none None is = is
+        unnamed block none (Some name) is = absurd (none_some name (sym none ∙ stays block name is))
+
         by : (block : ℕ) (name : Name) → (block_name calls block ≡ Some name) ⊎ ((c.own block ≡ []) × ((program_so_far calls).items name ≡ []))
             → map (λ inst. placed_of g (inst_at g inst)) (c.own block) ≡ flat_map (carried after) ((program_so_far after).items name)
         by block name (inl old) = items_kept block name old ∙ ap (flat_map (carried after)) (sym (items name))
@@ -177,16 +188,22 @@ module _ (calls : List AnsweredCall) (call : AnsweredCall) where
               (subst (AllByRecursion (λ (i : ℕ). i < length g.insts)) (sym own_here) (all_append (λ (i : ℕ). i < length g.insts) (c.own b) new (own_exists (c.own b) (c.own_exist b)) new_exist))
           by (no other) = subst (AllByRecursion (λ (i : ℕ). i < length g.insts)) (sym (own_elsewhere block other)) (own_exists (c.own block) (c.own_exist block))
 
-      pub carries_item : ValuesGiven after T → HasEntry after g → Describes own g t [] T → BlocksSound T → Carries after g t
-      carries_item values entry describes sound = record {
+      own_unnamed : (block : ℕ) → block_name after block ≡ None → Dec (block ≡ b) → own block ≡ []
+      own_unnamed block none (yes same) = absurd (none_some B (sym none ∙ adds.names block ∙ ap (block_name calls) same ∙ adds.named))
+      own_unnamed block none (no other) = own_elsewhere block other ∙ c.own_named block (sym (adds.names block) ∙ none)
+
+      pub carries_item : ValuesGiven after T → HasEntry after g → Describes own g t [] T → BlocksSound T → NothingStray own g t → Carries after g t
+      carries_item values entry describes sound nothing_stray = record {
         tables = T;
         own = own;
         program = extended calls after T1 T b B item adds was;
         items = items_of;
         earlier = all_earlier;
         own_exist = own_all;
+        own_named = λ block none. own_unnamed block none (ℕ_discrete block b);
         values_given = values;
         entry = entry;
         describes = describes;
         sound = sound;
+        nothing_stray = nothing_stray;
       }

@@ -232,7 +232,7 @@ module _ (calls : List AnsweredCall) (f : Body) (s : SsaState) (carries : Carrie
             subst (λ (c : ℕ). StrictlyBefore (arms carries.tables) (carries.tables.naming n).home (inside c (suc k))) (sym here)
             (in_entry finished placed k x n (item_at calls entry k) refl item)
 
-    at_place : IsFinished f s → IsWellPlaced (program_code (program_so_far calls)) → (place : Place) (x n : ℕ)
+    pub at_place : IsFinished f s → IsWellPlaced (program_code (program_so_far calls)) → (place : Place) (x n : ℕ)
         → carries.tables.assigned place x ≡ Some n → StrictlyBefore (arms carries.tables) (carries.tables.naming n).home place
     at_place finished placed start x n assigned = absurd (none_some (sym (carries.program.start_assigns_nothing x) ∙ assigned))
     at_place finished placed (inside b zero) x n assigned = absurd (none_some (sym (carries.program.front_assigns_nothing b x) ∙ assigned))

@@ -34,3 +34,6 @@ pub mod Values
 pub mod Calls
 pub mod Building
 pub mod Beginning
+pub mod Placing
+pub mod Structured
+pub mod Recorded

@@ -6,6 +6,7 @@ use Rattle.std.specs.List.{AllByRecursion}
 use Rattle.clif_ir.specs.Body.{Body, inst_at, value_at}
 use Rattle.clif_ssa.specs.Ssa.{SsaState}
 use Rattle.clif_ssa.specs.Sound.{Describes, entry_of}
+use Rattle.clif_ssa.specs.Structure.{NothingStray}
 use Rattle.clif_paths.specs.Places.{start}
 use Rattle.clif_paths.specs.Blocks.{Blocks}
 use Rattle.clif_paths.specs.BlockLaws.{BlocksSound}
@@ -70,6 +71,10 @@ NamesEarlier calls (Assign variable name) = IsEarlier calls name
 abbrev pub OwnExist : Body → (ℕ → List ℕ) → Type 0
 OwnExist f own = (block : ℕ) → AllByRecursion (λ inst. inst < length f.insts) (own block)
 
+-- only blocks that have a name have instructions of the caller's
+abbrev pub OwnNamed : List AnsweredCall → (ℕ → List ℕ) → Type 0
+OwnNamed calls own = (block : ℕ) → block_name calls block ≡ None → own block ≡ []
+
 -- what the ledger of the calls has as a value is given by an item
 abbrev pub ValuesGiven : List AnsweredCall → Blocks → Type 0
 ValuesGiven calls blocks = (name : Name) → IsTrue (has_value (ledger_after (script_of calls)) name) → (blocks.naming (code name)).home ≢ start
@@ -82,10 +87,12 @@ pub record Carries (calls : List AnsweredCall) (f : Body) (s : SsaState) : Type 
   pub items : HasItems calls f own
   pub earlier : (name : Name) → AllByRecursion (NamesEarlier calls) ((program_so_far calls).items name)
   pub own_exist : OwnExist f own
+  pub own_named : OwnNamed calls own
   pub values_given : ValuesGiven calls tables
   pub entry : HasEntry calls f
   pub describes : Describes own f s [] tables
   pub sound : BlocksSound tables
+  pub nothing_stray : NothingStray own f s
 
 -- A function that goes on: its signature and its instructions stay, and its values keep their types.
 pub record GoesOn (f g : Body) : Type 0 where

@@ -3,3 +3,4 @@ pub mod Carries
 pub mod Reading
 pub mod ReadingExamples
 pub mod Laws
+pub mod Structure

@@ -7,3 +7,4 @@
 pub mod examples;
 pub mod meaning;
 pub mod names;
+pub mod structure;

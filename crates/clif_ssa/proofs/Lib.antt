@@ -10,3 +10,6 @@ pub mod Sealing
 pub mod Using
 pub mod Writing
 pub mod Owning
+pub mod Alike
+pub mod Losing
+pub mod Straying

@@ -151,12 +151,12 @@ target_free f v z b can = resolved-no_alias f.values z can.firm.ends can.exists
 target_apart : (f : Body) (v z b : ℕ) → CanAlias f v z b → resolved f z ≢ v
 target_apart f v z b can same = can.apart (sym can.own_end ∙ same)
 
-alias_resolved : (f : Body) (v z b : ℕ) → CanAlias f v z b → (u : ℕ) → resolved (with_alias f v z) u ≡ aliased (λ w. resolved f w) v (resolved f z) u
+pub alias_resolved : (f : Body) (v z b : ℕ) → CanAlias f v z b → (u : ℕ) → resolved (with_alias f v z) u ≡ aliased (λ w. resolved f w) v (resolved f z) u
 alias_resolved f v z b can u =
     resolved-set f.values v (resolved f z) (alias_node f v z) can.firm.leads can.firm.ends (param_exists f v b can.parameter)
     (alias_free f v z b can) (target_free f v z b can) (target_apart f v z b can) refl u
 
-alias_ends : (f : Body) (v z b : ℕ) → CanAlias f v z b → (u : ℕ)
+pub alias_ends : (f : Body) (v z b : ℕ) → CanAlias f v z b → (u : ℕ)
     → ((resolved f u ≡ v) × (resolved (with_alias f v z) u ≡ z)) ⊎ ((resolved f u ≢ v) × (resolved (with_alias f v z) u ≡ resolved f u))
 alias_ends f v z b can u =
     elim (aliased_cases (λ w. resolved f w) v (resolved f z) u) [
@@ -164,13 +164,13 @@ alias_ends f v z b can u =
       | inr stayed ↦ inr (stayed.0, alias_resolved f v z b can u ∙ stayed.1)
     ]
 
-alias_home_other : (f : Body) (v z u : ℕ) → u ≢ v → param_home (with_alias f v z) u ≡ param_home f u
+pub alias_home_other : (f : Body) (v z u : ℕ) → u ≢ v → param_home (with_alias f v z) u ≡ param_home f u
 alias_home_other f v z u other = home-set_other f.values v (alias_node f v z) u other
 
-alias_home_same : (f : Body) (v z b : ℕ) → CanAlias f v z b → param_home (with_alias f v z) v ≡ None
+pub alias_home_same : (f : Body) (v z b : ℕ) → CanAlias f v z b → param_home (with_alias f v z) v ≡ None
 alias_home_same f v z b can = home-set_same f.values v (alias_node f v z) (param_exists f v b can.parameter)
 
-alias_insts : (f : Body) (v z b : ℕ) → CanAlias f v z b → (c : ℕ) → (block_at (with_alias f v z) c).insts ≡ (block_at f c).insts
+pub alias_insts : (f : Body) (v z b : ℕ) → CanAlias f v z b → (c : ℕ) → (block_at (with_alias f v z) c).insts ≡ (block_at f c).insts
 alias_insts f v z b can c =
     let home : ℕ = home_of (value_at f v).origin in
     let at_home : home ≡ b = ap home_of (param_origin f v b can.parameter) in
@@ -178,10 +178,10 @@ alias_insts f v z b can c =
     at_set (λ (m : BlockNode). m.insts ≡ (block_at f c).insts) f.blocks home changed c empty_block (omega (arith, at_home, can.firm.homes_exist v b can.parameter))
     (λ same. ap (λ d. (block_at f d).insts) (sym same)) (λ _. refl)
 
-alias_count_same : (f : Body) (v z : ℕ) → length (with_alias f v z).values ≡ length f.values
+pub alias_count_same : (f : Body) (v z : ℕ) → length (with_alias f v z).values ≡ length f.values
 alias_count_same f v z = grind (arith, common_steps)
 
-alias_blocks_same : (f : Body) (v z : ℕ) → length (with_alias f v z).blocks ≡ length f.blocks
+pub alias_blocks_same : (f : Body) (v z : ℕ) → length (with_alias f v z).blocks ≡ length f.blocks
 alias_blocks_same f v z = grind (arith, common_steps)
 
 none_some : {x : ℕ} → ◌≡◌ {A = Option ℕ} None (Some x) → ⊥

@@ -2,3 +2,4 @@ pub mod Tables
 pub mod Ssa
 pub mod Sound
 pub mod SoundLaws
+pub mod Structure

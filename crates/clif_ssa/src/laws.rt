@@ -2,6 +2,7 @@
 //! itself, and stay sound.
 
 ghost use Rattle.clif_ssa.specs.SoundLaws.{FirstDescribes, SameStateKeeps, InsertionKeeps, NewBlockKeeps, ReadItemKeeps, WriteHereKeeps, WriteItemKeeps, OwnInstructionKeeps, OwnResultKeeps, WaitingUseKeeps, ZeroUseKeeps, SealingKeeps, NewNameStays};
+ghost use Rattle.clif_ssa.specs.Structure.{UsesAgree};
 
 /// The first tables describe a function without blocks, of which nothing is known.
 pub fn first_describes()
@@ -66,4 +67,9 @@ pub fn sealing_keeps()
 /// Tables with the same program have the same new names.
 pub fn new_name_stays()
     ensures { NewNameStays }
+{}
+
+/// Two uses of a variable in a block stand for one value, where nothing between them assigns it there.
+pub fn uses_agree()
+    ensures { UsesAgree }
 {}

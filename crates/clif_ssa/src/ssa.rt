@@ -1,7 +1,7 @@
 //! The builder of SSA form.
 ghost use Rattle.std.specs.Prelude.{◌≡◌, ◌≢◌, ◌<◌, ◌&&◌, ◌==◌, ◌↔◌, ◌++◌, List, [], ◌∷◌, ℕ, IsTrue, Some, None, true, false, length, OnOk, OnErr, IfOk, IfSome, MatchOption, ◌+◌};
 ghost use Rattle.std.specs.Option.{option_to_list};
-ghost use Rattle.clif_ir.specs.Body.{Body, resolved};
+ghost use Rattle.clif_ir.specs.Body.{Body, block_at, resolved};
 ghost use Rattle.clif_ir.specs.Changes.{with_param};
 ghost use Rattle.clif_ir.specs.Reading.{param_home};
 ghost use Rattle.clif_ssa.specs.Tables.{is_yes, pending_of};
@@ -9,6 +9,7 @@ ghost use Rattle.clif_paths.specs.Places.{start};
 ghost use Rattle.clif_paths.specs.Blocks.{Blocks, last_place, with_write};
 ghost use Rattle.clif_ssa.specs.Sound.{Describes, Keeps, KeepsAndKnows};
 ghost use Rattle.clif_ssa.specs.SoundLaws.{DescribesSoundly};
+ghost use Rattle.clif_ssa.specs.Structure.{HasRecordOf, LosesWaiting, NothingStray, Remembers};
 ghost use Rattle.clif_ssa.specs.Ssa.{no_state, record_of, sealed_of, with_zero, zeroed, zeroed_in, completed, completing_blocks, Records, SameRecords, Seals, Waits, Zeroes};
 
 use crate::tables::{BlockTable, Pending, VariableTable};
@@ -130,6 +131,10 @@ impl SSABuilder {
         ensures waits { record_of self.old variable block ≡ None → is_yes (sealed_of self.old block) ≡ false → OnOk result (Waits self.old self.new func.old func.new variable ty block) × IfOk result (λ r. (r.0 ≡ length func.old.values) × (r.1.instructions_added_to_blocks.items ≡ [])) }
         ensures zero { record_of self.old variable block ≡ None → is_yes (sealed_of self.old block) ≡ true → OnOk result (Zeroes self.old self.new func.old func.new variable ty block) × IfOk result (λ r. (r.0 ≡ length func.old.values + 1) × (r.1.instructions_added_to_blocks.items ≡ block ∷ [])) }
         ensures keeps { (own : ℕ → List ℕ) (tables : Blocks) → DescribesSoundly own func.old self.old tables → IfOk result (λ r. KeepsAndKnows own tables func.new self.new block variable r.0) }
+        ensures recorded { IfOk result (λ r. HasRecordOf func.new self.new variable block r.0) }
+        ensures remembers { (x b : ℕ) → OnOk result (Remembers x b func.old self.old func.new self.new) }
+        ensures parameters { is_yes (sealed_of self.old block) ≡ true → (b : ℕ) → OnOk result ((block_at func.new b).params ≡ (block_at func.old b).params) }
+        ensures nothing_stray { (own : ℕ → List ℕ) → NothingStray own func.old self.old → OnOk result (NothingStray own func.new self.new) }
         ensures never_failed { result ≢ Err BuildError.Failed }
     {
         func.law_consistent();
@@ -176,12 +181,16 @@ impl SSABuilder {
         ensures function { OnOk result (func.new ≡ completed func.old (pending_of (sealed_of self.old block))) }
         ensures told { IfOk result (λ r. r.instructions_added_to_blocks.items ≡ completing_blocks func.old (pending_of (sealed_of self.old block))) }
         ensures keeps { (own : ℕ → List ℕ) (tables : Blocks) → DescribesSoundly own func.old self.old tables → OnOk result (Keeps own tables func.new self.new) }
+        ensures remembers { (x b : ℕ) → OnOk result (Remembers x b func.old self.old func.new self.new) }
+        ensures parameters { OnOk result (LosesWaiting func.old func.new (pending_of (sealed_of self.old block))) }
+        ensures nothing_stray { (own : ℕ → List ℕ) → NothingStray own func.old self.old → OnOk result (NothingStray own func.new self.new) }
         ensures never_failed { result ≢ Err BuildError.Failed }
     {
         func.law_consistent();
         let mut side_effects = SideEffects::new(self.alloc);
         let waiting = self.ssa_blocks.seal(block)?;
         complete(func, waiting.as_slice(), &mut side_effects)?;
+        func.law_consistent();
         Ok(side_effects)
     }
 }

@@ -17,7 +17,13 @@ use Rattle.clif_ssa.specs.Ssa.{sealed_of}
 use Rattle.clif_meaning.specs.Request.{AnsweredCall, script_of}
 use Rattle.clif_meaning.specs.View.{view_of}
 use Rattle.clif_meaning.specs.Headline.{MeansTheSame}
+use Rattle.clif_meaning.specs.Premises.{PlacementPremises}
+use Rattle.clif_meaning.specs.Typing.{EdgesMatch}
+use Rattle.clif_meaning.specs.WellPlaced.{Records, RecordsWellPlaced, WellPlaced}
 use Rattle.clif_simulation.specs.Laws.{IsFinished}
+use Rattle.clif_simulation.specs.Structure.{AreRecords, HasCallersParameters}
+use Rattle.clif_simulation.proofs.Structured.{callers_only, edges_match, well_placed}
+use Rattle.clif_simulation.proofs.Recorded.{records_well_placed}
 use Rattle.clif_simulation.proofs.Assembly.{means_the_same}
 use Rattle.cranelift_frontend.specs.declared.error.FinalizeError.{FinalizeError}
 use Rattle.cranelift_frontend.specs.declared.error.FinalizeError.TheVariants.{Unsealed, Unfilled, Failed}
@@ -109,26 +115,51 @@ module _ (declared : SignatureShape) (calls : List AnsweredCall) (f : Body) (c :
           let waits = stands.carries.describes.waiting b q here in
           none_in_sealed (sealed_of c.ssa b) (begun_sealed b (stands.ledger.parameters q.param b waits.parameter).begun)
 
-  is_finished : IsFinished f c.ssa
+  pub is_finished : IsFinished f c.ssa
   is_finished = record {
     none_waits = none_waits;
     entry_sealed = λ entry is. begun_sealed entry (stands.begun entry (entry_stands f.layout entry is));
   }
 
-  pub means : (width : PointerWidth) → IsConsistent f → MeansTheSame (script_of calls) declared width (view_of f)
-  means width consistent =
-      subst (λ (s : SignatureShape). MeansTheSame (script_of calls) s width (view_of f)) stands.signature
-      (λ world. means_the_same calls f c.ssa width consistent stands.carries is_finished world)
+-- what holds of a finished function holds where `finalize` succeeds
+pub on_finished : (declared : SignatureShape) (calls : List AnsweredCall) (b : FunctionBuilder) → StandsFor declared calls b
+    → (P : Type 0) → (IsFinished b.func.now b.ctx.now.ssa → P) → OnOk (verdict_of b.failed b.ctx.now (length b.func.now.blocks)) P
+on_finished declared calls b stands P holds = by b.failed
+  where
+    of_fault : (o : Option FinalizeError) → first_fault b.ctx.now 0 (length b.func.now.blocks) ≡ o → OnOk (answer_of o) P
+    of_fault (Some fault) is = tt
+    of_fault None is = holds (is_finished declared calls b.func.now b.ctx.now b.position stands is)
+
+    by : (failed : Bool) → OnOk (if failed then Err Failed else answer_of (first_fault b.ctx.now 0 (length b.func.now.blocks))) P
+    by true = tt
+    by false = of_fault (first_fault b.ctx.now 0 (length b.func.now.blocks)) refl
 
 -- what `finalize` answers where it succeeds
 pub finished_means : (declared : SignatureShape) (calls : List AnsweredCall) (b : FunctionBuilder) (width : PointerWidth) → StandsFor declared calls b → IsConsistent b.func.now
     → OnOk (verdict_of b.failed b.ctx.now (length b.func.now.blocks)) (MeansTheSame (script_of calls) declared width (view_of b.func.now))
-finished_means declared calls b width stands consistent = by b.failed
-  where
-    of_fault : (o : Option FinalizeError) → first_fault b.ctx.now 0 (length b.func.now.blocks) ≡ o → OnOk (answer_of o) (MeansTheSame (script_of calls) declared width (view_of b.func.now))
-    of_fault (Some fault) is = tt
-    of_fault None is = means declared calls b.func.now b.ctx.now b.position stands is width consistent
+finished_means declared calls b width stands consistent =
+    on_finished declared calls b stands (MeansTheSame (script_of calls) declared width (view_of b.func.now)) (λ finished.
+    subst (λ (s : SignatureShape). MeansTheSame (script_of calls) s width (view_of b.func.now)) stands.signature
+    (λ world. means_the_same calls b.func.now b.ctx.now.ssa width consistent stands.carries finished world))
 
-    by : (failed : Bool) → OnOk (if failed then Err Failed else answer_of (first_fault b.ctx.now 0 (length b.func.now.blocks))) (MeansTheSame (script_of calls) declared width (view_of b.func.now))
-    by true = tt
-    by false = of_fault (first_fault b.ctx.now 0 (length b.func.now.blocks)) refl
+pub finished_parameters : (declared : SignatureShape) (calls : List AnsweredCall) (b : FunctionBuilder) → StandsFor declared calls b → IsConsistent b.func.now
+    → OnOk (verdict_of b.failed b.ctx.now (length b.func.now.blocks)) (HasCallersParameters calls b.func.now)
+finished_parameters declared calls b stands consistent =
+    on_finished declared calls b stands (HasCallersParameters calls b.func.now) (λ finished. callers_only calls b.func.now b.ctx.now.ssa consistent stands.carries finished)
+
+pub finished_edges : (declared : SignatureShape) (calls : List AnsweredCall) (b : FunctionBuilder) → StandsFor declared calls b
+    → OnOk (verdict_of b.failed b.ctx.now (length b.func.now.blocks)) (EdgesMatch (view_of b.func.now))
+finished_edges declared calls b stands = on_finished declared calls b stands (EdgesMatch (view_of b.func.now)) (λ finished. edges_match b.func.now)
+
+pub finished_placed : (declared : SignatureShape) (calls : List AnsweredCall) (b : FunctionBuilder) → StandsFor declared calls b → IsConsistent b.func.now
+    → PlacementPremises (script_of calls) declared → OnOk (verdict_of b.failed b.ctx.now (length b.func.now.blocks)) (WellPlaced (view_of b.func.now))
+finished_placed declared calls b stands consistent premises =
+    on_finished declared calls b stands (WellPlaced (view_of b.func.now)) (λ finished.
+    well_placed calls b.func.now b.ctx.now.ssa consistent stands.carries finished premises.given_before)
+
+pub finished_records : (declared : SignatureShape) (calls : List AnsweredCall) (records : Records) (b : FunctionBuilder) → StandsFor declared calls b → IsConsistent b.func.now
+    → AreRecords calls b.func.now b.ctx.now.ssa records → PlacementPremises (script_of calls) declared
+    → OnOk (verdict_of b.failed b.ctx.now (length b.func.now.blocks)) (RecordsWellPlaced (view_of b.func.now) records)
+finished_records declared calls records b stands consistent are premises =
+    on_finished declared calls b stands (RecordsWellPlaced (view_of b.func.now) records) (λ finished.
+    records_well_placed calls b.func.now b.ctx.now.ssa consistent stands.carries finished premises.given_before records are)

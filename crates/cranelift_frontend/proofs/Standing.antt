@@ -16,6 +16,8 @@ use Rattle.clif_ssa.specs.Tables.{is_yes, pending_of}
 use Rattle.clif_ssa.specs.Ssa.{SsaState, record_of, sealed_of, completed, completing_blocks, zeroed, Records, SameBlocks, Seals}
 use Rattle.clif_ssa.specs.Sound.{KeepsAndKnows}
 use Rattle.clif_ssa.specs.SoundLaws.{with_entry, DescribesSoundly}
+use Rattle.clif_ssa.specs.Structure.{NothingStray}
+use Rattle.clif_ssa.proofs.Straying.{inserted_stray, waits_stray, zeroes_stray}
 use Rattle.clif_ssa.proofs.Bodies.{Firm, firm_from}
 use Rattle.clif_ssa.proofs.Completing.{SameButLayout, inserted_same, inserted_firm, entry_same, same_program_then}
 use Rattle.clif_ssa.proofs.Entering.{inserted}
@@ -80,6 +82,7 @@ inserted_cases f block b stands = by (stands_in block f.layout) refl
 -- what a use leaves: tables that are kept and know the answer, a function that goes on, and an answer that exists
 record UsedIn (own : ℕ → List ℕ) (tables : Blocks) (f g : Body) (t : SsaState) (block variable value : ℕ) : Type 0 where
   pub kept : KeepsAndKnows own tables g t block variable value
+  pub nothing_stray : NothingStray own g t
   pub goes_on : GoesOn f g
   pub exists : value < length g.values
   pub layout : g.layout ≡ (inserted_in f block).layout
@@ -175,6 +178,9 @@ module _ (declared : SignatureShape) (calls : List AnsweredCall) (f : Body) (c :
     before : DescribesSoundly stands.carries.own h c.ssa T
     before = inserted stands.carries.own f c.ssa [] stands.carries.tables block stands.carries.describes stands.carries.sound
 
+    stray_before : NothingStray stands.carries.own h c.ssa
+    stray_before = inserted_stray stands.carries.own f c.ssa block stands.carries.nothing_stray
+
     firm : Firm h
     firm = inserted_firm f block (firm_from f consistent)
 
@@ -199,11 +205,11 @@ module _ (declared : SignatureShape) (calls : List AnsweredCall) (f : Body) (c :
     used_in : UsedIn stands.carries.own stands.carries.tables f g d.ssa block variable value
     used_in = by (record_of c.ssa variable block) refl (is_yes (sealed_of c.ssa block)) refl
       where
-        with_value : (v : ℕ) → value ≡ v → KeepsAndKnows stands.carries.own T g d.ssa block variable v → GoesOn f g → v < length g.values → g.layout ≡ h.layout
+        with_value : (v : ℕ) → value ≡ v → KeepsAndKnows stands.carries.own T g d.ssa block variable v → NothingStray stands.carries.own g d.ssa → GoesOn f g → v < length g.values → g.layout ≡ h.layout
             → UsedIn stands.carries.own stands.carries.tables f g d.ssa block variable value
-        with_value v is kept on exists layout =
+        with_value v is kept nothing_stray on exists layout =
             subst (UsedIn stands.carries.own stands.carries.tables f g d.ssa block variable) (sym is)
-            (record { kept = from_inserted kept; goes_on = on; exists = exists; layout = layout })
+            (record { kept = from_inserted kept; nothing_stray = nothing_stray; goes_on = on; exists = exists; layout = layout })
 
         by : (o : Option ℕ) → record_of c.ssa variable block ≡ o → (t : Bool) → is_yes (sealed_of c.ssa block) ≡ t
             → UsedIn stands.carries.own stands.carries.tables f g d.ssa block variable value
@@ -211,12 +217,14 @@ module _ (declared : SignatureShape) (calls : List AnsweredCall) (f : Body) (c :
             let known = uses.known v is in
             let exists : v < length h.values = before.0.records_exist block variable v is in
             with_value v known.2 (known_keeps stands.carries.own h g c.ssa d.ssa T variable block v before.0 before.1 is known.0 known.1)
+            (subst (λ (k : Body). NothingStray stands.carries.own k d.ssa) (sym known.0) (subst (λ (r : SsaState). NothingStray stands.carries.own h r) (sym known.1) stray_before))
             (goes_on-then f h g to_inserted (goes_on-same h g known.0))
             (subst (λ (k : Body). v < length k.values) (sym known.0) exists) (ap (λ (k : Body). k.layout) known.0)
         by None is false sealed =
             let waits = uses.waits is sealed in
             with_value (length h.values) (waits.1 ∙ ap length (sym same.values))
             (waits_keeps stands.carries.own h g c.ssa d.ssa T variable ty block firm before.0 before.1 there_still is sealed waits.0)
+            (waits_stray stands.carries.own h g c.ssa d.ssa variable ty block firm there_still waits.0 stray_before)
             (goes_on-then f h g to_inserted (subst (GoesOn h) (sym waits.0.function) (goes_on-with_param h block ty)))
             (subst (λ (k : Body). length h.values < length k.values) (sym waits.0.function) (more_values h)) (ap (λ (k : Body). k.layout) waits.0.function)
           where
@@ -227,6 +235,7 @@ module _ (declared : SignatureShape) (calls : List AnsweredCall) (f : Body) (c :
             let k : Body = with_param h block ty in
             with_value (length h.values + 1) (zero.1 ∙ ap (λ (vs : List _). length vs + 1) (sym same.values))
             (zeroes_keeps stands.carries.own h g c.ssa d.ssa T variable ty block firm before.0 before.1 there_still is sealed zero.0)
+            (zeroes_stray stands.carries.own h g c.ssa d.ssa variable ty block firm there_still zero.0 stray_before)
             (goes_on-then f h g to_inserted (goes_on-then h k g (goes_on-with_param h block ty) (subst (GoesOn k) (sym zero.0.function) (goes_on-zeroed k block (length h.values)))))
             (subst (λ (b : Body). length h.values + 1 < length b.values) (sym zero.0.function) (more_values h))
             (ap (λ (b : Body). b.layout) zero.0.function ∙ still k)
@@ -249,7 +258,7 @@ module _ (declared : SignatureShape) (calls : List AnsweredCall) (f : Body) (c :
         record {
           signature = used_in.goes_on.signature ∙ stands.signature;
           ledger = ledger;
-          carries = carries_used calls f c.ssa stands.carries g d.ssa variable value block current.0 consistent current.1 used_in.kept used_in.goes_on used_in.exists used_in.layout;
+          carries = carries_used calls f c.ssa stands.carries g d.ssa variable value block current.0 consistent current.1 used_in.kept used_in.nothing_stray used_in.goes_on used_in.exists used_in.layout;
           begun = λ b stays. not_empty c d block (begun (status_of c block)) sets (begun_not_empty (status_of c block)) b
               (was b (inserted_cases f block b (ap (stands_in b) (sym used_in.layout) ∙ stays)));
         }

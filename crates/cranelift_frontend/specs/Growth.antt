@@ -1,7 +1,9 @@
--- What goes on existing as calls are made. Source: own.
+-- What goes on existing, and goes on standing for one value, as calls are made. Source: own.
 use Rattle.std.specs.Prelude.{◌≡◌, ◌<◌, ◌≤◌, ℕ, length, Some}
 use Rattle.clif_ir.specs.Body.{Body}
 use Rattle.clif_ssa.specs.Ssa.{SsaState, record_of}
+use Rattle.clif_ssa.specs.Structure.{HasRecordOf, Remembers}
+use Rattle.cranelift_frontend.specs.declared.frontend.FunctionBuilder.{FunctionBuilder}
 
 -- no table of the function is shorter
 abbrev pub Grows : Body → Body → Type 0
@@ -10,3 +12,11 @@ Grows f g = (length f.values ≤ length g.values) × (length f.insts ≤ length 
 -- each value that is recorded for a variable exists in the function
 pub record RecordsExist (f : Body) (s : SsaState) : Type 0 where
   pub exist : (variable block value : ℕ) → record_of s variable block ≡ Some value → value < length f.values
+
+-- the block's record of the variable stays, if there is one, and values that stand for one value go on doing so
+abbrev pub RemembersIn : ℕ → ℕ → FunctionBuilder → FunctionBuilder → Type 0
+RemembersIn variable block old new = Remembers variable block old.func.now old.ctx.now.ssa new.func.now new.ctx.now.ssa
+
+-- the block's record of the variable stands for the same value as this one
+abbrev pub HasRecordIn : FunctionBuilder → ℕ → ℕ → ℕ → Type 0
+HasRecordIn b variable block value = HasRecordOf b.func.now b.ctx.now.ssa variable block value

@@ -1,7 +1,7 @@
 //! The builder of a function.
 ghost use Rattle.std.specs.Prelude.{◌≡◌, ◌≢◌, ◌<◌, ◌-◌, ◌^◌, ◌+◌, ◌++◌, ◌∷◌, [], ◌==◌, ◌⊎◌, ℕ, List, IsTrue, ◌↔◌, OnOk, OnErr, IfOk, IfSome, IsSome, is_err, Some, None, true, false, length, slice_index, slice_get, EachIndex};
 ghost use Rattle.cranelift_frontend.specs.Context.{empty_context, status_of, begun, Begins, SetsStatus};
-ghost use Rattle.cranelift_frontend.specs.Growth.{Grows, RecordsExist};
+ghost use Rattle.cranelift_frontend.specs.Growth.{Grows, HasRecordIn, RecordsExist, RemembersIn};
 ghost use Rattle.cranelift_frontend.specs.Builder.{SameLoans, with_position, is_unreachable, is_free, is_declarable, HasCurrent, Uses, UsesIn};
 ghost use Rattle.clif_ssa.specs.Tables.{is_yes, pending_of};
 ghost use Rattle.clif_ssa.specs.Ssa.{record_of, sealed_of, completed, completing_blocks, Records, SameBlocks, Seals, Waits, Zeroes};
@@ -115,6 +115,7 @@ impl<'a> FunctionBuilder<'a> {
         ensures ledger { (calls : List AnsweredCall) (name : Name) → AgreesWithLedger calls self.old → NamesBlock calls name block → AgreesWithLedger (calls ++ record { request = SwitchToBlock name; numbers = [] } ∷ []) self.new }
         ensures stands { (signature : SignatureShape) (calls : List AnsweredCall) (name : Name) → StandsFor signature calls self.old → NamesBlock calls name block → StandsFor signature (calls ++ record { request = SwitchToBlock name; numbers = [] } ∷ []) self.new }
         ensures recorded { RecordsExist self.old.func.now self.old.ctx.now.ssa → RecordsExist self.new.func.now self.new.ctx.now.ssa }
+        ensures remembers { (x b : ℕ) → RemembersIn x b self.old self.new }
         ensures current { HasCurrent self.new }
     {
         self.position = Some(block);
@@ -138,6 +139,7 @@ impl<'a> FunctionBuilder<'a> {
         ensures exists { IfOk result (λ b. b < length self.new.func.now.blocks) }
         ensures grows { OnOk result (Grows self.old.func.now self.new.func.now) }
         ensures recorded { RecordsExist self.old.func.now self.old.ctx.now.ssa → OnOk result (RecordsExist self.new.func.now self.new.ctx.now.ssa) }
+        ensures remembers { (x b : ℕ) → OnOk result (RemembersIn x b self.old self.new) }
         ensures current { HasCurrent self.old → OnOk result (HasCurrent self.new) }
     {
         if self.failed {
@@ -165,6 +167,7 @@ impl<'a> FunctionBuilder<'a> {
         ensures stands { (signature : SignatureShape) (calls : List AnsweredCall) (name : Name) → StandsFor signature calls self.old → NamesBlock calls name block → OnOk result (StandsFor signature (calls ++ record { request = SealBlock name; numbers = [] } ∷ []) self.new) }
         ensures grows { OnOk result (Grows self.old.func.now self.new.func.now) }
         ensures recorded { RecordsExist self.old.func.now self.old.ctx.now.ssa → OnOk result (RecordsExist self.new.func.now self.new.ctx.now.ssa) }
+        ensures remembers { (x b : ℕ) → OnOk result (RemembersIn x b self.old self.new) }
         ensures current { HasCurrent self.old → OnOk result (HasCurrent self.new) }
     {
         if self.failed {
@@ -191,6 +194,7 @@ impl<'a> FunctionBuilder<'a> {
         ensures stands { (signature : SignatureShape) (calls : List AnsweredCall) → StandsFor signature calls self.old → IfOk result (λ variable. StandsFor signature (calls ++ record { request = DeclareVar ty; numbers = variable ∷ [] } ∷ []) self.new) }
         ensures grows { OnOk result (Grows self.old.func.now self.new.func.now) }
         ensures recorded { RecordsExist self.old.func.now self.old.ctx.now.ssa → OnOk result (RecordsExist self.new.func.now self.new.ctx.now.ssa) }
+        ensures remembers { (x b : ℕ) → OnOk result (RemembersIn x b self.old self.new) }
         ensures current { HasCurrent self.old → OnOk result (HasCurrent self.new) }
     {
         if self.failed {
@@ -221,6 +225,7 @@ impl<'a> FunctionBuilder<'a> {
         ensures stands { (signature : SignatureShape) (calls : List AnsweredCall) (name : Name) → StandsFor signature calls self.old → NamesValue calls name value → OnOk result (StandsFor signature (calls ++ record { request = DefVar variable name; numbers = [] } ∷ []) self.new) }
         ensures grows { OnOk result (Grows self.old.func.now self.new.func.now) }
         ensures recorded { RecordsExist self.old.func.now self.old.ctx.now.ssa → OnOk result (RecordsExist self.new.func.now self.new.ctx.now.ssa) }
+        ensures remembers { (x b : ℕ) → (x ≡ variable → self.old.position ≡ Some b → ⊥) → OnOk result (RemembersIn x b self.old self.new) }
         ensures current { OnOk result (HasCurrent self.new) }
     {
         if self.failed {
@@ -250,6 +255,8 @@ impl<'a> FunctionBuilder<'a> {
         ensures exists { RecordsExist self.old.func.now self.old.ctx.now.ssa → IfOk result (λ v. v < length self.new.func.now.values) }
         ensures grows { OnOk result (Grows self.old.func.now self.new.func.now) }
         ensures recorded { RecordsExist self.old.func.now self.old.ctx.now.ssa → OnOk result (RecordsExist self.new.func.now self.new.ctx.now.ssa) }
+        ensures remembers { (x b : ℕ) → OnOk result (RemembersIn x b self.old self.new) }
+        ensures has_record { IfSome self.old.position (λ block. IfOk result (HasRecordIn self.new variable block)) }
         ensures current { OnOk result (HasCurrent self.new) }
     {
         if self.failed {

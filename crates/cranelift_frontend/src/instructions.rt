@@ -4,7 +4,7 @@ ghost use Rattle.clif_types.specs.Types.{is_int};
 ghost use Rattle.clif_ir.specs.Body.{value_at};
 ghost use Rattle.clif_ir.specs.Instruction.{operands, destinations, is_terminator, has_result, result_types};
 ghost use Rattle.cranelift_frontend.specs.Context.{SetsStatus, status_of, begun};
-ghost use Rattle.cranelift_frontend.specs.Growth.{Grows, RecordsExist};
+ghost use Rattle.cranelift_frontend.specs.Growth.{Grows, RecordsExist, RemembersIn};
 ghost use Rattle.cranelift_frontend.specs.Builder.{SameLoans, HasCurrent, Appends, AppendsIn, AppendsValue};
 ghost use Rattle.clif_meaning.specs.Name.{Name};
 ghost use Rattle.clif_meaning.specs.Request.{AnsweredCall, number_of};
@@ -59,6 +59,7 @@ impl<'short, 'long> InstBuilderBase<'long> for &'short mut FunctionBuilder<'long
         ensures fails { self.new.failed ≡ is_err result }
         ensures exists { IfOk result (λ inst. inst < length self.new.func.now.insts) }
         ensures grows { OnOk result (Grows self.old.func.now self.new.func.now) }
+        ensures remembers { (v b : ℕ) → OnOk result (RemembersIn v b self.old self.new) }
         ensures recorded { RecordsExist self.old.func.now self.old.ctx.now.ssa → OnOk result (RecordsExist self.new.func.now self.new.ctx.now.ssa) }
         ensures current { is_terminator shape ≡ false → OnOk result (HasCurrent self.new) }
     {
@@ -68,6 +69,7 @@ impl<'short, 'long> InstBuilderBase<'long> for &'short mut FunctionBuilder<'long
         let Some(block) = self.position else {
             unreachable!();
         };
+        self.func.law_consistent();
         let built = append(self.func, self.ctx, block, shape, ctrl_type);
         self.failed = built.is_err();
         built
@@ -109,6 +111,7 @@ impl<'short, 'long> InstBuilder<'long> for &'short mut FunctionBuilder<'long> {
         ensures stands { (signature : SignatureShape) (calls : List AnsweredCall) → StandsFor signature calls self.old → IfOk result (λ value. StandsFor signature (calls ++ record { request = iconst ty imm; numbers = length self.old.func.now.insts ∷ value ∷ [] } ∷ []) self.new) }
         ensures exists { IfOk result (λ v. v < length self.new.func.now.values) }
         ensures grows { OnOk result (Grows self.old.func.now self.new.func.now) }
+        ensures remembers { (v b : ℕ) → OnOk result (RemembersIn v b self.old self.new) }
         ensures recorded { RecordsExist self.old.func.now self.old.ctx.now.ssa → OnOk result (RecordsExist self.new.func.now self.new.ctx.now.ssa) }
         ensures current { OnOk result (HasCurrent self.new) }
     {
@@ -132,6 +135,7 @@ impl<'short, 'long> InstBuilder<'long> for &'short mut FunctionBuilder<'long> {
         ensures stands { (signature : SignatureShape) (calls : List AnsweredCall) (a b : Name) → StandsFor signature calls self.old → NamesValue calls a x → NamesValue calls b y → IfOk result (λ value. StandsFor signature (calls ++ record { request = iadd (ledger_of calls) a b; numbers = length self.old.func.now.insts ∷ value ∷ [] } ∷ []) self.new) }
         ensures exists { IfOk result (λ v. v < length self.new.func.now.values) }
         ensures grows { OnOk result (Grows self.old.func.now self.new.func.now) }
+        ensures remembers { (v b : ℕ) → OnOk result (RemembersIn v b self.old self.new) }
         ensures recorded { RecordsExist self.old.func.now self.old.ctx.now.ssa → OnOk result (RecordsExist self.new.func.now self.new.ctx.now.ssa) }
         ensures current { OnOk result (HasCurrent self.new) }
     {
@@ -157,6 +161,7 @@ impl<'short, 'long> InstBuilder<'long> for &'short mut FunctionBuilder<'long> {
         ensures stands { (signature : SignatureShape) (calls : List AnsweredCall) (names : List Name) → StandsFor signature calls self.old → map (number_of calls) names ≡ map Some values.now → IfOk result (λ inst. StandsFor signature (calls ++ record { request = return_ names; numbers = inst ∷ [] } ∷ []) self.new) }
         ensures exists { IfOk result (λ inst. inst < length self.new.func.now.insts) }
         ensures grows { OnOk result (Grows self.old.func.now self.new.func.now) }
+        ensures remembers { (v b : ℕ) → OnOk result (RemembersIn v b self.old self.new) }
         ensures recorded { RecordsExist self.old.func.now self.old.ctx.now.ssa → OnOk result (RecordsExist self.new.func.now self.new.ctx.now.ssa) }
     {
         if self.failed {

@@ -2,11 +2,15 @@ use Rattle.std.proofs.Common.{◌≡◌, ap, sym, ◌∙◌, subst, rules, arith
 use Rattle.std.proofs.lemmas.Grind.{common_steps}
 use Rattle.clif_meaning.specs.View.{view_of}
 use Rattle.clif_meaning.specs.Headline.{MeansTheSame}
+use Rattle.clif_meaning.specs.Request.{Script}
+use Rattle.clif_meaning.specs.Premises.{CallersEdgesMatch, PlacementPremises}
+use Rattle.clif_meaning.specs.Typing.{EdgesMatch}
+use Rattle.clif_meaning.specs.WellPlaced.{WellPlaced}
 use Rattle.clif_script.specs.Requests.{requests_of}
 use Rattle.clif_types.specs.Signature.{SignatureShape}
 use Rattle.clif_ir.specs.Body.{Body}
 use Rattle.cranelift_frontend.specs.declared.frontend.FunctionBuilder.{FunctionBuilder}
-use Rattle.cranelift_frontend.specs.StandsFor.{StandsFor, StandsIn}
+use Rattle.cranelift_frontend.specs.StandsFor.{HasCallersParameters, StandsFor, StandsIn}
 use Rattle.std.specs.Prelude.{Some}
 use Rattle.clif_script.proofs.Verdicts.{verdict-refused, all-replayed, means-replayed}
 use Rattle.clif_script.proofs.script.replay.Goals as goal
@@ -44,4 +48,27 @@ returns-in-Ok-clause-built c =
       context = builder.ctx.now;
       position = builder.position;
       stands = subst (λ (f : Body). StandsIn c.args.signature made.0 f builder.ctx.now builder.position) (sym ended) left;
+      parameters = subst (λ (f : Body). HasCallersParameters made.0 f) (sym ended) (c.in-Ok.ensures.parameters c.args.signature made.0 stands);
     }
+
+pub returns-in-Ok-clause-edges_match : goal.returns-in-Ok-clause-edges_match
+returns-in-Ok-clause-edges_match c = λ typed.
+    let made = c.in_ok-made.ensures.ready in
+    let fresh : c.new-builder.result.func.now.signature ≡ c.args.signature =
+    ap (λ (b : FunctionBuilder). b.func.now.signature) c.new-builder.ensures.builder ∙ ap (λ (f : Body). f.signature) c.with_name_signature-func.ensures in
+    let stands = subst (λ (s : SignatureShape). StandsFor s made.0 c.make_calls-made.new.builder) fresh made.1 in
+    let premise = subst (λ (script : Script). CallersEdgesMatch script) (sym (all-replayed c.args.calls.now made.0 made.2)) typed in
+    -- `func-2-1` is the checker's own name of the function once the builder's loan has ended
+    let ended = c.func-2-1.given.1 (first_of (search rules, grind (arith, common_steps))) in
+    subst (λ (f : Body). EdgesMatch (view_of f)) (sym ended) (c.in-Ok.ensures.edges_match c.args.signature made.0 stands premise)
+
+pub returns-in-Ok-clause-well_placed : goal.returns-in-Ok-clause-well_placed
+returns-in-Ok-clause-well_placed c = λ premises.
+    let made = c.in_ok-made.ensures.ready in
+    let fresh : c.new-builder.result.func.now.signature ≡ c.args.signature =
+    ap (λ (b : FunctionBuilder). b.func.now.signature) c.new-builder.ensures.builder ∙ ap (λ (f : Body). f.signature) c.with_name_signature-func.ensures in
+    let stands = subst (λ (s : SignatureShape). StandsFor s made.0 c.make_calls-made.new.builder) fresh made.1 in
+    let premise = subst (λ (script : Script). PlacementPremises script c.args.signature) (sym (all-replayed c.args.calls.now made.0 made.2)) premises in
+    -- `func-2-1` is the checker's own name of the function once the builder's loan has ended
+    let ended = c.func-2-1.given.1 (first_of (search rules, grind (arith, common_steps))) in
+    subst (λ (f : Body). WellPlaced (view_of f)) (sym ended) (c.in-Ok.ensures.well_placed c.args.signature made.0 stands premise)

@@ -1,3 +1,4 @@
+use Rattle.cranelift_frontend.proofs.Remembered.{remembers_created}
 use Rattle.cranelift_frontend.proofs.LedgerBlocks.{created}
 use Rattle.cranelift_frontend.proofs.StandingResults.{created_stands}
 use Rattle.cranelift_frontend.proofs.frontend.FunctionBuilder.create_block.Goals as goal
@@ -11,3 +12,8 @@ pub returns-clause-stands : goal.returns-clause-stands
 returns-clause-stands c = λ signature calls stands.
     let made = c.make_block-made.ensures in
     created_stands signature calls _ _ _ _ _ _ stands made.function made.records made.sealed made.status (returns-clause-ledger c calls stands.ledger)
+
+pub returns-clause-remembers : goal.returns-clause-remembers
+returns-clause-remembers c = λ x b.
+    let made = c.make_block-made.ensures in
+    remembers_created c.make_block-made.result x b _ _ _ _ made.function made.records

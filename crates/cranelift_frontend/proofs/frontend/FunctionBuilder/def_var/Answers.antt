@@ -1,3 +1,5 @@
+use Rattle.std.proofs.Common.{refl, ap, sym, ◌∙◌, Some}
+use Rattle.cranelift_frontend.proofs.Remembered.{remembers_assigned}
 use Rattle.cranelift_frontend.proofs.LedgerVariables.{assigned}
 use Rattle.cranelift_frontend.proofs.StandingResults.{assigned_stands}
 use Rattle.cranelift_frontend.proofs.frontend.FunctionBuilder.def_var.Goals as goal
@@ -12,3 +14,8 @@ returns-clause-stands c = λ signature calls name stands names.
     let done = c.def_var-recorded.ensures in
     assigned_stands signature calls _ _ _ _ c.args.variable c.args.value c.in-Some.block name _ stands c.in-Some.is names done.ok done.blocks done.status
     (returns-clause-ledger c calls name stands.ledger names)
+
+pub returns-clause-remembers : goal.returns-clause-remembers
+returns-clause-remembers c = λ x b apart.
+    remembers_assigned c.def_var-recorded.result c.args.variable c.in-Some.block x b c.args.value _ _ _ _
+    (λ first second. apart first (c.in-Some.is ∙ ap Some (sym second))) refl c.def_var-recorded.ensures.ok

@@ -9,7 +9,10 @@ use Rattle.clif_meaning.specs.Request.{script_of}
 use Rattle.clif_meaning.specs.View.{view_of}
 use Rattle.clif_meaning.specs.Headline.{MeansTheSame}
 use Rattle.cranelift_frontend.proofs.LedgerEnds.{finished}
-use Rattle.cranelift_frontend.proofs.Finishing.{finished_means}
+use Rattle.clif_meaning.specs.Typing.{EdgesMatch}
+use Rattle.clif_meaning.specs.WellPlaced.{RecordsWellPlaced, WellPlaced}
+use Rattle.clif_simulation.specs.Structure.{HasCallersParameters}
+use Rattle.cranelift_frontend.proofs.Finishing.{finished_means, finished_parameters, finished_edges, finished_placed, finished_records}
 use Rattle.cranelift_frontend.proofs.frontend.FunctionBuilder.finalize.Goals as goal
 
 pub returns-clause-ledger : goal.returns-clause-ledger
@@ -20,3 +23,23 @@ pub returns-clause-same_meaning : goal.returns-clause-same_meaning
 returns-clause-same_meaning c = λ signature calls stands.
     subst (λ (r : Result (Unit {0}) FinalizeError). OnOk r (MeansTheSame (script_of calls) signature c.args.config.pointer_width (view_of c.args.self.func.now))) (sym c.verdict-answer.ensures)
     (finished_means signature calls c.args.self c.args.config.pointer_width stands c.law_consistent.ensures)
+
+pub returns-clause-parameters : goal.returns-clause-parameters
+returns-clause-parameters c = λ signature calls stands.
+    subst (λ (r : Result (Unit {0}) FinalizeError). OnOk r (HasCallersParameters calls c.args.self.func.now)) (sym c.verdict-answer.ensures)
+    (finished_parameters signature calls c.args.self stands c.law_consistent.ensures)
+
+pub returns-clause-edges_match : goal.returns-clause-edges_match
+returns-clause-edges_match c = λ signature calls stands typed.
+    subst (λ (r : Result (Unit {0}) FinalizeError). OnOk r (EdgesMatch (view_of c.args.self.func.now))) (sym c.verdict-answer.ensures)
+    (finished_edges signature calls c.args.self stands)
+
+pub returns-clause-well_placed : goal.returns-clause-well_placed
+returns-clause-well_placed c = λ signature calls stands premises.
+    subst (λ (r : Result (Unit {0}) FinalizeError). OnOk r (WellPlaced (view_of c.args.self.func.now))) (sym c.verdict-answer.ensures)
+    (finished_placed signature calls c.args.self stands c.law_consistent.ensures premises)
+
+pub returns-clause-records_well_placed : goal.returns-clause-records_well_placed
+returns-clause-records_well_placed c = λ signature calls records stands are premises.
+    subst (λ (r : Result (Unit {0}) FinalizeError). OnOk r (RecordsWellPlaced (view_of c.args.self.func.now) records)) (sym c.verdict-answer.ensures)
+    (finished_records signature calls records c.args.self stands c.law_consistent.ensures are premises)

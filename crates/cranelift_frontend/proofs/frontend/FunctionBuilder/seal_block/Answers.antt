@@ -1,3 +1,4 @@
+use Rattle.cranelift_frontend.proofs.Remembered.{remembers_sealed}
 use Rattle.cranelift_frontend.proofs.LedgerBlocks.{sealed}
 use Rattle.cranelift_frontend.proofs.frontend.FunctionBuilder.seal_block.Goals as goal
 use Rattle.clif_ssa.specs.Tables.{pending_of}
@@ -27,3 +28,8 @@ returns-clause-stands c = λ signature calls name stands names.
     let done = c.seal_block-sealed.ensures in
     sealed_stands signature calls _ _ _ _ _ name c.args.block _ stands c.law_consistent.ensures done.function done.records done.sealed done.status
     (returns-clause-ledger c calls name stands.ledger names)
+
+pub returns-clause-remembers : goal.returns-clause-remembers
+returns-clause-remembers c = λ x b.
+    let done = c.seal_block-sealed.ensures in
+    remembers_sealed c.seal_block-sealed.result x b _ _ _ _ (pending_of (sealed_of c.args.self.now.ctx.now.ssa c.args.block)) c.law_consistent.ensures done.function done.records

@@ -1,3 +1,5 @@
+use Rattle.std.proofs.Common.{refl}
+use Rattle.cranelift_frontend.proofs.Remembered.{remembers_same}
 use Rattle.cranelift_frontend.proofs.LedgerBlocks.{switched}
 use Rattle.cranelift_frontend.proofs.Standing.{stands_switched}
 use Rattle.cranelift_frontend.proofs.frontend.FunctionBuilder.switch_to_block.Goals as goal
@@ -8,3 +10,6 @@ returns-clause-ledger c = λ calls name agrees names. switched calls _ _ _ name 
 pub returns-clause-stands : goal.returns-clause-stands
 returns-clause-stands c = λ signature calls name stands names.
     stands_switched signature calls _ _ _ stands _ name (returns-clause-ledger c calls name stands.ledger names)
+
+pub returns-clause-remembers : goal.returns-clause-remembers
+returns-clause-remembers c = λ x b. remembers_same x b _ _ _ _ refl refl

@@ -1,3 +1,4 @@
+use Rattle.cranelift_frontend.proofs.Remembered.{remembers_used, has_record_used}
 use Rattle.std.proofs.Common.{sym, ◌∙◌}
 use Rattle.cranelift_frontend.proofs.LedgerUsed.{used}
 use Rattle.cranelift_frontend.proofs.frontend.FunctionBuilder.use_var.Goals as goal
@@ -17,3 +18,13 @@ pub returns-clause-stands : goal.returns-clause-stands
 returns-clause-stands c = λ signature calls stands.
     used_stands signature calls _ _ _ _ _ c.args.variable c.in-Some-var_type.ty c.in-Some.block _ stands c.law_consistent.ensures c.in-Some.is (current_exists c.args.self.now c.requires.current c.in-Some.block c.in-Some.is)
     c.use_variable-used.ensures.uses c.use_variable-used.ensures.status (returns-clause-ledger c calls stands.ledger)
+
+pub returns-clause-remembers : goal.returns-clause-remembers
+returns-clause-remembers c = λ x b.
+    remembers_used c.use_variable-used.result x b _ _ _ _ c.args.variable c.in-Some-var_type.ty c.in-Some.block c.law_consistent.ensures
+    (current_exists c.args.self.now c.requires.current c.in-Some.block c.in-Some.is) c.use_variable-used.ensures.uses
+
+pub returns-clause-has_record : goal.returns-clause-has_record
+returns-clause-has_record c =
+    has_record_used c.use_variable-used.result _ _ _ _ c.args.variable c.in-Some-var_type.ty c.in-Some.block c.args.self.now.position c.in-Some.is c.law_consistent.ensures
+    (current_exists c.args.self.now c.requires.current c.in-Some.block c.in-Some.is) c.use_variable-used.ensures.uses

@@ -6,6 +6,7 @@ use Rattle.clif_ir.specs.declared.instructions.BinaryOpcode.TheVariants.{Iadd}
 use Rattle.clif_ir.specs.declared.instructions.InstructionData.TheVariants.{Binary}
 use Rattle.cranelift_frontend.specs.Builder.{AppendsValue}
 use Rattle.cranelift_frontend.proofs.StandingBuilt.{iadd_agrees, iadd_stands}
+use Rattle.cranelift_frontend.proofs.Remembered.{remembers_value}
 use Rattle.cranelift_frontend.proofs.instructions.RefMutFunctionBuilderInstBuilder.iadd.Goals as goal
 
 pub returns-clause-ledger : goal.returns-clause-ledger
@@ -21,3 +22,10 @@ returns-clause-stands c = λ signature calls a b stands first second.
     let appends : IfSome c.args.self.now.position (λ block. IfOk c.append_value.result (AppendsValue c.args.self.now c.append_value.new.builder block (Binary Iadd (c.args.x ∷ c.args.y ∷ [])) (value_at c.args.self.now.func.now c.args.x).ty)) =
     first_of (search rules, grind (arith, common_steps)) in
     iadd_stands signature calls c.args.self.now c.append_value.new.builder a b c.args.x c.args.y _ stands c.law_consistent.ensures first second c.requires.current appends done.ssa done.variables done.position
+
+pub returns-clause-remembers : goal.returns-clause-remembers
+returns-clause-remembers c = λ v b.
+    let appends : IfSome c.args.self.now.position (λ block. IfOk c.append_value.result (AppendsValue c.args.self.now c.append_value.new.builder block (Binary Iadd (c.args.x ∷ c.args.y ∷ [])) (value_at c.args.self.now.func.now c.args.x).ty)) =
+    first_of (search rules, grind (arith, common_steps)) in
+    remembers_value c.append_value.result v b c.args.self.now c.append_value.new.builder (Binary Iadd (c.args.x ∷ c.args.y ∷ [])) (value_at c.args.self.now.func.now c.args.x).ty
+    c.law_consistent.ensures c.requires.current appends c.append_value.ensures.ssa

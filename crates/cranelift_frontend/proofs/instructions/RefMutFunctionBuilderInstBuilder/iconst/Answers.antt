@@ -4,6 +4,7 @@ use Rattle.std.proofs.lemmas.Grind.{common_steps}
 use Rattle.clif_ir.specs.declared.instructions.InstructionData.TheVariants.{UnaryImm}
 use Rattle.cranelift_frontend.specs.Builder.{AppendsValue}
 use Rattle.cranelift_frontend.proofs.StandingBuilt.{iconst_agrees, iconst_stands}
+use Rattle.cranelift_frontend.proofs.Remembered.{remembers_value}
 use Rattle.cranelift_frontend.proofs.instructions.RefMutFunctionBuilderInstBuilder.iconst.Goals as goal
 
 pub returns-clause-ledger : goal.returns-clause-ledger
@@ -19,3 +20,9 @@ returns-clause-stands c = λ signature calls stands.
     let appends : IfSome c.args.self.now.position (λ block. IfOk c.append_value.result (AppendsValue c.args.self.now c.append_value.new.builder block (UnaryImm c.args.imm) c.args.ty)) =
     first_of (search rules, grind (arith, common_steps)) in
     iconst_stands signature calls c.args.self.now c.append_value.new.builder c.args.ty c.args.imm _ stands c.law_consistent.ensures c.requires.current appends done.ssa done.variables done.position
+
+pub returns-clause-remembers : goal.returns-clause-remembers
+returns-clause-remembers c = λ v b.
+    let appends : IfSome c.args.self.now.position (λ block. IfOk c.append_value.result (AppendsValue c.args.self.now c.append_value.new.builder block (UnaryImm c.args.imm) c.args.ty)) =
+    first_of (search rules, grind (arith, common_steps)) in
+    remembers_value c.append_value.result v b c.args.self.now c.append_value.new.builder (UnaryImm c.args.imm) c.args.ty c.law_consistent.ensures c.requires.current appends c.append_value.ensures.ssa

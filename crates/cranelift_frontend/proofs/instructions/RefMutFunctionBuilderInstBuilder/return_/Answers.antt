@@ -14,3 +14,6 @@ returns-in-Ok-clause-stands c = λ signature calls names stands named.
     return_stands signature calls c.args.self.now c.build.new.self names c.in-Ok.args c.build.result stands c.law_consistent.ensures
     (named ∙ ap (map (λ (x : ℕ). Some x)) (sym same)) c.requires.current c.build.ensures.appends
     c.build.ensures.ssa c.build.ensures.variables c.build.ensures.position
+
+pub returns-in-Ok-clause-remembers : goal.returns-in-Ok-clause-remembers
+returns-in-Ok-clause-remembers c = λ v b. c.build.ensures.remembers v b

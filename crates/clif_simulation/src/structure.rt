@@ -1,0 +1,23 @@
+//! What holds of a finished function that carries a list of calls, beside what it means.
+
+ghost use Rattle.clif_simulation.specs.Structure.{CarryingIsWellPlaced, CarryingLeavesNoParameters, CarryingMatchesEdges, RecordsAreWellPlaced};
+
+/// No block of it has a variable's parameter.
+pub fn carrying_leaves_no_parameters()
+    ensures { CarryingLeavesNoParameters }
+{}
+
+/// Its edges' arguments match, where the caller's do.
+pub fn carrying_matches_edges()
+    ensures { CarryingMatchesEdges }
+{}
+
+/// Its values are defined before they are named, where the program's names are given before.
+pub fn carrying_is_well_placed()
+    ensures { CarryingIsWellPlaced }
+{}
+
+/// What the builder recorded, and what answered uses, is defined before it counts.
+pub fn records_are_well_placed()
+    ensures { RecordsAreWellPlaced }
+{}

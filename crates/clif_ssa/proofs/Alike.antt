@@ -1,0 +1,169 @@
+-- Values that stand for one value go on doing so, and which parameters are left.
+use Rattle.std.proofs.Common.{◌≡◌, ◌≢◌, ℕ, ◌<◌, ◌==◌, true, false, Bool, List, [], ◌∷◌, length, refl, ap, arith, sym, ◌∙◌, subst, inl, inr}
+use Rattle.std.specs.Prelude.{Option, Some, None, Contains, cond, pos}
+use Rattle.std.proofs.lemmas.Bool.{cases_eq}
+use Rattle.clif_types.specs.declared.types.«Type».{«Type»}
+use Rattle.clif_ir.specs.Body.{Body, value_at, resolved, alias_of_origin}
+use Rattle.clif_ir.specs.Changes.{with_alias, with_layout, inserted_in}
+use Rattle.clif_ir.specs.Reading.{param_home, stands_in}
+use Rattle.clif_ir.specs.declared.inst_list.BlockEnd.TheVariants.{Front}
+use Rattle.clif_ir.specs.declared.instructions.InstructionData.TheVariants.{UnaryImm}
+use Rattle.clif_paths.specs.Steps.{aliased}
+use Rattle.clif_ssa.specs.declared.tables.Pending.{Pending}
+use Rattle.clif_ssa.specs.Ssa.{zeroed, zeroed_in, completed, no_srcloc}
+use Rattle.clif_ssa.specs.Structure.{StayAlike}
+use Rattle.clif_ir.proofs.Aliases.{follow_end}
+use Rattle.clif_ssa.proofs.Bodies.{Firm, param_exists, param_origin}
+use Rattle.clif_ssa.proofs.Parameters.{new_unaliased}
+use Rattle.clif_ssa.proofs.Instructions.{inst_firm, inst_resolved, inst_param_home}
+use Rattle.clif_ssa.proofs.Zeroing.{put_zero, zero_count, CanAlias, alias_resolved, alias_ends, alias_firm, alias_home_other, alias_home_same, contains_cons, contains_more, contains_first}
+use Rattle.clif_ssa.proofs.Completing.{inserted_same, inserted_firm, inserted_param_home}
+
+-- a parameter is no alias
+pub unaliased_home : (f : Body) (v b : ℕ) → param_home f v ≡ Some b → resolved f v ≡ v
+unaliased_home f v b is = follow_end f.values (length f.values) v (ap alias_of_origin (param_origin f v b is))
+
+-- values that end where they ended
+pub alike_same : (f g : Body) → ((v : ℕ) → resolved g v ≡ resolved f v) → StayAlike f g
+alike_same f g same u v is = same u ∙ is ∙ sym (same v)
+
+pub alike_then : (f g h : Body) → StayAlike f g → StayAlike g h → StayAlike f h
+alike_then f g h first second u v is = second u v (first u v is)
+
+aliased_alike : (resolve : ℕ → ℕ) (v target u w : ℕ) → resolve u ≡ resolve w → aliased resolve v target u ≡ aliased resolve v target w
+unfolding aliased
+aliased_alike resolve v target u w same = ap (λ x. cond (x == v) target x) same
+
+-- a parameter that may become a name of a new zero
+pub can_zero : (f : Body) (b v : ℕ) (ty : «Type») → Firm f → param_home f v ≡ Some b → CanAlias (put_zero f b ty) v (length f.values) b
+can_zero f b v ty firm is =
+    let inside : v < length f.values = param_exists f v b is in
+    record {
+      firm = inst_firm f b Front (UnaryImm (pos 0)) (ty ∷ []) no_srcloc firm;
+      parameter = inst_param_home f b Front (UnaryImm (pos 0)) (ty ∷ []) no_srcloc v ∙ is;
+      own_end = inst_resolved f b Front (UnaryImm (pos 0)) (ty ∷ []) no_srcloc firm (length f.values) ∙ new_unaliased f firm;
+      exists = omega (arith, zero_count f b ty);
+      apart = λ same. absurd (omega (arith, inside, same));
+    }
+
+-- what a parameter that becomes a name of a zero leaves
+pub record Leaves (f g : Body) (v : ℕ) : Type 0 where
+  pub firm : Firm g
+  pub alike : StayAlike f g
+  pub gone : param_home g v ≡ None
+  pub others : (u : ℕ) → u ≢ v → param_home g u ≡ param_home f u
+
+pub inserted_resolved : (f : Body) (b v : ℕ) → resolved (inserted_in f b) v ≡ resolved f v
+inserted_resolved f b v = by (stands_in b f.layout)
+  where
+    by : (test : Bool) → resolved (cond test f (with_layout f b)) v ≡ resolved f v
+    by true = refl
+    by false = refl
+
+put_leaves : (f : Body) (b v : ℕ) (ty : «Type») → Firm f → param_home f v ≡ Some b → Leaves f (with_alias (put_zero f b ty) v (length f.values)) v
+put_leaves f b v ty firm is =
+    let g : Body = put_zero f b ty in
+    let z : ℕ = length f.values in
+    let can : CanAlias g v z b = can_zero f b v ty firm is in
+    let same_end : (u : ℕ) → resolved g u ≡ resolved f u = inst_resolved f b Front (UnaryImm (pos 0)) (ty ∷ []) no_srcloc firm in
+    record {
+      firm = alias_firm g v z b can;
+      alike = λ u w same.
+          alias_resolved g v z b can u
+          ∙ aliased_alike (λ x. resolved g x) v (resolved g z) u w (same_end u ∙ same ∙ sym (same_end w))
+          ∙ sym (alias_resolved g v z b can w);
+      gone = alias_home_same g v z b can;
+      others = λ u other. alias_home_other g v z u other ∙ inst_param_home f b Front (UnaryImm (pos 0)) (ty ∷ []) no_srcloc u;
+    }
+
+pub zeroed_leaves : (f : Body) (b v : ℕ) → Firm f → param_home f v ≡ Some b → Leaves f (zeroed f b v) v
+zeroed_leaves f b v firm is =
+    let h : Body = inserted_in f b in
+    let ty : «Type» = (value_at f v).ty in
+    let count : length h.values ≡ length f.values = ap length (inserted_same f b).values in
+    let done : Leaves h (with_alias (put_zero h b ty) v (length f.values)) v =
+    subst (λ z. Leaves h (with_alias (put_zero h b ty) v z) v) count (put_leaves h b v ty (inserted_firm f b firm) (inserted_param_home f b v ∙ is)) in
+    record {
+      firm = done.firm;
+      alike = λ u w same. done.alike u w (inserted_resolved f b u ∙ same ∙ sym (inserted_resolved f b w));
+      gone = done.gone;
+      others = λ u other. done.others u other ∙ inserted_param_home f b u;
+    }
+
+-- what the completion of parameters leaves
+pub record LeavesAll (f g : Body) (ps : List Pending) : Type 0 where
+  pub firm : Firm g
+  pub alike : StayAlike f g
+  pub gone : (p : Pending) → Contains ps p → param_home g p.param ≡ None
+  pub others : (u : ℕ) → ((p : Pending) → Contains ps p → p.param ≢ u) → param_home g u ≡ param_home f u
+  pub no_other : (u c : ℕ) → param_home g u ≡ Some c → param_home f u ≡ Some c
+
+none_some : {x : ℕ} → ◌≡◌ {A = Option ℕ} None (Some x) → ⊥
+none_some same = cc
+
+none_or_home : (home home' : Option ℕ) → ((c : ℕ) → home' ≡ Some c → home ≡ Some c) → home ≡ None → home' ≡ None
+none_or_home home None follows none = refl
+none_or_home home (Some c) follows none = absurd (none_some (sym none ∙ follows c refl))
+
+-- the first parameter and then the others
+leaves_then : (f g h : Body) (p : Pending) (ps : List Pending) → Firm f → StayAlike f g → param_home g p.param ≡ None
+    → ((u : ℕ) → u ≢ p.param → param_home g u ≡ param_home f u) → LeavesAll g h ps → LeavesAll f h (p ∷ ps)
+leaves_then f g h p ps firm alike gone others rest =
+    record {
+      firm = rest.firm;
+      alike = alike_then f g h alike rest.alike;
+      gone = λ q here.
+          elim (contains_cons p ps q here) [
+            | inl same ↦ ap (λ (r : Pending). param_home h r.param) (sym same) ∙ none_or_home (param_home g p.param) (param_home h p.param) (rest.no_other p.param) gone
+            | inr later ↦ rest.gone q later
+          ];
+      others = λ u apart.
+          rest.others u (λ q here. apart q (contains_more p ps q here))
+          ∙ others u (λ same. apart p (contains_first p ps) (sym same));
+      no_other = λ u c is.
+          elim (cases_eq u p.param) [
+            | inl same ↦ absurd (none_some (sym gone ∙ ap (λ w. param_home g w) (sym same) ∙ rest.no_other u c is))
+            | inr other ↦ sym (others u other) ∙ rest.no_other u c is
+          ];
+    }
+
+pub completed_leaves : (ps : List Pending) (f : Body) → Firm f → LeavesAll f (completed f ps) ps
+completed_leaves [] f firm = record {
+  firm = firm;
+  alike = λ u v same. same;
+  gone = λ p here. absurd (omega (arith, here.1));
+  others = λ u apart. refl;
+  no_other = λ u c is. is;
+}
+completed_leaves (p ∷ ps) f firm = by (λ g firm_g. completed_leaves ps g firm_g) (param_home f p.param) refl
+  where
+    by : ((g : Body) → Firm g → LeavesAll g (completed g ps) ps)
+        → (home : Option ℕ) → param_home f p.param ≡ home → LeavesAll f (completed (zeroed_in home f p.param) ps) (p ∷ ps)
+    by induction None is = leaves_then f f (completed f ps) p ps firm (λ u v same. same) is (λ u other. refl) (induction f firm)
+    by induction (Some b) is =
+        let here : Leaves f (zeroed f b p.param) p.param = zeroed_leaves f b p.param firm is in
+        leaves_then f (zeroed f b p.param) (completed (zeroed f b p.param) ps) p ps firm here.alike here.gone here.others
+        (induction (zeroed f b p.param) here.firm)
+
+-- both end in the zero
+pub record EndsIn (g : Body) (v z : ℕ) : Type 0 where
+  pub first : resolved g v ≡ z
+  pub second : resolved g z ≡ z
+
+put_ends : (f : Body) (b v : ℕ) (ty : «Type») → Firm f → param_home f v ≡ Some b → EndsIn (with_alias (put_zero f b ty) v (length f.values)) v (length f.values)
+put_ends f b v ty firm is =
+    let g : Body = put_zero f b ty in
+    let z : ℕ = length f.values in
+    let can : CanAlias g v z b = can_zero f b v ty firm is in
+    let own : resolved g v ≡ v = unaliased_home g v b can.parameter in
+    record {
+      first = elim (alias_ends g v z b can v) [ inl moved ↦ moved.1 | inr stayed ↦ absurd (stayed.0 own) ];
+      second = elim (alias_ends g v z b can z) [ inl moved ↦ absurd (can.apart (sym can.own_end ∙ moved.0)) | inr stayed ↦ stayed.1 ∙ can.own_end ];
+    }
+
+pub zeroed_ends : (f : Body) (b v : ℕ) → Firm f → param_home f v ≡ Some b → EndsIn (zeroed f b v) v (length f.values)
+zeroed_ends f b v firm is =
+    let h : Body = inserted_in f b in
+    let ty : «Type» = (value_at f v).ty in
+    let count : length h.values ≡ length f.values = ap length (inserted_same f b).values in
+    subst (λ z. EndsIn (with_alias (put_zero h b ty) v z) v z) count (put_ends h b v ty (inserted_firm f b firm) (inserted_param_home f b v ∙ is))

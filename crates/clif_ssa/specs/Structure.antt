@@ -1,0 +1,83 @@
+-- What values go on standing for, what a block keeps of its parameters, and that the construction leaves nothing
+-- behind which isn't needed. Source: own, after Braun et al. 2013 (a variable's value in a block stays the same value
+-- while parameters are completed; a parameter without arguments is replaced).
+use Rattle.std.specs.Prelude.{◌≡◌, ◌≢◌, ◌<◌, ℕ, List, [], ◌∷◌, ◌++◌, length, Some, None, pos, Contains}
+use Rattle.std.specs.List.{AllByRecursion}
+use Rattle.clif_ir.specs.Body.{Body, value_at, inst_at, block_at, resolved}
+use Rattle.clif_ir.specs.Consistent.{Stands}
+use Rattle.clif_ir.specs.Reading.{param_home}
+use Rattle.clif_ir.specs.declared.instructions.InstructionData.TheVariants.{UnaryImm}
+use Rattle.clif_ssa.specs.declared.tables.Pending.{Pending}
+use Rattle.clif_ssa.specs.Tables.{pending_of}
+use Rattle.clif_ssa.specs.Ssa.{SsaState, record_of, sealed_of}
+
+-- two values that stand for one value go on doing so
+abbrev pub StayAlike : Body → Body → Type 0
+StayAlike f g = (u v : ℕ) → resolved f u ≡ resolved f v → resolved g u ≡ resolved g v
+
+-- the block's record of the variable stands for the same value as this one
+abbrev pub HasRecordOf : Body → SsaState → ℕ → ℕ → ℕ → Type 0
+HasRecordOf f s variable block value = (v : ℕ) × (record_of s variable block ≡ Some v) × (resolved f v ≡ resolved f value)
+
+-- The block's record of the variable stays, if there is one, and values that stand for one value go on doing so.
+pub record Remembers (variable block : ℕ) (f : Body) (s : SsaState) (g : Body) (t : SsaState) : Type 0 where
+  pub recorded : (v : ℕ) → record_of s variable block ≡ Some v → record_of t variable block ≡ Some v
+  pub alike : StayAlike f g
+
+-- what the construction has at a moment
+pub record Moment : Type 0 where
+  pub function : Body
+  pub state : SsaState
+
+-- each moment remembers what the one before it had on record for the variable in the block
+abbrev pub AreSteps : ℕ → ℕ → Moment → List Moment → Type 0
+AreSteps variable block m [] = Unit {0}
+AreSteps variable block m (n ∷ moments) =
+    Remembers variable block m.function m.state n.function n.state × AreSteps variable block n moments
+
+abbrev pub last_of : Moment → List Moment → Moment
+last_of m [] = m
+last_of m (n ∷ moments) = last_of n moments
+
+-- Two uses of a variable in a block: where no step between them assigns it there, their answers stand for one value.
+abbrev pub UsesAgree : Type 0
+UsesAgree =
+    (variable block first second : ℕ) (m : Moment) (moments : List Moment)
+    → HasRecordOf m.function m.state variable block first
+    → AreSteps variable block m moments
+    → HasRecordOf (last_of m moments).function (last_of m moments).state variable block second
+    → resolved (last_of m moments).function first ≡ resolved (last_of m moments).function second
+
+-- The blocks' parameters are those that they had, without the ones that waited.
+pub record LosesWaiting (f g : Body) (waited : List Pending) : Type 0 where
+  pub gone : (p : Pending) (b : ℕ) → Contains waited p → Stands p.param (block_at g b).params → ⊥
+  pub stayed : (v b : ℕ) → ((p : Pending) → Contains waited p → p.param ≢ v) → Stands v (block_at f b).params → Stands v (block_at g b).params
+  pub no_other : (v b : ℕ) → Stands v (block_at g b).params → Stands v (block_at f b).params
+
+-- The instruction is a zero that something needs: another value stands for it.
+pub record IsNeededZero (f : Body) (inst : ℕ) : Type 0 where
+  pub value : ℕ
+  pub exists : inst < length f.insts
+  pub value_exists : value < length f.values
+  pub shape : (inst_at f inst).shape ≡ UnaryImm (pos 0)
+  pub result : (inst_at f inst).results ≡ value ∷ []
+  pub no_parameter : param_home f value ≡ None
+  pub alias : ℕ
+  pub another : alias ≢ value
+  pub stands_for : resolved f alias ≡ value
+
+-- The instructions of a block are zeros that something needs, and then its own: those that the caller made, in order.
+pub record HasNeededZeros (f : Body) (block : ℕ) (own : List ℕ) : Type 0 where
+  pub zeros : List ℕ
+  pub in_order : (block_at f block).insts ≡ zeros ++ own
+  pub needed : AllByRecursion (IsNeededZero f) zeros
+
+-- The construction has left nothing behind that isn't needed. `own` are the instructions of each block that the caller
+-- made.
+pub record NothingStray (own : ℕ → List ℕ) (f : Body) (s : SsaState) : Type 0 where
+  -- each parameter of a block waits in it; no call makes a parameter of the caller's so far
+  pub parameters : (v b : ℕ) → param_home f v ≡ Some b
+      → (variable : ℕ) × Contains (pending_of (sealed_of s b)) (record { variable = variable; param = v })
+  -- a value has the type of the one that it stands for; so a zero is of the type of the parameter in whose place it is
+  pub alias_types : (v : ℕ) → (value_at f (resolved f v)).ty ≡ (value_at f v).ty
+  pub zeros : (b : ℕ) → HasNeededZeros f b (own b)
