@@ -1,4 +1,5 @@
 pub mod Tables
 pub mod Ssa
+pub mod Limits
 pub mod Sound
 pub mod SoundLaws
