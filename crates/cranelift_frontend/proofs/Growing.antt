@@ -26,29 +26,29 @@ use Rattle.cranelift_frontend.specs.Builder.{Appends, AppendsIn, AppendsValue, H
 use Rattle.cranelift_frontend.specs.Growth.{Grows, RecordsExist}
 
 pub Grows-same : (f g : Body) → g ≡ f → Grows f g
-Grows-same f g same = subst (λ h. Grows f h) (sym same) (omega arith, omega arith, omega arith)
+Grows-same f g same = subst (λ h. Grows f h) (sym same) (omega arith, omega arith, omega arith, refl, refl)
 
 pub Grows-then : (f g h : Body) → Grows f g → Grows g h → Grows f h
-Grows-then f g h first next = (omega (arith, first.0, next.0), omega (arith, first.1, next.1), omega (arith, first.2, next.2))
+Grows-then f g h first next = (omega (arith, first.0, next.0), omega (arith, first.1, next.1), omega (arith, first.2, next.2), next.3 ∙ first.3, next.4 ∙ first.4)
 
 pub Grows-with_block : (f : Body) → Grows f (with_block f)
-Grows-with_block f = (omega arith, omega arith, grind (arith, common_steps))
+Grows-with_block f = (omega arith, omega arith, grind (arith, common_steps), refl, refl)
 
 pub Grows-inserted : (f : Body) (b : ℕ) → Grows f (inserted_in f b)
 Grows-inserted f b = by_test (stands_in b f.layout)
   where
     by_test : (c : Bool) → Grows f (if c then f else with_layout f b)
-    by_test true = (omega arith, omega arith, omega arith)
-    by_test false = (omega arith, omega arith, omega arith)
+    by_test true = (omega arith, omega arith, omega arith, refl, refl)
+    by_test false = (omega arith, omega arith, omega arith, refl, refl)
 
 pub Grows-with_param : (f : Body) (b : ℕ) (ty : «Type») → Grows f (with_param f b ty)
-Grows-with_param f b ty = (grind (arith, common_steps), omega arith, grind (arith, common_steps))
+Grows-with_param f b ty = (grind (arith, common_steps), omega arith, grind (arith, common_steps), refl, refl)
 
 pub Grows-with_inst : (f : Body) (b : ℕ) (end : BlockEnd) (shape : InstructionData) (types : List «Type») (loc : ℕ) → Grows f (with_inst f b end shape types loc)
-Grows-with_inst f b end shape types loc = (grind (arith, common_steps), grind (arith, common_steps), grind (arith, common_steps))
+Grows-with_inst f b end shape types loc = (grind (arith, common_steps), grind (arith, common_steps), grind (arith, common_steps), refl, refl)
 
 pub Grows-with_alias : (f : Body) (v original : ℕ) → Grows f (with_alias f v original)
-Grows-with_alias f v original = (grind (arith, common_steps), omega arith, grind (arith, common_steps))
+Grows-with_alias f v original = (grind (arith, common_steps), omega arith, grind (arith, common_steps), refl, refl)
 
 pub Grows-with_zero : (f : Body) (b : ℕ) (ty : «Type») → Grows f (with_zero f b ty)
 Grows-with_zero f b ty = Grows-then f (inserted_in f b) (with_zero f b ty) (Grows-inserted f b) (Grows-with_inst (inserted_in f b) b Front (UnaryImm (pos 0)) (ty ∷ []) no_srcloc)
