@@ -1,10 +1,8 @@
 -- What each call takes of the tables, and how long a script that fills one is.
-use Rattle.std.proofs.Common.{◌≡◌, ℕ, ◌+◌, ◌*◌, ◌-◌, ◌^◌, ◌<◌, ◌≤◌, List, [], ◌∷◌, ◌++◌, length, refl, ap, arith, sym, ◌∙◌, subst, ◌⊎◌, inl, inr, get_or}
-use Rattle.std.specs.Prelude.{pos, slice_get, Option, Some, None, IfSome, IfOk, Bool, true, false, if◌then◌else◌, Result, Ok, Err}
+use Rattle.std.proofs.Common.{◌≡◌, ℕ, ◌+◌, ◌*◌, ◌-◌, ◌^◌, ◌<◌, ◌≤◌, List, [], ◌∷◌, length, refl, ap, arith, sym, ◌∙◌, subst, ◌⊎◌, inl, inr, get_or}
+use Rattle.std.specs.Prelude.{pos, Option, Some, None, IfSome, Bool, true, false, if◌then◌else◌}
 use Rattle.std.proofs.lemmas.Grind.{common_steps}
 use Rattle.std.proofs.lemmas.Option.{slice_get-get_or}
-use Rattle.clif_types.specs.declared.error.BuildError.{BuildError}
-use Rattle.clif_types.specs.declared.error.BuildError.TheVariants as build
 use Rattle.clif_types.specs.declared.types.«Type».{«Type»}
 use Rattle.clif_types.specs.declared.types.«Type».TheVariants as type
 use Rattle.clif_ir.specs.declared.inst_list.BlockEnd.{BlockEnd}
@@ -18,10 +16,10 @@ use Rattle.clif_ir.specs.Reading.{param_home, stands_in}
 use Rattle.clif_ssa.specs.declared.tables.Pending.{Pending}
 use Rattle.clif_ssa.specs.Tables.{is_yes}
 use Rattle.clif_ssa.specs.Ssa.{no_srcloc, record_of, sealed_of, with_zero, zeroed, zeroed_in, completed}
-use Rattle.clif_ssa.specs.Limits.{IsFull, Takes, values_taken, insts_taken, param_count}
+use Rattle.clif_ssa.specs.Limits.{IsFull, Takes}
 use Rattle.clif_ssa.proofs.Taking.{Takes-same, Takes-then, Takes-inserted, Takes-with_inst, Takes-completed}
 use Rattle.cranelift_frontend.specs.declared.frontend.FunctionBuilder.{FunctionBuilder}
-use Rattle.cranelift_frontend.specs.Builder.{Appends, AppendsIn, HasCurrent, Uses, UsesIn, with_appended}
+use Rattle.cranelift_frontend.specs.Builder.{Appends, HasCurrent, Uses, UsesIn, with_appended}
 use Rattle.cranelift_frontend.specs.Context.{ContextState}
 use Rattle.cranelift_frontend.specs.Growth.{Grows}
 use Rattle.clif_script.specs.Limits.{IsOneCall, IsWithin, IsNearlyFull}
