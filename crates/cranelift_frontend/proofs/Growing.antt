@@ -285,17 +285,31 @@ current_appended r old new shape ty current position appends none =
     (fills_none_begun old.ctx.now new.ctx.now current.0 (λ b. appended.status b ∙ ap (λ s. if b == current.0 then s else status_of old.ctx.now b) (status_after_none shape (status_of old.ctx.now current.0) none))) current)
     (at_current old (λ block. IfOk r (Appends old new block shape ty)) current appends)
 
--- the result of an instruction that was appended
-appended_results : (f : Body) (c : ContextState) (g : Body) (d : ContextState) (block : ℕ) (shape : InstructionData) (ty : «Type») (inst : ℕ)
-    → AppendsIn f c g d block shape ty inst → result_types shape ty ≡ ty ∷ [] → (inst_at g inst).results ≡ length f.values ∷ []
-appended_results f c g d block shape ty inst appends types =
+-- the node of an instruction that was appended
+appended_node : (f : Body) (c : ContextState) (g : Body) (d : ContextState) (block : ℕ) (shape : InstructionData) (ty : «Type») (inst : ℕ)
+    → AppendsIn f c g d block shape ty inst → inst_at g inst ≡ inst_node (inserted_in f block) block shape (result_types shape ty) no_srcloc
+appended_node f c g d block shape ty inst appends =
     let at : Body = inserted_in f block in
     let node : InstNode = inst_node at block shape (result_types shape ty) no_srcloc in
     let made : inst_at g inst ≡ inst_at (with_appended f block shape ty) inst = ap (λ (h : Body). inst_at h inst) appends.function in
     let place : inst ≡ length at.insts = appends.number ∙ sym (insts-inserted f block) in
     let last : inst_at (with_appended f block shape ty) inst ≡ node = grind (arith, common_steps, place) in
-    let results : node.results ≡ length at.values ∷ [] = ap (λ (ts : List «Type»). range_with_len (length at.values) (length ts)) types in
-    ap (λ (n : InstNode). n.results) (made ∙ last) ∙ results ∙ ap (λ n. n ∷ []) (values-inserted f block)
+    made ∙ last
+
+-- its result
+appended_results : (f : Body) (c : ContextState) (g : Body) (d : ContextState) (block : ℕ) (shape : InstructionData) (ty : «Type») (inst : ℕ)
+    → AppendsIn f c g d block shape ty inst → result_types shape ty ≡ ty ∷ [] → (inst_at g inst).results ≡ length f.values ∷ []
+appended_results f c g d block shape ty inst appends types =
+    let at : Body = inserted_in f block in
+    let results : range_with_len (length at.values) (length (result_types shape ty)) ≡ length at.values ∷ [] = ap (λ (ts : List «Type»). range_with_len (length at.values) (length ts)) types in
+    ap (λ (n : InstNode). n.results) (appended_node f c g d block shape ty inst appends) ∙ results ∙ ap (λ n. n ∷ []) (values-inserted f block)
+
+-- where it has none
+pub appended_no_results : (f : Body) (c : ContextState) (g : Body) (d : ContextState) (block : ℕ) (shape : InstructionData) (ty : «Type») (inst : ℕ)
+    → AppendsIn f c g d block shape ty inst → result_types shape ty ≡ [] → (inst_at g inst).results ≡ []
+appended_no_results f c g d block shape ty inst appends types =
+    ap (λ (n : InstNode). n.results) (appended_node f c g d block shape ty inst appends)
+    ∙ ap (λ (ts : List «Type»). range_with_len (length (inserted_in f block).values) (length ts)) types
 
 pub current_results : (old new : FunctionBuilder) (shape : InstructionData) (ty : «Type») (inst : ℕ) → HasCurrent old
     → IfSome old.position (λ block. Appends old new block shape ty inst) → result_types shape ty ≡ ty ∷ [] → (inst_at new.func.now inst).results ≡ length old.func.now.values ∷ []

@@ -14,3 +14,4 @@ pub mod Standing
 pub mod StandingResults
 pub mod Finishing
 pub mod StandingBuilt
+pub mod Shaped
