@@ -41,6 +41,14 @@ has_result (Jump destination) = false
 has_result (Brif arg blocks) = false
 has_result (MultiAry args) = false
 
+-- whether the instruction has edges
+abbrev pub is_branch : InstructionData → Bool
+is_branch (UnaryImm imm) = false
+is_branch (Binary opcode args) = false
+is_branch (Jump destination) = true
+is_branch (Brif arg blocks) = true
+is_branch (MultiAry args) = false
+
 -- whether the instruction ends its block
 abbrev pub is_terminator : InstructionData → Bool
 is_terminator (UnaryImm imm) = false

@@ -1,6 +1,6 @@
 //! Instructions: their shapes, operands and results.
 ghost use Rattle.std.specs.Prelude.{◌≡◌, Some, OnOk, OnErr};
-ghost use Rattle.clif_ir.specs.Instruction.{operands, destinations, with_argument, has_result, is_terminator, opcode_text};
+ghost use Rattle.clif_ir.specs.Instruction.{operands, destinations, with_argument, has_result, is_branch, is_terminator, opcode_text};
 
 use crate::block_call::{BlockCall, append_to_edge, append_to_edges};
 use crate::value_list::ValueList;
@@ -105,6 +105,18 @@ impl InstructionData {
         ensures { result ≡ has_result self.now }
     {
         !self.is_terminator()
+    }
+
+    /// Whether the instruction has edges.
+    pub fn is_branch(&self) -> bool
+        ensures { result ≡ is_branch self.now }
+    {
+        match self {
+            InstructionData::Jump { .. } | InstructionData::Brif { .. } => true,
+            InstructionData::UnaryImm { .. }
+            | InstructionData::Binary { .. }
+            | InstructionData::MultiAry { .. } => false,
+        }
     }
 
     /// Whether the instruction ends its block.

@@ -27,7 +27,7 @@ use Rattle.clif_simulation.proofs.Listed.{place_within}
 use Rattle.clif_simulation.proofs.Entry
 use Rattle.clif_simulation.proofs.Placing
 use Rattle.clif_simulation.proofs.Placing.{map_length, so_many, not_start}
-use Rattle.clif_simulation.proofs.Structured.{no_targets, in_entry, given_on_path, no_entry}
+use Rattle.clif_simulation.proofs.Structured.{no_branches, no_targets, in_entry, given_on_path, no_entry}
 
 same_Some : {X : Type 0} {a b : X} → Some a ≡ Some b → a ≡ b
 same_Some h = cc
@@ -111,7 +111,7 @@ module _ (calls : List AnsweredCall) (f : Body) (s : SsaState) (consistent : IsC
             (subst (λ (o : Option Placed). Contains (placed_gives o) (resolved f v)) (sym found.stands) found.gives)
 
         by : (found.m < p.index) ⊎ (found.m ≡ p.index) → IsGivenAlong (function_code (view_of f)) (resolved f v) (p ∷ path)
-        by (inl before) = inr (inr (given_along (function_code (view_of f)) (no_targets f) path p found.m (resolved f v) walk before gives))
+        by (inl before) = inr (inr (given_along (function_code (view_of f)) (no_targets f (no_branches calls f s carries)) path p found.m (resolved f v) walk before gives))
         by (inr at) = inl (subst (λ (k : ℕ). Contains (placed_gives (slice_get (items_of f p.block) k)) (resolved f v)) at gives)
 
     -- the answer of a use in the entry
@@ -129,7 +129,7 @@ module _ (calls : List AnsweredCall) (f : Body) (s : SsaState) (consistent : IsC
     given_at_use : (p : Place ℕ) (value : ℕ) → IsAnswerAt calls f p value → (path : List (Place ℕ)) → IsPath (function_flow (view_of f)) (p ∷ path)
         → IsGivenAlong (function_code (view_of f)) (resolved f value) path
     given_at_use p value used path walk =
-        let here : p.block ≡ e = same_Some (sym (in_entry f path p walk) ∙ Entry.found calls f s carries entry is_entry) in
+        let here : p.block ≡ e = same_Some (sym (in_entry f (no_branches calls f s carries) path p walk) ∙ Entry.found calls f s carries entry is_entry) in
         let name_is : used.block ≡ entry = same_Some (sym used.block_is ∙ ap (block_name calls) here ∙ Entry.named calls f s carries entry is_entry) in
         let stands : slice_get items used.index ≡ Some (Use used.variable used.name) = ap (λ (N : Name). item_at calls N used.index) (sym name_is) ∙ used.item in
         let place : length (block_at f e).insts ≡ p.index + length (flat_map (carried calls) (drop used.index items)) =
@@ -154,13 +154,13 @@ module _ (calls : List AnsweredCall) (f : Body) (s : SsaState) (consistent : IsC
     where
       end_by : (x block value : ℕ) → record_of s x block ≡ Some value → (p : Place ℕ) (path : List (Place ℕ)) → p.block ≡ block → p.index + 1 ≡ length (items_of f block)
           → IsPath (function_flow (view_of f)) (p ∷ path) → (o : Option Name) → (program_so_far calls).entry ≡ o → IsGivenAlong (function_code (view_of f)) (resolved f value) (p ∷ path)
-      end_by x block value is p path same last walk None none = absurd (no_entry p.block (sym (carries.entry.none none) ∙ in_entry f path p walk))
+      end_by x block value is p path same last walk None none = absurd (no_entry p.block (sym (carries.entry.none none) ∙ in_entry f (no_branches calls f s carries) path p walk))
       end_by x block value is p path same last walk (Some entry) is_entry =
-          let here : p.block ≡ Placing.e calls f s consistent carries finished entry is_entry = same_Some (sym (in_entry f path p walk) ∙ Entry.found calls f s carries entry is_entry) in
+          let here : p.block ≡ Placing.e calls f s consistent carries finished entry is_entry = same_Some (sym (in_entry f (no_branches calls f s carries) path p walk) ∙ Entry.found calls f s carries entry is_entry) in
           given_at_end entry is_entry x value (ap (record_of s x) (sym here ∙ same) ∙ is) p path here
           (last ∙ ap (λ (b : ℕ). length (items_of f b)) (sym same ∙ here)) walk
 
       use_by : (p : Place ℕ) (value : ℕ) → IsAnswerAt calls f p value → (path : List (Place ℕ)) → IsPath (function_flow (view_of f)) (p ∷ path)
           → (o : Option Name) → (program_so_far calls).entry ≡ o → IsGivenAlong (function_code (view_of f)) (resolved f value) path
-      use_by p value used path walk None none = absurd (no_entry p.block (sym (carries.entry.none none) ∙ in_entry f path p walk))
+      use_by p value used path walk None none = absurd (no_entry p.block (sym (carries.entry.none none) ∙ in_entry f (no_branches calls f s carries) path p walk))
       use_by p value used path walk (Some entry) is_entry = given_at_use entry is_entry p value used path walk

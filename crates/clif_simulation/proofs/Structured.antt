@@ -4,13 +4,10 @@ use Rattle.std.specs.List.{AllByRecursion, list_any}
 use Rattle.clif_ir.specs.Body.{Body, inst_at, block_at, resolved}
 use Rattle.clif_ir.specs.Consistent.{IsConsistent, Stands}
 use Rattle.clif_ir.specs.Instruction.{operands}
-use Rattle.clif_ir.specs.declared.instructions.BinaryOpcode.TheVariants as binary
-use Rattle.clif_ir.specs.declared.instructions.InstructionData.{InstructionData}
-use Rattle.clif_ir.specs.declared.instructions.InstructionData.TheVariants.{UnaryImm, Binary, MultiAry}
 use Rattle.clif_paths.specs.Places as paths
 use Rattle.clif_paths.specs.Places.{start, inside, Visits, StrictlyBefore}
 use Rattle.clif_paths.specs.State.{home_of}
-use Rattle.clif_paths.specs.Blocks.{state_of}
+use Rattle.clif_paths.specs.Blocks.{Blocks, state_of}
 use Rattle.clif_paths.specs.Laws.{IsCorrect}
 use Rattle.clif_ssa.specs.Tables.{pending_of}
 use Rattle.clif_ssa.specs.Ssa.{SsaState, sealed_of}
@@ -19,7 +16,8 @@ use Rattle.clif_ssa.proofs.Losing.{stands_home}
 use Rattle.clif_meaning.specs.Name.{Name}
 use Rattle.clif_meaning.specs.Request.{AnsweredCall, script_of}
 use Rattle.clif_meaning.specs.Instruction.{Edge}
-use Rattle.clif_meaning.specs.Program.{Item, Instruct}
+use Rattle.clif_meaning.specs.Event.{CallShape}
+use Rattle.clif_meaning.specs.Program.{Item, Instruct, Use, Assign}
 use Rattle.clif_meaning.specs.FunctionView.{Placed}
 use Rattle.clif_meaning.specs.View.{placed_of, items_of, edges_of, operation_of, view_of}
 use Rattle.clif_meaning.specs.Typing.{EdgesMatch, EachEdgeMatches, call_shape, value_types_at}
@@ -27,81 +25,126 @@ use Rattle.clif_meaning.specs.Path.{Place, IsPath, Leads}
 use Rattle.clif_meaning.specs.WellPlaced.{function_code, function_flow, program_code, placed_gives, placed_names, placed_passes, placed_targets, known_argument, IsGivenAlong, IsWellPlaced, WellPlaced}
 use Rattle.clif_meaning.proofs.StraightLine.{given_along, nothing_contained, none_of}
 use Rattle.clif_simulation.specs.Tables.{code, answered, program_so_far, block_name}
-use Rattle.clif_simulation.specs.Carries.{Carries, carried}
+use Rattle.clif_simulation.specs.Carries.{Carries, answered_edge, carried, NamesEarlier}
 use Rattle.clif_simulation.specs.Laws.{IsFinished}
 use Rattle.clif_simulation.specs.Structure.{callers_parameters, HasCallersParameters}
 use Rattle.clif_simulation.proofs.Straight.{arms, straight, straight_end, straight_follows, strictly_before}
 use Rattle.clif_simulation.proofs.Listed.{no_parameters, place_within}
+use Rattle.clif_simulation.proofs.Carrying.{all_append, all_mapped}
 use Rattle.clif_simulation.proofs.Entry
 use Rattle.clif_simulation.proofs.Placing
 use Rattle.clif_simulation.proofs.Placing.{in_two, map_from, map_length, contained_at, contained, all_at, so_many, OfItem, of_item, not_start}
 
 -- NO BRANCHES -----------------------------------------------------------------------------------------------------
 
-no_edges : (shape : InstructionData) → edges_of shape ≡ []
-no_edges (UnaryImm imm) = refl
-no_edges (Binary opcode args) = refl
-no_edges (MultiAry args) = refl
+-- the instruction has no edges
+abbrev IsPlain : Body → ℕ → Type 0
+IsPlain f i = edges_of (inst_at f i).shape ≡ []
+
+abbrev pub HasNoBranches : Body → Type 0
+HasNoBranches f = (b : ℕ) → AllByRecursion (IsPlain f) (block_at f b).insts
+
+zero_plain : (f : Body) (blocks : Blocks) (b i : ℕ) → IsZero f blocks b i → IsPlain f i
+zero_plain f blocks b i is_zero = ap edges_of is_zero.shape
+
+-- an item's instruction, and so those of a list of items, have no edges
+carried_plain : (calls : List AnsweredCall) (item : Item) → NamesEarlier calls item → AllByRecursion (λ (placed : Placed). placed.instruction.edges ≡ []) (carried calls item)
+carried_plain calls (Instruct place instruction results) earlier = (ap (map (answered_edge calls)) earlier.2, tt)
+carried_plain calls (Use variable name) earlier = tt
+carried_plain calls (Assign variable name) earlier = tt
+
+all_plain : (calls : List AnsweredCall) (items : List Item) → AllByRecursion (NamesEarlier calls) items
+    → AllByRecursion (λ (placed : Placed). placed.instruction.edges ≡ []) (flat_map (carried calls) items)
+all_plain calls [] earlier = tt
+all_plain calls (item ∷ items) earlier =
+    all_append (λ (placed : Placed). placed.instruction.edges ≡ []) (carried calls item) (flat_map (carried calls) items)
+    (carried_plain calls item earlier.0) (all_plain calls items earlier.1)
+
+of_placed : (f : Body) (insts : List ℕ) → AllByRecursion (λ (placed : Placed). placed.instruction.edges ≡ []) (map (λ i. placed_of f (inst_at f i)) insts)
+    → AllByRecursion (IsPlain f) insts
+of_placed f [] all = tt
+of_placed f (i ∷ insts) all = (all.0, of_placed f insts all.1)
+
+-- what carries a list of calls has no branch so far
+pub no_branches : (calls : List AnsweredCall) (f : Body) (s : SsaState) → Carries calls f s → HasNoBranches f
+no_branches calls f s carries b =
+    let here = carries.describes.instructions b in
+    subst (AllByRecursion (IsPlain f)) (sym here.in_order)
+    (all_append (IsPlain f) here.zeros (carries.own b)
+    (all_mapped (IsZero f carries.tables b) (IsPlain f) (zero_plain f carries.tables b) here.zeros here.are_zeros) (own_plain (block_name calls b) refl))
+  where
+    own_plain : (o : Option Name) → block_name calls b ≡ o → AllByRecursion (IsPlain f) (carries.own b)
+    own_plain None none = subst (AllByRecursion (IsPlain f)) (sym (carries.own_named b none)) tt
+    own_plain (Some name) named =
+        of_placed f (carries.own b)
+        (subst (AllByRecursion (λ (placed : Placed). placed.instruction.edges ≡ [])) (sym (carries.items b name named))
+        (all_plain calls ((program_so_far calls).items name) (carries.earlier name)))
 
 abbrev placed_at_inst : Body → ℕ → Placed
 placed_at_inst f i = placed_of f (inst_at f i)
 
-no_targets_at : (f : Body) (insts : List ℕ) (k : ℕ) → placed_targets (slice_get (map (placed_at_inst f) insts) k) ≡ []
-no_targets_at f [] zero = refl
-no_targets_at f [] (suc k) = refl
-no_targets_at f (i ∷ insts) zero = ap (λ (edges : List (Edge ℕ ℕ)). map (λ (edge : Edge ℕ ℕ). edge.target) edges) (no_edges (inst_at f i).shape)
-no_targets_at f (i ∷ insts) (suc k) = no_targets_at f insts k
+no_targets_at : (f : Body) (insts : List ℕ) (k : ℕ) → AllByRecursion (IsPlain f) insts → placed_targets (slice_get (map (placed_at_inst f) insts) k) ≡ []
+no_targets_at f [] zero plain = refl
+no_targets_at f [] (suc k) plain = refl
+no_targets_at f (i ∷ insts) zero plain = ap (λ (edges : List (Edge ℕ ℕ)). map (λ (edge : Edge ℕ ℕ). edge.target) edges) plain.0
+no_targets_at f (i ∷ insts) (suc k) plain = no_targets_at f insts k plain.1
 
-nothing_passed_at : (f : Body) (insts : List ℕ) (k : ℕ) → placed_passes (resolved f) (slice_get (map (placed_at_inst f) insts) k) ≡ []
-nothing_passed_at f [] zero = refl
-nothing_passed_at f [] (suc k) = refl
-nothing_passed_at f (i ∷ insts) zero =
-    ap (λ (edges : List (Edge ℕ ℕ)). map (resolved f) (flat_map (λ (edge : Edge ℕ ℕ). flat_map known_argument edge.arguments) edges)) (no_edges (inst_at f i).shape)
-nothing_passed_at f (i ∷ insts) (suc k) = nothing_passed_at f insts k
+nothing_passed_at : (f : Body) (insts : List ℕ) (k : ℕ) → AllByRecursion (IsPlain f) insts → placed_passes (resolved f) (slice_get (map (placed_at_inst f) insts) k) ≡ []
+nothing_passed_at f [] zero plain = refl
+nothing_passed_at f [] (suc k) plain = refl
+nothing_passed_at f (i ∷ insts) zero plain =
+    ap (λ (edges : List (Edge ℕ ℕ)). map (resolved f) (flat_map (λ (edge : Edge ℕ ℕ). flat_map known_argument edge.arguments) edges)) plain.0
+nothing_passed_at f (i ∷ insts) (suc k) plain = nothing_passed_at f insts k plain.1
 
-pub no_targets : (f : Body) (p : Place ℕ) → (function_code (view_of f)).flow.targets p ≡ []
-no_targets f p = by (list_any (λ other. other == p.block) f.layout)
+pub no_targets : (f : Body) → HasNoBranches f → (p : Place ℕ) → (function_code (view_of f)).flow.targets p ≡ []
+no_targets f plain p = by (list_any (λ other. other == p.block) f.layout)
   where
     by : (t : Bool) → placed_targets (slice_get (if t then map (placed_at_inst f) (block_at f p.block).insts else []) p.index) ≡ []
-    by true = no_targets_at f (block_at f p.block).insts p.index
-    by false = no_targets_at f [] p.index
+    by true = no_targets_at f (block_at f p.block).insts p.index (plain p.block)
+    by false = no_targets_at f [] p.index tt
 
-nothing_passed : (f : Body) (p : Place ℕ) → (function_code (view_of f)).passes p ≡ []
-nothing_passed f p = by (list_any (λ other. other == p.block) f.layout)
+nothing_passed : (f : Body) → HasNoBranches f → (p : Place ℕ) → (function_code (view_of f)).passes p ≡ []
+nothing_passed f plain p = by (list_any (λ other. other == p.block) f.layout)
   where
     by : (t : Bool) → placed_passes (resolved f) (slice_get (if t then map (placed_at_inst f) (block_at f p.block).insts else []) p.index) ≡ []
-    by true = nothing_passed_at f (block_at f p.block).insts p.index
-    by false = nothing_passed_at f [] p.index
+    by true = nothing_passed_at f (block_at f p.block).insts p.index (plain p.block)
+    by false = nothing_passed_at f [] p.index tt
 
 -- a path stays in the entry
-pub in_entry : (f : Body) (path : List (Place ℕ)) (q : Place ℕ) → IsPath (function_flow (view_of f)) (q ∷ path) → entry_of f ≡ Some q.block
-in_entry f [] q walk = walk.0
-in_entry f (p ∷ path) q walk = by walk.0 (in_entry f path p walk.1)
+pub in_entry : (f : Body) → HasNoBranches f → (path : List (Place ℕ)) (q : Place ℕ) → IsPath (function_flow (view_of f)) (q ∷ path) → entry_of f ≡ Some q.block
+in_entry f plain [] q walk = walk.0
+in_entry f plain (p ∷ path) q walk = by walk.0 (in_entry f plain path p walk.1)
   where
     by : Leads (function_flow (view_of f)) p q → entry_of f ≡ Some p.block → entry_of f ≡ Some q.block
     by (inl next) before = before ∙ ap (λ (b : ℕ). Some b) (sym next.0)
-    by (inr enters) before = absurd (none_of ((function_flow (view_of f)).targets p) q.block (no_targets f p) enters.0)
+    by (inr enters) before = absurd (none_of ((function_flow (view_of f)).targets p) q.block (no_targets f plain p) enters.0)
 
 -- EDGES -----------------------------------------------------------------------------------------------------------
 
-edges_match_at : (f : Body) (insts : List ℕ)
-    → AllByRecursion (λ (placed : Placed). EachEdgeMatches (view_of f).value_type (value_types_at (view_of f)) (call_shape placed.instruction.operation) placed.instruction.edges)
-    (map (placed_at_inst f) insts)
-edges_match_at f [] = tt
-edges_match_at f (i ∷ insts) = (by (inst_at f i).shape, edges_match_at f insts)
-  where
-    by : (shape : InstructionData) → EachEdgeMatches (view_of f).value_type (value_types_at (view_of f)) (call_shape (operation_of shape)) (edges_of shape)
-    by (UnaryImm imm) = tt
-    by (Binary binary.Iadd args) = tt
-    by (MultiAry args) = tt
+abbrev EdgesMatchAt : Body → List Placed → Type 0
+EdgesMatchAt f =
+    AllByRecursion (λ (placed : Placed). EachEdgeMatches (view_of f).value_type (value_types_at (view_of f)) (call_shape placed.instruction.operation) placed.instruction.edges)
+
+-- no edge matches whatever the call at its start gives
+none_match : (f : Body) (call : Option CallShape) → EachEdgeMatches (view_of f).value_type (value_types_at (view_of f)) call []
+none_match f None = tt
+none_match f (Some call) = tt
+
+edges_match_at : (f : Body) (insts : List ℕ) → AllByRecursion (IsPlain f) insts → EdgesMatchAt f (map (placed_at_inst f) insts)
+edges_match_at f [] plain = tt
+edges_match_at f (i ∷ insts) plain =
+    (
+      subst (EachEdgeMatches (view_of f).value_type (value_types_at (view_of f)) (call_shape (operation_of (inst_at f i).shape))) (sym plain.0)
+          (none_match f (call_shape (operation_of (inst_at f i).shape))),
+      edges_match_at f insts plain.1,
+    )
 
 -- no edge exists so far
-pub edges_match : (f : Body) → EdgesMatch (view_of f)
-edges_match f block = by (list_any (λ other. other == block) f.layout)
+pub edges_match : (calls : List AnsweredCall) (f : Body) (s : SsaState) → Carries calls f s → EdgesMatch (view_of f)
+edges_match calls f s carries block = by (list_any (λ other. other == block) f.layout)
   where
-    by : (t : Bool) → AllByRecursion (λ (placed : Placed). EachEdgeMatches (view_of f).value_type (value_types_at (view_of f)) (call_shape placed.instruction.operation) placed.instruction.edges)
-        (if t then map (placed_at_inst f) (block_at f block).insts else [])
-    by true = edges_match_at f (block_at f block).insts
+    by : (t : Bool) → EdgesMatchAt f (if t then map (placed_at_inst f) (block_at f block).insts else [])
+    by true = edges_match_at f (block_at f block).insts (no_branches calls f s carries block)
     by false = tt
 
 -- PARAMETERS ------------------------------------------------------------------------------------------------------
@@ -142,8 +185,8 @@ module _ (calls : List AnsweredCall) (f : Body) (s : SsaState) (consistent : IsC
     pub given_on_path : (r bound : ℕ) (path : List (Place ℕ)) (q : Place ℕ) → Placing.IsDefined calls f s consistent carries finished entry is_entry r bound
         → IsPath (function_flow (view_of f)) (q ∷ path) → zero_count + bound ≤ q.index → IsGivenAlong (function_code (view_of f)) r path
     given_on_path r bound path q is walk behind =
-        let here : e ≡ q.block = same_block e q.block (sym (Entry.found calls f s carries entry is_entry) ∙ in_entry f path q walk) in
-        given_along (function_code (view_of f)) (no_targets f) path q is.m r walk (omega (arith, is.below, behind))
+        let here : e ≡ q.block = same_block e q.block (sym (Entry.found calls f s carries entry is_entry) ∙ in_entry f (no_branches calls f s carries) path q walk) in
+        given_along (function_code (view_of f)) (no_targets f (no_branches calls f s carries)) path q is.m r walk (omega (arith, is.below, behind))
         (subst (λ (b : ℕ). Contains (placed_gives (slice_get (items_of f b) is.m)) r) here
         (subst (λ (o : Option Placed). Contains (placed_gives o) r) (sym is.stands) is.gives))
       where
@@ -222,7 +265,7 @@ module _ (calls : List AnsweredCall) (f : Body) (s : SsaState) (consistent : IsC
         → (path : List (Place ℕ)) → IsPath (function_flow (view_of f)) (q ∷ path) → IsGivenAlong (function_code (view_of f)) x path
     operand_before placed q x None stands names path walk = absurd (nothing_contained x names)
     operand_before placed q x (Some p) stands names path walk =
-        let here : q.block ≡ e = same_block q.block e (sym (in_entry f path q walk) ∙ Entry.found calls f s carries entry is_entry) in
+        let here : q.block ≡ e = same_block q.block e (sym (in_entry f (no_branches calls f s carries) path q walk) ∙ Entry.found calls f s carries entry is_entry) in
         let given : OperandGiven q.index x = operand_given placed q.index p (ap (λ (b : ℕ). slice_get (items_of f b) q.index) (sym here) ∙ stands) x names in
         given_on_path x given.bound path q given.is walk given.behind
       where
@@ -232,11 +275,11 @@ module _ (calls : List AnsweredCall) (f : Body) (s : SsaState) (consistent : IsC
   pub well_placed : IsWellPlaced (program_code (program_so_far calls)) → WellPlaced (view_of f)
   well_placed placed = record {
     named = λ q x names path walk. inr (named q x names path walk (program_so_far calls).entry refl);
-    passed = λ q x passes. absurd (none_of ((function_code (view_of f)).passes q) x (nothing_passed f q) passes);
+    passed = λ q x passes. absurd (none_of ((function_code (view_of f)).passes q) x (nothing_passed f (no_branches calls f s carries) q) passes);
   }
     where
       named : (q : Place ℕ) (x : ℕ) → Contains (placed_names (resolved f) (slice_get (items_of f q.block) q.index)) x
           → (path : List (Place ℕ)) → IsPath (function_flow (view_of f)) (q ∷ path) → (o : Option Name) → (program_so_far calls).entry ≡ o → IsGivenAlong (function_code (view_of f)) x path
-      named q x names path walk None none = absurd (no_entry q.block (sym (carries.entry.none none) ∙ in_entry f path q walk))
+      named q x names path walk None none = absurd (no_entry q.block (sym (carries.entry.none none) ∙ in_entry f (no_branches calls f s carries) path q walk))
       named q x names path walk (Some entry) is_entry =
           operand_before entry is_entry placed q x (slice_get (items_of f q.block) q.index) refl names path walk

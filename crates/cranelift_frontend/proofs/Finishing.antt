@@ -149,7 +149,7 @@ finished_parameters declared calls b stands consistent =
 
 pub finished_edges : (declared : SignatureShape) (calls : List AnsweredCall) (b : FunctionBuilder) → StandsFor declared calls b
     → OnOk (verdict_of b.failed b.ctx.now (length b.func.now.blocks)) (EdgesMatch (view_of b.func.now))
-finished_edges declared calls b stands = on_finished declared calls b stands (EdgesMatch (view_of b.func.now)) (λ finished. edges_match b.func.now)
+finished_edges declared calls b stands = on_finished declared calls b stands (EdgesMatch (view_of b.func.now)) (λ finished. edges_match calls b.func.now b.ctx.now.ssa stands.carries)
 
 pub finished_placed : (declared : SignatureShape) (calls : List AnsweredCall) (b : FunctionBuilder) → StandsFor declared calls b → IsConsistent b.func.now
     → PlacementPremises (script_of calls) declared → OnOk (verdict_of b.failed b.ctx.now (length b.func.now.blocks)) (WellPlaced (view_of b.func.now))

@@ -1,24 +1,24 @@
 -- An instruction of any shape is built: the agreement with the ledger is kept, and the builder stands for the list with
 -- this call at its end.
-use Rattle.std.proofs.Common.{◌≡◌, ◌≢◌, ℕ, List, [], ◌∷◌, ◌++◌, length, refl, sym, ◌∙◌, ap, subst}
+use Rattle.std.proofs.Common.{◌≡◌, ◌≢◌, ℕ, List, [], ◌∷◌, ◌++◌, length, map, refl, sym, ◌∙◌, ap, subst}
 use Rattle.std.specs.Prelude.{slice_get, Bool, true, false, if◌then◌else◌, Option, Some, IfSome, IfOk, Result, Ok, Err}
 use Rattle.clif_types.specs.declared.types.«Type».{«Type»}
 use Rattle.clif_types.specs.declared.types.«Type».TheVariants as type
 use Rattle.clif_types.specs.Signature.{SignatureShape}
 use Rattle.clif_ir.specs.declared.instructions.BinaryOpcode.TheVariants as binary
 use Rattle.clif_ir.specs.declared.instructions.InstructionData.{InstructionData}
-use Rattle.clif_ir.specs.declared.instructions.InstructionData.TheVariants.{UnaryImm, Binary, MultiAry}
+use Rattle.clif_ir.specs.declared.instructions.InstructionData.TheVariants.{UnaryImm, Binary, Jump, Brif, MultiAry}
 use Rattle.clif_ir.specs.Body.{Body, inst_at}
 use Rattle.clif_ir.specs.Changes.{inserted_in, with_inst}
 use Rattle.clif_ir.specs.declared.inst_list.BlockEnd.TheVariants.{Back}
 use Rattle.clif_ir.specs.Consistent.{IsConsistent}
-use Rattle.clif_ir.specs.Instruction.{is_terminator, operands, result_types}
+use Rattle.clif_ir.specs.Instruction.{destinations, is_branch, is_terminator, operands, result_types}
 use Rattle.clif_ssa.specs.Ssa.{no_srcloc}
 use Rattle.clif_meaning.specs.Name.{Name}
-use Rattle.clif_meaning.specs.Instruction.{Arithmetic, Edge, Instruction, Operation, Iconst, Iadd, Compute, Return}
+use Rattle.clif_meaning.specs.Instruction.{Arithmetic, Edge, Instruction, Operation, Iconst, Iadd, Isub, Compute, Return}
 use Rattle.clif_meaning.specs.Program as program
 use Rattle.clif_meaning.specs.Request.{AnsweredCall, Build}
-use Rattle.clif_meaning.specs.View.{controlling_of, first_type, operation_of}
+use Rattle.clif_meaning.specs.View.{controlling_of, edge_of, first_type, operation_of}
 use Rattle.clif_simulation.proofs.Building.{SameInstruction, carries_terminator, carries_result}
 use Rattle.cranelift_frontend.specs.declared.context.BlockStatus.TheVariants.{Empty, Filled}
 use Rattle.cranelift_frontend.specs.declared.frontend.FunctionBuilder.{FunctionBuilder}
@@ -31,6 +31,17 @@ use Rattle.cranelift_frontend.proofs.LedgerBuilt.{agrees-computed, agrees-return
 use Rattle.cranelift_frontend.proofs.Growing.{appended_no_results, current_results}
 use Rattle.cranelift_frontend.proofs.Standing.{current_name, begun_not_empty}
 use Rattle.cranelift_frontend.proofs.StandingBuilt.{all_named, stands_built}
+
+no_branch_is_none : true ≡ false → ⊥
+no_branch_is_none same = cc
+
+-- an instruction that is no branch has no edges
+pub plain_destinations : (shape : InstructionData) → is_branch shape ≡ false → destinations shape ≡ []
+plain_destinations (UnaryImm imm) plain = refl
+plain_destinations (Binary opcode args) plain = refl
+plain_destinations (Jump destination) plain = absurd (no_branch_is_none plain)
+plain_destinations (Brif arg blocks) plain = absurd (no_branch_is_none plain)
+plain_destinations (MultiAry args) plain = refl
 
 -- the call that builds an instruction
 abbrev built : Instruction Name Name → List ℕ → AnsweredCall
@@ -71,7 +82,7 @@ module _ (calls : List AnsweredCall) (old new : FunctionBuilder) (instruction : 
   matches : SameInstruction calls shape instruction
   matches =
       let all = all_named calls instruction.operands (operands shape) has.operands_numbered in
-      record { operation = sym has.operation; arguments = all.0; edges = has.edges; earlier = all.1 }
+      record { operation = sym has.operation; arguments = all.0; no_edges = ap (map edge_of) (plain_destinations shape has.no_branch); edges = has.edges; earlier = all.1 }
 
   -- an instruction that computes a value
   module _ (arithmetic : Arithmetic) (computes : operation_of shape ≡ Compute arithmetic) (one : result_types shape ty ≡ ty ∷ []) (goes_on : is_terminator shape ≡ false)
@@ -112,6 +123,7 @@ module _ (calls : List AnsweredCall) (old new : FunctionBuilder) (instruction : 
         types_of : (a : Arithmetic) (t : «Type») → program.result_types (Compute a) t ≡ t ∷ []
         types_of (Iconst number) t = refl
         types_of Iadd t = refl
+        types_of Isub t = refl
 
   -- a return
   module _ (returns : operation_of shape ≡ Return) (none : result_types shape ty ≡ []) (ends : is_terminator shape ≡ true)
@@ -159,6 +171,10 @@ shaped_ledger calls old new instruction (UnaryImm imm) ty inst agrees has curren
     ledger_computed calls old new instruction (UnaryImm imm) ty inst has current appends ssa variables position (Iconst imm) refl refl refl refl (λ h values. refl) agrees
 shaped_ledger calls old new instruction (Binary binary.Iadd args) ty inst agrees has current appends ssa variables position =
     ledger_computed calls old new instruction (Binary binary.Iadd args) ty inst has current appends ssa variables position Iadd refl refl refl refl (λ h values. refl) agrees
+shaped_ledger calls old new instruction (Binary binary.Isub args) ty inst agrees has current appends ssa variables position =
+    ledger_computed calls old new instruction (Binary binary.Isub args) ty inst has current appends ssa variables position Isub refl refl refl refl (λ h values. refl) agrees
+shaped_ledger calls old new instruction (Jump destination) ty inst agrees has current appends ssa variables position = absurd (no_branch_is_none has.no_branch)
+shaped_ledger calls old new instruction (Brif arg blocks) ty inst agrees has current appends ssa variables position = absurd (no_branch_is_none has.no_branch)
 shaped_ledger calls old new instruction (MultiAry args) ty inst agrees has current appends ssa variables position =
     ledger_returned calls old new instruction (MultiAry args) ty inst has current appends ssa variables position refl refl refl refl (λ h. refl) agrees
 
@@ -170,6 +186,10 @@ shaped_stands declared calls old new instruction (UnaryImm imm) ty inst stands c
     stands_computed calls old new instruction (UnaryImm imm) ty inst has current appends ssa variables position (Iconst imm) refl refl refl refl (λ h values. refl) declared stands consistent
 shaped_stands declared calls old new instruction (Binary binary.Iadd args) ty inst stands consistent has current appends ssa variables position =
     stands_computed calls old new instruction (Binary binary.Iadd args) ty inst has current appends ssa variables position Iadd refl refl refl refl (λ h values. refl) declared stands consistent
+shaped_stands declared calls old new instruction (Binary binary.Isub args) ty inst stands consistent has current appends ssa variables position =
+    stands_computed calls old new instruction (Binary binary.Isub args) ty inst has current appends ssa variables position Isub refl refl refl refl (λ h values. refl) declared stands consistent
+shaped_stands declared calls old new instruction (Jump destination) ty inst stands consistent has current appends ssa variables position = absurd (no_branch_is_none has.no_branch)
+shaped_stands declared calls old new instruction (Brif arg blocks) ty inst stands consistent has current appends ssa variables position = absurd (no_branch_is_none has.no_branch)
 shaped_stands declared calls old new instruction (MultiAry args) ty inst stands consistent has current appends ssa variables position =
     stands_returned calls old new instruction (MultiAry args) ty inst has current appends ssa variables position refl refl refl refl (λ h. refl) declared stands consistent
 

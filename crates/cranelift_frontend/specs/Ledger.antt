@@ -4,7 +4,7 @@ use Rattle.std.specs.Prelude.{◌≡◌, ◌≢◌, ℕ, ◌≤◌, List, [], �
 use Rattle.clif_types.specs.declared.types.«Type».{«Type»}
 use Rattle.clif_types.specs.declared.types.«Type».TheVariants.{Invalid}
 use Rattle.clif_ir.specs.declared.instructions.InstructionData.{InstructionData}
-use Rattle.clif_ir.specs.Instruction.{has_result, operands}
+use Rattle.clif_ir.specs.Instruction.{is_branch, has_result, operands}
 use Rattle.clif_meaning.specs.Instruction.{Instruction}
 use Rattle.clif_meaning.specs.View.{operation_of}
 use Rattle.clif_ir.specs.declared.function.ValueNode.{ValueNode}
@@ -57,6 +57,7 @@ pub record HasShape (calls : List AnsweredCall) (instruction : Instruction Name 
   pub controlling : instruction.controlling ≡ made_at shape ty
   pub operands_numbered : map (number_of calls) instruction.operands ≡ map Some (operands shape)
   -- no instruction so far is a branch
+  pub no_branch : is_branch shape ≡ false
   pub edges : instruction.edges ≡ []
 
 -- a block of the ledger is the builder's block with number `k`, and is sealed, pristine and filled exactly where

@@ -2,7 +2,7 @@
 ghost use Rattle.std.specs.Prelude.{◌≡◌, ◌≢◌, ◌<◌, ◌-◌, ◌^◌, ◌⊎◌, ◌↔◌, ◌∷◌, [], ◌++◌, List, ℕ, IsTrue, OnOk, OnErr, IfOk, IfSome, is_err, Some, true, false, length, map, slice_index, EachIndex, if◌then◌else◌};
 ghost use Rattle.clif_types.specs.Types.{is_int};
 ghost use Rattle.clif_ir.specs.Body.{inst_at, value_at};
-ghost use Rattle.clif_ir.specs.Instruction.{operands, destinations, is_terminator, has_result, result_types};
+ghost use Rattle.clif_ir.specs.Instruction.{operands, destinations, is_branch, is_terminator, has_result, result_types};
 ghost use Rattle.cranelift_frontend.specs.Context.{SetsStatus, status_of, begun};
 ghost use Rattle.cranelift_frontend.specs.Growth.{Grows, RecordsExist, RemembersIn};
 ghost use Rattle.cranelift_frontend.specs.Builder.{SameLoans, HasCurrent, Appends, AppendsIn, AppendsValue};
@@ -34,7 +34,7 @@ pub trait InstBuilderBase<'f>: Sized {
     fn build(self, shape: InstructionData, ctrl_type: Type) -> Result<Inst, BuildError>
         requires current { can_build self }
         requires operands_exist { EachIndex (operands shape) (λ k. has_value self (slice_index (operands shape) k)) }
-        requires no_branch { destinations shape ≡ [] };
+        requires no_branch { is_branch shape ≡ false };
 }
 
 impl<'short, 'long> InstBuilderBase<'long> for &'short mut FunctionBuilder<'long> {
@@ -49,7 +49,7 @@ impl<'short, 'long> InstBuilderBase<'long> for &'short mut FunctionBuilder<'long
     fn build(self, shape: InstructionData, ctrl_type: Type) -> Result<Inst, BuildError>
         requires current { HasCurrent self.old }
         requires operands_exist { EachIndex (operands shape) (λ k. slice_index (operands shape) k < length self.old.func.now.values) }
-        requires no_branch { destinations shape ≡ [] }
+        requires no_branch { is_branch shape ≡ false }
         ensures loans { SameLoans self.old self.new }
         ensures appends { IfSome self.old.position (λ block. IfOk result (Appends self.old self.new block shape ctrl_type)) }
         ensures ssa { self.new.ctx.now.ssa ≡ self.old.ctx.now.ssa }
@@ -203,7 +203,7 @@ fn append_value(
 ) -> Result<Value, BuildError>
     requires current { HasCurrent builder.old }
     requires operands_exist { EachIndex (operands shape) (λ k. slice_index (operands shape) k < length builder.old.func.now.values) }
-    requires no_branch { destinations shape ≡ [] }
+    requires no_branch { is_branch shape ≡ false }
     requires result { result_types shape ty ≡ ty ∷ [] }
     requires goes_on { is_terminator shape ≡ false }
     ensures loans { SameLoans builder.old builder.new }

@@ -131,7 +131,7 @@ fn destinations(rt: HostRuntime) -> Result<(), Fail> {
     let alloc = rt.alloc();
     let destination = BlockCall::new(alloc, Block::from_u32(2), &[BlockArg::TryCallRet(1)])?;
     let jump = InstructionData::Jump { destination };
-    assert!(rt; jump.is_terminator() && !jump.has_result());
+    assert!(rt; jump.is_branch() && jump.is_terminator() && !jump.has_result());
     assert!(rt; jump.arguments().is_empty());
     assert_eq!(rt; jump.branch_destination().len(), 1);
     assert_eq!(rt; jump.branch_destination()[0].block, Block::from_u32(2));

@@ -2,4 +2,4 @@ use Rattle.clif_simulation.proofs.Structured.{edges_match}
 use Rattle.clif_simulation.proofs.structure.carrying_matches_edges.Goals as goal
 
 pub returns : goal.returns
-returns c = λ calls f s consistent carries finished typed. edges_match f
+returns c = λ calls f s consistent carries finished typed. edges_match calls f s carries
