@@ -1,6 +1,6 @@
 //! From the theory of variables on paths to the machines: what a list of calls makes of the tables of the theory, and
-//! the law that a function which carries a list of calls means what the list's program means. The definitions stand
-//! in `specs/`; the functions here have empty bodies, and their contracts are the laws.
+//! the laws that a function which carries a list of calls means what the list's program means, and is well placed. The
+//! definitions stand in `specs/`; the functions here have empty bodies, and their contracts are the laws.
 #![tactic(auto)]
 
 pub mod meaning;

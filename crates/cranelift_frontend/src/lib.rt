@@ -6,6 +6,7 @@ pub mod error;
 pub mod finalize;
 pub mod frontend;
 pub mod instructions;
+pub mod laws;
 #[cfg(test)]
 mod tests;
 
