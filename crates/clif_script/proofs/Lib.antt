@@ -1,3 +1,4 @@
+pub mod Limits
 pub mod ReadyLaws
 pub mod Conditions
 pub mod Verdicts

@@ -1,4 +1,5 @@
 pub mod Errors
+pub mod Limits
 pub mod Ready
 pub mod Requests
 pub mod Rows

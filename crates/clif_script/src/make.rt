@@ -9,6 +9,7 @@ ghost use Rattle.clif_ir.specs.Body.{value_at};
 ghost use Rattle.clif_meaning.specs.Name as meaning;
 ghost use Rattle.clif_meaning.specs.Request.{AnsweredCall, number_of, CreateBlock, SwitchToBlock, SealBlock, DeclareVar, DefVar, UseVar};
 ghost use Rattle.clif_meaning.specs.Acceptance.{allows, iconst, iadd, return_};
+ghost use Rattle.clif_script.specs.Limits.{IsOneCall, IsNearlyFull};
 ghost use Rattle.clif_script.specs.Requests.{name_of, request_of};
 ghost use Rattle.clif_script.specs.Ready.{IsReady, IsReadyNow, IsReadyWith, IsReadyAfter, IsJudged, AnswerExists, block_of, value_of, all_values, instruction_answer, is_open, can_switch, can_seal, can_define, can_use, can_make_constant, types_after};
 
@@ -34,6 +35,8 @@ pub(crate) fn make_call(
     ensures judged { (calls : List AnsweredCall) → IsReadyWith calls builder.old answers.now → IsJudged (allows (ledger_of calls) (request_of (ledger_of calls) call.now)) result }
     ensures sound { OnOk result (builder.new.failed ≡ false) }
     ensures never_refused { result ≢ Err CallError.Refused }
+    ensures one_call { OnOk result (IsOneCall builder.old builder.new) }
+    ensures full { result ≡ Err CallError.Full → IsNearlyFull builder.old }
     ensures variables { OnOk result (builder.new.ctx.now.variables ≡ types_after call.now builder.old.ctx.now.variables) }
 {
     match call {
@@ -82,6 +85,8 @@ fn create_block(builder: &mut FunctionBuilder<'_>, answers: &[Answer]) -> Result
     ensures judged { (calls : List AnsweredCall) → IsReadyWith calls builder.old answers.now → IsJudged (allows (ledger_of calls) CreateBlock) result }
     ensures sound { OnOk result (builder.new.failed ≡ false) }
     ensures never_refused { result ≢ Err CallError.Refused }
+    ensures one_call { OnOk result (IsOneCall builder.old builder.new) }
+    ensures full { result ≡ Err CallError.Full → IsNearlyFull builder.old }
     ensures variables { builder.new.ctx.now.variables ≡ builder.old.ctx.now.variables }
 {
     let block = builder.create_block()?;
@@ -101,6 +106,8 @@ fn switch_to_block(
     ensures judged { (calls : List AnsweredCall) → IsReadyWith calls builder.old answers.now → IsJudged (allows (ledger_of calls) (SwitchToBlock (name_of name))) result }
     ensures sound { OnOk result (builder.new.failed ≡ false) }
     ensures never_refused { result ≢ Err CallError.Refused }
+    ensures one_call { OnOk result (IsOneCall builder.old builder.new) }
+    ensures full { result ≡ Err CallError.Full → IsNearlyFull builder.old }
     ensures variables { builder.new.ctx.now.variables ≡ builder.old.ctx.now.variables }
 {
     let Some(block) = block_named(answers, name) else {
@@ -152,6 +159,8 @@ fn seal_block(
     ensures judged { (calls : List AnsweredCall) → IsReadyWith calls builder.old answers.now → IsJudged (allows (ledger_of calls) (SealBlock (name_of name))) result }
     ensures sound { OnOk result (builder.new.failed ≡ false) }
     ensures never_refused { result ≢ Err CallError.Refused }
+    ensures one_call { OnOk result (IsOneCall builder.old builder.new) }
+    ensures full { result ≡ Err CallError.Full → IsNearlyFull builder.old }
     ensures variables { builder.new.ctx.now.variables ≡ builder.old.ctx.now.variables }
 {
     let Some(block) = block_named(answers, name) else {
@@ -177,6 +186,8 @@ fn declare_var(
     ensures judged { (calls : List AnsweredCall) → IsReadyWith calls builder.old answers.now → IsJudged (allows (ledger_of calls) (DeclareVar ty)) result }
     ensures sound { OnOk result (builder.new.failed ≡ false) }
     ensures never_refused { result ≢ Err CallError.Refused }
+    ensures one_call { OnOk result (IsOneCall builder.old builder.new) }
+    ensures full { result ≡ Err CallError.Full → IsNearlyFull builder.old }
     ensures variables { OnOk result (builder.new.ctx.now.variables ≡ builder.old.ctx.now.variables ++ ty ∷ []) }
 {
     if !is_declarable(ty) {
@@ -252,6 +263,8 @@ fn def_var(
     ensures judged { (calls : List AnsweredCall) → IsReadyWith calls builder.old answers.now → IsJudged (allows (ledger_of calls) (DefVar variable (name_of name))) result }
     ensures sound { OnOk result (builder.new.failed ≡ false) }
     ensures never_refused { result ≢ Err CallError.Refused }
+    ensures one_call { OnOk result (IsOneCall builder.old builder.new) }
+    ensures full { result ≡ Err CallError.Full → IsNearlyFull builder.old }
     ensures variables { builder.new.ctx.now.variables ≡ builder.old.ctx.now.variables }
 {
     let Some(value) = value_named(builder.func(), answers, name) else {
@@ -282,6 +295,8 @@ fn use_var(
     ensures judged { (calls : List AnsweredCall) → IsReadyWith calls builder.old answers.now → IsJudged (allows (ledger_of calls) (UseVar variable)) result }
     ensures sound { OnOk result (builder.new.failed ≡ false) }
     ensures never_refused { result ≢ Err CallError.Refused }
+    ensures one_call { OnOk result (IsOneCall builder.old builder.new) }
+    ensures full { result ≡ Err CallError.Full → IsNearlyFull builder.old }
     ensures variables { builder.new.ctx.now.variables ≡ builder.old.ctx.now.variables }
 {
     if !may_use(builder, types, variable) {
@@ -299,6 +314,8 @@ fn append_iconst(builder: &mut FunctionBuilder<'_>, ty: Type, imm: i64) -> Resul
     ensures appends { IfSome builder.old.position (λ block. IfOk result (AppendsValue builder.old builder.new block (InstructionData.UnaryImm imm) ty)) }
     ensures stands { (declared : SignatureShape) (calls : List AnsweredCall) → StandsFor declared calls builder.old → IfOk result (λ value. StandsFor declared (calls ++ record { request = iconst ty imm; numbers = length builder.old.func.now.insts ∷ value ∷ [] } ∷ []) builder.new) }
     ensures ssa { builder.new.ctx.now.ssa ≡ builder.old.ctx.now.ssa }
+    ensures one_call { OnOk result (IsOneCall builder.old builder.new) }
+    ensures full { result ≡ Err BuildError.Full → IsNearlyFull builder.old }
     ensures variables { builder.new.ctx.now.variables ≡ builder.old.ctx.now.variables }
     ensures position { builder.new.position ≡ builder.old.position }
     ensures failed { (result ≡ Err BuildError.Failed) ↔ IsTrue builder.old.failed }
@@ -316,6 +333,8 @@ fn append_iadd(builder: &mut FunctionBuilder<'_>, x: Value, y: Value) -> Result<
     ensures appends { IfSome builder.old.position (λ block. IfOk result (AppendsValue builder.old builder.new block (InstructionData.Binary BinaryOpcode.Iadd (x ∷ y ∷ [])) (value_at builder.old.func.now x).ty)) }
     ensures stands { (declared : SignatureShape) (calls : List AnsweredCall) (a b : meaning.Name) → StandsFor declared calls builder.old → NamesValue calls a x → NamesValue calls b y → IfOk result (λ value. StandsFor declared (calls ++ record { request = iadd (ledger_of calls) a b; numbers = length builder.old.func.now.insts ∷ value ∷ [] } ∷ []) builder.new) }
     ensures ssa { builder.new.ctx.now.ssa ≡ builder.old.ctx.now.ssa }
+    ensures one_call { OnOk result (IsOneCall builder.old builder.new) }
+    ensures full { result ≡ Err BuildError.Full → IsNearlyFull builder.old }
     ensures variables { builder.new.ctx.now.variables ≡ builder.old.ctx.now.variables }
     ensures position { builder.new.position ≡ builder.old.position }
     ensures failed { (result ≡ Err BuildError.Failed) ↔ IsTrue builder.old.failed }
@@ -330,6 +349,8 @@ fn append_return(builder: &mut FunctionBuilder<'_>, values: &[Value]) -> Result<
     requires values_exist { EachIndex values.now (λ k. slice_index values.now k < length builder.old.func.now.values) }
     ensures loans { SameLoans builder.old builder.new }
     ensures stands { (declared : SignatureShape) (calls : List AnsweredCall) (names : List meaning.Name) → StandsFor declared calls builder.old → map (number_of calls) names ≡ map Some values.now → IfOk result (λ inst. StandsFor declared (calls ++ record { request = return_ names; numbers = inst ∷ [] } ∷ []) builder.new) }
+    ensures one_call { OnOk result (IsOneCall builder.old builder.new) }
+    ensures full { result ≡ Err BuildError.Full → IsNearlyFull builder.old }
     ensures variables { builder.new.ctx.now.variables ≡ builder.old.ctx.now.variables }
     ensures failed { (result ≡ Err BuildError.Failed) ↔ IsTrue builder.old.failed }
     ensures fails { builder.new.failed ≡ is_err result }
@@ -358,6 +379,8 @@ fn iconst(
     ensures judged { (calls : List AnsweredCall) → IsReadyWith calls builder.old answers.now → IsJudged (allows (ledger_of calls) (iconst ty imm)) result }
     ensures sound { OnOk result (builder.new.failed ≡ false) }
     ensures never_refused { result ≢ Err CallError.Refused }
+    ensures one_call { OnOk result (IsOneCall builder.old builder.new) }
+    ensures full { result ≡ Err CallError.Full → IsNearlyFull builder.old }
     ensures variables { builder.new.ctx.now.variables ≡ builder.old.ctx.now.variables }
 {
     if !may_make_constant(builder, ty) {
@@ -382,6 +405,8 @@ fn iadd(
     ensures judged { (calls : List AnsweredCall) → IsReadyWith calls builder.old answers.now → IsJudged (allows (ledger_of calls) (iadd (ledger_of calls) (name_of x) (name_of y))) result }
     ensures sound { OnOk result (builder.new.failed ≡ false) }
     ensures never_refused { result ≢ Err CallError.Refused }
+    ensures one_call { OnOk result (IsOneCall builder.old builder.new) }
+    ensures full { result ≡ Err CallError.Full → IsNearlyFull builder.old }
     ensures variables { builder.new.ctx.now.variables ≡ builder.old.ctx.now.variables }
 {
     let Some(left) = value_named(builder.func(), answers, x) else {
@@ -411,6 +436,8 @@ fn return_(
     ensures judged { (calls : List AnsweredCall) → IsReadyWith calls builder.old answers.now → IsJudged (allows (ledger_of calls) (return_ (map name_of values.now))) result }
     ensures sound { OnOk result (builder.new.failed ≡ false) }
     ensures never_refused { result ≢ Err CallError.Refused }
+    ensures one_call { OnOk result (IsOneCall builder.old builder.new) }
+    ensures full { result ≡ Err CallError.Full → IsNearlyFull builder.old }
     ensures variables { builder.new.ctx.now.variables ≡ builder.old.ctx.now.variables }
 {
     let values = values_named(builder.func(), answers, values)?;

@@ -1,5 +1,5 @@
 //! Scripts are replayed: each call is made on a builder, in order, if its condition holds.
-ghost use Rattle.std.specs.Prelude.{◌≡◌, ◌≢◌, ℕ, ◌<◌, List, [], length, false, OnOk, IfOk, Err, Some};
+ghost use Rattle.std.specs.Prelude.{◌≡◌, ◌≢◌, ℕ, ◌<◌, ◌≤◌, ◌*◌, ◌-◌, ◌^◌, List, [], length, false, OnOk, IfOk, Err, Some};
 ghost use Rattle.clif_meaning.specs.Request.{AnsweredCall};
 ghost use Rattle.clif_meaning.specs.Acceptance as acceptance;
 ghost use Rattle.cranelift_frontend.specs.StandsFor.{StandsFor};
@@ -8,6 +8,7 @@ ghost use Rattle.clif_meaning.specs.Headline.{MeansTheSame};
 ghost use Rattle.clif_meaning.specs.Premises.{CallersEdgesMatch, PlacementPremises};
 ghost use Rattle.clif_meaning.specs.Typing.{EdgesMatch};
 ghost use Rattle.clif_meaning.specs.WellPlaced.{WellPlaced};
+ghost use Rattle.clif_script.specs.Limits.{IsWithin};
 ghost use Rattle.clif_script.specs.Requests.{IsBuiltBy, IsReplayed, requests_of, verdict_of};
 ghost use Rattle.cranelift_frontend.specs.Builder.{SameLoans};
 ghost use Rattle.cranelift_frontend.specs.Context.{empty_context};
@@ -40,7 +41,7 @@ pub enum ReplayError {
     Refused(usize),
     /// Memory was refused. It prints as `no memory`.
     Memory,
-    /// A table holds 2^32 - 1 entries. It prints as `table full`.
+    /// A table holds 2^32 - 1 entries, so there are 2^31 calls or more. It prints as `table full`.
     Full,
 }
 
@@ -142,9 +143,11 @@ pub fn replay(
     ensures built { IfOk result (λ function. IsBuiltBy calls.now signature function) }
     ensures edges_match { IfOk result (λ function. CallersEdgesMatch (requests_of calls.now) → EdgesMatch (view_of function)) }
     ensures well_placed { IfOk result (λ function. PlacementPremises (requests_of calls.now) signature → WellPlaced (view_of function)) }
+    ensures name { IfOk result (λ function. function.name ≡ name) }
     ensures context { ctx.new ≡ empty_context }
     ensures misuse { (i : ℕ) → result ≡ Err (ReplayError.Misuse i) → i < length calls.now }
     ensures refused { (i : ℕ) → result ≡ Err (ReplayError.Refused i) → i ≡ length calls.now }
+    ensures full { result ≡ Err ReplayError.Full → 2 ^ 32 - 1 ≤ 2 * length calls.now }
     ensures verdict { result ≢ Err ReplayError.Memory → result ≢ Err ReplayError.Full → verdict_of result ≡ Some (acceptance.verdict_on (requests_of calls.now)) }
 {
     let mut func = Function::with_name_signature(alloc, name, signature);
@@ -169,12 +172,15 @@ fn make_calls(
     requires ready { StandsFor builder.old.func.now.signature [] builder.old }
     requires types { builder.old.ctx.now.variables ≡ [] }
     requires sound { builder.old.failed ≡ false }
+    requires within { IsWithin 0 builder.old }
     ensures loans { SameLoans builder.old builder.new }
+    ensures name { OnOk result (builder.new.func.now.name ≡ builder.old.func.now.name) }
     ensures ready { OnOk result ((made : List AnsweredCall) × StandsFor builder.old.func.now.signature made builder.new × IsReplayed calls.now (length calls.now) made) }
     ensures sound { OnOk result (builder.new.failed ≡ false) }
     ensures misuse { (i : ℕ) → result ≡ Err (ReplayError.Misuse i) → i < length calls.now }
     ensures judged { (i : ℕ) → result ≡ Err (ReplayError.Misuse i) → acceptance.verdict_on (requests_of calls.now) ≡ acceptance.Misuse i }
     ensures never_refused { (i : ℕ) → result ≢ Err (ReplayError.Refused i) }
+    ensures full { result ≡ Err ReplayError.Full → 2 ^ 32 - 1 ≤ 2 * length calls.now }
 {
     let mut answers = Vec::new(alloc);
     let mut types = Vec::new(alloc);

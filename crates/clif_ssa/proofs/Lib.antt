@@ -6,6 +6,7 @@ pub mod Parameters
 pub mod Instructions
 pub mod Zeroing
 pub mod Completing
+pub mod Taking
 pub mod Sealing
 pub mod Using
 pub mod Writing

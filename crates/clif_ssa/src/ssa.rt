@@ -4,6 +4,7 @@ ghost use Rattle.std.specs.Option.{option_to_list};
 ghost use Rattle.clif_ir.specs.Body.{Body, block_at, resolved};
 ghost use Rattle.clif_ir.specs.Changes.{with_param};
 ghost use Rattle.clif_ir.specs.Reading.{param_home};
+ghost use Rattle.clif_ssa.specs.Limits.{IsFull, Takes};
 ghost use Rattle.clif_ssa.specs.Tables.{is_yes, pending_of};
 ghost use Rattle.clif_paths.specs.Places.{start};
 ghost use Rattle.clif_paths.specs.Blocks.{Blocks, last_place, with_write};
@@ -139,6 +140,8 @@ impl SSABuilder {
         ensures remembers { (x b : ℕ) → OnOk result (Remembers x b func.old self.old func.new self.new) }
         ensures parameters { is_yes (sealed_of self.old block) ≡ true → (b : ℕ) → OnOk result ((block_at func.new b).params ≡ (block_at func.old b).params) }
         ensures nothing_stray { (own : ℕ → List ℕ) → NothingStray own func.old self.old → OnOk result (NothingStray own func.new self.new) }
+        ensures full { result ≡ Err BuildError.Full → IsFull func.new }
+        ensures takes { result ≢ Err BuildError.Memory → Takes func.old func.new 2 1 }
         ensures never_failed { result ≢ Err BuildError.Failed }
     {
         func.law_consistent();
@@ -157,6 +160,8 @@ impl SSABuilder {
         ensures known { IfSome (record_of self.old variable block) (λ v. OnOk result ((func.new ≡ func.old) × (self.new ≡ self.old)) × IfOk result (λ r. (r.0 ≡ v) × (r.1.instructions_added_to_blocks.items ≡ []))) }
         ensures waits { record_of self.old variable block ≡ None → is_yes (sealed_of self.old block) ≡ false → OnOk result (Waits self.old self.new func.old func.new variable ty block) × IfOk result (λ r. (r.0 ≡ length func.old.values) × (r.1.instructions_added_to_blocks.items ≡ [])) }
         ensures zero { record_of self.old variable block ≡ None → is_yes (sealed_of self.old block) ≡ true → OnOk result (Zeroes self.old self.new func.old func.new variable ty block) × IfOk result (λ r. (r.0 ≡ length func.old.values + 1) × (r.1.instructions_added_to_blocks.items ≡ block ∷ [])) }
+        ensures full { result ≡ Err BuildError.Full → IsFull func.new }
+        ensures takes { result ≢ Err BuildError.Memory → Takes func.old func.new 2 1 }
         ensures never_failed { result ≢ Err BuildError.Failed }
     {
         let mut side_effects = SideEffects::new(self.alloc);
@@ -188,6 +193,8 @@ impl SSABuilder {
         ensures remembers { (x b : ℕ) → OnOk result (Remembers x b func.old self.old func.new self.new) }
         ensures parameters { OnOk result (LosesWaiting func.old func.new (pending_of (sealed_of self.old block))) }
         ensures nothing_stray { (own : ℕ → List ℕ) → NothingStray own func.old self.old → OnOk result (NothingStray own func.new self.new) }
+        ensures full { result ≡ Err BuildError.Full → IsFull func.new }
+        ensures takes { result ≢ Err BuildError.Memory → Takes func.old func.new 0 0 }
         ensures never_failed { result ≢ Err BuildError.Failed }
     {
         func.law_consistent();
@@ -207,6 +214,8 @@ fn complete(
 ) -> Result<(), BuildError>
     ensures function { OnOk result (func.new ≡ completed func.old pending.now) }
     ensures told { OnOk result (side_effects.new.instructions_added_to_blocks.items ≡ side_effects.old.instructions_added_to_blocks.items ++ completing_blocks func.old pending.now) }
+    ensures full { result ≡ Err BuildError.Full → IsFull func.new }
+    ensures takes { result ≢ Err BuildError.Memory → Takes func.old func.new 0 0 }
     ensures never_failed { result ≢ Err BuildError.Failed }
 {
     for waiting in pending.iter() {
@@ -225,6 +234,8 @@ fn replace_by_zero(
     ensures zero { OnOk result (func.new ≡ zeroed_in (param_home func.old param) func.old param) }
     ensures answer { MatchOption (param_home func.old param) (IfOk result (λ v. v ≡ param)) (λ _. IfOk result (λ v. v ≡ length func.old.values)) }
     ensures told { OnOk result (side_effects.new.instructions_added_to_blocks.items ≡ side_effects.old.instructions_added_to_blocks.items ++ option_to_list (param_home func.old param)) }
+    ensures full { result ≡ Err BuildError.Full → IsFull func.new }
+    ensures takes { result ≢ Err BuildError.Memory → Takes func.old func.new 0 0 }
     ensures never_failed { result ≢ Err BuildError.Failed }
 {
     let Some(block) = func.param_home(param) else {
@@ -243,6 +254,8 @@ fn put_zero(func: &mut Function, block: Block, ty: Type) -> Result<Value, BuildE
     ensures ok { OnOk result (func.new ≡ with_zero func.old block ty) }
     ensures number { IfOk result (λ v. v ≡ length func.old.values) }
     ensures unaliased { IfOk result (λ v. resolved func.new v ≡ v) }
+    ensures full { result ≡ Err BuildError.Full → IsFull func.new }
+    ensures err { OnErr result ((func.new.values ≡ func.old.values) × (func.new.insts ≡ func.old.insts)) }
     ensures never_failed { result ≢ Err BuildError.Failed }
 {
     func.ensure_block_inserted(block)?;

@@ -26,29 +26,29 @@ use Rattle.cranelift_frontend.specs.Builder.{Appends, AppendsIn, AppendsValue, H
 use Rattle.cranelift_frontend.specs.Growth.{Grows, RecordsExist}
 
 pub Grows-same : (f g : Body) → g ≡ f → Grows f g
-Grows-same f g same = subst (λ h. Grows f h) (sym same) (omega arith, omega arith, omega arith)
+Grows-same f g same = subst (λ h. Grows f h) (sym same) (omega arith, omega arith, omega arith, refl, refl)
 
 pub Grows-then : (f g h : Body) → Grows f g → Grows g h → Grows f h
-Grows-then f g h first next = (omega (arith, first.0, next.0), omega (arith, first.1, next.1), omega (arith, first.2, next.2))
+Grows-then f g h first next = (omega (arith, first.0, next.0), omega (arith, first.1, next.1), omega (arith, first.2, next.2), next.3 ∙ first.3, next.4 ∙ first.4)
 
 pub Grows-with_block : (f : Body) → Grows f (with_block f)
-Grows-with_block f = (omega arith, omega arith, grind (arith, common_steps))
+Grows-with_block f = (omega arith, omega arith, grind (arith, common_steps), refl, refl)
 
 pub Grows-inserted : (f : Body) (b : ℕ) → Grows f (inserted_in f b)
 Grows-inserted f b = by_test (stands_in b f.layout)
   where
     by_test : (c : Bool) → Grows f (if c then f else with_layout f b)
-    by_test true = (omega arith, omega arith, omega arith)
-    by_test false = (omega arith, omega arith, omega arith)
+    by_test true = (omega arith, omega arith, omega arith, refl, refl)
+    by_test false = (omega arith, omega arith, omega arith, refl, refl)
 
 pub Grows-with_param : (f : Body) (b : ℕ) (ty : «Type») → Grows f (with_param f b ty)
-Grows-with_param f b ty = (grind (arith, common_steps), omega arith, grind (arith, common_steps))
+Grows-with_param f b ty = (grind (arith, common_steps), omega arith, grind (arith, common_steps), refl, refl)
 
 pub Grows-with_inst : (f : Body) (b : ℕ) (end : BlockEnd) (shape : InstructionData) (types : List «Type») (loc : ℕ) → Grows f (with_inst f b end shape types loc)
-Grows-with_inst f b end shape types loc = (grind (arith, common_steps), grind (arith, common_steps), grind (arith, common_steps))
+Grows-with_inst f b end shape types loc = (grind (arith, common_steps), grind (arith, common_steps), grind (arith, common_steps), refl, refl)
 
 pub Grows-with_alias : (f : Body) (v original : ℕ) → Grows f (with_alias f v original)
-Grows-with_alias f v original = (grind (arith, common_steps), omega arith, grind (arith, common_steps))
+Grows-with_alias f v original = (grind (arith, common_steps), omega arith, grind (arith, common_steps), refl, refl)
 
 pub Grows-with_zero : (f : Body) (b : ℕ) (ty : «Type») → Grows f (with_zero f b ty)
 Grows-with_zero f b ty = Grows-then f (inserted_in f b) (with_zero f b ty) (Grows-inserted f b) (Grows-with_inst (inserted_in f b) b Front (UnaryImm (pos 0)) (ty ∷ []) no_srcloc)
@@ -285,17 +285,31 @@ current_appended r old new shape ty current position appends none =
     (fills_none_begun old.ctx.now new.ctx.now current.0 (λ b. appended.status b ∙ ap (λ s. if b == current.0 then s else status_of old.ctx.now b) (status_after_none shape (status_of old.ctx.now current.0) none))) current)
     (at_current old (λ block. IfOk r (Appends old new block shape ty)) current appends)
 
--- the result of an instruction that was appended
-appended_results : (f : Body) (c : ContextState) (g : Body) (d : ContextState) (block : ℕ) (shape : InstructionData) (ty : «Type») (inst : ℕ)
-    → AppendsIn f c g d block shape ty inst → result_types shape ty ≡ ty ∷ [] → (inst_at g inst).results ≡ length f.values ∷ []
-appended_results f c g d block shape ty inst appends types =
+-- the node of an instruction that was appended
+appended_node : (f : Body) (c : ContextState) (g : Body) (d : ContextState) (block : ℕ) (shape : InstructionData) (ty : «Type») (inst : ℕ)
+    → AppendsIn f c g d block shape ty inst → inst_at g inst ≡ inst_node (inserted_in f block) block shape (result_types shape ty) no_srcloc
+appended_node f c g d block shape ty inst appends =
     let at : Body = inserted_in f block in
     let node : InstNode = inst_node at block shape (result_types shape ty) no_srcloc in
     let made : inst_at g inst ≡ inst_at (with_appended f block shape ty) inst = ap (λ (h : Body). inst_at h inst) appends.function in
     let place : inst ≡ length at.insts = appends.number ∙ sym (insts-inserted f block) in
     let last : inst_at (with_appended f block shape ty) inst ≡ node = grind (arith, common_steps, place) in
-    let results : node.results ≡ length at.values ∷ [] = ap (λ (ts : List «Type»). range_with_len (length at.values) (length ts)) types in
-    ap (λ (n : InstNode). n.results) (made ∙ last) ∙ results ∙ ap (λ n. n ∷ []) (values-inserted f block)
+    made ∙ last
+
+-- its result
+appended_results : (f : Body) (c : ContextState) (g : Body) (d : ContextState) (block : ℕ) (shape : InstructionData) (ty : «Type») (inst : ℕ)
+    → AppendsIn f c g d block shape ty inst → result_types shape ty ≡ ty ∷ [] → (inst_at g inst).results ≡ length f.values ∷ []
+appended_results f c g d block shape ty inst appends types =
+    let at : Body = inserted_in f block in
+    let results : range_with_len (length at.values) (length (result_types shape ty)) ≡ length at.values ∷ [] = ap (λ (ts : List «Type»). range_with_len (length at.values) (length ts)) types in
+    ap (λ (n : InstNode). n.results) (appended_node f c g d block shape ty inst appends) ∙ results ∙ ap (λ n. n ∷ []) (values-inserted f block)
+
+-- where it has none
+pub appended_no_results : (f : Body) (c : ContextState) (g : Body) (d : ContextState) (block : ℕ) (shape : InstructionData) (ty : «Type») (inst : ℕ)
+    → AppendsIn f c g d block shape ty inst → result_types shape ty ≡ [] → (inst_at g inst).results ≡ []
+appended_no_results f c g d block shape ty inst appends types =
+    ap (λ (n : InstNode). n.results) (appended_node f c g d block shape ty inst appends)
+    ∙ ap (λ (ts : List «Type»). range_with_len (length (inserted_in f block).values) (length ts)) types
 
 pub current_results : (old new : FunctionBuilder) (shape : InstructionData) (ty : «Type») (inst : ℕ) → HasCurrent old
     → IfSome old.position (λ block. Appends old new block shape ty inst) → result_types shape ty ≡ ty ∷ [] → (inst_at new.func.now inst).results ≡ length old.func.now.values ∷ []

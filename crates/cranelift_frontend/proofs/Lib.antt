@@ -15,3 +15,4 @@ pub mod StandingResults
 pub mod Finishing
 pub mod StandingBuilt
 mod Remembered
+pub mod Shaped

@@ -47,7 +47,7 @@ named_earlier calls name number is = by (slice_get calls name.place) refl is
 answer_is : (calls : List AnsweredCall) (name : Name) (number : ℕ) → number_of calls name ≡ Some number → number ≡ answered calls name
 answer_is calls name number is = sym (ap number_or_none is)
 
-all_named : (calls : List AnsweredCall) (names : List Name) (values : List ℕ) → map (number_of calls) names ≡ map Some values
+pub all_named : (calls : List AnsweredCall) (names : List Name) (values : List ℕ) → map (number_of calls) names ≡ map Some values
     → (values ≡ map (answered calls) names) × AllByRecursion (IsEarlier calls) names
 all_named calls [] [] same = (refl, tt)
 all_named calls [] (v ∷ values) same = absurd (differ same)
@@ -77,7 +77,7 @@ module _ (declared : SignatureShape) (calls : List AnsweredCall) (f g : Body) (c
   was b (inr same) = inr same
 
   -- an instruction was appended, and the function carries the call
-  stands_built : (call : AnsweredCall) → LedgerAgrees (calls ++ call ∷ []) (ledger_of (calls ++ call ∷ [])) g d p
+  pub stands_built : (call : AnsweredCall) → LedgerAgrees (calls ++ call ∷ []) (ledger_of (calls ++ call ∷ [])) g d p
       → Carries (calls ++ call ∷ []) (with_inst (inserted_in f block) block Back shape types no_srcloc) c.ssa → StandsIn declared (calls ++ call ∷ []) g d p
   stands_built call ledger carries = record {
     signature = ap (λ (h : Body). h.signature) function ∙ (goes_on-then f (inserted_in f block) _ (goes_on-inserted f block) (goes_on-with_inst (inserted_in f block) block Back shape types no_srcloc)).signature ∙ stands.signature;

@@ -5,9 +5,11 @@ use Rattle.clif_ssa.specs.Ssa.{SsaState, record_of}
 use Rattle.clif_ssa.specs.Structure.{HasRecordOf, Remembers}
 use Rattle.cranelift_frontend.specs.declared.frontend.FunctionBuilder.{FunctionBuilder}
 
--- no table of the function is shorter
+-- no table of the function is shorter, and its name and its signature stay
 abbrev pub Grows : Body → Body → Type 0
-Grows f g = (length f.values ≤ length g.values) × (length f.insts ≤ length g.insts) × (length f.blocks ≤ length g.blocks)
+Grows f g =
+    (length f.values ≤ length g.values) × (length f.insts ≤ length g.insts) × (length f.blocks ≤ length g.blocks)
+    × (g.name ≡ f.name) × (g.signature ≡ f.signature)
 
 -- each value that is recorded for a variable exists in the function
 pub record RecordsExist (f : Body) (s : SsaState) : Type 0 where

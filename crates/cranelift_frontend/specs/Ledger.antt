@@ -1,7 +1,12 @@
 -- How a builder agrees with the ledger of the calls that were made on it: what the ledger tells of answers, blocks,
 -- layout and variables is what the builder answered and its queries answer. Own.
-use Rattle.std.specs.Prelude.{◌≡◌, ◌≢◌, ℕ, ◌≤◌, List, [], ◌∷◌, length, map, slice_get, Option, Some, None, option_map, false, true, IsTrue, Result, Ok, Err}
+use Rattle.std.specs.Prelude.{◌≡◌, ◌≢◌, ℕ, ◌≤◌, List, [], ◌∷◌, length, map, slice_get, Option, Some, None, option_map, if◌then◌else◌, false, true, IsTrue, Result, Ok, Err}
 use Rattle.clif_types.specs.declared.types.«Type».{«Type»}
+use Rattle.clif_types.specs.declared.types.«Type».TheVariants.{Invalid}
+use Rattle.clif_ir.specs.declared.instructions.InstructionData.{InstructionData}
+use Rattle.clif_ir.specs.Instruction.{has_result, operands}
+use Rattle.clif_meaning.specs.Instruction.{Instruction}
+use Rattle.clif_meaning.specs.View.{operation_of}
 use Rattle.clif_ir.specs.declared.function.ValueNode.{ValueNode}
 use Rattle.clif_ir.specs.declared.function.InstNode.{InstNode}
 use Rattle.clif_ir.specs.Body.{Body}
@@ -41,6 +46,18 @@ pub record NamesBlock (calls : List AnsweredCall) (name : Name) (block : ℕ) : 
 pub record NamesValue (calls : List AnsweredCall) (name : Name) (value : ℕ) : Type 0 where
   pub number : number_of calls name ≡ Some value
   pub is_value : IsTrue (has_value (ledger_of calls) name)
+
+-- the type at which an instruction of this shape is made: the one that is given, where it has a result
+abbrev pub made_at : InstructionData → «Type» → «Type»
+made_at shape ty = if has_result shape then ty else Invalid
+
+-- the instruction, with the numbers that answered its operands' names, is of this shape and made at this type
+pub record HasShape (calls : List AnsweredCall) (instruction : Instruction Name Name) (shape : InstructionData) (ty : «Type») : Type 0 where
+  pub operation : instruction.operation ≡ operation_of shape
+  pub controlling : instruction.controlling ≡ made_at shape ty
+  pub operands_numbered : map (number_of calls) instruction.operands ≡ map Some (operands shape)
+  -- no instruction so far is a branch
+  pub edges : instruction.edges ≡ []
 
 -- a block of the ledger is the builder's block with number `k`, and is sealed, pristine and filled exactly where
 -- that one is; so far no block has a caller's parameter or a predecessor

@@ -107,6 +107,7 @@ impl Model for FunctionBuilderContext {
 impl FunctionBuilderContext {
     ghost use Rattle.cranelift_frontend.specs.Context.{empty_context, status_of, SetsStatus, Begins, zero_blocks};
     ghost use Rattle.clif_ssa.specs.Ssa.{record_of, sealed_of, completed, completing_blocks, Records, SameBlocks, Seals, Waits, Zeroes};
+    ghost use Rattle.clif_ssa.specs.Limits.{IsFull, Takes};
     ghost use Rattle.clif_ssa.specs.Tables.{is_yes, pending_of};
 
     /// A context for a first function.
@@ -231,6 +232,8 @@ impl FunctionBuilderContext {
         ensures zero { record_of self.old.ssa variable block ≡ None → is_yes (sealed_of self.old.ssa block) ≡ true → OnOk result (Zeroes self.old.ssa self.new.ssa func.old func.new variable ty block) × IfOk result (λ w. w ≡ length func.old.values + 1) }
         ensures variables { self.new.variables ≡ self.old.variables }
         ensures status { OnOk result (Begins self.old self.new (zero_blocks self.old.ssa variable block)) }
+        ensures full { result ≡ Err BuildError.Full → IsFull func.new }
+        ensures takes { result ≢ Err BuildError.Memory → Takes func.old func.new 2 1 }
         ensures never_failed { result ≢ Err BuildError.Failed }
     {
         let (value, side_effects) = self.ssa.use_var(func, variable, ty, block)?;
@@ -246,6 +249,8 @@ impl FunctionBuilderContext {
         ensures function { OnOk result (func.new ≡ completed func.old (pending_of (sealed_of self.old.ssa block))) }
         ensures variables { self.new.variables ≡ self.old.variables }
         ensures status { OnOk result (Begins self.old self.new (completing_blocks func.old (pending_of (sealed_of self.old.ssa block)))) }
+        ensures full { result ≡ Err BuildError.Full → IsFull func.new }
+        ensures takes { result ≢ Err BuildError.Memory → Takes func.old func.new 0 0 }
         ensures never_failed { result ≢ Err BuildError.Failed }
     {
         let side_effects = self.ssa.seal_block(block, func)?;

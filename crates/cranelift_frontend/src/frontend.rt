@@ -3,6 +3,7 @@ ghost use Rattle.std.specs.Prelude.{◌≡◌, ◌≢◌, ◌<◌, ◌-◌, ◌^
 ghost use Rattle.cranelift_frontend.specs.Context.{empty_context, status_of, begun, Begins, SetsStatus};
 ghost use Rattle.cranelift_frontend.specs.Growth.{Grows, HasRecordIn, RecordsExist, RemembersIn};
 ghost use Rattle.cranelift_frontend.specs.Builder.{SameLoans, with_position, is_unreachable, is_free, is_declarable, HasCurrent, Uses, UsesIn};
+ghost use Rattle.clif_ssa.specs.Limits.{IsFull, Takes};
 ghost use Rattle.clif_ssa.specs.Tables.{is_yes, pending_of};
 ghost use Rattle.clif_ssa.specs.Ssa.{record_of, sealed_of, completed, completing_blocks, Records, SameBlocks, Seals, Waits, Zeroes};
 ghost use Rattle.clif_ir.specs.Body.{empty_body, inst_at, block_at, value_at};
@@ -161,6 +162,8 @@ impl<'a> FunctionBuilder<'a> {
         ensures status { OnOk result (Begins self.old.ctx.now self.new.ctx.now (completing_blocks self.old.func.now (pending_of (sealed_of self.old.ctx.now.ssa block)))) }
         ensures variables { self.new.ctx.now.variables ≡ self.old.ctx.now.variables }
         ensures position { self.new.position ≡ self.old.position }
+        ensures full { result ≡ Err BuildError.Full → IsFull self.new.func.now }
+        ensures takes { result ≢ Err BuildError.Memory → Takes self.old.func.now self.new.func.now 0 0 }
         ensures failed { (result ≡ Err BuildError.Failed) ↔ IsTrue self.old.failed }
         ensures fails { self.new.failed ≡ is_err result }
         ensures ledger { (calls : List AnsweredCall) (name : Name) → AgreesWithLedger calls self.old → NamesBlock calls name block → OnOk result (AgreesWithLedger (calls ++ record { request = SealBlock name; numbers = [] } ∷ []) self.new) }
@@ -248,6 +251,8 @@ impl<'a> FunctionBuilder<'a> {
         ensures status { IfSome self.old.position (λ block. OnOk result (SetsStatus self.old.ctx.now self.new.ctx.now block (begun (status_of self.old.ctx.now block)))) }
         ensures variables { self.new.ctx.now.variables ≡ self.old.ctx.now.variables }
         ensures position { self.new.position ≡ self.old.position }
+        ensures full { result ≡ Err BuildError.Full → IsFull self.new.func.now }
+        ensures takes { result ≢ Err BuildError.Memory → Takes self.old.func.now self.new.func.now 2 1 }
         ensures failed { (result ≡ Err BuildError.Failed) ↔ IsTrue self.old.failed }
         ensures fails { self.new.failed ≡ is_err result }
         ensures ledger { (calls : List AnsweredCall) → AgreesWithLedger calls self.old → IfOk result (λ value. AgreesWithLedger (calls ++ record { request = UseVar variable; numbers = value ∷ [] } ∷ []) self.new) }
@@ -308,6 +313,8 @@ fn use_variable(
     ensures uses { IfOk result (UsesIn func.old ctx.old func.new ctx.new variable ty block) }
     ensures status { OnOk result (SetsStatus ctx.old ctx.new block (begun (status_of ctx.old block))) }
     ensures variables { ctx.new.variables ≡ ctx.old.variables }
+    ensures full { result ≡ Err BuildError.Full → IsFull func.new }
+    ensures takes { result ≢ Err BuildError.Memory → Takes func.old func.new 2 1 }
     ensures never_failed { result ≢ Err BuildError.Failed }
 {
     begin_block(func, ctx, block)?;

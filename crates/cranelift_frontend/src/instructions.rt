@@ -1,17 +1,18 @@
 //! The instructions that a builder makes: `builder.ins().iadd(x, y)?`.
 ghost use Rattle.std.specs.Prelude.{◌≡◌, ◌≢◌, ◌<◌, ◌-◌, ◌^◌, ◌⊎◌, ◌↔◌, ◌∷◌, [], ◌++◌, List, ℕ, IsTrue, OnOk, OnErr, IfOk, IfSome, is_err, Some, true, false, length, map, slice_index, EachIndex, if◌then◌else◌};
 ghost use Rattle.clif_types.specs.Types.{is_int};
-ghost use Rattle.clif_ir.specs.Body.{value_at};
+ghost use Rattle.clif_ir.specs.Body.{inst_at, value_at};
 ghost use Rattle.clif_ir.specs.Instruction.{operands, is_terminator, has_result, result_types};
 ghost use Rattle.cranelift_frontend.specs.Context.{SetsStatus, status_of, begun};
 ghost use Rattle.cranelift_frontend.specs.Growth.{Grows, RecordsExist, RemembersIn};
 ghost use Rattle.cranelift_frontend.specs.Builder.{SameLoans, HasCurrent, Appends, AppendsIn, AppendsValue};
 ghost use Rattle.clif_meaning.specs.Name.{Name};
-ghost use Rattle.clif_meaning.specs.Request.{AnsweredCall, number_of};
+ghost use Rattle.clif_meaning.specs.Instruction.{Instruction};
+ghost use Rattle.clif_meaning.specs.Request.{AnsweredCall, Build, number_of};
 ghost use Rattle.clif_meaning.specs.Acceptance.{iconst, iadd, return_};
 ghost use Rattle.clif_types.specs.Signature.{SignatureShape};
 ghost use Rattle.cranelift_frontend.specs.StandsFor.{StandsFor};
-ghost use Rattle.cranelift_frontend.specs.Ledger.{AgreesWithLedger, NamesValue, ledger_of};
+ghost use Rattle.cranelift_frontend.specs.Ledger.{AgreesWithLedger, HasShape, NamesValue, ledger_of};
 
 use crate::context::{BlockStatus, FunctionBuilderContext};
 use crate::frontend::{FunctionBuilder, begin_block};
@@ -54,6 +55,8 @@ impl<'short, 'long> InstBuilderBase<'long> for &'short mut FunctionBuilder<'long
         ensures full { result ≡ Err BuildError.Full → (length self.old.func.now.insts ≡ 2 ^ 32 - 1) ⊎ (length self.old.func.now.values ≡ 2 ^ 32 - 1) }
         ensures failed { (result ≡ Err BuildError.Failed) ↔ IsTrue self.old.failed }
         ensures fails { self.new.failed ≡ is_err result }
+        ensures ledger { (calls : List AnsweredCall) (instruction : Instruction Name Name) → AgreesWithLedger calls self.old → HasShape calls instruction shape ctrl_type → IfOk result (λ inst. AgreesWithLedger (calls ++ record { request = Build instruction; numbers = inst ∷ (inst_at self.new.func.now inst).results } ∷ []) self.new) }
+        ensures stands { (signature : SignatureShape) (calls : List AnsweredCall) (instruction : Instruction Name Name) → StandsFor signature calls self.old → HasShape calls instruction shape ctrl_type → IfOk result (λ inst. StandsFor signature (calls ++ record { request = Build instruction; numbers = inst ∷ (inst_at self.new.func.now inst).results } ∷ []) self.new) }
         ensures exists { IfOk result (λ inst. inst < length self.new.func.now.insts) }
         ensures grows { OnOk result (Grows self.old.func.now self.new.func.now) }
         ensures remembers { (v b : ℕ) → OnOk result (RemembersIn v b self.old self.new) }

@@ -1,12 +1,13 @@
 use Rattle.std.proofs.Common.{[], sym, ◌∙◌, refl}
 use Rattle.std.proofs.lemmas.Bool.{not-true}
 use Rattle.std.proofs.lemmas.Result.{err_from_is_err_and}
-use Rattle.clif_ssa.specs.Tables.{is_yes}
+use Rattle.clif_ssa.specs.Tables.{is_yes, pending_of}
 use Rattle.clif_ssa.specs.Ssa.{sealed_of}
 use Rattle.clif_script.specs.declared.script.Answer.TheVariants as answer
 use Rattle.clif_script.specs.Requests.{name_of}
 use Rattle.clif_script.proofs.ReadyLaws.{ready-more, block-found, block-there}
 use Rattle.clif_script.proofs.Conditions
+use Rattle.clif_script.proofs.Limits.{one-sealed}
 use Rattle.clif_script.proofs.make.seal_block.Goals as goal
 
 pub returns-in_default-clause-judged : goal.returns-in_default-clause-judged
@@ -43,3 +44,8 @@ returns-clause-judged c = λ calls given.
     let ready = given.1 in
     Conditions.seal-some calls c.args.builder.now c.args.answers.now ready c.args.name c.in-Some.block (sym c.block_named.ensures ∙ c.in-Some.is)
     ∙ sym c.may_seal.ensures ∙ c.if-not-may_seal.false
+
+pub returns-clause-one_call : goal.returns-clause-one_call
+returns-clause-one_call c =
+    let done = c.in_ok-seal_block.ensures in
+    one-sealed c.args.builder.now c.seal_block.new.self (pending_of (sealed_of c.args.builder.now.ctx.now.ssa c.in-Some.block)) done.function done.grows done.variables

@@ -8,6 +8,7 @@ use Rattle.clif_script.specs.Requests.{request_of}
 use Rattle.std.specs.Prelude.{ℕ, Err, Result}
 use Rattle.clif_script.specs.declared.script.ReplayError.{ReplayError}
 use Rattle.clif_script.specs.declared.script.ReplayError.TheVariants.{Misuse}
+use Rattle.clif_script.proofs.Limits.{within-more}
 use Rattle.clif_script.proofs.Verdicts.{replayed-more, misuse-told}
 use Rattle.clif_script.proofs.script.make_calls.Goals as goal
 
@@ -28,6 +29,8 @@ loop-place-preserved c =
       types = first_of (search rules, grind (arith, common_steps));
       loans = first_of (search rules, grind (arith, common_steps));
       sound = first_of (search rules, grind (arith, common_steps));
+      within = within-more c.loop-place.place c.loop-place.builder c.make_call.new.builder c.loop-place.invariant.within c.in-Ok.ensures.one_call;
+      name = c.in-Ok.ensures.one_call.name ∙ c.loop-place.invariant.name;
     }
 
 pub returns-in-Err-clause-judged : goal.returns-in-Err-clause-judged

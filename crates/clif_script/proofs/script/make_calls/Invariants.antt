@@ -2,6 +2,7 @@ use Rattle.std.proofs.Common.{◌≡◌, List}
 use Rattle.std.specs.Prelude.{false}
 use Rattle.clif_meaning.specs.Request.{AnsweredCall}
 use Rattle.cranelift_frontend.specs.Builder.{SameLoans}
+use Rattle.clif_script.specs.Limits.{IsWithin}
 use Rattle.clif_script.specs.Ready.{IsReady}
 use Rattle.clif_script.specs.Requests.{IsReplayed}
 use Rattle.clif_script.proofs.script.make_calls.Given as goal
@@ -12,4 +13,6 @@ invariant-loop-place l = record {
   types : l.types.items ≡ l.builder.ctx.now.variables;
   loans : SameLoans l.initial.builder l.builder;
   sound : l.builder.failed ≡ false;
+  within : IsWithin l.place l.builder;
+  name : l.builder.func.now.name ≡ l.initial.builder.func.now.name;
 }
