@@ -233,6 +233,23 @@ pub used_params : (x b c : ℕ) (f g : Body) (s t : SsaState) {E : Type 0} (resu
 used_params x b c f g s t (Ok r) used sealed = used.params sealed c
 used_params x b c f g s t (Err error) used sealed = tt
 
+-- OTHER CALLS -----------------------------------------------------------------------------------------------------
+
+-- the records stay, and the function does
+pub same_remembers : (x b : ℕ) (f : Body) (s t : SsaState) → record_of t x b ≡ record_of s x b → Remembers x b f s f t
+same_remembers x b f s t same = record { recorded = λ v is. same ∙ is; alike = λ u v alike. alike }
+
+-- a variable is assigned in a block, and it isn't this one there
+pub assigned_remembers : (x b y c value : ℕ) (f : Body) (s t : SsaState) → (y ≡ x → c ≡ b → ⊥) → Records s t x b value → Remembers y c f s f t
+assigned_remembers x b y c value f s t apart written = same_remembers y c f s t (written y c ∙ by (y == x && c == b) refl)
+  where
+    by : (test : Bool) → (y == x && c == b) ≡ test → (if test then Some value else record_of s y c) ≡ record_of s y c
+    by false other = refl
+    by true one =
+        let first : y ≡ x = grind (arith, nat_tests) in
+        let second : c ≡ b = grind (arith, nat_tests) in
+        absurd (apart first second)
+
 -- THE LAW ---------------------------------------------------------------------------------------------------------
 
 pub uses_agree : (x b first second : ℕ) (m : Moment) (moments : List Moment) → HasRecordOf m.function m.state x b first → AreSteps x b m moments

@@ -6,7 +6,8 @@
 //! Each call says exactly what it changes. Beside that, `keeps` says why the answers are right: `Describes` of
 //! `specs/Sound` ties the function and the builder to tables of the theory of variables on paths (`clif_paths`), and
 //! where those are sound before a call, tables with the same program, or with the assignment that was made, are sound
-//! after it.
+//! after it. `remembers` says that values which stand for one value go on doing so, and `nothing_stray` that no parameter
+//! and no zero is left that isn't needed (`specs/Structure`).
 #![tactic(auto)]
 
 pub mod laws;

@@ -87,6 +87,8 @@ impl SSABuilder {
         ensures records { self.new.records ≡ self.old.records }
         ensures blocks { (b : ℕ) → sealed_of self.new b ≡ sealed_of self.old b }
         ensures described { (own : ℕ → List ℕ) (f : Body) (tables : Blocks) → Describes own f self.old [] tables → Describes own f self.new [] tables }
+        ensures remembers { (f : Body) (x b : ℕ) → Remembers x b f self.old f self.new }
+        ensures nothing_stray { (own : ℕ → List ℕ) (f : Body) → NothingStray own f self.old → NothingStray own f self.new }
         ensures only_memory { OnErr result (result ≡ Err BuildError.Memory) }
     {
         self.ssa_blocks.declare(block)
@@ -110,6 +112,8 @@ impl SSABuilder {
         ensures err { OnErr result (SameRecords self.old self.new) }
         ensures blocks { self.new.blocks ≡ self.old.blocks }
         ensures keeps { (own : ℕ → List ℕ) (f : Body) (tables : Blocks) (n : ℕ) → DescribesSoundly own f self.old tables → tables.answer n ≡ value → (tables.naming n).home ≢ start → tables.assigned (last_place tables block) variable ≡ None → OnOk result (DescribesSoundly own f self.new (with_write tables block variable n)) }
+        ensures remembers { (f : Body) (x b : ℕ) → (x ≡ variable → b ≡ block → ⊥) → OnOk result (Remembers x b f self.old f self.new) }
+        ensures nothing_stray { (own : ℕ → List ℕ) (f : Body) → NothingStray own f self.old → NothingStray own f self.new }
         ensures only_memory { OnErr result (result ≡ Err BuildError.Memory) }
     {
         self.variables.set(variable, block, value)

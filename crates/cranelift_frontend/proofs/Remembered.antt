@@ -23,7 +23,7 @@ use Rattle.clif_ssa.proofs.Losing.{records_stay, seal_alike, zeroes_resolved}
 use Rattle.cranelift_frontend.specs.Context.{ContextState}
 use Rattle.cranelift_frontend.specs.declared.frontend.FunctionBuilder.{FunctionBuilder}
 use Rattle.cranelift_frontend.specs.Builder.{UsesIn, AppendsIn, AppendsValue, HasCurrent}
-use Rattle.cranelift_frontend.specs.Growth.{RemembersIn}
+use Rattle.cranelift_frontend.specs.Growth.{AreCalls, HasRecordIn, RemembersIn, last_builder}
 
 -- the function and the records stay
 pub remembers_same : (x b : ℕ) (f g : Body) (s t : SsaState) → g ≡ f → t ≡ s → Remembers x b f s g t
@@ -174,3 +174,14 @@ remembers_value (Err error) y e old new shape ty known current appends same = tt
 remembers_value (Ok value) y e old new shape ty known current appends same =
     appended_in y e old.func.now new.func.now old.ctx.now new.ctx.now current.0 shape ty (length old.func.now.insts) known
     (subst (λ (o : Option ℕ). IfSome o (λ block. AppendsValue old new block shape ty value)) current.1 appends).0 same
+
+-- THE LAW ---------------------------------------------------------------------------------------------------------
+
+same_some : {x y : ℕ} → ◌≡◌ {A = Option ℕ} (Some x) (Some y) → x ≡ y
+same_some same = cc
+
+pub uses_agree : (x e first second : ℕ) (b : FunctionBuilder) (builders : List FunctionBuilder) → HasRecordIn b x e first → AreCalls x e b builders
+    → HasRecordIn (last_builder b builders) x e second → resolved (last_builder b builders).func.now first ≡ resolved (last_builder b builders).func.now second
+uses_agree x e first second b [] (v, is, ends) calls (w, is_too, ends_too) = sym ends ∙ ap (resolved b.func.now) (same_some (sym is ∙ is_too)) ∙ ends_too
+uses_agree x e first second b (next ∷ builders) has calls last =
+    uses_agree x e first second next builders (has.0, calls.0.recorded has.0 has.1, calls.0.alike has.0 first has.2) calls.1 last

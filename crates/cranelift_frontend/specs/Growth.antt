@@ -1,6 +1,6 @@
 -- What goes on existing, and goes on standing for one value, as calls are made. Source: own.
-use Rattle.std.specs.Prelude.{◌≡◌, ◌<◌, ◌≤◌, ℕ, length, Some}
-use Rattle.clif_ir.specs.Body.{Body}
+use Rattle.std.specs.Prelude.{◌≡◌, ◌<◌, ◌≤◌, ℕ, List, [], ◌∷◌, length, Some}
+use Rattle.clif_ir.specs.Body.{Body, resolved}
 use Rattle.clif_ssa.specs.Ssa.{SsaState, record_of}
 use Rattle.clif_ssa.specs.Structure.{HasRecordOf, Remembers}
 use Rattle.cranelift_frontend.specs.declared.frontend.FunctionBuilder.{FunctionBuilder}
@@ -22,3 +22,21 @@ RemembersIn variable block old new = Remembers variable block old.func.now old.c
 -- the block's record of the variable stands for the same value as this one
 abbrev pub HasRecordIn : FunctionBuilder → ℕ → ℕ → ℕ → Type 0
 HasRecordIn b variable block value = HasRecordOf b.func.now b.ctx.now.ssa variable block value
+
+-- each builder remembers what the one before it had on record for the variable in the block
+abbrev pub AreCalls : ℕ → ℕ → FunctionBuilder → List FunctionBuilder → Type 0
+AreCalls variable block b [] = Unit {0}
+AreCalls variable block b (next ∷ builders) = RemembersIn variable block b next × AreCalls variable block next builders
+
+abbrev pub last_builder : FunctionBuilder → List FunctionBuilder → FunctionBuilder
+last_builder b [] = b
+last_builder b (next ∷ builders) = last_builder next builders
+
+-- Two uses of a variable in a block: where no call between them assigns it there, their answers stand for one value.
+abbrev pub BuilderUsesAgree : Type 0
+BuilderUsesAgree =
+    (variable block first second : ℕ) (b : FunctionBuilder) (builders : List FunctionBuilder)
+    → HasRecordIn b variable block first
+    → AreCalls variable block b builders
+    → HasRecordIn (last_builder b builders) variable block second
+    → resolved (last_builder b builders).func.now first ≡ resolved (last_builder b builders).func.now second

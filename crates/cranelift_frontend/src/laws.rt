@@ -1,6 +1,13 @@
-//! Laws of what a builder stands for. The functions here have empty bodies, and their contracts are the laws.
+//! Laws of the builder's calls, and of what a builder stands for. The functions here have empty bodies, and their contracts
+//! are the laws.
 
+ghost use Rattle.cranelift_frontend.specs.Growth.{BuilderUsesAgree};
 ghost use Rattle.cranelift_frontend.specs.Laws.{StandingReadsRight};
+
+/// Two uses of a variable in a block stand for one value, where no call between them assigns it there.
+pub fn uses_agree()
+    ensures { BuilderUsesAgree }
+{}
 
 /// The unfinished function of a builder that stands for a list of calls has, beside each run of the list's program, the
 /// bits of its names and variables.

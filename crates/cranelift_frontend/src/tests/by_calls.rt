@@ -9,8 +9,8 @@ ghost use Rattle.cranelift_frontend.specs.Growth.{RecordsExist};
 
 use super::CONFIG;
 use crate::context::BlockStatus;
-use crate::{FunctionBuilder, FunctionBuilderContext, InstBuilder};
-use clif_ir::Function;
+use crate::{FunctionBuilder, FunctionBuilderContext, InstBuilder, InstBuilderBase};
+use clif_ir::{Function, InstructionData};
 use clif_ssa::Variable;
 use clif_types::types::I32;
 use clif_types::{AbiParam, Block, BuildError, CallConv, Signature, UserFuncName};
@@ -154,5 +154,36 @@ fn queries(rt: HostRuntime) -> Result<(), Fail> {
     let mut builder = FunctionBuilder::new(&mut func, &mut ctx);
     let first = filled_block(&rt, &mut builder)?;
     unreachable_block(&rt, &mut builder, first)?;
+    Ok(())
+}
+
+// The constant 5, which is built by its shape.
+fn build_five(rt: &impl Abort, builder: &mut FunctionBuilder<'_>) -> Result<(), BuildError>
+    requires current { HasCurrent builder.old }
+    ensures current { OnOk result (HasCurrent builder.new) }
+{
+    let shape = InstructionData::UnaryImm { imm: 5 };
+    let five = builder.ins().build(shape, I32)?;
+    assert!(rt; builder.inst_results(five).len() == 1);
+    Ok(())
+}
+
+/// An instruction of any shape, and the text of it.
+#[test]
+fn built_by_shape(rt: HostRuntime) -> Result<(), Fail> {
+    let alloc = rt.alloc();
+    let mut ctx = FunctionBuilderContext::new(alloc);
+    let mut func = returning_i32(alloc, "shape")?;
+    let mut builder = FunctionBuilder::new(&mut func, &mut ctx);
+    let block = first_block(&rt, &mut builder)?;
+    build_five(&rt, &mut builder)?;
+    builder.ins().return_(&[])?;
+    seal(&rt, &mut builder, block)?;
+    builder.finalize(CONFIG)?;
+    let shown = func.display();
+    assert_eq!(rt;
+        format!(in alloc; "{shown}")?.as_str(),
+        "function %shape() -> i32 system_v {\nblock0:\n    v0 = iconst.i32 5\n    return\n}\n"
+    );
     Ok(())
 }

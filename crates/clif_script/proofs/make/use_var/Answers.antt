@@ -8,6 +8,7 @@ use Rattle.clif_script.specs.declared.script.Answer.TheVariants as answer
 use Rattle.clif_script.specs.Ready.{can_use}
 use Rattle.clif_script.proofs.ReadyLaws.{ready-more}
 use Rattle.clif_script.proofs.Conditions
+use Rattle.clif_script.proofs.Limits.{one-used}
 use Rattle.clif_script.proofs.make.use_var.Goals as goal
 
 pub returns-then-not-may_use-clause-judged : goal.returns-then-not-may_use-clause-judged
@@ -49,3 +50,12 @@ returns-clause-judged c = λ calls given.
     let holds : c.may_use.result ≡ true = first_of (search rules, grind (arith, common_steps)) in
     Conditions.use-same calls c.args.builder.now c.args.answers.now ready c.args.variable
     ∙ ap (λ (types : List «Type»). can_use c.args.builder.now types c.args.variable) (sym c.requires.types) ∙ sym c.may_use.ensures ∙ holds
+
+pub returns-clause-one_call : goal.returns-clause-one_call
+returns-clause-one_call c =
+    let done = c.in_ok-value.ensures in
+    let holds : c.may_use.result ≡ true = first_of (search rules, grind (arith, common_steps)) in
+    one-used c.args.builder.now c.use_var.new.self c.args.variable c.in_ok-value.value
+    (Conditions.has-current c.requires.ready.1 c.args.builder.now c.args.answers.now c.requires.ready.2 (and_parts _ _ (sym c.may_use.ensures ∙ holds)).0)
+    (Conditions.declared-there c.args.builder.now c.args.types.now c.args.builder.now.ctx.now.variables c.args.variable c.requires.types (sym c.may_use.ensures ∙ holds))
+    done.uses (done.takes (λ same. cc)) done.grows done.variables
