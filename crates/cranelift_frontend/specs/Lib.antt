@@ -1,3 +1,4 @@
+pub mod Errors
 pub mod Context
 pub mod Builder
 pub mod Ledger

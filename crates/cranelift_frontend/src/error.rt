@@ -1,4 +1,7 @@
 //! The refusals of the builder.
+ghost use Rattle.std.specs.Prelude.{Some};
+ghost use Rattle.cranelift_frontend.specs.Errors.{finalize_error_text};
+
 use clif_types::{Block, Inst};
 use std::error::Error;
 use std::fmt;
@@ -21,6 +24,8 @@ pub enum FinalizeError {
 }
 
 impl fmt::Display for FinalizeError {
+    ghost output = { λ e. Some (finalize_error_text e) };
+
     fn fmt<W: fmt::Write>(&self, f: &mut fmt::Formatter<W>) -> fmt::Result {
         match self {
             FinalizeError::Unsealed(block) => {

@@ -1,0 +1,14 @@
+-- What the refusals of the builder print. Source: the texts of upstream's panics, for a block that isn't finished; the
+-- others are own.
+use Rattle.std.specs.Prelude.{ℕ, List, ◌++◌, codes}
+use Rattle.std.specs.Fmt.{decimal}
+use Rattle.cranelift_frontend.specs.declared.error.FinalizeError.{FinalizeError}
+use Rattle.cranelift_frontend.specs.declared.error.FinalizeError.TheVariants.{Unsealed, Unfilled, TrackedContext, Memory, Full, Failed}
+
+abbrev pub finalize_error_text : FinalizeError → List ℕ
+finalize_error_text (Unsealed block) = codes "FunctionBuilder finalized, but block block" ++ decimal block ++ codes " is not sealed"
+finalize_error_text (Unfilled block) = codes "FunctionBuilder finalized, but block block" ++ decimal block ++ codes " is not filled"
+finalize_error_text (TrackedContext inst) = codes "the context of inst" ++ decimal inst ++ codes " is a tracked value"
+finalize_error_text Memory = codes "no memory"
+finalize_error_text Full = codes "table full"
+finalize_error_text Failed = codes "failed before"
