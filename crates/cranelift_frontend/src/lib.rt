@@ -10,7 +10,18 @@ pub mod laws;
 #[cfg(test)]
 mod tests;
 
+pub use clif_ir::{
+    BinaryOpcode, BlockArg, BlockArgs, BlockCall, Function, InstructionData, ValueDef, ValueList,
+};
 pub use clif_ssa::Variable;
+pub use clif_types::{
+    AbiParam, AliasRegion, AliasRegionData, AliasRegionSet, Block, BuildError, CallConv, Constant,
+    DynamicStackSlot, DynamicStackSlotData, EntityRef, EntitySet, ExceptionTable, ExtFuncData,
+    ExternalName, FuncRef, GlobalValue, GlobalValueData, Inst, IntCC, JumpTable, LaneCount,
+    LaneType, LibCall, MemFlagsData, PointerWidth, SigRef, Signature, SourceLoc, StackSlot,
+    StackSlotData, TargetFrontendConfig, TestcaseName, TrapCode, Type, UserExternalName,
+    UserFuncName, UserStackMapEntry, Value, ValueLabel, types,
+};
 pub use context::FunctionBuilderContext;
 pub use error::FinalizeError;
 pub use frontend::FunctionBuilder;

@@ -9,11 +9,11 @@ ghost use Rattle.cranelift_frontend.specs.Growth.{RecordsExist};
 
 use super::CONFIG;
 use crate::context::BlockStatus;
-use crate::{FunctionBuilder, FunctionBuilderContext, InstBuilder, InstBuilderBase};
-use clif_ir::{Function, InstructionData};
-use clif_ssa::Variable;
-use clif_types::types::I32;
-use clif_types::{AbiParam, Block, BuildError, CallConv, Signature, UserFuncName};
+use crate::types::I32;
+use crate::{
+    AbiParam, Block, BuildError, CallConv, Function, FunctionBuilder, FunctionBuilderContext,
+    InstBuilder, InstBuilderBase, InstructionData, Signature, UserFuncName, Variable,
+};
 use std::alloc::{AllocError, Global};
 use std::process::Abort;
 use std::test::Fail;
