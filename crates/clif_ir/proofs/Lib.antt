@@ -11,3 +11,4 @@ pub mod KeepsAlias
 pub mod KeepsListed
 pub mod Edges
 pub mod KeepsBranch
+pub mod Leading
