@@ -12,3 +12,4 @@ pub mod KeepsListed
 pub mod Edges
 pub mod KeepsBranch
 pub mod Leading
+pub mod KeepsCold
