@@ -11,3 +11,5 @@ pub mod KeepsAlias
 pub mod KeepsListed
 pub mod Edges
 pub mod KeepsBranch
+pub mod Leading
+pub mod KeepsCold

@@ -1,5 +1,5 @@
 -- A function as contracts see it: tables by number, and the order of the blocks. Source: own.
-use Rattle.std.specs.Prelude.{ℕ, zero, suc, List, [], length, slice_index_or, Option, Some, None}
+use Rattle.std.specs.Prelude.{ℕ, zero, suc, List, [], length, slice_index_or, Option, Some, None, false}
 use Rattle.clif_types.specs.declared.types.«Type».TheVariants.{Invalid}
 use Rattle.clif_types.specs.Signature.{SignatureShape}
 use Rattle.clif_types.specs.declared.extname.UserFuncName.{UserFuncName}
@@ -17,7 +17,7 @@ pub record Body : Type 0 where
   pub values : List ValueNode
   -- each instruction, by its number
   pub insts : List InstNode
-  -- each block, by its number: its parameters and its instructions, in order
+  -- each block, by its number: its parameters and its instructions, in order, and whether it is cold
   pub blocks : List BlockNode
   -- the blocks of the layout, in order
   pub layout : List ℕ
@@ -29,7 +29,7 @@ empty_body name signature =
 
 -- a block as it is made
 abbrev pub empty_block : BlockNode
-empty_block = record { params = []; insts = [] }
+empty_block = record { params = []; insts = []; is_cold = false }
 
 -- what stands for a value that isn't there
 abbrev pub no_value : ValueNode

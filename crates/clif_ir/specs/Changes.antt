@@ -1,5 +1,5 @@
 -- What each call that changes a function makes of it. Source: own.
-use Rattle.std.specs.Prelude.{ℕ, List, [], ◌∷◌, ◌++◌, ◌+◌, length, slice_set, if◌then◌else◌}
+use Rattle.std.specs.Prelude.{ℕ, List, [], ◌∷◌, ◌++◌, ◌+◌, length, slice_set, if◌then◌else◌, true}
 use Rattle.std.specs.List.{range_with_len}
 use Rattle.clif_types.specs.declared.types.«Type».{«Type»}
 use Rattle.clif_ir.specs.declared.instructions.InstructionData.{InstructionData}
@@ -24,6 +24,10 @@ with_layout f b = record f { layout = f.layout ++ b ∷ [] }
 -- with block `b` at the end of the layout, unless it is in the layout
 abbrev pub inserted_in : Body → ℕ → Body
 inserted_in f b = if stands_in b f.layout then f else with_layout f b
+
+-- with block `b` cold
+abbrev pub with_cold : Body → ℕ → Body
+with_cold f b = record f { blocks = slice_set f.blocks b (record (block_at f b) { is_cold = true }) }
 
 -- with a new parameter at the end of those of block `b`
 abbrev pub with_param : Body → ℕ → «Type» → Body

@@ -1,12 +1,14 @@
 -- What the calls that read a function answer. Source: own, after the crate's documentation.
-use Rattle.std.specs.Prelude.{ℕ, ◌==◌, ◌+◌, ◌<◌, List, [], ◌∷◌, length, Option, Some, None, if◌then◌else◌, slice_get, Bool}
+use Rattle.std.specs.Prelude.{ℕ, ◌==◌, ◌+◌, ◌<◌, List, [], ◌∷◌, length, Option, Some, None, if◌then◌else◌, slice_get, Bool, map, ◌-◌}
 use Rattle.std.specs.List.{list_any}
 use Rattle.clif_ir.specs.declared.function.ValueDef.{ValueDef}
 use Rattle.clif_ir.specs.declared.function.ValueDef.TheVariants as def
 use Rattle.clif_ir.specs.declared.function.ValueOrigin.{ValueOrigin}
 use Rattle.clif_ir.specs.declared.function.ValueOrigin.TheVariants.{Result, Param, Alias}
 use Rattle.clif_ir.specs.declared.function.ValueNode.{ValueNode}
-use Rattle.clif_ir.specs.Body.{Body, block_at}
+use Rattle.clif_ir.specs.declared.block_call.BlockCall.{BlockCall}
+use Rattle.clif_ir.specs.Instruction.{destinations}
+use Rattle.clif_ir.specs.Body.{Body, block_at, inst_at}
 
 -- the entry of a list that follows the first `x`
 abbrev pub next_in : List ℕ → ℕ → Option ℕ
@@ -50,3 +52,16 @@ param_home f v = home_of_node (slice_get f.values v)
 -- whether a number stands in a list
 abbrev pub stands_in : ℕ → List ℕ → Bool
 stands_in x xs = list_any (λ y. y == x) xs
+
+-- the targets of edges, in order
+abbrev pub targets : List BlockCall → List ℕ
+targets edges = map (λ (edge : BlockCall). edge.block) edges
+
+-- the edges of an instruction, if there is one
+abbrev pub edges_of : Body → Option ℕ → List BlockCall
+edges_of f None = []
+edges_of f (Some i) = destinations (inst_at f i).shape
+
+-- the targets of the last instruction of a block
+abbrev pub successors : Body → ℕ → List ℕ
+successors f b = targets (edges_of f (slice_get (block_at f b).insts (length (block_at f b).insts - 1)))

@@ -105,6 +105,7 @@ impl Function {
         self.blocks.push_reserved(BlockNode {
             params: ValueList::new(self.alloc),
             insts: InstList::new(self.alloc),
+            is_cold: false,
         });
         self.block_places.push_reserved(BlockPlace {
             front: 0,

@@ -49,11 +49,12 @@ pub struct InstNode {
     pub srcloc: SourceLoc,
 }
 
-/// A block: its parameters and its instructions, in order.
+/// A block: its parameters and its instructions, in order, and whether it is seldom reached.
 #[derive(Debug, Drop)]
 pub struct BlockNode {
     pub params: ValueList,
     pub insts: InstList,
+    pub is_cold: bool,
 }
 
 /// Where a block stands: how many of its instructions were put at its front, and its place in the

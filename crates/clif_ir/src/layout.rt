@@ -1,7 +1,7 @@
 //! The order of the blocks, and of the instructions in them.
 ghost use Rattle.std.specs.Prelude.{◌≡◌, ◌<◌, ◌-◌, ◌↔◌, length, IsTrue, Some, slice_get, slice_index, slice_index_or, ◌^◌, OnOk, OnErr};
 ghost use Rattle.clif_ir.specs.Body.{Body, inst_at, block_at};
-ghost use Rattle.clif_ir.specs.Changes.{inserted_in, with_layout};
+ghost use Rattle.clif_ir.specs.Changes.{inserted_in, with_cold, with_layout};
 ghost use Rattle.clif_ir.specs.Consistent.{Stands};
 ghost use Rattle.clif_ir.specs.Reading.{next_in, stands_in};
 ghost use Rattle.clif_ir.specs.Whole.{no_place};
@@ -128,5 +128,22 @@ impl Function {
             return Ok(());
         }
         self.append_block(block)
+    }
+
+    /// Marks a block as cold: as one that is seldom reached. It takes no memory, and can't fail.
+    pub fn set_cold_block(&mut self, block: Block)
+        requires { block < length self.old.blocks }
+        ensures { self.new ≡ with_cold self.old block }
+    {
+        self.blocks[block.index()].is_cold = true;
+    }
+
+    /// Whether a block was marked as cold.
+    pub fn is_cold(&self, block: Block) -> bool
+        requires { block < length self.now.blocks }
+        ensures { result ≡ (block_at self.now block).is_cold }
+    {
+        let node = &self.blocks[block.index()];
+        node.is_cold
     }
 }

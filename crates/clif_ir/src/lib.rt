@@ -15,12 +15,14 @@ pub mod immediates;
 pub mod inst_list;
 pub mod instructions;
 pub mod layout;
+pub mod successors;
 pub mod value_list;
 pub mod write;
 
 pub use block_call::{BlockArg, BlockArgs, BlockCall};
 pub use function::{BlockNode, Function, InstNode, ValueDef, ValueNode, ValueOrigin};
 pub use instructions::{BinaryOpcode, InstructionData};
+pub use successors::Successors;
 pub use value_list::ValueList;
 
 #[cfg(test)]

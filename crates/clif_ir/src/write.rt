@@ -59,6 +59,9 @@ fn write_block<W: fmt::Write>(
 {
     write!(f, "{block}")?;
     write_params(f, func, block)?;
+    if func.is_cold(block) {
+        f.write_str(" cold")?;
+    }
     f.write_str(":\n")?;
     write_alias_lines(f, func, func.block_params(block))?;
     let insts = &func.blocks[block.index()].insts;

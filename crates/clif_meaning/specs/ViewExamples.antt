@@ -1,5 +1,5 @@
 -- The function of the row `first`, as the builder leaves it, and what the machines see of it.
-use Rattle.std.specs.Prelude.{◌≡◌, [], ◌∷◌, Some, pos}
+use Rattle.std.specs.Prelude.{◌≡◌, [], ◌∷◌, Some, pos, false}
 use Rattle.clif_types.specs.declared.extname.UserFuncName.TheVariants.{Testcase}
 use Rattle.clif_types.specs.declared.target.PointerWidth.TheVariants.{U64}
 use Rattle.clif_ir.specs.declared.instructions.BinaryOpcode.TheVariants as binary
@@ -26,7 +26,7 @@ first_body = record {
       ∷ record { shape = Binary binary.Iadd (0 ∷ 1 ∷ []); results = 2 ∷ []; block = 0; srcloc = 0 }
       ∷ record { shape = MultiAry (2 ∷ []); results = []; block = 0; srcloc = 0 }
       ∷ record { shape = UnaryImm (pos 0); results = 3 ∷ []; block = 0; srcloc = 0 } ∷ [];
-  blocks = record { params = []; insts = 3 ∷ 0 ∷ 1 ∷ 2 ∷ [] } ∷ [];
+  blocks = record { params = []; insts = 3 ∷ 0 ∷ 1 ∷ 2 ∷ []; is_cold = false } ∷ [];
   layout = 0 ∷ [];
 }
 

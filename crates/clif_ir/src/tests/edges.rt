@@ -4,14 +4,15 @@
 use super::steps::Step::{
     Alias, Append, Brif, Create, Iadd, Iconst, Isub, Jump, LayOut, Param, ReturnOne,
 };
-use super::steps::{make_all, makes};
-use super::support::{prints, signature};
+use super::steps::{made, make_all, makes};
+use super::support::{b, has_block, prints, signature};
 use crate::block_call::{BlockArg, BlockArgs, BlockCall};
 use crate::function::Function;
 use crate::inst_list::BlockEnd::Back;
 use crate::instructions::InstructionData;
 use clif_types::types::I32;
 use clif_types::{Block, CallConv, UserFuncName, Value};
+use std::process::Abort;
 use std::test::Fail;
 
 // The row both_arms: both edges of block2's branch go to block1, and pass what one call appended.
@@ -139,5 +140,46 @@ fn destinations(rt: HostRuntime) -> Result<(), Fail> {
         jump.branch_destination()[0].args.as_slice(),
         [BlockArg::TryCallRet(1)].as_slice()
     );
+    Ok(())
+}
+
+// Asserts to which two blocks a block leads, at most.
+fn leads_to(
+    rt: &impl Abort,
+    func: &Function,
+    block: Block,
+    first: Option<Block>,
+    second: Option<Block>,
+) {
+    assert!(rt; has_block(func, block));
+    let mut successors = func.block_successors(block);
+    assert_eq!(rt; successors.next(), first);
+    assert_eq!(rt; successors.next(), second);
+    assert_eq!(rt; successors.next(), None);
+}
+
+// The targets in printed order: none of a block that is empty or ends in no branch, and one twice where both edges go
+// to it.
+#[test]
+fn successors(rt: HostRuntime) -> Result<(), Fail> {
+    let steps = [
+        Create,
+        Create,
+        Create,
+        Create,
+        Iconst(0, Back, I32, 5),
+        Jump(0, 1),
+        Brif(1, 0, 3, 2),
+        Brif(2, 0, 1, 1),
+        Iconst(3, Back, I32, 6),
+    ];
+    let mut func = made(&rt, rt.alloc(), &steps)?;
+    let blocks = [b(&rt, 0), b(&rt, 1), b(&rt, 2), b(&rt, 3)];
+    leads_to(&rt, &func, blocks[0], Some(blocks[1]), None);
+    leads_to(&rt, &func, blocks[1], Some(blocks[3]), Some(blocks[2]));
+    leads_to(&rt, &func, blocks[2], Some(blocks[1]), Some(blocks[1]));
+    leads_to(&rt, &func, blocks[3], None, None);
+    let empty = func.create_block()?;
+    leads_to(&rt, &func, empty, None, None);
     Ok(())
 }

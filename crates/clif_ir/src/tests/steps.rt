@@ -22,6 +22,8 @@ pub enum Step {
     Create,
     /// Puts a block at the end of the layout.
     LayOut(u32),
+    /// Marks a block as cold.
+    Cold(u32),
     /// Puts a parameter at the end of those of a block.
     Param(u32, Type),
     /// Puts a constant at an end of a block.
@@ -54,6 +56,11 @@ fn lay_out(rt: &impl Abort, func: &mut Function, block: Block) -> Result<(), Fai
     assert!(rt; !func.is_block_inserted(block));
     func.append_block(block)?;
     Ok(())
+}
+
+fn cold(rt: &impl Abort, func: &mut Function, block: Block) {
+    assert!(rt; has_block(func, block));
+    func.set_cold_block(block);
 }
 
 fn param(rt: &impl Abort, func: &mut Function, block: Block, ty: Type) -> Result<(), Fail> {
@@ -144,6 +151,10 @@ fn make(rt: &impl Abort, func: &mut Function, step: Step) -> Result<(), Fail> {
             Ok(())
         }
         Step::LayOut(block) => lay_out(rt, func, b(rt, block)),
+        Step::Cold(block) => {
+            cold(rt, func, b(rt, block));
+            Ok(())
+        }
         Step::Param(block, ty) => param(rt, func, b(rt, block), ty),
         Step::Iconst(block, end, ty, imm) => {
             let shape = InstructionData::UnaryImm { imm };

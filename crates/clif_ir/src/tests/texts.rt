@@ -2,7 +2,7 @@
 #![tactic(auto)]
 
 use super::steps::Step::{
-    Alias, Create, Iadd, Iconst, LayOut, Param, Return, ReturnFour, ReturnOne,
+    Alias, Cold, Create, Iadd, Iconst, LayOut, Param, Return, ReturnFour, ReturnOne,
 };
 use super::steps::{make_all, makes};
 use super::support::{prints, signature};
@@ -54,6 +54,27 @@ fn signatures_and_headers(rt: HostRuntime) -> Result<(), Fail> {
     let text =
         "function %x(i32, i64) -> i8, f64 tail {\nblock0(v0: i32, v1: i64):\n    return\n}\n";
     prints(&rt, alloc, &func, text)
+}
+
+// A cold block says so behind its parameters.
+#[test]
+fn cold_headers(rt: HostRuntime) -> Result<(), Fail> {
+    let steps = [
+        Create,
+        Create,
+        Create,
+        LayOut(0),
+        LayOut(1),
+        LayOut(2),
+        Cold(2),
+        Cold(1),
+        Cold(1),
+        Param(1, I32),
+        Return(0),
+    ];
+    let text =
+        "function %sample() system_v {\nblock0:\n    return\n\nblock1(v0: i32) cold:\n\nblock2 cold:\n}\n";
+    makes(&rt, rt.alloc(), &steps, text)
 }
 
 // block1 comes before block0 in the layout, and block2 isn't in it. The first operand of an addition

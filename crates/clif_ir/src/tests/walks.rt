@@ -1,7 +1,7 @@
 //! The calls that read a function, once each.
 #![tactic(auto)]
 
-use super::steps::Step::{Alias, Create, Iadd, Iconst, LayOut, Param, ReturnOne};
+use super::steps::Step::{Alias, Cold, Create, Iadd, Iconst, LayOut, Param, ReturnOne};
 use super::steps::made;
 use super::support::{PLACE, b, has_block, has_inst, has_value, i, sample, v};
 use crate::function::{Function, ValueDef};
@@ -48,6 +48,20 @@ fn along_blocks(rt: HostRuntime) -> Result<(), Fail> {
     ensure_inserted(&rt, &mut func, blocks[0])?;
     follows_block(&rt, &func, blocks[2], Some(blocks[0]));
     follows_block(&rt, &func, blocks[0], None);
+    Ok(())
+}
+
+// Asserts whether a block is cold.
+fn is_cold(rt: &impl Abort, func: &Function, block: Block, cold: bool) {
+    assert!(rt; has_block(func, block));
+    assert_eq!(rt; func.is_cold(block), cold);
+}
+
+#[test]
+fn cold_blocks(rt: HostRuntime) -> Result<(), Fail> {
+    let func = made(&rt, rt.alloc(), &[Create, Create, LayOut(0), Cold(1)])?;
+    is_cold(&rt, &func, b(&rt, 0), false);
+    is_cold(&rt, &func, b(&rt, 1), true);
     Ok(())
 }
 
