@@ -1,6 +1,6 @@
 -- Worked examples of the reading on bits: the row `first` up to its constant, before its block is sealed. The variable is
 -- used before it was assigned, so its parameter waits. Own.
-use Rattle.std.specs.Prelude.{ℕ, zero, suc, List, [], ◌∷◌, Some, pos}
+use Rattle.std.specs.Prelude.{false, ℕ, zero, suc, List, [], ◌∷◌, Some, pos}
 use Rattle.clif_types.specs.declared.extname.UserFuncName.TheVariants.{Testcase}
 use Rattle.clif_ir.specs.declared.instructions.InstructionData.TheVariants.{UnaryImm}
 use Rattle.clif_ir.specs.declared.function.ValueOrigin.TheVariants.{Result, Param}
@@ -27,7 +27,7 @@ half_body_with number = record {
   signature = first_signature;
   values = record { ty = i32; origin = Param 0 } ∷ record { ty = i32; origin = Result 0 0 } ∷ [];
   insts = record { shape = UnaryImm (pos number); results = 1 ∷ []; block = 0; srcloc = 0 } ∷ [];
-  blocks = record { params = 0 ∷ []; insts = 0 ∷ [] } ∷ [];
+  blocks = record { params = 0 ∷ []; insts = 0 ∷ []; is_cold = false } ∷ [];
   layout = 0 ∷ [];
 }
 
