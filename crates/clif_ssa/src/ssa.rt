@@ -89,6 +89,7 @@ impl SSABuilder {
         ensures described { (own : ℕ → List ℕ) (f : Body) (tables : Blocks) → Describes own f self.old [] tables → Describes own f self.new [] tables }
         ensures remembers { (f : Body) (x b : ℕ) → Remembers x b f self.old f self.new }
         ensures nothing_stray { (own : ℕ → List ℕ) (f : Body) → NothingStray own f self.old → NothingStray own f self.new }
+        ensures known { OnOk result (block < length self.new.blocks) }
         ensures only_memory { OnErr result (result ≡ Err BuildError.Memory) }
     {
         self.ssa_blocks.declare(block)

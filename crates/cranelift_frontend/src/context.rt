@@ -173,6 +173,7 @@ impl FunctionBuilderContext {
         ensures blocks { SameBlocks self.old.ssa self.new.ssa }
         ensures status { self.new.status ≡ self.old.status }
         ensures variables { self.new.variables ≡ self.old.variables }
+        ensures known { OnOk result (block < length self.new.ssa.blocks) }
         ensures only_memory { OnErr result (result ≡ Err BuildError.Memory) }
     {
         self.ssa.declare_block(block)

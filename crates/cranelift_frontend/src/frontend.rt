@@ -134,9 +134,11 @@ impl<'a> FunctionBuilder<'a> {
         ensures position { self.new.position ≡ self.old.position }
         ensures full { result ≡ Err BuildError.Full → length self.old.func.now.blocks ≡ 2 ^ 32 - 1 }
         ensures failed { (result ≡ Err BuildError.Failed) ↔ IsTrue self.old.failed }
+        ensures unchanged { IsTrue self.old.failed → self.new ≡ self.old }
         ensures fails { self.new.failed ≡ is_err result }
         ensures ledger { (calls : List AnsweredCall) → AgreesWithLedger calls self.old → IfOk result (λ block. AgreesWithLedger (calls ++ record { request = CreateBlock; numbers = block ∷ [] } ∷ []) self.new) }
         ensures stands { (signature : SignatureShape) (calls : List AnsweredCall) → StandsFor signature calls self.old → IfOk result (λ block. StandsFor signature (calls ++ record { request = CreateBlock; numbers = block ∷ [] } ∷ []) self.new) }
+        ensures known { IfOk result (λ b. b < length self.new.ctx.now.ssa.blocks) }
         ensures exists { IfOk result (λ b. b < length self.new.func.now.blocks) }
         ensures grows { OnOk result (Grows self.old.func.now self.new.func.now) }
         ensures recorded { RecordsExist self.old.func.now self.old.ctx.now.ssa → OnOk result (RecordsExist self.new.func.now self.new.ctx.now.ssa) }
@@ -165,6 +167,7 @@ impl<'a> FunctionBuilder<'a> {
         ensures full { result ≡ Err BuildError.Full → IsFull self.new.func.now }
         ensures takes { result ≢ Err BuildError.Memory → Takes self.old.func.now self.new.func.now 0 0 }
         ensures failed { (result ≡ Err BuildError.Failed) ↔ IsTrue self.old.failed }
+        ensures unchanged { IsTrue self.old.failed → self.new ≡ self.old }
         ensures fails { self.new.failed ≡ is_err result }
         ensures ledger { (calls : List AnsweredCall) (name : Name) → AgreesWithLedger calls self.old → NamesBlock calls name block → OnOk result (AgreesWithLedger (calls ++ record { request = SealBlock name; numbers = [] } ∷ []) self.new) }
         ensures stands { (signature : SignatureShape) (calls : List AnsweredCall) (name : Name) → StandsFor signature calls self.old → NamesBlock calls name block → OnOk result (StandsFor signature (calls ++ record { request = SealBlock name; numbers = [] } ∷ []) self.new) }
@@ -192,6 +195,7 @@ impl<'a> FunctionBuilder<'a> {
         ensures position { self.new.position ≡ self.old.position }
         ensures full { result ≡ Err BuildError.Full → length self.old.ctx.now.variables ≡ 2 ^ 32 - 1 }
         ensures failed { (result ≡ Err BuildError.Failed) ↔ IsTrue self.old.failed }
+        ensures unchanged { IsTrue self.old.failed → self.new ≡ self.old }
         ensures fails { self.new.failed ≡ is_err result }
         ensures ledger { (calls : List AnsweredCall) → AgreesWithLedger calls self.old → IfOk result (λ variable. AgreesWithLedger (calls ++ record { request = DeclareVar ty; numbers = variable ∷ [] } ∷ []) self.new) }
         ensures stands { (signature : SignatureShape) (calls : List AnsweredCall) → StandsFor signature calls self.old → IfOk result (λ variable. StandsFor signature (calls ++ record { request = DeclareVar ty; numbers = variable ∷ [] } ∷ []) self.new) }
@@ -223,6 +227,7 @@ impl<'a> FunctionBuilder<'a> {
         ensures position { self.new.position ≡ self.old.position }
         ensures never_full { result ≢ Err BuildError.Full }
         ensures failed { (result ≡ Err BuildError.Failed) ↔ IsTrue self.old.failed }
+        ensures unchanged { IsTrue self.old.failed → self.new ≡ self.old }
         ensures fails { self.new.failed ≡ is_err result }
         ensures ledger { (calls : List AnsweredCall) (name : Name) → AgreesWithLedger calls self.old → NamesValue calls name value → OnOk result (AgreesWithLedger (calls ++ record { request = DefVar variable name; numbers = [] } ∷ []) self.new) }
         ensures stands { (signature : SignatureShape) (calls : List AnsweredCall) (name : Name) → StandsFor signature calls self.old → NamesValue calls name value → OnOk result (StandsFor signature (calls ++ record { request = DefVar variable name; numbers = [] } ∷ []) self.new) }
@@ -254,6 +259,7 @@ impl<'a> FunctionBuilder<'a> {
         ensures full { result ≡ Err BuildError.Full → IsFull self.new.func.now }
         ensures takes { result ≢ Err BuildError.Memory → Takes self.old.func.now self.new.func.now 2 1 }
         ensures failed { (result ≡ Err BuildError.Failed) ↔ IsTrue self.old.failed }
+        ensures unchanged { IsTrue self.old.failed → self.new ≡ self.old }
         ensures fails { self.new.failed ≡ is_err result }
         ensures ledger { (calls : List AnsweredCall) → AgreesWithLedger calls self.old → IfOk result (λ value. AgreesWithLedger (calls ++ record { request = UseVar variable; numbers = value ∷ [] } ∷ []) self.new) }
         ensures stands { (signature : SignatureShape) (calls : List AnsweredCall) → StandsFor signature calls self.old → IfOk result (λ value. StandsFor signature (calls ++ record { request = UseVar variable; numbers = value ∷ [] } ∷ []) self.new) }
@@ -331,6 +337,7 @@ fn make_block(func: &mut Function, ctx: &mut FunctionBuilderContext) -> Result<B
     ensures variables { ctx.new.variables ≡ ctx.old.variables }
     ensures full { result ≡ Err BuildError.Full → length func.old.blocks ≡ 2 ^ 32 - 1 }
     ensures never_failed { result ≢ Err BuildError.Failed }
+    ensures known { IfOk result (λ b. b < length ctx.new.ssa.blocks) }
     ensures exists { IfOk result (λ b. b < length func.new.blocks) }
     ensures grows { OnOk result (Grows func.old func.new) }
 {

@@ -57,6 +57,7 @@ impl<'short, 'long> InstBuilderBase<'long> for &'short mut FunctionBuilder<'long
         ensures position { self.new.position ≡ self.old.position }
         ensures full { result ≡ Err BuildError.Full → (length self.old.func.now.insts ≡ 2 ^ 32 - 1) ⊎ (length self.old.func.now.values ≡ 2 ^ 32 - 1) }
         ensures failed { (result ≡ Err BuildError.Failed) ↔ IsTrue self.old.failed }
+        ensures unchanged { IsTrue self.old.failed → self.new ≡ self.old }
         ensures fails { self.new.failed ≡ is_err result }
         ensures ledger { (calls : List AnsweredCall) (instruction : Instruction Name Name) → AgreesWithLedger calls self.old → HasShape calls instruction shape ctrl_type → IfOk result (λ inst. AgreesWithLedger (calls ++ record { request = Build instruction; numbers = inst ∷ (inst_at self.new.func.now inst).results } ∷ []) self.new) }
         ensures stands { (signature : SignatureShape) (calls : List AnsweredCall) (instruction : Instruction Name Name) → StandsFor signature calls self.old → HasShape calls instruction shape ctrl_type → IfOk result (λ inst. StandsFor signature (calls ++ record { request = Build instruction; numbers = inst ∷ (inst_at self.new.func.now inst).results } ∷ []) self.new) }
@@ -109,6 +110,7 @@ impl<'short, 'long> InstBuilder<'long> for &'short mut FunctionBuilder<'long> {
         ensures position { self.new.position ≡ self.old.position }
         ensures full { result ≡ Err BuildError.Full → (length self.old.func.now.insts ≡ 2 ^ 32 - 1) ⊎ (length self.old.func.now.values ≡ 2 ^ 32 - 1) }
         ensures failed { (result ≡ Err BuildError.Failed) ↔ IsTrue self.old.failed }
+        ensures unchanged { IsTrue self.old.failed → self.new ≡ self.old }
         ensures fails { self.new.failed ≡ is_err result }
         ensures ledger { (calls : List AnsweredCall) → AgreesWithLedger calls self.old → IfOk result (λ value. AgreesWithLedger (calls ++ record { request = iconst ty imm; numbers = length self.old.func.now.insts ∷ value ∷ [] } ∷ []) self.new) }
         ensures stands { (signature : SignatureShape) (calls : List AnsweredCall) → StandsFor signature calls self.old → IfOk result (λ value. StandsFor signature (calls ++ record { request = iconst ty imm; numbers = length self.old.func.now.insts ∷ value ∷ [] } ∷ []) self.new) }
@@ -133,6 +135,7 @@ impl<'short, 'long> InstBuilder<'long> for &'short mut FunctionBuilder<'long> {
         ensures position { self.new.position ≡ self.old.position }
         ensures full { result ≡ Err BuildError.Full → (length self.old.func.now.insts ≡ 2 ^ 32 - 1) ⊎ (length self.old.func.now.values ≡ 2 ^ 32 - 1) }
         ensures failed { (result ≡ Err BuildError.Failed) ↔ IsTrue self.old.failed }
+        ensures unchanged { IsTrue self.old.failed → self.new ≡ self.old }
         ensures fails { self.new.failed ≡ is_err result }
         ensures ledger { (calls : List AnsweredCall) (a b : Name) → AgreesWithLedger calls self.old → NamesValue calls a x → NamesValue calls b y → IfOk result (λ value. AgreesWithLedger (calls ++ record { request = iadd (ledger_of calls) a b; numbers = length self.old.func.now.insts ∷ value ∷ [] } ∷ []) self.new) }
         ensures stands { (signature : SignatureShape) (calls : List AnsweredCall) (a b : Name) → StandsFor signature calls self.old → NamesValue calls a x → NamesValue calls b y → IfOk result (λ value. StandsFor signature (calls ++ record { request = iadd (ledger_of calls) a b; numbers = length self.old.func.now.insts ∷ value ∷ [] } ∷ []) self.new) }
@@ -159,6 +162,7 @@ impl<'short, 'long> InstBuilder<'long> for &'short mut FunctionBuilder<'long> {
         ensures position { self.new.position ≡ self.old.position }
         ensures full { result ≡ Err BuildError.Full → (length self.old.func.now.insts ≡ 2 ^ 32 - 1) ⊎ (length self.old.func.now.values ≡ 2 ^ 32 - 1) }
         ensures failed { (result ≡ Err BuildError.Failed) ↔ IsTrue self.old.failed }
+        ensures unchanged { IsTrue self.old.failed → self.new ≡ self.old }
         ensures fails { self.new.failed ≡ is_err result }
         ensures ledger { (calls : List AnsweredCall) (names : List Name) → AgreesWithLedger calls self.old → map (number_of calls) names ≡ map Some values.now → IfOk result (λ inst. AgreesWithLedger (calls ++ record { request = return_ names; numbers = inst ∷ [] } ∷ []) self.new) }
         ensures stands { (signature : SignatureShape) (calls : List AnsweredCall) (names : List Name) → StandsFor signature calls self.old → map (number_of calls) names ≡ map Some values.now → IfOk result (λ inst. StandsFor signature (calls ++ record { request = return_ names; numbers = inst ∷ [] } ∷ []) self.new) }
@@ -213,6 +217,7 @@ fn append_value(
     ensures position { builder.new.position ≡ builder.old.position }
     ensures full { result ≡ Err BuildError.Full → (length builder.old.func.now.insts ≡ 2 ^ 32 - 1) ⊎ (length builder.old.func.now.values ≡ 2 ^ 32 - 1) }
     ensures failed { (result ≡ Err BuildError.Failed) ↔ IsTrue builder.old.failed }
+    ensures unchanged { IsTrue builder.old.failed → builder.new ≡ builder.old }
     ensures fails { builder.new.failed ≡ is_err result }
     ensures exists { IfOk result (λ v. v < length builder.new.func.now.values) }
     ensures grows { OnOk result (Grows builder.old.func.now builder.new.func.now) }
