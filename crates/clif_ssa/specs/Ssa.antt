@@ -37,6 +37,10 @@ Records old new variable block value =
 abbrev pub SameRecords : SsaState → SsaState → Type 0
 SameRecords old new = (v b : ℕ) → record_of new v b ≡ record_of old v b
 
+-- each record that is there stays
+abbrev pub RecordsStay : SsaState → SsaState → Type 0
+RecordsStay old new = (v b value : ℕ) → record_of old v b ≡ Some value → record_of new v b ≡ Some value
+
 -- each block is as before
 abbrev pub SameBlocks : SsaState → SsaState → Type 0
 SameBlocks old new = (b : ℕ) → sealed_of new b ≡ sealed_of old b

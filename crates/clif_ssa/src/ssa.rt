@@ -1,5 +1,5 @@
 //! The builder of SSA form.
-ghost use Rattle.std.specs.Prelude.{◌≡◌, ◌≢◌, ◌<◌, ◌&&◌, ◌==◌, ◌↔◌, ◌++◌, List, [], ◌∷◌, ℕ, IsTrue, Some, None, true, false, length, OnOk, OnErr, IfOk, IfSome, MatchOption, ◌+◌};
+ghost use Rattle.std.specs.Prelude.{◌≡◌, ◌≢◌, ◌<◌, ◌&&◌, ◌==◌, ◌↔◌, ◌++◌, List, [], ◌∷◌, ℕ, IsTrue, Some, None, true, false, length, OnOk, OnErr, IfOk, IfSome, MatchOption, ◌+◌, ◌⊎◌};
 ghost use Rattle.std.specs.Option.{option_to_list};
 ghost use Rattle.clif_ir.specs.Body.{Body, block_at, resolved};
 ghost use Rattle.clif_ir.specs.Changes.{with_param};
@@ -11,7 +11,7 @@ ghost use Rattle.clif_paths.specs.Blocks.{Blocks, last_place, with_write};
 ghost use Rattle.clif_ssa.specs.Sound.{Describes, Keeps, KeepsAndKnows};
 ghost use Rattle.clif_ssa.specs.SoundLaws.{DescribesSoundly};
 ghost use Rattle.clif_ssa.specs.Structure.{HasRecordOf, LosesWaiting, NothingStray, Remembers};
-ghost use Rattle.clif_ssa.specs.Ssa.{no_state, record_of, sealed_of, with_zero, zeroed, zeroed_in, completed, completing_blocks, Records, SameRecords, Seals, Waits, Zeroes};
+ghost use Rattle.clif_ssa.specs.Ssa.{no_state, record_of, sealed_of, with_zero, zeroed, zeroed_in, completed, completing_blocks, Records, RecordsStay, SameBlocks, SameRecords, Seals, Waits, Zeroes};
 
 use crate::tables::{BlockTable, Pending, VariableTable};
 use crate::variable::Variable;
@@ -141,6 +141,7 @@ impl SSABuilder {
         ensures remembers { (x b : ℕ) → OnOk result (Remembers x b func.old self.old func.new self.new) }
         ensures parameters { is_yes (sealed_of self.old block) ≡ true → (b : ℕ) → OnOk result ((block_at func.new b).params ≡ (block_at func.old b).params) }
         ensures nothing_stray { (own : ℕ → List ℕ) → NothingStray own func.old self.old → OnOk result (NothingStray own func.new self.new) }
+        ensures err { OnErr result (RecordsStay self.old self.new × SameBlocks self.old self.new) }
         ensures full { result ≡ Err BuildError.Full → IsFull func.new }
         ensures takes { result ≢ Err BuildError.Memory → Takes func.old func.new 2 1 }
         ensures never_failed { result ≢ Err BuildError.Failed }
@@ -161,6 +162,7 @@ impl SSABuilder {
         ensures known { IfSome (record_of self.old variable block) (λ v. OnOk result ((func.new ≡ func.old) × (self.new ≡ self.old)) × IfOk result (λ r. (r.0 ≡ v) × (r.1.instructions_added_to_blocks.items ≡ []))) }
         ensures waits { record_of self.old variable block ≡ None → is_yes (sealed_of self.old block) ≡ false → OnOk result (Waits self.old self.new func.old func.new variable ty block) × IfOk result (λ r. (r.0 ≡ length func.old.values) × (r.1.instructions_added_to_blocks.items ≡ [])) }
         ensures zero { record_of self.old variable block ≡ None → is_yes (sealed_of self.old block) ≡ true → OnOk result (Zeroes self.old self.new func.old func.new variable ty block) × IfOk result (λ r. (r.0 ≡ length func.old.values + 1) × (r.1.instructions_added_to_blocks.items ≡ block ∷ [])) }
+        ensures err { OnErr result (RecordsStay self.old self.new × SameBlocks self.old self.new) }
         ensures full { result ≡ Err BuildError.Full → IsFull func.new }
         ensures takes { result ≢ Err BuildError.Memory → Takes func.old func.new 2 1 }
         ensures never_failed { result ≢ Err BuildError.Failed }
@@ -194,6 +196,7 @@ impl SSABuilder {
         ensures remembers { (x b : ℕ) → OnOk result (Remembers x b func.old self.old func.new self.new) }
         ensures parameters { OnOk result (LosesWaiting func.old func.new (pending_of (sealed_of self.old block))) }
         ensures nothing_stray { (own : ℕ → List ℕ) → NothingStray own func.old self.old → OnOk result (NothingStray own func.new self.new) }
+        ensures err { OnErr result (SameBlocks self.old self.new ⊎ Seals self.old self.new block) }
         ensures full { result ≡ Err BuildError.Full → IsFull func.new }
         ensures takes { result ≢ Err BuildError.Memory → Takes func.old func.new 0 0 }
         ensures never_failed { result ≢ Err BuildError.Failed }
