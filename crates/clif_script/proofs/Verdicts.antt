@@ -131,3 +131,19 @@ verdict-refused calls made r e replayed agrees is =
     by : (o : Option Refusal) → RefusalAgrees made o r → (if is_some o then Refused (length calls) else Accepted) ≡ Refused (length calls)
     by None agrees = let no_way : ⊥ = cc in absurd no_way
     by (Some refusal) agrees = refl
+
+-- only the error of a full table tells one
+pub full-told : (refusal : CallError) (place : ℕ) (told : ReplayError) → told ≡ replay_error_at refusal place → told ≡ replay.Full → refusal ≡ error.Full
+full-told error.Misuse place told at full = absurd (other place (sym at ∙ full))
+  where
+    other : (j : ℕ) → replay.Misuse j ≡ replay.Full → ⊥
+    other j h = cc
+full-told error.Refused place told at full = absurd (other place (sym at ∙ full))
+  where
+    other : (j : ℕ) → replay.Refused j ≡ replay.Full → ⊥
+    other j h = cc
+full-told error.Memory place told at full = absurd (other (sym at ∙ full))
+  where
+    other : replay.Memory ≡ replay.Full → ⊥
+    other h = cc
+full-told error.Full place told at full = refl

@@ -1,6 +1,8 @@
 -- How many entries of a builder's tables calls take, and when a table may be full. Source: own.
 use Rattle.std.specs.Prelude.{◌≡◌, ◌≤◌, ◌⊎◌, ◌+◌, ◌*◌, ◌-◌, ◌^◌, ℕ, length}
+use Rattle.clif_ir.specs.Body.{Body}
 use Rattle.clif_ssa.specs.Limits.{Takes, insts_taken, values_taken}
+use Rattle.cranelift_frontend.specs.Context.{ContextState}
 use Rattle.cranelift_frontend.specs.declared.frontend.FunctionBuilder.{FunctionBuilder}
 
 -- one call takes two values, an instruction, a block and a variable at most, and keeps the function's name
@@ -17,8 +19,11 @@ pub record IsWithin (calls : ℕ) (b : FunctionBuilder) : Type 0 where
   pub blocks : length b.func.now.blocks ≤ calls
   pub variables : length b.ctx.now.variables ≤ calls
 
--- one call more may find a table full
+-- one call more may find a table of the function's, or the list of variables, full
+abbrev pub IsNearlyFullIn : Body → ContextState → Type 0
+IsNearlyFullIn f c =
+    (2 ^ 32 - 1 ≤ values_taken f + 2) ⊎ (2 ^ 32 - 1 ≤ insts_taken f + 1) ⊎ (2 ^ 32 - 1 ≤ length f.blocks) ⊎ (2 ^ 32 - 1 ≤ length c.variables)
+
+-- one of a builder's
 abbrev pub IsNearlyFull : FunctionBuilder → Type 0
-IsNearlyFull b =
-    (2 ^ 32 - 1 ≤ values_taken b.func.now + 2) ⊎ (2 ^ 32 - 1 ≤ insts_taken b.func.now + 1)
-    ⊎ (2 ^ 32 - 1 ≤ length b.func.now.blocks) ⊎ (2 ^ 32 - 1 ≤ length b.ctx.now.variables)
+IsNearlyFull b = IsNearlyFullIn b.func.now b.ctx.now

@@ -1,11 +1,12 @@
 -- What a list of calls is as a script, and what comes of it as a verdict on that script. Own.
-use Rattle.std.specs.Prelude.{◌≡◌, ℕ, List, [], ◌∷◌, ◌++◌, map, take, drop, Option, Some, None, Result, Ok, Err}
+use Rattle.std.specs.Prelude.{◌≡◌, ◌<◌, ℕ, List, [], ◌∷◌, ◌++◌, length, map, take, drop, Option, Some, None, Result, Ok, Err}
 use Rattle.clif_ir.specs.Body.{Body}
 use Rattle.clif_meaning.specs.Name.{Name}
 use Rattle.clif_meaning.specs.Request.{Request, CreateBlock, SwitchToBlock, SealBlock, DeclareVar, DefVar, UseVar, Finalize, Script, AnsweredCall, script_of}
 use Rattle.clif_meaning.specs.Ledger.{Ledger, empty_ledger, ledger_after, ledger_with}
 use Rattle.clif_meaning.specs.Acceptance.{Verdict, Accepted, Misuse, Refused, iconst, iadd, return_, verdict_from, verdict_on}
 use Rattle.clif_types.specs.Signature.{SignatureShape}
+use Rattle.clif_types.specs.declared.extname.UserFuncName.{UserFuncName}
 use Rattle.cranelift_frontend.specs.Context.{ContextState}
 use Rattle.cranelift_frontend.specs.StandsFor.{HasCallersParameters, StandsIn}
 use Rattle.clif_script.specs.declared.call.Name as named
@@ -13,6 +14,7 @@ use Rattle.clif_script.specs.declared.call.Call.{Call}
 use Rattle.clif_script.specs.declared.call.Call.TheVariants as call
 use Rattle.clif_script.specs.declared.script.ReplayError.{ReplayError}
 use Rattle.clif_script.specs.declared.script.ReplayError.TheVariants as replay
+use Rattle.clif_script.specs.Limits.{IsNearlyFullIn}
 
 -- an answer's name: the place of the call, and the number among its answers
 abbrev pub name_of : named.Name → Name
@@ -61,3 +63,17 @@ pub record IsBuiltBy (calls : List Call) (declared : SignatureShape) (f : Body) 
   pub position : Option ℕ
   pub stands : StandsIn declared made f context position
   pub parameters : HasCallersParameters made f
+
+-- A full table ends a list of calls: the calls before some place were made, and a builder of a function of this name and
+-- signature, with this context and current block, stands for them; and the call at that place may find a table of it full.
+pub record IsStoppedByTable (calls : List Call) (name : UserFuncName) (declared : SignatureShape) : Type 0 where
+  pub place : ℕ
+  pub inside : place < length calls
+  pub made : List AnsweredCall
+  pub replayed : IsReplayed calls place made
+  pub function : Body
+  pub context : ContextState
+  pub position : Option ℕ
+  pub stands : StandsIn declared made function context position
+  pub named : function.name ≡ name
+  pub table : IsNearlyFullIn function context

@@ -9,7 +9,7 @@ ghost use Rattle.clif_meaning.specs.Premises.{CallersEdgesMatch, PlacementPremis
 ghost use Rattle.clif_meaning.specs.Typing.{EdgesMatch};
 ghost use Rattle.clif_meaning.specs.WellPlaced.{WellPlaced};
 ghost use Rattle.clif_script.specs.Limits.{IsWithin};
-ghost use Rattle.clif_script.specs.Requests.{IsBuiltBy, IsReplayed, requests_of, verdict_of};
+ghost use Rattle.clif_script.specs.Requests.{IsBuiltBy, IsReplayed, IsStoppedByTable, requests_of, verdict_of};
 ghost use Rattle.cranelift_frontend.specs.Builder.{SameLoans};
 ghost use Rattle.cranelift_frontend.specs.Context.{empty_context};
 ghost use Rattle.clif_script.specs.Errors.{call_error_of, replay_error_at, call_memory, replay_memory, replay_error_text};
@@ -148,6 +148,7 @@ pub fn replay(
     ensures misuse { (i : ℕ) → result ≡ Err (ReplayError.Misuse i) → i < length calls.now }
     ensures refused { (i : ℕ) → result ≡ Err (ReplayError.Refused i) → i ≡ length calls.now }
     ensures full { result ≡ Err ReplayError.Full → 2 ^ 32 - 1 ≤ 2 * length calls.now }
+    ensures table_full { result ≡ Err ReplayError.Full → IsStoppedByTable calls.now name signature }
     ensures verdict { result ≢ Err ReplayError.Memory → result ≢ Err ReplayError.Full → verdict_of result ≡ Some (acceptance.verdict_on (requests_of calls.now)) }
 {
     let mut func = Function::with_name_signature(alloc, name, signature);
@@ -181,6 +182,7 @@ fn make_calls(
     ensures judged { (i : ℕ) → result ≡ Err (ReplayError.Misuse i) → acceptance.verdict_on (requests_of calls.now) ≡ acceptance.Misuse i }
     ensures never_refused { (i : ℕ) → result ≢ Err (ReplayError.Refused i) }
     ensures full { result ≡ Err ReplayError.Full → 2 ^ 32 - 1 ≤ 2 * length calls.now }
+    ensures table_full { result ≡ Err ReplayError.Full → IsStoppedByTable calls.now builder.old.func.now.name builder.old.func.now.signature }
 {
     let mut answers = Vec::new(alloc);
     let mut types = Vec::new(alloc);

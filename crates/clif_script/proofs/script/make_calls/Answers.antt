@@ -7,9 +7,9 @@ use Rattle.clif_script.specs.Ready.{IsReady}
 use Rattle.clif_script.specs.Requests.{request_of}
 use Rattle.std.specs.Prelude.{ℕ, Err, Result}
 use Rattle.clif_script.specs.declared.script.ReplayError.{ReplayError}
-use Rattle.clif_script.specs.declared.script.ReplayError.TheVariants.{Misuse}
+use Rattle.clif_script.specs.declared.script.ReplayError.TheVariants.{Full, Misuse}
 use Rattle.clif_script.proofs.Limits.{within-more}
-use Rattle.clif_script.proofs.Verdicts.{replayed-more, misuse-told}
+use Rattle.clif_script.proofs.Verdicts.{full-told, replayed-more, misuse-told}
 use Rattle.clif_script.proofs.script.make_calls.Goals as goal
 
 pub loop-place-preserved : goal.loop-place-preserved
@@ -43,3 +43,23 @@ returns-in-Err-clause-judged c = λ i told.
   where
     same : (e : ReplayError) (k : ℕ) → ◌≡◌ {A = Result (Unit {0}) ReplayError} (Err e) (Err (Misuse k)) → e ≡ Misuse k
     same e k h = cc
+
+pub returns-in-Err-clause-table_full : goal.returns-in-Err-clause-table_full
+returns-in-Err-clause-table_full c = λ told.
+    let invariant = c.loop-place.invariant in
+    let builder = c.loop-place.builder in
+    record {
+      place = c.loop-place.place;
+      inside = c.loop-place-test.true;
+      made = invariant.made.0;
+      replayed = invariant.made.2;
+      function = builder.func.now;
+      context = builder.ctx.now;
+      position = builder.position;
+      stands = invariant.made.1.stands;
+      named = invariant.name;
+      table = c.in-Err.ensures.full (ap Err (full-told c.in-Err.error c.loop-place.place c.at.result c.at.ensures (same c.at.result told)));
+    }
+  where
+    same : (e : ReplayError) → ◌≡◌ {A = Result (Unit {0}) ReplayError} (Err e) (Err Full) → e ≡ Full
+    same e h = cc
