@@ -101,6 +101,4 @@ with_alias_placed f v original b slots places known exists is_param placed =
       place_count = grind (arith, common_steps, placed.place_count);
       fronts_fit = placed.fronts_fit;
       slots_right = λ c. subst (λ xs. (k : ℕ) → k < length xs → slice_index slots (slice_index xs k) + (slice_index_or places c no_place).front ≡ k + 2 ^ 32) (sym (same_insts c)) (placed.slots_right c);
-      positions = placed.positions;
-      positioned = placed.positioned;
     }

@@ -103,6 +103,4 @@ with_branch_argument_placed f i b v slots places placed =
       place_count = placed.place_count;
       fronts_fit = λ c. omega (arith, count, placed.fronts_fit c);
       slots_right = placed.slots_right;
-      positions = placed.positions;
-      positioned = placed.positioned;
     }

@@ -59,6 +59,4 @@ with_cold_placed f b slots places exists placed =
       fronts_fit = placed.fronts_fit;
       slots_right = λ c.
           subst (λ xs. (k : ℕ) → k < length xs → slice_index slots (slice_index xs k) + (slice_index_or places c no_place).front ≡ k + 2 ^ 32) (sym (cold_insts f b exists c)) (placed.slots_right c);
-      positions = placed.positions;
-      positioned = placed.positioned;
     }

@@ -13,3 +13,6 @@ pub mod Edges
 pub mod KeepsBranch
 pub mod Leading
 pub mod KeepsCold
+pub mod Orders
+pub mod Links
+pub mod Linking

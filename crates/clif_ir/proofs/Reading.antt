@@ -1,6 +1,6 @@
 -- Laws of the words for what the reading calls answer.
 use Rattle.std.proofs.Common.{◌≡◌, ◌≢◌, ℕ, zero, suc, ◌+◌, ◌<◌, List, [], ◌∷◌, length, refl, ap, arith, sym, ◌∙◌, subst, inl, inr, ◌==◌, Bool, true, false}
-use Rattle.std.specs.Prelude.{slice_index, slice_get, None, if◌then◌else◌, remove}
+use Rattle.std.specs.Prelude.{slice_index, slice_get, if◌then◌else◌, remove}
 use Rattle.std.proofs.lemmas.Grind.{common_steps}
 use Rattle.std.proofs.lemmas.Bool.{cases_eq}
 use Rattle.clif_ir.specs.Consistent.{Stands, Once}
@@ -8,13 +8,13 @@ use Rattle.std.proofs.lemmas.List.Folds.{list_any_at}
 use Rattle.clif_ir.specs.Reading.{next_in, without, place_of, stands_in}
 
 -- a choice by a test that is true, and by one that is false
-if_true : {X : Type 0} (y x : ℕ) (a b : X) → y ≡ x → (if y == x then a else b) ≡ a
+pub if_true : {X : Type 0} (y x : ℕ) (a b : X) → y ≡ x → (if y == x then a else b) ≡ a
 if_true y x a b same = grind (arith, common_steps, same)
 
-if_false : {X : Type 0} (y x : ℕ) (a b : X) → y ≢ x → (if y == x then a else b) ≡ b
+pub if_false : {X : Type 0} (y x : ℕ) (a b : X) → y ≢ x → (if y == x then a else b) ≡ b
 if_false y x a b other = grind (arith, common_steps, other)
 
-Once-tail : (y : ℕ) (ys : List ℕ) → Once (y ∷ ys) → Once ys
+pub Once-tail : (y : ℕ) (ys : List ℕ) → Once (y ∷ ys) → Once ys
 Once-tail y ys once j k before inside = once (suc j) (suc k) (omega (arith, before)) (omega (arith, inside))
 
 -- what follows the only `x` is what follows its place
@@ -25,13 +25,6 @@ next_in-at (y ∷ ys) (suc k) x once inside at =
     let other : y ≢ x = λ same. once 0 (suc k) (omega arith) inside (same ∙ sym at) in
     let more : suc (k + 1) ≡ suc k + 1 = omega arith in
     if_false y x _ _ other ∙ next_in-at ys k x (Once-tail y ys once) (omega (arith, inside)) at ∙ ap (λ n. slice_get (y ∷ ys) n) more
-
--- nothing follows what isn't there
-pub next_in-none : (xs : List ℕ) (x : ℕ) → (Stands x xs → ⊥) → next_in xs x ≡ None
-next_in-none [] x absent = refl
-next_in-none (y ∷ ys) x absent =
-    if_false y x _ _ (λ same. absent (0, omega arith, same))
-    ∙ next_in-none ys x (λ here. absent (suc here.0, omega (arith, here.1), here.2))
 
 -- the place of the first `x`
 pub place_of-first : (xs : List ℕ) (k x : ℕ) → k < length xs → slice_index xs k ≡ x → ((j : ℕ) → j < k → slice_index xs j ≢ x) → place_of x xs ≡ k

@@ -1,5 +1,5 @@
 -- What each call that changes a function makes of it. Source: own.
-use Rattle.std.specs.Prelude.{ℕ, List, [], ◌∷◌, ◌++◌, ◌+◌, length, slice_set, if◌then◌else◌, true}
+use Rattle.std.specs.Prelude.{ℕ, List, [], ◌∷◌, ◌++◌, ◌+◌, ◌==◌, length, slice_set, if◌then◌else◌, true}
 use Rattle.std.specs.List.{range_with_len}
 use Rattle.clif_types.specs.declared.types.«Type».{«Type»}
 use Rattle.clif_ir.specs.declared.instructions.InstructionData.{InstructionData}
@@ -24,6 +24,15 @@ with_layout f b = record f { layout = f.layout ++ b ∷ [] }
 -- with block `b` at the end of the layout, unless it is in the layout
 abbrev pub inserted_in : Body → ℕ → Body
 inserted_in f b = if stands_in b f.layout then f else with_layout f b
+
+-- a list with `x` behind its first `y`
+abbrev pub put_behind : ℕ → ℕ → List ℕ → List ℕ
+put_behind x y [] = []
+put_behind x y (z ∷ zs) = if z == y then z ∷ x ∷ zs else z ∷ put_behind x y zs
+
+-- with block `b` behind block `after` in the layout
+abbrev pub with_layout_after : Body → ℕ → ℕ → Body
+with_layout_after f b after = record f { layout = put_behind b after f.layout }
 
 -- with block `b` cold
 abbrev pub with_cold : Body → ℕ → Body

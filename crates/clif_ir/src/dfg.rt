@@ -80,7 +80,8 @@ fn placed_at(end: BlockEnd, place: BlockPlace) -> BlockPlace
     match end {
         BlockEnd::Front => BlockPlace {
             front: place.front + 1,
-            position: place.position,
+            next: place.next,
+            is_inserted: place.is_inserted,
         },
         BlockEnd::Back => place,
     }
@@ -109,7 +110,8 @@ impl Function {
         });
         self.block_places.push_reserved(BlockPlace {
             front: 0,
-            position: None,
+            next: None,
+            is_inserted: false,
         });
         Ok(Block::from_u32(number))
     }

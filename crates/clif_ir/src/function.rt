@@ -57,21 +57,22 @@ pub struct BlockNode {
     pub is_cold: bool,
 }
 
-/// Where a block stands: how many of its instructions were put at its front, and its place in the
-/// layout.
+/// Where a block stands: how many of its instructions were put at its front, the block after it in the
+/// layout, and whether it is in the layout.
 #[derive(Clone, Copy, Debug)]
 pub(crate) struct BlockPlace {
     pub(crate) front: u32,
-    pub(crate) position: Option<usize>,
+    pub(crate) next: Option<Block>,
+    pub(crate) is_inserted: bool,
 }
 
 /// A function: blocks with parameters, instructions and values.
 ///
-/// Contracts see it as a record of lists. Beside these it keeps what makes some questions cheap, and
-/// what no contract speaks of: where each instruction and each block stands, and the pairs of a value
-/// and an alias of it, in order. An instruction at place `k` of a block with `n` instructions put at
-/// its front has the slot 2^32 + `k` - `n`, so that no slot changes as instructions are put at either
-/// end.
+/// Contracts see it as a record of lists. The layout is kept as links from each block to the next, so
+/// that a block is put behind any other in a step. Beside these it keeps what makes some questions
+/// cheap, and what no contract speaks of: where each instruction stands, and the pairs of a value and
+/// an alias of it, in order. An instruction at place `k` of a block with `n` instructions put at its
+/// front has the slot 2^32 + `k` - `n`, so that no slot changes as instructions are put at either end.
 #[derive(Debug, Drop)]
 pub struct Function {
     pub(crate) alloc: Global,
@@ -80,7 +81,8 @@ pub struct Function {
     pub(crate) values: Vec<ValueNode>,
     pub(crate) insts: Vec<InstNode>,
     pub(crate) blocks: Vec<BlockNode>,
-    pub(crate) layout: Vec<Block>,
+    pub(crate) first_block: Option<Block>,
+    pub(crate) last_block: Option<Block>,
     pub(crate) inst_slots: Vec<u64>,
     pub(crate) block_places: Vec<BlockPlace>,
     pub(crate) aliases: BTreeSet<(Value, Value)>,
@@ -110,7 +112,8 @@ impl Function {
             values: Vec::new(alloc),
             insts: Vec::new(alloc),
             blocks: Vec::new(alloc),
-            layout: Vec::new(alloc),
+            first_block: None,
+            last_block: None,
             inst_slots: Vec::new(alloc),
             block_places: Vec::new(alloc),
             aliases: BTreeSet::new(alloc),

@@ -1,10 +1,10 @@
 //! The order of the blocks, and of the instructions in them.
-ghost use Rattle.std.specs.Prelude.{◌≡◌, ◌<◌, ◌-◌, ◌↔◌, length, IsTrue, Some, slice_get, slice_index, slice_index_or, ◌^◌, OnOk, OnErr};
+ghost use Rattle.std.specs.Prelude.{◌≡◌, [], ◌<◌, ◌-◌, ◌↔◌, length, IsTrue, Some, slice_get, slice_index, slice_index_or, slice_set, true, ◌^◌, OnOk, OnErr};
 ghost use Rattle.clif_ir.specs.Body.{Body, inst_at, block_at};
-ghost use Rattle.clif_ir.specs.Changes.{inserted_in, with_cold, with_layout};
+ghost use Rattle.clif_ir.specs.Changes.{inserted_in, with_cold, with_layout, with_layout_after};
 ghost use Rattle.clif_ir.specs.Consistent.{Stands};
 ghost use Rattle.clif_ir.specs.Reading.{next_in, stands_in};
-ghost use Rattle.clif_ir.specs.Whole.{no_place};
+ghost use Rattle.clif_ir.specs.Whole.{last_after, linked_after, no_place};
 
 use crate::function::{BlockPlace, Function};
 use clif_types::{Block, BuildError, EntityRef, Inst};
@@ -17,11 +17,42 @@ fn place_at(places: &[BlockPlace], block: Block) -> BlockPlace
     places[block.index()]
 }
 
-// The block at a place of the layout.
-fn nth_block(layout: &[Block], place: usize) -> Option<Block>
-    ensures { result ≡ slice_get layout.now place }
+// Puts a block behind another one in the links.
+fn link_after(places: &mut [BlockPlace], block: Block, after: Block)
+    requires block_exists { block < length places.old }
+    requires after_exists { after < length places.old }
+    ensures { places.new ≡ linked_after places.old block after }
 {
-    layout.get(place).copied()
+    let own = places[block.index()];
+    let before = places[after.index()];
+    places[block.index()] = BlockPlace {
+        front: own.front,
+        next: before.next,
+        is_inserted: true,
+    };
+    places[after.index()] = BlockPlace {
+        front: before.front,
+        next: Some(block),
+        is_inserted: before.is_inserted,
+    };
+}
+
+// Marks a block as one of the layout.
+fn mark_inserted(places: &mut [BlockPlace], block: Block)
+    requires { block < length places.old }
+    ensures { places.new ≡ slice_set places.old block (record (slice_index_or places.old block no_place) { is_inserted = true }) }
+{
+    places[block.index()].is_inserted = true;
+}
+
+// The last block as `block` is put behind a block that `next` followed.
+fn last_after(last: Option<Block>, next: Option<Block>, block: Block) -> Option<Block>
+    ensures { result ≡ last_after last next block }
+{
+    match next {
+        None => Some(block),
+        Some(_) => last,
+    }
 }
 
 impl Function {
@@ -77,7 +108,7 @@ impl Function {
     pub fn entry_block(&self) -> Option<Block>
         ensures { result ≡ slice_get self.now.layout 0 }
     {
-        self.layout.first().copied()
+        self.first_block
     }
 
     /// Whether a block is in the layout.
@@ -86,7 +117,7 @@ impl Function {
         ensures meaning { IsTrue result ↔ Stands block self.now.layout }
         ensures test { result ≡ stands_in block self.now.layout }
     {
-        place_at(&self.block_places, block).position.is_some()
+        place_at(&self.block_places, block).is_inserted
     }
 
     /// The block after `block` in the layout, if `block` is in it and isn't the last. It walks along
@@ -95,10 +126,38 @@ impl Function {
         requires { block < length self.now.blocks }
         ensures { result ≡ next_in self.now.layout block }
     {
-        let Some(position) = place_at(&self.block_places, block).position else {
-            return None;
-        };
-        nth_block(&self.layout, position + 1)
+        place_at(&self.block_places, block).next
+    }
+
+    // The last block of the layout, if there is one.
+    fn last_block(&self) -> Option<Block>
+        ensures { result ≡ slice_get self.now.layout (length self.now.layout - 1) }
+    {
+        self.last_block
+    }
+
+    /// Puts a block, which isn't in the layout, behind a block that is in it. It walks along nothing, and
+    /// can't fail.
+    pub fn insert_block_after(&mut self, block: Block, after: Block)
+        requires exists { block < length self.old.blocks }
+        requires outside { Stands block self.old.layout → ⊥ }
+        requires inside { Stands after self.old.layout }
+        ensures { self.new ≡ with_layout_after self.old block after }
+    {
+        let next = place_at(&self.block_places, after).next;
+        self.last_block = last_after(self.last_block, next, block);
+        link_after(&mut self.block_places, block, after);
+    }
+
+    // Puts a block into a layout that is empty.
+    fn insert_only_block(&mut self, block: Block)
+        requires exists { block < length self.old.blocks }
+        requires empty { self.old.layout ≡ [] }
+        ensures { self.new ≡ with_layout self.old block }
+    {
+        self.first_block = Some(block);
+        self.last_block = Some(block);
+        mark_inserted(&mut self.block_places, block);
     }
 
     /// Puts a block, which isn't in the layout, at its end. The first one so put is the entry. The only
@@ -110,9 +169,11 @@ impl Function {
         ensures only_memory { OnErr result (result ≡ Err BuildError.Memory) }
         ensures err { OnErr result (self.new ≡ self.old) }
     {
-        let position = self.layout.len();
-        self.layout.push(block)?;
-        self.block_places[block.index()].position = Some(position);
+        self.law_consistent();
+        match self.last_block() {
+            Some(last) => self.insert_block_after(block, last),
+            None => self.insert_only_block(block),
+        }
         Ok(())
     }
 

@@ -22,6 +22,8 @@ pub enum Step {
     Create,
     /// Puts a block at the end of the layout.
     LayOut(u32),
+    /// Puts a block behind a block of the layout.
+    LayOutAfter(u32, u32),
     /// Marks a block as cold.
     Cold(u32),
     /// Puts a parameter at the end of those of a block.
@@ -56,6 +58,13 @@ fn lay_out(rt: &impl Abort, func: &mut Function, block: Block) -> Result<(), Fai
     assert!(rt; !func.is_block_inserted(block));
     func.append_block(block)?;
     Ok(())
+}
+
+fn lay_out_after(rt: &impl Abort, func: &mut Function, block: Block, after: Block) {
+    assert!(rt; has_block(func, block) && has_block(func, after));
+    assert!(rt; !func.is_block_inserted(block));
+    assert!(rt; func.is_block_inserted(after));
+    func.insert_block_after(block, after);
 }
 
 fn cold(rt: &impl Abort, func: &mut Function, block: Block) {
@@ -151,6 +160,10 @@ fn make(rt: &impl Abort, func: &mut Function, step: Step) -> Result<(), Fail> {
             Ok(())
         }
         Step::LayOut(block) => lay_out(rt, func, b(rt, block)),
+        Step::LayOutAfter(block, after) => {
+            lay_out_after(rt, func, b(rt, block), b(rt, after));
+            Ok(())
+        }
         Step::Cold(block) => {
             cold(rt, func, b(rt, block));
             Ok(())

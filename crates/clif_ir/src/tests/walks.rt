@@ -1,9 +1,11 @@
 //! The calls that read a function, once each.
 #![tactic(auto)]
 
-use super::steps::Step::{Alias, Cold, Create, Iadd, Iconst, LayOut, Param, ReturnOne};
+use super::steps::Step::{
+    Alias, Cold, Create, Iadd, Iconst, LayOut, LayOutAfter, Param, ReturnOne,
+};
 use super::steps::made;
-use super::support::{PLACE, b, has_block, has_inst, has_value, i, sample, v};
+use super::support::{PLACE, b, has_block, has_inst, has_value, i, prints, sample, v};
 use crate::function::{Function, ValueDef};
 use crate::inst_list::BlockEnd::{Back, Front};
 use clif_types::types::{I8, I32, I64};
@@ -49,6 +51,36 @@ fn along_blocks(rt: HostRuntime) -> Result<(), Fail> {
     follows_block(&rt, &func, blocks[2], Some(blocks[0]));
     follows_block(&rt, &func, blocks[0], None);
     Ok(())
+}
+
+// block0 is put behind the only block, block3 behind the first one, block4 in the middle and block5
+// behind the last one. A block that is put at the end later comes behind them.
+#[test]
+fn blocks_behind_others(rt: HostRuntime) -> Result<(), Fail> {
+    let alloc = rt.alloc();
+    let steps = [
+        Create,
+        Create,
+        Create,
+        Create,
+        Create,
+        Create,
+        LayOut(1),
+        LayOutAfter(0, 1),
+        LayOutAfter(3, 1),
+        LayOutAfter(4, 3),
+        LayOutAfter(5, 0),
+        LayOut(2),
+    ];
+    let func = made(&rt, alloc, &steps)?;
+    assert_eq!(rt; func.entry_block(), Some(b(&rt, 1)));
+    follows_block(&rt, &func, b(&rt, 4), Some(b(&rt, 0)));
+    follows_block(&rt, &func, b(&rt, 5), Some(b(&rt, 2)));
+    follows_block(&rt, &func, b(&rt, 2), None);
+    is_laid_out(&rt, &func, b(&rt, 5), true);
+    let text =
+        "function %sample() system_v {\nblock1:\n\nblock3:\n\nblock4:\n\nblock0:\n\nblock5:\n\nblock2:\n}\n";
+    prints(&rt, alloc, &func, text)
 }
 
 // Asserts whether a block is cold.

@@ -9,6 +9,7 @@ use Rattle.clif_ir.proofs.function.Function.append_branch_argument.Goals as goal
 
 pub invariant_of-self-2 : goal.invariant_of-self-2
 invariant_of-self-2 c = record {
+  linked = c.self.invariant.linked;
   listed = c.self.invariant.listed;
   consistent = consistent_at (with_branch_argument (body_of c.self.inside) c.args.inst c.args.block c.args.value) _ (first_of (search rules, grind (arith, common_steps)))
       (with_branch_argument_consistent _ _ _ _ c.self.invariant.consistent (grind (arith, common_steps)) (grind (arith, common_steps)));

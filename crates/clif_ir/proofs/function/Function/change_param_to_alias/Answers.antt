@@ -18,6 +18,7 @@ invariant_of-self-2 c =
     subst (λ (f : Body). (value_at f c.args.param).origin ≡ Param (home_of (value_at f c.args.param).origin)) (sym c.self.view_is) c.requires.is_param in
     let apart : resolved (body_of c.self.inside) c.args.original ≢ c.args.param = subst (λ (f : Body). resolved f c.args.original ≢ c.args.param) (sym c.self.view_is) c.requires.apart in
     record {
+      linked = c.self.invariant.linked;
       listed = listed_alias_with c.self.inside.values.items _ c.args.param c.resolve_aliases-target.result
           (record { ty = c.index_mut-2.result.now.ty; origin = Alias c.resolve_aliases-target.result }) _ _ _ c.in_ok-insert.ensures.keys (first_of (search rules, grind (arith, common_steps)))
           (exact_pairs _ _ exact_unsigned exact_unsigned) (grind (arith, common_steps)) (ap alias_of_origin param) refl c.self.invariant.listed;

@@ -9,6 +9,7 @@ use Rattle.clif_ir.proofs.function.Function.set_cold_block.Goals as goal
 
 pub invariant_of-self : goal.invariant_of-self
 invariant_of-self c = record {
+  linked = c.self.invariant.linked;
   listed = c.self.invariant.listed;
   consistent = consistent_at (with_cold (body_of c.self.inside) c.args.block) _ (first_of (search rules, grind (arith, common_steps)))
       (with_cold_consistent _ _ c.self.invariant.consistent (grind (arith, common_steps)));

@@ -1,0 +1,42 @@
+use Rattle.std.proofs.Common.{rules, arith, ◌∙◌, ◌≡◌, ◌<◌, length, ap, sym, subst}
+use Rattle.std.specs.Prelude.{slice_index_or}
+use Rattle.std.specs.Vec.{with_items}
+use Rattle.std.proofs.lemmas.Grind.{common_steps}
+use Rattle.clif_ir.specs.declared.function.BlockPlace.{BlockPlace}
+use Rattle.clif_ir.specs.Body.{Body}
+use Rattle.clif_ir.specs.Changes.{with_layout_after}
+use Rattle.clif_ir.specs.Consistent.{IsConsistent, Stands}
+use Rattle.clif_ir.specs.Whole.{IsPlaced, IsLinked, body_of, last_after, linked_after, no_place}
+use Rattle.clif_ir.proofs.Linking.{IsOrdered, ordered_behind, ordered_read}
+use Rattle.clif_ir.proofs.function.Function.insert_block_after.Goals as goal
+
+pub invariant_of-self : goal.invariant_of-self
+invariant_of-self c =
+    let kept : (with_items c.self.inside.block_places c.link_after.new.places).items ≡ c.link_after.new.places = first_of (search rules, grind (arith, common_steps)) in
+    let there : IsOrdered (body_of c.self.inside) _ _ _ _ _ = ordered_read _ _ _ _ (with_items c.self.inside.block_places c.link_after.new.places).items _ _ c.last_after-self-inside.result
+    (kept ∙ c.link_after.ensures ∙ ap (λ ps. linked_after ps c.args.block c.args.after) c.deref_mut.ensures.value)
+    (c.last_after-self-inside.ensures ∙ ap (λ (p : BlockPlace). last_after c.self.inside.last_block p.next c.args.block) (c.place_at-next.ensures ∙ ap (λ ps. slice_index_or ps c.args.after no_place) c.deref.ensures.value))
+    (ordered_behind (body_of c.self.inside) c.self.inside.inst_slots.items c.self.inside.block_places.items c.self.inside.first_block c.self.inside.last_block c.args.block c.args.after
+    (subst (λ (f : Body). c.args.block < length f.blocks) (sym c.self.view_is) c.requires.exists)
+    (subst (λ (f : Body). Stands c.args.after f.layout) (sym c.self.view_is) c.requires.inside)
+    (subst (λ (f : Body). Stands c.args.block f.layout → ⊥) (sym c.self.view_is) c.requires.outside)
+    c.self.invariant.consistent c.self.invariant.placed c.self.invariant.linked) in
+    record {
+      linked = subst (λ l. IsLinked l (with_items c.self.inside.block_places c.link_after.new.places).items c.self.inside.first_block c.last_after-self-inside.result) (sym there.chained) there.linked;
+      listed = c.self.invariant.listed;
+      consistent = subst (λ l. IsConsistent (record (body_of c.self.inside) { layout = l })) (sym there.chained) there.consistent;
+      placed = subst (λ l. IsPlaced (record (body_of c.self.inside) { layout = l }) c.self.inside.inst_slots.items (with_items c.self.inside.block_places c.link_after.new.places).items) (sym there.chained) there.placed;
+    }
+
+pub returns : goal.returns
+returns c =
+    let kept : (with_items c.self.inside.block_places c.link_after.new.places).items ≡ c.link_after.new.places = first_of (search rules, grind (arith, common_steps)) in
+    let there : IsOrdered (body_of c.self.inside) _ _ _ _ _ = ordered_read _ _ _ _ (with_items c.self.inside.block_places c.link_after.new.places).items _ _ c.last_after-self-inside.result
+    (kept ∙ c.link_after.ensures ∙ ap (λ ps. linked_after ps c.args.block c.args.after) c.deref_mut.ensures.value)
+    (c.last_after-self-inside.ensures ∙ ap (λ (p : BlockPlace). last_after c.self.inside.last_block p.next c.args.block) (c.place_at-next.ensures ∙ ap (λ ps. slice_index_or ps c.args.after no_place) c.deref.ensures.value))
+    (ordered_behind (body_of c.self.inside) c.self.inside.inst_slots.items c.self.inside.block_places.items c.self.inside.first_block c.self.inside.last_block c.args.block c.args.after
+    (subst (λ (f : Body). c.args.block < length f.blocks) (sym c.self.view_is) c.requires.exists)
+    (subst (λ (f : Body). Stands c.args.after f.layout) (sym c.self.view_is) c.requires.inside)
+    (subst (λ (f : Body). Stands c.args.block f.layout → ⊥) (sym c.self.view_is) c.requires.outside)
+    c.self.invariant.consistent c.self.invariant.placed c.self.invariant.linked) in
+    ap (λ l. record (body_of c.self.inside) { layout = l }) there.chained ∙ ap (λ f. with_layout_after f c.args.block c.args.after) c.self.view_is
