@@ -132,12 +132,11 @@ none_match f (Some call) = tt
 
 edges_match_at : (f : Body) (insts : List ℕ) → AllByRecursion (IsPlain f) insts → EdgesMatchAt f (map (placed_at_inst f) insts)
 edges_match_at f [] plain = tt
-edges_match_at f (i ∷ insts) plain =
-    (
-      subst (EachEdgeMatches (view_of f).value_type (value_types_at (view_of f)) (call_shape (operation_of (inst_at f i).shape))) (sym plain.0)
-          (none_match f (call_shape (operation_of (inst_at f i).shape))),
-      edges_match_at f insts plain.1,
-    )
+edges_match_at f (i ∷ insts) plain = (
+  subst (EachEdgeMatches (view_of f).value_type (value_types_at (view_of f)) (call_shape (operation_of (inst_at f i).shape))) (sym plain.0)
+      (none_match f (call_shape (operation_of (inst_at f i).shape))),
+  edges_match_at f insts plain.1,
+)
 
 -- no edge exists so far
 pub edges_match : (calls : List AnsweredCall) (f : Body) (s : SsaState) → Carries calls f s → EdgesMatch (view_of f)
