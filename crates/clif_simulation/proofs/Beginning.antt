@@ -104,4 +104,5 @@ carries_nothing name signature =
       describes = first.0;
       sound = first.1;
       nothing_stray = first_stray name signature;
+      nothing_leads = λ b. refl;
     }

@@ -18,7 +18,7 @@ use Rattle.clif_paths.specs.Blocks.{Blocks, last_place, with_item, with_born}
 use Rattle.clif_paths.proofs.Tables.{updated-same, updated-other}
 use Rattle.clif_ssa.specs.Ssa.{SsaState}
 use Rattle.clif_ssa.specs.Sound.{SameProgram}
-use Rattle.clif_ssa.specs.SoundLaws.{with_entry, with_own, DescribesSoundly}
+use Rattle.clif_ssa.specs.SoundLaws.{with_entry, with_own, DescribesSoundly, IsOpen}
 use Rattle.clif_ssa.specs.Structure.{NothingStray}
 use Rattle.clif_ssa.proofs.Straying.{own_stray, inserted_stray}
 use Rattle.clif_ssa.proofs.Bodies.{Firm, firm_from}
@@ -43,6 +43,7 @@ use Rattle.clif_simulation.proofs.Carrying.{carries_item, numbers_kept, all_mapp
 use Rattle.clif_simulation.proofs.ItemCalls.{PutsItem, adds_instruction, adds_result, last-with_item, number_of_answer}
 use Rattle.clif_simulation.proofs.Growing.{placed_kept, goes_on-then, goes_on-inserted, goes_on-with_inst}
 use Rattle.clif_simulation.proofs.Values.{is_value_at, false_is, values_added, next_is_new}
+use Rattle.clif_simulation.proofs.Unbranched.{open_everywhere, nothing_counts}
 use Rattle.clif_simulation.proofs.Calls.{values_same, name_stays, longer_calls}
 
 -- an instruction as the machine sees it, by its parts
@@ -89,7 +90,12 @@ module _ (calls : List AnsweredCall) (f : Body) (s : SsaState) (c : Carries call
   same_side = (entry_same f.layout s b c.tables).program
 
   before : DescribesSoundly c.own h s T
-  before = inserted c.own f s [] c.tables b c.describes c.sound
+  before =
+      let entered = inserted c.own f s [] c.tables b c.describes c.sound in
+      (entered.0, entered.1, nothing_counts h s T c.nothing_leads)
+
+  open_block : IsOpen h s b
+  open_block = open_everywhere h s b c.nothing_leads
 
   firm : Firm h
   firm = inserted_firm f b (firm_from f consistent)
@@ -152,14 +158,14 @@ module _ (calls : List AnsweredCall) (f : Body) (s : SsaState) (c : Carries call
 
     pub carries_terminator : Carries after g s
     carries_terminator =
-        let described = own_described c.own h s T b shape loc firm before there_still in
+        let described = own_described c.own h s T b shape loc firm before open_block there_still in
         let adds = adds_instruction calls call T b B current.named unwritten instruction puts in
         carries_item calls call f g s s c (placed_kept f g consistent on) on.more_insts b B (Instruct (length calls) instruction []) T (with_item T b) adds
         (restated calls c.tables T same_side c.program)
         (with_own c.own b (length h.insts)) (length h.insts ∷ []) own_here own_elsewhere new_is (longer_insts [], tt) (earlier_after, tt, matches.edges)
         (values_added calls call T (with_item T b) b B (Instruct (length calls) instruction []) adds none_given (values_same calls c.tables T same_side c.values_given))
         (entry_begun calls after f g b B (Requests.entry_instructed calls call B current.current instruction refl) refl current.named (name_stays calls f s c call matches.edges) c.entry)
-        described.0 described.1 (stray_after [])
+        described.0 described.1 (stray_after []) c.nothing_leads
 
   -- with one result
   module _ (ty : «Type») (one_result : result_types instruction.operation instruction.controlling ≡ ty ∷ []) (controlling : instruction.controlling ≡ ty)
@@ -200,7 +206,7 @@ module _ (calls : List AnsweredCall) (f : Body) (s : SsaState) (c : Carries call
 
     pub carries_result : Carries after k s
     carries_result =
-        let described = own_result_described c.own h s T b (code result) shape ty loc firm before there_still (next_is_new calls T 1 (restated calls c.tables T same_side c.program)) in
+        let described = own_result_described c.own h s T b (code result) shape ty loc firm before open_block there_still (next_is_new calls T 1 (restated calls c.tables T same_side c.program)) in
         let T' : Blocks = with_born (with_item T b) (last_place (with_item T b) b) (code result) (length h.values) in
         let adds = adds_result calls call T b B current.named unwritten instruction (length h.values) (last_place (with_item T b) b) puts_result number (last-with_item T b) in
         carries_item calls call f k s s c (placed_kept f k consistent goes) goes.more_insts b B (Instruct (length calls) instruction (result ∷ [])) T T' adds
@@ -209,4 +215,4 @@ module _ (calls : List AnsweredCall) (f : Body) (s : SsaState) (c : Carries call
         (earlier_after, (let l = longer_calls calls f s c call in omega (arith, l), tt), matches.edges)
         (values_added calls call T T' b B (Instruct (length calls) instruction (result ∷ [])) adds given_result (values_same calls c.tables T same_side c.values_given))
         (entry_begun calls after f k b B (Requests.entry_instructed calls call B current.current instruction refl) refl current.named (name_stays calls f s c call matches.edges) c.entry)
-        described.0 described.1 (stray_after (ty ∷ []))
+        described.0 described.1 (stray_after (ty ∷ [])) c.nothing_leads

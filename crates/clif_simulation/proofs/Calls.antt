@@ -10,11 +10,12 @@ use Rattle.clif_paths.specs.Places.{inside}
 use Rattle.clif_paths.specs.State.{Naming}
 use Rattle.clif_paths.specs.Blocks.{Blocks, with_item, with_read, with_write}
 use Rattle.clif_ssa.specs.Tables.{pending_of}
-use Rattle.clif_ssa.specs.Ssa.{SsaState, sealed_of, completed, Records, SameRecords, SameBlocks, Seals}
+use Rattle.clif_ssa.specs.Ssa.{SsaState, sealed_of, completed, Records, SamePredecessors, SameRecords, SameBlocks, Seals}
 use Rattle.clif_ssa.specs.Sound.{SameProgram, KeepsAndKnows, entry_of}
+use Rattle.clif_ssa.specs.SoundLaws.{DescribesSoundly}
 use Rattle.clif_ssa.proofs.Bodies.{firm_from}
 use Rattle.clif_ssa.proofs.Completing.{same_program}
-use Rattle.clif_ssa.proofs.Sealing.{seal_keeps}
+use Rattle.clif_ssa.proofs.Locally.{seals_locally}
 use Rattle.clif_ssa.specs.Structure.{NothingStray}
 use Rattle.clif_ssa.proofs.Straying.{block_stray, same_stray, seal_stray}
 use Rattle.clif_ssa.proofs.Writing.{same_state, block_described, write_item_described, read_item_described}
@@ -23,7 +24,7 @@ use Rattle.clif_meaning.specs.Request.{Request, CreateBlock, SwitchToBlock, Seal
 use Rattle.clif_meaning.specs.Ledger.{BlockState, ABlock, AVariable, AValue, ledger_after, has_value, or_invalid, variable_type}
 use Rattle.clif_meaning.specs.Program.{Use, Assign}
 use Rattle.clif_simulation.specs.Tables.{code, number_or_none, program_so_far, block_name}
-use Rattle.clif_simulation.specs.Carries.{Carries, IsCurrent, ValuesGiven, GoesOn}
+use Rattle.clif_simulation.specs.Carries.{Carries, IsCurrent, NothingLeads, ValuesGiven, GoesOn}
 use Rattle.std.proofs.lemmas.List.{append-nil}
 use Rattle.clif_ir.specs.declared.function.BlockNode.{BlockNode}
 use Rattle.clif_simulation.proofs.NameLists.{the_one, MakesNoBlock, names_stay, names_of}
@@ -31,6 +32,7 @@ use Rattle.clif_simulation.proofs.Staying.{unchanged, created, restated, old_or_
 use Rattle.clif_simulation.proofs.Requests
 use Rattle.clif_simulation.proofs.Requests.{entry_stays, entry_begun}
 use Rattle.clif_simulation.proofs.Carrying.{carries_on, carries_item}
+use Rattle.clif_simulation.proofs.Unbranched.{open_everywhere, nothing_counts, nothing_still}
 use Rattle.clif_simulation.proofs.ItemCalls.{adds_use, adds_assignment}
 use Rattle.clif_simulation.proofs.Growing.{placed_kept, goes_on-completed}
 use Rattle.clif_simulation.proofs.Values.{is_value_at, false_is, values_kept, values_added, next_is_new, value_answered}
@@ -89,17 +91,17 @@ module _ (calls : List AnsweredCall) (f : Body) (s : SsaState) (c : Carries call
   name_was call no_block b N is = inl (sym (names_stay calls call no_block b) ∙ is)
 
   -- a block is made
-  pub carries_created : (t : SsaState) (numbers : List ℕ) → length (ledger_after (script_of calls)).blocks ≡ length f.blocks → SameRecords s t → SameBlocks s t
+  pub carries_created : (t : SsaState) (numbers : List ℕ) → length (ledger_after (script_of calls)).blocks ≡ length f.blocks → SameRecords s t → SameBlocks s t → SamePredecessors s t
       → Carries (with_answers CreateBlock numbers) (with_block f) t
-  carries_created t numbers as_many records same =
+  carries_created t numbers as_many records same leads =
       let call : AnsweredCall = the_call CreateBlock numbers in
       carries_on calls call f (with_block f) s t c (λ i below. refl) (omega arith) c.tables
       (created calls call refl c.tables c.tables (same_program c.tables) (Requests.items_created calls call refl) c.program)
       named (kept calls call refl) (Requests.items_created calls call refl)
       (values_kept calls call c.tables c.tables (same_program c.tables) one_answer_none c.values_given)
       (entry_stays calls (calls ++ call ∷ []) f (with_block f) (Requests.entry_created calls call refl) refl (kept calls call refl) c.entry)
-      (same_state c.own (with_block f) s t c.tables records same (block_described c.own f s c.tables c.describes))
-      c.sound (same_stray c.own (with_block f) s t same (block_stray c.own f s c.nothing_stray))
+      (same_state c.own (with_block f) s t c.tables records same leads (block_described c.own f s c.tables c.describes))
+      c.sound (same_stray c.own (with_block f) s t same (block_stray c.own f s c.nothing_stray)) (nothing_still s t leads c.nothing_leads)
     where
       empty : (b : ℕ) → b ≡ length (names_of (ledger_after (script_of calls)).blocks) → c.own b ≡ []
       empty b last =
@@ -131,7 +133,7 @@ module _ (calls : List AnsweredCall) (f : Body) (s : SsaState) (c : Carries call
       (name_was call tt) (name_stays call tt) (Requests.items_switched calls call block refl)
       (values_kept calls call c.tables c.tables (same_program c.tables) (λ index. refl) c.values_given)
       (entry_stays calls (calls ++ call ∷ []) f f (Requests.entry_switched calls call block refl) refl (name_stays call tt) c.entry)
-      c.describes c.sound c.nothing_stray
+      c.describes c.sound c.nothing_stray c.nothing_leads
 
   -- a variable is declared
   pub carries_declared : (ty : «Type») (numbers : List ℕ) → Carries (with_answers (DeclareVar ty) numbers) f s
@@ -142,33 +144,34 @@ module _ (calls : List AnsweredCall) (f : Body) (s : SsaState) (c : Carries call
       (name_was call tt) (name_stays call tt) (Requests.items_declared calls call ty refl)
       (values_kept calls call c.tables c.tables (same_program c.tables) (one_variable_none (length (ledger_after (script_of calls)).variables)) c.values_given)
       (entry_stays calls (calls ++ call ∷ []) f f (Requests.entry_declared calls call ty refl) refl (name_stays call tt) c.entry)
-      c.describes c.sound c.nothing_stray
+      c.describes c.sound c.nothing_stray c.nothing_leads
 
   -- a block is sealed, and the entry stays
-  pub carries_sealed : (t : SsaState) (block : Name) (numbers : List ℕ) (b : ℕ) → IsConsistent f → SameRecords s t → Seals s t b
+  pub carries_sealed : (t : SsaState) (block : Name) (numbers : List ℕ) (b : ℕ) → IsConsistent f → SameRecords s t → Seals s t b → SamePredecessors s t
       → entry_of (completed f (pending_of (sealed_of s b))) ≡ entry_of f
       → Carries (with_answers (SealBlock block) numbers) (completed f (pending_of (sealed_of s b))) t
-  carries_sealed t block numbers b consistent records seals entry =
+  carries_sealed t block numbers b consistent records seals leads entry =
       let call : AnsweredCall = the_call (SealBlock block) numbers in
       let g : Body = completed f (pending_of (sealed_of s b)) in
-      let after = seal_keeps c.own f s t c.tables b (firm_from f consistent) c.describes c.sound records seals in
+      let after = seals_locally c.own f s t c.tables b consistent (c.describes, c.sound, nothing_counts f s c.tables c.nothing_leads) (c.nothing_leads b) records seals leads in
       let on = goes_on-completed f (pending_of (sealed_of s b)) in
       carries_on calls call f g s t c (placed_kept f g consistent on) on.more_insts after.tables
       (unchanged calls call c.tables after.tables after.same tt (Requests.items_sealed calls call block refl) c.program)
       (name_was call tt) (name_stays call tt) (Requests.items_sealed calls call block refl)
       (values_kept calls call c.tables after.tables after.same (λ index. refl) c.values_given)
       (entry_stays calls (calls ++ call ∷ []) f g (Requests.entry_sealed calls call block refl) entry (name_stays call tt) c.entry)
-      after.describes after.sound (seal_stray c.own f g s t b (firm_from f consistent) seals refl c.nothing_stray)
+      after.describes after.sound (seal_stray c.own f g s t b (firm_from f consistent) seals refl c.nothing_stray) (nothing_still s t leads c.nothing_leads)
 
   -- a value is assigned to a variable in the current block
   pub carries_assigned : (t : SsaState) (x : ℕ) (n : Name) (value b : ℕ) (B : Name) (numbers : List ℕ) → IsCurrent calls b B
-      → number_of calls n ≡ Some value → IsTrue (has_value (ledger_after (script_of calls)) n) → Records s t x b value → SameBlocks s t
+      → number_of calls n ≡ Some value → IsTrue (has_value (ledger_after (script_of calls)) n) → Records s t x b value → SameBlocks s t → SamePredecessors s t
       → Carries (with_answers (DefVar x n) numbers) f t
-  carries_assigned t x n value b B numbers current number is_value records same =
+  carries_assigned t x n value b B numbers current number is_value records same leads =
       let call : AnsweredCall = the_call (DefVar x n) numbers in
       let known = value_answered calls c.tables n c.program c.values_given is_value in
       let written : Records s t x b (c.tables.answer (code n)) = subst (Records s t x b) (sym (known.0 ∙ ap number_or_none number)) records in
-      let after = write_item_described c.own f s t c.tables b x (code n) (c.describes, c.sound) known.2 written same in
+      let before : DescribesSoundly c.own f s c.tables = (c.describes, c.sound, nothing_counts f s c.tables c.nothing_leads) in
+      let after = write_item_described c.own f s t c.tables b x (code n) before (open_everywhere f s b c.nothing_leads) known.2 written same leads in
       let unwritten : (y : ℕ) → c.tables.assigned (inside b (suc (c.tables.count b))) y ≡ None = λ y. c.describes.unwritten b (suc (c.tables.count b)) y (omega arith) in
       let puts = Requests.puts_assignment calls call B current.current x n refl in
       let adds = adds_assignment calls call c.tables b B current.named unwritten x n puts known.1 in
@@ -176,17 +179,18 @@ module _ (calls : List AnsweredCall) (f : Body) (s : SsaState) (c : Carries call
       (sym (append-nil (c.own b))) (λ d other. refl) refl tt (let e = known.1 in let l = longer_calls call in omega (arith, e, l))
       (values_added calls call c.tables (with_write (with_item c.tables b) b x (code n)) b B (Assign x n) adds (λ index is. absurd (false_is is)) c.values_given)
       (entry_stays calls (calls ++ call ∷ []) f f (Requests.entry_assigned calls call B current.current x n refl) refl (name_stays call tt) c.entry)
-      after.0 after.1 (same_stray c.own f s t same c.nothing_stray)
+      after.0 after.1 (same_stray c.own f s t same c.nothing_stray) (nothing_still s t leads c.nothing_leads)
 
   -- a variable is used in the current block
-  pub carries_used : (g : Body) (t : SsaState) (x v b : ℕ) (B : Name) → IsConsistent f → IsCurrent calls b B → KeepsAndKnows c.own c.tables g t b x v → NothingStray c.own g t → GoesOn f g → v < length g.values
+  pub carries_used : (g : Body) (t : SsaState) (x v b : ℕ) (B : Name) → IsConsistent f → IsCurrent calls b B → KeepsAndKnows c.own c.tables g t b x v → NothingStray c.own g t → SamePredecessors s t → GoesOn f g → v < length g.values
       → g.layout ≡ (inserted_in f b).layout
       → Carries (with_answers (UseVar x) (v ∷ [])) g t
-  carries_used g t x v b B consistent current after nothing_stray on exists layout =
+  carries_used g t x v b B consistent current after nothing_stray leads on exists layout =
       let call : AnsweredCall = the_call (UseVar x) (v ∷ []) in
       let T : Blocks = after.kept.tables in
       let was = restated calls c.tables T after.kept.same c.program in
-      let read = read_item_described c.own g t T b (code (answer_of (length calls) 0)) x v (after.kept.describes, after.kept.sound) (next_is_new calls T 0 was) after.known exists in
+      let now : NothingLeads t = nothing_still s t leads c.nothing_leads in
+      let read = read_item_described c.own g t T b (code (answer_of (length calls) 0)) x v (after.kept.describes, after.kept.sound, after.kept.counts) (open_everywhere g t b now) (next_is_new calls T 0 was) after.known exists in
       let unwritten : (y : ℕ) → T.assigned (inside b (suc (T.count b))) y ≡ None = λ y. after.kept.describes.unwritten b (suc (T.count b)) y (omega arith) in
       let puts = Requests.puts_use calls call B current.current x refl in
       let adds = adds_use calls call T b B current.named unwritten x v puts refl in
@@ -197,4 +201,4 @@ module _ (calls : List AnsweredCall) (f : Body) (s : SsaState) (c : Carries call
       (λ index is. first_value (length calls) (or_invalid (variable_type (ledger_after (script_of calls)) x)) index is)
       (values_same calls c.tables T after.kept.same c.values_given))
       (entry_begun calls (calls ++ call ∷ []) f g b B (Requests.entry_used calls call B current.current x refl) layout current.named (name_stays call tt) c.entry)
-      read.0 read.1 nothing_stray
+      read.0 read.1 nothing_stray now

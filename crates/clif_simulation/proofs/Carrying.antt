@@ -18,7 +18,7 @@ use Rattle.clif_meaning.specs.Program.{Item, Instruct, Use, Assign}
 use Rattle.clif_meaning.specs.FunctionView.{Placed}
 use Rattle.clif_meaning.specs.View.{placed_of}
 use Rattle.clif_simulation.specs.Tables.{answered, program_so_far, block_name, IsProgramOf}
-use Rattle.clif_simulation.specs.Carries.{answered_edge, answered_instruction, carried, HasItems, HasEntry, IsEarlier, NamesEarlier, OwnExist, ValuesGiven, Carries}
+use Rattle.clif_simulation.specs.Carries.{answered_edge, answered_instruction, carried, HasItems, HasEntry, IsEarlier, NamesEarlier, NothingLeads, OwnExist, ValuesGiven, Carries}
 use Rattle.clif_simulation.proofs.Numbers.{answered_stays}
 use Rattle.clif_simulation.proofs.Extending.{AddsItem, extended, one_answer}
 
@@ -110,8 +110,8 @@ module _ (calls : List AnsweredCall) (call : AnsweredCall) where
         → ((block : ℕ) (name : Name) → block_name after block ≡ Some name → (block_name calls block ≡ Some name) ⊎ ((c.own block ≡ []) × ((program_so_far calls).items name ≡ [])))
         → ((block : ℕ) (name : Name) → block_name calls block ≡ Some name → block_name after block ≡ Some name)
         → ((name : Name) → (program_so_far after).items name ≡ (program_so_far calls).items name)
-        → ValuesGiven after T → HasEntry after g → Describes c.own g t [] T → BlocksSound T → NothingStray c.own g t → Carries after g t
-    carries_on T program named stays items values entry describes sound nothing_stray = record {
+        → ValuesGiven after T → HasEntry after g → Describes c.own g t [] T → BlocksSound T → NothingStray c.own g t → NothingLeads t → Carries after g t
+    carries_on T program named stays items values entry describes sound nothing_stray nothing_leads = record {
       tables = T;
       own = c.own;
       program = program;
@@ -124,6 +124,7 @@ module _ (calls : List AnsweredCall) (call : AnsweredCall) where
       describes = describes;
       sound = sound;
       nothing_stray = nothing_stray;
+      nothing_leads = nothing_leads;
     }
       where
         unnamed : (block : ℕ) → block_name after block ≡ None → (o : Option Name) → block_name calls block ≡ o → block_name calls block ≡ None
@@ -192,8 +193,8 @@ module _ (calls : List AnsweredCall) (call : AnsweredCall) where
       own_unnamed block none (yes same) = absurd (none_some B (sym none ∙ adds.names block ∙ ap (block_name calls) same ∙ adds.named))
       own_unnamed block none (no other) = own_elsewhere block other ∙ c.own_named block (sym (adds.names block) ∙ none)
 
-      pub carries_item : ValuesGiven after T → HasEntry after g → Describes own g t [] T → BlocksSound T → NothingStray own g t → Carries after g t
-      carries_item values entry describes sound nothing_stray = record {
+      pub carries_item : ValuesGiven after T → HasEntry after g → Describes own g t [] T → BlocksSound T → NothingStray own g t → NothingLeads t → Carries after g t
+      carries_item values entry describes sound nothing_stray nothing_leads = record {
         tables = T;
         own = own;
         program = extended calls after T1 T b B item adds was;
@@ -206,4 +207,5 @@ module _ (calls : List AnsweredCall) (call : AnsweredCall) where
         describes = describes;
         sound = sound;
         nothing_stray = nothing_stray;
+        nothing_leads = nothing_leads;
       }

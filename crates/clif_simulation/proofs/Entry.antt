@@ -8,7 +8,7 @@ use Rattle.clif_ir.specs.Body.{Body, resolved, alias_of, alias_of_origin, no_val
 use Rattle.clif_ir.specs.declared.function.ValueNode.{ValueNode}
 use Rattle.clif_ir.specs.Consistent.{IsConsistent}
 use Rattle.clif_ir.proofs.Aliases.{follow_end, resolved-no_alias}
-use Rattle.clif_paths.specs.Places.{Place, start, inside, StrictlyBefore}
+use Rattle.clif_paths.specs.Places.{Place, start, inside, Arm, StrictlyBefore}
 use Rattle.clif_paths.specs.State.{fresh, Naming, Kind, unborn, born, pending, complete, zero_of}
 use Rattle.clif_paths.specs.Blocks.{Blocks, front, state_of}
 use Rattle.clif_paths.specs.Laws.{NothingPending, IsCorrect}
@@ -16,7 +16,7 @@ use Rattle.clif_paths.proofs.Concluding.{correct}
 use Rattle.clif_ssa.specs.declared.tables.Pending.{Pending}
 use Rattle.clif_ssa.specs.Ssa.{SsaState, sealed_of}
 use Rattle.clif_ssa.specs.Tables.{pending_of}
-use Rattle.clif_ssa.specs.Sound.{HomeFits, entry_of, has_entry}
+use Rattle.clif_ssa.specs.Sound.{HomeFits, IsEdgeInto, entry_of, has_entry}
 use Rattle.clif_meaning.specs.Name.{Name}
 use Rattle.clif_meaning.specs.Request.{AnsweredCall, script_of}
 use Rattle.clif_meaning.specs.Program.{Program, Item, Instruct, Use, Assign}
@@ -26,6 +26,7 @@ use Rattle.clif_simulation.specs.Tables.{code, answered, program_so_far, block_n
 use Rattle.clif_simulation.specs.Carries.{Carries}
 use Rattle.clif_simulation.specs.Laws.{IsFinished}
 use Rattle.clif_simulation.proofs.Straight.{arms, OnlyEntry, same_step, same_block, strictly_before, none_elsewhere}
+use Rattle.clif_simulation.proofs.Unbranched.{none_leads}
 use Rattle.clif_simulation.proofs.Listed.{no_parameters, place_within, through_block, is_path, given_earlier, none_on_entry}
 
 -- what a value stands for stands for itself
@@ -87,7 +88,7 @@ module _ (calls : List AnsweredCall) (f : Body) (s : SsaState) (carries : Carrie
     answers = fits.1;
   }
   born_by w b k (pending x) fits at = absurd (omega (arith, same_step (sym fits.1 ∙ at)))
-  born_by w b k complete fits at = absurd fits
+  born_by w b k complete fits at = absurd (omega (arith, same_step (sym fits.1 ∙ at)))
   born_by w b k (zero_of x) fits at = absurd (omega (arith, same_step (sym fits.1 ∙ at)))
 
   pub is_born : (w b k : ℕ) → (tables.function.definition w).home ≡ inside b (suc k) → IsBorn w b k
@@ -111,15 +112,23 @@ module _ (calls : List AnsweredCall) (f : Body) (s : SsaState) (carries : Carrie
     pub counted : carries.tables.count e ≡ length items
     counted = carries.program.counts e entry named
 
+    -- an arm that is known comes from the start, since no branch leads anywhere
+    pub joined : (arm : Arm) → carries.tables.joins arm ≡ true → arm.target ≡ front e
+    joined arm joins =
+        let way = carries.describes.joined arm joins in
+        by way.0 way.1 way.3
+      where
+        by : (b : ℕ) → arm.target ≡ front b → ((arm.source ≡ start) × (entry_of f ≡ Some b)) ⊎ IsEdgeInto f s carries.tables b arm → arm.target ≡ front e
+        by b target (inl enters) = target ∙ ap front (some_is b e (sym enters.1 ∙ found))
+        by b target (inr edge) = absurd (none_leads s carries.nothing_leads b edge.branch edge.leads)
+
     sealed : IsFinished f s → carries.tables.sealed e ≡ true
     sealed finished =
         carries.describes.sealed e ∙ ap (λ (b : Bool). b && has_entry f.layout) (finished.entry_sealed e found) ∙ begins f.layout e found
 
     pub only_entry : IsFinished f s → OnlyEntry carries.tables e
     only_entry finished = record {
-      joined = λ arm joins.
-          let way = carries.describes.joined arm joins in
-          way.3 ∙ ap front (some_is way.1 e (sym way.2 ∙ found));
+      joined = joined;
       sealed = sealed finished;
       entered = carries.describes.entered e found (sealed finished);
     }

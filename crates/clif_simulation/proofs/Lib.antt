@@ -21,6 +21,8 @@ mod Setting
 pub mod RightReading
 -- The row `first`, half built.
 mod HalfRow
+-- No branch leads to any block.
+pub mod Unbranched
 -- A function goes on to carry one more call.
 pub mod Numbers
 pub mod NameLists

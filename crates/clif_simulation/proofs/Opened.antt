@@ -66,9 +66,7 @@ module _ (calls : List AnsweredCall) (f : Body) (s : SsaState) (carries : Carrie
         and_true false is = refl
 
     joined : (arm : Arm) → tables.joins arm ≡ true → arm.target ≡ front e
-    joined arm joins =
-        let way = carries.describes.joined arm joins in
-        way.3 ∙ ap front (some_is way.1 e (sym way.2 ∙ Entry.found calls f s carries entry is_entry))
+    joined = Entry.joined calls f s carries entry is_entry
 
     -- Where it is sealed, the tables are such ones.
     pub opens-sealed : is_yes (sealed_of s e) ≡ true → Opens tables e tables.sealed tables.joins

@@ -410,7 +410,13 @@ module _ (calls : List AnsweredCall) (f : Body) (ssa : SsaState) (consistent : I
             where
               other : absent ≡ unknown y (straight e 0) → ⊥
               other h = cc
-          by_kind at complete of_kind one = fits at complete of_kind
+          by_kind at complete of_kind one =
+              let there : (block : ℕ) × ((carries.tables.function.definition w).home ≡ front block) × (carries.tables.sealed block ≡ true) = fits at complete of_kind in
+              let here : there.0 ≡ e = same_block (sym there.1 ∙ at_front w at) in
+              not_both (sym (Opened.seal_is calls f ssa carries entry is_entry false unsealed) ∙ ap carries.tables.sealed (sym here) ∙ there.2)
+            where
+              not_both : false ≡ true → ⊥
+              not_both h = cc
           by_kind at (zero_of y) of_kind one = other one
             where
               other : absent ≡ zero y → ⊥

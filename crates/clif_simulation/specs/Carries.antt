@@ -4,7 +4,7 @@
 use Rattle.std.specs.Prelude.{◌≡◌, ◌≢◌, ◌<◌, ◌≤◌, ℕ, List, [], ◌∷◌, length, map, flat_map, Some, None, IsTrue}
 use Rattle.std.specs.List.{AllByRecursion}
 use Rattle.clif_ir.specs.Body.{Body, inst_at, value_at}
-use Rattle.clif_ssa.specs.Ssa.{SsaState}
+use Rattle.clif_ssa.specs.Ssa.{SsaState, predecessors_of}
 use Rattle.clif_ssa.specs.Sound.{Describes, entry_of}
 use Rattle.clif_ssa.specs.Structure.{NothingStray}
 use Rattle.clif_paths.specs.Places.{start}
@@ -79,6 +79,10 @@ OwnNamed calls own = (block : ℕ) → block_name calls block ≡ None → own b
 abbrev pub ValuesGiven : List AnsweredCall → Blocks → Type 0
 ValuesGiven calls blocks = (name : Name) → IsTrue (has_value (ledger_after (script_of calls)) name) → (blocks.naming (code name)).home ≢ start
 
+-- no branch leads to any block
+abbrev pub NothingLeads : SsaState → Type 0
+NothingLeads s = (block : ℕ) → predecessors_of s block ≡ []
+
 pub record Carries (calls : List AnsweredCall) (f : Body) (s : SsaState) : Type 0 where
   pub tables : Blocks
   -- the instructions of each block that the caller made
@@ -93,6 +97,8 @@ pub record Carries (calls : List AnsweredCall) (f : Body) (s : SsaState) : Type 
   pub describes : Describes own f s [] tables
   pub sound : BlocksSound tables
   pub nothing_stray : NothingStray own f s
+  -- so far no call makes a branch
+  pub nothing_leads : NothingLeads s
 
 -- A function that goes on: its signature and its instructions stay, and its values keep their types.
 pub record GoesOn (f g : Body) : Type 0 where

@@ -36,7 +36,10 @@ half_body = half_body_with 7
 
 -- the construction so far, where this value is recorded for the variable, and these parameters wait
 abbrev pub half_state_with : ℕ → List Pending → SsaState
-half_state_with value waiting = record { records = (Some value ∷ []) ∷ []; blocks = No waiting ∷ [] }
+half_state_with value waiting = record {
+  records = (record { value = Some value; lookups = 0 } ∷ []) ∷ [];
+  blocks = record { predecessors = []; sealed = No waiting } ∷ [];
+}
 
 abbrev pub waiting_parameter : Pending
 waiting_parameter = record { variable = 0; param = 0 }

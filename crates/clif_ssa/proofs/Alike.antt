@@ -16,7 +16,8 @@ use Rattle.clif_ir.proofs.Aliases.{follow_end}
 use Rattle.clif_ssa.proofs.Bodies.{Firm, param_exists, param_origin}
 use Rattle.clif_ssa.proofs.Parameters.{new_unaliased}
 use Rattle.clif_ssa.proofs.Instructions.{inst_firm, inst_resolved, inst_param_home}
-use Rattle.clif_ssa.proofs.Zeroing.{put_zero, zero_count, CanAlias, alias_resolved, alias_ends, alias_firm, alias_home_other, alias_home_same, contains_cons, contains_more, contains_first}
+use Rattle.clif_ssa.proofs.Ordering.{contains_cons, contains_more, contains_first}
+use Rattle.clif_ssa.proofs.Zeroing.{put_zero, zero_count, CanAlias, alias_resolved, alias_ends, alias_firm, alias_home_other, alias_home_same}
 use Rattle.clif_ssa.proofs.Completing.{inserted_same, inserted_firm, inserted_param_home}
 
 -- a parameter is no alias
@@ -30,7 +31,7 @@ alike_same f g same u v is = same u ∙ is ∙ sym (same v)
 pub alike_then : (f g h : Body) → StayAlike f g → StayAlike g h → StayAlike f h
 alike_then f g h first second u v is = second u v (first u v is)
 
-aliased_alike : (resolve : ℕ → ℕ) (v target u w : ℕ) → resolve u ≡ resolve w → aliased resolve v target u ≡ aliased resolve v target w
+pub aliased_alike : (resolve : ℕ → ℕ) (v target u w : ℕ) → resolve u ≡ resolve w → aliased resolve v target u ≡ aliased resolve v target w
 unfolding aliased
 aliased_alike resolve v target u w same = ap (λ x. cond (x == v) target x) same
 

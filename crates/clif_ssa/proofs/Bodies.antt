@@ -1,6 +1,6 @@
 -- What changes of a function's body leave as it was.
 use Rattle.std.proofs.Common.{◌≡◌, ◌≢◌, ℕ, zero, suc, ◌+◌, ◌<◌, ◌≤◌, List, [], ◌∷◌, ◌++◌, length, set, refl, ap, arith, sym, ◌∙◌, subst, inl, inr}
-use Rattle.std.specs.Prelude.{Option, Some, None, slice_get, slice_index_or}
+use Rattle.std.specs.Prelude.{Option, Some, None, slice_get, slice_index, slice_index_or}
 use Rattle.std.proofs.Math.ListN.{get_or-append}
 use Rattle.std.proofs.lemmas.List.Sums.{count_by-le-length}
 use Rattle.std.proofs.lemmas.Grind.{common_steps}
@@ -10,15 +10,16 @@ use Rattle.clif_types.specs.declared.types.«Type».{«Type»}
 use Rattle.clif_ir.specs.declared.function.ValueNode.{ValueNode}
 use Rattle.clif_ir.specs.declared.function.ValueOrigin.{ValueOrigin}
 use Rattle.clif_ir.specs.declared.function.ValueOrigin.TheVariants.{Result, Param, Alias}
-use Rattle.clif_ir.specs.Body.{Body, resolved, value_at, no_value, follow, alias_of, alias_of_origin}
+use Rattle.clif_ir.specs.Body.{Body, block_at, resolved, value_at, no_value, follow, alias_of, alias_of_origin}
 use Rattle.clif_ir.specs.Changes.{result_nodes}
-use Rattle.clif_ir.specs.Reading.{home_of_node, home_of_param, param_home}
+use Rattle.clif_ir.specs.Reading.{home_of_node, home_of_param, param_home, place_of}
 use Rattle.clif_ir.specs.Consistent.{IsConsistent, IsOrigin, alias_count}
 use Rattle.clif_ir.proofs.Lists.{below_or_not, at_past}
 use Rattle.clif_ir.proofs.Keeps.{leads_inside}
 use Rattle.clif_ir.proofs.Aliases.{LeadsInside, EachWayEnds, MovesOn, follow_end, follow-append, follow-ended, follow-set, alias_of-set_same, alias_of-set_other, resolved-no_alias, ways_end-set}
 use Rattle.clif_paths.specs.Steps.{aliased}
 use Rattle.clif_paths.proofs.Tables.{aliased_cases}
+use Rattle.clif_ssa.proofs.Ordering.{stands_place}
 
 -- ALIASES ---------------------------------------------------------------------------------------------------------
 
@@ -169,11 +170,13 @@ home-set_same (n ∷ values) (suc v) node inside = home-set_same values v node (
 
 -- FIRM ------------------------------------------------------------------------------------------------------------
 
--- what each consistent function keeps of the ways along aliases and of the blocks of parameters
+-- what each consistent function keeps of the ways along aliases and of the parameters of blocks
 pub record Firm (f : Body) : Type 0 where
   pub leads : LeadsInside f.values
   pub ends : EachWayEnds f.values
   pub homes_exist : (v b : ℕ) → param_home f v ≡ Some b → b < length f.blocks
+  pub stands : (v b : ℕ) → param_home f v ≡ Some b → place_of v (block_at f b).params < length (block_at f b).params
+  pub params_exist : (b k : ℕ) → k < length (block_at f b).params → slice_index (block_at f b).params k < length f.values
 
 pub firm_from : (f : Body) → IsConsistent f → Firm f
 firm_from f known = record {
@@ -181,6 +184,9 @@ firm_from f known = record {
   ends = known.aliases_end;
   homes_exist = λ v b is.
       (subst (IsOrigin f v) (param_origin f v b is) (known.origins v (param_exists f v b is))).0;
+  stands = λ v b is.
+      stands_place v (block_at f b).params (subst (IsOrigin f v) (param_origin f v b is) (known.origins v (param_exists f v b is))).1;
+  params_exist = λ b k here. (known.params_known b k here).0;
 }
 
 -- a value's end is its own end

@@ -1,28 +1,33 @@
 -- Parameters are completed, and blocks are sealed.
-use Rattle.std.proofs.Common.{◌≡◌, ◌≢◌, ℕ, ◌<◌, ◌&&◌, Bool, true, false, List, [], ◌∷◌, length, refl, ap, arith, sym, ◌∙◌, subst, inl, inr}
-use Rattle.std.specs.Prelude.{Option, Some, None, cond, pos}
+use Rattle.std.proofs.Common.{◌≡◌, ◌≢◌, ℕ, ◌<◌, ◌≤◌, ◌&&◌, Bool, true, false, List, [], ◌∷◌, length, refl, ap, arith, sym, ◌∙◌, subst, ◌⊎◌, inl, inr}
+use Rattle.std.specs.Prelude.{Option, Some, None, Contains, cond, pos}
+use Rattle.std.proofs.lemmas.Bool.{cases_eq}
 use Rattle.clif_types.specs.declared.types.«Type».{«Type»}
-use Rattle.clif_ir.specs.Body.{Body, value_at, resolved}
+use Rattle.clif_ir.specs.Body.{Body, block_at, value_at, resolved}
 use Rattle.clif_ir.specs.Changes.{with_alias, with_layout, inserted_in}
 use Rattle.clif_ir.specs.Reading.{param_home, stands_in}
+use Rattle.clif_ir.specs.declared.function.ValueOrigin.TheVariants.{Alias}
 use Rattle.clif_ir.specs.declared.inst_list.BlockEnd.TheVariants.{Front}
 use Rattle.clif_ir.specs.declared.instructions.InstructionData.TheVariants.{UnaryImm}
+use Rattle.clif_paths.specs.Places.{start, Arm}
 use Rattle.clif_paths.specs.State.{pending, zero_of, Definition, Naming}
-use Rattle.clif_paths.specs.Blocks.{Blocks, front, with_zero_in, with_dropped, state_of}
+use Rattle.clif_paths.specs.Blocks.{Blocks, front, with_zero_in, with_dropped, state_of, Carries}
 use Rattle.clif_paths.specs.Steps.{IsNewName}
 use Rattle.clif_paths.specs.BlockLaws.{BlocksSound}
 use Rattle.clif_paths.proofs.BlockSteps.{zero_in_keeps, undefined_keeps}
 use Rattle.clif_paths.proofs.Tables.{updated-same, updated-other}
 use Rattle.clif_ssa.specs.declared.tables.Pending.{Pending}
 use Rattle.clif_ssa.specs.Tables.{is_yes}
-use Rattle.clif_ssa.specs.Ssa.{SsaState, sealed_of, zeroed, zeroed_in, completed, no_srcloc}
-use Rattle.clif_ssa.specs.Sound.{Describes, IsWaiting, has_entry, SameProgram}
+use Rattle.clif_ssa.specs.Ssa.{SsaState, sealed_of, predecessors_of, zeroed, no_srcloc}
+use Rattle.clif_ssa.specs.Sound.{Describes, IsWaiting, IsEdgeInto, InOrder, has_entry, entry_of, SameProgram}
 use Rattle.clif_ssa.specs.SoundLaws.{with_entry, with_zeroed}
-use Rattle.clif_ssa.proofs.Bodies.{Firm, param_exists}
+use Rattle.clif_ssa.proofs.Bodies.{Firm, param_exists, home-set_same}
+use Rattle.clif_ssa.proofs.Ordering.{contains_cons, contains_more, contains_first, none_contained, parameters_skip, is_no_parameter}
+use Rattle.clif_ssa.proofs.Describing.{arms_of}
 use Rattle.clif_ssa.proofs.Parameters.{new_unaliased}
-use Rattle.clif_ssa.proofs.Instructions.{inst_firm, inst_resolved, inst_param_home}
-use Rattle.clif_ssa.proofs.Entering.{relaid, inserted, inserted_entry, joined_of}
-use Rattle.clif_ssa.proofs.Zeroing.{put_zero, zero_count, zero_described, CanAlias, Zeroable, alias_described, alias_firm, contains_cons, contains_more, contains_first}
+use Rattle.clif_ssa.proofs.Instructions.{inst_firm, inst_resolved, inst_param_home, inst_values_more}
+use Rattle.clif_ssa.proofs.Entering.{relaid, inserted, inserted_entry}
+use Rattle.clif_ssa.proofs.Zeroing.{put_zero, zero_count, zero_described, CanAlias, WaitsSealed, alias_described, alias_firm, alias_home_other}
 
 -- THE SAME BUT FOR THE LAYOUT ---------------------------------------------------------------------------------------
 
@@ -44,7 +49,7 @@ inserted_firm f b firm = by (stands_in b f.layout)
   where
     by : (test : Bool) → Firm (cond test f (with_layout f b))
     by true = firm
-    by false = record { leads = firm.leads; ends = firm.ends; homes_exist = firm.homes_exist }
+    by false = record { leads = firm.leads; ends = firm.ends; homes_exist = firm.homes_exist; stands = firm.stands; params_exist = firm.params_exist }
 
 pub inserted_param_home : (f : Body) (b v : ℕ) → param_home (inserted_in f b) v ≡ param_home f v
 inserted_param_home f b v = by (stands_in b f.layout)
@@ -113,6 +118,25 @@ first_waits own f s p ps blocks b before is =
           (subst (λ c. IsWaiting f blocks c p) at there.1, subst (λ c. is_yes (sealed_of s c) ≡ true) at there.2)
     ]
 
+-- along each arm into the block nothing comes to the parameter but itself
+abbrev pub NothingElseComes : Blocks → Pending → ℕ → Type 0
+NothingElseComes blocks p b = (arm : Arm) → blocks.joins arm ≡ true → arm.target ≡ front b → (arm.source ≡ start) ⊎ Carries blocks arm p.variable p.param
+
+front_of : {x y : ℕ} → front x ≡ front y → x ≡ y
+front_of same = cc
+
+-- that is so where no branch leads to the block
+pub nothing_leads : (own : ℕ → List ℕ) (f : Body) (s : SsaState) (completing : List Pending) (blocks : Blocks) (p : Pending) (b : ℕ) → Describes own f s completing blocks → predecessors_of s b ≡ [] → NothingElseComes blocks p b
+nothing_leads own f s completing blocks p b before none arm known at =
+    let there : (c : ℕ) × (arm.target ≡ front c) × (is_yes (sealed_of s c) ≡ true) × (((arm.source ≡ start) × (entry_of f ≡ Some c)) ⊎ IsEdgeInto f s blocks c arm) =
+    before.joined arm known in
+    elim there.3 [
+      | inl enters ↦ inl enters.0
+      | inr edge ↦
+          let same : there.0 ≡ b = front_of (sym there.1 ∙ at) in
+          absurd (none_contained edge.branch (subst (λ xs. Contains xs edge.branch) (ap (λ c. predecessors_of s c) same ∙ none) edge.leads))
+    ]
+
 -- what is zeroed, in a function whose layout has the block
 pub record Dropped (own : ℕ → List ℕ) (f : Body) (s : SsaState) (p : Pending) (ps : List Pending) (blocks : Blocks) (b : ℕ) (ty : «Type») : Type 0 where
   pub describes : Describes own (with_alias (put_zero f b ty) p.param (length f.values)) s ps (with_dropped (with_zero_in blocks b p.variable (length f.values)) p.param (length f.values))
@@ -121,8 +145,8 @@ pub record Dropped (own : ℕ → List ℕ) (f : Body) (s : SsaState) (p : Pendi
 
 pub dropped : (own : ℕ → List ℕ) (f : Body) (s : SsaState) (p : Pending) (ps : List Pending) (blocks : Blocks) (b : ℕ) (ty : «Type»)
     → Firm f → has_entry f.layout ≡ true → Describes own f s (p ∷ ps) blocks → BlocksSound blocks → param_home f p.param ≡ Some b
-    → Dropped own f s p ps blocks b ty
-dropped own f s p ps blocks b ty firm entry before sound is =
+    → NothingElseComes blocks p b → Dropped own f s p ps blocks b ty
+dropped own f s p ps blocks b ty firm entry before sound is nothing =
     let g : Body = put_zero f b ty in
     let z : ℕ = length f.values in
     let v : ℕ = p.param in
@@ -144,15 +168,20 @@ dropped own f s p ps blocks b ty firm entry before sound is =
       exists = omega (arith, zero_count f b ty);
       apart = apart;
     } in
-    let zeroable : Zeroable s with_it p z b p.variable = record { waits = still_waits; is_sealed = first.1; is_zero = is_zero } in
+    let sealed : WaitsSealed s with_it p b = record { waits = still_waits; is_sealed = first.1 } in
     record {
-      describes = alias_described own g s p ps with_it z b p.variable can zeroable described;
+      describes = alias_described own g s p ps with_it z b can sealed described;
       sound = undefined_keeps with_it b p.variable v z
           (record {
             waits = record { is_parameter = still_waits; is_sealed = before.sealed b ∙ both (is_yes (sealed_of s b)) (has_entry f.layout) first.1 entry };
             no_alias = described.resolves z ∙ z_own;
             is_zero = is_zero;
-            along = λ arm e at. inl (described.joined arm e).0;
+            along = λ arm e at.
+                elim (nothing arm e at) [
+                  | inl from_start ↦ inl from_start
+                  | inr carries ↦
+                      inr (record { from = carries.from; leaves = carries.leaves; value = carries.value; is_recorded = carries.is_recorded; resolves = carries.resolves })
+                ];
           })
           (zero_in_keeps blocks b p.variable z (ap (λ (d : Definition). d.home) (before.absent z (omega arith))) sound);
       firm = alias_firm g v z b can;
@@ -165,12 +194,13 @@ pub record Zeroed (own : ℕ → List ℕ) (f : Body) (s : SsaState) (p : Pendin
   pub firm : Firm (zeroed f b p.param)
 
 pub zeroed_keeps : (own : ℕ → List ℕ) (f : Body) (s : SsaState) (p : Pending) (ps : List Pending) (blocks : Blocks) (b : ℕ)
-    → Firm f → Describes own f s (p ∷ ps) blocks → BlocksSound blocks → param_home f p.param ≡ Some b → Zeroed own f s p ps blocks b
-zeroed_keeps own f s p ps blocks b firm before sound is =
+    → Firm f → Describes own f s (p ∷ ps) blocks → BlocksSound blocks → param_home f p.param ≡ Some b → NothingElseComes (with_entry f.layout s b blocks) p b
+    → Zeroed own f s p ps blocks b
+zeroed_keeps own f s p ps blocks b firm before sound is nothing =
     let ty : «Type» = (value_at f p.param).ty in
     let entered : Describes own (inserted_in f b) s (p ∷ ps) (with_entry f.layout s b blocks) × BlocksSound (with_entry f.layout s b blocks) = inserted own f s (p ∷ ps) blocks b before sound in
     let done : Dropped own (inserted_in f b) s p ps (with_entry f.layout s b blocks) b ty =
-    dropped own (inserted_in f b) s p ps (with_entry f.layout s b blocks) b ty (inserted_firm f b firm) (inserted_entry f b) entered.0 entered.1 (inserted_param_home f b p.param ∙ is) in
+    dropped own (inserted_in f b) s p ps (with_entry f.layout s b blocks) b ty (inserted_firm f b firm) (inserted_entry f b) entered.0 entered.1 (inserted_param_home f b p.param ∙ is) nothing in
     let same : length (inserted_in f b).values ≡ length f.values = ap length (inserted_same f b).values in
     record {
       describes = subst (λ z. Describes own (with_alias (put_zero (inserted_in f b) b ty) p.param z) s ps (with_zeroed f.layout s b p.variable p.param z blocks)) same done.describes;
@@ -178,12 +208,36 @@ zeroed_keeps own f s p ps blocks b firm before sound is =
       firm = subst (λ z. Firm (with_alias (put_zero (inserted_in f b) b ty) p.param z)) same done.firm;
     }
 
+-- the same where no branch leads to the block
+pub zeroed_alone : (own : ℕ → List ℕ) (f : Body) (s : SsaState) (p : Pending) (ps : List Pending) (blocks : Blocks) (b : ℕ)
+    → Firm f → Describes own f s (p ∷ ps) blocks → BlocksSound blocks → param_home f p.param ≡ Some b → predecessors_of s b ≡ [] → Zeroed own f s p ps blocks b
+zeroed_alone own f s p ps blocks b firm before sound is none =
+    zeroed_keeps own f s p ps blocks b firm before sound is
+    (nothing_leads own (inserted_in f b) s (p ∷ ps) (with_entry f.layout s b blocks) p b (inserted own f s (p ∷ ps) blocks b before sound).0 none)
+
+-- the parameters that stay were parameters of the same blocks
+pub zeroed_home : (f : Body) (b v u c : ℕ) → v < length f.values → param_home (zeroed f b v) u ≡ Some c → param_home f u ≡ Some c
+zeroed_home f b v u c inside is =
+    let ty : «Type» = (value_at f v).ty in
+    let h : Body = inserted_in f b in
+    let g : Body = put_zero h b ty in
+    let more : length h.values ≤ length g.values = inst_values_more h b Front (UnaryImm (pos 0)) (ty ∷ []) no_srcloc in
+    let same_values : length h.values ≡ length f.values = ap length (inserted_same f b).values in
+    elim (cases_eq u v) [
+      | inl same ↦
+          absurd (none_some (sym (home-set_same g.values v (record (value_at g v) { origin = Alias (resolved g (length f.values)) }) (omega (arith, inside, more, same_values)))
+          ∙ ap (param_home (zeroed f b v)) (sym same) ∙ is))
+      | inr other ↦
+          sym (inserted_param_home f b u) ∙ sym (inst_param_home h b Front (UnaryImm (pos 0)) (ty ∷ []) no_srcloc u)
+          ∙ sym (alias_home_other g v (length f.values) u other) ∙ is
+    ]
+
 -- THE LIST --------------------------------------------------------------------------------------------------------
 
 -- what is no parameter any more is done
 skipped : (own : ℕ → List ℕ) (f : Body) (s : SsaState) (p : Pending) (ps : List Pending) (blocks : Blocks) → Describes own f s (p ∷ ps) blocks → param_home f p.param ≡ None → Describes own f s ps blocks
 skipped own f s p ps blocks before is =
-    relaid own f f.layout s s (p ∷ ps) ps blocks blocks.sealed blocks.joins before (λ v c. refl) (joined_of own f s (p ∷ ps) blocks before)
+    relaid own f f.layout s s (p ∷ ps) ps blocks blocks.sealed blocks.joins before (λ v c. refl) (λ c i known here. here) (λ c known. known) (arms_of own f s (p ∷ ps) blocks before)
     (record {
       waiting = before.waiting;
       completed = λ q here. before.completed q (contains_more p ps q here);
@@ -201,32 +255,12 @@ skipped own f s p ps blocks before is =
                   | inr later ↦ inr later
                 ]
           ];
+      waiting_recorded = before.waiting_recorded;
+      waiting_order = before.waiting_order;
+      completing_order = λ c. subst (λ qs. InOrder (block_at f c).params qs) (parameters_skip f c p ps (is_no_parameter f c p is)) (before.completing_order c);
     })
-
-pub record Completed (own : ℕ → List ℕ) (g : Body) (s : SsaState) (blocks : Blocks) : Type 0 where
-  pub tables : Blocks
-  pub describes : Describes own g s [] tables
-  pub sound : BlocksSound tables
-  pub same : SameProgram blocks tables
-
-after_program : (own : ℕ → List ℕ) (g : Body) (s : SsaState) (blocks blocks' : Blocks) → SameProgram blocks blocks' → Completed own g s blocks' → Completed own g s blocks
-after_program own g s blocks blocks' same done =
-    record { tables = done.tables; describes = done.describes; sound = done.sound; same = same_program_then blocks blocks' done.tables same done.same }
 
 pub zeroed_program : (layout : List ℕ) (s : SsaState) (b x v z : ℕ) (blocks : Blocks) → SameProgram blocks (with_zeroed layout s b x v z blocks)
 zeroed_program layout s b x v z blocks =
     let same : SameProgram blocks (with_entry layout s b blocks) = (entry_same layout s b blocks).program in
     record { count = same.count; assigned = same.assigned; naming = same.naming; answer = same.answer }
-
-pub completed_keeps : (own : ℕ → List ℕ) (s : SsaState) (ps : List Pending) (f : Body) (blocks : Blocks) → Firm f → Describes own f s ps blocks → BlocksSound blocks → Completed own (completed f ps) s blocks
-completed_keeps own s [] f blocks firm before sound = record { tables = blocks; describes = before; sound = sound; same = same_program blocks }
-completed_keeps own s (p ∷ ps) f blocks firm before sound = by (λ g tables. completed_keeps own s ps g tables) (param_home f p.param) refl
-  where
-    by : ((g : Body) (tables : Blocks) → Firm g → Describes own g s ps tables → BlocksSound tables → Completed own (completed g ps) s tables)
-        → (home : Option ℕ) → param_home f p.param ≡ home → Completed own (completed (zeroed_in home f p.param) ps) s blocks
-    by induction None is = induction f blocks firm (skipped own f s p ps blocks before is) sound
-    by induction (Some b) is =
-        let done : Zeroed own f s p ps blocks b = zeroed_keeps own f s p ps blocks b firm before sound is in
-        after_program own (completed (zeroed f b p.param) ps) s blocks (with_zeroed f.layout s b p.variable p.param (length f.values) blocks)
-        (zeroed_program f.layout s b p.variable p.param (length f.values) blocks)
-        (induction (zeroed f b p.param) (with_zeroed f.layout s b p.variable p.param (length f.values) blocks) done.firm done.describes done.sound)

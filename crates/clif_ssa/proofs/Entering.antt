@@ -1,7 +1,7 @@
 -- A block enters the layout, and other changes of what is known of the arms.
 use Rattle.std.proofs.Common.{◌≡◌, ◌≢◌, ℕ, ◌==◌, ◌&&◌, Bool, true, false, cond, List, [], ◌∷◌, ◌++◌, refl, ap, arith, sym, ◌∙◌, subst, ◌⊎◌, inl, inr}
 use Rattle.std.specs.Prelude.{Option, Some, None, slice_get, Contains}
-use Rattle.clif_ir.specs.Body.{Body, resolved}
+use Rattle.clif_ir.specs.Body.{Body, block_at, resolved}
 use Rattle.clif_ir.specs.Changes.{with_layout, inserted_in}
 use Rattle.clif_ir.specs.Reading.{param_home, stands_in}
 use Rattle.clif_paths.specs.Places.{Place, start, Arm, Edges, same_place}
@@ -12,10 +12,11 @@ use Rattle.clif_paths.proofs.PathLemmas.{same_place-true, same_place-refl}
 use Rattle.clif_paths.proofs.BlockSteps.{seal_blocks_keeps}
 use Rattle.clif_ssa.specs.declared.tables.Pending.{Pending}
 use Rattle.clif_ssa.specs.Tables.{is_yes, pending_of}
-use Rattle.clif_ssa.specs.Ssa.{SsaState, sealed_of, SameRecords}
-use Rattle.clif_ssa.specs.Sound.{Describes, IsWaiting, has_entry, entry_of}
+use Rattle.clif_ssa.specs.Ssa.{SsaState, sealed_of, record_of, predecessors_of, SameRecords, SamePredecessors}
+use Rattle.clif_ssa.specs.Sound.{Describes, IsWaiting, IsEdgeInto, InOrder, parameters_of, has_entry, entry_of}
 use Rattle.clif_ssa.specs.SoundLaws.{enters, with_entry}
-use Rattle.clif_ssa.proofs.Describing.{Extends, instructions_kept, waiting_kept, assigns_not_kept}
+use Rattle.clif_ssa.proofs.Ordering.{nothing_contained}
+use Rattle.clif_ssa.proofs.Describing.{Extends, KeepsSealed, Arms, SameEdges, arms_of, edge_kept, edge_before, complete_sealed, homes_kept, instructions_kept, waiting_kept, assigns_not_kept}
 
 -- the parameters that wait, in a new state and with others to be completed
 pub record Waiting (f : Body) (t : SsaState) (completing : List Pending) (blocks : Blocks) : Type 0 where
@@ -25,40 +26,52 @@ pub record Waiting (f : Body) (t : SsaState) (completing : List Pending) (blocks
   pub pends : (v x : ℕ) → resolved f v ≡ v → (blocks.function.definition v).kind ≡ pending x
       → ((b : ℕ) × Contains (pending_of (sealed_of t b)) (record { variable = x; param = v }))
       ⊎ Contains completing (record { variable = x; param = v })
-
--- what is known of the arms into fronts
-pub record Joined (layout : List ℕ) (t : SsaState) (sealed : ℕ → Bool) (joins : Edges) : Type 0 where
-  pub sealed_as : (b : ℕ) → sealed b ≡ (is_yes (sealed_of t b) && has_entry layout)
-  pub joined : (arm : Arm) → joins arm ≡ true → (arm.source ≡ start) × (entry : ℕ) × (slice_get layout 0 ≡ Some entry) × (arm.target ≡ front entry)
-  pub entered : (entry : ℕ) → slice_get layout 0 ≡ Some entry → sealed entry ≡ true
-      → joins (record { source = start; target = front entry; edge = 0 }) ≡ true
+  pub waiting_recorded : (b : ℕ) (p : Pending) → Contains (pending_of (sealed_of t b)) p → record_of t p.variable b ≢ None
+  pub waiting_order : (b : ℕ) → InOrder (block_at f b).params (pending_of (sealed_of t b))
+  pub completing_order : (b : ℕ) → InOrder (block_at f b).params (parameters_of f b completing)
 
 pub waiting_of : (own : ℕ → List ℕ) (f : Body) (s : SsaState) (completing : List Pending) (blocks : Blocks) → Describes own f s completing blocks → Waiting f s completing blocks
-waiting_of own f s completing blocks before = record { waiting = before.waiting; completed = before.completed; pends = before.pends }
+waiting_of own f s completing blocks before = record {
+  waiting = before.waiting;
+  completed = before.completed;
+  pends = before.pends;
+  waiting_recorded = before.waiting_recorded;
+  waiting_order = before.waiting_order;
+  completing_order = before.completing_order;
+}
 
-pub joined_of : (own : ℕ → List ℕ) (f : Body) (s : SsaState) (completing : List Pending) (blocks : Blocks) → Describes own f s completing blocks → Joined f.layout s blocks.sealed blocks.joins
-joined_of own f s completing blocks before = record { sealed_as = before.sealed; joined = before.joined; entered = before.entered }
+-- the branches that lead to blocks whose arms are known did so before
+abbrev pub NoNewLeads : SsaState → SsaState → Blocks → Type 0
+NoNewLeads s t blocks = (b i : ℕ) → blocks.sealed b ≡ true → Contains (predecessors_of t b) i → Contains (predecessors_of s b) i
+
+pub same_leads : (s t : SsaState) (blocks : Blocks) → SamePredecessors s t → NoNewLeads s t blocks
+same_leads s t blocks same b i sealed here = subst (λ xs. Contains xs i) (same b) here
 
 -- only the layout, what is sealed, what waits and what is known of arms changed
 pub relaid : (own : ℕ → List ℕ) (f : Body) (layout : List ℕ) (s t : SsaState) (completing completing' : List Pending) (blocks : Blocks) (sealed : ℕ → Bool) (joins : Edges)
-    → Describes own f s completing blocks → SameRecords s t → Joined layout t sealed joins → Waiting f t completing' blocks
+    → Describes own f s completing blocks → SameRecords s t → NoNewLeads s t blocks → KeepsSealed blocks (record blocks { sealed = sealed; joins = joins })
+    → Arms (record f { layout = layout }) t (record blocks { sealed = sealed; joins = joins }) → Waiting f t completing' blocks
     → Describes own (record f { layout = layout }) t completing' (record blocks { sealed = sealed; joins = joins })
-relaid own f layout s t completing completing' blocks sealed joins before same arms waits =
+relaid own f layout s t completing completing' blocks sealed joins before same leads stay_sealed arms waits =
     let g : Body = record f { layout = layout } in
     let after : Blocks = record blocks { sealed = sealed; joins = joins } in
     let extends : Extends f g blocks after =
     record { values_more = omega arith; insts_more = omega arith; inst_same = λ i here. refl; definition_same = λ v here. refl } in
     record {
-      sealed = arms.sealed_as;
+      sealed = arms.sealed;
       joined = arms.joined;
       entered = arms.entered;
+      led = arms.led;
+      leading = arms.leading;
+      leading_apart = arms.leading_apart;
+      entry_apart = arms.entry_apart;
       resolves = before.resolves;
       recorded = λ b x. before.recorded b x ∙ sym (same x b);
       records_exist = λ b x v is. before.records_exist b x v (sym (same x b) ∙ is);
       unrecorded = λ b x none. assigns_not_kept blocks after b x refl (λ k. refl) (before.unrecorded b x (sym (same x b) ∙ none));
       unwritten = before.unwritten;
       absent = before.absent;
-      homes = before.homes;
+      homes = λ v. homes_kept blocks after v refl stay_sealed (λ n given. (refl, refl)) (before.homes v);
       answered = before.answered;
       born_there = before.born_there;
       waiting = λ b p here. waiting_kept f g blocks after b p refl refl (waits.waiting b p here);
@@ -68,6 +81,19 @@ relaid own f layout s t completing completing' blocks sealed joins before same a
             | inr there ↦ inr (there.0, waiting_kept f g blocks after there.0 p refl refl there.1, there.2)
           ];
       pends = waits.pends;
+      waiting_recorded = waits.waiting_recorded;
+      complete_there = before.complete_there;
+      complete_first = before.complete_first;
+      waiting_order = waits.waiting_order;
+      completing_order = waits.completing_order;
+      passes = λ b v arm edge is at.
+          before.passes b v arm
+          (record {
+            branch = edge.branch;
+            leads = leads b edge.branch (complete_sealed own f s completing blocks b v before is) edge.leads;
+            from = edge.from;
+            to = edge.to;
+          }) is at;
       instructions = λ b. instructions_kept f g blocks after b (own b) extends refl (before.instructions b);
     }
 
@@ -121,40 +147,77 @@ and_true : (test : Bool) → (test && true) ≡ test
 and_true true = refl
 and_true false = refl
 
+-- then no branch leads anywhere
+pub none_leads : (own : ℕ → List ℕ) (f : Body) (s : SsaState) (completing : List Pending) (blocks : Blocks) → Describes own f s completing blocks → f.layout ≡ []
+    → (b i : ℕ) → Contains (predecessors_of s b) i → ⊥
+none_leads own f s completing blocks before empty b i here = false_true (sym (ap has_entry empty) ∙ (before.leading b i here).1)
+
 -- the first block
-pub first_joined : (own : ℕ → List ℕ) (f : Body) (s : SsaState) (completing : List Pending) (blocks : Blocks) (b : ℕ) → Describes own f s completing blocks → f.layout ≡ []
-    → Joined (b ∷ []) s (with_blocks_sealed blocks (λ c. is_yes (sealed_of s c)) (enters b)).sealed (with_blocks_sealed blocks (λ c. is_yes (sealed_of s c)) (enters b)).joins
-first_joined own f s completing blocks b before empty = record {
-  sealed_as = λ c. cond_self (is_yes (sealed_of s c)) (blocks.sealed c) (none_sealed own f s completing blocks before empty c) ∙ sym (and_true (is_yes (sealed_of s c)));
+first_arms : (own : ℕ → List ℕ) (f : Body) (s : SsaState) (completing : List Pending) (blocks : Blocks) (b : ℕ) → Describes own f s completing blocks → f.layout ≡ []
+    → Arms (record f { layout = b ∷ [] }) s (with_blocks_sealed blocks (λ c. is_yes (sealed_of s c)) (enters b))
+first_arms own f s completing blocks b before empty = record {
+  sealed = λ c. cond_self (is_yes (sealed_of s c)) (blocks.sealed c) (none_sealed own f s completing blocks before empty c) ∙ sym (and_true (is_yes (sealed_of s c)));
   joined = λ arm is.
       elim (cond_cases (chosen_front (λ c. is_yes (sealed_of s c)) arm.target) (enters b arm) (blocks.joins arm) true is) [
-        | inl new ↦ let from : (arm.source ≡ start) × (arm.target ≡ front b) = enters_from b arm new.1 in (from.0, b, refl, from.1)
-        | inr old ↦
-            let there : (arm.source ≡ start) × (entry : ℕ) × (entry_of f ≡ Some entry) × (arm.target ≡ front entry) = before.joined arm old.1 in
-            absurd (no_entry (sym (ap (λ layout. slice_get layout 0) empty) ∙ there.2))
+        | inl new ↦
+            let from : (arm.source ≡ start) × (arm.target ≡ front b) = enters_from b arm new.1 in
+            (b, from.1, sym (ap (chosen_front (λ c. is_yes (sealed_of s c))) from.1) ∙ new.0, inl (from.0, refl))
+        | inr old ↦ absurd (not_joined arm (before.joined arm old.1))
       ];
   entered = λ entry is sealed.
       let same : b ≡ entry = some_same is in
       let chosen : is_yes (sealed_of s entry) ≡ true = sym (cond_self (is_yes (sealed_of s entry)) (blocks.sealed entry) (none_sealed own f s completing blocks before empty entry)) ∙ sealed in
       ap (λ t. cond t (enters b (record { source = start; target = front entry; edge = 0 })) (blocks.joins (record { source = start; target = front entry; edge = 0 }))) chosen
       ∙ ap (λ e. enters e (record { source = start; target = front entry; edge = 0 })) same ∙ enters_there entry;
+  led = λ c arm sealed at edge. absurd (none_leads own f s completing blocks before empty c edge.branch edge.leads);
+  leading = λ c i here. ((before.leading c i here).0, refl);
+  leading_apart = before.leading_apart;
+  entry_apart = λ entry is. nothing_contained (predecessors_of s entry) (none_leads own f s completing blocks before empty entry);
 }
   where
     some_same : {x y : ℕ} → ◌≡◌ {A = Option ℕ} (Some x) (Some y) → x ≡ y
     some_same same = cc
 
--- a block behind others
-pub next_joined : (layout layout' : List ℕ) (c b : ℕ) (s : SsaState) (sealed : ℕ → Bool) (joins : Edges) → layout ≡ c ∷ layout' → Joined layout s sealed joins → Joined (layout ++ b ∷ []) s sealed joins
-next_joined layout layout' c b s sealed joins is arms =
-    let entry_same : slice_get (layout ++ b ∷ []) 0 ≡ slice_get layout 0 = ap (λ l. slice_get (l ++ b ∷ []) 0) is ∙ sym (ap (λ l. slice_get l 0) is) in
-    let has_same : has_entry layout ≡ has_entry (layout ++ b ∷ []) = ap has_entry is ∙ sym (ap (λ l. has_entry (l ++ b ∷ [])) is) in
+    not_joined : (arm : Arm) → (c : ℕ) × (arm.target ≡ front c) × (is_yes (sealed_of s c) ≡ true) × (((arm.source ≡ start) × (entry_of f ≡ Some c)) ⊎ IsEdgeInto f s blocks c arm) → ⊥
+    not_joined arm there =
+        elim there.3 [
+          | inl enters_it ↦ no_entry (sym (ap (λ layout. slice_get layout 0) empty) ∙ enters_it.1)
+          | inr edge ↦ none_leads own f s completing blocks before empty there.0 edge.branch edge.leads
+        ]
+
+-- another layout with the same entry
+pub same_entry_arms : (f : Body) (layout : List ℕ) (s : SsaState) (blocks : Blocks) → slice_get layout 0 ≡ slice_get f.layout 0 → has_entry layout ≡ has_entry f.layout
+    → Arms f s blocks → Arms (record f { layout = layout }) s blocks
+same_entry_arms f layout s blocks entry_same has_same arms =
+    let g : Body = record f { layout = layout } in
+    let edges : SameEdges f g s s blocks blocks =
+    record { predecessors_same = λ b. refl; block_same = λ b i here. refl; target_same = λ b i k here. refl; count_same = λ b i here. refl } in
     record {
-      sealed_as = λ e. arms.sealed_as e ∙ ap (λ t. is_yes (sealed_of s e) && t) has_same;
+      sealed = λ b. arms.sealed b ∙ ap (λ t. is_yes (sealed_of s b) && t) (sym has_same);
       joined = λ arm known.
-          let there : (arm.source ≡ start) × (entry : ℕ) × (slice_get layout 0 ≡ Some entry) × (arm.target ≡ front entry) = arms.joined arm known in
-          (there.0, there.1, entry_same ∙ there.2, there.3);
-      entered = λ entry at. arms.entered entry (sym entry_same ∙ at);
+          let there : (b : ℕ) × (arm.target ≡ front b) × (is_yes (sealed_of s b) ≡ true) × (((arm.source ≡ start) × (entry_of f ≡ Some b)) ⊎ IsEdgeInto f s blocks b arm) =
+          arms.joined arm known in (
+            there.0,
+            there.1,
+            there.2,
+            elim there.3 [
+              | inl enters_it ↦ inl (enters_it.0, entry_same ∙ enters_it.1)
+              | inr edge ↦ inr (edge_kept f g s s blocks blocks there.0 arm edges edge)
+            ],
+          );
+      entered = λ entry is. arms.entered entry (sym entry_same ∙ is);
+      led = λ b arm sealed at edge. arms.led b arm sealed at (edge_before f g s s blocks blocks b arm edges edge);
+      leading = λ b i here. ((arms.leading b i here).0, has_same ∙ (arms.leading b i here).1);
+      leading_apart = arms.leading_apart;
+      entry_apart = λ entry is. arms.entry_apart entry (sym entry_same ∙ is);
     }
+
+-- a block behind others
+next_arms : (f : Body) (layout : List ℕ) (c b : ℕ) (s : SsaState) (blocks : Blocks) → f.layout ≡ c ∷ layout → Arms f s blocks → Arms (record f { layout = f.layout ++ b ∷ [] }) s blocks
+next_arms f layout c b s blocks is arms =
+    same_entry_arms f (f.layout ++ b ∷ []) s blocks
+    (ap (λ l. slice_get (l ++ b ∷ []) 0) is ∙ sym (ap (λ l. slice_get l 0) is))
+    (ap (λ l. has_entry (l ++ b ∷ [])) is ∙ sym (ap has_entry is)) arms
 
 placed : (own : ℕ → List ℕ) (f : Body) (s : SsaState) (completing : List Pending) (blocks : Blocks) (b : ℕ) (layout : List ℕ) → f.layout ≡ layout
     → Describes own f s completing blocks → BlocksSound blocks
@@ -163,13 +226,14 @@ placed own f s completing blocks b [] is before sound =
     let chosen : ℕ → Bool = λ c. is_yes (sealed_of s c) in
     let after : Blocks = with_blocks_sealed blocks chosen (enters b) in (
       subst (λ l. Describes own (record f { layout = l ++ b ∷ [] }) s completing after) (sym is)
-          (relaid own f (b ∷ []) s s completing completing blocks after.sealed after.joins before (λ v c. refl)
-          (first_joined own f s completing blocks b before is) (waiting_of own f s completing blocks before)),
+          (relaid own f (b ∷ []) s s completing completing blocks after.sealed after.joins before (λ v c. refl) (λ c i known here. here)
+          (λ c known. absurd (false_true (sym (none_sealed own f s completing blocks before is c) ∙ known)))
+          (first_arms own f s completing blocks b before is) (waiting_of own f s completing blocks before)),
       seal_blocks_keeps blocks chosen (enters b) (λ c here. none_sealed own f s completing blocks before is c) sound,
     )
 placed own f s completing blocks b (c ∷ layout) is before sound = (
-  relaid own f (f.layout ++ b ∷ []) s s completing completing blocks blocks.sealed blocks.joins before (λ v d. refl)
-      (next_joined f.layout layout c b s blocks.sealed blocks.joins is (joined_of own f s completing blocks before)) (waiting_of own f s completing blocks before),
+  relaid own f (f.layout ++ b ∷ []) s s completing completing blocks blocks.sealed blocks.joins before (λ v d. refl) (λ d i known here. here) (λ d known. known)
+      (next_arms f layout c b s blocks is (arms_of own f s completing blocks before)) (waiting_of own f s completing blocks before),
   sound,
 )
 

@@ -1,12 +1,13 @@
 -- A function with one instruction more.
-use Rattle.std.proofs.Common.{◌≡◌, ◌≢◌, ℕ, ◌+◌, ◌<◌, ◌≤◌, List, [], ◌∷◌, length, refl, arith, sym, ◌∙◌}
+use Rattle.std.proofs.Common.{◌≡◌, ◌≢◌, ℕ, zero, suc, ◌+◌, ◌<◌, ◌≤◌, List, [], ◌∷◌, length, get_or, set, refl, arith, sym, ◌∙◌, subst}
+use Rattle.std.specs.Prelude.{slice_index}
 use Rattle.std.proofs.Math.ListN.{get_or-append}
 use Rattle.std.proofs.lemmas.Grind.{common_steps}
 use Rattle.std.proofs.lemmas.List.Sums.{sum_by-cons}
 use Rattle.clif_types.specs.declared.types.«Type».{«Type»}
 use Rattle.clif_ir.specs.Body.{Body, block_at, inst_at, empty_block, no_inst, resolved}
 use Rattle.clif_ir.specs.Changes.{with_inst, inst_node, put_at, result_nodes}
-use Rattle.clif_ir.specs.Reading.{param_home}
+use Rattle.clif_ir.specs.Reading.{param_home, place_of}
 use Rattle.clif_ir.specs.Consistent.{alias_count}
 use Rattle.clif_ir.specs.declared.function.BlockNode.{BlockNode}
 use Rattle.clif_ir.specs.declared.function.ValueNode.{ValueNode}
@@ -27,6 +28,14 @@ results_count i k (ty ∷ types) =
     let here : alias_count (node ∷ result_nodes i (k + 1) types) ≡ 0 + alias_count (result_nodes i (k + 1) types) = sum_by-cons _ node (result_nodes i (k + 1) types) in
     omega (arith, rest, here)
 
+-- an entry of a list in which one was replaced by one with the same parameters
+params_set : (xs : List BlockNode) (i : ℕ) (y : BlockNode) (k : ℕ) → y.params ≡ (get_or xs i empty_block).params → (get_or (set xs i y) k empty_block).params ≡ (get_or xs k empty_block).params
+params_set [] i y k same = refl
+params_set (x ∷ xs) zero y zero same = same
+params_set (x ∷ xs) zero y (suc k) same = refl
+params_set (x ∷ xs) (suc i) y zero same = refl
+params_set (x ∷ xs) (suc i) y (suc k) same = params_set xs i y k same
+
 module _ (f : Body) (b : ℕ) (end : BlockEnd) (shape : InstructionData) (types : List «Type») (loc : ℕ) where
   pub inst_resolved : Firm f → (v : ℕ) → resolved (with_inst f b end shape types loc) v ≡ resolved f v
   inst_resolved firm v = resolved-append f.values (result_nodes (length f.insts) 0 types) firm.leads firm.ends (results_no_alias (length f.insts) 0 types) v
@@ -43,12 +52,19 @@ module _ (f : Body) (b : ℕ) (end : BlockEnd) (shape : InstructionData) (types 
   pub inst_values_more : length f.values ≤ length (with_inst f b end shape types loc).values
   inst_values_more = grind (arith, common_steps)
 
+  pub inst_params : (c : ℕ) → (block_at (with_inst f b end shape types loc) c).params ≡ (block_at f c).params
+  inst_params c = params_set f.blocks b (record (block_at f b) { insts = put_at end (length f.insts) (block_at f b).insts }) c refl
+
   pub inst_firm : Firm f → Firm (with_inst f b end shape types loc)
   inst_firm firm = record {
     leads = leads_inside-append f.values (result_nodes (length f.insts) 0 types) firm.leads (results_no_alias (length f.insts) 0 types);
     ends = ways_end-append f.values (result_nodes (length f.insts) 0 types) firm.leads (results_count (length f.insts) 0 types)
         (no_alias_behind f.values (result_nodes (length f.insts) 0 types) (results_no_alias (length f.insts) 0 types)) firm.ends;
     homes_exist = λ v c is. omega (arith, firm.homes_exist v c (sym (inst_param_home v) ∙ is), inst_blocks);
+    stands = λ v c is. subst (λ ps. place_of v ps < length ps) (sym (inst_params c)) (firm.stands v c (sym (inst_param_home v) ∙ is));
+    params_exist = λ c k here.
+        subst (λ ps. k < length ps → slice_index ps k < length (with_inst f b end shape types loc).values) (sym (inst_params c))
+        (λ below. omega (arith, firm.params_exist c k below, inst_values_more)) here;
   }
 
   pub inst_old : (i : ℕ) → i < length f.insts → inst_at (with_inst f b end shape types loc) i ≡ inst_at f i

@@ -15,7 +15,7 @@ use Rattle.clif_ir.specs.declared.instructions.InstructionData.TheVariants.{Unar
 use Rattle.clif_ir.proofs.Lists.{at_set}
 use Rattle.clif_ssa.specs.declared.tables.Pending.{Pending}
 use Rattle.clif_ssa.specs.Tables.{is_yes}
-use Rattle.clif_ssa.specs.declared.ssa.SideEffects.{SideEffects}
+use Rattle.clif_ssa.specs.declared.side_effects.SideEffects.{SideEffects}
 use Rattle.clif_ssa.specs.Ssa.{SsaState, record_of, sealed_of, zeroed, completed, no_srcloc, Records, Waits, Zeroes}
 use Rattle.clif_ssa.specs.Structure.{StayAlike, HasRecordOf, Remembers, Moment, AreSteps, last_of, LosesWaiting}
 use Rattle.clif_ssa.proofs.Bodies.{Firm, firm_from, home_inside, param_exists, param_origin}
@@ -153,7 +153,7 @@ pub record Used (x b : ℕ) (f : Body) (s : SsaState) (g : Body) (t : SsaState) 
 true_false : true ≡ false → ⊥
 true_false same = cc
 
-waits_used : (f g : Body) (s t : SsaState) (x b : ℕ) (ty : «Type») → IsConsistent f → record_of s x b ≡ None → is_yes (sealed_of s b) ≡ false → Waits s t f g x ty b
+pub waits_used : (f g : Body) (s t : SsaState) (x b : ℕ) (ty : «Type») → IsConsistent f → record_of s x b ≡ None → is_yes (sealed_of s b) ≡ false → Waits s t f g x ty b
     → Used x b f s g t (length f.values)
 waits_used f g s t x b ty known none unsealed waits =
     let firm : Firm f = firm_from f known in
@@ -166,7 +166,7 @@ waits_used f g s t x b ty known none unsealed waits =
       params = λ sealed. absurd (true_false (sym sealed ∙ unsealed));
     }
 
-zeroes_used : (f g : Body) (s t : SsaState) (x b : ℕ) (ty : «Type») → IsConsistent f → b < length f.blocks → record_of s x b ≡ None → Zeroes s t f g x ty b
+pub zeroes_used : (f g : Body) (s t : SsaState) (x b : ℕ) (ty : «Type») → IsConsistent f → b < length f.blocks → record_of s x b ≡ None → Zeroes s t f g x ty b
     → Used x b f s g t (length f.values + 1)
 zeroes_used f g s t x b ty known there none zeroes =
     let firm : Firm f = firm_from f known in

@@ -7,19 +7,21 @@ use Rattle.clif_ir.specs.Body.{Body, resolved}
 use Rattle.clif_ir.specs.Changes.{with_inst}
 use Rattle.clif_ir.specs.declared.inst_list.BlockEnd.TheVariants.{Back}
 use Rattle.clif_ir.specs.declared.instructions.InstructionData.{InstructionData}
-use Rattle.clif_paths.specs.Places.{Place, start, inside}
-use Rattle.clif_paths.specs.State.{Naming, Kind, born, pending, fresh, Definition}
+use Rattle.clif_paths.specs.Places.{Place, start, inside, Arm}
+use Rattle.clif_paths.specs.State.{Naming, Kind, born, pending, complete, fresh, Definition}
 use Rattle.clif_paths.specs.Steps.{IsNewName}
 use Rattle.clif_paths.specs.Blocks.{Blocks, last_place, state_of, with_item, with_born}
 use Rattle.clif_paths.proofs.BlockSteps.{born_keeps}
 use Rattle.clif_paths.proofs.Tables.{updated-same, updated-other}
 use Rattle.clif_ssa.specs.Ssa.{SsaState}
+use Rattle.clif_ssa.specs.LookUp.{branch_block}
 use Rattle.clif_ssa.specs.Sound.{Describes, HasInstructions, HomeFits, IsWaiting}
-use Rattle.clif_ssa.specs.SoundLaws.{with_own, DescribesSoundly}
+use Rattle.clif_ssa.specs.SoundLaws.{with_own, DescribesSoundly, IsOpen}
 use Rattle.clif_ssa.proofs.Bodies.{Firm}
-use Rattle.clif_ssa.proofs.Describing.{Extends, instructions_kept, zeros_kept, waiting_kept, waiting_exists, homes_kept, assigns_not_kept}
+use Rattle.clif_ssa.proofs.Describing.{Extends, Arms, arms_of, arms_kept, SameEdges, same_edges, Ordered, ordered_of, ordered_kept, same_passed, KeepsKinds, same_kinds, new_kinds, instructions_kept, zeros_kept, waiting_kept, waiting_exists, homes_kept, assigns_not_kept}
 use Rattle.clif_ssa.proofs.Parameters.{new_unaliased}
-use Rattle.clif_ssa.proofs.Instructions.{inst_resolved, inst_param_home, inst_insts_here, inst_insts_other, inst_extends}
+use Rattle.clif_ssa.proofs.Instructions.{inst_resolved, inst_param_home, inst_insts_here, inst_insts_other, inst_extends, inst_params}
+use Rattle.clif_ssa.proofs.Counting.{inst_counted}
 use Rattle.clif_ssa.proofs.Writing.{item_described, name_cases, names_kept, new_name_item}
 
 -- the caller's instructions of each block, with one more behind those of one
@@ -45,21 +47,56 @@ own_instructions own f blocks blocks' b shape types loc there extends has c =
           (instructions_kept f g blocks blocks' c (own c) extends (inst_insts_other f b Back shape types loc c there apart) (has c))
     ]
 
+-- what an instruction leaves of arms and parameters
+pub record InstKept (g : Body) (s : SsaState) (blocks : Blocks) : Type 0 where
+  pub arms : Arms g s blocks
+  pub order : Ordered g s [] blocks
+
+inst_kept : (own : ℕ → List ℕ) (f : Body) (s : SsaState) (blocks blocks' : Blocks) (b : ℕ) (shape : InstructionData) (types : List «Type») (loc : ℕ) → Describes own f s [] blocks
+    → Extends f (with_inst f b Back shape types loc) blocks blocks' → ((c : ℕ) → blocks'.count c ≡ blocks.count c) → ((c : ℕ) → blocks'.sealed c ≡ blocks.sealed c)
+    → ((arm : Arm) → blocks'.joins arm ≡ blocks.joins arm) → ((v : ℕ) (arm : Arm) → blocks'.function.argument v arm ≡ blocks.function.argument v arm) → KeepsKinds blocks blocks'
+    → InstKept (with_inst f b Back shape types loc) s blocks'
+inst_kept own f s blocks blocks' b shape types loc before extends counts sealed joins arguments kinds =
+    let g : Body = with_inst f b Back shape types loc in
+    let old : Arms f s blocks = arms_of own f s [] blocks before in
+    let edges : SameEdges f g s s blocks blocks' = same_edges f g s s blocks blocks' old extends (λ c. refl) (λ c i here. counts (branch_block f i)) in
+    record {
+      arms =
+          arms_kept f g s s blocks blocks' (record { edges = edges; insts_more = extends.insts_more; layout = refl; same_yes = λ c. refl; sealed = sealed; joins = joins }) old;
+      order =
+          ordered_kept f g s s [] blocks blocks'
+          (record {
+            edges = edges;
+            passed = same_passed f g s blocks blocks' old extends;
+            kinds = kinds;
+            params = inst_params f b Back shape types loc;
+            homes = inst_param_home f b Back shape types loc;
+            entries = λ c. refl;
+            arguments = arguments;
+          })
+          (ordered_of own f s [] blocks before);
+    }
+
 pub own_described : (own : ℕ → List ℕ) (f : Body) (s : SsaState) (blocks : Blocks) (b : ℕ) (shape : InstructionData) (loc : ℕ) → Firm f
-    → DescribesSoundly own f s blocks → b < length f.blocks
+    → DescribesSoundly own f s blocks → IsOpen f s b → b < length f.blocks
     → DescribesSoundly (with_own own b (length f.insts)) (with_inst f b Back shape [] loc) s (with_item blocks b)
-own_described own f s blocks b shape loc firm both there =
-    let item : DescribesSoundly own f s (with_item blocks b) = item_described own f s blocks b both in
+own_described own f s blocks b shape loc firm both open_block there =
+    let item : DescribesSoundly own f s (with_item blocks b) = item_described own f s blocks b both open_block in
     let before : Describes own f s [] (with_item blocks b) = item.0 in
     let after : Blocks = with_item blocks b in
     let g : Body = with_inst f b Back shape [] loc in
     let count : length g.values ≡ length f.values = grind (arith, common_steps) in
     let extends : Extends f g after after = inst_extends f b Back shape [] loc after after (λ v below. refl) in
-    let same_end : (v : ℕ) → resolved g v ≡ resolved f v = inst_resolved f b Back shape [] loc firm in (
+    let same_end : (v : ℕ) → resolved g v ≡ resolved f v = inst_resolved f b Back shape [] loc firm in
+    let kept : InstKept g s after = inst_kept own f s after after b shape [] loc before extends (λ c. refl) (λ c. refl) (λ arm. refl) (λ v arm. refl) (same_kinds after after (λ v. refl)) in (
       record {
-        sealed = before.sealed;
-        joined = before.joined;
-        entered = before.entered;
+        sealed = kept.arms.sealed;
+        joined = kept.arms.joined;
+        entered = kept.arms.entered;
+        led = kept.arms.led;
+        leading = kept.arms.leading;
+        leading_apart = kept.arms.leading_apart;
+        entry_apart = kept.arms.entry_apart;
         resolves = λ v. before.resolves v ∙ sym (same_end v);
         recorded = before.recorded;
         records_exist = λ c x v is. omega (arith, before.records_exist c x v is, count);
@@ -74,12 +111,22 @@ own_described own f s blocks b shape loc firm both there =
         waiting = λ c p here. waiting_kept f g after after c p (inst_param_home f b Back shape [] loc p.param) refl (before.waiting c p here);
         completed = λ p here. absurd (omega (arith, here.1));
         pends = λ v x ends is. before.pends v x (sym (same_end v) ∙ ends) is;
+        waiting_recorded = before.waiting_recorded;
+        complete_there = kept.order.complete_there;
+        complete_first = kept.order.complete_first;
+        waiting_order = kept.order.waiting_order;
+        completing_order = kept.order.completing_order;
+        passes = kept.order.passes;
         instructions = own_instructions own f after after b shape [] loc there extends before.instructions;
       },
       item.1,
+      inst_counted own f s [] after after b Back shape [] loc before (λ v below. refl) item.2,
     )
 
 -- A RESULT --------------------------------------------------------------------------------------------------------
+
+born_or_complete : {x : ℕ} → ◌≡◌ {A = Kind} (born x) complete → ⊥
+born_or_complete same = cc
 
 born_or_pending : {x y : ℕ} → ◌≡◌ {A = Kind} (born x) (pending y) → ⊥
 born_or_pending same = cc
@@ -105,15 +152,22 @@ result_described own f s blocks b k n shape ty loc firm both there name =
     let own_end : resolved f z ≡ z = new_unaliased f firm in
     let cases : (m : ℕ) → ((m ≡ n) × (after.naming m ≡ named) × (after.answer m ≡ z)) ⊎ ((m ≢ n) × (after.naming m ≡ blocks.naming m) × (after.answer m ≡ blocks.answer m)) =
     name_cases blocks.naming blocks.answer n z named in
+    let kept : InstKept g s after =
+    inst_kept own f s blocks after b shape (ty ∷ []) loc before extends (λ c. refl) (λ c. refl) (λ arm. refl) (λ v arm. refl)
+    (new_kinds blocks after z new is_new is_old (λ is. born_or_complete is) (λ x is. born_or_pending is)) in
     let fits_new : HomeFits after z (born n) = (
       updated-same blocks.naming n named n refl ∙ ap (λ (d : Definition). record { home = d.home; origin = fresh }) (sym is_new),
       updated-same blocks.answer n z n refl,
       λ none. written (sym (ap (λ (d : Definition). d.home) is_new) ∙ none),
     ) in (
       record {
-        sealed = before.sealed;
-        joined = before.joined;
-        entered = before.entered;
+        sealed = kept.arms.sealed;
+        joined = kept.arms.joined;
+        entered = kept.arms.entered;
+        led = kept.arms.led;
+        leading = kept.arms.leading;
+        leading_apart = kept.arms.leading_apart;
+        entry_apart = kept.arms.entry_apart;
         resolves = λ v. before.resolves v ∙ sym (same_end v);
         recorded = before.recorded;
         records_exist = λ c x v is. omega (arith, before.records_exist c x v is, long);
@@ -125,7 +179,7 @@ result_described own f s blocks b k n shape ty loc firm both there name =
               | inl same ↦
                   subst (λ w. HomeFits after w (after.function.definition w).kind) (sym same)
                   (subst (λ (d : Definition). HomeFits after z d.kind) (sym is_new) fits_new)
-              | inr other ↦ homes_kept blocks after v (is_old v other) (names_kept blocks.naming blocks.answer n z named name.new_name) (before.homes v)
+              | inr other ↦ homes_kept blocks after v (is_old v other) (λ c known. known) (names_kept blocks.naming blocks.answer n z named name.new_name) (before.homes v)
             ];
         answered = λ m given.
             elim (cases m) [
@@ -156,6 +210,12 @@ result_described own f s blocks b k n shape ty loc firm both there name =
               | inl same ↦ absurd (born_or_pending (sym (ap (λ (d : Definition). d.kind) is_new) ∙ ap (λ w. (after.function.definition w).kind) (sym same) ∙ is))
               | inr other ↦ before.pends v x (sym (same_end v) ∙ ends) (sym (ap (λ (d : Definition). d.kind) (is_old v other)) ∙ is)
             ];
+        waiting_recorded = before.waiting_recorded;
+        complete_there = kept.order.complete_there;
+        complete_first = kept.order.complete_first;
+        waiting_order = kept.order.waiting_order;
+        completing_order = kept.order.completing_order;
+        passes = kept.order.passes;
         instructions = own_instructions own f blocks after b shape (ty ∷ []) loc there extends before.instructions;
       },
       born_keeps blocks place n z
@@ -165,11 +225,12 @@ result_described own f s blocks b k n shape ty loc firm both there name =
             new_value = ap (λ (d : Definition). d.home) (before.absent z (omega arith));
             no_alias = before.resolves z ∙ own_end;
           }) both.1,
+      inst_counted own f s [] blocks after b Back shape (ty ∷ []) loc before old_below both.2,
     )
 
 pub own_result_described : (own : ℕ → List ℕ) (f : Body) (s : SsaState) (blocks : Blocks) (b n : ℕ) (shape : InstructionData) (ty : «Type») (loc : ℕ) → Firm f
-    → DescribesSoundly own f s blocks → b < length f.blocks → IsNewName (state_of blocks) n
+    → DescribesSoundly own f s blocks → IsOpen f s b → b < length f.blocks → IsNewName (state_of blocks) n
     → DescribesSoundly (with_own own b (length f.insts)) (with_inst f b Back shape (ty ∷ []) loc) s
     (with_born (with_item blocks b) (last_place (with_item blocks b) b) n (length f.values))
-own_result_described own f s blocks b n shape ty loc firm both there name =
-    result_described own f s (with_item blocks b) b ((with_item blocks b).count b) n shape ty loc firm (item_described own f s blocks b both) there (new_name_item blocks b n name)
+own_result_described own f s blocks b n shape ty loc firm both open_block there name =
+    result_described own f s (with_item blocks b) b ((with_item blocks b).count b) n shape ty loc firm (item_described own f s blocks b both open_block) there (new_name_item blocks b n name)

@@ -25,7 +25,7 @@ use Rattle.clif_ir.specs.declared.inst_list.BlockEnd.TheVariants.{Front, Back}
 use Rattle.clif_ir.proofs.Aliases.{follow_end, follow-inside}
 use Rattle.clif_ir.proofs.Lists.{at_set, below_or_not}
 use Rattle.clif_paths.proofs.Tables.{updated-same, updated-other}
-use Rattle.clif_ssa.specs.declared.ssa.SideEffects.{SideEffects}
+use Rattle.clif_ssa.specs.declared.side_effects.SideEffects.{SideEffects}
 use Rattle.clif_ssa.specs.declared.tables.Pending.{Pending}
 use Rattle.clif_ssa.specs.Tables.{is_yes, pending_of}
 use Rattle.clif_ssa.specs.declared.tables.Sealed.{Sealed}

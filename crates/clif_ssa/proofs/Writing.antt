@@ -10,24 +10,29 @@ use Rattle.clif_ir.specs.Changes.{with_block}
 use Rattle.clif_ir.specs.declared.function.BlockNode.{BlockNode}
 use Rattle.clif_ir.proofs.Lists.{at_push, at_past, below_or_not}
 use Rattle.clif_ir.proofs.Aliases.{follow_nothing}
-use Rattle.clif_paths.specs.Places.{Place, start, inside}
-use Rattle.clif_paths.specs.State.{Naming, Kind, born, pending, fresh, reads, Origin}
+use Rattle.clif_paths.specs.Places.{Place, start, inside, Arm}
+use Rattle.clif_paths.specs.State.{Naming, Kind, Definition, born, pending, complete, fresh, reads, Origin}
 use Rattle.clif_paths.specs.Steps.{updated, IsNewName}
-use Rattle.clif_paths.specs.Blocks.{Blocks, last_place, state_of, no_blocks, with_item, with_read, with_write, AssignsNot, Knows}
+use Rattle.clif_paths.specs.Blocks.{Blocks, front, last_place, state_of, no_blocks, with_item, with_read, with_write, AssignsNot, Knows}
 use Rattle.clif_paths.proofs.BlockSteps.{first_sound, item_keeps, read_keeps, write_keeps}
 use Rattle.clif_paths.proofs.Tables.{updated-same, updated-other, record_other}
 use Rattle.clif_ssa.specs.Tables.{is_yes, pending_of}
-use Rattle.clif_ssa.specs.Ssa.{SsaState, no_state, record_of, Records, SameRecords, SameBlocks}
-use Rattle.clif_ssa.specs.Sound.{Describes, has_entry}
-use Rattle.clif_ssa.specs.SoundLaws.{DescribesSoundly}
-use Rattle.clif_ssa.proofs.Describing.{Extends, instructions_kept, waiting_kept, homes_kept, assigns_not_kept, record_changed, not_recorded, is_recorded}
-use Rattle.clif_ssa.proofs.Entering.{Waiting, relaid}
+use Rattle.clif_ssa.specs.declared.tables.Pending.{Pending}
+use Rattle.clif_ssa.specs.Ssa.{SsaState, no_state, record_of, sealed_of, predecessors_of, Records, SameRecords, SameBlocks, SamePredecessors}
+use Rattle.clif_ssa.specs.LookUp.{branch_block}
+use Rattle.clif_ssa.specs.Sound.{Describes, IsEdgeInto, InOrder, entry_of}
+use Rattle.clif_ssa.specs.SoundLaws.{DescribesSoundly, IsOpen}
+use Rattle.clif_ssa.proofs.Ordering.{none_contained, in_order_small}
+use Rattle.clif_ssa.proofs.Describing.{Extends, Arms, arms_of, arms_kept, SameEdges, same_edges, Ordered, ordered_of, ordered_kept, same_passed, same_kinds, instructions_kept, waiting_kept, homes_kept, assigns_not_kept, record_changed, not_recorded, is_recorded}
+use Rattle.clif_ssa.proofs.Entering.{Waiting, relaid, same_leads}
+use Rattle.clif_ssa.proofs.Counts.{counts_kept}
 
 -- THE STATE -------------------------------------------------------------------------------------------------------
 
 -- what waits in a state with the same blocks
-pub same_waiting : (own : ℕ → List ℕ) (f : Body) (s t : SsaState) (blocks : Blocks) → Describes own f s [] blocks → SameBlocks s t → Waiting f t [] blocks
-same_waiting own f s t blocks before same = record {
+pub same_waiting : (own : ℕ → List ℕ) (f : Body) (s t : SsaState) (blocks : Blocks) → Describes own f s [] blocks → SameBlocks s t
+    → ((b : ℕ) (p : Pending) → Contains (pending_of (sealed_of s b)) p → record_of t p.variable b ≢ None) → Waiting f t [] blocks
+same_waiting own f s t blocks before same still_recorded = record {
   waiting = λ b p here. before.waiting b p (subst (λ xs. Contains xs p) (ap pending_of (same b)) here);
   completed = λ p here. absurd (omega (arith, here.1));
   pends = λ v x ends is.
@@ -35,17 +40,66 @@ same_waiting own f s t blocks before same = record {
         | inl old ↦ inl (old.0, subst (λ xs. Contains xs (record { variable = x; param = v })) (ap pending_of (sym (same old.0))) old.1)
         | inr listed ↦ inr listed
       ];
+  waiting_recorded = λ b p here. still_recorded b p (subst (λ xs. Contains xs p) (ap pending_of (same b)) here);
+  waiting_order = λ b. subst (λ ps. InOrder (block_at f b).params ps) (sym (ap pending_of (same b))) (before.waiting_order b);
+  completing_order = before.completing_order;
 }
 
-pub same_state : (own : ℕ → List ℕ) (f : Body) (s t : SsaState) (blocks : Blocks) → SameRecords s t → SameBlocks s t → Describes own f s [] blocks → Describes own f t [] blocks
-same_state own f s t blocks records same before =
-    relaid own f f.layout s t [] [] blocks blocks.sealed blocks.joins before records
+-- what tables say of arms and parameters, in a function that stays as it is
+pub record ArmsAndOrder (f : Body) (s : SsaState) (blocks : Blocks) : Type 0 where
+  pub arms : Arms f s blocks
+  pub order : Ordered f s [] blocks
+
+-- the state has the same blocks, and the tables the same arms and values; no block in which a branch stands has a new item
+pub record SameShape (f : Body) (s t : SsaState) (blocks blocks' : Blocks) : Type 0 where
+  pub predecessors : SamePredecessors s t
+  pub entries : SameBlocks s t
+  pub sealed : (b : ℕ) → blocks'.sealed b ≡ blocks.sealed b
+  pub joins : (arm : Arm) → blocks'.joins arm ≡ blocks.joins arm
+  pub definition : (v : ℕ) → blocks'.function.definition v ≡ blocks.function.definition v
+  pub argument : (v : ℕ) (arm : Arm) → blocks'.function.argument v arm ≡ blocks.function.argument v arm
+  pub count : (b i : ℕ) → Contains (predecessors_of s b) i → blocks'.count (branch_block f i) ≡ blocks.count (branch_block f i)
+
+pub shape_kept : (own : ℕ → List ℕ) (f : Body) (s t : SsaState) (blocks blocks' : Blocks) → Describes own f s [] blocks → SameShape f s t blocks blocks' → ArmsAndOrder f t blocks'
+shape_kept own f s t blocks blocks' before same =
+    let extends : Extends f f blocks blocks' =
+    record { values_more = omega arith; insts_more = omega arith; inst_same = λ i here. refl; definition_same = λ v here. same.definition v } in
+    let old : Arms f s blocks = arms_of own f s [] blocks before in
+    let edges : SameEdges f f s t blocks blocks' = same_edges f f s t blocks blocks' old extends same.predecessors same.count in
+    record {
+      arms =
+          arms_kept f f s t blocks blocks'
+          (record { edges = edges; insts_more = omega arith; layout = refl; same_yes = λ b. ap is_yes (same.entries b); sealed = same.sealed; joins = same.joins }) old;
+      order =
+          ordered_kept f f s t [] blocks blocks'
+          (record {
+            edges = edges;
+            passed = λ b i k j here. refl;
+            kinds = same_kinds blocks blocks' same.definition;
+            params = λ b. refl;
+            homes = λ v. refl;
+            entries = λ b. ap pending_of (same.entries b);
+            arguments = same.argument;
+          })
+          (ordered_of own f s [] blocks before);
+    }
+
+pub same_state : (own : ℕ → List ℕ) (f : Body) (s t : SsaState) (blocks : Blocks) → SameRecords s t → SameBlocks s t → SamePredecessors s t
+    → Describes own f s [] blocks → Describes own f t [] blocks
+same_state own f s t blocks records same leads before =
+    let kept : ArmsAndOrder f t blocks =
+    shape_kept own f s t blocks blocks before
     (record {
-      sealed_as = λ b. before.sealed b ∙ ap (λ r. is_yes r && has_entry f.layout) (sym (same b));
-      joined = before.joined;
-      entered = before.entered;
-    })
-    (same_waiting own f s t blocks before same)
+      predecessors = leads;
+      entries = same;
+      sealed = λ b. refl;
+      joins = λ arm. refl;
+      definition = λ v. refl;
+      argument = λ v arm. refl;
+      count = λ b i here. refl;
+    }) in
+    relaid own f f.layout s t [] [] blocks blocks.sealed blocks.joins before records (same_leads s t blocks leads) (λ b known. known) kept.arms
+    (same_waiting own f s t blocks before same (λ b p here none. before.waiting_recorded b p here (sym (records p.variable b) ∙ none)))
 
 -- A NEW BLOCK -----------------------------------------------------------------------------------------------------
 
@@ -56,15 +110,42 @@ block_insts f b =
     (λ last. ap (λ (m : BlockNode). m.insts) (sym (at_past f.blocks b empty_block (omega (arith, last)))))
     (λ past. ap (λ (m : BlockNode). m.insts) (sym (at_past f.blocks b empty_block (omega (arith, past)))))
 
+block_params : (f : Body) (b : ℕ) → (block_at (with_block f) b).params ≡ (block_at f b).params
+block_params f b =
+    at_push (λ (m : BlockNode). m.params ≡ (block_at f b).params) f.blocks empty_block b empty_block
+    (λ here. refl)
+    (λ last. ap (λ (m : BlockNode). m.params) (sym (at_past f.blocks b empty_block (omega (arith, last)))))
+    (λ past. ap (λ (m : BlockNode). m.params) (sym (at_past f.blocks b empty_block (omega (arith, past)))))
+
 pub block_described : (own : ℕ → List ℕ) (f : Body) (s : SsaState) (blocks : Blocks) → Describes own f s [] blocks → Describes own (with_block f) s [] blocks
 block_described own f s blocks before =
     let g : Body = with_block f in
     let extends : Extends f g blocks blocks =
     record { values_more = omega arith; insts_more = omega arith; inst_same = λ i here. refl; definition_same = λ v here. refl } in
+    let old : Arms f s blocks = arms_of own f s [] blocks before in
+    let edges : SameEdges f g s s blocks blocks = same_edges f g s s blocks blocks old extends (λ b. refl) (λ b i here. refl) in
+    let arms : Arms g s blocks =
+    arms_kept f g s s blocks blocks (record { edges = edges; insts_more = omega arith; layout = refl; same_yes = λ b. refl; sealed = λ b. refl; joins = λ arm. refl }) old in
+    let order : Ordered g s [] blocks =
+    ordered_kept f g s s [] blocks blocks
+    (record {
+      edges = edges;
+      passed = same_passed f g s blocks blocks old extends;
+      kinds = same_kinds blocks blocks (λ v. refl);
+      params = block_params f;
+      homes = λ v. refl;
+      entries = λ b. refl;
+      arguments = λ v arm. refl;
+    })
+    (ordered_of own f s [] blocks before) in
     record {
-      sealed = before.sealed;
-      joined = before.joined;
-      entered = before.entered;
+      sealed = arms.sealed;
+      joined = arms.joined;
+      entered = arms.entered;
+      led = arms.led;
+      leading = arms.leading;
+      leading_apart = arms.leading_apart;
+      entry_apart = arms.entry_apart;
       resolves = before.resolves;
       recorded = before.recorded;
       records_exist = before.records_exist;
@@ -77,10 +158,19 @@ block_described own f s blocks before =
       waiting = λ b p here. waiting_kept f g blocks blocks b p refl refl (before.waiting b p here);
       completed = λ p here. absurd (omega (arith, here.1));
       pends = before.pends;
+      waiting_recorded = before.waiting_recorded;
+      complete_there = order.complete_there;
+      complete_first = order.complete_first;
+      waiting_order = order.waiting_order;
+      completing_order = order.completing_order;
+      passes = order.passes;
       instructions = λ b. instructions_kept f g blocks blocks b (own b) extends (block_insts f b) (before.instructions b);
     }
 
 -- THE FIRST TABLES ------------------------------------------------------------------------------------------------
+
+unborn_or_complete : ◌≡◌ {A = Kind} Kind.unborn complete → ⊥
+unborn_or_complete same = cc
 
 pub first_described : (name : UserFuncName) (signature : SignatureShape) → DescribesSoundly (λ b. []) (empty_body name signature) no_state no_blocks
 first_described name signature =
@@ -89,6 +179,10 @@ first_described name signature =
         sealed = λ b. refl;
         joined = λ arm known. absurd (let no_arm : false ≡ true = known in cc);
         entered = λ entry at. absurd (let nothing : ◌≡◌ {A = Option ℕ} None (Some entry) = at in cc);
+        led = λ b arm known at edge. absurd (none_contained edge.branch edge.leads);
+        leading = λ b i here. absurd (none_contained i here);
+        leading_apart = λ b j k below inside. absurd (omega (arith, inside));
+        entry_apart = λ entry is. refl;
         resolves = λ v. sym (follow_nothing [] 0 v refl);
         recorded = λ b x. refl;
         records_exist = λ b x v is. absurd (let nothing : ◌≡◌ {A = Option ℕ} None (Some v) = is in cc);
@@ -101,9 +195,16 @@ first_described name signature =
         waiting = λ b p here. absurd (omega (arith, here.1));
         completed = λ p here. absurd (omega (arith, here.1));
         pends = λ v x ends is. absurd (let nothing : ◌≡◌ {A = Kind} Kind.unborn (pending x) = is in cc);
+        waiting_recorded = λ b p here. absurd (none_contained p here);
+        complete_there = λ b v is. absurd (unborn_or_complete (ap (λ (d : Definition). d.kind) is));
+        complete_first = λ b v u x is pends home. absurd (unborn_or_complete (ap (λ (d : Definition). d.kind) is));
+        waiting_order = λ b. in_order_small [] [] (omega arith);
+        completing_order = λ b. in_order_small [] [] (omega arith);
+        passes = λ b v arm edge is at. absurd (unborn_or_complete (ap (λ (d : Definition). d.kind) is));
         instructions = λ b. record { zeros = []; in_order = refl; are_zeros = tt };
       },
       first_sound,
+      record { counted = λ b i k v here. absurd (none_contained i here); no_more = λ b i k here. absurd (none_contained i here) },
     )
 
 -- AN ITEM ---------------------------------------------------------------------------------------------------------
@@ -134,16 +235,33 @@ item_assigns_not blocks b c x unwritten none = record {
     cases_order : (k : ℕ) → (k < suc (blocks.count c)) ⊎ (blocks.count c < k)
     cases_order k = elim (below_or_not k (suc (blocks.count c))) [ inl below ↦ inl below | inr above ↦ inr (omega (arith, above)) ]
 
-pub item_described : (own : ℕ → List ℕ) (f : Body) (s : SsaState) (blocks : Blocks) (b : ℕ) → DescribesSoundly own f s blocks → DescribesSoundly own f s (with_item blocks b)
-item_described own f s blocks b given =
+-- a block in which no branch stands has one item more
+item_shape : (f : Body) (s : SsaState) (blocks : Blocks) (b : ℕ) → IsOpen f s b → SameShape f s s blocks (with_item blocks b)
+item_shape f s blocks b open_block = record {
+  predecessors = λ c. refl;
+  entries = λ c. refl;
+  sealed = λ c. refl;
+  joins = λ arm. refl;
+  definition = λ v. refl;
+  argument = λ v arm. refl;
+  count = λ c i here. updated-other blocks.count b (suc (blocks.count b)) (branch_block f i) (open_block c i here);
+}
+
+pub item_described : (own : ℕ → List ℕ) (f : Body) (s : SsaState) (blocks : Blocks) (b : ℕ) → DescribesSoundly own f s blocks → IsOpen f s b → DescribesSoundly own f s (with_item blocks b)
+item_described own f s blocks b given open_block =
     let before : Describes own f s [] blocks = given.0 in
     let after : Blocks = with_item blocks b in
     let extends : Extends f f blocks after =
-    record { values_more = omega arith; insts_more = omega arith; inst_same = λ i here. refl; definition_same = λ v here. refl } in (
+    record { values_more = omega arith; insts_more = omega arith; inst_same = λ i here. refl; definition_same = λ v here. refl } in
+    let kept : ArmsAndOrder f s after = shape_kept own f s s blocks after before (item_shape f s blocks b open_block) in (
       record {
-        sealed = before.sealed;
-        joined = before.joined;
-        entered = before.entered;
+        sealed = kept.arms.sealed;
+        joined = kept.arms.joined;
+        entered = kept.arms.entered;
+        led = kept.arms.led;
+        leading = kept.arms.leading;
+        leading_apart = kept.arms.leading_apart;
+        entry_apart = kept.arms.entry_apart;
         resolves = before.resolves;
         recorded = before.recorded;
         records_exist = before.records_exist;
@@ -156,9 +274,16 @@ item_described own f s blocks b given =
         waiting = λ c p here. waiting_kept f f blocks after c p refl refl (before.waiting c p here);
         completed = λ p here. absurd (omega (arith, here.1));
         pends = before.pends;
+        waiting_recorded = before.waiting_recorded;
+        complete_there = kept.order.complete_there;
+        complete_first = kept.order.complete_first;
+        waiting_order = kept.order.waiting_order;
+        completing_order = kept.order.completing_order;
+        passes = kept.order.passes;
         instructions = λ c. instructions_kept f f blocks after c (own c) extends refl (before.instructions c);
       },
       item_keeps blocks b (record { unassigned = λ x. before.unwritten b (suc (blocks.count b)) x (omega arith) }) given.1,
+      counts_kept f s s blocks after given.2 (λ c. refl) (λ u. refl),
     )
 
 -- the new item assigns nothing so far
@@ -184,21 +309,51 @@ both_hold x y b c p q = grind (arith, common_steps, p, q)
 true_false : true ≡ false → ⊥
 true_false same = cc
 
-pub write_described : (own : ℕ → List ℕ) (f : Body) (s t : SsaState) (blocks : Blocks) (b x n : ℕ) → DescribesSoundly own f s blocks
-    → (blocks.naming n).home ≢ start → blocks.assigned (last_place blocks b) x ≡ None → Records s t x b (blocks.answer n) → SameBlocks s t
+-- no arm leaves the last place of a block in which no branch stands
+open_place : (f : Body) (s : SsaState) (blocks : Blocks) (b : ℕ) → IsOpen f s b
+    → ((arm : Arm) → blocks.joins arm ≡ true
+    → (c : ℕ) × (arm.target ≡ front c) × (is_yes (sealed_of s c) ≡ true) × (((arm.source ≡ start) × (entry_of f ≡ Some c)) ⊎ IsEdgeInto f s blocks c arm))
+    → (arm : Arm) → blocks.joins arm ≡ true → arm.source ≢ last_place blocks b
+open_place f s blocks b open_block joined arm known at =
+    let there : (c : ℕ) × (arm.target ≡ front c) × (is_yes (sealed_of s c) ≡ true) × (((arm.source ≡ start) × (entry_of f ≡ Some c)) ⊎ IsEdgeInto f s blocks c arm) =
+    joined arm known in
+    elim there.3 [
+      | inl enters ↦ inside_written b (blocks.count b) (sym enters.0 ∙ at)
+      | inr edge ↦ open_block there.0 edge.branch edge.leads (inside_block (sym edge.from ∙ at))
+    ]
+
+pub write_described : (own : ℕ → List ℕ) (f : Body) (s t : SsaState) (blocks : Blocks) (b x n : ℕ) → DescribesSoundly own f s blocks → IsOpen f s b
+    → (blocks.naming n).home ≢ start → blocks.assigned (last_place blocks b) x ≡ None → Records s t x b (blocks.answer n) → SameBlocks s t → SamePredecessors s t
     → DescribesSoundly own f t (with_write blocks b x n)
-write_described own f s t blocks b x n both given none written same =
+write_described own f s t blocks b x n both open_block given none written same leads =
     let before : Describes own f s [] blocks = both.0 in
     let after : Blocks = with_write blocks b x n in
     let v : ℕ = blocks.answer n in
     let kept : (p : Place) (y : ℕ) → (p ≡ last_place blocks b → y ≢ x) → after.assigned p y ≡ blocks.assigned p y = record_other blocks.assigned (last_place blocks b) x n in
     let extends : Extends f f blocks after =
     record { values_more = omega arith; insts_more = omega arith; inst_same = λ i here. refl; definition_same = λ u here. refl } in
-    let waits : Waiting f t [] blocks = same_waiting own f s t blocks before same in (
+    let kept_records : (c : ℕ) (p : Pending) → Contains (pending_of (sealed_of s c)) p → record_of t p.variable c ≢ None =
+    λ c p here is. before.waiting_recorded c p here (not_recorded (p.variable == x && c == b) v (record_of s p.variable c) (sym (written p.variable c) ∙ is)).1 in
+    let waits : Waiting f t [] blocks = same_waiting own f s t blocks before same kept_records in
+    let still : ArmsAndOrder f t after =
+    shape_kept own f s t blocks after before
+    (record {
+      predecessors = leads;
+      entries = same;
+      sealed = λ c. refl;
+      joins = λ arm. refl;
+      definition = λ u. refl;
+      argument = λ u arm. refl;
+      count = λ c i here. refl;
+    }) in (
       record {
-        sealed = λ c. before.sealed c ∙ ap (λ r. is_yes r && has_entry f.layout) (sym (same c));
-        joined = before.joined;
-        entered = before.entered;
+        sealed = still.arms.sealed;
+        joined = still.arms.joined;
+        entered = still.arms.entered;
+        led = still.arms.led;
+        leading = still.arms.leading;
+        leading_apart = still.arms.leading_apart;
+        entry_apart = still.arms.entry_apart;
         resolves = before.resolves;
         recorded = λ c y. record_changed blocks.recorded b x v c y ∙ ap (λ r. cond (y == x && c == b) (Some v) r) (before.recorded c y) ∙ sym (written y c);
         records_exist = λ c y u is.
@@ -220,21 +375,28 @@ write_described own f s t blocks b x n both given none written same =
         waiting = λ c p here. waiting_kept f f blocks after c p refl refl (waits.waiting c p here);
         completed = λ p here. absurd (omega (arith, here.1));
         pends = waits.pends;
+        waiting_recorded = waits.waiting_recorded;
+        complete_there = still.order.complete_there;
+        complete_first = still.order.complete_first;
+        waiting_order = still.order.waiting_order;
+        completing_order = still.order.completing_order;
+        passes = still.order.passes;
         instructions = λ c. instructions_kept f f blocks after c (own c) extends refl (before.instructions c);
       },
       write_keeps blocks b x n
           (record {
             unassigned = none;
             is_given = given;
-            open_block = λ arm known at. inside_written b (blocks.count b) (sym (before.joined arm known).0 ∙ at);
+            open_block = open_place f s blocks b open_block before.joined;
           }) both.1,
+      counts_kept f s t blocks after both.2 leads (λ u. refl),
     )
 
-pub write_item_described : (own : ℕ → List ℕ) (f : Body) (s t : SsaState) (blocks : Blocks) (b x n : ℕ) → DescribesSoundly own f s blocks
-    → (blocks.naming n).home ≢ start → Records s t x b (blocks.answer n) → SameBlocks s t
+pub write_item_described : (own : ℕ → List ℕ) (f : Body) (s t : SsaState) (blocks : Blocks) (b x n : ℕ) → DescribesSoundly own f s blocks → IsOpen f s b
+    → (blocks.naming n).home ≢ start → Records s t x b (blocks.answer n) → SameBlocks s t → SamePredecessors s t
     → DescribesSoundly own f t (with_write (with_item blocks b) b x n)
-write_item_described own f s t blocks b x n both given written same =
-    write_described own f s t (with_item blocks b) b x n (item_described own f s blocks b both) given (item_unassigned own f s blocks b x both.0) written same
+write_item_described own f s t blocks b x n both open_block given written same leads =
+    write_described own f s t (with_item blocks b) b x n (item_described own f s blocks b both open_block) open_block given (item_unassigned own f s blocks b x both.0) written same leads
 
 -- USE -------------------------------------------------------------------------------------------------------------
 
@@ -269,18 +431,33 @@ read_described own f s blocks b n x v both name none known exists =
     let cases : (m : ℕ) → ((m ≡ n) × (after.naming m ≡ new) × (after.answer m ≡ v)) ⊎ ((m ≢ n) × (after.naming m ≡ blocks.naming m) × (after.answer m ≡ blocks.answer m)) =
     name_cases blocks.naming blocks.answer n v new in
     let extends : Extends f f blocks after =
-    record { values_more = omega arith; insts_more = omega arith; inst_same = λ i here. refl; definition_same = λ u here. refl } in (
+    record { values_more = omega arith; insts_more = omega arith; inst_same = λ i here. refl; definition_same = λ u here. refl } in
+    let kept : ArmsAndOrder f s after =
+    shape_kept own f s s blocks after before
+    (record {
+      predecessors = λ c. refl;
+      entries = λ c. refl;
+      sealed = λ c. refl;
+      joins = λ arm. refl;
+      definition = λ u. refl;
+      argument = λ u arm. refl;
+      count = λ c i here. refl;
+    }) in (
       record {
-        sealed = before.sealed;
-        joined = before.joined;
-        entered = before.entered;
+        sealed = kept.arms.sealed;
+        joined = kept.arms.joined;
+        entered = kept.arms.entered;
+        led = kept.arms.led;
+        leading = kept.arms.leading;
+        leading_apart = kept.arms.leading_apart;
+        entry_apart = kept.arms.entry_apart;
         resolves = before.resolves;
         recorded = before.recorded;
         records_exist = before.records_exist;
         unrecorded = λ c y is. assigns_not_kept blocks after c y refl (λ k. refl) (before.unrecorded c y is);
         unwritten = before.unwritten;
         absent = before.absent;
-        homes = λ u. homes_kept blocks after u refl (names_kept blocks.naming blocks.answer n v new name.new_name) (before.homes u);
+        homes = λ u. homes_kept blocks after u refl (λ c known. known) (names_kept blocks.naming blocks.answer n v new name.new_name) (before.homes u);
         answered = λ m given.
             elim (cases m) [
               | inl now ↦ omega (arith, now.2, exists)
@@ -299,14 +476,21 @@ read_described own f s blocks b n x v both name none known exists =
         waiting = λ c p here. waiting_kept f f blocks after c p refl refl (before.waiting c p here);
         completed = λ p here. absurd (omega (arith, here.1));
         pends = before.pends;
+        waiting_recorded = before.waiting_recorded;
+        complete_there = kept.order.complete_there;
+        complete_first = kept.order.complete_first;
+        waiting_order = kept.order.waiting_order;
+        completing_order = kept.order.completing_order;
+        passes = kept.order.passes;
         instructions = λ c. instructions_kept f f blocks after c (own c) extends refl (before.instructions c);
       },
       read_keeps blocks b n x v (record { name = name; unassigned = none; known = known }) both.1,
+      counts_kept f s s blocks after both.2 (λ c. refl) (λ u. refl),
     )
 
-pub read_item_described : (own : ℕ → List ℕ) (f : Body) (s : SsaState) (blocks : Blocks) (b n x v : ℕ) → DescribesSoundly own f s blocks
+pub read_item_described : (own : ℕ → List ℕ) (f : Body) (s : SsaState) (blocks : Blocks) (b n x v : ℕ) → DescribesSoundly own f s blocks → IsOpen f s b
     → IsNewName (state_of blocks) n → Knows blocks b x v → v < length f.values
     → DescribesSoundly own f s (with_read (with_item blocks b) b n x v)
-read_item_described own f s blocks b n x v both name known exists =
-    read_described own f s (with_item blocks b) b n x v (item_described own f s blocks b both) (new_name_item blocks b n name)
+read_item_described own f s blocks b n x v both open_block name known exists =
+    read_described own f s (with_item blocks b) b n x v (item_described own f s blocks b both open_block) (new_name_item blocks b n name)
     (item_unassigned own f s blocks b x both.0) (record { value = known.value; is_recorded = known.is_recorded; resolves = known.resolves }) exists

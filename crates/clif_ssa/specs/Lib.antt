@@ -1,5 +1,10 @@
 pub mod Tables
 pub mod Ssa
+pub mod Passed
+pub mod LookUp
+pub mod Incoming
+pub mod Running
+pub mod Sealing
 pub mod Limits
 pub mod Sound
 pub mod SoundLaws

@@ -1,18 +1,24 @@
 -- When the tables of the theory of variables on paths describe a function and the state of its construction. The
 -- tables have the program's side (items, assignments, names and their answers), which the caller brings, and the
 -- function's side, which is said here. Source: own, after the data that Braun et al. 2013 keep.
-use Rattle.std.specs.Prelude.{◌≡◌, ◌≢◌, ℕ, ◌<◌, ◌≤◌, ◌&&◌, ◌⊎◌, Bool, true, false, List, [], ◌∷◌, ◌++◌, length, Option, Some, None, slice_get, Contains, pos}
+use Rattle.std.specs.Prelude.{◌≡◌, ◌≢◌, ℕ, ◌<◌, ◌≤◌, ◌==◌, ◌&&◌, ◌⊎◌, Bool, true, false, List, [], ◌∷◌, ◌++◌, length, map, Option, Some, None, slice_get, slice_index_or, Contains, pos, if◌then◌else◌}
 use Rattle.std.specs.List.{AllByRecursion}
 use Rattle.clif_ir.specs.Body.{Body, inst_at, block_at, resolved}
-use Rattle.clif_ir.specs.Reading.{param_home}
+use Rattle.clif_ir.specs.Consistent.{Once}
+use Rattle.clif_ir.specs.Instruction.{destinations}
+use Rattle.clif_ir.specs.Reading.{param_home, place_of, targets}
+use Rattle.clif_ir.specs.declared.block_call.BlockArg.{BlockArg}
+use Rattle.clif_ir.specs.declared.block_call.BlockArg.TheVariants.{Value}
+use Rattle.clif_ir.specs.declared.block_call.BlockCall.{BlockCall}
 use Rattle.clif_ir.specs.declared.instructions.InstructionData.TheVariants.{UnaryImm}
 use Rattle.clif_paths.specs.Places.{Place, start, inside, Arm}
 use Rattle.clif_paths.specs.State.{fresh, Kind, unborn, born, pending, complete, zero_of}
-use Rattle.clif_paths.specs.Blocks.{Blocks, front, AssignsNot, Knows}
+use Rattle.clif_paths.specs.Blocks.{Blocks, front, last_place, AssignsNot, Knows}
 use Rattle.clif_paths.specs.BlockLaws.{BlocksSound}
 use Rattle.clif_ssa.specs.declared.tables.Pending.{Pending}
 use Rattle.clif_ssa.specs.Tables.{is_yes, pending_of}
-use Rattle.clif_ssa.specs.Ssa.{SsaState, record_of, sealed_of}
+use Rattle.clif_ssa.specs.Ssa.{SsaState, record_of, sealed_of, predecessors_of}
+use Rattle.clif_ssa.specs.LookUp.{branch_block}
 
 -- the first block of the layout
 abbrev pub entry_of : Body → Option ℕ
@@ -43,6 +49,27 @@ pub record IsWaiting (f : Body) (blocks : Blocks) (block : ℕ) (p : Pending) : 
   pub parameter : param_home f p.param ≡ Some block
   pub defined : blocks.function.definition p.param ≡ record { home = front block; kind = pending p.variable }
 
+-- what stands for a parameter that isn't in a list
+abbrev pub no_pending : Pending
+no_pending = record { variable = 0; param = 0 }
+
+abbrev pub is_some_block : ℕ → Option ℕ → Bool
+is_some_block block None = false
+is_some_block block (Some b) = b == block
+
+-- those of the list that are parameters of the block
+abbrev pub is_parameter_of : Body → ℕ → Pending → Bool
+is_parameter_of f block p = is_some_block block (param_home f p.param)
+
+abbrev pub parameters_of : Body → ℕ → List Pending → List Pending
+parameters_of f block [] = []
+parameters_of f block (p ∷ ps) = if is_parameter_of f block p then p ∷ parameters_of f block ps else parameters_of f block ps
+
+-- they stand among the parameters in their order
+abbrev pub InOrder : List ℕ → List Pending → Type 0
+InOrder params ps = (j k : ℕ) → j < k → k < length ps
+    → place_of (slice_index_or ps j no_pending).param params < place_of (slice_index_or ps k no_pending).param params
+
 -- where a value is defined, by its kind
 abbrev pub HomeFits : Blocks → ℕ → Kind → Type 0
 HomeFits blocks v unborn = (blocks.function.definition v).home ≡ start
@@ -50,18 +77,51 @@ HomeFits blocks v (born n) =
     (blocks.naming n ≡ record { home = (blocks.function.definition v).home; origin = fresh })
     × (blocks.answer n ≡ v) × ((blocks.function.definition v).home ≢ start)
 HomeFits blocks v (pending x) = (block : ℕ) × ((blocks.function.definition v).home ≡ front block)
-HomeFits blocks v complete = ⊥
+HomeFits blocks v complete = (block : ℕ) × ((blocks.function.definition v).home ≡ front block) × (blocks.sealed block ≡ true)
 HomeFits blocks v (zero_of x) = (block : ℕ) × ((blocks.function.definition v).home ≡ front block)
 
--- The tables describe the function and the state, while these parameters are being completed. `own` are the
--- instructions of each block that the caller made. No block has predecessors so far: the entry alone is come to, from
--- the start.
+-- the edges of an instruction
+abbrev pub edges_at : Body → ℕ → List BlockCall
+edges_at f inst = destinations (inst_at f inst).shape
+
+-- the block to which edge `k` of an instruction leads
+abbrev pub edge_target : Body → ℕ → ℕ → Option ℕ
+edge_target f inst k = slice_get (targets (edges_at f inst)) k
+
+-- what edge `k` of an instruction passes at place `j`
+abbrev pub args_of : Option BlockCall → List BlockArg
+args_of None = []
+args_of (Some edge) = edge.args
+
+abbrev pub passed_at : Body → ℕ → ℕ → ℕ → Option BlockArg
+passed_at f inst k j = slice_get (args_of (slice_get (edges_at f inst) k)) j
+
+-- the arm is an edge to the block, of a branch that leads to it
+pub record IsEdgeInto (f : Body) (s : SsaState) (blocks : Blocks) (block : ℕ) (arm : Arm) : Type 0 where
+  pub branch : ℕ
+  pub leads : Contains (predecessors_of s block) branch
+  pub from : arm.source ≡ last_place blocks (branch_block f branch)
+  pub to : edge_target f branch arm.edge ≡ Some block
+
+-- The tables describe the function and the state, while these parameters are being completed: those of sealed blocks
+-- that wait, those of one block in the order of its parameters. `own` are the instructions of each block that the
+-- caller made.
 pub record Describes (own : ℕ → List ℕ) (f : Body) (s : SsaState) (completing : List Pending) (blocks : Blocks) : Type 0 where
   -- the arms into a block are known once it is sealed and there is an entry
   pub sealed : (b : ℕ) → blocks.sealed b ≡ (is_yes (sealed_of s b) && has_entry f.layout)
-  pub joined : (arm : Arm) → blocks.joins arm ≡ true → (arm.source ≡ start) × (entry : ℕ) × (entry_of f ≡ Some entry) × (arm.target ≡ front entry)
+  -- they are the one from the start, if it is the entry, and the edges of the branches that lead to it
+  pub joined : (arm : Arm) → blocks.joins arm ≡ true
+      → (b : ℕ) × (arm.target ≡ front b) × (is_yes (sealed_of s b) ≡ true)
+      × (((arm.source ≡ start) × (entry_of f ≡ Some b)) ⊎ IsEdgeInto f s blocks b arm)
   pub entered : (entry : ℕ) → entry_of f ≡ Some entry → blocks.sealed entry ≡ true
       → blocks.joins (record { source = start; target = front entry; edge = 0 }) ≡ true
+  pub led : (b : ℕ) (arm : Arm) → is_yes (sealed_of s b) ≡ true → arm.target ≡ front b → IsEdgeInto f s blocks b arm
+      → blocks.joins arm ≡ true
+  -- branches that lead somewhere exist, and there is an entry then; those that lead to one block stand in different
+  -- blocks; none leads to the entry
+  pub leading : (b i : ℕ) → Contains (predecessors_of s b) i → (i < length f.insts) × (has_entry f.layout ≡ true)
+  pub leading_apart : (b : ℕ) → Once (map (branch_block f) (predecessors_of s b))
+  pub entry_apart : (entry : ℕ) → entry_of f ≡ Some entry → predecessors_of s entry ≡ []
   -- aliases, and records
   pub resolves : (v : ℕ) → blocks.function.resolve v ≡ resolved f v
   pub recorded : (b x : ℕ) → blocks.recorded b x ≡ record_of s x b
@@ -76,15 +136,53 @@ pub record Describes (own : ℕ → List ℕ) (f : Body) (s : SsaState) (complet
   pub born_there : (n : ℕ) → (blocks.naming n).home ≢ start → (blocks.naming n).origin ≡ fresh
       → (blocks.function.definition (blocks.answer n) ≡ record { home = (blocks.naming n).home; kind = born n })
       × (resolved f (blocks.answer n) ≡ blocks.answer n)
-  -- parameters that wait, in unsealed blocks or to be completed now, and no others
+  -- parameters that wait, in unsealed blocks or to be completed now, and no others; the variable of each is recorded
   pub waiting : (b : ℕ) (p : Pending) → Contains (pending_of (sealed_of s b)) p → IsWaiting f blocks b p
   pub completed : (p : Pending) → Contains completing p
       → ((param_home f p.param ≡ None) × (resolved f p.param ≢ p.param)) ⊎ ((b : ℕ) × IsWaiting f blocks b p × (is_yes (sealed_of s b) ≡ true))
   pub pends : (v x : ℕ) → resolved f v ≡ v → (blocks.function.definition v).kind ≡ pending x
       → ((b : ℕ) × Contains (pending_of (sealed_of s b)) (record { variable = x; param = v }))
       ⊎ Contains completing (record { variable = x; param = v })
+  pub waiting_recorded : (b : ℕ) (p : Pending) → Contains (pending_of (sealed_of s b)) p → record_of s p.variable b ≢ None
+  -- a complete parameter is one of its block, before those that wait; they stand in the order in which they are completed
+  pub complete_there : (b v : ℕ) → blocks.function.definition v ≡ record { home = front b; kind = complete } → param_home f v ≡ Some b
+  pub complete_first : (b v u x : ℕ) → blocks.function.definition v ≡ record { home = front b; kind = complete }
+      → blocks.function.definition u ≡ record { home = front b; kind = pending x } → param_home f u ≡ Some b
+      → place_of v (block_at f b).params < place_of u (block_at f b).params
+  pub waiting_order : (b : ℕ) → InOrder (block_at f b).params (pending_of (sealed_of s b))
+  pub completing_order : (b : ℕ) → InOrder (block_at f b).params (parameters_of f b completing)
+  -- each edge to its block passes what the arm gives it, at its place
+  pub passes : (b v : ℕ) (arm : Arm) (edge : IsEdgeInto f s blocks b arm)
+      → blocks.function.definition v ≡ record { home = front b; kind = complete } → arm.target ≡ front b
+      → passed_at f edge.branch arm.edge (place_of v (block_at f b).params) ≡ Some (Value (blocks.function.argument v arm))
   -- the blocks' instructions
   pub instructions : (b : ℕ) → HasInstructions f blocks b (own b)
+
+-- how many arguments edge `k` of an instruction passes
+abbrev pub passed_count : Body → ℕ → ℕ → ℕ
+passed_count f inst k = length (args_of (slice_get (edges_at f inst) k))
+
+-- an edge that passes so many arguments passes one to a parameter of this kind at this place, unless it waits
+abbrev pub IsCounted : Kind → ℕ → ℕ → Type 0
+IsCounted unborn place count = place < count
+IsCounted (born n) place count = place < count
+IsCounted (pending x) place count = count ≤ place
+IsCounted complete place count = place < count
+IsCounted (zero_of x) place count = place < count
+
+-- The edges of the branches that lead to a block pass arguments to its first parameters, and to exactly those that
+-- don't wait.
+pub record CountsArguments (f : Body) (s : SsaState) (blocks : Blocks) : Type 0 where
+  pub counted : (b i k v : ℕ) → Contains (predecessors_of s b) i → edge_target f i k ≡ Some b → param_home f v ≡ Some b
+      → IsCounted (blocks.function.definition v).kind (place_of v (block_at f b).params) (passed_count f i k)
+  pub no_more : (b i k : ℕ) → Contains (predecessors_of s b) i → edge_target f i k ≡ Some b
+      → passed_count f i k ≤ length (block_at f b).params
+
+-- the same of one branch, which may come to lead to the block
+pub record EdgesCount (f : Body) (blocks : Blocks) (block inst : ℕ) : Type 0 where
+  pub counted : (k v : ℕ) → edge_target f inst k ≡ Some block → param_home f v ≡ Some block
+      → IsCounted (blocks.function.definition v).kind (place_of v (block_at f block).params) (passed_count f inst k)
+  pub no_more : (k : ℕ) → edge_target f inst k ≡ Some block → passed_count f inst k ≤ length (block_at f block).params
 
 -- the program's side of both tables is the same
 pub record SameProgram (blocks blocks' : Blocks) : Type 0 where
@@ -100,6 +198,7 @@ pub record Keeps (own : ℕ → List ℕ) (blocks : Blocks) (g : Body) (t : SsaS
   pub describes : Describes own g t [] tables
   pub sound : BlocksSound tables
   pub same : SameProgram blocks tables
+  pub counts : CountsArguments g t tables
 
 -- the same, and the value holds the variable at the end of the block
 pub record KeepsAndKnows (own : ℕ → List ℕ) (blocks : Blocks) (g : Body) (t : SsaState) (block variable value : ℕ) : Type 0 where

@@ -1,32 +1,63 @@
 -- The state of the construction, and what its calls make of a function.
 -- Source: Braun et al. 2013, and the crate's documentation of its SSA builder.
-use Rattle.std.specs.Prelude.{◌≡◌, ℕ, ◌-◌, ◌^◌, List, [], ◌∷◌, ◌++◌, Option, Some, None, pos, length, ◌==◌, ◌&&◌, if◌then◌else◌}
+use Rattle.std.specs.Prelude.{◌≡◌, ℕ, ◌-◌, ◌^◌, ◌<◌, ◌≤◌, List, [], ◌∷◌, ◌++◌, Option, Some, None, pos, length, ◌==◌, ◌&&◌, if◌then◌else◌, Contains, true}
 use Rattle.clif_types.specs.declared.types.«Type».{«Type»}
 use Rattle.clif_ir.specs.Body.{Body, value_at}
 use Rattle.clif_ir.specs.Changes.{inserted_in, with_param, with_inst, with_alias}
 use Rattle.clif_ir.specs.declared.inst_list.BlockEnd.TheVariants.{Front}
 use Rattle.clif_ir.specs.declared.instructions.InstructionData.TheVariants.{UnaryImm}
 use Rattle.std.specs.Option.{option_to_list}
-use Rattle.clif_ir.specs.Reading.{param_home}
+use Rattle.clif_ir.specs.Reading.{param_home, without}
+use Rattle.clif_ssa.specs.declared.tables.Cell.{Cell}
 use Rattle.clif_ssa.specs.declared.tables.Pending.{Pending}
 use Rattle.clif_ssa.specs.declared.tables.Sealed.{Sealed}
+use Rattle.clif_ssa.specs.declared.tables.SsaBlock.{SsaBlock}
 use Rattle.clif_ssa.specs.declared.tables.Sealed.TheVariants.{No, Yes}
-use Rattle.clif_ssa.specs.Tables.{record_at, sealed_at, pending_of}
+use Rattle.clif_ssa.specs.Tables.{record_at, lookups_at, one_more, sealed_at, predecessors_at, is_yes, pending_of}
 
--- the records of each variable in each block, and whether each block is sealed
+-- what is known of each variable in each block, and of each block
 pub record SsaState : Type 0 where
-  pub records : List (List (Option ℕ))
-  pub blocks : List Sealed
+  pub records : List (List Cell)
+  pub blocks : List SsaBlock
 
 abbrev pub record_of : SsaState → ℕ → ℕ → Option ℕ
 record_of s variable block = record_at s.records variable block
 
+abbrev pub lookups_of : SsaState → ℕ → ℕ → ℕ
+lookups_of s variable block = lookups_at s.records variable block
+
 abbrev pub sealed_of : SsaState → ℕ → Sealed
 sealed_of s block = sealed_at s.blocks block
+
+abbrev pub predecessors_of : SsaState → ℕ → List ℕ
+predecessors_of s block = predecessors_at s.blocks block
+
+-- what the state names exists in the function
+pub record NamesExist (f : Body) (s : SsaState) : Type 0 where
+  pub recorded : (x b v : ℕ) → record_of s x b ≡ Some v → v < length f.values
+  pub leading : (b i : ℕ) → Contains (predecessors_of s b) i → i < length f.insts
+  pub waiting : (b : ℕ) (p : Pending) → Contains (pending_of (sealed_of s b)) p → p.param < length f.values
 
 -- nothing is known
 abbrev pub no_state : SsaState
 no_state = record { records = []; blocks = [] }
+
+-- that is so wherever a branch leads to a block
+abbrev pub SomethingLeads : SsaState → Type 0
+SomethingLeads s = (b : ℕ) × (i : ℕ) × Contains (predecessors_of s b) i
+
+abbrev pub Named : Body → SsaState → Type 0
+Named f s = SomethingLeads s → NamesExist f s
+
+-- the function has what it had, and maybe more values and instructions
+pub record HasMore (f g : Body) : Type 0 where
+  pub values : length f.values ≤ length g.values
+  pub insts : length f.insts ≤ length g.insts
+  pub blocks : length g.blocks ≡ length f.blocks
+
+-- a block is sealed where it was
+abbrev pub SealedStays : SsaState → SsaState → Type 0
+SealedStays old new = (b : ℕ) → is_yes (sealed_of new b) ≡ is_yes (sealed_of old b)
 
 -- one record is new, and all others are as before
 abbrev pub Records : SsaState → SsaState → ℕ → ℕ → ℕ → Type 0
@@ -41,7 +72,35 @@ SameRecords old new = (v b : ℕ) → record_of new v b ≡ record_of old v b
 abbrev pub RecordsStay : SsaState → SsaState → Type 0
 RecordsStay old new = (v b value : ℕ) → record_of old v b ≡ Some value → record_of new v b ≡ Some value
 
--- each block is as before
+-- the branches that lead to each block are as before
+abbrev pub SamePredecessors : SsaState → SsaState → Type 0
+SamePredecessors old new = (b : ℕ) → predecessors_of new b ≡ predecessors_of old b
+
+-- one more branch leads to a block
+abbrev pub Declares : SsaState → SsaState → ℕ → ℕ → Type 0
+Declares old new block branch =
+    (b : ℕ) → predecessors_of new b ≡ (if b == block then predecessors_of old b ++ branch ∷ [] else predecessors_of old b)
+
+-- one branch doesn't lead to a block any more
+abbrev pub Removes : SsaState → SsaState → ℕ → ℕ → Type 0
+Removes old new block branch =
+    (b : ℕ) → predecessors_of new b ≡ (if b == block then without branch (predecessors_of old b) else predecessors_of old b)
+
+-- the value of a variable in a block is found there alone: it is recorded, or the block is unsealed, or nothing leads
+-- to it
+abbrev pub IsLocal : SsaState → ℕ → ℕ → Type 0
+IsLocal s variable block = record_of s variable block ≡ None → is_yes (sealed_of s block) ≡ true → predecessors_of s block ≡ []
+
+-- each count of look-ups is as before
+abbrev pub SameLookups : SsaState → SsaState → Type 0
+SameLookups old new = (v b : ℕ) → lookups_of new v b ≡ lookups_of old v b
+
+-- one look-up more is counted
+abbrev pub CountsLookup : SsaState → SsaState → ℕ → ℕ → Type 0
+CountsLookup old new variable block =
+    (v b : ℕ) → lookups_of new v b ≡ (if v == variable && b == block then one_more (lookups_of old v b) else lookups_of old v b)
+
+-- whether each block is sealed, and what waits in it, is as before
 abbrev pub SameBlocks : SsaState → SsaState → Type 0
 SameBlocks old new = (b : ℕ) → sealed_of new b ≡ sealed_of old b
 

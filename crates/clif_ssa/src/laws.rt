@@ -1,7 +1,7 @@
 //! Laws for the builder above: the tables of the theory of variables on paths describe what it makes of a function by
 //! itself, and stay sound.
 
-ghost use Rattle.clif_ssa.specs.SoundLaws.{FirstDescribes, SameStateKeeps, InsertionKeeps, NewBlockKeeps, ReadItemKeeps, WriteHereKeeps, WriteItemKeeps, OwnInstructionKeeps, OwnResultKeeps, WaitingUseKeeps, ZeroUseKeeps, SealingKeeps, NewNameStays};
+ghost use Rattle.clif_ssa.specs.SoundLaws.{FirstDescribes, SameStateKeeps, InsertionKeeps, NewBlockKeeps, ReadItemKeeps, WriteHereKeeps, WriteItemKeeps, OwnInstructionKeeps, OwnResultKeeps, WaitingUseKeeps, ZeroUseKeeps, SealingKeeps, PredecessorDeclared, PredecessorRemoved, NothingLeadsCounts, NewNameStays};
 ghost use Rattle.clif_ssa.specs.Structure.{UsesAgree};
 
 /// The first tables describe a function without blocks, of which nothing is known.
@@ -54,14 +54,29 @@ pub fn waiting_use_keeps()
     ensures { WaitingUseKeeps }
 {}
 
-/// A use in a sealed block makes a parameter that is a name of a zero.
+/// A use in a sealed block to which no branch leads makes a parameter that is a name of a zero.
 pub fn zero_use_keeps()
     ensures { ZeroUseKeeps }
 {}
 
-/// A block is sealed, and what waited in it is completed.
+/// A block to which no branch leads is sealed, and what waited in it is completed.
 pub fn sealing_keeps()
     ensures { SealingKeeps }
+{}
+
+/// A branch is put behind those that lead to an unsealed block.
+pub fn predecessor_keeps()
+    ensures { PredecessorDeclared }
+{}
+
+/// A branch leads no longer to an unsealed block.
+pub fn removed_predecessor_keeps()
+    ensures { PredecessorRemoved }
+{}
+
+/// Where no branch leads anywhere, no edge has to pass anything.
+pub fn nothing_leads_counts()
+    ensures { NothingLeadsCounts }
 {}
 
 /// Tables with the same program have the same new names.

@@ -1,21 +1,30 @@
 //! The construction of SSA form: from variables that are assigned and used to values.
 //!
 //! After Braun, Buchwald, Hack, Leißa, Mallon and Zwinkau, "Simple and Efficient Construction of Static
-//! Single Assignment Form" (CC 2013). So far no block has predecessors.
+//! Single Assignment Form" (CC 2013), with the walk along single predecessors and the two stacks in place of
+//! recursion of cranelift-frontend.
 //!
-//! Each call says exactly what it changes. Beside that, `keeps` says why the answers are right: `Describes` of
+//! In a block that is unsealed, or to which nothing leads, the clauses say exactly what a call makes. Where branches
+//! lead to it, the relations of `specs/LookUp` do. Beside that, `keeps` says why the answers are right: `Describes` of
 //! `specs/Sound` ties the function and the builder to tables of the theory of variables on paths (`clif_paths`), and
 //! where those are sound before a call, tables with the same program, or with the assignment that was made, are sound
 //! after it. `remembers` says that values which stand for one value go on doing so, and `nothing_stray` that no parameter
-//! and no zero is left that isn't needed (`specs/Structure`).
+//! and no zero is left that isn't needed, where nothing leads to the block (`specs/Structure`).
 #![tactic(auto)]
 
+pub mod ending;
 pub mod laws;
+pub mod look_up;
+pub mod passed;
+pub mod side_effects;
 pub mod ssa;
+pub mod ssa_tables;
 pub mod tables;
 #[cfg(test)]
 mod tests;
 pub mod variable;
+mod zeros;
 
-pub use ssa::{SSABuilder, SideEffects};
+pub use side_effects::SideEffects;
+pub use ssa::SSABuilder;
 pub use variable::Variable;

@@ -1,50 +1,40 @@
 //! The builder of SSA form.
-ghost use Rattle.std.specs.Prelude.{◌≡◌, ◌≢◌, ◌<◌, ◌&&◌, ◌==◌, ◌↔◌, ◌++◌, List, [], ◌∷◌, ℕ, IsTrue, Some, None, true, false, length, OnOk, OnErr, IfOk, IfSome, MatchOption, ◌+◌, ◌⊎◌};
-ghost use Rattle.std.specs.Option.{option_to_list};
-ghost use Rattle.clif_ir.specs.Body.{Body, block_at, resolved};
-ghost use Rattle.clif_ir.specs.Changes.{with_param};
-ghost use Rattle.clif_ir.specs.Reading.{param_home};
+ghost use Rattle.std.specs.Prelude.{◌≡◌, ◌≢◌, ◌<◌, ◌==◌, ◌↔◌, ◌++◌, List, [], ◌∷◌, ℕ, IsTrue, Some, None, true, false, length, OnOk, OnErr, IfOk, IfSome, Contains, ◌+◌};
+ghost use Rattle.clif_ir.specs.Body.{Body, block_at, value_at};
+ghost use Rattle.clif_ir.specs.Consistent.{Stands};
 ghost use Rattle.clif_ssa.specs.Limits.{IsFull, Takes};
 ghost use Rattle.clif_ssa.specs.Tables.{is_yes, pending_of};
+ghost use Rattle.clif_ssa.specs.declared.tables.Pending.{Pending};
 ghost use Rattle.clif_paths.specs.Places.{start};
 ghost use Rattle.clif_paths.specs.Blocks.{Blocks, last_place, with_write};
-ghost use Rattle.clif_ssa.specs.Sound.{Describes, Keeps, KeepsAndKnows};
-ghost use Rattle.clif_ssa.specs.SoundLaws.{DescribesSoundly};
+ghost use Rattle.clif_ssa.specs.Sound.{Describes, EdgesCount, Keeps, KeepsAndKnows, entry_of, has_entry};
+ghost use Rattle.clif_ssa.specs.SoundLaws.{DescribesSoundly, IsOpen};
 ghost use Rattle.clif_ssa.specs.Structure.{HasRecordOf, LosesWaiting, NothingStray, Remembers};
-ghost use Rattle.clif_ssa.specs.Ssa.{no_state, record_of, sealed_of, with_zero, zeroed, zeroed_in, completed, completing_blocks, Records, RecordsStay, SameBlocks, SameRecords, Seals, Waits, Zeroes};
+ghost use Rattle.clif_ssa.specs.LookUp.{branch_block, no_look_up, LooksUp, MakesCall, UsesVariable, CompletesParameter};
+ghost use Rattle.clif_ssa.specs.Running.{stage, found, with_call, CallsFit, CompletesAll, MakesAll};
+ghost use Rattle.clif_ssa.specs.Sealing.{SealsOne, SealsLocally, SealsByLookUp};
+ghost use Rattle.clif_ssa.specs.Ssa.{no_state, record_of, sealed_of, predecessors_of, lookups_of, completed, completing_blocks, CountsLookup, Declares, HasMore, IsLocal, Named, NamesExist, Records, RecordsStay, Removes, SamePredecessors, SameBlocks, SameLookups, SameRecords, SealedStays, Seals, Waits, Zeroes};
 
-use crate::tables::{BlockTable, Pending, VariableTable};
+use crate::ending::finish_look_up;
+use crate::look_up::{Call, LookUp};
+use crate::passed::PassedBlocks;
+use crate::side_effects::SideEffects;
+use crate::ssa_tables::SsaTables;
+use crate::tables::Pending;
 use crate::variable::Variable;
-use clif_ir::inst_list::BlockEnd;
-use clif_ir::{Function, InstructionData};
-use clif_types::{Block, BuildError, SourceLoc, Type, Value};
+use crate::zeros::replace_by_zero;
+use clif_ir::Function;
+use clif_types::{Block, BuildError, EntityRef, Inst, Type, Value};
 use std::alloc::Global;
 use std::marker::Model;
-
-/// What a call did beside its answer.
-#[derive(Debug, Drop)]
-pub struct SideEffects {
-    /// The block of each zero that was put, in order.
-    pub instructions_added_to_blocks: Vec<Block>,
-}
-
-impl SideEffects {
-    /// Nothing was done.
-    pub fn new(alloc: Global) -> Self
-        ensures { result.instructions_added_to_blocks.items ≡ [] }
-    {
-        SideEffects {
-            instructions_added_to_blocks: Vec::new(alloc),
-        }
-    }
-}
 
 /// The builder of SSA form: which value each variable has in each block.
 #[derive(Debug, Drop)]
 pub struct SSABuilder {
     alloc: Global,
-    variables: VariableTable,
-    ssa_blocks: BlockTable,
+    tables: SsaTables,
+    // The blocks that the last walk passed: room that each walk uses again.
+    passed: PassedBlocks,
 }
 
 impl Model for SSABuilder {
@@ -52,7 +42,7 @@ impl Model for SSABuilder {
 
     ghost Value = { SsaState };
 
-    ghost view = { λ s. record { records = s.variables; blocks = s.ssa_blocks } };
+    ghost view = { λ s. s.tables };
 }
 
 impl SSABuilder {
@@ -62,8 +52,8 @@ impl SSABuilder {
     {
         SSABuilder {
             alloc,
-            variables: VariableTable::new(alloc),
-            ssa_blocks: BlockTable::new(alloc),
+            tables: SsaTables::new(alloc),
+            passed: PassedBlocks::new(alloc),
         }
     }
 
@@ -71,35 +61,76 @@ impl SSABuilder {
     pub fn clear(&mut self)
         ensures { self.new ≡ no_state }
     {
-        self.variables.clear();
-        self.ssa_blocks.clear();
+        self.tables.clear();
     }
 
     /// Whether the builder knows nothing, as a new one.
     pub fn is_empty(&self) -> bool
         ensures { IsTrue result ↔ (self.now ≡ no_state) }
     {
-        self.variables.is_empty() && self.ssa_blocks.is_empty()
+        self.tables.is_empty()
     }
 
     /// Makes a block known, which is unsealed unless it was sealed before.
     pub fn declare_block(&mut self, block: Block) -> Result<(), BuildError>
         ensures records { self.new.records ≡ self.old.records }
         ensures blocks { (b : ℕ) → sealed_of self.new b ≡ sealed_of self.old b }
+        ensures predecessors { SamePredecessors self.old self.new }
         ensures described { (own : ℕ → List ℕ) (f : Body) (tables : Blocks) → Describes own f self.old [] tables → Describes own f self.new [] tables }
         ensures remembers { (f : Body) (x b : ℕ) → Remembers x b f self.old f self.new }
         ensures nothing_stray { (own : ℕ → List ℕ) (f : Body) → NothingStray own f self.old → NothingStray own f self.new }
         ensures known { OnOk result (block < length self.new.blocks) }
         ensures only_memory { OnErr result (result ≡ Err BuildError.Memory) }
     {
-        self.ssa_blocks.declare(block)
+        self.tables.declare_block(block)
+    }
+
+    /// Puts a branch behind those that lead to a block, which isn't sealed. A branch is declared once for
+    /// each block to which it leads, when it is made.
+    pub fn declare_block_predecessor(&mut self, block: Block, inst: Inst) -> Result<(), BuildError>
+        requires { is_yes (sealed_of self.old block) ≡ false }
+        ensures ok { OnOk result (Declares self.old self.new block inst) }
+        ensures err { OnErr result (SamePredecessors self.old self.new) }
+        ensures records { self.new.records ≡ self.old.records }
+        ensures blocks { SameBlocks self.old self.new }
+        ensures described { (own : ℕ → List ℕ) (f : Body) (tables : Blocks) → inst < length f.insts → has_entry f.layout ≡ true → entry_of f ≢ Some block → ((j : ℕ) → Contains (predecessors_of self.old block) j → branch_block f j ≢ branch_block f inst) → EdgesCount f tables block inst → DescribesSoundly own f self.old tables → OnOk result (DescribesSoundly own f self.new tables) }
+        ensures only_memory { OnErr result (result ≡ Err BuildError.Memory) }
+    {
+        self.tables.declare_predecessor(block, inst)
+    }
+
+    /// Takes a branch away from those that lead to a block, which isn't sealed; the others keep their
+    /// order.
+    pub fn remove_block_predecessor(&mut self, block: Block, inst: Inst)
+        requires unsealed { is_yes (sealed_of self.old block) ≡ false }
+        requires declared { Stands inst (predecessors_of self.old block) }
+        ensures removed { Removes self.old self.new block inst }
+        ensures records { self.new.records ≡ self.old.records }
+        ensures blocks { SameBlocks self.old self.new }
+        ensures described { (own : ℕ → List ℕ) (f : Body) (tables : Blocks) → DescribesSoundly own f self.old tables → DescribesSoundly own f self.new tables }
+    {
+        self.tables.remove_predecessor(block, inst);
+    }
+
+    /// Whether any branch leads to a block.
+    pub fn has_any_predecessors(&self, block: Block) -> bool
+        ensures { IsTrue result ↔ (predecessors_of self.now block ≢ []) }
+    {
+        self.tables.has_any_predecessors(block)
+    }
+
+    /// How many look-ups of a variable in the predecessors of a block began.
+    pub fn lookups(&self, variable: Variable, block: Block) -> u32
+        ensures { result ≡ lookups_of self.now variable block }
+    {
+        self.tables.lookups(variable, block)
     }
 
     /// Whether a block is sealed.
     pub fn is_sealed(&self, block: Block) -> bool
         ensures { result ≡ is_yes (sealed_of self.now block) }
     {
-        self.ssa_blocks.is_sealed(block)
+        self.tables.is_sealed(block)
     }
 
     /// Records that a variable has a value in a block from here on.
@@ -112,19 +143,23 @@ impl SSABuilder {
         ensures ok { OnOk result (Records self.old self.new variable block value) }
         ensures err { OnErr result (SameRecords self.old self.new) }
         ensures blocks { self.new.blocks ≡ self.old.blocks }
-        ensures keeps { (own : ℕ → List ℕ) (f : Body) (tables : Blocks) (n : ℕ) → DescribesSoundly own f self.old tables → tables.answer n ≡ value → (tables.naming n).home ≢ start → tables.assigned (last_place tables block) variable ≡ None → OnOk result (DescribesSoundly own f self.new (with_write tables block variable n)) }
+        ensures lookups { SameLookups self.old self.new }
+        ensures keeps { (own : ℕ → List ℕ) (f : Body) (tables : Blocks) (n : ℕ) → DescribesSoundly own f self.old tables → IsOpen f self.old block → tables.answer n ≡ value → (tables.naming n).home ≢ start → tables.assigned (last_place tables block) variable ≡ None → OnOk result (DescribesSoundly own f self.new (with_write tables block variable n)) }
         ensures remembers { (f : Body) (x b : ℕ) → (x ≡ variable → b ≡ block → ⊥) → OnOk result (Remembers x b f self.old f self.new) }
         ensures nothing_stray { (own : ℕ → List ℕ) (f : Body) → NothingStray own f self.old → NothingStray own f self.new }
         ensures only_memory { OnErr result (result ≡ Err BuildError.Memory) }
     {
-        self.variables.set(variable, block, value)
+        self.tables.record(variable, block, value)
     }
 
     /// The value of a variable of type `ty` in a block.
     ///
-    /// Where none is recorded, a parameter is appended to the block and recorded. In an unsealed block
-    /// it is the answer, and waits until the block is sealed. In a sealed one, which has no
-    /// predecessors so far, it becomes another name of a zero, which is the answer.
+    /// Where none is recorded, the walk goes from the block along single predecessors of sealed blocks to
+    /// one that has a record, which is copied to the blocks passed. Where it can go no further, or would
+    /// pass a block again, a parameter is appended to the block reached and recorded. In an unsealed
+    /// block it is the answer, and waits until the block is sealed. In a sealed one the predecessors are
+    /// looked up at once: where one value comes from them the parameter becomes another name of it, and
+    /// where none does, of a zero.
     pub fn use_var(
         &mut self,
         func: &mut Function,
@@ -132,138 +167,335 @@ impl SSABuilder {
         ty: Type,
         block: Block,
     ) -> Result<(Value, SideEffects), BuildError>
-        requires { block < length func.old.blocks }
+        requires exists { block < length func.old.blocks }
+        requires named { Named func.old self.old }
         ensures known { IfSome (record_of self.old variable block) (λ v. OnOk result ((func.new ≡ func.old) × (self.new ≡ self.old)) × IfOk result (λ r. (r.0 ≡ v) × (r.1.instructions_added_to_blocks.items ≡ []))) }
         ensures waits { record_of self.old variable block ≡ None → is_yes (sealed_of self.old block) ≡ false → OnOk result (Waits self.old self.new func.old func.new variable ty block) × IfOk result (λ r. (r.0 ≡ length func.old.values) × (r.1.instructions_added_to_blocks.items ≡ [])) }
-        ensures zero { record_of self.old variable block ≡ None → is_yes (sealed_of self.old block) ≡ true → OnOk result (Zeroes self.old self.new func.old func.new variable ty block) × IfOk result (λ r. (r.0 ≡ length func.old.values + 1) × (r.1.instructions_added_to_blocks.items ≡ block ∷ [])) }
+        ensures zero { record_of self.old variable block ≡ None → is_yes (sealed_of self.old block) ≡ true → predecessors_of self.old block ≡ [] → OnOk result (Zeroes self.old self.new func.old func.new variable ty block) × IfOk result (λ r. (r.0 ≡ length func.old.values + 1) × (r.1.instructions_added_to_blocks.items ≡ block ∷ [])) }
+        ensures counts_none { record_of self.old variable block ≡ None → is_yes (sealed_of self.old block) ≡ false → OnOk result (SameLookups self.old self.new) }
+        ensures counts_one { record_of self.old variable block ≡ None → is_yes (sealed_of self.old block) ≡ true → predecessors_of self.old block ≡ [] → OnOk result (CountsLookup self.old self.new variable block) }
+        ensures looks { record_of self.old variable block ≡ None → is_yes (sealed_of self.old block) ≡ true → predecessors_of self.old block ≢ [] → IfOk result (λ r. UsesVariable variable ty block (stage func.old self.old no_look_up) r.0 (stage func.new self.new (found r.0 r.1.instructions_added_to_blocks.items))) }
         ensures keeps { (own : ℕ → List ℕ) (tables : Blocks) → DescribesSoundly own func.old self.old tables → IfOk result (λ r. KeepsAndKnows own tables func.new self.new block variable r.0) }
-        ensures recorded { IfOk result (λ r. HasRecordOf func.new self.new variable block r.0) }
+        ensures recorded { (own : ℕ → List ℕ) (tables : Blocks) → DescribesSoundly own func.old self.old tables → IfOk result (λ r. HasRecordOf func.new self.new variable block r.0) }
+        ensures recorded_here { IsLocal self.old variable block → IfOk result (λ r. HasRecordOf func.new self.new variable block r.0) }
         ensures remembers { (x b : ℕ) → OnOk result (Remembers x b func.old self.old func.new self.new) }
-        ensures parameters { is_yes (sealed_of self.old block) ≡ true → (b : ℕ) → OnOk result ((block_at func.new b).params ≡ (block_at func.old b).params) }
-        ensures nothing_stray { (own : ℕ → List ℕ) → NothingStray own func.old self.old → OnOk result (NothingStray own func.new self.new) }
-        ensures err { OnErr result (RecordsStay self.old self.new × SameBlocks self.old self.new) }
+        ensures parameters { IsLocal self.old variable block → is_yes (sealed_of self.old block) ≡ true → (b : ℕ) → OnOk result ((block_at func.new b).params ≡ (block_at func.old b).params) }
+        ensures nothing_stray { (own : ℕ → List ℕ) → IsLocal self.old variable block → NothingStray own func.old self.old → OnOk result (NothingStray own func.new self.new) }
+        ensures predecessors { SamePredecessors self.old self.new }
+        ensures stay { RecordsStay self.old self.new }
+        ensures flags { SealedStays self.old self.new }
+        ensures more { HasMore func.old func.new }
+        ensures names { NamesExist func.old self.old → NamesExist func.new self.new }
+        ensures exists { NamesExist func.old self.old → IfOk result (λ r. r.0 < length func.new.values) }
         ensures full { result ≡ Err BuildError.Full → IsFull func.new }
-        ensures takes { result ≢ Err BuildError.Memory → Takes func.old func.new 2 1 }
+        ensures takes { IsLocal self.old variable block → result ≢ Err BuildError.Memory → Takes func.old func.new 2 1 }
+        ensures err { IsLocal self.old variable block → OnErr result (SameBlocks self.old self.new) }
         ensures never_failed { result ≢ Err BuildError.Failed }
     {
         func.law_consistent();
-        self.value_of(func, variable, ty, block)
+        if let Some(value) = self.tables.record_at(variable, block) {
+            return Ok((value, SideEffects::new(self.alloc)));
+        }
+        if self.tables.is_local(block) {
+            return self.use_locally(func, variable, ty, block);
+        }
+        let mut look_up = LookUp::new(self.alloc);
+        self.look_up_in(func, variable, ty, block, &mut look_up)?;
+        let value = self.make_calls(func, variable, ty, &mut look_up)?;
+        let instructions_added_to_blocks = look_up.into_zeros();
+        Ok((
+            value,
+            SideEffects {
+                instructions_added_to_blocks,
+            },
+        ))
     }
 
-    // The value of a variable in a block, as [`SSABuilder::use_var`] says it.
-    fn value_of(
+    // The value of a variable that isn't recorded in a block which is unsealed or has no predecessors.
+    fn use_locally(
         &mut self,
         func: &mut Function,
         variable: Variable,
         ty: Type,
         block: Block,
     ) -> Result<(Value, SideEffects), BuildError>
-        requires { block < length func.old.blocks }
-        ensures known { IfSome (record_of self.old variable block) (λ v. OnOk result ((func.new ≡ func.old) × (self.new ≡ self.old)) × IfOk result (λ r. (r.0 ≡ v) × (r.1.instructions_added_to_blocks.items ≡ []))) }
-        ensures waits { record_of self.old variable block ≡ None → is_yes (sealed_of self.old block) ≡ false → OnOk result (Waits self.old self.new func.old func.new variable ty block) × IfOk result (λ r. (r.0 ≡ length func.old.values) × (r.1.instructions_added_to_blocks.items ≡ [])) }
-        ensures zero { record_of self.old variable block ≡ None → is_yes (sealed_of self.old block) ≡ true → OnOk result (Zeroes self.old self.new func.old func.new variable ty block) × IfOk result (λ r. (r.0 ≡ length func.old.values + 1) × (r.1.instructions_added_to_blocks.items ≡ block ∷ [])) }
-        ensures err { OnErr result (RecordsStay self.old self.new × SameBlocks self.old self.new) }
+        requires exists { block < length func.old.blocks }
+        requires unrecorded { record_of self.old variable block ≡ None }
+        ensures counts_none { is_yes (sealed_of self.old block) ≡ false → OnOk result (SameLookups self.old self.new) }
+        ensures counts_one { is_yes (sealed_of self.old block) ≡ true → OnOk result (CountsLookup self.old self.new variable block) }
+        ensures waits { is_yes (sealed_of self.old block) ≡ false → OnOk result (Waits self.old self.new func.old func.new variable ty block) × IfOk result (λ r. (r.0 ≡ length func.old.values) × (r.1.instructions_added_to_blocks.items ≡ [])) }
+        ensures zero { is_yes (sealed_of self.old block) ≡ true → OnOk result (Zeroes self.old self.new func.old func.new variable ty block) × IfOk result (λ r. (r.0 ≡ length func.old.values + 1) × (r.1.instructions_added_to_blocks.items ≡ block ∷ [])) }
+        ensures predecessors { SamePredecessors self.old self.new }
+        ensures stay { RecordsStay self.old self.new }
+        ensures flags { SealedStays self.old self.new }
+        ensures more { HasMore func.old func.new }
+        ensures names { NamesExist func.old self.old → NamesExist func.new self.new }
+        ensures err { OnErr result (SameBlocks self.old self.new) }
         ensures full { result ≡ Err BuildError.Full → IsFull func.new }
         ensures takes { result ≢ Err BuildError.Memory → Takes func.old func.new 2 1 }
         ensures never_failed { result ≢ Err BuildError.Failed }
     {
         let mut side_effects = SideEffects::new(self.alloc);
-        if let Some(value) = self.variables.get(variable, block) {
-            return Ok((value, side_effects));
-        }
         let param = func.append_block_param(block, ty)?;
-        self.variables.set(variable, block, param)?;
-        if self.ssa_blocks.is_sealed(block) {
+        self.tables.record(variable, block, param)?;
+        if self.tables.is_sealed(block) {
+            self.tables.count_lookup(variable, block)?;
             let zero = replace_by_zero(func, param, &mut side_effects)?;
             return Ok((zero, side_effects));
         }
-        self.ssa_blocks.wait(block, variable, param)?;
+        self.tables.wait(block, variable, param)?;
         Ok((param, side_effects))
     }
 
-    /// Seals a block, which has no predecessors so far: each parameter that waits in it becomes another
-    /// name of a zero, in the order in which they were made.
+    // Looks a variable up in a block.
+    fn look_up_in(
+        &mut self,
+        func: &mut Function,
+        variable: Variable,
+        ty: Type,
+        block: Block,
+        look_up: &mut LookUp,
+    ) -> Result<(), BuildError>
+        requires exists { block < length func.old.blocks }
+        requires named { NamesExist func.old self.old }
+        ensures looks { OnOk result (LooksUp variable ty block (stage func.old self.old look_up.old) (stage func.new self.new look_up.new)) }
+        ensures predecessors { SamePredecessors self.old self.new }
+        ensures stay { RecordsStay self.old self.new }
+        ensures flags { SealedStays self.old self.new }
+        ensures more { HasMore func.old func.new }
+        ensures names { NamesExist func.new self.new }
+        ensures full { result ≡ Err BuildError.Full → IsFull func.new }
+        ensures never_failed { result ≢ Err BuildError.Failed }
+    {
+        let reached = self.tables.walk(func, variable, block, &mut self.passed)?;
+        let value = self
+            .tables
+            .record_or_parameter(func, variable, ty, reached, look_up)?;
+        self.tables
+            .copy_record(variable, value, &self.passed, reached)
+    }
+
+    // Makes calls until none is left, and answers the one result.
+    fn make_calls(
+        &mut self,
+        func: &mut Function,
+        variable: Variable,
+        ty: Type,
+        look_up: &mut LookUp,
+    ) -> Result<Value, BuildError>
+        requires named { NamesExist func.old self.old }
+        requires calls_fit { CallsFit func.old self.old look_up.old }
+        ensures made { IfOk result (λ v. MakesAll variable ty (stage func.old self.old look_up.old) v (stage func.new self.new look_up.new)) }
+        ensures predecessors { SamePredecessors self.old self.new }
+        ensures stay { RecordsStay self.old self.new }
+        ensures flags { SealedStays self.old self.new }
+        ensures more { HasMore func.old func.new }
+        ensures names { NamesExist func.new self.new }
+        ensures exists { IfOk result (λ v. v < length func.new.values) }
+        ensures full { result ≡ Err BuildError.Full → IsFull func.new }
+        ensures never_failed { result ≢ Err BuildError.Failed }
+    {
+        while let Some(call) = look_up.next_call() {
+            self.make_call(func, variable, ty, call, look_up)?;
+        }
+        Ok(look_up.take_result())
+    }
+
+    // Makes one call.
+    fn make_call(
+        &mut self,
+        func: &mut Function,
+        variable: Variable,
+        ty: Type,
+        call: Call,
+        look_up: &mut LookUp,
+    ) -> Result<(), BuildError>
+        requires named { NamesExist func.old self.old }
+        requires calls_fit { CallsFit func.old self.old (with_call call look_up.old) }
+        ensures made { OnOk result (MakesCall variable ty (stage func.old self.old (with_call call look_up.old)) (stage func.new self.new look_up.new)) }
+        ensures fits { OnOk result (CallsFit func.new self.new look_up.new) }
+        ensures predecessors { SamePredecessors self.old self.new }
+        ensures stay { RecordsStay self.old self.new }
+        ensures flags { SealedStays self.old self.new }
+        ensures more { HasMore func.old func.new }
+        ensures names { NamesExist func.new self.new }
+        ensures full { result ≡ Err BuildError.Full → IsFull func.new }
+        ensures never_failed { result ≢ Err BuildError.Failed }
+    {
+        match call {
+            Call::UseVar(branch) => {
+                func.law_consistent();
+                let Some(block) = func.inst_block(branch) else {
+                    unreachable!()
+                };
+                self.look_up_in(func, variable, ty, block, look_up)
+            }
+            Call::FinishPredecessorsLookup(param, block) => {
+                let predecessors = self.tables.predecessors(block);
+                finish_look_up(func, predecessors, param, block, look_up)
+            }
+        }
+    }
+
+    // Completes a parameter that waited in a block: looks its variable up in the predecessors.
+    fn complete_parameter(
+        &mut self,
+        func: &mut Function,
+        block: Block,
+        waiting: Pending,
+        look_up: &mut LookUp,
+    ) -> Result<(), BuildError>
+        requires named { NamesExist func.old self.old }
+        requires param_exists { waiting.param < length func.old.values }
+        requires idle { (look_up.old.calls ≡ []) × (look_up.old.results ≡ []) }
+        ensures completes { OnOk result (CompletesParameter waiting.variable (value_at func.old waiting.param).ty waiting.param block (stage func.old self.old look_up.old) (stage func.new self.new look_up.new)) }
+        ensures idle { OnOk result ((look_up.new.calls ≡ []) × (look_up.new.results ≡ [])) }
+        ensures predecessors { SamePredecessors self.old self.new }
+        ensures stay { RecordsStay self.old self.new }
+        ensures flags { SealedStays self.old self.new }
+        ensures more { HasMore func.old func.new }
+        ensures names { NamesExist func.new self.new }
+        ensures full { result ≡ Err BuildError.Full → IsFull func.new }
+        ensures never_failed { result ≢ Err BuildError.Failed }
+    {
+        let Pending { variable, param } = waiting;
+        let ty = func.value_type(param);
+        self.tables.begin_look_up(variable, param, block, look_up)?;
+        let _value = self.make_calls(func, variable, ty, look_up)?;
+        Ok(())
+    }
+
+    // Completes parameters that waited in a block, in order.
+    fn complete_all(
+        &mut self,
+        func: &mut Function,
+        block: Block,
+        waiting: &[Pending],
+        look_up: &mut LookUp,
+    ) -> Result<(), BuildError>
+        requires named { NamesExist func.old self.old }
+        requires params_exist { (p : Pending) → Contains waiting.now p → p.param < length func.old.values }
+        requires idle { (look_up.old.calls ≡ []) × (look_up.old.results ≡ []) }
+        ensures completes { OnOk result (CompletesAll block waiting.now (stage func.old self.old look_up.old) (stage func.new self.new look_up.new)) }
+        ensures predecessors { SamePredecessors self.old self.new }
+        ensures stay { RecordsStay self.old self.new }
+        ensures flags { SealedStays self.old self.new }
+        ensures more { HasMore func.old func.new }
+        ensures names { NamesExist func.new self.new }
+        ensures full { result ≡ Err BuildError.Full → IsFull func.new }
+        ensures never_failed { result ≢ Err BuildError.Failed }
+    {
+        for pending in waiting.iter() {
+            self.complete_parameter(func, block, *pending, look_up)?;
+        }
+        Ok(())
+    }
+
+    // Completes parameters that waited in a block to which nothing leads, in order.
+    fn complete_locally(
+        &mut self,
+        func: &mut Function,
+        block: Block,
+        waiting: &[Pending],
+    ) -> Result<SideEffects, BuildError>
+        ensures function { OnOk result (func.new ≡ completed func.old waiting.now) }
+        ensures told { IfOk result (λ r. r.instructions_added_to_blocks.items ≡ completing_blocks func.old waiting.now) }
+        ensures records { SameRecords self.old self.new }
+        ensures blocks { self.new.blocks ≡ self.old.blocks }
+        ensures more { HasMore func.old func.new }
+        ensures full { result ≡ Err BuildError.Full → IsFull func.new }
+        ensures takes { result ≢ Err BuildError.Memory → Takes func.old func.new 0 0 }
+        ensures never_failed { result ≢ Err BuildError.Failed }
+    {
+        let mut side_effects = SideEffects::new(self.alloc);
+        for pending in waiting.iter() {
+            let Pending { variable, param } = *pending;
+            self.tables.count_lookup(variable, block)?;
+            replace_by_zero(func, param, &mut side_effects)?;
+        }
+        Ok(side_effects)
+    }
+
+    // Seals a block, and completes what waits in it.
+    fn seal_one_block(
+        &mut self,
+        block: Block,
+        func: &mut Function,
+    ) -> Result<SideEffects, BuildError>
+        requires named { Named func.old self.old }
+        ensures sealed { OnOk result (SealsOne self.old self.new block) }
+        ensures local { predecessors_of self.old block ≡ [] → SealsLocally func.old self.old func.new self.new block result }
+        ensures completes { predecessors_of self.old block ≢ [] → IfOk result (λ r. SealsByLookUp func.old self.old func.new self.new block r.instructions_added_to_blocks.items) }
+        ensures predecessors { SamePredecessors self.old self.new }
+        ensures stay { RecordsStay self.old self.new }
+        ensures more { HasMore func.old func.new }
+        ensures names { NamesExist func.old self.old → NamesExist func.new self.new }
+        ensures full { result ≡ Err BuildError.Full → IsFull func.new }
+        ensures takes { predecessors_of self.old block ≡ [] → result ≢ Err BuildError.Memory → Takes func.old func.new 0 0 }
+        ensures never_failed { result ≢ Err BuildError.Failed }
+    {
+        let waiting = self.tables.seal(block)?;
+        if !self.tables.has_any_predecessors(block) {
+            return self.complete_locally(func, block, waiting.as_slice());
+        }
+        let mut look_up = LookUp::new(self.alloc);
+        self.complete_all(func, block, waiting.as_slice(), &mut look_up)?;
+        let instructions_added_to_blocks = look_up.into_zeros();
+        Ok(SideEffects {
+            instructions_added_to_blocks,
+        })
+    }
+
+    /// Seals a block: all branches that lead to it are declared. Each parameter that waits in it is
+    /// completed, in the order in which they were made: its variable is looked up in the predecessors. A
+    /// block that is sealed stays as it is.
     pub fn seal_block(
         &mut self,
         block: Block,
         func: &mut Function,
     ) -> Result<SideEffects, BuildError>
-        ensures sealed { OnOk result (Seals self.old self.new block) }
-        ensures records { self.new.records ≡ self.old.records }
-        ensures function { OnOk result (func.new ≡ completed func.old (pending_of (sealed_of self.old block))) }
-        ensures told { IfOk result (λ r. r.instructions_added_to_blocks.items ≡ completing_blocks func.old (pending_of (sealed_of self.old block))) }
+        requires named { Named func.old self.old }
+        ensures sealed { OnOk result (SealsOne self.old self.new block) }
+        ensures local { predecessors_of self.old block ≡ [] → SealsLocally func.old self.old func.new self.new block result }
         ensures keeps { (own : ℕ → List ℕ) (tables : Blocks) → DescribesSoundly own func.old self.old tables → OnOk result (Keeps own tables func.new self.new) }
         ensures remembers { (x b : ℕ) → OnOk result (Remembers x b func.old self.old func.new self.new) }
-        ensures parameters { OnOk result (LosesWaiting func.old func.new (pending_of (sealed_of self.old block))) }
-        ensures nothing_stray { (own : ℕ → List ℕ) → NothingStray own func.old self.old → OnOk result (NothingStray own func.new self.new) }
-        ensures err { OnErr result (SameBlocks self.old self.new ⊎ Seals self.old self.new block) }
+        ensures parameters { predecessors_of self.old block ≡ [] → OnOk result (LosesWaiting func.old func.new (pending_of (sealed_of self.old block))) }
+        ensures nothing_stray { (own : ℕ → List ℕ) → predecessors_of self.old block ≡ [] → NothingStray own func.old self.old → OnOk result (NothingStray own func.new self.new) }
+        ensures completes { predecessors_of self.old block ≢ [] → IfOk result (λ r. SealsByLookUp func.old self.old func.new self.new block r.instructions_added_to_blocks.items) }
+        ensures predecessors { SamePredecessors self.old self.new }
+        ensures stay { RecordsStay self.old self.new }
+        ensures more { HasMore func.old func.new }
+        ensures names { NamesExist func.old self.old → NamesExist func.new self.new }
         ensures full { result ≡ Err BuildError.Full → IsFull func.new }
-        ensures takes { result ≢ Err BuildError.Memory → Takes func.old func.new 0 0 }
+        ensures takes { predecessors_of self.old block ≡ [] → result ≢ Err BuildError.Memory → Takes func.old func.new 0 0 }
         ensures never_failed { result ≢ Err BuildError.Failed }
     {
         func.law_consistent();
-        let mut side_effects = SideEffects::new(self.alloc);
-        let waiting = self.ssa_blocks.seal(block)?;
-        complete(func, waiting.as_slice(), &mut side_effects)?;
+        let told = self.seal_one_block(block, func);
         func.law_consistent();
+        told
+    }
+
+    /// Seals all known blocks that aren't sealed, by rising number.
+    pub fn seal_all_blocks(&mut self, func: &mut Function) -> Result<SideEffects, BuildError>
+        requires named { Named func.old self.old }
+        ensures sealed { OnOk result ((b : ℕ) → b < length self.old.blocks → is_yes (sealed_of self.new b) ≡ true) }
+        ensures keeps { (own : ℕ → List ℕ) (tables : Blocks) → DescribesSoundly own func.old self.old tables → OnOk result (Keeps own tables func.new self.new) }
+        ensures remembers { (x b : ℕ) → OnOk result (Remembers x b func.old self.old func.new self.new) }
+        ensures predecessors { SamePredecessors self.old self.new }
+        ensures stay { RecordsStay self.old self.new }
+        ensures more { HasMore func.old func.new }
+        ensures names { NamesExist func.old self.old → NamesExist func.new self.new }
+        ensures full { result ≡ Err BuildError.Full → IsFull func.new }
+        ensures never_failed { result ≢ Err BuildError.Failed }
+    {
+        let mut side_effects = SideEffects::new(self.alloc);
+        for number in 0..self.tables.block_count() {
+            let block = Block::new(number);
+            func.law_consistent();
+            let told = self.seal_one_block(block, func)?;
+            side_effects.append(&told)?;
+        }
         Ok(side_effects)
     }
-}
-
-// Completes parameters to which nothing comes, in order.
-fn complete(
-    func: &mut Function,
-    pending: &[Pending],
-    side_effects: &mut SideEffects,
-) -> Result<(), BuildError>
-    ensures function { OnOk result (func.new ≡ completed func.old pending.now) }
-    ensures told { OnOk result (side_effects.new.instructions_added_to_blocks.items ≡ side_effects.old.instructions_added_to_blocks.items ++ completing_blocks func.old pending.now) }
-    ensures full { result ≡ Err BuildError.Full → IsFull func.new }
-    ensures takes { result ≢ Err BuildError.Memory → Takes func.old func.new 0 0 }
-    ensures never_failed { result ≢ Err BuildError.Failed }
-{
-    for waiting in pending.iter() {
-        replace_by_zero(func, waiting.param, side_effects)?;
-    }
-    Ok(())
-}
-
-// Puts a zero before the first instruction of the block of a parameter, to which nothing comes, takes
-// the parameter away and makes it a name of the zero. What is no parameter stays.
-fn replace_by_zero(
-    func: &mut Function,
-    param: Value,
-    side_effects: &mut SideEffects,
-) -> Result<Value, BuildError>
-    ensures zero { OnOk result (func.new ≡ zeroed_in (param_home func.old param) func.old param) }
-    ensures answer { MatchOption (param_home func.old param) (IfOk result (λ v. v ≡ param)) (λ _. IfOk result (λ v. v ≡ length func.old.values)) }
-    ensures told { OnOk result (side_effects.new.instructions_added_to_blocks.items ≡ side_effects.old.instructions_added_to_blocks.items ++ option_to_list (param_home func.old param)) }
-    ensures full { result ≡ Err BuildError.Full → IsFull func.new }
-    ensures takes { result ≢ Err BuildError.Memory → Takes func.old func.new 0 0 }
-    ensures never_failed { result ≢ Err BuildError.Failed }
-{
-    let Some(block) = func.param_home(param) else {
-        return Ok(param);
-    };
-    side_effects.instructions_added_to_blocks.push(block)?;
-    let zero = put_zero(func, block, func.value_type(param))?;
-    func.change_param_to_alias(param, zero)?;
-    Ok(zero)
-}
-
-// Puts a zero before the first instruction of a block, which enters the layout if it isn't there, and
-// answers its value.
-fn put_zero(func: &mut Function, block: Block, ty: Type) -> Result<Value, BuildError>
-    requires { block < length func.old.blocks }
-    ensures ok { OnOk result (func.new ≡ with_zero func.old block ty) }
-    ensures number { IfOk result (λ v. v ≡ length func.old.values) }
-    ensures unaliased { IfOk result (λ v. resolved func.new v ≡ v) }
-    ensures full { result ≡ Err BuildError.Full → IsFull func.new }
-    ensures err { OnErr result ((func.new.values ≡ func.old.values) × (func.new.insts ≡ func.old.insts)) }
-    ensures never_failed { result ≢ Err BuildError.Failed }
-{
-    func.ensure_block_inserted(block)?;
-    let shape = InstructionData::UnaryImm { imm: 0 };
-    let inst = func.insert_inst(block, BlockEnd::Front, shape, ty, SourceLoc::new(u32::MAX))?;
-    Ok(func.inst_results(inst)[0])
 }

@@ -1,24 +1,44 @@
-//! Tables of the construction: the records of a variable, and the parameters that wait in a block.
-ghost use Rattle.std.specs.Prelude.{◌≡◌, ◌==◌, ◌&&◌, ◌↔◌, IsTrue, false, ℕ, [], ◌∷◌, ◌++◌, ◌<◌, length, OnOk, OnErr, IfOk, Some, None, if◌then◌else◌, slice_index_or, slice_get};
-ghost use Rattle.clif_ssa.specs.Tables.{record_at, sealed_at, is_yes, pending_of};
+//! Tables of the construction: the records of a variable, the branches that lead to a block, and the
+//! parameters that wait in it.
+ghost use Rattle.std.specs.Prelude.{◌≡◌, ◌==◌, ◌&&◌, ◌↔◌, IsTrue, false, ℕ, [], ◌∷◌, ◌++◌, ◌<◌, ◌^◌, length, OnOk, OnErr, IfOk, Some, None, if◌then◌else◌, slice_index_or};
+ghost use Rattle.clif_ir.specs.Consistent.{Stands};
+ghost use Rattle.clif_ir.specs.Reading.{place_of, without};
+ghost use Rattle.clif_ssa.specs.Tables.{no_cell, cell_at, record_at, lookups_at, one_more, known_at, sealed_at, predecessors_at, is_yes, pending_of};
 
 use crate::variable::Variable;
-use clif_types::{Block, BuildError, EntityRef, Value};
+use clif_types::{Block, BuildError, EntityRef, Inst, Value};
+use smallvec::SmallVec;
 use std::alloc::Global;
 use std::marker::Model;
 use std::mem;
 
-/// The records of one variable: for each block, by its number, the value that it has there, if one is
-/// known. What is past the end isn't known.
+/// What is known of a variable in a block.
+#[derive(Clone, Copy, Debug, PartialEq, Eq)]
+pub struct Cell {
+    /// The value that the variable has at the block's end so far, if one is known.
+    pub value: Option<Value>,
+    /// How many look-ups of the variable in the block's predecessors began, up to 2^32 - 1 of them.
+    pub lookups: u32,
+}
+
+/// What a block holds of a variable of which nothing is known there.
+const NO_CELL: Cell = Cell {
+    value: None,
+    lookups: 0,
+};
+
+/// What is known of one variable: a cell for each block, by its number. What is past the end isn't
+/// known.
 #[derive(Debug, Drop)]
 pub struct Records {
-    cells: Vec<Option<Value>>,
+    cells: Vec<Cell>,
 }
 
 impl Model for Records {
-    ghost use Rattle.std.specs.Prelude.{ℕ, List, Option};
+    ghost use Rattle.std.specs.Prelude.{List};
+    ghost use Rattle.clif_ssa.specs.declared.tables.Cell.{Cell};
 
-    ghost Value = { List (Option ℕ) };
+    ghost Value = { List Cell };
 
     ghost view = { λ r. r.cells.items };
 }
@@ -33,27 +53,27 @@ impl Records {
         }
     }
 
-    /// The record of a block.
-    pub fn get(&self, block: Block) -> Option<Value>
-        ensures { result ≡ slice_index_or self.now block None }
+    /// The cell of a block.
+    pub fn get(&self, block: Block) -> Cell
+        ensures { result ≡ slice_index_or self.now block no_cell }
     {
         match self.cells.get(block.index()) {
             Some(cell) => *cell,
-            None => None,
+            None => NO_CELL,
         }
     }
 
-    /// Records a value for a block. After an error each record is as it was.
-    pub fn set(&mut self, block: Block, value: Value) -> Result<(), BuildError>
-        ensures ok { OnOk result ((b : ℕ) → slice_index_or self.new b None ≡ (if b == block then Some value else slice_index_or self.old b None)) }
-        ensures err { OnErr result ((b : ℕ) → slice_index_or self.new b None ≡ slice_index_or self.old b None) }
+    /// Sets the cell of a block. After an error each cell is as it was.
+    pub fn set(&mut self, block: Block, cell: Cell) -> Result<(), BuildError>
+        ensures ok { OnOk result ((b : ℕ) → slice_index_or self.new b no_cell ≡ (if b == block then cell else slice_index_or self.old b no_cell)) }
+        ensures err { OnErr result ((b : ℕ) → slice_index_or self.new b no_cell ≡ slice_index_or self.old b no_cell) }
         ensures only_memory { OnErr result (result ≡ Err BuildError.Memory) }
     {
         let missing = (block.index() + 1).saturating_sub(self.cells.len());
         for _ in 0..missing {
-            self.cells.push(None)?;
+            self.cells.push(NO_CELL)?;
         }
-        self.cells[block.index()] = Some(value);
+        self.cells[block.index()] = cell;
         Ok(())
     }
 }
@@ -115,9 +135,10 @@ pub struct VariableTable {
 }
 
 impl Model for VariableTable {
-    ghost use Rattle.std.specs.Prelude.{ℕ, List, Option};
+    ghost use Rattle.std.specs.Prelude.{List};
+    ghost use Rattle.clif_ssa.specs.declared.tables.Cell.{Cell};
 
-    ghost Value = { List (List (Option ℕ)) };
+    ghost Value = { List (List Cell) };
 
     ghost view = { λ t. t.rows.items };
 }
@@ -146,21 +167,35 @@ impl VariableTable {
         self.rows.is_empty()
     }
 
+    /// What is known of a variable in a block.
+    fn cell(&self, variable: Variable, block: Block) -> Cell
+        ensures { result ≡ cell_at self.now variable block }
+    {
+        match self.rows.get(variable.index()) {
+            Some(row) => row.get(block),
+            None => NO_CELL,
+        }
+    }
+
     /// The record of a variable in a block.
     pub fn get(&self, variable: Variable, block: Block) -> Option<Value>
         ensures { result ≡ record_at self.now variable block }
     {
-        match self.rows.get(variable.index()) {
-            Some(row) => row.get(block),
-            None => None,
-        }
+        self.cell(variable, block).value
+    }
+
+    /// How many look-ups of a variable in a block's predecessors began.
+    pub fn lookups(&self, variable: Variable, block: Block) -> u32
+        ensures { result ≡ lookups_at self.now variable block }
+    {
+        self.cell(variable, block).lookups
     }
 
     #[tactic(auto, using(crate::proofs::RecordLaws::record_rules))]
-    /// Records a value for a variable in a block. After an error each record is as it was.
-    pub fn set(&mut self, variable: Variable, block: Block, value: Value) -> Result<(), BuildError>
-        ensures ok { OnOk result ((v b : ℕ) → record_at self.new v b ≡ (if v == variable && b == block then Some value else record_at self.old v b)) }
-        ensures err { OnErr result ((v b : ℕ) → record_at self.new v b ≡ record_at self.old v b) }
+    // Sets what is known of a variable in a block. After an error each cell is as it was.
+    fn set_cell(&mut self, variable: Variable, block: Block, cell: Cell) -> Result<(), BuildError>
+        ensures ok { OnOk result ((v b : ℕ) → cell_at self.new v b ≡ (if v == variable && b == block then cell else cell_at self.old v b)) }
+        ensures err { OnErr result ((v b : ℕ) → cell_at self.new v b ≡ cell_at self.old v b) }
         ensures only_memory { OnErr result (result ≡ Err BuildError.Memory) }
     {
         let alloc = *self.rows.allocator();
@@ -168,8 +203,35 @@ impl VariableTable {
         for _ in 0..missing {
             self.rows.push(Records::new(alloc))?;
         }
-        self.rows[variable.index()].set(block, value)?;
+        self.rows[variable.index()].set(block, cell)?;
         Ok(())
+    }
+
+    /// Records a value for a variable in a block. After an error each record is as it was.
+    pub fn set(&mut self, variable: Variable, block: Block, value: Value) -> Result<(), BuildError>
+        ensures ok { OnOk result ((v b : ℕ) → record_at self.new v b ≡ (if v == variable && b == block then Some value else record_at self.old v b)) }
+        ensures lookups { (v b : ℕ) → lookups_at self.new v b ≡ lookups_at self.old v b }
+        ensures err { OnErr result ((v b : ℕ) → record_at self.new v b ≡ record_at self.old v b) }
+        ensures only_memory { OnErr result (result ≡ Err BuildError.Memory) }
+    {
+        let lookups = self.lookups(variable, block);
+        let cell = Cell {
+            value: Some(value),
+            lookups,
+        };
+        self.set_cell(variable, block, cell)
+    }
+
+    /// Counts a look-up of a variable in a block's predecessors. After an error each count is as it was.
+    pub fn count_lookup(&mut self, variable: Variable, block: Block) -> Result<(), BuildError>
+        ensures records { (v b : ℕ) → record_at self.new v b ≡ record_at self.old v b }
+        ensures ok { OnOk result ((v b : ℕ) → lookups_at self.new v b ≡ (if v == variable && b == block then one_more (lookups_at self.old v b) else lookups_at self.old v b)) }
+        ensures err { OnErr result ((v b : ℕ) → lookups_at self.new v b ≡ lookups_at self.old v b) }
+        ensures only_memory { OnErr result (result ≡ Err BuildError.Memory) }
+    {
+        let Cell { value, lookups } = self.cell(variable, block);
+        let lookups = lookups.saturating_add(1);
+        self.set_cell(variable, block, Cell { value, lookups })
     }
 }
 
@@ -182,19 +244,98 @@ pub enum Sealed {
     Yes,
 }
 
+/// The branches that lead to a block, in the order in which they were declared.
+#[derive(Debug, Drop)]
+pub struct Predecessors {
+    branches: SmallVec<Inst, 2>,
+}
+
+impl Model for Predecessors {
+    ghost use Rattle.std.specs.Prelude.{ℕ, List};
+
+    ghost Value = { List ℕ };
+
+    ghost view = { λ p. p.branches.items };
+}
+
+impl Predecessors {
+    /// No branch.
+    pub fn new(alloc: Global) -> Self
+        ensures { result ≡ [] }
+    {
+        Predecessors {
+            branches: SmallVec::new(alloc),
+        }
+    }
+
+    /// The branches, in order.
+    pub fn as_slice(&self) -> &[Inst]
+        ensures { result.now ≡ self.now }
+    {
+        self.branches.as_slice()
+    }
+
+    /// Puts a branch behind the others. After an error the list is as it was.
+    pub fn push(&mut self, branch: Inst) -> Result<(), BuildError>
+        ensures ok { OnOk result (self.new ≡ self.old ++ branch ∷ []) }
+        ensures err { OnErr result (self.new ≡ self.old) }
+        ensures only_memory { OnErr result (result ≡ Err BuildError.Memory) }
+    {
+        self.branches.push(branch)?;
+        Ok(())
+    }
+
+    // The place of the first entry of this branch, which stands in the list.
+    #[tactic(auto, using(clif_ir::proofs::Reading::place_rules))]
+    fn place_of(&self, branch: Inst) -> usize
+        requires { Stands branch self.now }
+        ensures exact { result ≡ place_of branch self.now }
+        ensures inside { result < length self.now }
+    {
+        for (place, other) in self.branches.as_slice().iter().enumerate() {
+            if *other == branch {
+                return place;
+            }
+        }
+        unreachable!()
+    }
+
+    /// Takes the first entry of this branch away, which stands in the list; those behind it move up.
+    #[tactic(auto, using(clif_ir::proofs::Reading::place_rules))]
+    pub fn remove(&mut self, branch: Inst)
+        requires { Stands branch self.old }
+        ensures { self.new ≡ without branch self.old }
+    {
+        let place = self.place_of(branch);
+        let _ = self.branches.remove(place);
+    }
+}
+
+/// What the construction knows of a block.
+#[derive(Debug, Drop)]
+pub struct SsaBlock {
+    /// The branches that lead to it.
+    pub predecessors: Predecessors,
+    /// Whether these are all, and which parameters wait where they aren't.
+    pub sealed: Sealed,
+}
+
 /// What the construction knows of each block.
 #[derive(Debug, Drop)]
 pub struct BlockTable {
-    blocks: Vec<Sealed>,
+    blocks: Vec<SsaBlock>,
 }
 
 impl Model for BlockTable {
     ghost use Rattle.std.specs.Prelude.{List};
-    ghost use Rattle.clif_ssa.specs.declared.tables.Sealed.{Sealed};
+    ghost use Rattle.clif_ssa.specs.declared.tables.SsaBlock.{SsaBlock};
+    ghost use Rattle.std.specs.Prelude.{◌<◌, ◌^◌, length};
 
-    ghost Value = { List Sealed };
+    ghost Value = { List SsaBlock };
 
     ghost view = { λ t. t.blocks.items };
+
+    ghost invariant = { λ t. length t.blocks.items < 2 ^ 32 };
 }
 
 impl BlockTable {
@@ -221,30 +362,73 @@ impl BlockTable {
         self.blocks.is_empty()
     }
 
+    /// How many blocks there is room for.
+    pub fn len(&self) -> usize
+        ensures exact { result ≡ length self.now }
+        ensures bounded { result < 2 ^ 32 }
+    {
+        self.blocks.len()
+    }
+
     /// Whether a block is sealed.
     pub fn is_sealed(&self, block: Block) -> bool
         ensures { result ≡ is_yes (sealed_at self.now block) }
     {
         match self.blocks.get(block.index()) {
-            Some(Sealed::Yes) => true,
-            Some(Sealed::No { .. }) | None => false,
+            Some(known) => matches!(known.sealed, Sealed::Yes),
+            None => false,
+        }
+    }
+
+    /// The branches that lead to a block.
+    pub fn predecessors(&self, block: Block) -> &[Inst]
+        ensures { result.now ≡ predecessors_at self.now block }
+    {
+        match self.blocks.get(block.index()) {
+            Some(known) => known.predecessors.as_slice(),
+            None => &[],
         }
     }
 
     /// Makes room for a block. What is known of each block stays.
     pub fn declare(&mut self, block: Block) -> Result<(), BuildError>
-        ensures same { (b : ℕ) → sealed_at self.new b ≡ sealed_at self.old b }
+        ensures same { (b : ℕ) → known_at self.new b ≡ known_at self.old b }
         ensures ok { OnOk result (block < length self.new) }
         ensures only_memory { OnErr result (result ≡ Err BuildError.Memory) }
     {
         let alloc = *self.blocks.allocator();
         let missing = (block.index() + 1).saturating_sub(self.blocks.len());
         for _ in 0..missing {
-            self.blocks.push(Sealed::No {
-                undef_variables: PendingList::new(alloc),
+            self.blocks.push(SsaBlock {
+                predecessors: Predecessors::new(alloc),
+                sealed: Sealed::No {
+                    undef_variables: PendingList::new(alloc),
+                },
             })?;
         }
         Ok(())
+    }
+
+    /// Puts a branch behind those that lead to a block.
+    pub fn declare_predecessor(&mut self, block: Block, branch: Inst) -> Result<(), BuildError>
+        ensures sealed { (b : ℕ) → sealed_at self.new b ≡ sealed_at self.old b }
+        ensures ok { OnOk result ((b : ℕ) → predecessors_at self.new b ≡ (if b == block then predecessors_at self.old b ++ branch ∷ [] else predecessors_at self.old b)) }
+        ensures err { OnErr result ((b : ℕ) → predecessors_at self.new b ≡ predecessors_at self.old b) }
+        ensures only_memory { OnErr result (result ≡ Err BuildError.Memory) }
+    {
+        self.declare(block)?;
+        self.blocks[block.index()].predecessors.push(branch)
+    }
+
+    /// Takes a branch away from those that lead to a block; the others keep their order.
+    pub fn remove_predecessor(&mut self, block: Block, branch: Inst)
+        requires { Stands branch (predecessors_at self.old block) }
+        ensures sealed { (b : ℕ) → sealed_at self.new b ≡ sealed_at self.old b }
+        ensures ok { (b : ℕ) → predecessors_at self.new b ≡ (if b == block then without branch (predecessors_at self.old b) else predecessors_at self.old b) }
+    {
+        if let Some(known) = self.blocks.get_mut(block.index()) {
+            known.predecessors.remove(branch);
+        }
     }
 
     /// Puts a parameter behind those that wait in an unsealed block.
@@ -252,10 +436,11 @@ impl BlockTable {
         requires { is_yes (sealed_at self.old block) ≡ false }
         ensures ok { OnOk result ((b : ℕ) → sealed_at self.new b ≡ (if b == block then Sealed.No (pending_of (sealed_at self.old b) ++ record { variable = variable; param = param } ∷ []) else sealed_at self.old b)) }
         ensures err { OnErr result ((b : ℕ) → sealed_at self.new b ≡ sealed_at self.old b) }
+        ensures predecessors { (b : ℕ) → predecessors_at self.new b ≡ predecessors_at self.old b }
         ensures only_memory { OnErr result (result ≡ Err BuildError.Memory) }
     {
         self.declare(block)?;
-        match &mut self.blocks[block.index()] {
+        match &mut self.blocks[block.index()].sealed {
             Sealed::No { undef_variables } => undef_variables.push(variable, param),
             Sealed::Yes => unreachable!(),
         }
@@ -265,12 +450,14 @@ impl BlockTable {
     pub fn seal(&mut self, block: Block) -> Result<PendingList, BuildError>
         ensures pending { IfOk result (λ l. l ≡ pending_of (sealed_at self.old block)) }
         ensures ok { OnOk result ((b : ℕ) → sealed_at self.new b ≡ (if b == block then Sealed.Yes else sealed_at self.old b)) }
+        ensures known { OnOk result (block < length self.new) }
         ensures err { OnErr result ((b : ℕ) → sealed_at self.new b ≡ sealed_at self.old b) }
+        ensures predecessors { (b : ℕ) → predecessors_at self.new b ≡ predecessors_at self.old b }
         ensures only_memory { OnErr result (result ≡ Err BuildError.Memory) }
     {
         self.declare(block)?;
         let alloc = *self.blocks.allocator();
-        match mem::replace(&mut self.blocks[block.index()], Sealed::Yes) {
+        match mem::replace(&mut self.blocks[block.index()].sealed, Sealed::Yes) {
             Sealed::No { undef_variables } => Ok(undef_variables),
             Sealed::Yes => Ok(PendingList::new(alloc)),
         }

@@ -16,8 +16,8 @@ use Rattle.clif_ir.specs.Changes.{inserted_in, with_block, with_layout, with_par
 use Rattle.clif_ir.specs.Instruction.{is_terminator, result_types}
 use Rattle.clif_ir.specs.Reading.{param_home, stands_in}
 use Rattle.clif_ssa.specs.declared.tables.Pending.{Pending}
-use Rattle.clif_ssa.specs.Tables.{record_at, is_yes}
-use Rattle.clif_ssa.specs.Ssa.{SsaState, no_srcloc, no_state, record_of, sealed_of, Records, Waits, Zeroes, with_zero, zeroed, zeroed_in, completed}
+use Rattle.clif_ssa.specs.Tables.{is_yes}
+use Rattle.clif_ssa.specs.Ssa.{SsaState, no_srcloc, no_state, record_of, sealed_of, Records, SameRecords, Waits, Zeroes, with_zero, zeroed, zeroed_in, completed}
 use Rattle.cranelift_frontend.specs.declared.context.BlockStatus.{BlockStatus}
 use Rattle.cranelift_frontend.specs.declared.context.BlockStatus.TheVariants.{Empty, Partial, Filled}
 use Rattle.cranelift_frontend.specs.Context.{ContextState, begun, status_of, SetsStatus, Begins}
@@ -111,9 +111,9 @@ pub none_recorded : (f : Body) → RecordsExist f no_state
 none_recorded f = record { exist = λ v b x is. let no_way : ⊥ = cc in absurd no_way }
 
 -- the records are as they were, and the function grew
-pub recorded_still : (f g : Body) (s t : SsaState) → Grows f g → t.records ≡ s.records → RecordsExist f s → RecordsExist g t
+pub recorded_still : (f g : Body) (s t : SsaState) → Grows f g → SameRecords s t → RecordsExist f s → RecordsExist g t
 recorded_still f g s t grows same before =
-    record { exist = λ v b x is. let here : x < length f.values = before.exist v b x (ap (λ rows. record_at rows v b) (sym same) ∙ is) in omega (arith, here, grows.0) }
+    record { exist = λ v b x is. let here : x < length f.values = before.exist v b x (sym (same v b) ∙ is) in omega (arith, here, grows.0) }
 
 -- a value that exists was recorded
 pub recorded_more : (f g : Body) (s t : SsaState) (variable block value : ℕ) → Grows f g → Records s t variable block value → value < length g.values → RecordsExist f s → RecordsExist g t
@@ -146,7 +146,7 @@ after_use f c g d variable ty block value uses = by_record (record_of c.ssa vari
         let grows : Grows f g = subst (Grows f) (sym known.0) (Grows-inserted f block) in
         record {
           grows = grows;
-          recorded = recorded_still f g c.ssa d.ssa grows (ap (λ (s : SsaState). s.records) known.1);
+          recorded = recorded_still f g c.ssa d.ssa grows (λ v b. ap (λ (s : SsaState). record_of s v b) known.1);
           exists = λ before. let here : v < length f.values = before.exist variable block v is in omega (arith, here, known.2, grows.0);
         }
     by_record None is false sealed =
@@ -217,11 +217,11 @@ pub append_exists : (r : Result ℕ BuildError) (f : Body) (c : ContextState) (g
 append_exists r f c g d block shape ty = if_ok_from r _ _ (λ inst appends. appended_exists f c g d block shape ty inst appends)
 
 -- the records are as they were, where a call answered
-pub recorded_on : {X Y : Type 0} (r : Result X Y) (f g : Body) (s t : SsaState) → OnOk r (Grows f g) → t.records ≡ s.records → RecordsExist f s → OnOk r (RecordsExist g t)
+pub recorded_on : {X Y : Type 0} (r : Result X Y) (f g : Body) (s t : SsaState) → OnOk r (Grows f g) → SameRecords s t → RecordsExist f s → OnOk r (RecordsExist g t)
 recorded_on r f g s t grows same before = on_ok_step r _ _ (λ h. recorded_still f g s t h same before) grows
 
 pub recorded_on_same : {X Y : Type 0} (r : Result X Y) (f g : Body) (s t : SsaState) → OnOk r (Grows f g) → t ≡ s → RecordsExist f s → OnOk r (RecordsExist g t)
-recorded_on_same r f g s t grows same = recorded_on r f g s t grows (ap (λ (u : SsaState). u.records) same)
+recorded_on_same r f g s t grows same = recorded_on r f g s t grows (λ v b. ap (λ (u : SsaState). record_of u v b) same)
 
 -- what wasn't filled isn't filled by a beginning
 begun_unfilled : (s : BlockStatus) → begun s ≡ Filled → s ≡ Filled

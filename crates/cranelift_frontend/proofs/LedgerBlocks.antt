@@ -11,8 +11,9 @@ use Rattle.clif_meaning.specs.Request.{AnsweredCall, CreateBlock, SwitchToBlock,
 use Rattle.clif_meaning.specs.Ledger.{answer_at, Answered, ABlock, BlockState, Ledger, VariableState, ledger_with, new_block, next_answer}
 use Rattle.clif_meaning.proofs.CallLists as earlier
 use Rattle.clif_ssa.specs.Tables.{is_yes, record_at, pending_of}
+use Rattle.clif_ssa.specs.declared.tables.Cell.{Cell}
 use Rattle.clif_ssa.specs.declared.tables.Sealed.TheVariants.{Yes}
-use Rattle.clif_ssa.specs.Ssa.{record_of, sealed_of, SameBlocks, Seals, completed, completing_blocks}
+use Rattle.clif_ssa.specs.Ssa.{record_of, sealed_of, SameBlocks, SameRecords, Seals, completed, completing_blocks}
 use Rattle.cranelift_frontend.specs.declared.context.BlockStatus.{BlockStatus}
 use Rattle.cranelift_frontend.specs.declared.context.BlockStatus.TheVariants.{Empty, Partial, Filled}
 use Rattle.cranelift_frontend.specs.Context.{ContextState, status_of, begun, Begins}
@@ -108,7 +109,7 @@ agrees-created calls ledger f g c d p block agrees function number records seale
           ∙ ap (λ (h : Body). map (block_name (ledger_with ledger CreateBlock)) h.layout) (sym function);
       variables = agrees.variables ∙ sym variables;
       recorded = λ v b x is.
-          let there = agrees.recorded v b x (ap (λ (rows : List (List (Option ℕ))). record_at rows v b) (sym records) ∙ is) in
+          let there = agrees.recorded v b x (ap (λ (rows : List (List Cell)). record_at rows v b) (sym records) ∙ is) in
           (there.0, ap (λ (types : List «Type»). slice_get types v) variables ∙ there.1, keeps_values x there.0 there.2);
       parameters = λ v h is. begun_still h (agrees.parameters v h (ap (λ (b : Body). param_home b v) (sym function) ∙ is));
       fresh = λ k above.
@@ -198,7 +199,7 @@ created calls f g c d p (Ok block) agrees function number records sealed status 
 -- a sealed block
 pub agrees-sealed : (calls : List AnsweredCall) (ledger : Ledger) (f g : Body) (c d : ContextState) (p : Option ℕ) (name : Name) (block : ℕ)
     → LedgerAgrees calls ledger f c p → block_name ledger block ≡ Some name → g ≡ completed f (pending_of (sealed_of c.ssa block))
-    → Seals c.ssa d.ssa block → d.ssa.records ≡ c.ssa.records → Begins c d (completing_blocks f (pending_of (sealed_of c.ssa block))) → d.variables ≡ c.variables
+    → Seals c.ssa d.ssa block → SameRecords c.ssa d.ssa → Begins c d (completing_blocks f (pending_of (sealed_of c.ssa block))) → d.variables ≡ c.variables
     → LedgerAgrees (calls ++ record { request = SealBlock name; numbers = [] } ∷ []) (ledger_with ledger (SealBlock name)) g d p
 agrees-sealed calls ledger f g c d p name block agrees named function seals records begins variables =
     record {
@@ -218,7 +219,7 @@ agrees-sealed calls ledger f g c d p name block agrees named function seals reco
           ∙ ap (map (block_name (ledger_with ledger (SealBlock name)))) (sym continues.layout);
       variables = agrees.variables ∙ sym variables;
       recorded = λ v b x is.
-          let there = agrees.recorded v b x (ap (λ (rows : List (List (Option ℕ))). record_at rows v b) (sym records) ∙ is) in
+          let there = agrees.recorded v b x (sym (records v b) ∙ is) in
           (there.0, ap (λ (types : List «Type»). slice_get types v) variables ∙ there.1, keeps_values x there.0 there.2);
       parameters = λ v h is. begun_still h (agrees.parameters v h (homes_of v h is));
       fresh = λ k above.
@@ -282,7 +283,7 @@ agrees-sealed calls ledger f g c d p name block agrees named function seals reco
 -- what comes of sealing
 pub sealed : {E : Type 0} (calls : List AnsweredCall) (f g : Body) (c d : ContextState) (p : Option ℕ) (name : Name) (block : ℕ) (r : Result (Unit {0}) E)
     → LedgerAgrees calls (ledger_of calls) f c p → NamesBlock calls name block → OnOk r (g ≡ completed f (pending_of (sealed_of c.ssa block)))
-    → OnOk r (Seals c.ssa d.ssa block) → d.ssa.records ≡ c.ssa.records → OnOk r (Begins c d (completing_blocks f (pending_of (sealed_of c.ssa block)))) → d.variables ≡ c.variables
+    → OnOk r (Seals c.ssa d.ssa block) → SameRecords c.ssa d.ssa → OnOk r (Begins c d (completing_blocks f (pending_of (sealed_of c.ssa block)))) → d.variables ≡ c.variables
     → OnOk r (LedgerAgrees (calls ++ record { request = SealBlock name; numbers = [] } ∷ []) (ledger_of (calls ++ record { request = SealBlock name; numbers = [] } ∷ [])) g d p)
 sealed calls f g c d p name block (Err e) agrees names function seals records begins variables = tt
 sealed calls f g c d p name block (Ok done) agrees names function seals records begins variables =

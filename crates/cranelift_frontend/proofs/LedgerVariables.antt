@@ -9,7 +9,7 @@ use Rattle.clif_ir.specs.Body.{Body, value_at, no_value}
 use Rattle.clif_meaning.specs.Name.{Name}
 use Rattle.clif_meaning.specs.Request.{AnsweredCall, DeclareVar, DefVar}
 use Rattle.clif_meaning.specs.Ledger.{AVariable, Ledger, VariableState, ledger_with, new_variable}
-use Rattle.clif_ssa.specs.declared.tables.Sealed.{Sealed}
+use Rattle.clif_ssa.specs.declared.tables.SsaBlock.{SsaBlock}
 use Rattle.clif_ssa.specs.Tables.{is_yes, sealed_at}
 use Rattle.clif_ssa.specs.Ssa.{Records}
 use Rattle.cranelift_frontend.specs.declared.context.BlockStatus.{BlockStatus}
@@ -56,7 +56,7 @@ agrees-assigned calls ledger f c d p variable name block value ty agrees declare
     let new : Ledger = ledger_with ledger (DefVar variable name) in
     agrees-kept calls call ledger new f c d p p [] agrees refl refl refl agrees.current
     (types-touched variable ledger.variables ∙ agrees.variables ∙ sym variables)
-    (λ b. ap (λ (xs : List Sealed). is_yes (sealed_at xs b)) blocks)
+    (λ b. ap (λ (xs : List SsaBlock). is_yes (sealed_at xs b)) blocks)
     (λ b. ap (λ (xs : List BlockStatus). status_of (record c { status = xs }) b) status)
     (λ v b x is. elim (written c.ssa d.ssa variable block value records v b x is) [
       | inl was ↦ let there = agrees.recorded v b x was in (there.0, ap (λ (types : List «Type»). slice_get types v) variables ∙ there.1, there.2)

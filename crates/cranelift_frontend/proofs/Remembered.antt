@@ -9,9 +9,10 @@ use Rattle.clif_ir.specs.Body.{Body, resolved}
 use Rattle.clif_ir.specs.Instruction.{result_types}
 use Rattle.clif_ir.specs.Changes.{with_block, with_param, with_inst, inserted_in}
 use Rattle.clif_ir.specs.Consistent.{IsConsistent}
+use Rattle.clif_ssa.specs.declared.tables.Cell.{Cell}
 use Rattle.clif_ssa.specs.declared.tables.Pending.{Pending}
 use Rattle.clif_ssa.specs.Tables.{is_yes}
-use Rattle.clif_ssa.specs.Ssa.{no_srcloc, SsaState, record_of, sealed_of, completed, zeroed, Records}
+use Rattle.clif_ssa.specs.Ssa.{no_srcloc, SsaState, record_of, sealed_of, completed, zeroed, Records, SameRecords}
 use Rattle.clif_ssa.specs.Structure.{StayAlike, HasRecordOf, Remembers}
 use Rattle.clif_ssa.proofs.Bodies.{Firm, firm_from}
 use Rattle.clif_ssa.proofs.Describing.{recorded_here}
@@ -36,7 +37,7 @@ remembers_same x b f g s t same_body same_state = record {
 pub remembers_created : {T E : Type 0} (r : Result T E) (x b : ℕ) (f g : Body) (s t : SsaState) → OnOk r (g ≡ with_block f) → t.records ≡ s.records → OnOk r (Remembers x b f s g t)
 remembers_created (Err e) x b f g s t is same = tt
 remembers_created (Ok v) x b f g s t is same = record {
-  recorded = λ v here. ap (λ (rows : List (List (Option ℕ))). record_of (record s { records = rows }) x b) same ∙ here;
+  recorded = λ v here. ap (λ (rows : List (List Cell)). record_of (record s { records = rows }) x b) same ∙ here;
   alike = subst (λ h. StayAlike f h) (sym is) (λ u v alike. alike);
 }
 
@@ -47,11 +48,11 @@ remembers_declared (Err e) x b f c d ty is = tt
 remembers_declared (Ok v) x b f c d ty is = remembers_same x b f f c.ssa d.ssa refl (ap (λ (e : ContextState). e.ssa) is)
 
 -- a block is sealed
-pub remembers_sealed : {T E : Type 0} (r : Result T E) (x b : ℕ) (f g : Body) (s t : SsaState) (waited : List Pending) → IsConsistent f → OnOk r (g ≡ completed f waited) → t.records ≡ s.records
+pub remembers_sealed : {T E : Type 0} (r : Result T E) (x b : ℕ) (f g : Body) (s t : SsaState) (waited : List Pending) → IsConsistent f → OnOk r (g ≡ completed f waited) → SameRecords s t
     → OnOk r (Remembers x b f s g t)
 remembers_sealed (Err e) x b f g s t waited known is same = tt
 remembers_sealed (Ok v) x b f g s t waited known is same = record {
-  recorded = λ v here. ap (λ (rows : List (List (Option ℕ))). record_of (record s { records = rows }) x b) same ∙ here;
+  recorded = λ v here. same x b ∙ here;
   alike = seal_alike f g waited known is;
 }
 

@@ -11,23 +11,27 @@ use Rattle.clif_ir.specs.Consistent.{IsConsistent}
 use Rattle.clif_ir.specs.Changes.{with_block, inserted_in, with_param}
 use Rattle.clif_ir.specs.Reading.{stands_in}
 use Rattle.clif_paths.specs.Blocks.{Blocks}
+use Rattle.clif_ssa.specs.declared.tables.Cell.{Cell}
 use Rattle.clif_ssa.specs.declared.tables.Pending.{Pending}
 use Rattle.clif_ssa.specs.Tables.{is_yes, pending_of}
-use Rattle.clif_ssa.specs.Ssa.{SsaState, record_of, sealed_of, completed, completing_blocks, zeroed, Records, SameBlocks, Seals}
+use Rattle.clif_ssa.specs.Ssa.{SsaState, record_of, sealed_of, predecessors_of, completed, completing_blocks, zeroed, Records, SameBlocks, SamePredecessors, SameRecords, Seals}
 use Rattle.clif_ssa.specs.Sound.{KeepsAndKnows}
 use Rattle.clif_ssa.specs.SoundLaws.{with_entry, DescribesSoundly}
 use Rattle.clif_ssa.specs.Structure.{NothingStray}
 use Rattle.clif_ssa.proofs.Straying.{inserted_stray, waits_stray, zeroes_stray}
 use Rattle.clif_ssa.proofs.Bodies.{Firm, firm_from}
-use Rattle.clif_ssa.proofs.Completing.{SameButLayout, inserted_same, inserted_firm, entry_same, same_program_then}
+use Rattle.clif_ssa.proofs.Completing.{SameButLayout, inserted_same, inserted_firm, entry_same, same_program, same_program_then}
+use Rattle.clif_ssa.proofs.Counting.{inserted_housed}
 use Rattle.clif_ssa.proofs.Entering.{inserted}
-use Rattle.clif_ssa.proofs.Using.{known_keeps, waits_keeps, zeroes_keeps}
+use Rattle.clif_ssa.proofs.Housing.{Housed, housed_from}
+use Rattle.clif_ssa.proofs.Locally.{waits_locally, zeroes_locally}
 use Rattle.clif_meaning.specs.Name.{Name}
 use Rattle.clif_meaning.specs.Request.{AnsweredCall, CreateBlock, SwitchToBlock, SealBlock, DeclareVar, DefVar, UseVar}
 use Rattle.clif_meaning.specs.Ledger.{BlockState}
 use Rattle.clif_simulation.specs.Carries.{Carries, IsCurrent, GoesOn}
 use Rattle.clif_simulation.proofs.Beginning.{carries_nothing, one_current}
 use Rattle.clif_simulation.proofs.Calls.{carries_created, carries_switched, carries_declared, carries_sealed, carries_assigned, carries_used}
+use Rattle.clif_simulation.proofs.Unbranched.{nothing_counts}
 use Rattle.clif_simulation.proofs.Growing.{goes_on-same, goes_on-then, goes_on-inserted, goes_on-with_param, goes_on-zeroed, goes_on-completed}
 use Rattle.cranelift_frontend.specs.declared.context.BlockStatus.{BlockStatus}
 use Rattle.cranelift_frontend.specs.declared.context.BlockStatus.TheVariants.{Empty, Partial, Filled}
@@ -79,6 +83,16 @@ inserted_cases f block b stands = by (stands_in block f.layout) refl
         appended : stands_in block f.layout ≡ false → (inserted_in f block).layout ≡ f.layout ++ block ∷ []
         appended absent = ap (λ (t : Bool). (if t then f else record f { layout = f.layout ++ block ∷ [] }).layout) absent
 
+-- a use of a variable that is recorded leaves everything
+known_keeps : (own : ℕ → List ℕ) (f g : Body) (s t : SsaState) (blocks : Blocks) (x b v : ℕ) → DescribesSoundly own f s blocks → record_of s x b ≡ Some v
+    → g ≡ f → t ≡ s → KeepsAndKnows own blocks g t b x v
+known_keeps own f g s t blocks x b v before is same_body same_state =
+    subst (λ h. KeepsAndKnows own blocks h t b x v) (sym same_body)
+    (subst (λ r. KeepsAndKnows own blocks f r b x v) (sym same_state) (record {
+      kept = record { tables = blocks; describes = before.0; sound = before.1; same = same_program blocks; counts = before.2 };
+      known = record { value = v; is_recorded = before.0.recorded b x ∙ is; resolves = refl };
+    }))
+
 -- what a use leaves: tables that are kept and know the answer, a function that goes on, and an answer that exists
 record UsedIn (own : ℕ → List ℕ) (tables : Blocks) (f g : Body) (t : SsaState) (block variable value : ℕ) : Type 0 where
   pub kept : KeepsAndKnows own tables g t block variable value
@@ -101,14 +115,14 @@ module _ (declared : SignatureShape) (calls : List AnsweredCall) (f : Body) (c :
           let named : Some B ≡ block_name (ledger_of calls) block = same_Some (Some B) (block_name (ledger_of calls) block) (sym (ap (option_map Some) is) ∙ agrees) in
           (B, record { current = one_current calls ∙ is; named = slice_get-map (λ (s : BlockState). s.block) (ledger_of calls).blocks block ∙ sym named })
 
-  pub stands_created : (g : Body) (d : ContextState) (numbers : List ℕ) → g ≡ with_block f → d.ssa.records ≡ c.ssa.records → SameBlocks c.ssa d.ssa → d.status ≡ c.status
+  pub stands_created : (g : Body) (d : ContextState) (numbers : List ℕ) → g ≡ with_block f → d.ssa.records ≡ c.ssa.records → SameBlocks c.ssa d.ssa → SamePredecessors c.ssa d.ssa → d.status ≡ c.status
       → LedgerAgrees (calls ++ record { request = CreateBlock; numbers = numbers } ∷ []) (ledger_of (calls ++ record { request = CreateBlock; numbers = numbers } ∷ [])) g d p
       → StandsIn declared (calls ++ record { request = CreateBlock; numbers = numbers } ∷ []) g d p
-  stands_created g d numbers is records same status ledger = record {
+  stands_created g d numbers is records same leads status ledger = record {
     signature = ap (λ (h : Body). h.signature) is ∙ stands.signature;
     ledger = ledger;
     carries = subst (λ (h : Body). Carries (calls ++ record { request = CreateBlock; numbers = numbers } ∷ []) h d.ssa) (sym is)
-        (carries_created calls f c.ssa stands.carries d.ssa numbers stands.ledger.block_count (λ v b. ap (λ (rows : List (List (Option ℕ))). record_of (record c.ssa { records = rows }) v b) records) same);
+        (carries_created calls f c.ssa stands.carries d.ssa numbers stands.ledger.block_count (λ v b. ap (λ (rows : List (List Cell)). record_of (record c.ssa { records = rows }) v b) records) same leads);
     begun = λ b there empty. stands.begun b (ap (stands_in b) (ap (λ (h : Body). h.layout) (sym is)) ∙ there) (ap (λ (s : List BlockStatus). status_of (record c { status = s }) b) (sym status) ∙ empty);
   }
 
@@ -126,15 +140,16 @@ module _ (declared : SignatureShape) (calls : List AnsweredCall) (f : Body) (c :
     begun = λ b there empty. stands.begun b there (ap (λ (s : List BlockStatus). status_of (record c { status = s }) b) (sym status) ∙ empty);
   }
 
-  pub stands_sealed : (g : Body) (d : ContextState) (name : Name) (block : ℕ) → IsConsistent f → g ≡ completed f (pending_of (sealed_of c.ssa block)) → d.ssa.records ≡ c.ssa.records → Seals c.ssa d.ssa block
+  pub stands_sealed : (g : Body) (d : ContextState) (name : Name) (block : ℕ) → IsConsistent f → g ≡ completed f (pending_of (sealed_of c.ssa block)) → SameRecords c.ssa d.ssa → Seals c.ssa d.ssa block
+      → SamePredecessors c.ssa d.ssa
       → Begins c d (completing_blocks f (pending_of (sealed_of c.ssa block)))
       → LedgerAgrees (calls ++ record { request = SealBlock name; numbers = [] } ∷ []) (ledger_of (calls ++ record { request = SealBlock name; numbers = [] } ∷ [])) g d p
       → StandsIn declared (calls ++ record { request = SealBlock name; numbers = [] } ∷ []) g d p
-  stands_sealed g d name block consistent is records seals begins ledger = record {
+  stands_sealed g d name block consistent is records seals leads begins ledger = record {
     signature = ap (λ (h : Body). h.signature) is ∙ (goes_on-completed f pending).signature ∙ stands.signature;
     ledger = ledger;
     carries = subst (λ (h : Body). Carries (calls ++ record { request = SealBlock name; numbers = [] } ∷ []) h d.ssa) (sym is)
-        (carries_sealed calls f c.ssa stands.carries d.ssa name [] block consistent (λ v b. ap (λ (rows : List (List (Option ℕ))). record_of (record c.ssa { records = rows }) v b) records) seals
+        (carries_sealed calls f c.ssa stands.carries d.ssa name [] block consistent records seals leads
         (ap (λ (l : List ℕ). slice_get l 0) layout));
     begun = λ b there empty. still b (stands_in b (completing_blocks f pending)) (sym (begins b) ∙ empty) (stands.begun b (ap (stands_in b) (sym layout ∙ ap (λ (h : Body). h.layout) (sym is)) ∙ there));
   }
@@ -159,13 +174,13 @@ module _ (declared : SignatureShape) (calls : List AnsweredCall) (f : Body) (c :
         signature = stands.signature;
         ledger = ledger;
         carries = carries_assigned calls f c.ssa stands.carries d.ssa variable name value block current.0 [] current.1 names.number names.is_value records
-            (λ b. ap (λ bs. sealed_of (record c.ssa { blocks = bs }) b) blocks);
+            (λ b. ap (λ bs. sealed_of (record c.ssa { blocks = bs }) b) blocks) (λ b. ap (λ bs. predecessors_of (record c.ssa { blocks = bs }) b) blocks);
         begun = λ b there empty. stands.begun b there (ap (λ (s : List BlockStatus). status_of (record c { status = s }) b) (sym status) ∙ empty);
       }
 
   -- what a use of a variable in a block leaves
   module _ (g : Body) (d : ContextState) (variable : ℕ) (ty : «Type») (block value : ℕ) (consistent : IsConsistent f) (there : block < length f.blocks)
-      (uses : UsesIn f c g d variable ty block value) where
+      (uses : UsesIn f c g d variable ty block value) (leads : SamePredecessors c.ssa d.ssa) where
     abbrev h : Body
     h = inserted_in f block
 
@@ -176,13 +191,18 @@ module _ (declared : SignatureShape) (calls : List AnsweredCall) (f : Body) (c :
     same = inserted_same f block
 
     before : DescribesSoundly stands.carries.own h c.ssa T
-    before = inserted stands.carries.own f c.ssa [] stands.carries.tables block stands.carries.describes stands.carries.sound
+    before =
+        let entered = inserted stands.carries.own f c.ssa [] stands.carries.tables block stands.carries.describes stands.carries.sound in
+        (entered.0, entered.1, nothing_counts h c.ssa T stands.carries.nothing_leads)
 
     stray_before : NothingStray stands.carries.own h c.ssa
     stray_before = inserted_stray stands.carries.own f c.ssa block stands.carries.nothing_stray
 
     firm : Firm h
     firm = inserted_firm f block (firm_from f consistent)
+
+    housed : Housed h
+    housed = inserted_housed f block (housed_from f consistent)
 
     there_still : block < length h.blocks
     there_still = subst (λ (blocks : List _). block < length blocks) (sym same.blocks) there
@@ -195,6 +215,7 @@ module _ (declared : SignatureShape) (calls : List AnsweredCall) (f : Body) (c :
         describes = k.kept.describes;
         sound = k.kept.sound;
         same = same_program_then stands.carries.tables T k.kept.tables (entry_same f.layout c.ssa block stands.carries.tables).program k.kept.same;
+        counts = k.kept.counts;
       };
       known = k.known;
     }
@@ -216,14 +237,14 @@ module _ (declared : SignatureShape) (calls : List AnsweredCall) (f : Body) (c :
         by (Some v) is t sealed =
             let known = uses.known v is in
             let exists : v < length h.values = before.0.records_exist block variable v is in
-            with_value v known.2 (known_keeps stands.carries.own h g c.ssa d.ssa T variable block v before.0 before.1 is known.0 known.1)
+            with_value v known.2 (known_keeps stands.carries.own h g c.ssa d.ssa T variable block v before is known.0 known.1)
             (subst (λ (k : Body). NothingStray stands.carries.own k d.ssa) (sym known.0) (subst (λ (r : SsaState). NothingStray stands.carries.own h r) (sym known.1) stray_before))
             (goes_on-then f h g to_inserted (goes_on-same h g known.0))
             (subst (λ (k : Body). v < length k.values) (sym known.0) exists) (ap (λ (k : Body). k.layout) known.0)
         by None is false sealed =
             let waits = uses.waits is sealed in
             with_value (length h.values) (waits.1 ∙ ap length (sym same.values))
-            (waits_keeps stands.carries.own h g c.ssa d.ssa T variable ty block firm before.0 before.1 there_still is sealed waits.0)
+            (waits_locally stands.carries.own h g c.ssa d.ssa T variable ty block firm before.0 before.2 before.1 there_still is sealed waits.0 leads)
             (waits_stray stands.carries.own h g c.ssa d.ssa variable ty block firm there_still waits.0 stray_before)
             (goes_on-then f h g to_inserted (subst (GoesOn h) (sym waits.0.function) (goes_on-with_param h block ty)))
             (subst (λ (k : Body). length h.values < length k.values) (sym waits.0.function) (more_values h)) (ap (λ (k : Body). k.layout) waits.0.function)
@@ -234,7 +255,7 @@ module _ (declared : SignatureShape) (calls : List AnsweredCall) (f : Body) (c :
             let zero = uses.zero is sealed in
             let k : Body = with_param h block ty in
             with_value (length h.values + 1) (zero.1 ∙ ap (λ (vs : List _). length vs + 1) (sym same.values))
-            (zeroes_keeps stands.carries.own h g c.ssa d.ssa T variable ty block firm before.0 before.1 there_still is sealed zero.0)
+            (zeroes_locally stands.carries.own h g c.ssa d.ssa T variable ty block firm housed before.0 before.2 before.1 (stands.carries.nothing_leads block) there_still is sealed zero.0 leads)
             (zeroes_stray stands.carries.own h g c.ssa d.ssa variable ty block firm there_still zero.0 stray_before)
             (goes_on-then f h g to_inserted (goes_on-then h k g (goes_on-with_param h block ty) (subst (GoesOn k) (sym zero.0.function) (goes_on-zeroed k block (length h.values)))))
             (subst (λ (b : Body). length h.values + 1 < length b.values) (sym zero.0.function) (more_values h))
@@ -258,7 +279,7 @@ module _ (declared : SignatureShape) (calls : List AnsweredCall) (f : Body) (c :
         record {
           signature = used_in.goes_on.signature ∙ stands.signature;
           ledger = ledger;
-          carries = carries_used calls f c.ssa stands.carries g d.ssa variable value block current.0 consistent current.1 used_in.kept used_in.nothing_stray used_in.goes_on used_in.exists used_in.layout;
+          carries = carries_used calls f c.ssa stands.carries g d.ssa variable value block current.0 consistent current.1 used_in.kept used_in.nothing_stray leads used_in.goes_on used_in.exists used_in.layout;
           begun = λ b stays. not_empty c d block (begun (status_of c block)) sets (begun_not_empty (status_of c block)) b
               (was b (inserted_cases f block b (ap (stands_in b) (sym used_in.layout) ∙ stays)));
         }

@@ -7,7 +7,7 @@ use Rattle.clif_ir.specs.Body.{Body}
 use Rattle.clif_ir.specs.Consistent.{IsConsistent}
 use Rattle.clif_ir.specs.Changes.{with_block}
 use Rattle.clif_ssa.specs.Tables.{pending_of}
-use Rattle.clif_ssa.specs.Ssa.{sealed_of, completed, completing_blocks, Records, SameBlocks, Seals}
+use Rattle.clif_ssa.specs.Ssa.{sealed_of, completed, completing_blocks, Records, SameBlocks, SamePredecessors, SameRecords, Seals}
 use Rattle.clif_meaning.specs.Name.{Name}
 use Rattle.clif_meaning.specs.Request.{AnsweredCall, CreateBlock, SealBlock, DeclareVar, DefVar, UseVar}
 use Rattle.cranelift_frontend.specs.Context.{ContextState, status_of, begun, Begins, SetsStatus}
@@ -18,11 +18,12 @@ use Rattle.cranelift_frontend.proofs.Standing.{stands_created, stands_declared, 
 
 module _ {E : Type 0} (declared : SignatureShape) (calls : List AnsweredCall) where
   pub created_stands : (f g : Body) (c d : ContextState) (p : Option ℕ) (r : Result ℕ E) → StandsIn declared calls f c p
-      → OnOk r (g ≡ with_block f) → d.ssa.records ≡ c.ssa.records → SameBlocks c.ssa d.ssa → d.status ≡ c.status
+      → OnOk r (g ≡ with_block f) → d.ssa.records ≡ c.ssa.records → SameBlocks c.ssa d.ssa → SamePredecessors c.ssa d.ssa → d.status ≡ c.status
       → IfOk r (λ block. LedgerAgrees (calls ++ record { request = CreateBlock; numbers = block ∷ [] } ∷ []) (ledger_of (calls ++ record { request = CreateBlock; numbers = block ∷ [] } ∷ [])) g d p)
       → IfOk r (λ block. StandsIn declared (calls ++ record { request = CreateBlock; numbers = block ∷ [] } ∷ []) g d p)
-  created_stands f g c d p (Err e) stands function records same status ledger = tt
-  created_stands f g c d p (Ok block) stands function records same status ledger = stands_created declared calls f c p stands g d (block ∷ []) function records same status ledger
+  created_stands f g c d p (Err e) stands function records same leads status ledger = tt
+  created_stands f g c d p (Ok block) stands function records same leads status ledger =
+      stands_created declared calls f c p stands g d (block ∷ []) function records same leads status ledger
 
   pub declared_stands : (f : Body) (c d : ContextState) (p : Option ℕ) (ty : «Type») (r : Result ℕ E) → StandsIn declared calls f c p
       → OnOk r (d ≡ record c { variables = c.variables ++ ty ∷ [] })
@@ -33,13 +34,13 @@ module _ {E : Type 0} (declared : SignatureShape) (calls : List AnsweredCall) wh
       (ap (λ (e : ContextState). e.ssa) same) (ap (λ (e : ContextState). e.status) same) ledger
 
   pub sealed_stands : (f g : Body) (c d : ContextState) (p : Option ℕ) (name : Name) (block : ℕ) (r : Result (Unit {0}) E) → StandsIn declared calls f c p → IsConsistent f
-      → OnOk r (g ≡ completed f (pending_of (sealed_of c.ssa block))) → d.ssa.records ≡ c.ssa.records → OnOk r (Seals c.ssa d.ssa block)
+      → OnOk r (g ≡ completed f (pending_of (sealed_of c.ssa block))) → SameRecords c.ssa d.ssa → OnOk r (Seals c.ssa d.ssa block) → SamePredecessors c.ssa d.ssa
       → OnOk r (Begins c d (completing_blocks f (pending_of (sealed_of c.ssa block))))
       → OnOk r (LedgerAgrees (calls ++ record { request = SealBlock name; numbers = [] } ∷ []) (ledger_of (calls ++ record { request = SealBlock name; numbers = [] } ∷ [])) g d p)
       → OnOk r (StandsIn declared (calls ++ record { request = SealBlock name; numbers = [] } ∷ []) g d p)
-  sealed_stands f g c d p name block (Err e) stands consistent function records seals begins ledger = tt
-  sealed_stands f g c d p name block (Ok u) stands consistent function records seals begins ledger =
-      stands_sealed declared calls f c p stands g d name block consistent function records seals begins ledger
+  sealed_stands f g c d p name block (Err e) stands consistent function records seals leads begins ledger = tt
+  sealed_stands f g c d p name block (Ok u) stands consistent function records seals leads begins ledger =
+      stands_sealed declared calls f c p stands g d name block consistent function records seals leads begins ledger
 
   pub assigned_stands : (f : Body) (c d : ContextState) (p : Option ℕ) (variable value block : ℕ) (name : Name) (r : Result (Unit {0}) E) → StandsIn declared calls f c p
       → p ≡ Some block → NamesValue calls name value → OnOk r (Records c.ssa d.ssa variable block value) → d.ssa.blocks ≡ c.ssa.blocks → d.status ≡ c.status
@@ -50,9 +51,9 @@ module _ {E : Type 0} (declared : SignatureShape) (calls : List AnsweredCall) wh
       stands_assigned declared calls f c p stands d variable value block name at names records blocks status ledger
 
   pub used_stands : (f g : Body) (c d : ContextState) (p : Option ℕ) (variable : ℕ) (ty : «Type») (block : ℕ) (r : Result ℕ E) → StandsIn declared calls f c p → IsConsistent f
-      → p ≡ Some block → block < length f.blocks → IfOk r (λ value. UsesIn f c g d variable ty block value) → OnOk r (SetsStatus c d block (begun (status_of c block)))
+      → p ≡ Some block → block < length f.blocks → IfOk r (λ value. UsesIn f c g d variable ty block value) → SamePredecessors c.ssa d.ssa → OnOk r (SetsStatus c d block (begun (status_of c block)))
       → IfOk r (λ value. LedgerAgrees (calls ++ record { request = UseVar variable; numbers = value ∷ [] } ∷ []) (ledger_of (calls ++ record { request = UseVar variable; numbers = value ∷ [] } ∷ [])) g d p)
       → IfOk r (λ value. StandsIn declared (calls ++ record { request = UseVar variable; numbers = value ∷ [] } ∷ []) g d p)
-  used_stands f g c d p variable ty block (Err e) stands consistent at there uses sets ledger = tt
-  used_stands f g c d p variable ty block (Ok value) stands consistent at there uses sets ledger =
-      stands_used declared calls f c p stands g d variable ty block value consistent there uses at sets ledger
+  used_stands f g c d p variable ty block (Err e) stands consistent at there uses leads sets ledger = tt
+  used_stands f g c d p variable ty block (Ok value) stands consistent at there uses leads sets ledger =
+      stands_used declared calls f c p stands g d variable ty block value consistent there uses leads at sets ledger

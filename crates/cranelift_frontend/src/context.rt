@@ -95,18 +95,20 @@ pub struct FunctionBuilderContext {
 
 impl Model for FunctionBuilderContext {
     ghost use Rattle.std.specs.Prelude.{length, ◌<◌, ◌^◌};
+    ghost use Rattle.clif_simulation.specs.Carries.{NothingLeads};
     ghost use Rattle.cranelift_frontend.specs.Context.{ContextState};
 
     ghost Value = { ContextState };
 
     ghost view = { λ c. record { ssa = c.ssa; status = c.status; variables = c.variables.items } };
 
-    ghost invariant = { λ c. length c.variables.items < 2 ^ 32 };
+    // So far no call makes a branch.
+    ghost invariant = { λ c. (length c.variables.items < 2 ^ 32) × NothingLeads c.ssa };
 }
 
 impl FunctionBuilderContext {
     ghost use Rattle.cranelift_frontend.specs.Context.{empty_context, status_of, SetsStatus, Begins, zero_blocks};
-    ghost use Rattle.clif_ssa.specs.Ssa.{record_of, sealed_of, completed, completing_blocks, Records, SameBlocks, Seals, Waits, Zeroes};
+    ghost use Rattle.clif_ssa.specs.Ssa.{record_of, sealed_of, completed, completing_blocks, Records, SameBlocks, SamePredecessors, SameRecords, Seals, Waits, Zeroes};
     ghost use Rattle.clif_ssa.specs.Limits.{IsFull, Takes};
     ghost use Rattle.clif_ssa.specs.Tables.{is_yes, pending_of};
 
@@ -171,6 +173,7 @@ impl FunctionBuilderContext {
     pub(crate) fn declare_block(&mut self, block: Block) -> Result<(), BuildError>
         ensures records { self.new.ssa.records ≡ self.old.ssa.records }
         ensures blocks { SameBlocks self.old.ssa self.new.ssa }
+        ensures predecessors { SamePredecessors self.old.ssa self.new.ssa }
         ensures status { self.new.status ≡ self.old.status }
         ensures variables { self.new.variables ≡ self.old.variables }
         ensures known { OnOk result (block < length self.new.ssa.blocks) }
@@ -231,6 +234,7 @@ impl FunctionBuilderContext {
         ensures known { IfSome (record_of self.old.ssa variable block) (λ v. OnOk result ((func.new ≡ func.old) × (self.new.ssa ≡ self.old.ssa)) × IfOk result (λ w. w ≡ v)) }
         ensures waits { record_of self.old.ssa variable block ≡ None → is_yes (sealed_of self.old.ssa block) ≡ false → OnOk result (Waits self.old.ssa self.new.ssa func.old func.new variable ty block) × IfOk result (λ w. w ≡ length func.old.values) }
         ensures zero { record_of self.old.ssa variable block ≡ None → is_yes (sealed_of self.old.ssa block) ≡ true → OnOk result (Zeroes self.old.ssa self.new.ssa func.old func.new variable ty block) × IfOk result (λ w. w ≡ length func.old.values + 1) }
+        ensures predecessors { SamePredecessors self.old.ssa self.new.ssa }
         ensures variables { self.new.variables ≡ self.old.variables }
         ensures status { OnOk result (Begins self.old self.new (zero_blocks self.old.ssa variable block)) }
         ensures full { result ≡ Err BuildError.Full → IsFull func.new }
@@ -246,7 +250,8 @@ impl FunctionBuilderContext {
     /// Seals a block. Blocks that get a zero are begun.
     pub(crate) fn seal_block(&mut self, block: Block, func: &mut Function) -> Result<(), BuildError>
         ensures sealed { OnOk result (Seals self.old.ssa self.new.ssa block) }
-        ensures records { self.new.ssa.records ≡ self.old.ssa.records }
+        ensures records { SameRecords self.old.ssa self.new.ssa }
+        ensures predecessors { SamePredecessors self.old.ssa self.new.ssa }
         ensures function { OnOk result (func.new ≡ completed func.old (pending_of (sealed_of self.old.ssa block))) }
         ensures variables { self.new.variables ≡ self.old.variables }
         ensures status { OnOk result (Begins self.old self.new (completing_blocks func.old (pending_of (sealed_of self.old.ssa block)))) }

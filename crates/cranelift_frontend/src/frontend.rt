@@ -5,7 +5,7 @@ ghost use Rattle.cranelift_frontend.specs.Growth.{Grows, HasRecordIn, RecordsExi
 ghost use Rattle.cranelift_frontend.specs.Builder.{SameLoans, with_position, is_unreachable, is_free, is_declarable, HasCurrent, Uses, UsesIn};
 ghost use Rattle.clif_ssa.specs.Limits.{IsFull, Takes};
 ghost use Rattle.clif_ssa.specs.Tables.{is_yes, pending_of};
-ghost use Rattle.clif_ssa.specs.Ssa.{record_of, sealed_of, completed, completing_blocks, Records, SameBlocks, Seals, Waits, Zeroes};
+ghost use Rattle.clif_ssa.specs.Ssa.{record_of, sealed_of, completed, completing_blocks, Records, SameBlocks, SamePredecessors, SameRecords, Seals, Waits, Zeroes};
 ghost use Rattle.clif_ir.specs.Body.{empty_body, inst_at, block_at, value_at};
 ghost use Rattle.clif_ir.specs.Changes.{with_block, inserted_in};
 ghost use Rattle.clif_meaning.specs.Name.{Name};
@@ -160,7 +160,7 @@ impl<'a> FunctionBuilder<'a> {
         ensures loans { SameLoans self.old self.new }
         ensures function { OnOk result (self.new.func.now ≡ completed self.old.func.now (pending_of (sealed_of self.old.ctx.now.ssa block))) }
         ensures sealed { OnOk result (Seals self.old.ctx.now.ssa self.new.ctx.now.ssa block) }
-        ensures records { self.new.ctx.now.ssa.records ≡ self.old.ctx.now.ssa.records }
+        ensures records { SameRecords self.old.ctx.now.ssa self.new.ctx.now.ssa }
         ensures status { OnOk result (Begins self.old.ctx.now self.new.ctx.now (completing_blocks self.old.func.now (pending_of (sealed_of self.old.ctx.now.ssa block)))) }
         ensures variables { self.new.ctx.now.variables ≡ self.old.ctx.now.variables }
         ensures position { self.new.position ≡ self.old.position }
@@ -317,6 +317,7 @@ fn use_variable(
 ) -> Result<Value, BuildError>
     requires { block < length func.old.blocks }
     ensures uses { IfOk result (UsesIn func.old ctx.old func.new ctx.new variable ty block) }
+    ensures predecessors { SamePredecessors ctx.old.ssa ctx.new.ssa }
     ensures status { OnOk result (SetsStatus ctx.old ctx.new block (begun (status_of ctx.old block))) }
     ensures variables { ctx.new.variables ≡ ctx.old.variables }
     ensures full { result ≡ Err BuildError.Full → IsFull func.new }
@@ -333,6 +334,7 @@ fn make_block(func: &mut Function, ctx: &mut FunctionBuilderContext) -> Result<B
     ensures number { IfOk result (λ b. b ≡ length func.old.blocks) }
     ensures records { ctx.new.ssa.records ≡ ctx.old.ssa.records }
     ensures sealed { SameBlocks ctx.old.ssa ctx.new.ssa }
+    ensures predecessors { SamePredecessors ctx.old.ssa ctx.new.ssa }
     ensures status { ctx.new.status ≡ ctx.old.status }
     ensures variables { ctx.new.variables ≡ ctx.old.variables }
     ensures full { result ≡ Err BuildError.Full → length func.old.blocks ≡ 2 ^ 32 - 1 }

@@ -1,33 +1,130 @@
-use Rattle.clif_ssa.proofs.Bodies.{firm_from}
-use Rattle.clif_ssa.proofs.Using.{use_keeps}
-use Rattle.clif_ssa.proofs.Losing.{use_used, used_recorded, used_remembers, used_params}
-use Rattle.clif_ssa.proofs.Straying.{use_stray}
+use Rattle.std.proofs.Common.{rules, ◌≡◌, ◌≢◌, Some, None, true, [], refl}
+use Rattle.clif_ssa.specs.Tables.{is_yes}
+use Rattle.clif_ssa.specs.Ssa.{record_of, sealed_of, predecessors_of}
+use Rattle.clif_ssa.specs.Running.{stage}
+use Rattle.clif_ssa.proofs.Calling.{look-fits}
+use Rattle.clif_ssa.proofs.Recorded.{local_recorded}
+use Rattle.clif_ssa.proofs.Alongside.{use_alike, local_remembers, local_leaves, known_recorded, all_recorded}
+use Rattle.clif_ssa.proofs.Losing.{same_remembers}
+use Rattle.clif_ssa.proofs.Using.{on_ok}
+use Rattle.clif_ssa.proofs.Public.{something_leads, popped_nothing, known_use, local_use, machine_use}
 use Rattle.clif_ssa.proofs.ssa.SSABuilder.use_var.Goals as goal
+
+pub returns-in-Some-clause-keeps : goal.returns-in-Some-clause-keeps
+returns-in-Some-clause-keeps c = λ own tables both.
+    let is : record_of c.args.self.now c.args.variable c.args.block ≡ Some c.in-Some.value = search rules in
+    known_use own c.args.func.now c.args.self.now tables c.args.variable c.args.block c.in-Some.value both is
+
+pub returns-then-is_local-clause-keeps : goal.returns-then-is_local-clause-keeps
+returns-then-is_local-clause-keeps c = λ own tables both.
+    let none : record_of c.args.self.now c.args.variable c.args.block ≡ None = search rules in
+    let alone : is_yes (sealed_of c.args.self.now c.args.block) ≡ true → predecessors_of c.args.self.now c.args.block ≡ [] = rw (← c.self.view_is) (c.if-is_local.ensures.yes refl) in
+    local_use own c.args.func.now c.use_locally.new.func c.args.self.now c.use_locally.new.self tables c.args.variable c.args.ty c.args.block c.use_locally.result
+    c.law_consistent.ensures both c.requires.exists none alone c.use_locally.ensures.predecessors c.use_locally.ensures.waits c.use_locally.ensures.zero
+
+pub look_up_in-requires-clause-named : goal.look_up_in-requires-clause-named
+look_up_in-requires-clause-named c =
+    let some : predecessors_of c.args.self.now c.args.block ≢ [] = rw (← c.self.view_is) ((c.if-is_local.ensures.no refl).1) in
+    c.requires.named (something_leads c.args.self.now c.args.block some)
+
+pub make_calls-requires-clause-calls_fit : goal.make_calls-requires-clause-calls_fit
+make_calls-requires-clause-calls_fit c =
+    let some : predecessors_of c.args.self.now c.args.block ≢ [] = rw (← c.self.view_is) ((c.if-is_local.ensures.no refl).1) in
+    look-fits c.args.variable c.args.ty c.args.block (stage c.args.func.now c.args.self.now c.new-look_up.result) (stage c.look_up_in.new.func c.look_up_in.new.self c.look_up_in.new.look_up)
+    c.in_ok-look_up_in.ensures.looks (c.requires.named (something_leads c.args.self.now c.args.block some)) c.look_up_in.ensures.more c.look_up_in.ensures.predecessors
+    (popped_nothing c.args.func.now c.args.self.now c.new-look_up.result c.new-look_up.ensures)
+
+pub returns-in_err-value-clause-stay : goal.returns-in_err-value-clause-stay
+returns-in_err-value-clause-stay c = λ x b v is. c.make_calls.ensures.stay x b v (c.look_up_in.ensures.stay x b v is)
+
+pub returns-clause-stay : goal.returns-clause-stay
+returns-clause-stay c = λ x b v is. c.make_calls.ensures.stay x b v (c.look_up_in.ensures.stay x b v is)
 
 pub returns-clause-keeps : goal.returns-clause-keeps
 returns-clause-keeps c = λ own tables both.
-    use_keeps own c.args.func.now c.value_of.new.func c.args.self.now c.value_of.new.self tables c.args.variable c.args.ty c.args.block c.value_of.result
-    (firm_from c.args.func.now c.law_consistent.ensures) both c.requires c.value_of.ensures.known c.value_of.ensures.waits c.value_of.ensures.zero
+    machine_use own c.args.func.now c.look_up_in.new.func c.make_calls.new.func c.args.self.now c.look_up_in.new.self c.make_calls.new.self tables
+    c.args.variable c.args.ty c.args.block _ c.look_up_in.new.look_up c.make_calls.new.look_up c.in_ok-value.value c.new-look_up.ensures
+    c.law_consistent.ensures both c.requires.exists c.in_ok-look_up_in.ensures.looks c.in_ok-value.ensures.made
+
+-- RECORDED --------------------------------------------------------------------------------------------------------
+
+pub returns-in-Some-clause-recorded : goal.returns-in-Some-clause-recorded
+returns-in-Some-clause-recorded c = λ own tables both.
+    known_recorded own tables c.args.func.now c.args.self.now c.args.block c.args.variable c.in-Some.value (returns-in-Some-clause-keeps c own tables both)
+
+pub returns-then-is_local-clause-recorded : goal.returns-then-is_local-clause-recorded
+returns-then-is_local-clause-recorded c = λ own tables both.
+    all_recorded own tables c.use_locally.new.func c.use_locally.new.self c.args.block c.args.variable c.use_locally.result (returns-then-is_local-clause-keeps c own tables both)
 
 pub returns-clause-recorded : goal.returns-clause-recorded
-returns-clause-recorded c =
-    used_recorded c.args.variable c.args.block c.args.func.now c.value_of.new.func c.args.self.now c.value_of.new.self c.value_of.result
-    (use_used c.args.func.now c.value_of.new.func c.args.self.now c.value_of.new.self c.args.variable c.args.ty c.args.block c.value_of.result
-    c.law_consistent.ensures c.requires c.value_of.ensures.known c.value_of.ensures.waits c.value_of.ensures.zero)
+returns-clause-recorded c = λ own tables both.
+    known_recorded own tables c.make_calls.new.func c.make_calls.new.self c.args.block c.args.variable c.in_ok-value.value (returns-clause-keeps c own tables both)
+
+-- REMEMBERS -------------------------------------------------------------------------------------------------------
+
+pub returns-in-Some-clause-remembers : goal.returns-in-Some-clause-remembers
+returns-in-Some-clause-remembers c = λ x b. same_remembers x b c.args.func.now c.args.self.now c.args.self.now refl
+
+pub returns-then-is_local-clause-remembers : goal.returns-then-is_local-clause-remembers
+returns-then-is_local-clause-remembers c = λ x b.
+    let none : record_of c.args.self.now c.args.variable c.args.block ≡ None = search rules in
+    local_remembers c.args.func.now c.use_locally.new.func c.args.self.now c.use_locally.new.self c.args.variable c.args.ty c.args.block x b c.use_locally.result
+    c.law_consistent.ensures c.requires.exists none c.use_locally.ensures.waits c.use_locally.ensures.zero
 
 pub returns-clause-remembers : goal.returns-clause-remembers
 returns-clause-remembers c = λ x b.
-    used_remembers c.args.variable c.args.block x b c.args.func.now c.value_of.new.func c.args.self.now c.value_of.new.self c.value_of.result
-    (use_used c.args.func.now c.value_of.new.func c.args.self.now c.value_of.new.self c.args.variable c.args.ty c.args.block c.value_of.result
-    c.law_consistent.ensures c.requires c.value_of.ensures.known c.value_of.ensures.waits c.value_of.ensures.zero)
+    let some : predecessors_of c.args.self.now c.args.block ≢ [] = rw (← c.self.view_is) ((c.if-is_local.ensures.no refl).1) in
+    record {
+      recorded = λ v is. c.make_calls.ensures.stay x b v (c.look_up_in.ensures.stay x b v is);
+      alike =
+          use_alike c.args.variable c.args.ty c.args.block c.args.func.now c.look_up_in.new.func c.make_calls.new.func c.args.self.now c.look_up_in.new.self c.make_calls.new.self
+          _ c.look_up_in.new.look_up c.make_calls.new.look_up c.in_ok-value.value c.new-look_up.ensures
+          c.law_consistent.ensures (c.requires.named (something_leads c.args.self.now c.args.block some)) c.in_ok-look_up_in.ensures.looks c.in_ok-value.ensures.made;
+    }
+
+-- WHERE NOTHING LEADS TO THE BLOCK --------------------------------------------------------------------------------
+
+pub returns-then-is_local-clause-parameters : goal.returns-then-is_local-clause-parameters
+returns-then-is_local-clause-parameters c = λ is_local sealed b.
+    let none : record_of c.args.self.now c.args.variable c.args.block ≡ None = search rules in
+    on_ok c.use_locally.result _ _ (λ used. used.params sealed b)
+    (local_leaves (λ d. []) c.args.func.now c.use_locally.new.func c.args.self.now c.use_locally.new.self c.args.variable c.args.ty c.args.block c.use_locally.result
+    c.law_consistent.ensures c.requires.exists none c.use_locally.ensures.waits c.use_locally.ensures.zero)
+
+pub returns-then-is_local-clause-nothing_stray : goal.returns-then-is_local-clause-nothing_stray
+returns-then-is_local-clause-nothing_stray c = λ own is_local before.
+    let none : record_of c.args.self.now c.args.variable c.args.block ≡ None = search rules in
+    on_ok c.use_locally.result _ _ (λ used. used.stray before)
+    (local_leaves own c.args.func.now c.use_locally.new.func c.args.self.now c.use_locally.new.self c.args.variable c.args.ty c.args.block c.use_locally.result
+    c.law_consistent.ensures c.requires.exists none c.use_locally.ensures.waits c.use_locally.ensures.zero)
 
 pub returns-clause-parameters : goal.returns-clause-parameters
-returns-clause-parameters c = λ sealed b.
-    used_params c.args.variable c.args.block b c.args.func.now c.value_of.new.func c.args.self.now c.value_of.new.self c.value_of.result
-    (use_used c.args.func.now c.value_of.new.func c.args.self.now c.value_of.new.self c.args.variable c.args.ty c.args.block c.value_of.result
-    c.law_consistent.ensures c.requires c.value_of.ensures.known c.value_of.ensures.waits c.value_of.ensures.zero) sealed
+returns-clause-parameters c = λ is_local sealed b.
+    let none : record_of c.args.self.now c.args.variable c.args.block ≡ None = search rules in
+    let some : predecessors_of c.args.self.now c.args.block ≢ [] = rw (← c.self.view_is) ((c.if-is_local.ensures.no refl).1) in
+    absurd (some (is_local none sealed))
 
 pub returns-clause-nothing_stray : goal.returns-clause-nothing_stray
-returns-clause-nothing_stray c = λ own before.
-    use_stray own c.args.func.now c.value_of.new.func c.args.self.now c.value_of.new.self c.args.variable c.args.ty c.args.block c.value_of.result
-    c.law_consistent.ensures c.requires before c.value_of.ensures.known c.value_of.ensures.waits c.value_of.ensures.zero
+returns-clause-nothing_stray c = λ own is_local before.
+    let none : record_of c.args.self.now c.args.variable c.args.block ≡ None = search rules in
+    let sealed : is_yes (sealed_of c.args.self.now c.args.block) ≡ true = rw (← c.self.view_is) ((c.if-is_local.ensures.no refl).0) in
+    let some : predecessors_of c.args.self.now c.args.block ≢ [] = rw (← c.self.view_is) ((c.if-is_local.ensures.no refl).1) in
+    absurd (some (is_local none sealed))
+
+pub returns-in-Some-clause-recorded_here : goal.returns-in-Some-clause-recorded_here
+returns-in-Some-clause-recorded_here c = λ is_local.
+    let is : record_of c.args.self.now c.args.variable c.args.block ≡ Some c.in-Some.value = search rules in
+    (c.in-Some.value, is, refl)
+
+pub returns-then-is_local-clause-recorded_here : goal.returns-then-is_local-clause-recorded_here
+returns-then-is_local-clause-recorded_here c = λ is_local.
+    let none : record_of c.args.self.now c.args.variable c.args.block ≡ None = search rules in
+    local_recorded c.args.func.now c.use_locally.new.func c.args.self.now c.use_locally.new.self c.args.variable c.args.ty c.args.block c.use_locally.result
+    c.law_consistent.ensures c.requires.exists none c.use_locally.ensures.waits c.use_locally.ensures.zero
+
+pub returns-clause-recorded_here : goal.returns-clause-recorded_here
+returns-clause-recorded_here c = λ is_local.
+    let none : record_of c.args.self.now c.args.variable c.args.block ≡ None = search rules in
+    let sealed : is_yes (sealed_of c.args.self.now c.args.block) ≡ true = rw (← c.self.view_is) ((c.if-is_local.ensures.no refl).0) in
+    let some : predecessors_of c.args.self.now c.args.block ≢ [] = rw (← c.self.view_is) ((c.if-is_local.ensures.no refl).1) in
+    absurd (some (is_local none sealed))

@@ -11,7 +11,7 @@ returns-clause-ledger c = λ calls agrees.
 pub returns-clause-stands : goal.returns-clause-stands
 returns-clause-stands c = λ signature calls stands.
     let made = c.make_block-made.ensures in
-    created_stands signature calls _ _ _ _ _ _ stands made.function made.records made.sealed made.status (returns-clause-ledger c calls stands.ledger)
+    created_stands signature calls _ _ _ _ _ _ stands made.function made.records made.sealed made.predecessors made.status (returns-clause-ledger c calls stands.ledger)
 
 pub returns-clause-remembers : goal.returns-clause-remembers
 returns-clause-remembers c = λ x b.

@@ -26,7 +26,7 @@ returns-clause-current c =
 pub returns-clause-stands : goal.returns-clause-stands
 returns-clause-stands c = λ signature calls name stands names.
     let done = c.seal_block-sealed.ensures in
-    sealed_stands signature calls _ _ _ _ _ name c.args.block _ stands c.law_consistent.ensures done.function done.records done.sealed done.status
+    sealed_stands signature calls _ _ _ _ _ name c.args.block _ stands c.law_consistent.ensures done.function done.records done.sealed done.predecessors done.status
     (returns-clause-ledger c calls name stands.ledger names)
 
 pub returns-clause-remembers : goal.returns-clause-remembers

@@ -1,0 +1,95 @@
+-- A variable that is used where the value is found in its block alone.
+use Rattle.std.proofs.Common.{◌≡◌, ℕ, zero, suc, ◌+◌, ◌==◌, ◌&&◌, ◌||◌, Bool, true, false, List, [], ◌∷◌, ◌++◌, length, take, refl, ap, arith, sym, ◌∙◌, subst, ◌⊎◌, inl, inr}
+use Rattle.std.specs.Prelude.{Option, Some, Contains, MatchOption, if◌then◌else◌}
+use Rattle.std.specs.Option.{option_to_list}
+use Rattle.std.proofs.lemmas.Grind.{common_steps}
+use Rattle.std.proofs.lemmas.Bool.{cases_eq}
+use Rattle.clif_types.specs.declared.types.«Type».{«Type»}
+use Rattle.clif_ir.specs.Body.{Body}
+use Rattle.clif_ir.specs.Changes.{with_param}
+use Rattle.clif_ir.specs.Reading.{param_home, stands_in}
+use Rattle.clif_ssa.specs.Tables.{pending_of}
+use Rattle.clif_ssa.specs.Limits.{Takes}
+use Rattle.clif_ssa.specs.Ssa.{SsaState, NamesExist, HasMore, Records, SameBlocks, SamePredecessors, SameRecords, Zeroes, zeroed, zeroed_in}
+use Rattle.clif_ssa.proofs.Naming.{named-more, param_more, param-named}
+use Rattle.clif_ssa.proofs.Taking.{Takes-then, Takes-with_param}
+use Rattle.clif_ssa.proofs.Parameters.{param_home_new, param_count}
+use Rattle.clif_ssa.proofs.Copying.{Copied}
+
+-- NAMES -----------------------------------------------------------------------------------------------------------
+
+-- the function has more
+pub named-grows : (f g : Body) (s : SsaState) → HasMore f g → NamesExist f s → NamesExist g s
+named-grows f g s more named = named-more f g s s more (λ b. refl) (λ x b v is. inl is) (λ b p here. inl here) named
+
+-- and what the state names is as before
+pub named-same : (f g : Body) (s t : SsaState) → HasMore f g → SamePredecessors s t → SameRecords s t → SameBlocks s t → NamesExist f s → NamesExist g t
+named-same f g s t more same records blocks named =
+    named-more f g s t more same (λ x b v is. inl (sym (records x b) ∙ is)) (λ b p here. inl (subst (λ entry. Contains (pending_of entry) p) (blocks b) here)) named
+
+-- a new parameter isn't recorded yet
+pub param-named-unrecorded : (f g : Body) (s t : SsaState) (b : ℕ) (ty : «Type») → g ≡ with_param f b ty → SamePredecessors s t → SameRecords s t → SameBlocks s t
+    → NamesExist f s → NamesExist g t
+param-named-unrecorded f g s t b ty is same records blocks named = subst (λ h. NamesExist h t) (sym is) (named-same f (with_param f b ty) s t (param_more f b ty) same records blocks named)
+
+-- a new parameter is recorded, and then the function has more
+pub param-named-then : (f g h : Body) (s t : SsaState) (x b : ℕ) (ty : «Type») → g ≡ with_param f b ty → HasMore g h → Records s t x b (length f.values)
+    → SamePredecessors s t → SameBlocks s t → NamesExist f s → NamesExist h t
+param-named-then f g h s t x b ty is more recorded same blocks named = named-grows g h t more (param-named f g s t x b ty is recorded same blocks named)
+
+-- A ZERO ----------------------------------------------------------------------------------------------------------
+
+pub param-takes-then : (f g h : Body) (b : ℕ) (ty : «Type») → g ≡ with_param f b ty → Takes g h 0 0 → Takes f h 2 1
+param-takes-then f g h b ty is next = Takes-then f g h 2 1 0 0 (subst (λ k. Takes f k 2 1) (sym is) (Takes-with_param f b ty)) next
+
+param_there : (f g : Body) (b v : ℕ) (ty : «Type») → g ≡ with_param f b ty → v ≡ length f.values → param_home g v ≡ Some b
+param_there f g b v ty is number = ap (λ k. param_home k v) is ∙ ap (λ w. param_home (with_param f b ty) w) number ∙ param_home_new f b ty
+
+-- the new parameter is another name of a zero
+pub param-zeroes : (f g h : Body) (s t : SsaState) (x b v : ℕ) (ty : «Type») → g ≡ with_param f b ty → v ≡ length f.values → h ≡ zeroed_in (param_home g v) g v
+    → Records s t x b (length f.values) → SameBlocks s t → Zeroes s t f h x ty b
+param-zeroes f g h s t x b v ty is number done recorded blocks = record {
+  function = done ∙ ap (λ o. zeroed_in o g v) (param_there f g b v ty is number) ∙ ap (λ k. zeroed k b v) is ∙ ap (λ w. zeroed (with_param f b ty) b w) number;
+  recorded = recorded;
+  unchanged = blocks;
+}
+
+pub param-zero-answer : (f g : Body) (b v answer : ℕ) (ty : «Type») → g ≡ with_param f b ty → v ≡ length f.values
+    → MatchOption (param_home g v) (answer ≡ v) (λ _. answer ≡ length g.values) → answer ≡ length f.values + 1
+param-zero-answer f g b v answer ty is number case =
+    let at : answer ≡ length g.values = subst (λ o. MatchOption o (answer ≡ v) (λ _. answer ≡ length g.values)) (param_there f g b v ty is number) case in
+    at ∙ ap (λ (k : Body). length k.values) is ∙ param_count f b ty
+
+pub param-zero-told : (f g : Body) (b v : ℕ) (ty : «Type») (old new : List ℕ) → g ≡ with_param f b ty → v ≡ length f.values
+    → old ≡ [] → new ≡ old ++ option_to_list (param_home g v) → new ≡ b ∷ []
+param-zero-told f g b v ty old new is number nothing told =
+    told ∙ ap (λ xs. xs ++ option_to_list (param_home g v)) nothing ∙ ap (λ o. option_to_list o) (param_there f g b v ty is number)
+
+-- COPIES ----------------------------------------------------------------------------------------------------------
+
+stands-taken : (b k : ℕ) (xs : List ℕ) → stands_in b (take k xs) ≡ true → stands_in b xs ≡ true
+stands-taken b zero [] is = is
+stands-taken b zero (x ∷ xs) is = absurd (let no : false ≡ true = is in cc)
+stands-taken b (suc k) [] is = is
+stands-taken b (suc k) (x ∷ xs) is = by (x == b) is (λ later. stands-taken b k xs later)
+  where
+    by : (test : Bool) → (test || stands_in b (take k xs)) ≡ true → (stands_in b (take k xs) ≡ true → stands_in b xs ≡ true) → (test || stands_in b xs) ≡ true
+    by true at rest = refl
+    by false at rest = rest at
+
+-- a record that isn't as before is of the variable, in one of the blocks
+pub copied-others : (old new : ℕ → ℕ → Option ℕ) (x value k : ℕ) (passed : List ℕ) → Copied old new x value (take k passed)
+    → (y b : ℕ) → (new y b ≡ old y b) ⊎ ((y ≡ x) × (stands_in b passed ≡ true))
+copied-others old new x value k passed copied y b =
+    elim (cases_eq y x) [
+      | inl same ↦ by same (stands_in b (take k passed)) refl
+      | inr apart ↦ inl (copied.cell y b ∙ grind (arith, common_steps, apart))
+    ]
+  where
+    by : y ≡ x → (test : Bool) → stands_in b (take k passed) ≡ test → (new y b ≡ old y b) ⊎ ((y ≡ x) × (stands_in b passed ≡ true))
+    by same true is = inr (same, stands-taken b k passed is)
+    by same false is = inl (copied.cell y b ∙ ap (λ t. if y == x && t then Some value else old y b) is ∙ off (y == x))
+      where
+        off : (test : Bool) → (if test && false then Some value else old y b) ≡ old y b
+        off true = refl
+        off false = refl

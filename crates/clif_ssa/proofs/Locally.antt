@@ -1,0 +1,243 @@
+-- Uses and sealings in any block, with what edges pass: where no branch leads to the block, and where the machine looks
+-- the variable up.
+use Rattle.std.proofs.Common.{◌≡◌, ◌≢◌, ℕ, ◌+◌, ◌<◌, true, false, Bool, List, [], ◌∷◌, length, refl, ap, arith, sym, ◌∙◌, subst, inl, inr}
+use Rattle.std.specs.Prelude.{Option, Some, None, Contains, pos, IfSome}
+use Rattle.clif_types.specs.declared.types.«Type».{«Type»}
+use Rattle.clif_ir.specs.Body.{Body, value_at, resolved}
+use Rattle.clif_ir.specs.Changes.{with_param, with_alias, inserted_in}
+use Rattle.clif_ir.specs.Consistent.{IsConsistent}
+use Rattle.clif_ir.specs.Reading.{param_home}
+use Rattle.clif_ir.specs.declared.inst_list.BlockEnd.TheVariants.{Front}
+use Rattle.clif_ir.specs.declared.instructions.InstructionData.TheVariants.{UnaryImm}
+use Rattle.clif_paths.specs.Blocks.{Blocks, with_parameter, with_zero_in}
+use Rattle.clif_paths.specs.BlockLaws.{BlocksSound}
+use Rattle.clif_paths.proofs.Tables.{aliased_cases}
+use Rattle.clif_ssa.specs.declared.tables.Pending.{Pending}
+use Rattle.clif_ssa.specs.Tables.{is_yes, pending_of}
+use Rattle.clif_ssa.specs.Ssa.{SsaState, record_of, sealed_of, predecessors_of, zeroed, zeroed_in, completed, no_srcloc, SameRecords, SamePredecessors, Seals, Waits, Zeroes}
+use Rattle.clif_ssa.specs.LookUp.{LookUpState, no_look_up, UsesVariable}
+use Rattle.clif_ssa.specs.Running.{CompletesAll}
+use Rattle.clif_ssa.specs.Sound.{Describes, CountsArguments, SameProgram, Keeps, KeepsAndKnows}
+use Rattle.clif_ssa.specs.SoundLaws.{DescribesSoundly, with_entry, with_zeroed, with_seal, arms_into}
+use Rattle.clif_ssa.proofs.Bodies.{Firm, firm_from, param_exists, home-set_other}
+use Rattle.clif_ssa.proofs.Housing.{Housed, housed_from}
+use Rattle.clif_ssa.proofs.Instructions.{inst_firm, inst_resolved, inst_param_home}
+use Rattle.clif_ssa.proofs.Ordering.{contains_first, contains_more, none_contained}
+use Rattle.clif_ssa.proofs.Entering.{inserted}
+use Rattle.clif_ssa.proofs.Zeroing.{put_zero, zero_count, zero_described}
+use Rattle.clif_ssa.proofs.Completing.{inserted_same, inserted_firm, inserted_param_home, entry_same, same_program, same_program_then, zeroed_alone, Zeroed, zeroed_program}
+use Rattle.clif_ssa.proofs.Aliasing.{drop_counted, drop_housed}
+use Rattle.clif_ssa.proofs.Counting.{zero_counted, zero_housed, inserted_counted, inserted_housed}
+use Rattle.clif_ssa.proofs.Describing.{recorded_here}
+use Rattle.clif_ssa.proofs.Parameters.{param_firm, param_resolved, param_home_new, param_count, parameter_sound}
+use Rattle.clif_ssa.proofs.Adding.{add_completing, add_waiting, add_housed, add_counted}
+use Rattle.clif_ssa.proofs.Framing.{completing_apart}
+use Rattle.clif_ssa.proofs.FrameEnds.{own_end}
+use Rattle.clif_ssa.proofs.AllCompleted.{seal_counted, sealing_keeps}
+use Rattle.clif_ssa.proofs.Machine.{uses_keeps}
+use Rattle.clif_ssa.proofs.Sealing.{seal_described}
+
+-- A ZERO ----------------------------------------------------------------------------------------------------------
+
+-- what is kept as a parameter becomes a name of a zero
+pub record ZeroedCounts (f : Body) (s : SsaState) (p : Pending) (blocks : Blocks) (b : ℕ) : Type 0 where
+  pub counts : CountsArguments (zeroed f b p.param) s (with_zeroed f.layout s b p.variable p.param (length f.values) blocks)
+  pub housed : Housed (zeroed f b p.param)
+  pub others : (u : ℕ) → u ≢ p.param → param_home (zeroed f b p.param) u ≡ param_home f u
+
+pub zeroed_counts : (own : ℕ → List ℕ) (f : Body) (s : SsaState) (p : Pending) (ps : List Pending) (blocks : Blocks) (b : ℕ) → Firm f → Housed f
+    → Describes own f s (p ∷ ps) blocks → CountsArguments f s blocks → BlocksSound blocks → param_home f p.param ≡ Some b → ZeroedCounts f s p blocks b
+zeroed_counts own f s p ps blocks b firm housed before counts sound is =
+    let ty : «Type» = (value_at f p.param).ty in
+    let x : ℕ = p.variable in
+    let g : Body = inserted_in f b in
+    let z : ℕ = length g.values in
+    let h : Body = put_zero g b ty in
+    let entered : Blocks = with_entry f.layout s b blocks in
+    let now : Describes own g s (p ∷ ps) entered × BlocksSound entered = inserted own f s (p ∷ ps) blocks b before sound in
+    let g_firm : Firm g = inserted_firm f b firm in
+    let g_home : param_home g p.param ≡ Some b = inserted_param_home f b p.param ∙ is in
+    let there : b < length g.blocks = g_firm.homes_exist p.param b g_home in
+    let inside : p.param < z = param_exists g p.param b g_home in
+    let apart : z ≢ p.param = λ same. absurd (omega (arith, inside, same)) in
+    let h_firm : Firm h = inst_firm g b Front (UnaryImm (pos 0)) (ty ∷ []) no_srcloc g_firm in
+    let h_housed : Housed h = zero_housed g b ty (inserted_housed f b housed) in
+    let h_home : param_home h p.param ≡ Some b = inst_param_home g b Front (UnaryImm (pos 0)) (ty ∷ []) no_srcloc p.param ∙ g_home in
+    let exists : z < length h.values = omega (arith, zero_count g b ty) in
+    let ends : resolved h z ≡ z = inst_resolved g b Front (UnaryImm (pos 0)) (ty ∷ []) no_srcloc g_firm z ∙ own_end g in
+    let put : Describes own h s (p ∷ ps) (with_zero_in entered b x z) = zero_described own g s (p ∷ ps) entered b x ty g_firm now.0 there in
+    let put_counts : CountsArguments h s (with_zero_in entered b x z) =
+    zero_counted own g s (p ∷ ps) entered b x ty now.0 (inserted_counted f s blocks entered b (entry_same f.layout s b blocks).definition counts) in
+    let same : z ≡ length f.values = ap length (inserted_same f b).values in
+    record {
+      counts = subst (λ w. CountsArguments (with_alias h p.param w) s (with_zeroed f.layout s b x p.param w blocks)) same
+          (drop_counted own h s p ps (with_zero_in entered b x z) z b h_firm h_housed put put_counts h_home exists ends apart);
+      housed = subst (λ w. Housed (with_alias h p.param w)) same (drop_housed h p.param z b h_firm h_housed h_home exists ends apart);
+      others = λ u other.
+          home-set_other h.values p.param _ u other ∙ inst_param_home g b Front (UnaryImm (pos 0)) (ty ∷ []) no_srcloc u ∙ inserted_param_home f b u;
+    }
+
+-- SEALING ---------------------------------------------------------------------------------------------------------
+
+-- parameters of a block to which no branch leads are completed
+pub completed_locally : (own : ℕ → List ℕ) (s : SsaState) (b : ℕ) (ps : List Pending) (f : Body) (blocks : Blocks) → Firm f → Housed f → Describes own f s ps blocks
+    → CountsArguments f s blocks → BlocksSound blocks → predecessors_of s b ≡ [] → ((p : Pending) → Contains ps p → param_home f p.param ≡ Some b)
+    → Keeps own blocks (completed f ps) s
+completed_locally own s b [] f blocks firm housed before counts sound alone homes = record { tables = blocks; describes = before; sound = sound; same = same_program blocks; counts = counts }
+completed_locally own s b (p ∷ ps) f blocks firm housed before counts sound alone homes =
+    let is : param_home f p.param ≡ Some b = homes p (contains_first p ps) in
+    let g : Body = zeroed f b p.param in
+    let tables : Blocks = with_zeroed f.layout s b p.variable p.param (length f.values) blocks in
+    let done : Zeroed own f s p ps blocks b = zeroed_alone own f s p ps blocks b firm before sound is alone in
+    let more : ZeroedCounts f s p blocks b = zeroed_counts own f s p ps blocks b firm housed before counts sound is in
+    let others : Keeps own tables (completed g ps) s =
+    completed_locally own s b ps g tables done.firm more.housed done.describes more.counts done.sound alone
+    (λ q here. more.others q.param (completing_apart own f s p ps blocks b before is q here) ∙ homes q (contains_more p ps q here)) in
+    subst (λ h. Keeps own blocks h s) (ap (λ home. completed (zeroed_in home f p.param) ps) (sym is)) (record {
+      tables = others.tables;
+      describes = others.describes;
+      sound = others.sound;
+      same = same_program_then blocks tables others.tables (zeroed_program f.layout s b p.variable p.param (length f.values) blocks) others.same;
+      counts = others.counts;
+    })
+
+-- a block to which no branch leads is sealed
+pub seals_locally : (own : ℕ → List ℕ) (f : Body) (s t : SsaState) (tables : Blocks) (b : ℕ) → IsConsistent f
+    → DescribesSoundly own f s tables → predecessors_of s b ≡ [] → SameRecords s t → Seals s t b → SamePredecessors s t
+    → Keeps own tables (completed f (pending_of (sealed_of s b))) t
+seals_locally own f s t tables b known both alone records seals same =
+    let before : Describes own f s [] tables = both.0 in
+    let sealed : Blocks = with_seal f.layout (is_yes (sealed_of s b)) b (arms_into f s tables b) tables in
+    let now : Describes own f t (pending_of (sealed_of s b)) sealed × BlocksSound sealed × SameProgram tables sealed = seal_described own f s t tables b before both.1 records seals same in
+    let done : Keeps own sealed (completed f (pending_of (sealed_of s b))) t =
+    completed_locally own t b (pending_of (sealed_of s b)) f sealed (firm_from f known) (housed_from f known) now.0
+    (seal_counted f s t f.layout (is_yes (sealed_of s b)) b (arms_into f s tables b) tables both.2 same) now.1 (same b ∙ alone)
+    (λ p here. (before.waiting b p here).parameter) in
+    record { tables = done.tables; describes = done.describes; sound = done.sound; same = same_program_then tables sealed done.tables now.2 done.same; counts = done.counts }
+
+-- USES ------------------------------------------------------------------------------------------------------------
+
+-- in an unsealed block the new parameter is recorded and waits
+pub waits_locally : (own : ℕ → List ℕ) (f g : Body) (s t : SsaState) (tables : Blocks) (x : ℕ) (ty : «Type») (b : ℕ) → Firm f → Describes own f s [] tables
+    → CountsArguments f s tables → BlocksSound tables → b < length f.blocks → record_of s x b ≡ None → is_yes (sealed_of s b) ≡ false → Waits s t f g x ty b → SamePredecessors s t
+    → KeepsAndKnows own tables g t b x (length f.values)
+waits_locally own f g s t tables x ty b firm before counts sound there none unsealed waits same =
+    let n : ℕ = length f.values in
+    let after : Blocks = with_parameter tables b x n in
+    let described : Describes own (with_param f b ty) t [] after = add_waiting own f s t [] tables x b ty firm before there unsealed waits.recorded waits.waiting same in
+    subst (λ h. KeepsAndKnows own tables h t b x n) (sym waits.function) (record {
+      kept = record {
+        tables = after;
+        describes = described;
+        sound = parameter_sound own f s tables x b firm before none sound;
+        same = record { count = λ k. refl; assigned = λ p y. refl; naming = λ m. refl; answer = λ m. refl };
+        counts = add_counted own f s t [] tables x b ty firm counts there same;
+      };
+      known = record { value = n; is_recorded = described.recorded b x ∙ waits.recorded x b ∙ recorded_here x b n (record_of s x b); resolves = refl };
+    })
+
+-- in a sealed block to which no branch leads it is another name of a zero, which is the answer
+pub zeroes_locally : (own : ℕ → List ℕ) (f g : Body) (s t : SsaState) (tables : Blocks) (x : ℕ) (ty : «Type») (b : ℕ) → Firm f → Housed f → Describes own f s [] tables
+    → CountsArguments f s tables → BlocksSound tables → predecessors_of s b ≡ [] → b < length f.blocks → record_of s x b ≡ None → is_yes (sealed_of s b) ≡ true
+    → Zeroes s t f g x ty b → SamePredecessors s t → KeepsAndKnows own tables g t b x (length f.values + 1)
+zeroes_locally own f g s t tables x ty b firm housed before counts sound alone there none is_sealed zeroes same =
+    let n : ℕ = length f.values in
+    let h : Body = with_param f b ty in
+    let p : Pending = record { variable = x; param = n } in
+    let with_it : Blocks = with_parameter tables b x n in
+    let h_firm : Firm h = param_firm f b ty firm there in
+    let described : Describes own h t (p ∷ []) with_it =
+    add_completing own f s t [] tables x b ty firm before there is_sealed (λ q here is. none_contained q here) zeroes.recorded zeroes.unchanged same in
+    let with_sound : BlocksSound with_it = parameter_sound own f s tables x b firm before none sound in
+    let done : Zeroed own h t p [] with_it b = zeroed_alone own h t p [] with_it b h_firm described with_sound (param_home_new f b ty) (same b ∙ alone) in
+    let more : ZeroedCounts h t p with_it b =
+    zeroed_counts own h t p [] with_it b h_firm (add_housed f b ty firm housed there) described (add_counted own f s t [] tables x b ty firm counts there same) with_sound (param_home_new f b ty) in
+    let z : ℕ = length h.values in
+    let after : Blocks = with_zeroed h.layout t b x n z with_it in
+    let count : z ≡ n + 1 = param_count f b ty in
+    let ends_before : ℕ → ℕ = (with_entry h.layout t b with_it).function.resolve in
+    let own_end_of : (v : ℕ) → resolved h v ≡ v → ends_before v ≡ v = λ v is. (entry_same h.layout t b with_it).resolve v ∙ described.resolves v ∙ is in
+    let own_n : ends_before n ≡ n = own_end_of n (param_resolved f b ty firm n ∙ own_end f) in
+    let own_z : ends_before z ≡ z = own_end_of z (own_end h) in
+    let first : after.function.resolve n ≡ z = elim (aliased_cases ends_before n z n) [ inl moved ↦ moved.1 | inr stayed ↦ absurd (stayed.0 own_n) ] in
+    let second : after.function.resolve z ≡ z =
+    elim (aliased_cases ends_before n z z) [ inl moved ↦ absurd (omega (arith, moved.0, own_z, count)) | inr stayed ↦ stayed.1 ∙ own_z ] in
+    subst (λ k. KeepsAndKnows own tables k t b x (n + 1)) (sym zeroes.function) (record {
+      kept = record {
+        tables = after;
+        describes = done.describes;
+        sound = done.sound;
+        same = same_program_then tables with_it after (record { count = λ k. refl; assigned = λ q y. refl; naming = λ m. refl; answer = λ m. refl }) (zeroed_program h.layout t b x n z with_it);
+        counts = more.counts;
+      };
+      known = record {
+        value = n;
+        is_recorded = done.describes.recorded b x ∙ zeroes.recorded x b ∙ recorded_here x b n (record_of s x b);
+        resolves = first ∙ sym second ∙ ap (λ w. after.function.resolve w) count;
+      };
+    })
+
+-- A use that succeeds, whatever its case: the tables stay sound, and know its answer in the block.
+pub use_sound : (own : ℕ → List ℕ) (f g : Body) (s t : SsaState) (tables : Blocks) (x : ℕ) (ty : «Type») (b value : ℕ) (look_up : LookUpState) → IsConsistent f
+    → DescribesSoundly own f s tables → b < length f.blocks → SamePredecessors s t
+    → IfSome (record_of s x b) (λ v. ((g ≡ f) × (t ≡ s)) × (value ≡ v))
+    → (record_of s x b ≡ None → is_yes (sealed_of s b) ≡ false → Waits s t f g x ty b × (value ≡ length f.values))
+    → (record_of s x b ≡ None → is_yes (sealed_of s b) ≡ true → predecessors_of s b ≡ [] → Zeroes s t f g x ty b × (value ≡ length f.values + 1))
+    → (record_of s x b ≡ None → is_yes (sealed_of s b) ≡ true → predecessors_of s b ≢ []
+    → UsesVariable x ty b (record { function = f; state = s; look_up = no_look_up }) value (record { function = g; state = t; look_up = look_up }))
+    → KeepsAndKnows own tables g t b x value
+use_sound own f g s t tables x ty b value look_up known both there same found waits zeroes looks = by (record_of s x b) refl found
+  where
+    before : Describes own f s [] tables
+    before = both.0
+
+    firm : Firm f
+    firm = firm_from f known
+
+    by_branches : record_of s x b ≡ None → is_yes (sealed_of s b) ≡ true → (branches : List ℕ) → predecessors_of s b ≡ branches → KeepsAndKnows own tables g t b x value
+    by_branches none is_sealed [] alone =
+        let case : Zeroes s t f g x ty b × (value ≡ length f.values + 1) = zeroes none is_sealed alone in
+        subst (λ v. KeepsAndKnows own tables g t b x v) (sym case.1) (zeroes_locally own f g s t tables x ty b firm (housed_from f known) before both.2 both.1 alone there none is_sealed case.0 same)
+    by_branches none is_sealed (i ∷ branches) some =
+        let leads : predecessors_of s b ≢ [] = λ empty. some_none (sym some ∙ empty) in
+        uses_keeps own tables x ty b (record { function = f; state = s; look_up = no_look_up }) (record { function = g; state = t; look_up = look_up }) value refl known both there
+        (looks none is_sealed leads)
+      where
+        some_none : ◌≡◌ {A = List ℕ} (i ∷ branches) [] → ⊥
+        some_none same = cc
+
+    by_sealed : record_of s x b ≡ None → (sealed : Bool) → is_yes (sealed_of s b) ≡ sealed → KeepsAndKnows own tables g t b x value
+    by_sealed none true is_sealed = by_branches none is_sealed (predecessors_of s b) refl
+    by_sealed none false unsealed =
+        let case : Waits s t f g x ty b × (value ≡ length f.values) = waits none unsealed in
+        subst (λ v. KeepsAndKnows own tables g t b x v) (sym case.1) (waits_locally own f g s t tables x ty b firm before both.2 both.1 there none unsealed case.0 same)
+
+    by : (entry : Option ℕ) → record_of s x b ≡ entry → IfSome entry (λ v. ((g ≡ f) × (t ≡ s)) × (value ≡ v)) → KeepsAndKnows own tables g t b x value
+    by None is case = by_sealed is (is_yes (sealed_of s b)) refl
+    by (Some v) is case =
+        subst (λ w. KeepsAndKnows own tables g t b x w) (sym case.1)
+        (subst (λ h. KeepsAndKnows own tables h t b x v) (sym case.0.0) (subst (λ r. KeepsAndKnows own tables f r b x v) (sym case.0.1) (record {
+          kept = record { tables = tables; describes = before; sound = both.1; same = same_program tables; counts = both.2 };
+          known = record { value = v; is_recorded = before.recorded b x ∙ is; resolves = refl };
+        })))
+
+-- A sealing that succeeds, whatever its case: the tables stay sound.
+pub seal_sound : (own : ℕ → List ℕ) (f g : Body) (s t : SsaState) (tables : Blocks) (b : ℕ) (look_up : LookUpState) → IsConsistent f
+    → DescribesSoundly own f s tables → SamePredecessors s t
+    → (predecessors_of s b ≡ [] → SameRecords s t × Seals s t b × (g ≡ completed f (pending_of (sealed_of s b))))
+    → (predecessors_of s b ≢ [] → (r : SsaState) × SameRecords s r × Seals s r b × SamePredecessors s r
+    × CompletesAll b (pending_of (sealed_of s b)) (record { function = f; state = r; look_up = no_look_up }) (record { function = g; state = t; look_up = look_up }))
+    → Keeps own tables g t
+seal_sound own f g s t tables b look_up known both same locally looks = by (predecessors_of s b) refl
+  where
+    by : (branches : List ℕ) → predecessors_of s b ≡ branches → Keeps own tables g t
+    by [] alone =
+        let case : SameRecords s t × Seals s t b × (g ≡ completed f (pending_of (sealed_of s b))) = locally alone in
+        subst (λ h. Keeps own tables h t) (sym case.2) (seals_locally own f s t tables b known both alone case.0 case.1 same)
+    by (i ∷ branches) some =
+        let leads : predecessors_of s b ≢ [] = λ empty. some_none (sym some ∙ empty) in
+        let (r, records, seals, leads_same, all) = looks leads in
+        sealing_keeps own f s r tables b no_look_up (record { function = g; state = t; look_up = look_up }) known both records seals leads_same refl refl all
+      where
+        some_none : ◌≡◌ {A = List ℕ} (i ∷ branches) [] → ⊥
+        some_none same = cc

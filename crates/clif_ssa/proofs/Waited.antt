@@ -1,0 +1,148 @@
+-- Parameters that waited in a block are completed, and the block is sealed.
+use Rattle.std.proofs.Common.{◌≡◌, ◌≢◌, ℕ, suc, ◌<◌, ◌+◌, ◌==◌, Bool, true, false, List, [], ◌∷◌, ◌++◌, length, drop, get_or, refl, ap, arith, sym, ◌∙◌, subst, inl, inr, append-nil}
+use Rattle.std.specs.Prelude.{Contains, Result, Ok, Err, OnOk, IfOk, if◌then◌else◌}
+use Rattle.std.proofs.lemmas.Grind.{common_steps}
+use Rattle.std.proofs.Math.Seq.{drop-cons}
+use Rattle.std.proofs.lemmas.Bool.{cases_eq}
+use Rattle.clif_types.specs.declared.types.«Type».{«Type»}
+use Rattle.clif_types.specs.declared.error.BuildError.{BuildError}
+use Rattle.clif_ir.specs.Body.{Body, value_at}
+use Rattle.clif_ssa.specs.declared.look_up.Call.{Call}
+use Rattle.clif_ssa.specs.declared.look_up.Call.TheVariants.{UseVar, FinishPredecessorsLookup}
+use Rattle.clif_ssa.specs.declared.side_effects.SideEffects.{SideEffects}
+use Rattle.clif_ssa.specs.declared.tables.Pending.{Pending}
+use Rattle.clif_ssa.specs.declared.tables.SsaBlock.{SsaBlock}
+use Rattle.clif_ssa.specs.declared.tables.Sealed.{Sealed}
+use Rattle.clif_ssa.specs.declared.tables.Sealed.TheVariants.{Yes}
+use Rattle.clif_ssa.specs.Tables.{is_yes, pending_of, sealed_at, predecessors_at}
+use Rattle.clif_ssa.specs.Ssa.{SsaState, sealed_of, predecessors_of, completed, completing_blocks, NamesExist, Named, Seals, SealedStays, SamePredecessors, SameRecords, CountsLookup}
+use Rattle.clif_ssa.specs.LookUp.{LookUpState, Stage, calls_for, CompletesParameter}
+use Rattle.clif_ssa.specs.Running.{stage, Balances, CallExists, CallsFit, CompletesAll, MakesAll}
+use Rattle.clif_ssa.specs.Sealing.{SealsOne, SealsLocally}
+use Rattle.clif_ssa.proofs.Ordering.{contains_more, contains_first, contains_cons, none_contained}
+use Rattle.clif_ssa.proofs.Calling.{balances-same, begun-balance}
+use Rattle.clif_ssa.proofs.Naming.{named-more}
+
+-- A LOOK-UP BEGINS ------------------------------------------------------------------------------------------------
+
+abbrev state_with : List Call → List ℕ → List ℕ → LookUpState
+state_with calls results zeros = record { calls = calls; results = results; zeros = zeros }
+
+calls_exist : (f : Body) (branches : List ℕ) (param block : ℕ) → ((i : ℕ) → Contains branches i → i < length f.insts) → param < length f.values
+    → (call : Call) → Contains (calls_for branches param block) call → CallExists f call
+calls_exist f [] param block lead there call here =
+    elim (contains_cons (FinishPredecessorsLookup param block) [] call here) [
+      | inl is ↦ subst (λ k. CallExists f k) is there
+      | inr later ↦ absurd (none_contained call later)
+    ]
+calls_exist f (i ∷ branches) param block lead there call here =
+    elim (contains_cons (UseVar i) (calls_for branches param block) call here) [
+      | inl is ↦ subst (λ k. CallExists f k) is (lead i (contains_first i branches))
+      | inr later ↦ calls_exist f branches param block (λ j at. lead j (contains_more i branches j at)) there call later
+    ]
+
+begun_state : (xs : List Call) (l k : LookUpState) → l.calls ≡ [] → l.results ≡ [] → k ≡ state_with (xs ++ l.calls) l.results l.zeros → k ≡ state_with xs [] l.zeros
+begun_state xs l k calls results is =
+    is ∙ ap (λ cs. state_with (xs ++ cs) l.results l.zeros) calls ∙ ap (λ rs. state_with (xs ++ []) rs l.zeros) results ∙ ap (λ cs. state_with cs [] l.zeros) (append-nil xs)
+
+-- what was begun can be run to its end
+pub begun-fits : (f : Body) (s t : SsaState) (l k : LookUpState) (param block : ℕ) → NamesExist f s → SamePredecessors s t → param < length f.values
+    → l.calls ≡ [] → l.results ≡ [] → k ≡ record l { calls = calls_for (predecessors_of s block) param block ++ l.calls } → CallsFit f t k
+begun-fits f s t l k param block named same there calls results is =
+    let xs : List Call = calls_for (predecessors_of s block) param block in
+    subst (λ j. CallsFit f t j) (sym (begun_state xs l k calls results is)) (record {
+      calls = calls_exist f (predecessors_of s block) param block (λ i at. named.leading block i at) there;
+      results = λ i inside. absurd (omega (arith, inside));
+      balances = balances-same s t xs 0 same (begun-balance_alone s param block);
+    })
+  where
+    begun-balance_alone : (r : SsaState) (v b : ℕ) → Balances r (calls_for (predecessors_of r b) v b) 0
+    begun-balance_alone r v b =
+        subst (λ ys. Balances r ys 0) (append-nil (calls_for (predecessors_of r b) v b)) (begun-balance r v b [] 0 refl)
+
+-- COMPLETION ------------------------------------------------------------------------------------------------------
+
+stage_is : (n : Stage) (f : Body) (s : SsaState) (l : LookUpState) → n.function ≡ f → n.state ≡ s → n.look_up ≡ l → n ≡ stage f s l
+stage_is n f s l function state look_up =
+    ap (λ g. stage g n.state n.look_up) function ∙ ap (λ r. stage f r n.look_up) state ∙ ap (λ k. stage f s k) look_up
+
+pub parameter-completed : (x : ℕ) (ty : «Type») (param block value : ℕ) (f : Body) (s t : SsaState) (l k : LookUpState) (n : Stage) → SameRecords s t → t.blocks ≡ s.blocks
+    → CountsLookup s t x block → k ≡ record l { calls = calls_for (predecessors_of s block) param block ++ l.calls } → MakesAll x ty (stage f t k) value n
+    → CompletesParameter x ty param block (stage f s l) n
+parameter-completed x ty param block value f s t l k n records blocks counted begun all = record {
+  begun = stage f t k;
+  done = all.last;
+  value = value;
+  same_function = refl;
+  same_records = records;
+  same_blocks = λ b. ap (λ (bs : List SsaBlock). sealed_at bs b) blocks;
+  same_predecessors = λ b. ap (λ (bs : List SsaBlock). predecessors_at bs b) blocks;
+  begins = record { counted = counted; look_up = begun };
+  made = all.made;
+  answered = ap (λ (j : LookUpState). j.results) all.ended;
+  ended = ap (λ (j : LookUpState). j.calls) all.ended;
+  next = stage_is n all.last.function all.last.state (state_with all.last.look_up.calls [] all.last.look_up.zeros) all.function all.state
+      (all.look_up ∙ ap (λ cs. state_with cs [] all.last.look_up.zeros) (sym (ap (λ (j : LookUpState). j.calls) all.ended)));
+}
+
+pub drop-item : (waiting : List Pending) (i : ℕ) (p : Pending) → i < length waiting → p ≡ get_or waiting i p → drop i waiting ≡ p ∷ drop (i + 1) waiting
+drop-item waiting i p inside at =
+    let next : suc i ≡ i + 1 = omega arith in
+    drop-cons waiting i p inside ∙ ap (λ q. q ∷ drop (suc i) waiting) (sym at) ∙ ap (λ k. p ∷ drop k waiting) next
+
+-- one more of the parameters is completed
+pub all-further : (block i : ℕ) (waiting : List Pending) (p : Pending) (m k n : Stage) → drop i waiting ≡ p ∷ drop (i + 1) waiting
+    → CompletesParameter p.variable (value_at m.function p.param).ty p.param block m k → CompletesAll block (drop (i + 1) waiting) k n
+    → CompletesAll block (drop i waiting) m n
+all-further block i waiting p m k n is first rest = subst (λ ps. CompletesAll block ps m n) (sym is) (k, first, rest)
+
+-- SEALING ---------------------------------------------------------------------------------------------------------
+
+pub sealed-named : (f : Body) (s t : SsaState) (b : ℕ) → Seals s t b → SameRecords s t → SamePredecessors s t → NamesExist f s → NamesExist f t
+sealed-named f s t b seals records same named =
+    named-more f f s t (record { values = omega arith; insts = omega arith; blocks = refl }) same (λ y c v at. inl (sym (records y c) ∙ at))
+    (λ c p here. inl (by c p (c == b) (subst (λ entry. Contains (pending_of entry) p) (seals c) here))) named
+  where
+    by : (c : ℕ) (p : Pending) (test : Bool) → Contains (pending_of (if test then Yes else sealed_of s c)) p → Contains (pending_of (sealed_of s c)) p
+    by c p true here = absurd (none_contained p here)
+    by c p false here = here
+
+if-yes : (test : Bool) (x : Sealed) → is_yes (if test then Yes else x) ≡ (if test then true else is_yes x)
+if-yes true x = refl
+if-yes false x = refl
+
+pub seals-one : (s t u : SsaState) (b : ℕ) → Seals s t b → SealedStays t u → SealsOne s u b
+seals-one s t u b seals stays c = stays c ∙ ap is_yes (seals c) ∙ if-yes (c == b) (sealed_of s c)
+
+-- a branch leads to the block, so what the state names exists
+pub leading-named : (f : Body) (s : SsaState) (b : ℕ) → Named f s → predecessors_of s b ≢ [] → NamesExist f s
+leading-named f s b named some = by (predecessors_of s b) refl
+  where
+    by : (branches : List ℕ) → predecessors_of s b ≡ branches → NamesExist f s
+    by [] none = absurd (some none)
+    by (i ∷ branches) is = named (b, i, subst (λ xs. Contains xs i) (sym is) (contains_first i branches))
+
+pub named-kept : (f g : Body) (s t : SsaState) → SamePredecessors s t → (NamesExist f s → NamesExist g t) → Named f s → Named g t
+named-kept f g s t same keeps named (b, i, here) = keeps (named (b, i, subst (λ xs. Contains xs i) (same b) here))
+
+-- the blocks below the next one are sealed
+pub sealed-below : (s t : SsaState) (k : ℕ) → ((b : ℕ) → b < k → is_yes (sealed_of s b) ≡ true) → SealsOne s t k → (b : ℕ) → b < k + 1 → is_yes (sealed_of t b) ≡ true
+sealed-below s t k below seals b inside =
+    elim (cases_eq b k) [
+      | inl here ↦ seals b ∙ grind (arith, common_steps, here)
+      | inr apart ↦ seals b ∙ (let old : is_yes (sealed_of s b) ≡ true = below b (omega (arith, inside, apart)) in grind (arith, common_steps, apart, old))
+    ]
+
+pub on_any : {T E A : Type 0} (answer : Result T E) → A → OnOk answer A
+on_any (Ok v) holds = holds
+on_any (Err e) holds = tt
+
+pub sealed-locally : (f g : Body) (s t u : SsaState) (b : ℕ) (waiting : List Pending) (answer : Result SideEffects BuildError) → Seals s t b → SameRecords s t → SameRecords t u
+    → u.blocks ≡ t.blocks → waiting ≡ pending_of (sealed_of s b) → OnOk answer (g ≡ completed f waiting)
+    → IfOk answer (λ r. r.instructions_added_to_blocks.items ≡ completing_blocks f waiting) → SealsLocally f s g u b answer
+sealed-locally f g s t u b waiting answer seals first next blocks same function told = record {
+  sealed = on_any answer (λ c. ap (λ (bs : List SsaBlock). sealed_at bs c) blocks ∙ seals c);
+  records = λ x c. next x c ∙ first x c;
+  function = subst (λ ps. OnOk answer (g ≡ completed f ps)) same function;
+  told = subst (λ ps. IfOk answer (λ r. r.instructions_added_to_blocks.items ≡ completing_blocks f ps)) same told;
+}

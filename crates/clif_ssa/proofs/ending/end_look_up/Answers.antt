@@ -1,0 +1,24 @@
+use Rattle.std.proofs.Common.{◌∙◌, ap, sym, length, arith}
+use Rattle.clif_ir.specs.Body.{Body}
+use Rattle.clif_ssa.proofs.Bodies.{param_exists}
+use Rattle.clif_ssa.proofs.Zeroing.{alias_count_same}
+use Rattle.clif_ssa.proofs.ending.end_look_up.Goals as goal
+
+pub change_param_to_alias-requires-clause-original_exists :
+    goal.change_param_to_alias-requires-clause-original_exists
+change_param_to_alias-requires-clause-original_exists c = c.in-One.ensures.exists.0
+
+pub change_param_to_alias-requires-clause-apart : goal.change_param_to_alias-requires-clause-apart
+change_param_to_alias-requires-clause-apart c = λ same. c.in-One.ensures.exact.other (sym c.in-One.ensures.exists.1 ∙ same)
+
+pub returns-in_ok-change_param_to_alias-in-One-clause-exists :
+    goal.returns-in_ok-change_param_to_alias-in-One-clause-exists
+returns-in_ok-change_param_to_alias-in-One-clause-exists c =
+    let done = c.in_ok-change_param_to_alias-in-One.ensures.ok in
+    let count = ap (λ (g : Body). length g.values) done ∙ alias_count_same c.args.func.now c.args.param c.in-One.value in
+    omega (arith, count, c.in-One.ensures.exists.0)
+
+pub returns-in_ok-pass_arguments-in-Several-clause-exists :
+    goal.returns-in_ok-pass_arguments-in-Several-clause-exists
+returns-in_ok-pass_arguments-in-Several-clause-exists c =
+    omega (arith, param_exists c.args.func.now c.args.param c.args.home c.requires.is_parameter, c.pass_arguments.ensures.more.values)

@@ -1,0 +1,31 @@
+use Rattle.std.proofs.Common.{rules, ◌<◌, ◌≤◌, ◌∙◌, sym, length, arith}
+use Rattle.std.specs.Prelude.{Contains}
+use Rattle.clif_ssa.specs.Running.{stage}
+use Rattle.clif_ssa.proofs.Naming.{more-then}
+use Rattle.clif_ssa.proofs.Waited.{drop-item, all-further}
+use Rattle.clif_ssa.proofs.ssa.SSABuilder.complete_all.Goals as goal
+
+pub complete_parameter-requires-clause-param_exists : goal.complete_parameter-requires-clause-param_exists
+complete_parameter-requires-clause-param_exists c =
+    let inside : c.loop-pending.pending-index < length c.args.waiting.now = search rules in
+    let here : Contains c.args.waiting.now c.pending-item.result = (c.loop-pending.pending-index, inside, sym c.pending-item.is) in
+    let was : c.pending-item.result.param < length c.args.func.now.values = c.requires.params_exist c.pending-item.result here in
+    let more : length c.args.func.now.values ≤ length c.loop-pending.func.values = c.loop-pending.invariant.more.values in
+    omega (arith, was, more)
+
+pub loop-pending-preserved : goal.loop-pending-preserved
+loop-pending-preserved c =
+    let inside : c.loop-pending.pending-index < length c.args.waiting.now = search rules in
+    record {
+      completes = λ n rest.
+          c.loop-pending.invariant.completes n
+          (all-further c.args.block c.loop-pending.pending-index c.args.waiting.now c.pending-item.result
+          (stage c.loop-pending.func c.loop-pending.self c.loop-pending.look_up) (stage c.complete_parameter.new.func c.complete_parameter.new.self c.complete_parameter.new.look_up) n
+          (drop-item c.args.waiting.now c.loop-pending.pending-index c.pending-item.result inside c.pending-item.is) c.in_ok-complete_parameter.ensures.completes rest);
+      idle = c.in_ok-complete_parameter.ensures.idle;
+      named = c.complete_parameter.ensures.names;
+      same = λ b. c.complete_parameter.ensures.predecessors b ∙ c.loop-pending.invariant.same b;
+      stay = λ x b v is. c.complete_parameter.ensures.stay x b v (c.loop-pending.invariant.stay x b v is);
+      flags = λ b. c.complete_parameter.ensures.flags b ∙ c.loop-pending.invariant.flags b;
+      more = more-then c.args.func.now c.loop-pending.func c.complete_parameter.new.func c.loop-pending.invariant.more c.complete_parameter.ensures.more;
+    }

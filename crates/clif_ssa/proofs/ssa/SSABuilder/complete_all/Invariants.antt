@@ -1,0 +1,17 @@
+use Rattle.std.proofs.Common.{◌≡◌, [], drop}
+use Rattle.clif_ssa.specs.Ssa.{SamePredecessors, RecordsStay, SealedStays, HasMore, NamesExist}
+use Rattle.clif_ssa.specs.LookUp.{Stage}
+use Rattle.clif_ssa.specs.Running.{stage, CompletesAll}
+use Rattle.clif_ssa.proofs.ssa.SSABuilder.complete_all.Given as goal
+
+abbrev pub invariant-loop-pending : goal.invariant-loop-pending
+invariant-loop-pending l = record {
+  completes : (n : Stage) → CompletesAll l.block (drop l.pending-index l.waiting) (stage l.func l.self l.look_up) n
+      → CompletesAll l.block l.waiting (stage l.initial.func l.initial.self l.initial.look_up) n;
+  idle : (l.look_up.calls ≡ []) × (l.look_up.results ≡ []);
+  named : NamesExist l.func l.self;
+  same : SamePredecessors l.initial.self l.self;
+  stay : RecordsStay l.initial.self l.self;
+  flags : SealedStays l.initial.self l.self;
+  more : HasMore l.initial.func l.func;
+}

@@ -1,0 +1,15 @@
+use Rattle.std.proofs.Common.{◌≡◌, ◌++◌, drop}
+use Rattle.clif_ssa.specs.Limits.{Takes}
+use Rattle.clif_ssa.specs.Ssa.{completed, completing_blocks, HasMore, SameRecords}
+use Rattle.clif_ssa.proofs.ssa.SSABuilder.complete_locally.Given as goal
+
+abbrev pub invariant-loop-pending : goal.invariant-loop-pending
+invariant-loop-pending l = record {
+  function : completed l.func (drop l.pending-index l.waiting) ≡ completed l.initial.func l.waiting;
+  told : l.side_effects.instructions_added_to_blocks.items ++ completing_blocks l.func (drop l.pending-index l.waiting)
+      ≡ l.initial.side_effects.instructions_added_to_blocks.items ++ completing_blocks l.initial.func l.waiting;
+  records : SameRecords l.initial.self-inside.tables l.self-inside.tables;
+  blocks : l.self-inside.tables.blocks ≡ l.initial.self-inside.tables.blocks;
+  more : HasMore l.initial.func l.func;
+  takes : Takes l.initial.func l.func 0 0;
+}

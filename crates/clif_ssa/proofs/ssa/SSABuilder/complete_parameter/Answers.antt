@@ -1,0 +1,24 @@
+use Rattle.std.proofs.Common.{ap}
+use Rattle.clif_ssa.specs.Tables.{sealed_at, predecessors_at}
+use Rattle.clif_ssa.proofs.Naming.{has_more}
+use Rattle.clif_ssa.proofs.Local.{named-same}
+use Rattle.clif_ssa.proofs.Waited.{begun-fits}
+use Rattle.clif_ssa.proofs.ssa.SSABuilder.complete_parameter.Goals as goal
+
+pub returns-in_err-begin_look_up-clause-names : goal.returns-in_err-begin_look_up-clause-names
+returns-in_err-begin_look_up-clause-names c =
+    named-same c.args.func.now c.args.func.now c.self.inside.tables c.begin_look_up.new.self (has_more c.args.func.now)
+    (λ b. ap (λ blocks. predecessors_at blocks b) c.begin_look_up.ensures.blocks) c.begin_look_up.ensures.records (λ b. ap (λ blocks. sealed_at blocks b) c.begin_look_up.ensures.blocks)
+    (rw (c.self.view_is) c.requires.named)
+
+pub make_calls-requires-clause-named : goal.make_calls-requires-clause-named
+make_calls-requires-clause-named c =
+    named-same c.args.func.now c.args.func.now c.self.inside.tables c.begin_look_up.new.self (has_more c.args.func.now)
+    (λ b. ap (λ blocks. predecessors_at blocks b) c.begin_look_up.ensures.blocks) c.begin_look_up.ensures.records (λ b. ap (λ blocks. sealed_at blocks b) c.begin_look_up.ensures.blocks)
+    (rw (c.self.view_is) c.requires.named)
+
+pub make_calls-requires-clause-calls_fit : goal.make_calls-requires-clause-calls_fit
+make_calls-requires-clause-calls_fit c =
+    begun-fits c.args.func.now c.self.inside.tables c.begin_look_up.new.self c.args.look_up.now c.begin_look_up.new.look_up c.args.waiting.param c.args.block
+    (rw (c.self.view_is) c.requires.named) (λ b. ap (λ blocks. predecessors_at blocks b) c.begin_look_up.ensures.blocks) c.requires.param_exists
+    c.requires.idle.0 c.requires.idle.1 c.in_ok-begin_look_up.ensures.look_up

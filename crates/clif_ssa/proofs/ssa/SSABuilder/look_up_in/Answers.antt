@@ -1,0 +1,34 @@
+use Rattle.clif_ssa.specs.LookUp.{WalksTo}
+use Rattle.clif_ssa.specs.Running.{stage, Got}
+use Rattle.clif_ssa.proofs.Using.{on_ok}
+use Rattle.clif_ssa.proofs.Making.{got-exists, looks_up, looked-stay, looked-named}
+use Rattle.clif_ssa.proofs.ssa.SSABuilder.look_up_in.Goals as goal
+
+-- what is had before the copies
+got : (c : goal.After-copy_record) → Got c.args.variable c.args.ty c.in_ok-reached.reached c.in_ok-value.value
+    (stage c.args.func.now c.args.self.now c.args.look_up.now) (stage c.record_or_parameter.new.func c.record_or_parameter.new.self c.record_or_parameter.new.look_up)
+got c = rw (← c.self.view_is) c.in_ok-value.ensures.got
+
+walked : (c : goal.After-copy_record) → WalksTo c.args.func.now c.args.self.now c.args.variable c.args.block c.walk.new.passed c.in_ok-reached.reached
+walked c = rw (← c.self.view_is) c.in_ok-reached.ensures.ok
+
+pub returns-clause-looks : goal.returns-clause-looks
+returns-clause-looks c =
+    on_ok c.copy_record.result _ _
+    (λ copies.
+    looks_up c.args.variable c.args.ty c.args.block c.walk.new.passed c.in_ok-reached.reached c.in_ok-value.value
+    (stage c.args.func.now c.args.self.now c.args.look_up.now) (stage c.record_or_parameter.new.func c.record_or_parameter.new.self c.record_or_parameter.new.look_up) c.copy_record.new.self
+    (walked c) c.in_ok-reached.ensures.exists (got c) copies c.copy_record.ensures.blocks c.copy_record.ensures.lookups)
+    c.copy_record.ensures.ok
+
+pub returns-clause-stay : goal.returns-clause-stay
+returns-clause-stay c =
+    looked-stay c.args.func.now c.args.self.now c.record_or_parameter.new.self c.copy_record.new.self c.args.variable c.args.block c.in_ok-reached.reached c.walk.new.passed
+    (walked c).walk (rw (← c.self.view_is) c.record_or_parameter.ensures.stay) c.copy_record.ensures.others
+
+pub returns-clause-names : goal.returns-clause-names
+returns-clause-names c =
+    looked-named c.record_or_parameter.new.func c.record_or_parameter.new.self c.copy_record.new.self c.in_ok-value.value
+    (got-exists c.args.variable c.args.ty c.in_ok-reached.reached c.in_ok-value.value _ _ (got c) c.requires.named)
+    c.copy_record.ensures.blocks c.copy_record.ensures.recorded
+    (c.record_or_parameter.ensures.names (rw (c.self.view_is) c.requires.named))

@@ -1,0 +1,44 @@
+use Rattle.std.proofs.Common.{◌∙◌, sym, subst, refl}
+use Rattle.clif_ssa.specs.LookUp.{MakesCall}
+use Rattle.clif_ssa.specs.LookUp.MakesCalls.{none_made, made}
+use Rattle.clif_ssa.specs.Running.{stage, CallsFit}
+use Rattle.clif_ssa.proofs.Naming.{has_more, more-then}
+use Rattle.clif_ssa.proofs.Calling.{call-less, popped_is}
+use Rattle.clif_ssa.proofs.ssa.SSABuilder.make_calls.Goals as goal
+
+pub make_call-requires-clause-calls_fit : goal.make_call-requires-clause-calls_fit
+make_call-requires-clause-calls_fit c =
+    subst (λ l. CallsFit c.loop-call.func c.loop-call.self l)
+    (sym (popped_is c.in-Some.call c.loop-call.look_up c.next_call.new.self c.in-Some.ensures.0 c.in-Some.ensures.1)) c.loop-call.invariant.fits
+
+pub loop-call-init : goal.loop-call-init
+loop-call-init c = record {
+  made = none_made;
+  named = c.requires.named;
+  fits = c.requires.calls_fit;
+  same = λ b. refl;
+  stay = λ x b v is. is;
+  flags = λ b. refl;
+  more = has_more c.args.func.now;
+}
+
+pub loop-call-smaller : goal.loop-call-smaller
+loop-call-smaller c =
+    let popped = popped_is c.in-Some.call c.loop-call.look_up c.next_call.new.self c.in-Some.ensures.0 c.in-Some.ensures.1 in
+    call-less c.args.variable c.args.ty (stage c.loop-call.func c.loop-call.self c.loop-call.look_up) (stage c.make_call.new.func c.make_call.new.self c.make_call.new.look_up)
+    (subst (λ l. MakesCall c.args.variable c.args.ty (stage c.loop-call.func c.loop-call.self l) (stage c.make_call.new.func c.make_call.new.self c.make_call.new.look_up)) popped c.in_ok-make_call.ensures.made)
+    c.make_call.ensures.more c.make_call.ensures.predecessors
+
+pub loop-call-preserved : goal.loop-call-preserved
+loop-call-preserved c =
+    let popped = popped_is c.in-Some.call c.loop-call.look_up c.next_call.new.self c.in-Some.ensures.0 c.in-Some.ensures.1 in
+    record {
+      made = made c.loop-call.invariant.made
+          (subst (λ l. MakesCall c.args.variable c.args.ty (stage c.loop-call.func c.loop-call.self l) (stage c.make_call.new.func c.make_call.new.self c.make_call.new.look_up)) popped c.in_ok-make_call.ensures.made);
+      named = c.make_call.ensures.names;
+      fits = c.in_ok-make_call.ensures.fits;
+      same = λ b. c.make_call.ensures.predecessors b ∙ c.loop-call.invariant.same b;
+      stay = λ x b v is. c.make_call.ensures.stay x b v (c.loop-call.invariant.stay x b v is);
+      flags = λ b. c.make_call.ensures.flags b ∙ c.loop-call.invariant.flags b;
+      more = more-then c.args.func.now c.loop-call.func c.make_call.new.func c.loop-call.invariant.more c.make_call.ensures.more;
+    }

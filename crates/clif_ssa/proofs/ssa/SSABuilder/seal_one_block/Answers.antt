@@ -1,0 +1,67 @@
+use Rattle.std.proofs.Common.{rules, ◌≡◌, ◌≢◌, ◌∙◌, [], ap, arith, subst}
+use Rattle.std.specs.Prelude.{Contains}
+use Rattle.std.proofs.lemmas.Grind.{common_steps}
+use Rattle.clif_ssa.specs.Tables.{is_yes, pending_of, record_at, sealed_at, predecessors_at}
+use Rattle.clif_ssa.specs.Ssa.{NamesExist, sealed_of, predecessors_of}
+use Rattle.clif_ssa.proofs.Naming.{has_more}
+use Rattle.clif_ssa.proofs.Local.{named-same}
+use Rattle.clif_ssa.proofs.Public.{seals_by_look_up}
+use Rattle.clif_ssa.proofs.Waited.{on_any, seals-one, sealed-locally, sealed-named, leading-named}
+use Rattle.clif_ssa.proofs.ssa.SSABuilder.seal_one_block.Goals as goal
+
+pub returns-in_err-waiting-clause-names : goal.returns-in_err-waiting-clause-names
+returns-in_err-waiting-clause-names c =
+    rw (← c.self.view_is)
+    (named-same c.args.func.now c.args.func.now c.self.inside.tables c.seal.new.self (has_more c.args.func.now) c.seal.ensures.predecessors
+    (λ x b. ap (λ rows. record_at rows x b) c.seal.ensures.records) c.in_err-waiting.ensures.err)
+
+pub returns-then-not-has_any_predecessors-clause-sealed : goal.returns-then-not-has_any_predecessors-clause-sealed
+returns-then-not-has_any_predecessors-clause-sealed c =
+    rw (← c.self.view_is)
+    (on_any c.complete_locally.result
+    (seals-one c.self.inside.tables c.seal.new.self c.complete_locally.new.self c.args.block c.in_ok-waiting.ensures.ok
+    (λ b. ap (λ blocks. is_yes (sealed_at blocks b)) c.complete_locally.ensures.blocks)))
+
+pub returns-then-not-has_any_predecessors-clause-local : goal.returns-then-not-has_any_predecessors-clause-local
+returns-then-not-has_any_predecessors-clause-local c =
+    let same : c.as_slice.result.now ≡ pending_of (sealed_of c.self.inside.tables c.args.block) = first_of (search rules, grind (arith, common_steps)) in
+    rw (← c.self.view_is)
+    (λ none.
+    sealed-locally c.args.func.now c.complete_locally.new.func c.self.inside.tables c.seal.new.self c.complete_locally.new.self c.args.block c.as_slice.result.now c.complete_locally.result
+    c.in_ok-waiting.ensures.ok (λ x b. ap (λ rows. record_at rows x b) c.seal.ensures.records) c.complete_locally.ensures.records c.complete_locally.ensures.blocks same
+    c.complete_locally.ensures.function c.complete_locally.ensures.told)
+
+pub returns-then-not-has_any_predecessors-clause-names : goal.returns-then-not-has_any_predecessors-clause-names
+returns-then-not-has_any_predecessors-clause-names c =
+    rw (← c.self.view_is)
+    (λ named.
+    named-same c.args.func.now c.complete_locally.new.func c.seal.new.self c.complete_locally.new.self c.complete_locally.ensures.more
+    (λ b. ap (λ blocks. predecessors_at blocks b) c.complete_locally.ensures.blocks) c.complete_locally.ensures.records
+    (λ b. ap (λ blocks. sealed_at blocks b) c.complete_locally.ensures.blocks)
+    (sealed-named c.args.func.now c.self.inside.tables c.seal.new.self c.args.block c.in_ok-waiting.ensures.ok
+    (λ x b. ap (λ rows. record_at rows x b) c.seal.ensures.records) c.seal.ensures.predecessors named))
+
+pub complete_all-requires-clause-named : goal.complete_all-requires-clause-named
+complete_all-requires-clause-named c =
+    let some : predecessors_of c.seal.new.self c.args.block ≢ [] = first_of (search rules, grind (arith, common_steps)) in
+    sealed-named c.args.func.now c.self.inside.tables c.seal.new.self c.args.block c.in_ok-waiting.ensures.ok
+    (λ x b. ap (λ rows. record_at rows x b) c.seal.ensures.records) c.seal.ensures.predecessors
+    (leading-named c.args.func.now c.self.inside.tables c.args.block (rw (c.self.view_is) c.requires.named) (λ none. some (c.seal.ensures.predecessors c.args.block ∙ none)))
+
+pub complete_all-requires-clause-params_exist : goal.complete_all-requires-clause-params_exist
+complete_all-requires-clause-params_exist c = λ p here.
+    let some : predecessors_of c.seal.new.self c.args.block ≢ [] = first_of (search rules, grind (arith, common_steps)) in
+    let same : c.as_slice-2.result.now ≡ pending_of (sealed_of c.self.inside.tables c.args.block) = first_of (search rules, grind (arith, common_steps)) in
+    let named : NamesExist c.args.func.now c.self.inside.tables =
+    leading-named c.args.func.now c.self.inside.tables c.args.block (rw (c.self.view_is) c.requires.named) (λ none. some (c.seal.ensures.predecessors c.args.block ∙ none)) in
+    named.waiting c.args.block p (subst (λ ps. Contains ps p) same here)
+
+pub returns-clause-completes : goal.returns-clause-completes
+returns-clause-completes c =
+    let same : c.as_slice-2.result.now ≡ pending_of (sealed_of c.self.inside.tables c.args.block) = first_of (search rules, grind (arith, common_steps)) in
+    let told : c.into_zeros-instructions_added_to_blocks.result.items ≡ c.complete_all.new.look_up.zeros = first_of (search rules, grind (arith, common_steps)) in
+    rw (← c.self.view_is)
+    (λ some.
+    seals_by_look_up c.args.func.now c.complete_all.new.func c.self.inside.tables c.seal.new.self c.complete_all.new.self c.args.block c.as_slice-2.result.now
+    c.new-look_up.result c.complete_all.new.look_up c.into_zeros-instructions_added_to_blocks.result.items
+    c.seal.ensures.records c.in_ok-waiting.ensures.ok c.seal.ensures.predecessors same c.new-look_up.ensures c.in_ok-complete_all.ensures.completes told)

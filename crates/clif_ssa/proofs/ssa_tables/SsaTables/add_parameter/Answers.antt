@@ -1,0 +1,28 @@
+use Rattle.std.proofs.Common.{rules}
+use Rattle.clif_ssa.proofs.Naming.{param-named, param-named-waits}
+use Rattle.clif_ssa.proofs.ssa_tables.SsaTables.add_parameter.Goals as goal
+
+pub returns-in_err-begin_look_up-clause-named : goal.returns-in_err-begin_look_up-clause-named
+returns-in_err-begin_look_up-clause-named c named =
+    param-named c.args.func.now c.append_block_param.new.self c.args.self.now c.begin_look_up.new.self c.args.variable c.args.block c.args.ty
+    (search rules) (λ y b. search rules) (λ b. search rules) (λ b. search rules) named
+
+pub returns-in_err-push_result-clause-named : goal.returns-in_err-push_result-clause-named
+returns-in_err-push_result-clause-named c named =
+    param-named c.args.func.now c.append_block_param.new.self c.args.self.now _ c.args.variable c.args.block c.args.ty
+    (search rules) (λ y b. search rules) (λ b. search rules) (λ b. search rules) named
+
+pub returns-in_err-wait-clause-named : goal.returns-in_err-wait-clause-named
+returns-in_err-wait-clause-named c named =
+    param-named c.args.func.now c.append_block_param.new.self c.args.self.now _ c.args.variable c.args.block c.args.ty
+    (search rules) (λ y b. search rules) (λ b. search rules) (λ b. search rules) named
+
+pub returns-then-is_sealed-clause-named : goal.returns-then-is_sealed-clause-named
+returns-then-is_sealed-clause-named c named =
+    param-named c.args.func.now c.append_block_param.new.self c.args.self.now _ c.args.variable c.args.block c.args.ty
+    (search rules) (λ y b. search rules) (λ b. search rules) (λ b. search rules) named
+
+pub returns-clause-named : goal.returns-clause-named
+returns-clause-named c named =
+    param-named-waits c.args.func.now c.append_block_param.new.self c.args.self.now _ c.args.variable c.args.block c.args.ty
+    (search rules) (λ y b. search rules) (λ b. search rules) (λ b. search rules) named

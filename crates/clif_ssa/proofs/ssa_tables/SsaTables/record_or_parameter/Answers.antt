@@ -1,0 +1,12 @@
+use Rattle.std.proofs.Common.{rules, ◌≡◌}
+use Rattle.std.specs.Prelude.{None}
+use Rattle.clif_ssa.specs.Ssa.{record_of}
+use Rattle.clif_ssa.proofs.Calling.{added}
+use Rattle.clif_ssa.proofs.ssa_tables.SsaTables.record_or_parameter.Goals as goal
+
+pub returns-clause-got : goal.returns-clause-got
+returns-clause-got c =
+    let none : record_of c.args.self.now c.args.variable c.args.block ≡ None = search rules in
+    added c.args.variable c.args.ty c.args.block c.args.func.now c.add_parameter.new.func c.args.self.now c.add_parameter.new.self c.args.look_up.now c.add_parameter.new.look_up
+    c.add_parameter.result none c.add_parameter.ensures.number c.add_parameter.ensures.function c.add_parameter.ensures.records c.add_parameter.ensures.predecessors
+    c.add_parameter.ensures.waits c.add_parameter.ensures.begins

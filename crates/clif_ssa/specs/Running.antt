@@ -1,0 +1,84 @@
+-- What a look-up that is under way keeps, and why it ends. Source: own.
+use Rattle.std.specs.Prelude.{◌≡◌, ℕ, zero, suc, ◌+◌, ◌-◌, ◌<◌, ◌≤◌, ◌==◌, List, [], ◌∷◌, ◌++◌, length, slice_index, Option, Some, None, true, false, Contains, EachIndex, if◌then◌else◌}
+use Rattle.clif_types.specs.declared.types.«Type».{«Type»}
+use Rattle.clif_ir.specs.Body.{Body, value_at}
+use Rattle.clif_ir.specs.Changes.{with_param}
+use Rattle.clif_ssa.specs.declared.look_up.Call.{Call}
+use Rattle.clif_ssa.specs.declared.look_up.Call.TheVariants.{UseVar, FinishPredecessorsLookup}
+use Rattle.clif_ssa.specs.declared.tables.Pending.{Pending}
+use Rattle.clif_ssa.specs.declared.tables.Sealed.TheVariants.{No}
+use Rattle.clif_ssa.specs.Tables.{is_yes, pending_of}
+use Rattle.clif_ssa.specs.Ssa.{SsaState, record_of, sealed_of, predecessors_of, Records, SameBlocks, SamePredecessors, SameLookups}
+use Rattle.clif_ssa.specs.LookUp.{LookUpState, Stage, BeginsLookUp, CompletesParameter, MakesCalls}
+
+abbrev pub stage : Body → SsaState → LookUpState → Stage
+stage f s l = record { function = f; state = s; look_up = l }
+
+-- a look-up that has found its value
+abbrev pub found : ℕ → List ℕ → LookUpState
+found value zeros = record { calls = []; results = value ∷ []; zeros = zeros }
+
+abbrev pub with_call : Call → LookUpState → LookUpState
+with_call call l = record l { calls = call ∷ l.calls }
+
+-- what a call names exists
+abbrev pub CallExists : Body → Call → Type 0
+CallExists f (UseVar branch) = branch < length f.insts
+CallExists f (FinishPredecessorsLookup param block) = param < length f.values
+
+-- each call has the results that it takes, and one is left after the last
+abbrev pub Balances : SsaState → List Call → ℕ → Type 0
+Balances s [] results = results ≡ 1
+Balances s (UseVar branch ∷ calls) results = Balances s calls (suc results)
+Balances s (FinishPredecessorsLookup param block ∷ calls) results =
+    (length (predecessors_of s block) ≤ results) × Balances s calls (suc (results - length (predecessors_of s block)))
+
+pub record CallsFit (f : Body) (s : SsaState) (l : LookUpState) : Type 0 where
+  pub calls : (call : Call) → Contains l.calls call → CallExists f call
+  pub results : EachIndex l.results (λ k. slice_index l.results k < length f.values)
+  pub balances : Balances s l.calls (length l.results)
+
+-- the calls that are left and those that look-ups in the first `n` blocks would still make: each block begins at most one
+abbrev pub work_at : Option ℕ → ℕ → ℕ
+work_at None predecessors = suc predecessors
+work_at (Some value) predecessors = 0
+
+unfoldable pub work_below : SsaState → ℕ → ℕ → ℕ
+work_below s x zero = 0
+work_below s x (suc n) = work_at (record_of s x n) (length (predecessors_of s n)) + work_below s x n
+
+abbrev pub work_of : Stage → ℕ → ℕ
+work_of m x = length m.look_up.calls + work_below m.state x (length m.function.blocks)
+
+-- a new parameter of a block: it waits, or the look-up in the block's predecessors begins
+pub record Adds (x : ℕ) (ty : «Type») (block : ℕ) (m n : Stage) : Type 0 where
+  pub function : n.function ≡ with_param m.function block ty
+  pub recorded : Records m.state n.state x block (length m.function.values)
+  pub predecessors : SamePredecessors m.state n.state
+  pub waits : is_yes (sealed_of m.state block) ≡ false
+      → ((b : ℕ) → sealed_of n.state b ≡ (if b == block then No (pending_of (sealed_of m.state b) ++ record { variable = x; param = length m.function.values } ∷ []) else sealed_of m.state b))
+      × SameLookups m.state n.state
+      × (n.look_up ≡ record m.look_up { results = length m.function.values ∷ m.look_up.results })
+  pub begins : is_yes (sealed_of m.state block) ≡ true
+      → SameBlocks m.state n.state × BeginsLookUp x (length m.function.values) block m n
+
+-- the record of a variable in a block, which is a result then, or a new parameter of the block
+pub record Got (x : ℕ) (ty : «Type») (block value : ℕ) (m n : Stage) : Type 0 where
+  pub finds : (v : ℕ) → record_of m.state x block ≡ Some v
+      → (value ≡ v) × (n.function ≡ m.function) × (n.state ≡ m.state) × (n.look_up ≡ record m.look_up { results = v ∷ m.look_up.results })
+  pub adds : record_of m.state x block ≡ None → (value ≡ length m.function.values) × Adds x ty block m n
+
+-- parameters that waited in a block are completed in turn
+abbrev pub CompletesAll : ℕ → List Pending → Stage → Stage → Type 0
+CompletesAll block [] m n = n ≡ m
+CompletesAll block (p ∷ ps) m n =
+    (k : Stage) × CompletesParameter p.variable (value_at m.function p.param).ty p.param block m k × CompletesAll block ps k n
+
+-- calls are made until none is left; the one result is the answer, and is taken
+pub record MakesAll (x : ℕ) (ty : «Type») (m : Stage) (value : ℕ) (n : Stage) : Type 0 where
+  pub last : Stage
+  pub made : MakesCalls x ty m last
+  pub ended : last.look_up ≡ found value n.look_up.zeros
+  pub function : n.function ≡ last.function
+  pub state : n.state ≡ last.state
+  pub look_up : n.look_up ≡ record { calls = []; results = []; zeros = last.look_up.zeros }

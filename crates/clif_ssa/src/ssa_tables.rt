@@ -1,0 +1,352 @@
+//! What the construction knows, and the changes that a look-up makes of it.
+ghost use Rattle.std.specs.Prelude.{◌≡◌, ◌≢◌, ◌<◌, ◌↔◌, ◌++◌, ◌∷◌, ◌==◌, ◌&&◌, ◌⊎◌, [], ℕ, IsTrue, length, Some, None, true, false, ◌^◌, OnOk, OnErr, IfOk, IfSome, if◌then◌else◌};
+ghost use Rattle.clif_ir.specs.Changes.{with_param};
+ghost use Rattle.clif_ir.specs.Consistent.{Stands};
+ghost use Rattle.clif_ir.specs.Reading.{stands_in};
+ghost use Rattle.clif_ssa.specs.Limits.{IsFull};
+ghost use Rattle.clif_ssa.specs.Tables.{is_yes, pending_of};
+ghost use Rattle.clif_ssa.specs.declared.tables.Sealed.{Sealed};
+ghost use Rattle.clif_ssa.specs.Ssa.{no_state, Declares, Removes, Seals, record_of, sealed_of, predecessors_of, lookups_of, Named, NamesExist, HasMore, SealedStays, Records, RecordsStay, SameRecords, SameBlocks, SamePredecessors, SameLookups, CountsLookup};
+ghost use Rattle.clif_ssa.specs.Running.{stage, Got};
+ghost use Rattle.clif_ssa.specs.LookUp.{single_predecessor, WalksTo, before_first, Copies, calls_for};
+
+use crate::look_up::LookUp;
+use crate::passed::PassedBlocks;
+use crate::tables::{BlockTable, PendingList, VariableTable};
+use crate::variable::Variable;
+use clif_ir::Function;
+use clif_types::{Block, BuildError, Inst, Type, Value};
+use std::alloc::Global;
+use std::marker::Model;
+
+/// What the construction knows of each variable in each block, and of each block.
+#[derive(Debug, Drop)]
+pub struct SsaTables {
+    pub(crate) variables: VariableTable,
+    pub(crate) blocks: BlockTable,
+}
+
+impl Model for SsaTables {
+    ghost use Rattle.clif_ssa.specs.Ssa.{SsaState};
+
+    ghost Value = { SsaState };
+
+    ghost view = { λ s. record { records = s.variables; blocks = s.blocks } };
+}
+
+impl SsaTables {
+    /// Nothing is known.
+    pub fn new(alloc: Global) -> Self
+        ensures { result ≡ no_state }
+    {
+        SsaTables {
+            variables: VariableTable::new(alloc),
+            blocks: BlockTable::new(alloc),
+        }
+    }
+
+    /// Forgets everything, and keeps the memory.
+    pub fn clear(&mut self)
+        ensures { self.new ≡ no_state }
+    {
+        self.variables.clear();
+        self.blocks.clear();
+    }
+
+    /// Whether nothing is known.
+    pub fn is_empty(&self) -> bool
+        ensures { IsTrue result ↔ (self.now ≡ no_state) }
+    {
+        self.variables.is_empty() && self.blocks.is_empty()
+    }
+
+    /// Makes a block known.
+    pub fn declare_block(&mut self, block: Block) -> Result<(), BuildError>
+        ensures records { self.new.records ≡ self.old.records }
+        ensures blocks { (b : ℕ) → sealed_of self.new b ≡ sealed_of self.old b }
+        ensures predecessors { SamePredecessors self.old self.new }
+        ensures known { OnOk result (block < length self.new.blocks) }
+        ensures only_memory { OnErr result (result ≡ Err BuildError.Memory) }
+    {
+        self.blocks.declare(block)
+    }
+
+    /// Puts a branch behind those that lead to a block.
+    pub fn declare_predecessor(&mut self, block: Block, branch: Inst) -> Result<(), BuildError>
+        ensures ok { OnOk result (Declares self.old self.new block branch) }
+        ensures err { OnErr result (SamePredecessors self.old self.new) }
+        ensures records { self.new.records ≡ self.old.records }
+        ensures blocks { SameBlocks self.old self.new }
+        ensures only_memory { OnErr result (result ≡ Err BuildError.Memory) }
+    {
+        self.blocks.declare_predecessor(block, branch)
+    }
+
+    /// Takes a branch away from those that lead to a block; the others keep their order.
+    pub fn remove_predecessor(&mut self, block: Block, branch: Inst)
+        requires { Stands branch (predecessors_of self.old block) }
+        ensures removed { Removes self.old self.new block branch }
+        ensures records { self.new.records ≡ self.old.records }
+        ensures blocks { SameBlocks self.old self.new }
+    {
+        self.blocks.remove_predecessor(block, branch);
+    }
+
+    /// The branches that lead to a block, in order.
+    pub fn predecessors(&self, block: Block) -> &[Inst]
+        ensures { result.now ≡ predecessors_of self.now block }
+    {
+        self.blocks.predecessors(block)
+    }
+
+    /// Whether any branch leads to a block.
+    pub fn has_any_predecessors(&self, block: Block) -> bool
+        ensures { IsTrue result ↔ (predecessors_of self.now block ≢ []) }
+    {
+        !self.blocks.predecessors(block).is_empty()
+    }
+
+    /// How many blocks are known, by their numbers from 0 on.
+    pub fn block_count(&self) -> usize
+        ensures exact { result ≡ length self.now.blocks }
+        ensures bounded { result < 2 ^ 32 }
+    {
+        self.blocks.len()
+    }
+
+    /// Whether a block is sealed.
+    pub fn is_sealed(&self, block: Block) -> bool
+        ensures { result ≡ is_yes (sealed_of self.now block) }
+    {
+        self.blocks.is_sealed(block)
+    }
+
+    /// Whether a block is unsealed or nothing leads to it.
+    pub fn is_local(&self, block: Block) -> bool
+        ensures yes { IsTrue result → is_yes (sealed_of self.now block) ≡ true → predecessors_of self.now block ≡ [] }
+        ensures no { result ≡ false → (is_yes (sealed_of self.now block) ≡ true) × (predecessors_of self.now block ≢ []) }
+    {
+        !self.is_sealed(block) || !self.has_any_predecessors(block)
+    }
+
+    /// The record of a variable in a block.
+    pub fn record_at(&self, variable: Variable, block: Block) -> Option<Value>
+        ensures { result ≡ record_of self.now variable block }
+    {
+        self.variables.get(variable, block)
+    }
+
+    /// How many look-ups of a variable in the predecessors of a block began.
+    pub fn lookups(&self, variable: Variable, block: Block) -> u32
+        ensures { result ≡ lookups_of self.now variable block }
+    {
+        self.variables.lookups(variable, block)
+    }
+
+    /// Records a value for a variable in a block. After an error each record is as it was.
+    pub fn record(
+        &mut self,
+        variable: Variable,
+        block: Block,
+        value: Value,
+    ) -> Result<(), BuildError>
+        ensures ok { OnOk result (Records self.old self.new variable block value) }
+        ensures err { OnErr result (SameRecords self.old self.new) }
+        ensures lookups { SameLookups self.old self.new }
+        ensures blocks { self.new.blocks ≡ self.old.blocks }
+        ensures only_memory { OnErr result (result ≡ Err BuildError.Memory) }
+    {
+        self.variables.set(variable, block, value)
+    }
+
+    /// Counts a look-up of a variable in the predecessors of a block.
+    pub fn count_lookup(&mut self, variable: Variable, block: Block) -> Result<(), BuildError>
+        ensures ok { OnOk result (CountsLookup self.old self.new variable block) }
+        ensures records { SameRecords self.old self.new }
+        ensures blocks { self.new.blocks ≡ self.old.blocks }
+        ensures only_memory { OnErr result (result ≡ Err BuildError.Memory) }
+    {
+        self.variables.count_lookup(variable, block)
+    }
+
+    /// Puts a parameter behind those that wait in an unsealed block.
+    pub fn wait(&mut self, block: Block, variable: Variable, param: Value) -> Result<(), BuildError>
+        requires { is_yes (sealed_of self.old block) ≡ false }
+        ensures ok { OnOk result ((b : ℕ) → sealed_of self.new b ≡ (if b == block then Sealed.No (pending_of (sealed_of self.old b) ++ record { variable = variable; param = param } ∷ []) else sealed_of self.old b)) }
+        ensures err { OnErr result (SameBlocks self.old self.new) }
+        ensures records { self.new.records ≡ self.old.records }
+        ensures predecessors { SamePredecessors self.old self.new }
+        ensures only_memory { OnErr result (result ≡ Err BuildError.Memory) }
+    {
+        self.blocks.wait(block, variable, param)
+    }
+
+    /// Seals a block, and answers the parameters that waited in it.
+    pub fn seal(&mut self, block: Block) -> Result<PendingList, BuildError>
+        ensures pending { IfOk result (λ l. l ≡ pending_of (sealed_of self.old block)) }
+        ensures ok { OnOk result (Seals self.old self.new block) }
+        ensures err { OnErr result (SameBlocks self.old self.new) }
+        ensures records { self.new.records ≡ self.old.records }
+        ensures predecessors { SamePredecessors self.old self.new }
+        ensures only_memory { OnErr result (result ≡ Err BuildError.Memory) }
+    {
+        self.blocks.seal(block)
+    }
+
+    /// The block from which alone control comes to a sealed block, by one branch.
+    pub fn single_predecessor(&self, func: &Function, block: Block) -> Option<Block>
+        requires { Named func.now self.now }
+        ensures exact { result ≡ single_predecessor func.now self.now block }
+        ensures exists { IfSome result (λ b. b < length func.now.blocks) }
+        ensures known { result ≢ None → block < length self.now.blocks }
+    {
+        if !self.blocks.is_sealed(block) {
+            return None;
+        }
+        func.law_consistent();
+        match self.blocks.predecessors(block) {
+            [branch] => func.inst_block(*branch),
+            _ => None,
+        }
+    }
+
+    #[tactic(auto, using(crate::proofs::Walks::walk_rules))]
+    /// Walks from a block along single predecessors, as long as the variable isn't recorded and no block
+    /// comes again, and answers the block that is reached. `passed` holds the blocks passed then. The
+    /// only error is `Memory`.
+    pub fn walk(
+        &self,
+        func: &Function,
+        variable: Variable,
+        block: Block,
+        passed: &mut PassedBlocks,
+    ) -> Result<Block, BuildError>
+        requires exists { block < length func.now.blocks }
+        requires named { Named func.now self.now }
+        ensures ok { IfOk result (λ reached. WalksTo func.now self.now variable block passed.new reached) }
+        ensures exists { IfOk result (λ reached. reached < length func.now.blocks) }
+        ensures only_memory { OnErr result (result ≡ Err BuildError.Memory) }
+    {
+        passed.clear();
+        let mut reached = block;
+        while self.variables.get(variable, reached).is_none() {
+            let Some(before) = self.single_predecessor(func, reached) else {
+                break;
+            };
+            if passed.contains(reached) {
+                break;
+            }
+            passed.push(reached)?;
+            reached = before;
+        }
+        Ok(reached)
+    }
+
+    #[tactic(auto, using(crate::proofs::Copying::copying_rules))]
+    /// Records a value for a variable in the blocks passed, up to the first `from` among them.
+    ///
+    /// The only error is `Memory`. Some blocks may have the record then.
+    pub fn copy_record(
+        &mut self,
+        variable: Variable,
+        value: Value,
+        passed: &PassedBlocks,
+        from: Block,
+    ) -> Result<(), BuildError>
+        ensures ok { OnOk result (Copies self.old self.new variable value (before_first from passed.now)) }
+        ensures recorded { (x b v : ℕ) → record_of self.new x b ≡ Some v → (record_of self.old x b ≡ Some v) ⊎ (v ≡ value) }
+        ensures others { (x b : ℕ) → (record_of self.new x b ≡ record_of self.old x b) ⊎ ((x ≡ variable) × (stands_in b passed.now ≡ true)) }
+        ensures blocks { self.new.blocks ≡ self.old.blocks }
+        ensures lookups { SameLookups self.old self.new }
+        ensures only_memory { OnErr result (result ≡ Err BuildError.Memory) }
+    {
+        for block in passed.as_slice().iter() {
+            if *block == from {
+                break;
+            }
+            self.variables.set(variable, *block, value)?;
+        }
+        Ok(())
+    }
+
+    /// Begins the look-up of a variable in the predecessors of a block, for a parameter of it.
+    pub fn begin_look_up(
+        &mut self,
+        variable: Variable,
+        param: Value,
+        block: Block,
+        look_up: &mut LookUp,
+    ) -> Result<(), BuildError>
+        ensures counted { OnOk result (CountsLookup self.old self.new variable block) }
+        ensures records { SameRecords self.old self.new }
+        ensures blocks { self.new.blocks ≡ self.old.blocks }
+        ensures look_up { OnOk result (look_up.new ≡ record look_up.old { calls = calls_for (predecessors_of self.old block) param block ++ look_up.old.calls }) }
+        ensures only_memory { OnErr result (result ≡ Err BuildError.Memory) }
+    {
+        self.variables.count_lookup(variable, block)?;
+        look_up.begin(self.blocks.predecessors(block), param, block)
+    }
+
+    #[tactic(auto, using(crate::proofs::Naming::naming_rules))]
+    /// Appends a parameter for a variable to a block that doesn't record it, and records it. In an
+    /// unsealed block it waits, and is a result; in a sealed one the look-up in its predecessors begins.
+    pub fn add_parameter(
+        &mut self,
+        func: &mut Function,
+        variable: Variable,
+        ty: Type,
+        block: Block,
+        look_up: &mut LookUp,
+    ) -> Result<Value, BuildError>
+        requires exists { block < length func.old.blocks }
+        requires unrecorded { record_of self.old variable block ≡ None }
+        ensures number { IfOk result (λ v. v ≡ length func.old.values) }
+        ensures function { OnOk result (func.new ≡ with_param func.old block ty) }
+        ensures records { OnOk result (Records self.old self.new variable block (length func.old.values)) }
+        ensures predecessors { SamePredecessors self.old self.new }
+        ensures waits { is_yes (sealed_of self.old block) ≡ false → OnOk result (((b : ℕ) → sealed_of self.new b ≡ (if b == block then Sealed.No (pending_of (sealed_of self.old b) ++ record { variable = variable; param = length func.old.values } ∷ []) else sealed_of self.old b)) × SameLookups self.old self.new × (look_up.new ≡ record look_up.old { results = length func.old.values ∷ look_up.old.results })) }
+        ensures begins { is_yes (sealed_of self.old block) ≡ true → OnOk result (SameBlocks self.old self.new × CountsLookup self.old self.new variable block × (look_up.new ≡ record look_up.old { calls = calls_for (predecessors_of self.old block) (length func.old.values) block ++ look_up.old.calls })) }
+        ensures stay { RecordsStay self.old self.new }
+        ensures flags { SealedStays self.old self.new }
+        ensures more { HasMore func.old func.new }
+        ensures named { NamesExist func.old self.old → NamesExist func.new self.new }
+        ensures full { result ≡ Err BuildError.Full → IsFull func.new }
+        ensures never_failed { result ≢ Err BuildError.Failed }
+    {
+        let param = func.append_block_param(block, ty)?;
+        self.variables.set(variable, block, param)?;
+        if self.blocks.is_sealed(block) {
+            self.begin_look_up(variable, param, block, look_up)?;
+            return Ok(param);
+        }
+        look_up.push_result(param)?;
+        self.blocks.wait(block, variable, param)?;
+        Ok(param)
+    }
+
+    /// The record of a variable in a block, which is a result then, or a new parameter of the block.
+    pub fn record_or_parameter(
+        &mut self,
+        func: &mut Function,
+        variable: Variable,
+        ty: Type,
+        block: Block,
+        look_up: &mut LookUp,
+    ) -> Result<Value, BuildError>
+        requires exists { block < length func.old.blocks }
+        ensures got { IfOk result (λ r. Got variable ty block r (stage func.old self.old look_up.old) (stage func.new self.new look_up.new)) }
+        ensures predecessors { SamePredecessors self.old self.new }
+        ensures stay { RecordsStay self.old self.new }
+        ensures flags { SealedStays self.old self.new }
+        ensures more { HasMore func.old func.new }
+        ensures names { NamesExist func.old self.old → NamesExist func.new self.new }
+        ensures full { result ≡ Err BuildError.Full → IsFull func.new }
+        ensures never_failed { result ≢ Err BuildError.Failed }
+    {
+        if let Some(value) = self.record_at(variable, block) {
+            look_up.push_result(value)?;
+            return Ok(value);
+        }
+        self.add_parameter(func, variable, ty, block, look_up)
+    }
+}

@@ -1,0 +1,82 @@
+//! Zeros, which stand for variables that are never assigned.
+ghost use Rattle.std.specs.Prelude.{◌≡◌, ◌≢◌, ◌<◌, ◌+◌, ◌++◌, ◌∷◌, [], length, MatchOption, OnOk, OnErr, IfOk, Some};
+ghost use Rattle.std.specs.Option.{option_to_list};
+ghost use Rattle.clif_ir.specs.Body.{resolved};
+ghost use Rattle.clif_ir.specs.Reading.{param_home};
+ghost use Rattle.clif_ssa.specs.Limits.{IsFull, Takes};
+ghost use Rattle.clif_ssa.specs.Ssa.{with_zero, zeroed_in, HasMore};
+
+use crate::side_effects::SideEffects;
+use clif_ir::inst_list::BlockEnd;
+use clif_ir::{Function, InstructionData};
+use clif_types::{Block, BuildError, SourceLoc, Type, Value};
+
+// Makes a parameter to which nothing comes a name of a new zero, and tells of the zero. What is no
+// parameter stays.
+pub(crate) fn replace_by_zero(
+    func: &mut Function,
+    param: Value,
+    side_effects: &mut SideEffects,
+) -> Result<Value, BuildError>
+    ensures zero { OnOk result (func.new ≡ zeroed_in (param_home func.old param) func.old param) }
+    ensures answer { MatchOption (param_home func.old param) (IfOk result (λ v. v ≡ param)) (λ _. IfOk result (λ v. v ≡ length func.old.values)) }
+    ensures told { OnOk result (side_effects.new.instructions_added_to_blocks.items ≡ side_effects.old.instructions_added_to_blocks.items ++ option_to_list (param_home func.old param)) }
+    ensures more { HasMore func.old func.new }
+    ensures full { result ≡ Err BuildError.Full → IsFull func.new }
+    ensures takes { result ≢ Err BuildError.Memory → Takes func.old func.new 0 0 }
+    ensures never_failed { result ≢ Err BuildError.Failed }
+{
+    let ending = become_zero(func, param)?;
+    if let Some(block) = ending.zero {
+        side_effects.instructions_added_to_blocks.push(block)?;
+    }
+    Ok(ending.value)
+}
+
+/// What a value stands for now, and the block into which a zero was put for it, if one was.
+#[derive(Debug, Drop)]
+pub struct Ending {
+    pub value: Value,
+    pub zero: Option<Block>,
+}
+
+// Puts a zero before the first instruction of the block of a parameter, to which nothing comes, takes
+// the parameter away and makes it a name of the zero. What is no parameter stays.
+pub(crate) fn become_zero(func: &mut Function, param: Value) -> Result<Ending, BuildError>
+    ensures zero { OnOk result (func.new ≡ zeroed_in (param_home func.old param) func.old param) }
+    ensures answer { MatchOption (param_home func.old param) (IfOk result (λ e. e.value ≡ param)) (λ _. IfOk result (λ e. e.value ≡ length func.old.values)) }
+    ensures told { IfOk result (λ e. e.zero ≡ param_home func.old param) }
+    ensures more { HasMore func.old func.new }
+    ensures full { result ≡ Err BuildError.Full → IsFull func.new }
+    ensures takes { result ≢ Err BuildError.Memory → Takes func.old func.new 0 0 }
+    ensures never_failed { result ≢ Err BuildError.Failed }
+{
+    let Some(block) = func.param_home(param) else {
+        return Ok(Ending {
+            value: param,
+            zero: None,
+        });
+    };
+    let value = put_zero(func, block, func.value_type(param))?;
+    func.change_param_to_alias(param, value)?;
+    let zero = Some(block);
+    Ok(Ending { value, zero })
+}
+
+// Puts a zero before the first instruction of a block, which enters the layout if it isn't there, and
+// answers its value.
+fn put_zero(func: &mut Function, block: Block, ty: Type) -> Result<Value, BuildError>
+    requires { block < length func.old.blocks }
+    ensures ok { OnOk result (func.new ≡ with_zero func.old block ty) }
+    ensures number { IfOk result (λ v. v ≡ length func.old.values) }
+    ensures unaliased { IfOk result (λ v. resolved func.new v ≡ v) }
+    ensures full { result ≡ Err BuildError.Full → IsFull func.new }
+    ensures err { OnErr result ((func.new.values ≡ func.old.values) × (func.new.insts ≡ func.old.insts)) }
+    ensures more { HasMore func.old func.new }
+    ensures never_failed { result ≢ Err BuildError.Failed }
+{
+    func.ensure_block_inserted(block)?;
+    let shape = InstructionData::UnaryImm { imm: 0 };
+    let inst = func.insert_inst(block, BlockEnd::Front, shape, ty, SourceLoc::new(u32::MAX))?;
+    Ok(func.inst_results(inst)[0])
+}
