@@ -16,9 +16,10 @@ use Rattle.clif_paths.specs.Blocks.{Blocks, front, with_parameter, CanAddParamet
 use Rattle.clif_paths.proofs.Tables.{updated-same, updated-other}
 use Rattle.clif_ssa.specs.declared.tables.Pending.{Pending}
 use Rattle.clif_ssa.specs.declared.tables.Sealed.TheVariants.{No}
+use Rattle.clif_ssa.specs.Own.{Own}
 use Rattle.clif_ssa.specs.Tables.{is_yes, pending_of}
 use Rattle.clif_ssa.specs.Ssa.{SsaState, sealed_of, record_of, predecessors_of, Records, SameBlocks, SamePredecessors}
-use Rattle.clif_ssa.specs.Sound.{Describes, HomeFits, IsWaiting, IsEdgeInto, InOrder, parameters_of, is_parameter_of, is_some_block, passed_at, CountsArguments, IsCounted, passed_count}
+use Rattle.clif_ssa.specs.Sound.{Describes, HomeFits, IsWaiting, IsEdgeInto, InOrder, parameters_of, is_parameter_of, is_some_block, CountsArguments, IsBehind, IsCounted, passed_count, BelongsTo}
 use Rattle.clif_ssa.proofs.Bodies.{Firm, home-append, home_past, param_exists}
 use Rattle.clif_ssa.proofs.Ordering.{none_contained, contains_more, contains_first, contains_cons, in_order_moved, in_order_push, in_order_small, parameters_same, parameters_first, parameters_skip, parameters_none, is_parameter, is_parameter_elsewhere}
 use Rattle.clif_ssa.proofs.Describing.{Extends, Arms, arms_of, arms_kept, SameEdges, same_edges, edge_before, instructions_kept, waiting_kept, waiting_exists, homes_kept, assigns_not_kept, record_changed, not_recorded, is_recorded, recorded_here}
@@ -66,7 +67,7 @@ param_home_other f b ty v other =
     ]
 
 -- what is listed exists, or is an alias, and so is no new value
-listed_old : (own : ℕ → List ℕ) (f : Body) (s : SsaState) (listed : List Pending) (blocks : Blocks) → Firm f → Describes own f s listed blocks
+listed_old : (own : Own) (f : Body) (s : SsaState) (listed : List Pending) (blocks : Blocks) → Firm f → Describes own f s listed blocks
     → (q : Pending) → Contains listed q → q.param ≢ length f.values
 listed_old own f s listed blocks firm before q here same =
     elim (before.completed q here) [
@@ -109,7 +110,7 @@ new_kept : (s t : SsaState) (b : ℕ) (new : Pending) (c : ℕ) (p : Pending)
 new_kept s t b new c p (inl same) here = subst (λ xs. Contains xs p) (sym same) here
 new_kept s t b new c p (inr more) here = subst (λ xs. Contains xs p) (sym more.1) (Contains-append_left (pending_of (sealed_of s c)) (new ∷ []) p here)
 
-parameter_with : (own : ℕ → List ℕ) (f : Body) (s t : SsaState) (listed listed' : List Pending) (blocks : Blocks) (x b : ℕ) (ty : «Type») (recorded : ℕ → ℕ → Option ℕ)
+parameter_with : (own : Own) (f : Body) (s t : SsaState) (listed listed' : List Pending) (blocks : Blocks) (x b : ℕ) (ty : «Type») (recorded : ℕ → ℕ → Option ℕ)
     → Firm f → Describes own f s listed blocks → b < length f.blocks → Recorded f s t b x recorded → SamePredecessors s t
     → Added f ty s t b (new_pending f x) listed listed'
     → Describes own (with_param f b ty) t listed' (record (with_parameter blocks b x (length f.values)) { recorded = recorded })
@@ -260,11 +261,12 @@ parameter_with own f s t listed listed' blocks x b ty recorded firm before there
                 )) (before.completing_order c))
             | inr few ↦ in_order_small (block_at g c).params (parameters_of g c listed') few
           ];
-      passes = λ c v arm edge is at.
+      passes = λ c v arm edge is at j belongs.
           let old : (v ≢ n) × (blocks.function.definition v ≡ record { home = front c; kind = complete }) = complete_old v c is in
           let old_edge : IsEdgeInto f s blocks c arm = edge_before f g s t blocks after c arm edges edge in
-          ap (λ k. passed_at f edge.branch arm.edge k) (param_place f b ty firm there v c (before.complete_there c v old.1)) ∙ before.passes c v arm old_edge old.1 at;
-      instructions = λ c. instructions_kept f g blocks after c (own c) extends (param_insts f b ty there c) (before.instructions c);
+          before.passes c v arm old_edge old.1 at j
+          (subst (λ k. BelongsTo own c edge.branch arm.edge k j) (param_place f b ty firm there v c (before.complete_there c v old.1)) belongs);
+      instructions = λ c. instructions_kept f g blocks after c (own.insts c) extends (param_insts f b ty there c) (before.instructions c);
     }
   where
     pending_or_complete : {y : ℕ} → ◌≡◌ {A = Kind} (pending y) complete → ⊥
@@ -305,7 +307,7 @@ added_waiting f ty s t b new listed unsealed waits =
     }
 
 -- the block is sealed, and none of its parameters is being completed: the new one is completed first
-pub added_completing : (own : ℕ → List ℕ) (f : Body) (ty : «Type») (s t : SsaState) (b x : ℕ) (listed : List Pending) (blocks : Blocks) → Firm f
+pub added_completing : (own : Own) (f : Body) (ty : «Type») (s t : SsaState) (b x : ℕ) (listed : List Pending) (blocks : Blocks) → Firm f
     → Describes own f s listed blocks → is_yes (sealed_of s b) ≡ true → SameBlocks s t → ((p : Pending) → Contains listed p → param_home f p.param ≢ Some b)
     → Added f ty s t b (new_pending f x) listed (new_pending f x ∷ listed)
 added_completing own f ty s t b x listed blocks firm before is_sealed same alone =
@@ -343,7 +345,7 @@ added_completing own f ty s t b x listed blocks firm before is_sealed same alone
             differs apart = grind (arith, common_steps, apart)
 
 -- one record is new
-recorded_by : (own : ℕ → List ℕ) (f : Body) (s t : SsaState) (listed : List Pending) (blocks : Blocks) (x b : ℕ) → Describes own f s listed blocks
+recorded_by : (own : Own) (f : Body) (s t : SsaState) (listed : List Pending) (blocks : Blocks) (x b : ℕ) → Describes own f s listed blocks
     → Records s t x b (length f.values) → Recorded f s t b x (with_parameter blocks b x (length f.values)).recorded
 recorded_by own f s t listed blocks x b before written =
     let n : ℕ = length f.values in
@@ -361,7 +363,7 @@ recorded_by own f s t listed blocks x b before written =
     some_or_none : {y : ℕ} → ◌≡◌ {A = Option ℕ} (Some y) None → ⊥
     some_or_none one = cc
 
-pub add_completing : (own : ℕ → List ℕ) (f : Body) (s t : SsaState) (ps : List Pending) (tables : Blocks) (x b : ℕ) (ty : «Type») → Firm f
+pub add_completing : (own : Own) (f : Body) (s t : SsaState) (ps : List Pending) (tables : Blocks) (x b : ℕ) (ty : «Type») → Firm f
     → Describes own f s ps tables → b < length f.blocks → is_yes (sealed_of s b) ≡ true
     → ((p : Pending) → Contains ps p → param_home f p.param ≢ Some b)
     → Records s t x b (length f.values) → SameBlocks s t → SamePredecessors s t
@@ -371,7 +373,7 @@ add_completing own f s t ps tables x b ty firm before there is_sealed alone writ
     (recorded_by own f s t ps tables x b before written) same_predecessors
     (added_completing own f ty s t b x ps tables firm before is_sealed same_blocks alone)
 
-pub add_waiting : (own : ℕ → List ℕ) (f : Body) (s t : SsaState) (ps : List Pending) (tables : Blocks) (x b : ℕ) (ty : «Type») → Firm f
+pub add_waiting : (own : Own) (f : Body) (s t : SsaState) (ps : List Pending) (tables : Blocks) (x b : ℕ) (ty : «Type») → Firm f
     → Describes own f s ps tables → b < length f.blocks → is_yes (sealed_of s b) ≡ false
     → Records s t x b (length f.values)
     → ((c : ℕ) → sealed_of t c ≡ (if c == b then No (pending_of (sealed_of s c) ++ new_pending f x ∷ []) else sealed_of s c))
@@ -383,7 +385,7 @@ add_waiting own f s t ps tables x b ty firm before there unsealed written waits 
     (added_waiting f ty s t b (new_pending f x) ps unsealed waits)
 
 -- the tables can take the parameter
-pub can_add : (own : ℕ → List ℕ) (f : Body) (s : SsaState) (listed : List Pending) (blocks : Blocks) (x b : ℕ) → Firm f → Describes own f s listed blocks
+pub can_add : (own : Own) (f : Body) (s : SsaState) (listed : List Pending) (blocks : Blocks) (x b : ℕ) → Firm f → Describes own f s listed blocks
     → record_of s x b ≡ None → CanAddParameter blocks b x (length f.values)
 can_add own f s listed blocks x b firm before none = record {
   assigns_not = before.unrecorded b x none;
@@ -443,9 +445,9 @@ add_housed f b ty firm housed there =
         (λ below at inside. inl (here.0, below, at)) (λ last at inside. inr (sym at))
         (λ past at inside. absurd (omega (arith, past, inside, long))) here.2 here.1
 
-pub add_counted : (own : ℕ → List ℕ) (f : Body) (s t : SsaState) (ps : List Pending) (tables : Blocks) (x b : ℕ) (ty : «Type») → Firm f
-    → CountsArguments f s tables → b < length f.blocks → SamePredecessors s t
-    → CountsArguments (with_param f b ty) t (with_parameter tables b x (length f.values))
+pub add_counted : (own : Own) (f : Body) (s t : SsaState) (ps : List Pending) (tables : Blocks) (x b : ℕ) (ty : «Type») → Firm f
+    → CountsArguments own f s tables → b < length f.blocks → SamePredecessors s t
+    → CountsArguments own (with_param f b ty) t (with_parameter tables b x (length f.values))
 add_counted own f s t ps tables x b ty firm counts there same =
     let g : Body = with_param f b ty in
     let n : ℕ = length f.values in
@@ -455,30 +457,48 @@ add_counted own f s t ps tables x b ty firm counts there same =
     let is_old : (v : ℕ) → v ≢ n → after.function.definition v ≡ tables.function.definition v = λ v other. updated-other tables.function.definition n new v other in
     let old_leads : (c i : ℕ) → Contains (predecessors_of t c) i → Contains (predecessors_of s c) i = λ c i here. subst (λ xs. Contains xs i) (same c) here in
     record {
+      behind = λ c v is.
+          elim (cases_eq v n) [
+            | inl same_value ↦
+                let at : c ≡ b = same_some (sym is ∙ ap (λ w. param_home g w) same_value ∙ param_home_new f b ty) in
+                let place : place_of n (block_at g b).params ≡ length (block_at f b).params = param_new_place f b ty firm there in
+                let last : length (own.params b) ≤ place_of n (block_at g b).params = omega (arith, place, counts.callers b) in
+                subst (λ w. IsBehind (after.function.definition w).kind (place_of w (block_at g c).params) (length (own.params c))) (sym same_value)
+                (subst (λ d. IsBehind (after.function.definition n).kind (place_of n (block_at g d).params) (length (own.params d))) (sym at)
+                (subst (λ (d : Definition). IsBehind d.kind (place_of n (block_at g b).params) (length (own.params b))) (sym is_new) last))
+            | inr other ↦
+                let old : param_home f v ≡ Some c = sym (param_home_other f b ty v other) ∙ is in
+                subst (λ (d : Definition). IsBehind d.kind (place_of v (block_at g c).params) (length (own.params c))) (sym (is_old v other))
+                (subst (λ m. IsBehind (tables.function.definition v).kind m (length (own.params c))) (sym (param_place f b ty firm there v c old)) (counts.behind c v old))
+          ];
+      callers = λ c. longer_list c (λ m. length (own.params c) ≤ m) (λ m less. omega (arith, less)) (counts.callers c);
       counted = λ c i k v here leads is.
           elim (cases_eq v n) [
             | inl same_value ↦
                 let at : c ≡ b = same_some (sym is ∙ ap (λ w. param_home g w) same_value ∙ param_home_new f b ty) in
-                let few : passed_count f i k ≤ length (block_at f b).params =
+                let few : passed_count f i k + length (own.params b) ≤ length (block_at f b).params + length (own.passed i k) =
                 counts.no_more b i k (subst (λ d. Contains (predecessors_of s d) i) at (old_leads c i here)) (leads ∙ ap Some at) in
                 let place : place_of n (block_at g b).params ≡ length (block_at f b).params = param_new_place f b ty firm there in
-                let waits : passed_count f i k ≤ place_of n (block_at g b).params = omega (arith, few, place) in
-                subst (λ w. IsCounted (after.function.definition w).kind (place_of w (block_at g c).params) (passed_count g i k)) (sym same_value)
-                (subst (λ d. IsCounted (after.function.definition n).kind (place_of n (block_at g d).params) (passed_count g i k)) (sym at)
-                (subst (λ (d : Definition). IsCounted d.kind (place_of n (block_at g b).params) (passed_count g i k)) (sym is_new) waits))
+                let waits : passed_count f i k + length (own.params b) ≤ place_of n (block_at g b).params + length (own.passed i k) = omega (arith, few, place) in
+                subst (λ w. IsCounted (after.function.definition w).kind (place_of w (block_at g c).params) (length (own.params c)) (passed_count g i k) (length (own.passed i k))) (sym same_value)
+                (subst (λ d. IsCounted (after.function.definition n).kind (place_of n (block_at g d).params) (length (own.params d)) (passed_count g i k) (length (own.passed i k))) (sym at)
+                (subst (λ (d : Definition). IsCounted d.kind (place_of n (block_at g b).params) (length (own.params b)) (passed_count g i k) (length (own.passed i k))) (sym is_new) waits))
             | inr other ↦
                 let old : param_home f v ≡ Some c = sym (param_home_other f b ty v other) ∙ is in
-                subst (λ (d : Definition). IsCounted d.kind (place_of v (block_at g c).params) (passed_count g i k)) (sym (is_old v other))
-                (subst (λ m. IsCounted (tables.function.definition v).kind m (passed_count g i k)) (sym (param_place f b ty firm there v c old))
+                subst (λ (d : Definition). IsCounted d.kind (place_of v (block_at g c).params) (length (own.params c)) (passed_count g i k) (length (own.passed i k))) (sym (is_old v other))
+                (subst (λ m. IsCounted (tables.function.definition v).kind m (length (own.params c)) (passed_count g i k) (length (own.passed i k))) (sym (param_place f b ty firm there v c old))
                 (counts.counted c i k v (old_leads c i here) leads old))
           ];
+      no_fewer = λ c i k here leads. counts.no_fewer c i k (old_leads c i here) leads;
       no_more = λ c i k here leads.
-          let old : passed_count f i k ≤ length (block_at f c).params = counts.no_more c i k (old_leads c i here) leads in
-          elim (param_params f b ty there c) [
-            | inl at ↦
-                let more : length ((block_at f c).params ++ n ∷ []) ≡ length (block_at f c).params + 1 = grind (arith, common_steps) in
-                let fits : passed_count f i k ≤ length ((block_at f c).params ++ n ∷ []) = omega (arith, old, more) in
-                subst (λ ps. passed_count g i k ≤ length ps) (sym at.1) fits
-            | inr apart ↦ subst (λ ps. passed_count g i k ≤ length ps) (sym apart.1) old
-          ];
+          longer_list c (λ m. passed_count f i k + length (own.params c) ≤ m + length (own.passed i k)) (λ m less. omega (arith, less)) (counts.no_more c i k (old_leads c i here) leads);
     }
+  where
+    longer_list : (c : ℕ) (P : ℕ → Type 0) → ((m : ℕ) → P m → P (m + 1)) → P (length (block_at f c).params) → P (length (block_at (with_param f b ty) c).params)
+    longer_list c P more old =
+        elim (param_params f b ty there c) [
+          | inl at ↦
+              let longer : length ((block_at f c).params ++ length f.values ∷ []) ≡ length (block_at f c).params + 1 = grind (arith, common_steps) in
+              subst (λ (ps : List ℕ). P (length ps)) (sym at.1) (subst P (sym longer) (more (length (block_at f c).params) old))
+          | inr apart ↦ subst (λ (ps : List ℕ). P (length ps)) (sym apart.1) old
+        ]

@@ -10,8 +10,9 @@ use Rattle.clif_ir.proofs.Reading.{Stands-without, without-stood, Once-without}
 use Rattle.clif_paths.specs.State.{Kind, unborn, born, pending, complete, zero_of, Definition}
 use Rattle.clif_paths.specs.Blocks.{Blocks, with_dropped}
 use Rattle.clif_ssa.specs.declared.tables.Pending.{Pending}
+use Rattle.clif_ssa.specs.Own.{Own}
 use Rattle.clif_ssa.specs.Ssa.{SsaState, predecessors_of}
-use Rattle.clif_ssa.specs.Sound.{Describes, CountsArguments, IsCounted, edge_target, passed_count}
+use Rattle.clif_ssa.specs.Sound.{Describes, CountsArguments, IsBehind, IsCounted, edge_target, passed_count}
 use Rattle.clif_ssa.proofs.Bodies.{Firm}
 use Rattle.clif_ssa.proofs.Firsts.{IsFirst, first_waits, none_some, same_some}
 use Rattle.clif_ssa.proofs.Housing.{Housed, place_behind, place_apart, length_without}
@@ -21,7 +22,7 @@ use Rattle.clif_ssa.proofs.Zeroing.{CanAlias, alias_described, alias_firm, alias
 drop_can : (f : Body) (v w b : ℕ) → Firm f → param_home f v ≡ Some b → w < length f.values → resolved f w ≡ w → w ≢ v → CanAlias f v w b
 drop_can f v w b firm home exists ends apart = record { firm = firm; parameter = home; own_end = ends; exists = exists; apart = apart }
 
-pub drop_described : (own : ℕ → List ℕ) (f : Body) (s : SsaState) (p : Pending) (ps : List Pending) (tables : Blocks) (w b : ℕ)
+pub drop_described : (own : Own) (f : Body) (s : SsaState) (p : Pending) (ps : List Pending) (tables : Blocks) (w b : ℕ)
     → Firm f → Describes own f s (p ∷ ps) tables → param_home f p.param ≡ Some b → w < length f.values → resolved f w ≡ w → w ≢ p.param
     → Describes own (with_alias f p.param w) s ps (with_dropped tables p.param w)
 drop_described own f s p ps tables w b firm before home exists ends apart =
@@ -71,13 +72,13 @@ pub drop_housed : (f : Body) (v w b : ℕ) → Firm f → Housed f → param_hom
 drop_housed f v w b firm housed home exists ends apart = housed_can f v w b (drop_can f v w b firm home exists ends apart) housed
 
 -- what is counted stays so as a place behind all counted ones goes
-moved_counted : (kind : Kind) (place place' count first : ℕ) → IsCounted kind place count → count ≤ first → place ≢ first → (place < first → place' ≡ place)
-    → (first < place → place' + 1 ≡ place) → IsCounted kind place' count
-moved_counted unborn place place' count first is few apart same moved = let at : place' ≡ place = same (omega (arith, is, few)) in omega (arith, is, at)
-moved_counted (born n) place place' count first is few apart same moved = let at : place' ≡ place = same (omega (arith, is, few)) in omega (arith, is, at)
-moved_counted complete place place' count first is few apart same moved = let at : place' ≡ place = same (omega (arith, is, few)) in omega (arith, is, at)
-moved_counted (zero_of x) place place' count first is few apart same moved = let at : place' ≡ place = same (omega (arith, is, few)) in omega (arith, is, at)
-moved_counted (pending x) place place' count first is few apart same moved =
+moved_counted : (kind : Kind) (place place' callers count given first : ℕ) → IsCounted kind place callers count given → count + callers ≤ first + given → place ≢ first
+    → (place < first → place' ≡ place) → (first < place → place' + 1 ≡ place) → IsCounted kind place' callers count given
+moved_counted unborn place place' callers count given first is few apart same moved = tt
+moved_counted (born n) place place' callers count given first is few apart same moved = tt
+moved_counted complete place place' callers count given first is few apart same moved = let at : place' ≡ place = same (omega (arith, is, few)) in omega (arith, is, at)
+moved_counted (zero_of x) place place' callers count given first is few apart same moved = tt
+moved_counted (pending x) place place' callers count given first is few apart same moved =
     elim (below_or_not place first) [
       | inl less ↦ let at : place' ≡ place = same less in omega (arith, is, at)
       | inr not_less ↦
@@ -86,44 +87,91 @@ moved_counted (pending x) place place' count first is few apart same moved =
           omega (arith, few, more, at)
     ]
 
-counted_can : (f : Body) (s : SsaState) (p : Pending) (ps : List Pending) (tables : Blocks) (w b : ℕ) → CanAlias f p.param w b → Housed f
-    → IsFirst f s ps tables p b → CountsArguments f s tables → CountsArguments (with_alias f p.param w) s (with_dropped tables p.param w)
-counted_can f s p ps tables w b can housed first counts =
+still_behind : (place place' callers first : ℕ) → callers ≤ place → callers ≤ first → place ≢ first → (place < first → place' ≡ place) → (first < place → place' + 1 ≡ place) → callers ≤ place'
+still_behind place place' callers first is few apart same moved =
+    elim (below_or_not place first) [
+      | inl less ↦ let at : place' ≡ place = same less in omega (arith, is, at)
+      | inr not_less ↦
+          let more : first < place = omega (arith, not_less, apart) in
+          let at : place' + 1 ≡ place = moved more in
+          omega (arith, few, more, at)
+    ]
+
+-- the same of parameters behind the caller's
+moved_behind : (kind : Kind) (place place' callers first : ℕ) → IsBehind kind place callers → callers ≤ first → place ≢ first → (place < first → place' ≡ place)
+    → (first < place → place' + 1 ≡ place) → IsBehind kind place' callers
+moved_behind unborn place place' callers first is few apart same moved = is
+moved_behind (born n) place place' callers first is few apart same moved = let at : place' ≡ place = same (omega (arith, is, few)) in omega (arith, is, at)
+moved_behind complete place place' callers first is few apart same moved = still_behind place place' callers first is few apart same moved
+moved_behind (zero_of x) place place' callers first is few apart same moved = is
+moved_behind (pending x) place place' callers first is few apart same moved = still_behind place place' callers first is few apart same moved
+
+counted_can : (own : Own) (f : Body) (s : SsaState) (p : Pending) (ps : List Pending) (tables : Blocks) (w b : ℕ) → CanAlias f p.param w b → Housed f
+    → IsFirst f s ps tables p b → CountsArguments own f s tables → CountsArguments own (with_alias f p.param w) s (with_dropped tables p.param w)
+counted_can own f s p ps tables w b can housed first counts =
     let v : ℕ = p.param in
     let g : Body = with_alias f v w in
-    let few : (c i k : ℕ) → c ≡ b → Contains (predecessors_of s c) i → edge_target f i k ≡ Some c → passed_count f i k ≤ place_of v (block_at f c).params =
+    let few : (c i k : ℕ) → c ≡ b → Contains (predecessors_of s c) i → edge_target f i k ≡ Some c
+    → passed_count f i k + length (own.params c) ≤ place_of v (block_at f c).params + length (own.passed i k) =
     λ c i k at here leads.
-    subst (λ (d : Definition). IsCounted d.kind (place_of v (block_at f c).params) (passed_count f i k)) first.defined
+    subst (λ (d : Definition). IsCounted d.kind (place_of v (block_at f c).params) (length (own.params c)) (passed_count f i k) (length (own.passed i k))) first.defined
     (counts.counted c i k v here leads (first.parameter ∙ ap Some (sym at))) in
+    let behind : (c : ℕ) → c ≡ b → length (own.params c) ≤ place_of v (block_at f c).params =
+    λ c at. subst (λ (d : Definition). IsBehind d.kind (place_of v (block_at f c).params) (length (own.params c))) first.defined (counts.behind c v (first.parameter ∙ ap Some (sym at))) in
+    let shorter : (c : ℕ) → c ≡ b → (place_of v (block_at f c).params < length (block_at f c).params) × (length (without v (block_at f c).params) + 1 ≡ length (block_at f c).params) =
+    λ c at.
+    let stands : Stands v (block_at f c).params = housed.stands v c (first.parameter ∙ ap Some (sym at)) in
+    (stands_place v (block_at f c).params stands, length_without v (block_at f c).params stands) in
     record {
-      counted = λ c i k u here leads is.
+      behind = λ c u is.
           let old : (u ≢ v) × (param_home f u ≡ Some c) = drop_home f v w b u c can is in
-          let before : IsCounted (tables.function.definition u).kind (place_of u (block_at f c).params) (passed_count f i k) = counts.counted c i k u here leads old.1 in
           elim (alias_params f v w b can c) [
             | inl at ↦
-                subst (λ params. IsCounted (tables.function.definition u).kind (place_of u params) (passed_count f i k)) (sym at.1)
-                (moved_counted (tables.function.definition u).kind (place_of u (block_at f c).params) (place_of u (without v (block_at f c).params)) (passed_count f i k)
-                (place_of v (block_at f c).params) before (few c i k at.0 here leads)
+                subst (λ params. IsBehind (tables.function.definition u).kind (place_of u params) (length (own.params c))) (sym at.1)
+                (moved_behind (tables.function.definition u).kind (place_of u (block_at f c).params) (place_of u (without v (block_at f c).params)) (length (own.params c))
+                (place_of v (block_at f c).params) (counts.behind c u old.1) (behind c at.0)
                 (λ same. old.0 (place_apart u v (block_at f c).params (housed.stands u c old.1) same))
                 (λ less. place_without_before u v (block_at f c).params less) (λ more. place_behind u v (block_at f c).params more))
-            | inr apart ↦ subst (λ params. IsCounted (tables.function.definition u).kind (place_of u params) (passed_count f i k)) (sym apart.1) before
+            | inr apart ↦ subst (λ params. IsBehind (tables.function.definition u).kind (place_of u params) (length (own.params c))) (sym apart.1) (counts.behind c u old.1)
           ];
+      callers = λ c.
+          elim (alias_params f v w b can c) [
+            | inl at ↦
+                let less : _ × (length (without v (block_at f c).params) + 1 ≡ length (block_at f c).params) = shorter c at.0 in
+                let fits : length (own.params c) ≤ length (without v (block_at f c).params) = omega (arith, less.0, less.1, behind c at.0) in
+                subst (λ (params : List ℕ). length (own.params c) ≤ length params) (sym at.1) fits
+            | inr apart ↦ subst (λ (params : List ℕ). length (own.params c) ≤ length params) (sym apart.1) (counts.callers c)
+          ];
+      counted = λ c i k u here leads is.
+          let old : (u ≢ v) × (param_home f u ≡ Some c) = drop_home f v w b u c can is in
+          let before : IsCounted (tables.function.definition u).kind (place_of u (block_at f c).params) (length (own.params c)) (passed_count f i k) (length (own.passed i k)) =
+          counts.counted c i k u here leads old.1 in
+          elim (alias_params f v w b can c) [
+            | inl at ↦
+                subst (λ params. IsCounted (tables.function.definition u).kind (place_of u params) (length (own.params c)) (passed_count f i k) (length (own.passed i k))) (sym at.1)
+                (moved_counted (tables.function.definition u).kind (place_of u (block_at f c).params) (place_of u (without v (block_at f c).params)) (length (own.params c)) (passed_count f i k)
+                (length (own.passed i k)) (place_of v (block_at f c).params) before (few c i k at.0 here leads)
+                (λ same. old.0 (place_apart u v (block_at f c).params (housed.stands u c old.1) same))
+                (λ less. place_without_before u v (block_at f c).params less) (λ more. place_behind u v (block_at f c).params more))
+            | inr apart ↦
+                subst (λ params. IsCounted (tables.function.definition u).kind (place_of u params) (length (own.params c)) (passed_count f i k) (length (own.passed i k))) (sym apart.1) before
+          ];
+      no_fewer = λ c i k here leads. counts.no_fewer c i k here leads;
       no_more = λ c i k here leads.
           elim (alias_params f v w b can c) [
             | inl at ↦
-                let stands : Stands v (block_at f c).params = housed.stands v c (first.parameter ∙ ap Some (sym at.0)) in
-                let inside : place_of v (block_at f c).params < length (block_at f c).params = stands_place v (block_at f c).params stands in
-                let shorter : length (without v (block_at f c).params) + 1 ≡ length (block_at f c).params = length_without v (block_at f c).params stands in
-                let below : passed_count f i k ≤ place_of v (block_at f c).params = few c i k at.0 here leads in
-                let fits : passed_count f i k ≤ length (without v (block_at f c).params) = omega (arith, inside, shorter, below) in
-                subst (λ params. passed_count f i k ≤ length params) (sym at.1) fits
-            | inr apart ↦ subst (λ params. passed_count f i k ≤ length params) (sym apart.1) (counts.no_more c i k here leads)
+                let less : (place_of v (block_at f c).params < length (block_at f c).params) × (length (without v (block_at f c).params) + 1 ≡ length (block_at f c).params) = shorter c at.0 in
+                let below : passed_count f i k + length (own.params c) ≤ place_of v (block_at f c).params + length (own.passed i k) = few c i k at.0 here leads in
+                let fits : passed_count f i k + length (own.params c) ≤ length (without v (block_at f c).params) + length (own.passed i k) = omega (arith, less.0, less.1, below) in
+                subst (λ (params : List ℕ). passed_count f i k + length (own.params c) ≤ length params + length (own.passed i k)) (sym at.1) fits
+            | inr apart ↦
+                subst (λ (params : List ℕ). passed_count f i k + length (own.params c) ≤ length params + length (own.passed i k)) (sym apart.1) (counts.no_more c i k here leads)
           ];
     }
 
-pub drop_counted : (own : ℕ → List ℕ) (f : Body) (s : SsaState) (p : Pending) (ps : List Pending) (tables : Blocks) (w b : ℕ)
-    → Firm f → Housed f → Describes own f s (p ∷ ps) tables → CountsArguments f s tables → param_home f p.param ≡ Some b
+pub drop_counted : (own : Own) (f : Body) (s : SsaState) (p : Pending) (ps : List Pending) (tables : Blocks) (w b : ℕ)
+    → Firm f → Housed f → Describes own f s (p ∷ ps) tables → CountsArguments own f s tables → param_home f p.param ≡ Some b
     → w < length f.values → resolved f w ≡ w → w ≢ p.param
-    → CountsArguments (with_alias f p.param w) s (with_dropped tables p.param w)
+    → CountsArguments own (with_alias f p.param w) s (with_dropped tables p.param w)
 drop_counted own f s p ps tables w b firm housed before counts home exists ends apart =
-    counted_can f s p ps tables w b (drop_can f p.param w b firm home exists ends apart) housed (first_waits own f s p ps tables b before home) counts
+    counted_can own f s p ps tables w b (drop_can f p.param w b firm home exists ends apart) housed (first_waits own f s p ps tables b before home) counts

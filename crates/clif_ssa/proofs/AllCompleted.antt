@@ -8,6 +8,7 @@ use Rattle.clif_paths.specs.Places.{Edges}
 use Rattle.clif_paths.specs.Blocks.{Blocks}
 use Rattle.clif_paths.specs.BlockLaws.{BlocksSound}
 use Rattle.clif_ssa.specs.declared.tables.Pending.{Pending}
+use Rattle.clif_ssa.specs.Own.{Own}
 use Rattle.clif_ssa.specs.Tables.{is_yes, pending_of}
 use Rattle.clif_ssa.specs.Ssa.{SsaState, record_of, sealed_of, SameRecords, SamePredecessors, Seals}
 use Rattle.clif_ssa.specs.LookUp.{Stage, LookUpState}
@@ -33,9 +34,9 @@ same_some : {x y : ℕ} → ◌≡◌ {A = Option ℕ} (Some x) (Some y) → x �
 same_some same = cc
 
 -- parameters of one block are completed in turn
-pub completes_all : (own : ℕ → List ℕ) (block : ℕ) (waiting : List Pending) (tables : Blocks) (m n : Stage)
+pub completes_all : (own : Own) (block : ℕ) (waiting : List Pending) (tables : Blocks) (m n : Stage)
     → m.look_up.calls ≡ [] → m.look_up.results ≡ [] → Firm m.function → Housed m.function → BranchesStand m.function m.state
-    → Describes own m.function m.state waiting tables → CountsArguments m.function m.state tables → BlocksSound tables
+    → Describes own m.function m.state waiting tables → CountsArguments own m.function m.state tables → BlocksSound tables
     → AllWait m.function m.state block waiting → CompletesAll block waiting m n → Completes own tables [] m n
 completes_all own block [] tables m n calls results firm housed stand before counts sound wait same = subst (Completes own tables [] m) (sym same) (record {
   tables = tables;
@@ -81,14 +82,14 @@ completes_all own block (p ∷ ps) tables m n calls results firm housed stand be
     }
 
 -- what sealing makes of what edges pass
-pub seal_counted : (f : Body) (s t : SsaState) (layout : List ℕ) (was : Bool) (b : ℕ) (into : Edges) (tables : Blocks) → CountsArguments f s tables → SamePredecessors s t
-    → CountsArguments f t (with_seal layout was b into tables)
-seal_counted f s t [] was b into tables counts same = counts_kept f s t tables tables counts same (λ v. refl)
-seal_counted f s t (entry ∷ layout) true b into tables counts same = counts_kept f s t tables tables counts same (λ v. refl)
-seal_counted f s t (entry ∷ layout) false b into tables counts same = counts_kept f s t tables (with_seal (entry ∷ layout) false b into tables) counts same (λ v. refl)
+pub seal_counted : (own : Own) (f : Body) (s t : SsaState) (layout : List ℕ) (was : Bool) (b : ℕ) (into : Edges) (tables : Blocks) → CountsArguments own f s tables → SamePredecessors s t
+    → CountsArguments own f t (with_seal layout was b into tables)
+seal_counted own f s t [] was b into tables counts same = counts_kept own f s t tables tables counts same (λ v. refl)
+seal_counted own f s t (entry ∷ layout) true b into tables counts same = counts_kept own f s t tables tables counts same (λ v. refl)
+seal_counted own f s t (entry ∷ layout) false b into tables counts same = counts_kept own f s t tables (with_seal (entry ∷ layout) false b into tables) counts same (λ v. refl)
 
 -- A block is sealed, and what waited in it is completed: the tables stay sound.
-pub sealing_keeps : (own : ℕ → List ℕ) (f : Body) (s t : SsaState) (tables : Blocks) (b : ℕ) (look_up : LookUpState) (n : Stage) → IsConsistent f
+pub sealing_keeps : (own : Own) (f : Body) (s t : SsaState) (tables : Blocks) (b : ℕ) (look_up : LookUpState) (n : Stage) → IsConsistent f
     → DescribesSoundly own f s tables → SameRecords s t → Seals s t b → SamePredecessors s t
     → look_up.calls ≡ [] → look_up.results ≡ [] → CompletesAll b (pending_of (sealed_of s b)) (record { function = f; state = t; look_up = look_up }) n
     → Keeps own tables n.function n.state
@@ -104,5 +105,5 @@ sealing_keeps own f s t tables b look_up n known both records seals same calls r
     let done : Completes own sealed [] m n =
     completes_all own b (pending_of (sealed_of s b)) sealed m n calls results (firm_from f known) (housed_from f known)
     (branches_stand own f t (pending_of (sealed_of s b)) sealed known now.0) now.0
-    (seal_counted f s t f.layout (is_yes (sealed_of s b)) b (arms_into f s tables b) tables both.2 same) now.1 wait all in
+    (seal_counted own f s t f.layout (is_yes (sealed_of s b)) b (arms_into f s tables b) tables both.2 same) now.1 wait all in
     record { tables = done.tables; describes = done.describes; sound = done.sound; same = same_program_then tables sealed done.tables now.2 done.same; counts = done.counts }

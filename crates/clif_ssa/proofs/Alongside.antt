@@ -14,6 +14,7 @@ use Rattle.clif_ssa.specs.declared.look_up.Call.{Call}
 use Rattle.clif_ssa.specs.declared.look_up.Call.TheVariants.{UseVar, FinishPredecessorsLookup}
 use Rattle.clif_ssa.specs.declared.side_effects.SideEffects.{SideEffects}
 use Rattle.clif_ssa.specs.declared.tables.Pending.{Pending}
+use Rattle.clif_ssa.specs.Own.{Own}
 use Rattle.clif_ssa.specs.Tables.{is_yes, pending_of}
 use Rattle.clif_ssa.specs.Ssa.{SsaState, Named, NamesExist, record_of, sealed_of, predecessors_of, zeroed, RecordsStay, Waits, Zeroes}
 use Rattle.clif_ssa.specs.LookUp.{Stage, LookUpState, LooksUp, FinishesLookUp, MakesCall, MakesCalls, none_made, made, CompletesParameter, Copies, before_first, no_look_up, calls_for, with_calls, with_arguments}
@@ -439,7 +440,7 @@ seal_loses f g s t b (Err error) known known' seals = tt
 seal_loses f g s t b (Ok r) known known' seals = loses_waiting f g (pending_of (sealed_of s b)) known known' seals.function
 
 -- what the tables know in a block is recorded there
-pub known_recorded : (own : ℕ → List ℕ) (tables : Blocks) (g : Body) (t : SsaState) (b x value : ℕ) → KeepsAndKnows own tables g t b x value → HasRecordOf g t x b value
+pub known_recorded : (own : Own) (tables : Blocks) (g : Body) (t : SsaState) (b x value : ℕ) → KeepsAndKnows own tables g t b x value → HasRecordOf g t x b value
 known_recorded own tables g t b x value keeps =
     let kept : Keeps own tables g t = keeps.kept in (
       keeps.known.value,
@@ -447,7 +448,7 @@ known_recorded own tables g t b x value keeps =
       sym (kept.describes.resolves keeps.known.value) ∙ keeps.known.resolves ∙ kept.describes.resolves value,
     )
 
-pub all_recorded : (own : ℕ → List ℕ) (tables : Blocks) (g : Body) (t : SsaState) (b x : ℕ) {E : Type 0} (result : Result (ℕ × SideEffects) E)
+pub all_recorded : (own : Own) (tables : Blocks) (g : Body) (t : SsaState) (b x : ℕ) {E : Type 0} (result : Result (ℕ × SideEffects) E)
     → IfOk result (λ r. KeepsAndKnows own tables g t b x r.0) → IfOk result (λ r. HasRecordOf g t x b r.0)
 all_recorded own tables g t b x (Err error) keeps = tt
 all_recorded own tables g t b x (Ok r) keeps = known_recorded own tables g t b x r.0 keeps

@@ -17,6 +17,7 @@ use Rattle.clif_paths.specs.BlockLaws.{BlocksSound}
 use Rattle.clif_paths.proofs.BlockSteps.{zero_in_keeps, undefined_keeps}
 use Rattle.clif_paths.proofs.Tables.{updated-same, updated-other}
 use Rattle.clif_ssa.specs.declared.tables.Pending.{Pending}
+use Rattle.clif_ssa.specs.Own.{Own}
 use Rattle.clif_ssa.specs.Tables.{is_yes}
 use Rattle.clif_ssa.specs.Ssa.{SsaState, sealed_of, predecessors_of, zeroed, no_srcloc}
 use Rattle.clif_ssa.specs.Sound.{Describes, IsWaiting, IsEdgeInto, InOrder, has_entry, entry_of, SameProgram}
@@ -108,7 +109,7 @@ pub both : (a b : Bool) → a ≡ true → b ≡ true → (a && b) ≡ true
 both a b p q = ap (λ t. t && b) p ∙ q
 
 -- the first parameter of the list waits, as it is one
-pub first_waits : (own : ℕ → List ℕ) (f : Body) (s : SsaState) (p : Pending) (ps : List Pending) (blocks : Blocks) (b : ℕ) → Describes own f s (p ∷ ps) blocks → param_home f p.param ≡ Some b
+pub first_waits : (own : Own) (f : Body) (s : SsaState) (p : Pending) (ps : List Pending) (blocks : Blocks) (b : ℕ) → Describes own f s (p ∷ ps) blocks → param_home f p.param ≡ Some b
     → IsWaiting f blocks b p × (is_yes (sealed_of s b) ≡ true)
 first_waits own f s p ps blocks b before is =
     elim (before.completed p (contains_first p ps)) [
@@ -126,7 +127,7 @@ front_of : {x y : ℕ} → front x ≡ front y → x ≡ y
 front_of same = cc
 
 -- that is so where no branch leads to the block
-pub nothing_leads : (own : ℕ → List ℕ) (f : Body) (s : SsaState) (completing : List Pending) (blocks : Blocks) (p : Pending) (b : ℕ) → Describes own f s completing blocks → predecessors_of s b ≡ [] → NothingElseComes blocks p b
+pub nothing_leads : (own : Own) (f : Body) (s : SsaState) (completing : List Pending) (blocks : Blocks) (p : Pending) (b : ℕ) → Describes own f s completing blocks → predecessors_of s b ≡ [] → NothingElseComes blocks p b
 nothing_leads own f s completing blocks p b before none arm known at =
     let there : (c : ℕ) × (arm.target ≡ front c) × (is_yes (sealed_of s c) ≡ true) × (((arm.source ≡ start) × (entry_of f ≡ Some c)) ⊎ IsEdgeInto f s blocks c arm) =
     before.joined arm known in
@@ -138,12 +139,12 @@ nothing_leads own f s completing blocks p b before none arm known at =
     ]
 
 -- what is zeroed, in a function whose layout has the block
-pub record Dropped (own : ℕ → List ℕ) (f : Body) (s : SsaState) (p : Pending) (ps : List Pending) (blocks : Blocks) (b : ℕ) (ty : «Type») : Type 0 where
+pub record Dropped (own : Own) (f : Body) (s : SsaState) (p : Pending) (ps : List Pending) (blocks : Blocks) (b : ℕ) (ty : «Type») : Type 0 where
   pub describes : Describes own (with_alias (put_zero f b ty) p.param (length f.values)) s ps (with_dropped (with_zero_in blocks b p.variable (length f.values)) p.param (length f.values))
   pub sound : BlocksSound (with_dropped (with_zero_in blocks b p.variable (length f.values)) p.param (length f.values))
   pub firm : Firm (with_alias (put_zero f b ty) p.param (length f.values))
 
-pub dropped : (own : ℕ → List ℕ) (f : Body) (s : SsaState) (p : Pending) (ps : List Pending) (blocks : Blocks) (b : ℕ) (ty : «Type»)
+pub dropped : (own : Own) (f : Body) (s : SsaState) (p : Pending) (ps : List Pending) (blocks : Blocks) (b : ℕ) (ty : «Type»)
     → Firm f → has_entry f.layout ≡ true → Describes own f s (p ∷ ps) blocks → BlocksSound blocks → param_home f p.param ≡ Some b
     → NothingElseComes blocks p b → Dropped own f s p ps blocks b ty
 dropped own f s p ps blocks b ty firm entry before sound is nothing =
@@ -188,12 +189,12 @@ dropped own f s p ps blocks b ty firm entry before sound is nothing =
     }
 
 -- One parameter becomes a name of a zero.
-pub record Zeroed (own : ℕ → List ℕ) (f : Body) (s : SsaState) (p : Pending) (ps : List Pending) (blocks : Blocks) (b : ℕ) : Type 0 where
+pub record Zeroed (own : Own) (f : Body) (s : SsaState) (p : Pending) (ps : List Pending) (blocks : Blocks) (b : ℕ) : Type 0 where
   pub describes : Describes own (zeroed f b p.param) s ps (with_zeroed f.layout s b p.variable p.param (length f.values) blocks)
   pub sound : BlocksSound (with_zeroed f.layout s b p.variable p.param (length f.values) blocks)
   pub firm : Firm (zeroed f b p.param)
 
-pub zeroed_keeps : (own : ℕ → List ℕ) (f : Body) (s : SsaState) (p : Pending) (ps : List Pending) (blocks : Blocks) (b : ℕ)
+pub zeroed_keeps : (own : Own) (f : Body) (s : SsaState) (p : Pending) (ps : List Pending) (blocks : Blocks) (b : ℕ)
     → Firm f → Describes own f s (p ∷ ps) blocks → BlocksSound blocks → param_home f p.param ≡ Some b → NothingElseComes (with_entry f.layout s b blocks) p b
     → Zeroed own f s p ps blocks b
 zeroed_keeps own f s p ps blocks b firm before sound is nothing =
@@ -209,7 +210,7 @@ zeroed_keeps own f s p ps blocks b firm before sound is nothing =
     }
 
 -- the same where no branch leads to the block
-pub zeroed_alone : (own : ℕ → List ℕ) (f : Body) (s : SsaState) (p : Pending) (ps : List Pending) (blocks : Blocks) (b : ℕ)
+pub zeroed_alone : (own : Own) (f : Body) (s : SsaState) (p : Pending) (ps : List Pending) (blocks : Blocks) (b : ℕ)
     → Firm f → Describes own f s (p ∷ ps) blocks → BlocksSound blocks → param_home f p.param ≡ Some b → predecessors_of s b ≡ [] → Zeroed own f s p ps blocks b
 zeroed_alone own f s p ps blocks b firm before sound is none =
     zeroed_keeps own f s p ps blocks b firm before sound is
@@ -235,7 +236,7 @@ zeroed_home f b v u c inside is =
 -- THE LIST --------------------------------------------------------------------------------------------------------
 
 -- what is no parameter any more is done
-skipped : (own : ℕ → List ℕ) (f : Body) (s : SsaState) (p : Pending) (ps : List Pending) (blocks : Blocks) → Describes own f s (p ∷ ps) blocks → param_home f p.param ≡ None → Describes own f s ps blocks
+skipped : (own : Own) (f : Body) (s : SsaState) (p : Pending) (ps : List Pending) (blocks : Blocks) → Describes own f s (p ∷ ps) blocks → param_home f p.param ≡ None → Describes own f s ps blocks
 skipped own f s p ps blocks before is =
     relaid own f f.layout s s (p ∷ ps) ps blocks blocks.sealed blocks.joins before (λ v c. refl) (λ c i known here. here) (λ c known. known) (arms_of own f s (p ∷ ps) blocks before)
     (record {

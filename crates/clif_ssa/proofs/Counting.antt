@@ -1,5 +1,5 @@
 -- What the edges to a block pass stays as it is, where neither they nor the block's parameters change.
-use Rattle.std.proofs.Common.{◌≡◌, ◌≢◌, ℕ, ◌<◌, ◌≤◌, Bool, true, false, List, [], ◌∷◌, ◌++◌, ◌==◌, length, refl, ap, arith, sym, ◌∙◌, subst, ◌⊎◌, inl, inr}
+use Rattle.std.proofs.Common.{◌≡◌, ◌≢◌, ℕ, ◌+◌, ◌<◌, ◌≤◌, ◌&&◌, Bool, true, false, List, [], ◌∷◌, ◌++◌, ◌==◌, length, refl, ap, arith, sym, ◌∙◌, subst, ◌⊎◌, inl, inr}
 use Rattle.std.specs.Prelude.{Some, Contains, slice_get, pos, cond, if◌then◌else◌}
 use Rattle.std.proofs.lemmas.Bool.{cases_eq}
 use Rattle.std.proofs.lemmas.List.Elements.{Contains-push_cases}
@@ -17,17 +17,21 @@ use Rattle.clif_ir.specs.declared.instructions.InstructionData.{InstructionData}
 use Rattle.clif_ir.specs.declared.instructions.InstructionData.TheVariants.{UnaryImm}
 use Rattle.clif_ir.proofs.Reading.{if_true, if_false}
 use Rattle.clif_ir.proofs.Lists.{at_push, at_past}
-use Rattle.clif_paths.specs.State.{Definition, pending, zero_of}
+use Rattle.clif_paths.specs.Places.{Place}
+use Rattle.clif_paths.specs.State.{Definition, Kind, unborn, born, pending, complete, zero_of}
 use Rattle.clif_paths.specs.Blocks.{Blocks, front, with_zero_in}
 use Rattle.clif_paths.specs.BlockLaws.{BlocksSound}
 use Rattle.clif_paths.proofs.Tables.{updated-other}
 use Rattle.clif_ssa.specs.declared.tables.Pending.{Pending}
+use Rattle.clif_ssa.specs.Own.{Own, no_own}
 use Rattle.clif_ssa.specs.Tables.{is_yes}
 use Rattle.clif_ssa.specs.Ssa.{SsaState, sealed_of, predecessors_of, SameRecords, SameBlocks, SamePredecessors, no_srcloc}
 use Rattle.clif_ssa.specs.LookUp.{branch_block}
-use Rattle.clif_ssa.specs.Sound.{Describes, CountsArguments, EdgesCount, IsCounted, edge_target, args_of, passed_count, has_entry, entry_of}
+use Rattle.clif_ssa.specs.Sound.{Describes, CountsArguments, HomeFits, IsBehind, IsCounted, PassesOwn, edge_target, args_of, passed_count, has_entry, entry_of}
 use Rattle.clif_ssa.specs.SoundLaws.{DescribesSoundly}
 use Rattle.clif_ssa.proofs.Bodies.{param_exists}
+use Rattle.clif_ssa.proofs.Describing.{SameGiven}
+use Rattle.clif_ssa.proofs.Entering.{both_true}
 use Rattle.clif_ssa.proofs.Housing.{Housed}
 use Rattle.clif_ssa.proofs.Instructions.{inst_param_home, inst_params, inst_old}
 use Rattle.clif_ssa.proofs.Leading.{contains_without, predecessor_declared, predecessor_removed}
@@ -41,26 +45,53 @@ pub record SameCounts (f g : Body) (s t : SsaState) (blocks blocks' : Blocks) : 
   pub homes : (v : ℕ) → param_home g v ≡ param_home f v
   pub defined : (v b : ℕ) → param_home f v ≡ Some b → blocks'.function.definition v ≡ blocks.function.definition v
 
-pub counts_same : (f g : Body) (s t : SsaState) (blocks blocks' : Blocks) → SameCounts f g s t blocks blocks' → CountsArguments f s blocks → CountsArguments g t blocks'
-counts_same f g s t blocks blocks' same counts =
+pub counts_same : (own : Own) (f g : Body) (s t : SsaState) (blocks blocks' : Blocks) → SameCounts f g s t blocks blocks' → CountsArguments own f s blocks → CountsArguments own g t blocks'
+counts_same own f g s t blocks blocks' same counts =
     let old : (b i : ℕ) → Contains (predecessors_of t b) i → Contains (predecessors_of s b) i = λ b i here. subst (λ xs. Contains xs i) (same.predecessors b) here in
     let target : (b i k : ℕ) → Contains (predecessors_of s b) i → edge_target g i k ≡ edge_target f i k =
     λ b i k here. ap (λ (n : InstNode). slice_get (targets (destinations n.shape)) k) (same.inst_same b i here) in
     let count : (b i k : ℕ) → Contains (predecessors_of s b) i → passed_count g i k ≡ passed_count f i k =
     λ b i k here. ap (λ (n : InstNode). length (args_of (slice_get (destinations n.shape) k))) (same.inst_same b i here) in
+    let kind : (v b : ℕ) → param_home g v ≡ Some b → (blocks'.function.definition v).kind ≡ (blocks.function.definition v).kind =
+    λ v b is. ap (λ (d : Definition). d.kind) (same.defined v b (sym (same.homes v) ∙ is)) in
     record {
+      behind = λ b v is.
+          subst (λ (ps : List ℕ). IsBehind (blocks'.function.definition v).kind (place_of v ps) (length (own.params b))) (sym (same.params b))
+          (subst (λ (kind : Kind). IsBehind kind (place_of v (block_at f b).params) (length (own.params b))) (sym (kind v b is))
+          (counts.behind b v (sym (same.homes v) ∙ is)));
+      callers = λ b. subst (λ (ps : List ℕ). length (own.params b) ≤ length ps) (sym (same.params b)) (counts.callers b);
       counted = λ b i k v here leads is.
           let there : Contains (predecessors_of s b) i = old b i here in
-          let home : param_home f v ≡ Some b = sym (same.homes v) ∙ is in
-          subst (λ n. IsCounted (blocks'.function.definition v).kind (place_of v (block_at g b).params) n) (sym (count b i k there))
-          (subst (λ ps. IsCounted (blocks'.function.definition v).kind (place_of v ps) (passed_count f i k)) (sym (same.params b))
-          (subst (λ (d : Definition). IsCounted d.kind (place_of v (block_at f b).params) (passed_count f i k)) (sym (same.defined v b home))
-          (counts.counted b i k v there (sym (target b i k there) ∙ leads) home)));
+          subst (λ n. IsCounted (blocks'.function.definition v).kind (place_of v (block_at g b).params) (length (own.params b)) n (length (own.passed i k))) (sym (count b i k there))
+          (subst (λ ps. IsCounted (blocks'.function.definition v).kind (place_of v ps) (length (own.params b)) (passed_count f i k) (length (own.passed i k))) (sym (same.params b))
+          (subst (λ (kind : Kind). IsCounted kind (place_of v (block_at f b).params) (length (own.params b)) (passed_count f i k) (length (own.passed i k))) (sym (kind v b is))
+          (counts.counted b i k v there (sym (target b i k there) ∙ leads) (sym (same.homes v) ∙ is))));
+      no_fewer = λ b i k here leads.
+          let there : Contains (predecessors_of s b) i = old b i here in
+          subst (λ n. length (own.passed i k) ≤ n) (sym (count b i k there)) (counts.no_fewer b i k there (sym (target b i k there) ∙ leads));
       no_more = λ b i k here leads.
           let there : Contains (predecessors_of s b) i = old b i here in
-          subst (λ n. n ≤ length (block_at g b).params) (sym (count b i k there))
-          (subst (λ ps. passed_count f i k ≤ length ps) (sym (same.params b)) (counts.no_more b i k there (sym (target b i k there) ∙ leads)));
+          subst (λ n. n + length (own.params b) ≤ length (block_at g b).params + length (own.passed i k)) (sym (count b i k there))
+          (subst (λ (ps : List ℕ). passed_count f i k + length (own.params b) ≤ length ps + length (own.passed i k)) (sym (same.params b))
+          (counts.no_more b i k there (sym (target b i k there) ∙ leads)));
     }
+
+-- the caller made as many parameters as before, and branches pass as much of its
+pub counts_given : (own own' : Own) (f : Body) (s : SsaState) (blocks : Blocks) → SameGiven own own' s → CountsArguments own f s blocks → CountsArguments own' f s blocks
+counts_given own own' f s blocks same counts = record {
+  behind = λ b v is.
+      subst (λ n. IsBehind (blocks.function.definition v).kind (place_of v (block_at f b).params) n) (sym (same.params b)) (counts.behind b v is);
+  callers = λ b. let params : length (own'.params b) ≡ length (own.params b) = same.params b in omega (arith, params, counts.callers b);
+  counted = λ b i k v here leads is.
+      subst (λ n. IsCounted (blocks.function.definition v).kind (place_of v (block_at f b).params) n (passed_count f i k) (length (own'.passed i k))) (sym (same.params b))
+      (subst (λ n. IsCounted (blocks.function.definition v).kind (place_of v (block_at f b).params) (length (own.params b)) (passed_count f i k) n) (sym (same.passed b i k here))
+      (counts.counted b i k v here leads is));
+  no_fewer = λ b i k here leads. subst (λ n. n ≤ passed_count f i k) (sym (same.passed b i k here)) (counts.no_fewer b i k here leads);
+  no_more = λ b i k here leads.
+      let params : length (own'.params b) ≡ length (own.params b) = same.params b in
+      let given : length (own'.passed i k) ≡ length (own.passed i k) = same.passed b i k here in
+      omega (arith, params, given, counts.no_more b i k here leads);
+}
 
 pub housed_same : (f g : Body) → ((b : ℕ) → (block_at g b).params ≡ (block_at f b).params) → ((v : ℕ) → param_home g v ≡ param_home f v) → Housed f → Housed g
 housed_same f g params homes housed = record {
@@ -70,11 +101,11 @@ housed_same f g params homes housed = record {
 }
 
 -- an instruction is put into a block
-pub inst_counted : (own : ℕ → List ℕ) (f : Body) (s : SsaState) (completing : List Pending) (blocks blocks' : Blocks) (b : ℕ) (end : BlockEnd) (shape : InstructionData) (types : List «Type») (loc : ℕ)
+pub inst_counted : (own : Own) (f : Body) (s : SsaState) (completing : List Pending) (blocks blocks' : Blocks) (b : ℕ) (end : BlockEnd) (shape : InstructionData) (types : List «Type») (loc : ℕ)
     → Describes own f s completing blocks → ((v : ℕ) → v < length f.values → blocks'.function.definition v ≡ blocks.function.definition v)
-    → CountsArguments f s blocks → CountsArguments (with_inst f b end shape types loc) s blocks'
+    → CountsArguments own f s blocks → CountsArguments own (with_inst f b end shape types loc) s blocks'
 inst_counted own f s completing blocks blocks' b end shape types loc before defined counts =
-    counts_same f (with_inst f b end shape types loc) s s blocks blocks'
+    counts_same own f (with_inst f b end shape types loc) s s blocks blocks'
     (record {
       predecessors = λ c. refl;
       inst_same = λ c i here. inst_old f b end shape types loc i (before.leading c i here).0;
@@ -88,8 +119,8 @@ inst_housed f b end shape types loc housed =
     housed_same f (with_inst f b end shape types loc) (inst_params f b end shape types loc) (inst_param_home f b end shape types loc) housed
 
 -- a zero is put
-pub zero_counted : (own : ℕ → List ℕ) (f : Body) (s : SsaState) (completing : List Pending) (blocks : Blocks) (b x : ℕ) (ty : «Type»)
-    → Describes own f s completing blocks → CountsArguments f s blocks → CountsArguments (put_zero f b ty) s (with_zero_in blocks b x (length f.values))
+pub zero_counted : (own : Own) (f : Body) (s : SsaState) (completing : List Pending) (blocks : Blocks) (b x : ℕ) (ty : «Type»)
+    → Describes own f s completing blocks → CountsArguments own f s blocks → CountsArguments own (put_zero f b ty) s (with_zero_in blocks b x (length f.values))
 zero_counted own f s completing blocks b x ty before counts =
     inst_counted own f s completing blocks (with_zero_in blocks b x (length f.values)) b Front (UnaryImm (pos 0)) (ty ∷ []) no_srcloc before
     (λ v below. updated-other blocks.function.definition (length f.values) (record { home = front b; kind = zero_of x }) v (λ same. absurd (omega (arith, below, same)))) counts
@@ -98,13 +129,13 @@ pub zero_housed : (f : Body) (b : ℕ) (ty : «Type») → Housed f → Housed (
 zero_housed f b ty housed = inst_housed f b Front (UnaryImm (pos 0)) (ty ∷ []) no_srcloc housed
 
 -- a block enters the layout
-pub inserted_counted : (f : Body) (s : SsaState) (blocks blocks' : Blocks) (b : ℕ) → ((v : ℕ) → blocks'.function.definition v ≡ blocks.function.definition v)
-    → CountsArguments f s blocks → CountsArguments (inserted_in f b) s blocks'
-inserted_counted f s blocks blocks' b defined counts = by (stands_in b f.layout)
+pub inserted_counted : (own : Own) (f : Body) (s : SsaState) (blocks blocks' : Blocks) (b : ℕ) → ((v : ℕ) → blocks'.function.definition v ≡ blocks.function.definition v)
+    → CountsArguments own f s blocks → CountsArguments own (inserted_in f b) s blocks'
+inserted_counted own f s blocks blocks' b defined counts = by (stands_in b f.layout)
   where
-    by : (test : Bool) → CountsArguments (cond test f (with_layout f b)) s blocks'
-    by true = counts_same f f s s blocks blocks' (record { predecessors = λ c. refl; inst_same = λ c i here. refl; params = λ c. refl; homes = λ v. refl; defined = λ v c is. defined v }) counts
-    by false = counts_same f (with_layout f b) s s blocks blocks' (record { predecessors = λ c. refl; inst_same = λ c i here. refl; params = λ c. refl; homes = λ v. refl; defined = λ v c is. defined v }) counts
+    by : (test : Bool) → CountsArguments own (cond test f (with_layout f b)) s blocks'
+    by true = counts_same own f f s s blocks blocks' (record { predecessors = λ c. refl; inst_same = λ c i here. refl; params = λ c. refl; homes = λ v. refl; defined = λ v c is. defined v }) counts
+    by false = counts_same own f (with_layout f b) s s blocks blocks' (record { predecessors = λ c. refl; inst_same = λ c i here. refl; params = λ c. refl; homes = λ v. refl; defined = λ v c is. defined v }) counts
 
 pub inserted_housed : (f : Body) (b : ℕ) → Housed f → Housed (inserted_in f b)
 inserted_housed f b housed = by (stands_in b f.layout)
@@ -120,9 +151,9 @@ block_params f b =
     (λ last. ap (λ (m : BlockNode). m.params) (sym (at_past f.blocks b empty_block (omega (arith, last)))))
     (λ past. ap (λ (m : BlockNode). m.params) (sym (at_past f.blocks b empty_block (omega (arith, past)))))
 
-pub block_counted : (f : Body) (s : SsaState) (blocks : Blocks) → CountsArguments f s blocks → CountsArguments (with_block f) s blocks
-block_counted f s blocks counts =
-    counts_same f (with_block f) s s blocks blocks
+pub block_counted : (own : Own) (f : Body) (s : SsaState) (blocks : Blocks) → CountsArguments own f s blocks → CountsArguments own (with_block f) s blocks
+block_counted own f s blocks counts =
+    counts_same own f (with_block f) s s blocks blocks
     (record { predecessors = λ c. refl; inst_same = λ c i here. refl; params = block_params f; homes = λ v. refl; defined = λ v c is. refl }) counts
 
 pub block_housed : (f : Body) → Housed f → Housed (with_block f)
@@ -130,14 +161,28 @@ block_housed f housed = housed_same f (with_block f) (block_params f) (λ v. ref
 
 -- BRANCHES --------------------------------------------------------------------------------------------------------
 
+-- what the edges of one branch to a block have to pass
+record EdgesCount (own : Own) (f : Body) (blocks : Blocks) (b i : ℕ) : Type 0 where
+  counted : (k v : ℕ) → edge_target f i k ≡ Some b → param_home f v ≡ Some b
+      → IsCounted (blocks.function.definition v).kind (place_of v (block_at f b).params) (length (own.params b)) (passed_count f i k) (length (own.passed i k))
+  no_fewer : (k : ℕ) → edge_target f i k ≡ Some b → length (own.passed i k) ≤ passed_count f i k
+  no_more : (k : ℕ) → edge_target f i k ≡ Some b → passed_count f i k + length (own.params b) ≤ length (block_at f b).params + length (own.passed i k)
+
 -- other branches lead to blocks, whose edges pass what they have to
-pub led_counted : (f : Body) (s t : SsaState) (blocks : Blocks) → CountsArguments f s blocks
-    → ((b i : ℕ) → Contains (predecessors_of t b) i → Contains (predecessors_of s b) i ⊎ EdgesCount f blocks b i) → CountsArguments f t blocks
-led_counted f s t blocks counts each = record {
+led_counted : (own : Own) (f : Body) (s t : SsaState) (blocks : Blocks) → CountsArguments own f s blocks
+    → ((b i : ℕ) → Contains (predecessors_of t b) i → Contains (predecessors_of s b) i ⊎ EdgesCount own f blocks b i) → CountsArguments own f t blocks
+led_counted own f s t blocks counts each = record {
+  behind = counts.behind;
+  callers = counts.callers;
   counted = λ b i k v here leads is.
       elim (each b i here) [
         | inl old ↦ counts.counted b i k v old leads is
         | inr new ↦ new.counted k v leads is
+      ];
+  no_fewer = λ b i k here leads.
+      elim (each b i here) [
+        | inl old ↦ counts.no_fewer b i k old leads
+        | inr new ↦ new.no_fewer k leads
       ];
   no_more = λ b i k here leads.
       elim (each b i here) [
@@ -147,43 +192,75 @@ led_counted f s t blocks counts each = record {
 }
 
 -- a branch is put behind those that lead to a block
-pub declared_counted : (f : Body) (s t : SsaState) (blocks : Blocks) (b i : ℕ) → CountsArguments f s blocks → EdgesCount f blocks b i
-    → ((c : ℕ) → predecessors_of t c ≡ (if c == b then predecessors_of s c ++ i ∷ [] else predecessors_of s c)) → CountsArguments f t blocks
-declared_counted f s t blocks b i counts new declared =
-    led_counted f s t blocks counts (λ c j here.
+declared_counted : (own : Own) (f : Body) (s t : SsaState) (blocks : Blocks) (b i : ℕ) → CountsArguments own f s blocks → EdgesCount own f blocks b i
+    → ((c : ℕ) → predecessors_of t c ≡ (if c == b then predecessors_of s c ++ i ∷ [] else predecessors_of s c)) → CountsArguments own f t blocks
+declared_counted own f s t blocks b i counts new declared =
+    led_counted own f s t blocks counts (λ c j here.
     elim (cases_eq c b) [
       | inl same ↦
           let in_list : Contains (predecessors_of s c ++ i ∷ []) j = subst (λ xs. Contains xs j) (declared c ∙ if_true c b (predecessors_of s c ++ i ∷ []) (predecessors_of s c) same) here in
           elim (Contains-push_cases (predecessors_of s c) i j in_list) [
             | inl old ↦ inl old
-            | inr at ↦ inr (subst (λ k. EdgesCount f blocks c k) at (subst (λ d. EdgesCount f blocks d i) (sym same) new))
+            | inr at ↦ inr (subst (λ k. EdgesCount own f blocks c k) at (subst (λ d. EdgesCount own f blocks d i) (sym same) new))
           ]
       | inr apart ↦ inl (subst (λ xs. Contains xs j) (declared c ∙ if_false c b (predecessors_of s c ++ i ∷ []) (predecessors_of s c) apart) here)
     ])
 
--- edges that pass nothing, to a block whose parameters all wait
-pub nothing_counted : (f : Body) (blocks : Blocks) (b i : ℕ) → ((k : ℕ) → edge_target f i k ≡ Some b → passed_count f i k ≡ 0)
-    → ((v : ℕ) → param_home f v ≡ Some b → (x : ℕ) × ((blocks.function.definition v).kind ≡ pending x)) → EdgesCount f blocks b i
-nothing_counted f blocks b i nothing waits = record {
-  counted = λ k v leads is.
-      let zero_passed : passed_count f i k ≡ 0 = nothing k leads in
-      let fits : passed_count f i k ≤ place_of v (block_at f b).params = omega (arith, zero_passed) in
-      subst (λ kind. IsCounted kind (place_of v (block_at f b).params) (passed_count f i k)) (sym (waits v is).1) fits;
-  no_more = λ k leads. let zero_passed : passed_count f i k ≡ 0 = nothing k leads in omega (arith, zero_passed);
-}
+complete_kind : {k : Kind} (d : Definition) → d.kind ≡ k → d ≡ record { home = d.home; kind = k }
+complete_kind d is = ap (λ (kind : Kind). record d { kind = kind }) is
 
--- no branch leads anywhere
-pub none_counted : (f : Body) (s : SsaState) (blocks : Blocks) → ((b i : ℕ) → Contains (predecessors_of s b) i → ⊥) → CountsArguments f s blocks
-none_counted f s blocks none = record {
+-- edges that pass what the caller passed, to an unsealed block: no parameter of it is complete
+own_counted : (own : Own) (f : Body) (s : SsaState) (blocks : Blocks) (b i : ℕ) → Describes own f s [] blocks → CountsArguments own f s blocks
+    → is_yes (sealed_of s b) ≡ false → PassesOwn own f b i → EdgesCount own f blocks b i
+own_counted own f s blocks b i before counts unsealed passes = record {
+  counted = λ k v leads is. by v k (passes k leads) is (blocks.function.definition v).kind refl (counts.behind b v is);
+  no_fewer = λ k leads. let given : passed_count f i k ≡ length (own.passed i k) = passes k leads in omega (arith, given);
+  no_more = λ k leads.
+      let given : passed_count f i k ≡ length (own.passed i k) = passes k leads in
+      let fits : length (own.params b) ≤ length (block_at f b).params = counts.callers b in
+      omega (arith, given, fits);
+}
+  where
+    by : (v k : ℕ) → passed_count f i k ≡ length (own.passed i k) → param_home f v ≡ Some b → (kind : Kind) → (blocks.function.definition v).kind ≡ kind
+        → IsBehind (blocks.function.definition v).kind (place_of v (block_at f b).params) (length (own.params b))
+        → IsCounted (blocks.function.definition v).kind (place_of v (block_at f b).params) (length (own.params b)) (passed_count f i k) (length (own.passed i k))
+    by v k given is unborn kind behind = rw kind tt
+    by v k given is (born n) kind behind = rw kind tt
+    by v k given is (zero_of x) kind behind = rw kind tt
+    by v k given is (pending x) kind behind =
+        let first : length (own.params b) ≤ place_of v (block_at f b).params = rw kind at behind in
+        rw kind (omega (arith, given, first))
+    by v k given is complete kind behind = absurd (never_complete v is kind)
+      where
+        false_true : ◌≡◌ {A = Bool} false true → ⊥
+        false_true same = cc
+        never_complete : (v : ℕ) → param_home f v ≡ Some b → (blocks.function.definition v).kind ≡ complete → ⊥
+        never_complete v is kind =
+            let home : (c : ℕ) × ((blocks.function.definition v).home ≡ front c) × (blocks.sealed c ≡ true) = subst (λ (k : Kind). HomeFits blocks v k) kind (before.homes v) in
+            let defined : blocks.function.definition v ≡ record { home = front home.0; kind = complete } =
+            complete_kind (blocks.function.definition v) kind ∙ ap (λ (place : Place). record { home = place; kind = complete }) home.1 in
+            let there : param_home f v ≡ Some home.0 = before.complete_there home.0 v defined in
+            let same : home.0 ≡ b = cc in
+            let sealed : (is_yes (sealed_of s home.0) && has_entry f.layout) ≡ true = sym (before.sealed home.0) ∙ home.2 in
+            let yes : is_yes (sealed_of s home.0) ≡ true = (both_true (is_yes (sealed_of s home.0)) (has_entry f.layout) sealed).0 in
+            false_true (sym unsealed ∙ ap (λ c. is_yes (sealed_of s c)) (sym same) ∙ yes)
+
+-- no branch leads anywhere, and no block has a parameter of the caller's
+pub first_counted : (f : Body) (s : SsaState) (blocks : Blocks) → ((b i : ℕ) → Contains (predecessors_of s b) i → ⊥) → ((v b : ℕ) → param_home f v ≡ Some b → ⊥)
+    → CountsArguments no_own f s blocks
+first_counted f s blocks none bare = record {
+  behind = λ b v is. absurd (bare v b is);
+  callers = λ b. omega arith;
   counted = λ b i k v here. absurd (none b i here);
+  no_fewer = λ b i k here. absurd (none b i here);
   no_more = λ b i k here. absurd (none b i here);
 }
 
 -- a branch leads no longer to a block
-pub removed_counted : (f : Body) (s t : SsaState) (blocks : Blocks) (b i : ℕ) → CountsArguments f s blocks
-    → ((c : ℕ) → predecessors_of t c ≡ (if c == b then without i (predecessors_of s c) else predecessors_of s c)) → CountsArguments f t blocks
-removed_counted f s t blocks b i counts removed =
-    led_counted f s t blocks counts (λ c j here.
+removed_counted : (own : Own) (f : Body) (s t : SsaState) (blocks : Blocks) (b i : ℕ) → CountsArguments own f s blocks
+    → ((c : ℕ) → predecessors_of t c ≡ (if c == b then without i (predecessors_of s c) else predecessors_of s c)) → CountsArguments own f t blocks
+removed_counted own f s t blocks b i counts removed =
+    led_counted own f s t blocks counts (λ c j here.
     elim (cases_eq c b) [
       | inl same ↦
           inl (contains_without i (predecessors_of s c) j (subst (λ xs. Contains xs j) (removed c ∙ if_true c b (without i (predecessors_of s c)) (predecessors_of s c) same) here))
@@ -191,21 +268,21 @@ removed_counted f s t blocks b i counts removed =
     ])
 
 -- a branch, whose edges pass what they have to, is put behind those that lead to an unsealed block
-pub declared_soundly : (own : ℕ → List ℕ) (f : Body) (s t : SsaState) (blocks : Blocks) (b i : ℕ) → DescribesSoundly own f s blocks
+pub declared_soundly : (own : Own) (f : Body) (s t : SsaState) (blocks : Blocks) (b i : ℕ) → DescribesSoundly own f s blocks
     → i < length f.insts → has_entry f.layout ≡ true → is_yes (sealed_of s b) ≡ false → entry_of f ≢ Some b
     → ((j : ℕ) → Contains (predecessors_of s b) j → branch_block f j ≢ branch_block f i)
-    → EdgesCount f blocks b i → SameRecords s t → SameBlocks s t
+    → PassesOwn own f b i → SameRecords s t → SameBlocks s t
     → ((c : ℕ) → predecessors_of t c ≡ (if c == b then predecessors_of s c ++ i ∷ [] else predecessors_of s c))
     → DescribesSoundly own f t blocks
 declared_soundly own f s t blocks b i both exists entry unsealed no_entry apart new records same declared =
     let now : Describes own f t [] blocks × BlocksSound blocks = predecessor_declared own f s t blocks b i both exists entry unsealed no_entry apart records same declared in
-    (now.0, now.1, declared_counted f s t blocks b i both.2 new declared)
+    (now.0, now.1, declared_counted own f s t blocks b i both.2 (own_counted own f s blocks b i both.0 both.2 unsealed new) declared)
 
 -- a branch leads no longer to an unsealed block
-pub removed_soundly : (own : ℕ → List ℕ) (f : Body) (s t : SsaState) (blocks : Blocks) (b i : ℕ) → DescribesSoundly own f s blocks
+pub removed_soundly : (own : Own) (f : Body) (s t : SsaState) (blocks : Blocks) (b i : ℕ) → DescribesSoundly own f s blocks
     → is_yes (sealed_of s b) ≡ false → SameRecords s t → SameBlocks s t
     → ((c : ℕ) → predecessors_of t c ≡ (if c == b then without i (predecessors_of s c) else predecessors_of s c))
     → DescribesSoundly own f t blocks
 removed_soundly own f s t blocks b i both unsealed records same removed =
     let now : Describes own f t [] blocks × BlocksSound blocks = predecessor_removed own f s t blocks b i both unsealed records same removed in
-    (now.0, now.1, removed_counted f s t blocks b i both.2 removed)
+    (now.0, now.1, removed_counted own f s t blocks b i both.2 removed)

@@ -16,10 +16,11 @@ use Rattle.clif_paths.specs.Steps.{updated}
 use Rattle.clif_paths.specs.Blocks.{Blocks, front, last_place, AssignsNot}
 use Rattle.clif_paths.proofs.Tables.{updated-same, updated-other}
 use Rattle.clif_ssa.specs.declared.tables.Pending.{Pending}
+use Rattle.clif_ssa.specs.Own.{Own}
 use Rattle.clif_ssa.specs.Tables.{is_yes, pending_of}
 use Rattle.clif_ssa.specs.Ssa.{SsaState, sealed_of, predecessors_of, SamePredecessors}
 use Rattle.clif_ssa.specs.LookUp.{branch_block}
-use Rattle.clif_ssa.specs.Sound.{Describes, IsZero, HasInstructions, IsWaiting, HomeFits, IsEdgeInto, InOrder, parameters_of, is_some_block, has_entry, entry_of, edge_target, args_of, passed_at}
+use Rattle.clif_ssa.specs.Sound.{Describes, IsZero, HasInstructions, IsWaiting, HomeFits, IsEdgeInto, InOrder, parameters_of, is_some_block, has_entry, entry_of, edge_target, args_of, passed_at, BelongsTo}
 use Rattle.clif_ssa.proofs.Bodies.{param_exists}
 use Rattle.clif_ssa.proofs.Ordering.{map_same, parameters_same}
 
@@ -99,7 +100,7 @@ homes_kept blocks blocks' v same sealed names fits =
     subst (λ (d : Definition). HomeFits blocks' v d.kind) (sym same) (home_kept blocks blocks' v (blocks.function.definition v).kind same sealed names fits)
 
 -- the block of a complete parameter is sealed
-pub complete_sealed : (own : ℕ → List ℕ) (f : Body) (s : SsaState) (completing : List Pending) (blocks : Blocks) (b v : ℕ) → Describes own f s completing blocks
+pub complete_sealed : (own : Own) (f : Body) (s : SsaState) (completing : List Pending) (blocks : Blocks) (b v : ℕ) → Describes own f s completing blocks
     → blocks.function.definition v ≡ record { home = front b; kind = complete } → blocks.sealed b ≡ true
 complete_sealed own f s completing blocks b v before is =
     let fits : HomeFits blocks v complete = subst (λ (k : Kind). HomeFits blocks v k) (ap (λ (d : Definition). d.kind) is) (before.homes v) in
@@ -128,7 +129,7 @@ pub record Arms (f : Body) (s : SsaState) (blocks : Blocks) : Type 0 where
   pub leading_apart : (b : ℕ) → Once (map (branch_block f) (predecessors_of s b))
   pub entry_apart : (entry : ℕ) → entry_of f ≡ Some entry → predecessors_of s entry ≡ []
 
-pub arms_of : (own : ℕ → List ℕ) (f : Body) (s : SsaState) (completing : List Pending) (blocks : Blocks) → Describes own f s completing blocks → Arms f s blocks
+pub arms_of : (own : Own) (f : Body) (s : SsaState) (completing : List Pending) (blocks : Blocks) → Describes own f s completing blocks → Arms f s blocks
 arms_of own f s completing blocks before = record {
   sealed = before.sealed;
   joined = before.joined;
@@ -247,7 +248,7 @@ new_kinds blocks blocks' z new is_new is_old no_complete no_pending = record {
     kind_of v same = ap (λ w. (blocks'.function.definition w).kind) same ∙ ap (λ (d : Definition). d.kind) is_new
 
 -- the order of parameters, and what edges pass
-pub record Ordered (f : Body) (s : SsaState) (completing : List Pending) (blocks : Blocks) : Type 0 where
+pub record Ordered (own : Own) (f : Body) (s : SsaState) (completing : List Pending) (blocks : Blocks) : Type 0 where
   pub complete_there : (b v : ℕ) → blocks.function.definition v ≡ record { home = front b; kind = complete } → param_home f v ≡ Some b
   pub complete_first : (b v u x : ℕ) → blocks.function.definition v ≡ record { home = front b; kind = complete }
       → blocks.function.definition u ≡ record { home = front b; kind = pending x } → param_home f u ≡ Some b
@@ -256,9 +257,10 @@ pub record Ordered (f : Body) (s : SsaState) (completing : List Pending) (blocks
   pub completing_order : (b : ℕ) → InOrder (block_at f b).params (parameters_of f b completing)
   pub passes : (b v : ℕ) (arm : Arm) (edge : IsEdgeInto f s blocks b arm)
       → blocks.function.definition v ≡ record { home = front b; kind = complete } → arm.target ≡ front b
-      → passed_at f edge.branch arm.edge (place_of v (block_at f b).params) ≡ Some (Value (blocks.function.argument v arm))
+      → (j : ℕ) → BelongsTo own b edge.branch arm.edge (place_of v (block_at f b).params) j
+      → passed_at f edge.branch arm.edge j ≡ Some (Value (blocks.function.argument v arm))
 
-pub ordered_of : (own : ℕ → List ℕ) (f : Body) (s : SsaState) (completing : List Pending) (blocks : Blocks) → Describes own f s completing blocks → Ordered f s completing blocks
+pub ordered_of : (own : Own) (f : Body) (s : SsaState) (completing : List Pending) (blocks : Blocks) → Describes own f s completing blocks → Ordered own f s completing blocks
 ordered_of own f s completing blocks before = record {
   complete_there = before.complete_there;
   complete_first = before.complete_first;
@@ -283,8 +285,26 @@ pub record SameOrder (f g : Body) (s t : SsaState) (blocks blocks' : Blocks) : T
   pub entries : (b : ℕ) → pending_of (sealed_of t b) ≡ pending_of (sealed_of s b)
   pub arguments : (v : ℕ) (arm : Arm) → blocks'.function.argument v arm ≡ blocks.function.argument v arm
 
-pub ordered_kept : (f g : Body) (s t : SsaState) (completing : List Pending) (blocks blocks' : Blocks) → SameOrder f g s t blocks blocks' → Ordered f s completing blocks → Ordered g t completing blocks'
-ordered_kept f g s t completing blocks blocks' same order = record {
+-- The caller made as many parameters as before, and the branches that lead to blocks pass as much of its.
+pub record SameGiven (own own' : Own) (s : SsaState) : Type 0 where
+  pub params : (b : ℕ) → length (own'.params b) ≡ length (own.params b)
+  pub passed : (b i k : ℕ) → Contains (predecessors_of s b) i → length (own'.passed i k) ≡ length (own.passed i k)
+
+pub ordered_given : (own own' : Own) (f : Body) (s : SsaState) (completing : List Pending) (blocks : Blocks) → SameGiven own own' s → Ordered own f s completing blocks → Ordered own' f s completing blocks
+ordered_given own own' f s completing blocks same order = record {
+  complete_there = order.complete_there;
+  complete_first = order.complete_first;
+  waiting_order = order.waiting_order;
+  completing_order = order.completing_order;
+  passes = λ b v arm edge is at j belongs.
+      let given : length (own'.passed edge.branch arm.edge) ≡ length (own.passed edge.branch arm.edge) = same.passed b edge.branch arm.edge edge.leads in
+      let callers : length (own'.params b) ≡ length (own.params b) = same.params b in
+      order.passes b v arm edge is at j (omega (arith, belongs, given, callers));
+}
+
+pub ordered_kept : (own : Own) (f g : Body) (s t : SsaState) (completing : List Pending) (blocks blocks' : Blocks) → SameOrder f g s t blocks blocks'
+    → Ordered own f s completing blocks → Ordered own g t completing blocks'
+ordered_kept own f g s t completing blocks blocks' same order = record {
   complete_there = λ b v is. same.homes v ∙ order.complete_there b v (same.kinds.complete_before v b is);
   complete_first = λ b v u x is waits home.
       subst (λ ps. place_of v ps < place_of u ps) (sym (same.params b))
@@ -295,11 +315,10 @@ ordered_kept f g s t completing blocks blocks' same order = record {
   completing_order = λ b.
       subst (λ ps. InOrder ps (parameters_of g b completing)) (sym (same.params b))
       (subst (λ qs. InOrder (block_at f b).params qs) (sym (parameters_same f g b completing (λ p here. ap (is_some_block b) (same.homes p.param)))) (order.completing_order b));
-  passes = λ b v arm edge is at.
+  passes = λ b v arm edge is at j belongs.
       let old : IsEdgeInto f s blocks b arm = edge_before f g s t blocks blocks' b arm same.edges edge in
-      same.passed b edge.branch arm.edge (place_of v (block_at g b).params) old.leads
-      ∙ ap (λ ps. passed_at f edge.branch arm.edge (place_of v ps)) (same.params b)
-      ∙ order.passes b v arm old (same.kinds.complete_before v b is) at
+      same.passed b edge.branch arm.edge j old.leads
+      ∙ order.passes b v arm old (same.kinds.complete_before v b is) at j (subst (λ (ps : List ℕ). BelongsTo own b edge.branch arm.edge (place_of v ps) j) (same.params b) belongs)
       ∙ ap (λ w. Some (Value w)) (sym (same.arguments v arm));
 }
 

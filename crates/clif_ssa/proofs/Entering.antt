@@ -11,6 +11,7 @@ use Rattle.clif_paths.specs.BlockLaws.{BlocksSound}
 use Rattle.clif_paths.proofs.PathLemmas.{same_place-true, same_place-refl}
 use Rattle.clif_paths.proofs.BlockSteps.{seal_blocks_keeps}
 use Rattle.clif_ssa.specs.declared.tables.Pending.{Pending}
+use Rattle.clif_ssa.specs.Own.{Own}
 use Rattle.clif_ssa.specs.Tables.{is_yes, pending_of}
 use Rattle.clif_ssa.specs.Ssa.{SsaState, sealed_of, record_of, predecessors_of, SameRecords, SamePredecessors}
 use Rattle.clif_ssa.specs.Sound.{Describes, IsWaiting, IsEdgeInto, InOrder, parameters_of, has_entry, entry_of}
@@ -30,7 +31,7 @@ pub record Waiting (f : Body) (t : SsaState) (completing : List Pending) (blocks
   pub waiting_order : (b : ℕ) → InOrder (block_at f b).params (pending_of (sealed_of t b))
   pub completing_order : (b : ℕ) → InOrder (block_at f b).params (parameters_of f b completing)
 
-pub waiting_of : (own : ℕ → List ℕ) (f : Body) (s : SsaState) (completing : List Pending) (blocks : Blocks) → Describes own f s completing blocks → Waiting f s completing blocks
+pub waiting_of : (own : Own) (f : Body) (s : SsaState) (completing : List Pending) (blocks : Blocks) → Describes own f s completing blocks → Waiting f s completing blocks
 waiting_of own f s completing blocks before = record {
   waiting = before.waiting;
   completed = before.completed;
@@ -48,7 +49,7 @@ pub same_leads : (s t : SsaState) (blocks : Blocks) → SamePredecessors s t →
 same_leads s t blocks same b i sealed here = subst (λ xs. Contains xs i) (same b) here
 
 -- only the layout, what is sealed, what waits and what is known of arms changed
-pub relaid : (own : ℕ → List ℕ) (f : Body) (layout : List ℕ) (s t : SsaState) (completing completing' : List Pending) (blocks : Blocks) (sealed : ℕ → Bool) (joins : Edges)
+pub relaid : (own : Own) (f : Body) (layout : List ℕ) (s t : SsaState) (completing completing' : List Pending) (blocks : Blocks) (sealed : ℕ → Bool) (joins : Edges)
     → Describes own f s completing blocks → SameRecords s t → NoNewLeads s t blocks → KeepsSealed blocks (record blocks { sealed = sealed; joins = joins })
     → Arms (record f { layout = layout }) t (record blocks { sealed = sealed; joins = joins }) → Waiting f t completing' blocks
     → Describes own (record f { layout = layout }) t completing' (record blocks { sealed = sealed; joins = joins })
@@ -86,15 +87,15 @@ relaid own f layout s t completing completing' blocks sealed joins before same l
       complete_first = before.complete_first;
       waiting_order = waits.waiting_order;
       completing_order = waits.completing_order;
-      passes = λ b v arm edge is at.
+      passes = λ b v arm edge is at j belongs.
           before.passes b v arm
           (record {
             branch = edge.branch;
             leads = leads b edge.branch (complete_sealed own f s completing blocks b v before is) edge.leads;
             from = edge.from;
             to = edge.to;
-          }) is at;
-      instructions = λ b. instructions_kept f g blocks after b (own b) extends refl (before.instructions b);
+          }) is at j belongs;
+      instructions = λ b. instructions_kept f g blocks after b (own.insts b) extends refl (before.instructions b);
     }
 
 -- ARMS INTO THE ENTRY ----------------------------------------------------------------------------------------------
@@ -135,7 +136,7 @@ cond_self true other is = refl
 cond_self false other is = is
 
 -- nothing is known of arms before there is an entry
-pub none_sealed : (own : ℕ → List ℕ) (f : Body) (s : SsaState) (completing : List Pending) (blocks : Blocks) → Describes own f s completing blocks → f.layout ≡ []
+pub none_sealed : (own : Own) (f : Body) (s : SsaState) (completing : List Pending) (blocks : Blocks) → Describes own f s completing blocks → f.layout ≡ []
     → (b : ℕ) → blocks.sealed b ≡ false
 none_sealed own f s completing blocks before empty b = before.sealed b ∙ ap (λ layout. is_yes (sealed_of s b) && has_entry layout) empty ∙ and_false (is_yes (sealed_of s b))
   where
@@ -148,12 +149,12 @@ and_true true = refl
 and_true false = refl
 
 -- then no branch leads anywhere
-pub none_leads : (own : ℕ → List ℕ) (f : Body) (s : SsaState) (completing : List Pending) (blocks : Blocks) → Describes own f s completing blocks → f.layout ≡ []
+pub none_leads : (own : Own) (f : Body) (s : SsaState) (completing : List Pending) (blocks : Blocks) → Describes own f s completing blocks → f.layout ≡ []
     → (b i : ℕ) → Contains (predecessors_of s b) i → ⊥
 none_leads own f s completing blocks before empty b i here = false_true (sym (ap has_entry empty) ∙ (before.leading b i here).1)
 
 -- the first block
-first_arms : (own : ℕ → List ℕ) (f : Body) (s : SsaState) (completing : List Pending) (blocks : Blocks) (b : ℕ) → Describes own f s completing blocks → f.layout ≡ []
+first_arms : (own : Own) (f : Body) (s : SsaState) (completing : List Pending) (blocks : Blocks) (b : ℕ) → Describes own f s completing blocks → f.layout ≡ []
     → Arms (record f { layout = b ∷ [] }) s (with_blocks_sealed blocks (λ c. is_yes (sealed_of s c)) (enters b))
 first_arms own f s completing blocks b before empty = record {
   sealed = λ c. cond_self (is_yes (sealed_of s c)) (blocks.sealed c) (none_sealed own f s completing blocks before empty c) ∙ sym (and_true (is_yes (sealed_of s c)));
@@ -219,7 +220,7 @@ next_arms f layout c b s blocks is arms =
     (ap (λ l. slice_get (l ++ b ∷ []) 0) is ∙ sym (ap (λ l. slice_get l 0) is))
     (ap (λ l. has_entry (l ++ b ∷ [])) is ∙ sym (ap has_entry is)) arms
 
-placed : (own : ℕ → List ℕ) (f : Body) (s : SsaState) (completing : List Pending) (blocks : Blocks) (b : ℕ) (layout : List ℕ) → f.layout ≡ layout
+placed : (own : Own) (f : Body) (s : SsaState) (completing : List Pending) (blocks : Blocks) (b : ℕ) (layout : List ℕ) → f.layout ≡ layout
     → Describes own f s completing blocks → BlocksSound blocks
     → Describes own (with_layout f b) s completing (with_entry layout s b blocks) × BlocksSound (with_entry layout s b blocks)
 placed own f s completing blocks b [] is before sound =
@@ -238,13 +239,13 @@ placed own f s completing blocks b (c ∷ layout) is before sound = (
 )
 
 -- a block that stands in the layout already
-standing : (own : ℕ → List ℕ) (f : Body) (s : SsaState) (completing : List Pending) (blocks : Blocks) (b : ℕ) (layout : List ℕ) → stands_in b layout ≡ true
+standing : (own : Own) (f : Body) (s : SsaState) (completing : List Pending) (blocks : Blocks) (b : ℕ) (layout : List ℕ) → stands_in b layout ≡ true
     → Describes own f s completing blocks → BlocksSound blocks
     → Describes own f s completing (with_entry layout s b blocks) × BlocksSound (with_entry layout s b blocks)
 standing own f s completing blocks b [] is before sound = absurd (false_true is)
 standing own f s completing blocks b (c ∷ layout) is before sound = (before, sound)
 
-pub inserted : (own : ℕ → List ℕ) (f : Body) (s : SsaState) (completing : List Pending) (blocks : Blocks) (b : ℕ)
+pub inserted : (own : Own) (f : Body) (s : SsaState) (completing : List Pending) (blocks : Blocks) (b : ℕ)
     → Describes own f s completing blocks → BlocksSound blocks
     → Describes own (inserted_in f b) s completing (with_entry f.layout s b blocks) × BlocksSound (with_entry f.layout s b blocks)
 inserted own f s completing blocks b before sound = by (stands_in b f.layout) refl

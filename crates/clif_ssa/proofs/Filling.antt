@@ -1,5 +1,5 @@
 -- Several values come to a parameter: each edge to its block passes one.
-use Rattle.std.proofs.Common.{◌≡◌, ◌≢◌, ℕ, ◌+◌, ◌<◌, ◌≤◌, true, List, [], ◌∷◌, ◌++◌, length, map, refl, ap, arith, sym, ◌∙◌, subst, inl, inr}
+use Rattle.std.proofs.Common.{◌≡◌, ◌≢◌, ℕ, ◌+◌, ◌-◌, ◌<◌, ◌≤◌, true, List, [], ◌∷◌, ◌++◌, length, map, refl, ap, arith, sym, ◌∙◌, subst, inl, inr}
 use Rattle.std.specs.Prelude.{Some, Contains, slice_get, slice_index}
 use Rattle.std.specs.List.{AllByRecursion}
 use Rattle.std.proofs.lemmas.Grind.{common_steps}
@@ -16,9 +16,10 @@ use Rattle.clif_paths.specs.Blocks.{Blocks, front, last_place, with_filled}
 use Rattle.clif_paths.specs.LookUp.{Paired}
 use Rattle.clif_paths.proofs.Tables.{updated-same, updated-other}
 use Rattle.clif_ssa.specs.declared.tables.Pending.{Pending}
+use Rattle.clif_ssa.specs.Own.{Own}
 use Rattle.clif_ssa.specs.Ssa.{SsaState, predecessors_of}
 use Rattle.clif_ssa.specs.LookUp.{branch_block, with_arguments}
-use Rattle.clif_ssa.specs.Sound.{Describes, HomeFits, IsZero, HasInstructions, IsEdgeInto, CountsArguments, IsCounted, edges_at, edge_target, args_of, passed_at, passed_count, InOrder}
+use Rattle.clif_ssa.specs.Sound.{Describes, HomeFits, IsZero, HasInstructions, IsEdgeInto, BelongsTo, CountsArguments, IsBehind, IsCounted, edges_at, edge_target, args_of, passed_at, passed_count, InOrder}
 use Rattle.clif_ssa.proofs.Bodies.{Firm, param_exists}
 use Rattle.clif_ssa.proofs.Describing.{waiting_kept, homes_kept, assigns_not_kept, Arms, arms_of, SameEdges, edge_before, arms_kept}
 use Rattle.clif_ssa.proofs.Firsts.{IsFirst, first_waits, order_rest, same_some, front_same}
@@ -40,37 +41,45 @@ complete_home same = front_same (ap (λ (d : Definition). d.home) same)
 
 -- THE PLACE -------------------------------------------------------------------------------------------------------
 
--- edges to the block pass as many arguments as there are parameters before the first one that waits
-pub count_first : (f : Body) (s : SsaState) (blocks : Blocks) (ps : List Pending) (p : Pending) (b i k : ℕ) → Housed f → CountsArguments f s blocks
+-- edges to the block pass arguments to all parameters before the first one that waits
+pub count_first : (own : Own) (f : Body) (s : SsaState) (blocks : Blocks) (ps : List Pending) (p : Pending) (b i k : ℕ) → Housed f → CountsArguments own f s blocks
     → IsFirst f s ps blocks p b → Contains (predecessors_of s b) i → edge_target f i k ≡ Some b
-    → passed_count f i k ≡ place_of p.param (block_at f b).params
-count_first f s blocks ps p b i k housed counts first here leads =
+    → BelongsTo own b i k (place_of p.param (block_at f b).params) (passed_count f i k)
+count_first own f s blocks ps p b i k housed counts first here leads =
     let params : List ℕ = (block_at f b).params in
-    let count : ℕ = passed_count f i k in
-    let below : count ≤ place_of p.param params =
-    subst (λ (d : Definition). IsCounted d.kind (place_of p.param params) count) first.defined (counts.counted b i k p.param here leads first.parameter) in
-    let in_list : place_of p.param params < length params = stands_place p.param params (housed.stands p.param b first.parameter) in
-    elim (below_or_not count (place_of p.param params)) [
+    let place : ℕ = place_of p.param params in
+    let below : passed_count f i k + length (own.params b) ≤ place + length (own.passed i k) =
+    subst (λ (d : Definition). IsCounted d.kind place (length (own.params b)) (passed_count f i k) (length (own.passed i k))) first.defined (counts.counted b i k p.param here leads first.parameter) in
+    let few : length (own.passed i k) ≤ passed_count f i k = counts.no_fewer b i k here leads in
+    let in_list : place < length params = stands_place p.param params (housed.stands p.param b first.parameter) in
+    elim (below_or_not (passed_count f i k + length (own.params b)) (place + length (own.passed i k))) [
       | inl less ↦
-          let inside_list : count < length params = omega (arith, less, in_list) in
-          let v : ℕ = slice_index params count in
-          let at : place_of v params ≡ count = place_at params count (housed.once b) inside_list in
-          let is : param_home f v ≡ Some b = housed.known v b (count, inside_list, refl) in
-          absurd (by v at is less (blocks.function.definition v).kind refl (counts.counted b i k v here leads is))
+          let before : ℕ = place - 1 in
+          let one_less : before + 1 ≡ place = omega (arith, less, few) in
+          let v : ℕ = slice_index params before in
+          let inside_list : before < length params = omega (arith, one_less, in_list) in
+          let at : place_of v params ≡ before = place_at params before (housed.once b) inside_list in
+          let is : param_home f v ≡ Some b = housed.known v b (before, inside_list, refl) in
+          absurd (by v at one_less is less few (blocks.function.definition v).kind refl (counts.behind b v is) (counts.counted b i k v here leads is))
       | inr not_less ↦ omega (arith, below, not_less)
     ]
   where
-    by : (v : ℕ) → place_of v (block_at f b).params ≡ passed_count f i k → param_home f v ≡ Some b
-        → passed_count f i k < place_of p.param (block_at f b).params
-        → (kind : Kind) → (blocks.function.definition v).kind ≡ kind → IsCounted kind (place_of v (block_at f b).params) (passed_count f i k) → ⊥
-    by v at is less (pending x) defined counted =
-        let other : v ≢ p.param = λ same. let even : place_of v (block_at f b).params ≡ place_of p.param (block_at f b).params = ap (λ u. place_of u (block_at f b).params) same in absurd (omega (arith, even, at, less)) in
-        let before : place_of p.param (block_at f b).params < place_of v (block_at f b).params = first.before_others v x defined is other in
-        absurd (omega (arith, at, less, before))
-    by v at is less unborn defined counted = absurd (omega (arith, at, counted))
-    by v at is less (born n) defined counted = absurd (omega (arith, at, counted))
-    by v at is less complete defined counted = absurd (omega (arith, at, counted))
-    by v at is less (zero_of x) defined counted = absurd (omega (arith, at, counted))
+    by : (v : ℕ) {before : ℕ} → place_of v (block_at f b).params ≡ before → before + 1 ≡ place_of p.param (block_at f b).params → param_home f v ≡ Some b
+        → passed_count f i k + length (own.params b) < place_of p.param (block_at f b).params + length (own.passed i k) → length (own.passed i k) ≤ passed_count f i k
+        → (kind : Kind) → (blocks.function.definition v).kind ≡ kind → IsBehind (blocks.function.definition v).kind (place_of v (block_at f b).params) (length (own.params b))
+        → IsCounted (blocks.function.definition v).kind (place_of v (block_at f b).params) (length (own.params b)) (passed_count f i k) (length (own.passed i k)) → ⊥
+    by v at one_less is less few (pending x) defined behind counted =
+        let other : v ≢ p.param = λ same. let even : place_of v (block_at f b).params ≡ place_of p.param (block_at f b).params = ap (λ u. place_of u (block_at f b).params) same in absurd (omega (arith, even, at, one_less)) in
+        let after : place_of p.param (block_at f b).params < place_of v (block_at f b).params = first.before_others v x defined is other in
+        absurd (omega (arith, at, one_less, after))
+    by v at one_less is less few unborn defined behind counted = rw defined at behind
+    by v at one_less is less few (born n) defined behind counted =
+        let first_ones : place_of v (block_at f b).params < length (own.params b) = rw defined at behind in
+        omega (arith, at, one_less, less, few, first_ones)
+    by v at one_less is less few complete defined behind counted =
+        let enough : place_of v (block_at f b).params + length (own.passed i k) < passed_count f i k + length (own.params b) = rw defined at counted in
+        omega (arith, at, one_less, less, enough)
+    by v at one_less is less few (zero_of x) defined behind counted = rw defined at behind
 
 -- WHAT STAYS ------------------------------------------------------------------------------------------------------
 
@@ -96,10 +105,10 @@ zeros_filled f g blocks b c [] v x given passing waits all = tt
 zeros_filled f g blocks b c (i ∷ zeros) v x given passing waits all =
     (zero_filled f g blocks b c i v x given passing waits all.0, zeros_filled f g blocks b c zeros v x given passing waits all.1)
 
-filled_with : (own : ℕ → List ℕ) (f : Body) (insts : List InstNode) (s : SsaState) (p : Pending) (ps : List Pending) (blocks : Blocks) (b : ℕ) (given : Arm → ℕ)
+filled_with : (own : Own) (f : Body) (insts : List InstNode) (s : SsaState) (p : Pending) (ps : List Pending) (blocks : Blocks) (b : ℕ) (given : Arm → ℕ)
     → Describes own f s (p ∷ ps) blocks → IsFirst f s ps blocks p b → blocks.sealed b ≡ true → Passing b f (record f { insts = insts })
     → ((i k : ℕ) (arm : Arm) → Contains (predecessors_of s b) i → edge_target f i k ≡ Some b → arm.source ≡ last_place blocks (branch_block f i)
-    → passed_at (record f { insts = insts }) i k (place_of p.param (block_at f b).params) ≡ Some (Value (given arm)))
+    → (j : ℕ) → BelongsTo own b i k (place_of p.param (block_at f b).params) j → passed_at (record f { insts = insts }) i k j ≡ Some (Value (given arm)))
     → Describes own (record f { insts = insts }) s ps (with_filled blocks p.param given)
 filled_with own f insts s p ps blocks b given before first sealed passing passed =
     let g : Body = record f { insts = insts } in
@@ -190,23 +199,23 @@ filled_with own f insts s p ps blocks b given before first sealed passing passed
       completing_order = λ c.
           subst (λ qs. InOrder (block_at f c).params qs) (sym (parameters_same f g c ps (λ q here. refl)))
           (order_rest (block_at f c).params f c p ps (before.completing_order c));
-      passes = λ c u arm edge is at.
+      passes = λ c u arm edge is at j belongs.
           let old : IsEdgeInto f s blocks c arm = edge_before f g s s blocks after c arm edges edge in
           elim (cases_eq u v) [
             | inl same ↦
                 let here : c ≡ b = sym (complete_home (sym new_at ∙ ap (λ z. after.function.definition z) (sym same) ∙ is)) in
-                ap (λ z. passed_at g edge.branch arm.edge (place_of z (block_at f c).params)) same
-                ∙ ap (λ d. passed_at g edge.branch arm.edge (place_of v (block_at f d).params)) here
-                ∙ passed edge.branch arm.edge arm (subst (λ d. Contains (predecessors_of s d) edge.branch) here old.leads) (old.to ∙ ap Some here) old.from
+                passed edge.branch arm.edge arm (subst (λ d. Contains (predecessors_of s d) edge.branch) here old.leads) (old.to ∙ ap Some here) old.from j
+                (subst (λ d. BelongsTo own d edge.branch arm.edge (place_of v (block_at f d).params) j) here
+                (subst (λ z. BelongsTo own c edge.branch arm.edge (place_of z (block_at f c).params) j) same belongs))
                 ∙ ap (λ t. Some (Value (t arm))) (sym (updated-same blocks.function.argument v given v refl))
                 ∙ ap (λ z. Some (Value (after.function.argument z arm))) (sym same)
             | inr other ↦
-                passing.kept edge.branch arm.edge (place_of u (block_at f c).params) (Value (blocks.function.argument u arm))
-                (before.passes c u arm old (sym (is_old u other) ∙ is) at)
+                passing.kept edge.branch arm.edge j (Value (blocks.function.argument u arm))
+                (before.passes c u arm old (sym (is_old u other) ∙ is) at j belongs)
                 ∙ ap (λ t. Some (Value (t arm))) (sym (updated-other blocks.function.argument v given u other))
           ];
       instructions = λ c.
-          let has : HasInstructions f blocks c (own c) = before.instructions c in
+          let has : HasInstructions f blocks c (own.insts c) = before.instructions c in
           record { zeros = has.zeros; in_order = has.in_order; are_zeros = zeros_filled f g blocks b c has.zeros v p.variable given passing first.defined has.are_zeros };
     }
 
@@ -217,19 +226,21 @@ abbrev pub given_in : Body → SsaState → Blocks → ℕ → List ℕ → Arm 
 given_in f s blocks b values = given_by blocks (map (branch_block f) (predecessors_of s b)) values
 
 -- each edge of the branches to the block passes its value, at the place of the first parameter that waits
-passed_there : (own : ℕ → List ℕ) (f : Body) (s : SsaState) (p : Pending) (ps : List Pending) (blocks : Blocks) (b : ℕ) (values : List ℕ) → Housed f
-    → Describes own f s (p ∷ ps) blocks → CountsArguments f s blocks → IsFirst f s ps blocks p b → length values ≡ length (predecessors_of s b)
+passed_there : (own : Own) (f : Body) (s : SsaState) (p : Pending) (ps : List Pending) (blocks : Blocks) (b : ℕ) (values : List ℕ) → Housed f
+    → Describes own f s (p ∷ ps) blocks → CountsArguments own f s blocks → IsFirst f s ps blocks p b → length values ≡ length (predecessors_of s b)
     → (i k : ℕ) (arm : Arm) → Contains (predecessors_of s b) i → edge_target f i k ≡ Some b → arm.source ≡ last_place blocks (branch_block f i)
-    → passed_at (with_arguments f b (predecessors_of s b) values) i k (place_of p.param (block_at f b).params) ≡ Some (Value (given_in f s blocks b values arm))
-passed_there own f s p ps blocks b values housed before counts first count i k arm here leads from =
+    → (j : ℕ) → BelongsTo own b i k (place_of p.param (block_at f b).params) j
+    → passed_at (with_arguments f b (predecessors_of s b) values) i k j ≡ Some (Value (given_in f s blocks b values arm))
+passed_there own f s p ps blocks b values housed before counts first count i k arm here leads from j belongs =
     let args : List BlockArg = args_of (slice_get (edges_at f i) k) in
-    let at : length args ≡ place_of p.param (block_at f b).params = count_first f s blocks ps p b i k housed counts first here leads in
-    ap (λ xs. slice_get xs (place_of p.param (block_at f b).params))
+    let last : BelongsTo own b i k (place_of p.param (block_at f b).params) (length args) = count_first own f s blocks ps p b i k housed counts first here leads in
+    let at : length args ≡ j = omega (arith, last, belongs) in
+    ap (λ xs. slice_get xs j)
     (arguments_given (predecessors_of s b) values f b i k blocks arm (λ j there. (before.leading b j there).0) (before.leading_apart b) count here leads from)
     ∙ ap (λ n. slice_get (args ++ Value (given_in f s blocks b values arm) ∷ []) n) (sym at)
     ∙ some_pushed args (Value (given_in f s blocks b values arm))
 
-pub arguments_passing : (own : ℕ → List ℕ) (f : Body) (s : SsaState) (completing : List Pending) (blocks : Blocks) (b : ℕ) (values : List ℕ)
+pub arguments_passing : (own : Own) (f : Body) (s : SsaState) (completing : List Pending) (blocks : Blocks) (b : ℕ) (values : List ℕ)
     → Describes own f s completing blocks → Passing b f (with_arguments f b (predecessors_of s b) values)
 arguments_passing own f s completing blocks b values before = arguments_pass (predecessors_of s b) values f b (λ j there. (before.leading b j there).0)
 
@@ -246,8 +257,8 @@ only_insts b f g passing = record {
   elsewhere = passing.elsewhere;
 }
 
-pub filled_described : (own : ℕ → List ℕ) (f : Body) (s : SsaState) (p : Pending) (ps : List Pending) (blocks : Blocks) (b : ℕ) (values : List ℕ) → Housed f
-    → Describes own f s (p ∷ ps) blocks → CountsArguments f s blocks → param_home f p.param ≡ Some b → blocks.sealed b ≡ true
+pub filled_described : (own : Own) (f : Body) (s : SsaState) (p : Pending) (ps : List Pending) (blocks : Blocks) (b : ℕ) (values : List ℕ) → Housed f
+    → Describes own f s (p ∷ ps) blocks → CountsArguments own f s blocks → param_home f p.param ≡ Some b → blocks.sealed b ≡ true
     → length values ≡ length (predecessors_of s b)
     → Describes own (with_arguments f b (predecessors_of s b) values) s ps (with_filled blocks p.param (given_in f s blocks b values))
 filled_described own f s p ps blocks b values housed before counts is sealed count =
@@ -259,7 +270,7 @@ filled_described own f s p ps blocks b values housed before counts is sealed cou
     (passed_there own f s p ps blocks b values housed before counts first count))
 
 -- each arm into the block gets the value that stands beside the block from which it comes
-pub given_arms : (own : ℕ → List ℕ) (f : Body) (s : SsaState) (completing : List Pending) (blocks : Blocks) (b : ℕ) (values : List ℕ)
+pub given_arms : (own : Own) (f : Body) (s : SsaState) (completing : List Pending) (blocks : Blocks) (b : ℕ) (values : List ℕ)
     → Describes own f s completing blocks → length values ≡ length (predecessors_of s b) → (i : ℕ) → Contains (predecessors_of s b) i → (arm : Arm)
     → arm.source ≡ last_place blocks (branch_block f i)
     → Paired (map (branch_block f) (predecessors_of s b)) values (branch_block f i) (given_in f s blocks b values arm)
@@ -275,7 +286,7 @@ pub filled_housed : (b : ℕ) (f g : Body) → Passing b f g → Housed f → Ho
 filled_housed b f g passing housed = subst Housed (sym passing.same) (record { stands = housed.stands; known = housed.known; once = housed.once })
 
 -- the edges to the block pass one argument more
-one_more : (own : ℕ → List ℕ) (f : Body) (s : SsaState) (p : Pending) (ps : List Pending) (blocks : Blocks) (b : ℕ) (values : List ℕ)
+one_more : (own : Own) (f : Body) (s : SsaState) (p : Pending) (ps : List Pending) (blocks : Blocks) (b : ℕ) (values : List ℕ)
     → Describes own f s (p ∷ ps) blocks → length values ≡ length (predecessors_of s b) → (i k : ℕ) → Contains (predecessors_of s b) i → edge_target f i k ≡ Some b
     → passed_count (with_arguments f b (predecessors_of s b) values) i k ≡ passed_count f i k + 1
 one_more own f s p ps blocks b values before count i k here leads =
@@ -286,18 +297,19 @@ one_more own f s p ps blocks b values before count i k here leads =
     ∙ longer
 
 -- what is counted, for a parameter that stays as it is, where one argument more is passed
-more_counted : (kind : Kind) (place count first : ℕ) → IsCounted kind place count → count ≡ first → ((x : ℕ) → kind ≡ pending x → first < place) → IsCounted kind place (count + 1)
-more_counted unborn place count first is at later = omega (arith, is)
-more_counted (born n) place count first is at later = omega (arith, is)
-more_counted (pending x) place count first is at later = omega (arith, later x refl, at)
-more_counted complete place count first is at later = omega (arith, is)
-more_counted (zero_of x) place count first is at later = omega (arith, is)
+more_counted : (kind : Kind) (place callers count given first : ℕ) → IsCounted kind place callers count given → count + callers ≡ first + given
+    → ((x : ℕ) → kind ≡ pending x → first < place) → IsCounted kind place callers (count + 1) given
+more_counted unborn place callers count given first is at later = tt
+more_counted (born n) place callers count given first is at later = tt
+more_counted (pending x) place callers count given first is at later = omega (arith, later x refl, at)
+more_counted complete place callers count given first is at later = omega (arith, is)
+more_counted (zero_of x) place callers count given first is at later = tt
 
-counted_with : (f : Body) (insts : List InstNode) (s : SsaState) (p : Pending) (ps : List Pending) (blocks : Blocks) (b : ℕ) (given : Arm → ℕ)
-    → Housed f → CountsArguments f s blocks → IsFirst f s ps blocks p b → Passing b f (record f { insts = insts })
+counted_with : (own : Own) (f : Body) (insts : List InstNode) (s : SsaState) (p : Pending) (ps : List Pending) (blocks : Blocks) (b : ℕ) (given : Arm → ℕ)
+    → Housed f → CountsArguments own f s blocks → IsFirst f s ps blocks p b → Passing b f (record f { insts = insts })
     → ((i k : ℕ) → Contains (predecessors_of s b) i → edge_target f i k ≡ Some b → passed_count (record f { insts = insts }) i k ≡ passed_count f i k + 1)
-    → CountsArguments (record f { insts = insts }) s (with_filled blocks p.param given)
-counted_with f insts s p ps blocks b given housed counts first passing more =
+    → CountsArguments own (record f { insts = insts }) s (with_filled blocks p.param given)
+counted_with own f insts s p ps blocks b given housed counts first passing more =
     let g : Body = record f { insts = insts } in
     let v : ℕ = p.param in
     let params : List ℕ = (block_at f b).params in
@@ -307,59 +319,79 @@ counted_with f insts s p ps blocks b given housed counts first passing more =
     let is_old : (u : ℕ) → u ≢ v → after.function.definition u ≡ blocks.function.definition u = λ u other. updated-other blocks.function.definition v now u other in
     let old_leads : (c i k : ℕ) → edge_target g i k ≡ Some c → edge_target f i k ≡ Some c = λ c i k leads. sym (passing.target i k) ∙ leads in
     let in_block : (i k u : ℕ) → Contains (predecessors_of s b) i → edge_target f i k ≡ Some b → param_home f u ≡ Some b
-    → IsCounted (after.function.definition u).kind (place_of u params) (passed_count g i k) =
+    → IsCounted (after.function.definition u).kind (place_of u params) (length (own.params b)) (passed_count g i k) (length (own.passed i k)) =
     λ i k u here leads is.
-    let at : passed_count f i k ≡ place_of v params = count_first f s blocks ps p b i k housed counts first here leads in
-    let longer : passed_count g i k ≡ passed_count f i k + 1 = more i k here leads in
-    subst (λ n. IsCounted (after.function.definition u).kind (place_of u params) n) (sym longer)
+    let at : BelongsTo own b i k (place_of v params) (passed_count f i k) = count_first own f s blocks ps p b i k housed counts first here leads in
+    subst (λ n. IsCounted (after.function.definition u).kind (place_of u params) (length (own.params b)) n (length (own.passed i k))) (sym (more i k here leads))
     (elim (cases_eq u v) [
       | inl same ↦
-          let below : place_of v params < passed_count f i k + 1 = omega (arith, at) in
-          subst (λ w. IsCounted (after.function.definition w).kind (place_of w params) (passed_count f i k + 1)) (sym same)
-          (subst (λ (d : Definition). IsCounted d.kind (place_of v params) (passed_count f i k + 1)) (sym is_new) below)
+          let below : place_of v params + length (own.passed i k) < passed_count f i k + 1 + length (own.params b) = omega (arith, at) in
+          subst (λ w. IsCounted (after.function.definition w).kind (place_of w params) (length (own.params b)) (passed_count f i k + 1) (length (own.passed i k))) (sym same)
+          (subst (λ (d : Definition). IsCounted d.kind (place_of v params) (length (own.params b)) (passed_count f i k + 1) (length (own.passed i k))) (sym is_new) below)
       | inr other ↦
-          subst (λ (d : Definition). IsCounted d.kind (place_of u params) (passed_count f i k + 1)) (sym (is_old u other))
-          (more_counted (blocks.function.definition u).kind (place_of u params) (passed_count f i k) (place_of v params) (counts.counted b i k u here leads is) at
+          subst (λ (d : Definition). IsCounted d.kind (place_of u params) (length (own.params b)) (passed_count f i k + 1) (length (own.passed i k))) (sym (is_old u other))
+          (more_counted (blocks.function.definition u).kind (place_of u params) (length (own.params b)) (passed_count f i k) (length (own.passed i k)) (place_of v params) (counts.counted b i k u here leads is) at
           (λ x waits. first.before_others u x waits is other))
     ]) in
     let other_block : (c i k u : ℕ) → c ≢ b → Contains (predecessors_of s c) i → edge_target f i k ≡ Some c → param_home f u ≡ Some c
-    → IsCounted (after.function.definition u).kind (place_of u (block_at f c).params) (passed_count g i k) =
+    → IsCounted (after.function.definition u).kind (place_of u (block_at f c).params) (length (own.params c)) (passed_count g i k) (length (own.passed i k)) =
     λ c i k u apart here leads is.
     let other : u ≢ v = λ same. apart (same_some (sym is ∙ ap (λ w. param_home f w) same ∙ first.parameter)) in
-    subst (λ n. IsCounted (after.function.definition u).kind (place_of u (block_at f c).params) n) (sym (passing.elsewhere i k c leads apart))
-    (subst (λ (d : Definition). IsCounted d.kind (place_of u (block_at f c).params) (passed_count f i k)) (sym (is_old u other)) (counts.counted c i k u here leads is)) in
+    subst (λ n. IsCounted (after.function.definition u).kind (place_of u (block_at f c).params) (length (own.params c)) n (length (own.passed i k))) (sym (passing.elsewhere i k c leads apart))
+    (subst (λ (d : Definition). IsCounted d.kind (place_of u (block_at f c).params) (length (own.params c)) (passed_count f i k) (length (own.passed i k))) (sym (is_old u other)) (counts.counted c i k u here leads is)) in
     record {
+      behind = λ c u is.
+          elim (cases_eq u v) [
+            | inl same ↦
+                let at : c ≡ b = same_some (sym is ∙ ap (λ w. param_home f w) same ∙ first.parameter) in
+                let old : length (own.params c) ≤ place_of v (block_at f c).params =
+                subst (λ (d : Definition). IsBehind d.kind (place_of v (block_at f c).params) (length (own.params c))) first.defined (counts.behind c v (first.parameter ∙ ap Some (sym at))) in
+                subst (λ w. IsBehind (after.function.definition w).kind (place_of w (block_at f c).params) (length (own.params c))) (sym same)
+                (subst (λ (d : Definition). IsBehind d.kind (place_of v (block_at f c).params) (length (own.params c))) (sym is_new) old)
+            | inr other ↦
+                subst (λ (d : Definition). IsBehind d.kind (place_of u (block_at f c).params) (length (own.params c))) (sym (is_old u other)) (counts.behind c u is)
+          ];
+      callers = counts.callers;
       counted = λ c i k u here leads is.
           elim (cases_eq c b) [
             | inl same ↦
-                subst (λ d. IsCounted (after.function.definition u).kind (place_of u (block_at f d).params) (passed_count g i k)) (sym same)
+                subst (λ d. IsCounted (after.function.definition u).kind (place_of u (block_at f d).params) (length (own.params d)) (passed_count g i k) (length (own.passed i k))) (sym same)
                 (in_block i k u (subst (λ d. Contains (predecessors_of s d) i) same here) (old_leads c i k leads ∙ ap Some same) (is ∙ ap Some same))
             | inr apart ↦ other_block c i k u apart here (old_leads c i k leads) is
+          ];
+      no_fewer = λ c i k here leads.
+          elim (cases_eq c b) [
+            | inl same ↦
+                let longer : passed_count g i k ≡ passed_count f i k + 1 =
+                more i k (subst (λ d. Contains (predecessors_of s d) i) same here) (old_leads c i k leads ∙ ap Some same) in
+                omega (arith, longer, counts.no_fewer c i k here (old_leads c i k leads))
+            | inr apart ↦
+                subst (λ n. length (own.passed i k) ≤ n) (sym (passing.elsewhere i k c (old_leads c i k leads) apart)) (counts.no_fewer c i k here (old_leads c i k leads))
           ];
       no_more = λ c i k here leads.
           elim (cases_eq c b) [
             | inl same ↦
                 let here_b : Contains (predecessors_of s b) i = subst (λ d. Contains (predecessors_of s d) i) same here in
                 let leads_b : edge_target f i k ≡ Some b = old_leads c i k leads ∙ ap Some same in
-                let at : passed_count f i k ≡ place_of v params = count_first f s blocks ps p b i k housed counts first here_b leads_b in
+                let at : BelongsTo own b i k (place_of v params) (passed_count f i k) = count_first own f s blocks ps p b i k housed counts first here_b leads_b in
                 let longer : passed_count g i k ≡ passed_count f i k + 1 = more i k here_b leads_b in
                 let in_list : place_of v params < length params = stands_place v params (housed.stands v b first.parameter) in
-                let fits : passed_count g i k ≤ length params = omega (arith, at, longer, in_list) in
-                subst (λ d. passed_count g i k ≤ length (block_at f d).params) (sym same) fits
+                let fits : passed_count g i k + length (own.params b) ≤ length params + length (own.passed i k) = omega (arith, at, longer, in_list) in
+                subst (λ d. passed_count g i k + length (own.params d) ≤ length (block_at f d).params + length (own.passed i k)) (sym same) fits
             | inr apart ↦
                 let same_count : passed_count g i k ≡ passed_count f i k = passing.elsewhere i k c (old_leads c i k leads) apart in
-                let old : passed_count f i k ≤ length (block_at f c).params = counts.no_more c i k here (old_leads c i k leads) in
+                let old : passed_count f i k + length (own.params c) ≤ length (block_at f c).params + length (own.passed i k) = counts.no_more c i k here (old_leads c i k leads) in
                 omega (arith, same_count, old)
           ];
     }
 
-pub filled_counted : (own : ℕ → List ℕ) (f : Body) (s : SsaState) (p : Pending) (ps : List Pending) (blocks : Blocks) (b : ℕ) (values : List ℕ) → Housed f
-    → Describes own f s (p ∷ ps) blocks → CountsArguments f s blocks → param_home f p.param ≡ Some b
+pub filled_counted : (own : Own) (f : Body) (s : SsaState) (p : Pending) (ps : List Pending) (blocks : Blocks) (b : ℕ) (values : List ℕ) → Housed f
+    → Describes own f s (p ∷ ps) blocks → CountsArguments own f s blocks → param_home f p.param ≡ Some b
     → length values ≡ length (predecessors_of s b)
-    → CountsArguments (with_arguments f b (predecessors_of s b) values) s (with_filled blocks p.param (given_in f s blocks b values))
+    → CountsArguments own (with_arguments f b (predecessors_of s b) values) s (with_filled blocks p.param (given_in f s blocks b values))
 filled_counted own f s p ps blocks b values housed before counts is count =
     let g : Body = with_arguments f b (predecessors_of s b) values in
     let passing : Passing b f g = arguments_passing own f s (p ∷ ps) blocks b values before in
-    subst (λ h. CountsArguments h s (with_filled blocks p.param (given_in f s blocks b values))) (sym passing.same)
-    (counted_with f g.insts s p ps blocks b (given_in f s blocks b values) housed counts (first_waits own f s p ps blocks b before is) (only_insts b f g passing)
+    subst (λ h. CountsArguments own h s (with_filled blocks p.param (given_in f s blocks b values))) (sym passing.same)
+    (counted_with own f g.insts s p ps blocks b (given_in f s blocks b values) housed counts (first_waits own f s p ps blocks b before is) (only_insts b f g passing)
     (one_more own f s p ps blocks b values before count))

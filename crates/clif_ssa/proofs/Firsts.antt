@@ -7,6 +7,7 @@ use Rattle.clif_ir.proofs.Aliases.{follow_end}
 use Rattle.clif_paths.specs.State.{pending}
 use Rattle.clif_paths.specs.Blocks.{Blocks, front}
 use Rattle.clif_ssa.specs.declared.tables.Pending.{Pending}
+use Rattle.clif_ssa.specs.Own.{Own}
 use Rattle.clif_ssa.specs.Tables.{is_yes, pending_of}
 use Rattle.clif_ssa.specs.Ssa.{SsaState, sealed_of}
 use Rattle.clif_ssa.specs.Sound.{Describes, IsWaiting, InOrder, parameters_of, is_parameter_of}
@@ -49,7 +50,7 @@ pub record IsFirst (f : Body) (s : SsaState) (ps : List Pending) (blocks : Block
   pub once : (q : Pending) → Contains ps q → q.param ≢ p.param
   pub only_there : (c : ℕ) (q : Pending) → Contains (pending_of (sealed_of s c)) q → q.param ≢ p.param
 
-pub first_waits : (own : ℕ → List ℕ) (f : Body) (s : SsaState) (p : Pending) (ps : List Pending) (blocks : Blocks) (b : ℕ)
+pub first_waits : (own : Own) (f : Body) (s : SsaState) (p : Pending) (ps : List Pending) (blocks : Blocks) (b : ℕ)
     → Describes own f s (p ∷ ps) blocks → param_home f p.param ≡ Some b → IsFirst f s ps blocks p b
 first_waits own f s p ps blocks b before is =
     elim (before.completed p (contains_first p ps)) [

@@ -44,7 +44,7 @@ pub record Ended (c : Setting) (f : Frame) (frames : List Frame) (tables : Block
   pub after : Blocks
   pub describes : Describes c.own g m.state (completing_of c frames) after
   pub same : SameProgram tables after
-  pub counts : CountsArguments g m.state after
+  pub counts : CountsArguments c.own g m.state after
   pub firm : Firm g
   pub housed : Housed g
   pub since : Since m.function m.state g m.state
@@ -165,7 +165,7 @@ module _ (c : Setting) (f : Frame) (frames : List Frame) (tables : Blocks) (m : 
         after = with_filled tables f.parameter given;
         describes = subst (λ bs. Describes c.own g m.state (completing_of c frames) (with_filled tables f.parameter (given_by tables bs values))) same_before
             (filled_described c.own m.function m.state (pending_for c f) (completing_of c frames) tables f.block values base.housed base.describes base.counts here_is.parameter rest.fits.waits.is_sealed count);
-        counts = subst (λ bs. CountsArguments g m.state (with_filled tables f.parameter (given_by tables bs values))) same_before
+        counts = subst (λ bs. CountsArguments c.own g m.state (with_filled tables f.parameter (given_by tables bs values))) same_before
             (filled_counted c.own m.function m.state (pending_for c f) (completing_of c frames) tables f.block values base.housed base.describes base.counts here_is.parameter count);
         same = record { count = λ k. refl; assigned = λ p y. refl; naming = λ n. refl; answer = λ n. refl };
         firm = filled_firm f.block m.function g passing base.firm;
@@ -222,14 +222,14 @@ ArmsFrom tables block among = (arm : Arm) → tables.joins arm ≡ true → arm.
 record Zeroing (c : Setting) (f : Frame) (frames : List Frame) (g : Body) (s : SsaState) (tables : Blocks) (ty : «Type») : Type 0 where
   pub describes : Describes c.own (with_alias (put_zero g f.block ty) f.parameter (length g.values)) s (completing_of c frames)
       (with_dropped (with_zero_in tables f.block c.variable (length g.values)) f.parameter (length g.values))
-  pub counts : CountsArguments (with_alias (put_zero g f.block ty) f.parameter (length g.values)) s
+  pub counts : CountsArguments c.own (with_alias (put_zero g f.block ty) f.parameter (length g.values)) s
       (with_dropped (with_zero_in tables f.block c.variable (length g.values)) f.parameter (length g.values))
   pub firm : Firm (with_alias (put_zero g f.block ty) f.parameter (length g.values))
   pub housed : Housed (with_alias (put_zero g f.block ty) f.parameter (length g.values))
   pub delivers : Delivers (with_dropped (with_zero_in tables f.block c.variable (length g.values)) f.parameter (length g.values)) (comes_from c) c.variable c.first frames (length g.values)
 
 zeroing : (c : Setting) (f : Frame) (frames : List Frame) (g : Body) (s : SsaState) (tables : Blocks) (ty : «Type») → Firm g → Housed g
-    → Describes c.own g s (completing_of c (f ∷ frames)) tables → CountsArguments g s tables → BlocksSound tables → AtRest tables (comes_from c) c.variable c.first f frames → f.todo ≡ []
+    → Describes c.own g s (completing_of c (f ∷ frames)) tables → CountsArguments c.own g s tables → BlocksSound tables → AtRest tables (comes_from c) c.variable c.first f frames → f.todo ≡ []
     → ArmsFrom tables f.block (comes_from c f.block) → param_home g f.parameter ≡ Some f.block → ((r : ℕ) → InList f.results r → resolved g r ≡ f.parameter)
     → Zeroing c f frames g s tables ty
 zeroing c f frames g s tables ty firm housed before counts sound rest none arms home nothing =
@@ -260,7 +260,7 @@ zeroing c f frames g s tables ty firm housed before counts sound rest none arms 
 
 -- the same for a function in whose layout the block enters first
 pub zero_ends : (c : Setting) (f : Frame) (frames : List Frame) (tables entered : Blocks) (m : Stage) → Base c (f ∷ frames) tables m
-    → Describes c.own (inserted_in m.function f.block) m.state (completing_of c (f ∷ frames)) entered → CountsArguments (inserted_in m.function f.block) m.state entered → BlocksSound entered → SameProgram tables entered
+    → Describes c.own (inserted_in m.function f.block) m.state (completing_of c (f ∷ frames)) entered → CountsArguments c.own (inserted_in m.function f.block) m.state entered → BlocksSound entered → SameProgram tables entered
     → AtRest entered (comes_from c) c.variable c.first f frames → f.todo ≡ [] → ArmsFrom entered f.block (comes_from c f.block)
     → param_home m.function f.parameter ≡ Some f.block → ((r : ℕ) → InList f.results r → resolved m.function r ≡ f.parameter)
     → Ended c f frames tables m (zeroed m.function f.block f.parameter) (length m.function.values)
@@ -333,7 +333,7 @@ frame_zero c f frames tables m base rest none here nothing =
     inserted c.own m.function m.state (completing_of c (f ∷ frames)) tables f.block base.describes base.sound in
     let same : with_entry m.function.layout m.state f.block tables ≡ tables = entered_same m.function.layout m.state f.block tables here.entry in
     zero_ends c f frames tables tables m base (subst (Describes c.own (inserted_in m.function f.block) m.state (completing_of c (f ∷ frames))) same entered.0)
-    (inserted_counted m.function m.state tables tables f.block (λ v. refl) base.counts) base.sound
+    (inserted_counted c.own m.function m.state tables tables f.block (λ v. refl) base.counts) base.sound
     (record { count = λ k. refl; assigned = λ p y. refl; naming = λ n. refl; answer = λ n. refl }) rest none
     (λ arm joins at.
     elim (arm_from c.own m.function m.state (completing_of c (f ∷ frames)) tables f.block arm base.describes joins at) [

@@ -16,6 +16,7 @@ use Rattle.clif_paths.specs.BlockLaws.{BlocksSound}
 use Rattle.clif_paths.specs.LookUp.{Frame, results_of, back_onto, AllKnow, FrameFits, GoesTo, AtRest, InList, LeavesOneOf}
 use Rattle.clif_ssa.specs.declared.look_up.Call.{Call}
 use Rattle.clif_ssa.specs.declared.tables.Pending.{Pending}
+use Rattle.clif_ssa.specs.Own.{Own}
 use Rattle.clif_ssa.specs.Tables.{is_yes}
 use Rattle.clif_ssa.specs.Ssa.{SsaState, record_of, sealed_of, predecessors_of, RecordsStay}
 use Rattle.clif_ssa.specs.LookUp.{branch_block, calls_for, Stage}
@@ -41,7 +42,7 @@ BranchesStand f s = (b i : ℕ) → Contains (predecessors_of s b) i → BranchS
 -- made; the function and the state at first; the variable; the block of the use, if it is one; and the parameters that are
 -- completed later.
 pub record Setting : Type 0 where
-  pub own : ℕ → List ℕ
+  pub own : Own
   pub before : Blocks
   pub function : Body
   pub state : SsaState
@@ -91,7 +92,7 @@ pub record Base (c : Setting) (frames : List Frame) (tables : Blocks) (m : Stage
   pub describes : Describes c.own m.function m.state (completing_of c frames) tables
   pub sound : BlocksSound tables
   pub same : SameProgram c.before tables
-  pub counts : CountsArguments m.function m.state tables
+  pub counts : CountsArguments c.own m.function m.state tables
   pub firm : Firm m.function
   pub housed : Housed m.function
   pub stand : BranchesStand c.function c.state
@@ -214,7 +215,7 @@ pub resolved_inside : (f : Body) (v : ℕ) → Firm f → v < length f.values �
 resolved_inside f v firm inside = follow-inside f.values (length f.values) v firm.leads inside
 
 -- what is known to stand for a record is a value of the function
-pub knows_value : (own : ℕ → List ℕ) (f : Body) (s : SsaState) (waiting : List Pending) (tables : Blocks) (b x r : ℕ) → Firm f → Describes own f s waiting tables
+pub knows_value : (own : Own) (f : Body) (s : SsaState) (waiting : List Pending) (tables : Blocks) (b x r : ℕ) → Firm f → Describes own f s waiting tables
     → Knows tables b x r → r < length f.values
 knows_value own f s waiting tables b x r firm before knows =
     let exists : knows.value < length f.values = before.records_exist b x knows.value (sym (before.recorded b x) ∙ knows.is_recorded) in
@@ -268,7 +269,7 @@ same_front : {b c : ℕ} → front b ≡ front c → b ≡ c
 same_front same = cc
 
 -- a known arm into a block comes from the start, or is one of its edges
-pub arm_from : (own : ℕ → List ℕ) (f : Body) (s : SsaState) (waiting : List Pending) (tables : Blocks) (b : ℕ) (arm : Arm) → Describes own f s waiting tables
+pub arm_from : (own : Own) (f : Body) (s : SsaState) (waiting : List Pending) (tables : Blocks) (b : ℕ) (arm : Arm) → Describes own f s waiting tables
     → tables.joins arm ≡ true → arm.target ≡ front b → ((arm.source ≡ start) × (entry_of f ≡ Some b)) ⊎ IsEdgeInto f s tables b arm
 arm_from own f s waiting tables b arm before joins at =
     let there : (d : ℕ) × (arm.target ≡ front d) × (is_yes (sealed_of s d) ≡ true) × (((arm.source ≡ start) × (entry_of f ≡ Some d)) ⊎ IsEdgeInto f s tables d arm) = before.joined arm joins in
@@ -301,7 +302,7 @@ both_true : (a b : Bool) → (a && b) ≡ true → (a ≡ true) × (b ≡ true)
 both_true true b is = (refl, is)
 both_true false b is = absurd (off (sym is))
 
-pub frame_here : (own : ℕ → List ℕ) (f : Body) (s : SsaState) (x : ℕ) (frame : Frame) (waiting : List Pending) (tables : Blocks)
+pub frame_here : (own : Own) (f : Body) (s : SsaState) (x : ℕ) (frame : Frame) (waiting : List Pending) (tables : Blocks)
     → Describes own f s (record { variable = x; param = frame.parameter } ∷ waiting) tables → FrameFits tables x frame
     → IsHere f s frame.block frame.parameter
 frame_here own f s x frame waiting tables before fits =
@@ -333,7 +334,7 @@ parameters_listed f b (p ∷ ps) q (suc k) home inside at = by (parameters_liste
     by there false = there
 
 -- no other parameter that is completed is the first one
-pub completing_apart : (own : ℕ → List ℕ) (f : Body) (s : SsaState) (p : Pending) (ps : List Pending) (tables : Blocks) (b : ℕ) → Describes own f s (p ∷ ps) tables
+pub completing_apart : (own : Own) (f : Body) (s : SsaState) (p : Pending) (ps : List Pending) (tables : Blocks) (b : ℕ) → Describes own f s (p ∷ ps) tables
     → param_home f p.param ≡ Some b → (q : Pending) → Contains ps q → q.param ≢ p.param
 completing_apart own f s p ps tables b before home q here same =
     let listed : Contains (parameters_of f b ps) q = parameters_listed f b ps q here.0 (ap (param_home f) same ∙ home) here.1 here.2 in

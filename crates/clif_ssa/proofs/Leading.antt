@@ -10,6 +10,7 @@ use Rattle.clif_ir.proofs.Reading.{if_true, if_false, Once-tail}
 use Rattle.clif_paths.specs.Places.{start, Arm}
 use Rattle.clif_paths.specs.Blocks.{Blocks, front}
 use Rattle.clif_paths.specs.BlockLaws.{BlocksSound}
+use Rattle.clif_ssa.specs.Own.{Own}
 use Rattle.clif_ssa.specs.Tables.{is_yes}
 use Rattle.clif_ssa.specs.Ssa.{SsaState, sealed_of, predecessors_of, SameRecords, SameBlocks}
 use Rattle.clif_ssa.specs.LookUp.{branch_block}
@@ -103,7 +104,7 @@ record NewLeads (f : Body) (s t : SsaState) (b : ℕ) : Type 0 where
   apart : Once (map (branch_block f) (predecessors_of t b))
   not_entry : entry_of f ≡ Some b → predecessors_of t b ≡ []
 
-leads_changed : (own : ℕ → List ℕ) (f : Body) (s t : SsaState) (blocks : Blocks) (b : ℕ) → Describes own f s [] blocks → SameRecords s t → SameBlocks s t → NewLeads f s t b
+leads_changed : (own : Own) (f : Body) (s t : SsaState) (blocks : Blocks) (b : ℕ) → Describes own f s [] blocks → SameRecords s t → SameBlocks s t → NewLeads f s t b
     → Describes own f t [] blocks
 leads_changed own f s t blocks b before records same new =
     let other : (c : ℕ) → is_yes (sealed_of s c) ≡ true → c ≢ b = λ c sealed at. true_false (sym sealed ∙ ap (λ d. is_yes (sealed_of s d)) at ∙ new.unsealed) in
@@ -161,7 +162,7 @@ leads_changed own f s t blocks b before records same new =
     (same_waiting own f s t blocks before same (λ c p here none. before.waiting_recorded c p here (sym (records p.variable c) ∙ none)))
 
 -- a branch is put behind those that lead to an unsealed block
-pub predecessor_declared : (own : ℕ → List ℕ) (f : Body) (s t : SsaState) (blocks : Blocks) (b i : ℕ) → DescribesSoundly own f s blocks
+pub predecessor_declared : (own : Own) (f : Body) (s t : SsaState) (blocks : Blocks) (b i : ℕ) → DescribesSoundly own f s blocks
     → i < length f.insts → has_entry f.layout ≡ true → is_yes (sealed_of s b) ≡ false → entry_of f ≢ Some b
     → ((j : ℕ) → Contains (predecessors_of s b) j → branch_block f j ≢ branch_block f i)
     → SameRecords s t → SameBlocks s t
@@ -192,7 +193,7 @@ predecessor_declared own f s t blocks b i both exists entry unsealed no_entry ap
     )
 
 -- a branch leads no longer to an unsealed block
-pub predecessor_removed : (own : ℕ → List ℕ) (f : Body) (s t : SsaState) (blocks : Blocks) (b i : ℕ) → DescribesSoundly own f s blocks
+pub predecessor_removed : (own : Own) (f : Body) (s t : SsaState) (blocks : Blocks) (b i : ℕ) → DescribesSoundly own f s blocks
     → is_yes (sealed_of s b) ≡ false → SameRecords s t → SameBlocks s t
     → ((c : ℕ) → predecessors_of t c ≡ (if c == b then without i (predecessors_of s c) else predecessors_of s c))
     → Describes own f t [] blocks × BlocksSound blocks

@@ -13,6 +13,7 @@ use Rattle.clif_paths.specs.Blocks.{Blocks, with_parameter, with_zero_in}
 use Rattle.clif_paths.specs.BlockLaws.{BlocksSound}
 use Rattle.clif_paths.proofs.Tables.{aliased_cases}
 use Rattle.clif_ssa.specs.declared.tables.Pending.{Pending}
+use Rattle.clif_ssa.specs.Own.{Own}
 use Rattle.clif_ssa.specs.Tables.{is_yes, pending_of}
 use Rattle.clif_ssa.specs.Ssa.{SsaState, record_of, sealed_of, predecessors_of, zeroed, zeroed_in, completed, no_srcloc, SameRecords, SamePredecessors, Seals, Waits, Zeroes}
 use Rattle.clif_ssa.specs.LookUp.{LookUpState, no_look_up, UsesVariable}
@@ -40,13 +41,13 @@ use Rattle.clif_ssa.proofs.Sealing.{seal_described}
 -- A ZERO ----------------------------------------------------------------------------------------------------------
 
 -- what is kept as a parameter becomes a name of a zero
-pub record ZeroedCounts (f : Body) (s : SsaState) (p : Pending) (blocks : Blocks) (b : ℕ) : Type 0 where
-  pub counts : CountsArguments (zeroed f b p.param) s (with_zeroed f.layout s b p.variable p.param (length f.values) blocks)
+pub record ZeroedCounts (own : Own) (f : Body) (s : SsaState) (p : Pending) (blocks : Blocks) (b : ℕ) : Type 0 where
+  pub counts : CountsArguments own (zeroed f b p.param) s (with_zeroed f.layout s b p.variable p.param (length f.values) blocks)
   pub housed : Housed (zeroed f b p.param)
   pub others : (u : ℕ) → u ≢ p.param → param_home (zeroed f b p.param) u ≡ param_home f u
 
-pub zeroed_counts : (own : ℕ → List ℕ) (f : Body) (s : SsaState) (p : Pending) (ps : List Pending) (blocks : Blocks) (b : ℕ) → Firm f → Housed f
-    → Describes own f s (p ∷ ps) blocks → CountsArguments f s blocks → BlocksSound blocks → param_home f p.param ≡ Some b → ZeroedCounts f s p blocks b
+pub zeroed_counts : (own : Own) (f : Body) (s : SsaState) (p : Pending) (ps : List Pending) (blocks : Blocks) (b : ℕ) → Firm f → Housed f
+    → Describes own f s (p ∷ ps) blocks → CountsArguments own f s blocks → BlocksSound blocks → param_home f p.param ≡ Some b → ZeroedCounts own f s p blocks b
 zeroed_counts own f s p ps blocks b firm housed before counts sound is =
     let ty : «Type» = (value_at f p.param).ty in
     let x : ℕ = p.variable in
@@ -66,11 +67,11 @@ zeroed_counts own f s p ps blocks b firm housed before counts sound is =
     let exists : z < length h.values = omega (arith, zero_count g b ty) in
     let ends : resolved h z ≡ z = inst_resolved g b Front (UnaryImm (pos 0)) (ty ∷ []) no_srcloc g_firm z ∙ own_end g in
     let put : Describes own h s (p ∷ ps) (with_zero_in entered b x z) = zero_described own g s (p ∷ ps) entered b x ty g_firm now.0 there in
-    let put_counts : CountsArguments h s (with_zero_in entered b x z) =
-    zero_counted own g s (p ∷ ps) entered b x ty now.0 (inserted_counted f s blocks entered b (entry_same f.layout s b blocks).definition counts) in
+    let put_counts : CountsArguments own h s (with_zero_in entered b x z) =
+    zero_counted own g s (p ∷ ps) entered b x ty now.0 (inserted_counted own f s blocks entered b (entry_same f.layout s b blocks).definition counts) in
     let same : z ≡ length f.values = ap length (inserted_same f b).values in
     record {
-      counts = subst (λ w. CountsArguments (with_alias h p.param w) s (with_zeroed f.layout s b x p.param w blocks)) same
+      counts = subst (λ w. CountsArguments own (with_alias h p.param w) s (with_zeroed f.layout s b x p.param w blocks)) same
           (drop_counted own h s p ps (with_zero_in entered b x z) z b h_firm h_housed put put_counts h_home exists ends apart);
       housed = subst (λ w. Housed (with_alias h p.param w)) same (drop_housed h p.param z b h_firm h_housed h_home exists ends apart);
       others = λ u other.
@@ -80,8 +81,8 @@ zeroed_counts own f s p ps blocks b firm housed before counts sound is =
 -- SEALING ---------------------------------------------------------------------------------------------------------
 
 -- parameters of a block to which no branch leads are completed
-pub completed_locally : (own : ℕ → List ℕ) (s : SsaState) (b : ℕ) (ps : List Pending) (f : Body) (blocks : Blocks) → Firm f → Housed f → Describes own f s ps blocks
-    → CountsArguments f s blocks → BlocksSound blocks → predecessors_of s b ≡ [] → ((p : Pending) → Contains ps p → param_home f p.param ≡ Some b)
+pub completed_locally : (own : Own) (s : SsaState) (b : ℕ) (ps : List Pending) (f : Body) (blocks : Blocks) → Firm f → Housed f → Describes own f s ps blocks
+    → CountsArguments own f s blocks → BlocksSound blocks → predecessors_of s b ≡ [] → ((p : Pending) → Contains ps p → param_home f p.param ≡ Some b)
     → Keeps own blocks (completed f ps) s
 completed_locally own s b [] f blocks firm housed before counts sound alone homes = record { tables = blocks; describes = before; sound = sound; same = same_program blocks; counts = counts }
 completed_locally own s b (p ∷ ps) f blocks firm housed before counts sound alone homes =
@@ -89,7 +90,7 @@ completed_locally own s b (p ∷ ps) f blocks firm housed before counts sound al
     let g : Body = zeroed f b p.param in
     let tables : Blocks = with_zeroed f.layout s b p.variable p.param (length f.values) blocks in
     let done : Zeroed own f s p ps blocks b = zeroed_alone own f s p ps blocks b firm before sound is alone in
-    let more : ZeroedCounts f s p blocks b = zeroed_counts own f s p ps blocks b firm housed before counts sound is in
+    let more : ZeroedCounts own f s p blocks b = zeroed_counts own f s p ps blocks b firm housed before counts sound is in
     let others : Keeps own tables (completed g ps) s =
     completed_locally own s b ps g tables done.firm more.housed done.describes more.counts done.sound alone
     (λ q here. more.others q.param (completing_apart own f s p ps blocks b before is q here) ∙ homes q (contains_more p ps q here)) in
@@ -102,7 +103,7 @@ completed_locally own s b (p ∷ ps) f blocks firm housed before counts sound al
     })
 
 -- a block to which no branch leads is sealed
-pub seals_locally : (own : ℕ → List ℕ) (f : Body) (s t : SsaState) (tables : Blocks) (b : ℕ) → IsConsistent f
+pub seals_locally : (own : Own) (f : Body) (s t : SsaState) (tables : Blocks) (b : ℕ) → IsConsistent f
     → DescribesSoundly own f s tables → predecessors_of s b ≡ [] → SameRecords s t → Seals s t b → SamePredecessors s t
     → Keeps own tables (completed f (pending_of (sealed_of s b))) t
 seals_locally own f s t tables b known both alone records seals same =
@@ -111,15 +112,15 @@ seals_locally own f s t tables b known both alone records seals same =
     let now : Describes own f t (pending_of (sealed_of s b)) sealed × BlocksSound sealed × SameProgram tables sealed = seal_described own f s t tables b before both.1 records seals same in
     let done : Keeps own sealed (completed f (pending_of (sealed_of s b))) t =
     completed_locally own t b (pending_of (sealed_of s b)) f sealed (firm_from f known) (housed_from f known) now.0
-    (seal_counted f s t f.layout (is_yes (sealed_of s b)) b (arms_into f s tables b) tables both.2 same) now.1 (same b ∙ alone)
+    (seal_counted own f s t f.layout (is_yes (sealed_of s b)) b (arms_into f s tables b) tables both.2 same) now.1 (same b ∙ alone)
     (λ p here. (before.waiting b p here).parameter) in
     record { tables = done.tables; describes = done.describes; sound = done.sound; same = same_program_then tables sealed done.tables now.2 done.same; counts = done.counts }
 
 -- USES ------------------------------------------------------------------------------------------------------------
 
 -- in an unsealed block the new parameter is recorded and waits
-pub waits_locally : (own : ℕ → List ℕ) (f g : Body) (s t : SsaState) (tables : Blocks) (x : ℕ) (ty : «Type») (b : ℕ) → Firm f → Describes own f s [] tables
-    → CountsArguments f s tables → BlocksSound tables → b < length f.blocks → record_of s x b ≡ None → is_yes (sealed_of s b) ≡ false → Waits s t f g x ty b → SamePredecessors s t
+pub waits_locally : (own : Own) (f g : Body) (s t : SsaState) (tables : Blocks) (x : ℕ) (ty : «Type») (b : ℕ) → Firm f → Describes own f s [] tables
+    → CountsArguments own f s tables → BlocksSound tables → b < length f.blocks → record_of s x b ≡ None → is_yes (sealed_of s b) ≡ false → Waits s t f g x ty b → SamePredecessors s t
     → KeepsAndKnows own tables g t b x (length f.values)
 waits_locally own f g s t tables x ty b firm before counts sound there none unsealed waits same =
     let n : ℕ = length f.values in
@@ -137,8 +138,8 @@ waits_locally own f g s t tables x ty b firm before counts sound there none unse
     })
 
 -- in a sealed block to which no branch leads it is another name of a zero, which is the answer
-pub zeroes_locally : (own : ℕ → List ℕ) (f g : Body) (s t : SsaState) (tables : Blocks) (x : ℕ) (ty : «Type») (b : ℕ) → Firm f → Housed f → Describes own f s [] tables
-    → CountsArguments f s tables → BlocksSound tables → predecessors_of s b ≡ [] → b < length f.blocks → record_of s x b ≡ None → is_yes (sealed_of s b) ≡ true
+pub zeroes_locally : (own : Own) (f g : Body) (s t : SsaState) (tables : Blocks) (x : ℕ) (ty : «Type») (b : ℕ) → Firm f → Housed f → Describes own f s [] tables
+    → CountsArguments own f s tables → BlocksSound tables → predecessors_of s b ≡ [] → b < length f.blocks → record_of s x b ≡ None → is_yes (sealed_of s b) ≡ true
     → Zeroes s t f g x ty b → SamePredecessors s t → KeepsAndKnows own tables g t b x (length f.values + 1)
 zeroes_locally own f g s t tables x ty b firm housed before counts sound alone there none is_sealed zeroes same =
     let n : ℕ = length f.values in
@@ -150,7 +151,7 @@ zeroes_locally own f g s t tables x ty b firm housed before counts sound alone t
     add_completing own f s t [] tables x b ty firm before there is_sealed (λ q here is. none_contained q here) zeroes.recorded zeroes.unchanged same in
     let with_sound : BlocksSound with_it = parameter_sound own f s tables x b firm before none sound in
     let done : Zeroed own h t p [] with_it b = zeroed_alone own h t p [] with_it b h_firm described with_sound (param_home_new f b ty) (same b ∙ alone) in
-    let more : ZeroedCounts h t p with_it b =
+    let more : ZeroedCounts own h t p with_it b =
     zeroed_counts own h t p [] with_it b h_firm (add_housed f b ty firm housed there) described (add_counted own f s t [] tables x b ty firm counts there same) with_sound (param_home_new f b ty) in
     let z : ℕ = length h.values in
     let after : Blocks = with_zeroed h.layout t b x n z with_it in
@@ -178,7 +179,7 @@ zeroes_locally own f g s t tables x ty b firm housed before counts sound alone t
     })
 
 -- A use that succeeds, whatever its case: the tables stay sound, and know its answer in the block.
-pub use_sound : (own : ℕ → List ℕ) (f g : Body) (s t : SsaState) (tables : Blocks) (x : ℕ) (ty : «Type») (b value : ℕ) (look_up : LookUpState) → IsConsistent f
+pub use_sound : (own : Own) (f g : Body) (s t : SsaState) (tables : Blocks) (x : ℕ) (ty : «Type») (b value : ℕ) (look_up : LookUpState) → IsConsistent f
     → DescribesSoundly own f s tables → b < length f.blocks → SamePredecessors s t
     → IfSome (record_of s x b) (λ v. ((g ≡ f) × (t ≡ s)) × (value ≡ v))
     → (record_of s x b ≡ None → is_yes (sealed_of s b) ≡ false → Waits s t f g x ty b × (value ≡ length f.values))
@@ -222,7 +223,7 @@ use_sound own f g s t tables x ty b value look_up known both there same found wa
         })))
 
 -- A sealing that succeeds, whatever its case: the tables stay sound.
-pub seal_sound : (own : ℕ → List ℕ) (f g : Body) (s t : SsaState) (tables : Blocks) (b : ℕ) (look_up : LookUpState) → IsConsistent f
+pub seal_sound : (own : Own) (f g : Body) (s t : SsaState) (tables : Blocks) (b : ℕ) (look_up : LookUpState) → IsConsistent f
     → DescribesSoundly own f s tables → SamePredecessors s t
     → (predecessors_of s b ≡ [] → SameRecords s t × Seals s t b × (g ≡ completed f (pending_of (sealed_of s b))))
     → (predecessors_of s b ≢ [] → (r : SsaState) × SameRecords s r × Seals s r b × SamePredecessors s r

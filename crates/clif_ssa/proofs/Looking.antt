@@ -19,6 +19,7 @@ use Rattle.clif_paths.proofs.Tables.{updated-same}
 use Rattle.clif_ssa.specs.declared.look_up.Call.{Call}
 use Rattle.clif_ssa.specs.declared.tables.Cell.{Cell}
 use Rattle.clif_ssa.specs.declared.tables.Pending.{Pending}
+use Rattle.clif_ssa.specs.Own.{Own}
 use Rattle.clif_ssa.specs.Tables.{no_cell, is_yes}
 use Rattle.clif_ssa.specs.Ssa.{SsaState, record_of, sealed_of, predecessors_of, Records, RecordsStay}
 use Rattle.clif_ssa.specs.LookUp.{Stage, LookUpState, branch_block, only_block, single_predecessor, IsWalk, before_first, Copies, FindsRecord, AddsParameter, ParameterWaits, ParameterBegins, LooksUp}
@@ -208,7 +209,7 @@ walk_first f s x passed block reached walk = by (stands_in reached passed) refl
     by false none = subst (λ bs. IsWalk f s x block bs reached) (sym (before_all reached passed none)) walk
 
 -- what is completed exists
-completing_exists : (own : ℕ → List ℕ) (f : Body) (s : SsaState) (ps : List Pending) (tables : Blocks) → Describes own f s ps tables → (q : Pending) → Contains ps q
+completing_exists : (own : Own) (f : Body) (s : SsaState) (ps : List Pending) (tables : Blocks) → Describes own f s ps tables → (q : Pending) → Contains ps q
     → q.param < length f.values
 completing_exists own f s ps tables before q here =
     elim (before.completed q here) [
@@ -245,7 +246,7 @@ record Moved (c : Setting) (frames : List Frame) (tables : Blocks) (m : Stage) (
   pub describes : Describes c.own g t (completing_of c frames) after
   pub sound : BlocksSound after
   pub same : SameProgram tables after
-  pub counts : CountsArguments g t after
+  pub counts : CountsArguments c.own g t after
   pub firm : Firm g
   pub housed : Housed g
   pub since : Since m.function m.state g t
@@ -288,7 +289,7 @@ found c frames tables b m n start finds =
           (base.describes.records_exist finds.reached x v finds.is_recorded);
       sound = delivers.sound;
       same = chain_program x v chain tables;
-      counts = copied_counted m.function m.state n.state tables x v chain base.counts finds.predecessors;
+      counts = copied_counted c.own m.function m.state n.state tables x v chain base.counts finds.predecessors;
       firm = base.firm;
       housed = base.housed;
       since = record { insts_more = omega arith; branches = λ i here. refl; predecessors = finds.predecessors; block_count = refl; stay = stay };
@@ -388,7 +389,7 @@ module _ (c : Setting) (frames : List Frame) (tables : Blocks) (b : ℕ) (m n : 
             (λ d. refl) (λ d. refl) (omega (arith, long));
         sound = new_finds.0.sound;
         same = record { count = program.count; assigned = program.assigned; naming = program.naming; answer = program.answer };
-        counts = copied_counted g between n.state put_in x z (reverse passed)
+        counts = copied_counted c.own g between n.state put_in x z (reverse passed)
             (add_counted c.own m.function m.state between (completing_of c frames) tables x reached ty start.base.firm start.base.counts reached_exists adds.predecessors)
             (λ d. refl);
         firm = param_firm m.function reached ty start.base.firm reached_exists;

@@ -15,6 +15,7 @@ use Rattle.clif_paths.proofs.LookingUp.{result_is_pushed, next_is_expected, last
 use Rattle.clif_ssa.specs.declared.look_up.Call.{Call}
 use Rattle.clif_ssa.specs.declared.look_up.Call.TheVariants.{UseVar, FinishPredecessorsLookup}
 use Rattle.clif_ssa.specs.declared.tables.Pending.{Pending}
+use Rattle.clif_ssa.specs.Own.{Own}
 use Rattle.clif_ssa.specs.Tables.{is_yes}
 use Rattle.clif_ssa.specs.Ssa.{SsaState, record_of, sealed_of, predecessors_of, zeroed}
 use Rattle.clif_ssa.specs.LookUp.{branch_block, calls_for, Stage, LookUpState, no_look_up, Copies, FinishesLookUp, MakesLook, MakesFinish, MakesCall, MakesCalls, none_made, made, UsesVariable, CompletesParameter, with_calls}
@@ -221,7 +222,7 @@ idle_ends c param block tables m base none home goes nothing =
       apart = tt;
       below = entered_goes m.function.layout m.state block tables (comes_from c) x c.first param goes;
     } in
-    zero_ends c f [] tables entered m base now.0 (inserted_counted m.function m.state tables entered block same.definition base.counts) now.1 same.program rest refl
+    zero_ends c f [] tables entered m base now.0 (inserted_counted c.own m.function m.state tables entered block same.definition base.counts) now.1 same.program rest refl
     (λ arm joins at.
     elim (arm_from c.own (inserted_in m.function block) m.state (p ∷ c.rest) entered block arm now.0 joins at) [
       | inl start ↦ inl start.0
@@ -312,20 +313,20 @@ all_made c n fits ended =
 -- A USE -----------------------------------------------------------------------------------------------------------
 
 -- each branch that leads somewhere stands in a block
-pub branches_stand : (own : ℕ → List ℕ) (f : Body) (s : SsaState) (completing : List Pending) (tables : Blocks) → IsConsistent f → Describes own f s completing tables → BranchesStand f s
+pub branches_stand : (own : Own) (f : Body) (s : SsaState) (completing : List Pending) (tables : Blocks) → IsConsistent f → Describes own f s completing tables → BranchesStand f s
 branches_stand own f s completing tables known before b i here =
     let exists : i < length f.insts = (before.leading b i here).0 in
     record { exists = exists; block_exists = (known.insts_stand i exists).0 }
 
 -- what a use leaves: the tables know its answer in the block
-pub record Uses (own : ℕ → List ℕ) (tables : Blocks) (block x : ℕ) (m : Stage) (value : ℕ) (n : Stage) : Type 0 where
+pub record Uses (own : Own) (tables : Blocks) (block x : ℕ) (m : Stage) (value : ℕ) (n : Stage) : Type 0 where
   pub kept : KeepsAndKnows own tables n.function n.state block x value
   pub firm : Firm n.function
   pub housed : Housed n.function
   pub since : Since m.function m.state n.function n.state
 
-pub uses : (own : ℕ → List ℕ) (tables : Blocks) (x : ℕ) (ty : «Type») (block : ℕ) (m n : Stage) (value : ℕ) → m.look_up ≡ no_look_up → Firm m.function → Housed m.function
-    → BranchesStand m.function m.state → Describes own m.function m.state [] tables → CountsArguments m.function m.state tables → BlocksSound tables → block < length m.function.blocks
+pub uses : (own : Own) (tables : Blocks) (x : ℕ) (ty : «Type») (block : ℕ) (m n : Stage) (value : ℕ) → m.look_up ≡ no_look_up → Firm m.function → Housed m.function
+    → BranchesStand m.function m.state → Describes own m.function m.state [] tables → CountsArguments own m.function m.state tables → BlocksSound tables → block < length m.function.blocks
     → UsesVariable x ty block m value n → Uses own tables block x m value n
 uses own tables x ty block m n value nothing firm housed stand before counts sound there used =
     let c : Setting = record { own = own; before = tables; function = m.function; state = m.state; variable = x; first = Some block; rest = [] } in
@@ -366,7 +367,7 @@ uses own tables x ty block m n value nothing firm housed stand before counts sou
     same_one same = cc
 
 -- A use of a variable keeps the tables sound, and they know its answer in the block.
-pub uses_keeps : (own : ℕ → List ℕ) (tables : Blocks) (x : ℕ) (ty : «Type») (block : ℕ) (m n : Stage) (value : ℕ) → m.look_up ≡ no_look_up → IsConsistent m.function
+pub uses_keeps : (own : Own) (tables : Blocks) (x : ℕ) (ty : «Type») (block : ℕ) (m n : Stage) (value : ℕ) → m.look_up ≡ no_look_up → IsConsistent m.function
     → DescribesSoundly own m.function m.state tables → block < length m.function.blocks → UsesVariable x ty block m value n
     → KeepsAndKnows own tables n.function n.state block x value
 uses_keeps own tables x ty block m n value nothing known both there used =
@@ -375,12 +376,12 @@ uses_keeps own tables x ty block m n value nothing known both there used =
 -- A COMPLETION ----------------------------------------------------------------------------------------------------
 
 -- what the completion of a parameter leaves, while others are completed later
-pub record Completes (own : ℕ → List ℕ) (before : Blocks) (rest : List Pending) (m n : Stage) : Type 0 where
+pub record Completes (own : Own) (before : Blocks) (rest : List Pending) (m n : Stage) : Type 0 where
   pub tables : Blocks
   pub describes : Describes own n.function n.state rest tables
   pub sound : BlocksSound tables
   pub same : SameProgram before tables
-  pub counts : CountsArguments n.function n.state tables
+  pub counts : CountsArguments own n.function n.state tables
   pub firm : Firm n.function
   pub housed : Housed n.function
   pub stand : BranchesStand n.function n.state
@@ -397,9 +398,9 @@ no_copies s t x v same y b = same y b ∙ by (y == x)
     by false = refl
 
 -- The completion of a parameter that waits keeps the tables sound.
-pub completes_keeps : (own : ℕ → List ℕ) (tables : Blocks) (x : ℕ) (ty : «Type») (param block : ℕ) (rest : List Pending) (m n : Stage)
+pub completes_keeps : (own : Own) (tables : Blocks) (x : ℕ) (ty : «Type») (param block : ℕ) (rest : List Pending) (m n : Stage)
     → m.look_up.calls ≡ [] → m.look_up.results ≡ [] → Firm m.function → Housed m.function → BranchesStand m.function m.state
-    → Describes own m.function m.state (record { variable = x; param = param } ∷ rest) tables → CountsArguments m.function m.state tables → BlocksSound tables
+    → Describes own m.function m.state (record { variable = x; param = param } ∷ rest) tables → CountsArguments own m.function m.state tables → BlocksSound tables
     → param_home m.function param ≡ Some block → HomesRecorded m.function m.state x (record { variable = x; param = param } ∷ rest)
     → CompletesParameter x ty param block m n → Completes own tables rest m n
 completes_keeps own tables x ty param block rest m n no_calls no_results firm housed stand before counts sound home homes complete =
@@ -416,7 +417,7 @@ completes_keeps own tables x ty param block rest m n no_calls no_results firm ho
       describes = described;
       sound = sound;
       same = record { count = λ k. refl; assigned = λ q y. refl; naming = λ j. refl; answer = λ j. refl };
-      counts = copied_counted m.function m.state t tables x param [] counts complete.same_predecessors;
+      counts = copied_counted own m.function m.state t tables x param [] counts complete.same_predecessors;
       firm = firm;
       housed = housed;
       stand = stand;

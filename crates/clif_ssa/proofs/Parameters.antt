@@ -19,9 +19,10 @@ use Rattle.clif_paths.specs.BlockLaws.{BlocksSound}
 use Rattle.clif_paths.proofs.BlockSteps.{parameter_keeps}
 use Rattle.clif_paths.proofs.Tables.{updated-same, updated-other}
 use Rattle.clif_ssa.specs.declared.tables.Pending.{Pending}
+use Rattle.clif_ssa.specs.Own.{Own}
 use Rattle.clif_ssa.specs.Tables.{is_yes, pending_of}
 use Rattle.clif_ssa.specs.Ssa.{SsaState, sealed_of, record_of, Records, SamePredecessors}
-use Rattle.clif_ssa.specs.Sound.{Describes, HomeFits, IsWaiting, IsEdgeInto, InOrder, parameters_of, passed_at}
+use Rattle.clif_ssa.specs.Sound.{Describes, HomeFits, IsWaiting, IsEdgeInto, InOrder, parameters_of, BelongsTo}
 use Rattle.clif_ssa.proofs.Bodies.{Firm, past_alias, no_alias_behind, resolved-append, leads_inside-append, home-append, param_exists}
 use Rattle.clif_ssa.proofs.Ordering.{none_contained, place_append, place_push, in_order_moved, in_order_push, in_order_small, parameters_fewer}
 use Rattle.clif_ssa.proofs.Describing.{Extends, Arms, arms_of, arms_kept, SameEdges, same_edges, edge_before, instructions_kept, waiting_kept, waiting_exists, homes_kept, assigns_not_kept, record_changed, not_recorded, is_recorded, recorded_here}
@@ -172,7 +173,7 @@ new_kept s t b new completing waits c p here =
 abbrev pub new_pending : Body → ℕ → Pending
 new_pending f x = record { variable = x; param = length f.values }
 
-pub parameter_described : (own : ℕ → List ℕ) (f : Body) (s t : SsaState) (completing : List Pending) (blocks : Blocks) (x b : ℕ) (ty : «Type»)
+pub parameter_described : (own : Own) (f : Body) (s t : SsaState) (completing : List Pending) (blocks : Blocks) (x b : ℕ) (ty : «Type»)
     → Firm f → Describes own f s [] blocks → b < length f.blocks → record_of s x b ≡ None → Records s t x b (length f.values) → SamePredecessors s t
     → NewWaits s t b (new_pending f x) completing
     → Describes own (with_param f b ty) t completing (with_parameter blocks b x (length f.values))
@@ -309,11 +310,12 @@ parameter_described own f s t completing blocks x b ty firm before there none wr
                 (param_place_behind f b ty firm there p.param ((before.waiting c p here).parameter ∙ ap Some more.0))) moved)
           ];
       completing_order = λ c. in_order_small (block_at g c).params (parameters_of g c completing) (omega (arith, parameters_fewer g c completing, waits.one));
-      passes = λ c v arm edge is at.
+      passes = λ c v arm edge is at j belongs.
           let old : (v ≢ n) × (blocks.function.definition v ≡ record { home = front c; kind = complete }) = complete_old v c is in
           let old_edge : IsEdgeInto f s blocks c arm = edge_before f g s t blocks after c arm edges edge in
-          ap (λ k. passed_at f edge.branch arm.edge k) (param_place f b ty firm there v c (before.complete_there c v old.1)) ∙ before.passes c v arm old_edge old.1 at;
-      instructions = λ c. instructions_kept f g blocks after c (own c) extends (param_insts f b ty there c) (before.instructions c);
+          before.passes c v arm old_edge old.1 at j
+          (subst (λ k. BelongsTo own c edge.branch arm.edge k j) (param_place f b ty firm there v c (before.complete_there c v old.1)) belongs);
+      instructions = λ c. instructions_kept f g blocks after c (own.insts c) extends (param_insts f b ty there c) (before.instructions c);
     }
   where
     pending_or_complete : {y : ℕ} → ◌≡◌ {A = Kind} (pending y) complete → ⊥
@@ -331,7 +333,7 @@ parameter_described own f s t completing blocks x b ty firm before there none wr
     same_pending : (x y n v : ℕ) → x ≡ y → n ≡ v → ◌≡◌ {A = Pending} (record { variable = x; param = n }) (record { variable = y; param = v })
     same_pending x y n v p q = cc
 
-pub parameter_sound : (own : ℕ → List ℕ) (f : Body) (s : SsaState) (blocks : Blocks) (x b : ℕ) → Firm f → Describes own f s [] blocks → record_of s x b ≡ None
+pub parameter_sound : (own : Own) (f : Body) (s : SsaState) (blocks : Blocks) (x b : ℕ) → Firm f → Describes own f s [] blocks → record_of s x b ≡ None
     → BlocksSound blocks → BlocksSound (with_parameter blocks b x (length f.values))
 parameter_sound own f s blocks x b firm before none sound =
     parameter_keeps blocks b x (length f.values)

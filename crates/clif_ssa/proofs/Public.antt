@@ -8,6 +8,7 @@ use Rattle.clif_ir.specs.Consistent.{IsConsistent}
 use Rattle.clif_paths.specs.Blocks.{Blocks}
 use Rattle.clif_ssa.specs.declared.side_effects.SideEffects.{SideEffects}
 use Rattle.clif_ssa.specs.declared.tables.Pending.{Pending}
+use Rattle.clif_ssa.specs.Own.{Own}
 use Rattle.clif_ssa.specs.Tables.{is_yes, pending_of, record_at}
 use Rattle.clif_ssa.specs.Ssa.{SsaState, SomethingLeads, record_of, sealed_of, predecessors_of, SamePredecessors, Seals, Waits, Zeroes}
 use Rattle.clif_ssa.specs.LookUp.{LookUpState, no_look_up, LooksUp, UsesVariable}
@@ -35,7 +36,7 @@ something_leads s b some = by (predecessors_of s b) refl
 -- USES ------------------------------------------------------------------------------------------------------------
 
 -- the variable is recorded
-pub known_use : (own : ℕ → List ℕ) (f : Body) (s : SsaState) (tables : Blocks) (x b v : ℕ) → DescribesSoundly own f s tables → record_of s x b ≡ Some v
+pub known_use : (own : Own) (f : Body) (s : SsaState) (tables : Blocks) (x b v : ℕ) → DescribesSoundly own f s tables → record_of s x b ≡ Some v
     → KeepsAndKnows own tables f s b x v
 known_use own f s tables x b v both is = record {
   kept = record { tables = tables; describes = both.0; sound = both.1; same = same_program tables; counts = both.2 };
@@ -43,7 +44,7 @@ known_use own f s tables x b v both is = record {
 }
 
 -- the block is unsealed, or no branch leads to it
-pub local_use : (own : ℕ → List ℕ) (f g : Body) (s t : SsaState) (tables : Blocks) (x : ℕ) (ty : «Type») (b : ℕ) {E : Type 0} (result : Result (ℕ × SideEffects) E)
+pub local_use : (own : Own) (f g : Body) (s t : SsaState) (tables : Blocks) (x : ℕ) (ty : «Type») (b : ℕ) {E : Type 0} (result : Result (ℕ × SideEffects) E)
     → IsConsistent f → DescribesSoundly own f s tables → b < length f.blocks → record_of s x b ≡ None → (is_yes (sealed_of s b) ≡ true → predecessors_of s b ≡ [])
     → SamePredecessors s t
     → (is_yes (sealed_of s b) ≡ false → OnOk result (Waits s t f g x ty b) × IfOk result (λ r. (r.0 ≡ length f.values) × (r.1.instructions_added_to_blocks.items ≡ [])))
@@ -72,7 +73,7 @@ looked_up x ty b f h g s r t first begun last value nothing looks all = record {
   ended = ap (λ (l : LookUpState). l.calls) all.ended;
 }
 
-pub machine_use : (own : ℕ → List ℕ) (f h g : Body) (s r t : SsaState) (tables : Blocks) (x : ℕ) (ty : «Type») (b : ℕ) (first begun last : LookUpState) (value : ℕ) → first ≡ no_look_up
+pub machine_use : (own : Own) (f h g : Body) (s r t : SsaState) (tables : Blocks) (x : ℕ) (ty : «Type») (b : ℕ) (first begun last : LookUpState) (value : ℕ) → first ≡ no_look_up
     → IsConsistent f → DescribesSoundly own f s tables → b < length f.blocks
     → LooksUp x ty b (stage f s first) (stage h r begun) → MakesAll x ty (stage h r begun) value (stage g t last) → KeepsAndKnows own tables g t b x value
 machine_use own f h g s r t tables x ty b first begun last value nothing known both there looks all =
@@ -106,7 +107,7 @@ seals_by_look_up f g s r t b waiting first last told records seals same list not
 }
 
 -- a sealing, whether a branch leads to the block or none does
-pub seal_keeps : (own : ℕ → List ℕ) (f g : Body) (s t : SsaState) (tables : Blocks) (b : ℕ) (result : Result SideEffects BuildError)
+pub seal_keeps : (own : Own) (f g : Body) (s t : SsaState) (tables : Blocks) (b : ℕ) (result : Result SideEffects BuildError)
     → IsConsistent f → DescribesSoundly own f s tables → SamePredecessors s t
     → (predecessors_of s b ≡ [] → SealsLocally f s g t b result)
     → (predecessors_of s b ≢ [] → IfOk result (λ r. SealsByLookUp f s g t b r.instructions_added_to_blocks.items))
@@ -126,11 +127,11 @@ seal_keeps own f g s t tables b (Ok r) known both same locally looks = by (prede
         sealing_keeps own f s case.sealed tables b no_look_up (stage g t case.look_up) known both case.records case.seals case.predecessors refl refl case.completes
 
 -- what is kept in turn
-pub keeps_then : (own : ℕ → List ℕ) (tables : Blocks) (f g : Body) (s t : SsaState) (first : Keeps own tables f s)
+pub keeps_then : (own : Own) (tables : Blocks) (f g : Body) (s t : SsaState) (first : Keeps own tables f s)
     → ((blocks : Blocks) → DescribesSoundly own f s blocks → Keeps own blocks g t) → Keeps own tables g t
 keeps_then own tables f g s t first next =
     let then : Keeps own first.tables g t = next first.tables (first.describes, first.sound, first.counts) in
     record { tables = then.tables; describes = then.describes; sound = then.sound; same = same_program_then tables first.tables then.tables first.same then.same; counts = then.counts }
 
-pub keeps_itself : (own : ℕ → List ℕ) (tables : Blocks) (f : Body) (s : SsaState) → DescribesSoundly own f s tables → Keeps own tables f s
+pub keeps_itself : (own : Own) (tables : Blocks) (f : Body) (s : SsaState) → DescribesSoundly own f s tables → Keeps own tables f s
 keeps_itself own tables f s both = record { tables = tables; describes = both.0; sound = both.1; same = same_program tables; counts = both.2 }

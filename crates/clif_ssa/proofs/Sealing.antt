@@ -13,6 +13,7 @@ use Rattle.clif_paths.proofs.PathLemmas.{same_place-true, same_place-equal, same
 use Rattle.clif_paths.proofs.Tables.{updated-same, updated-other}
 use Rattle.clif_ssa.specs.declared.tables.Sealed.{Sealed}
 use Rattle.clif_ssa.specs.declared.tables.Sealed.TheVariants.{Yes}
+use Rattle.clif_ssa.specs.Own.{Own}
 use Rattle.clif_ssa.specs.Tables.{is_yes, pending_of}
 use Rattle.clif_ssa.specs.Ssa.{SsaState, sealed_of, predecessors_of, SameRecords, SamePredecessors, Seals}
 use Rattle.clif_ssa.specs.LookUp.{branch_block}
@@ -43,7 +44,7 @@ sealed_still s t b c seals was =
       | inr apart ↦ ap is_yes (sealed_same s t b seals c apart) ∙ was
     ]
 
-sealed_waiting : (own : ℕ → List ℕ) (f : Body) (s t : SsaState) (blocks : Blocks) (b : ℕ) → Describes own f s [] blocks → SameRecords s t → Seals s t b → Waiting f t (pending_of (sealed_of s b)) blocks
+sealed_waiting : (own : Own) (f : Body) (s t : SsaState) (blocks : Blocks) (b : ℕ) → Describes own f s [] blocks → SameRecords s t → Seals s t b → Waiting f t (pending_of (sealed_of s b)) blocks
 sealed_waiting own f s t blocks b before records seals =
     let none_here : (c : ℕ) → c ≡ b → pending_of (sealed_of t c) ≡ [] = λ c same. ap (λ d. pending_of (sealed_of t d)) same ∙ ap pending_of (sealed_now s t b seals) in
     let old_there : (c : ℕ) → c ≢ b → pending_of (sealed_of t c) ≡ pending_of (sealed_of s c) = λ c apart. ap pending_of (sealed_same s t b seals c apart) in
@@ -172,14 +173,14 @@ front_of : {x y : ℕ} → front x ≡ front y → x ≡ y
 front_of same = cc
 
 -- the branches that lead to blocks in both states
-seal_edges : (own : ℕ → List ℕ) (f : Body) (s t : SsaState) (blocks : Blocks) (sealed : ℕ → Bool) (joins : Edges) → Describes own f s [] blocks → SamePredecessors s t
+seal_edges : (own : Own) (f : Body) (s t : SsaState) (blocks : Blocks) (sealed : ℕ → Bool) (joins : Edges) → Describes own f s [] blocks → SamePredecessors s t
     → SameEdges f f s t blocks (record blocks { sealed = sealed; joins = joins })
 seal_edges own f s t blocks sealed joins before same =
     same_edges f f s t blocks (record blocks { sealed = sealed; joins = joins }) (arms_of own f s [] blocks before)
     (record { values_more = omega arith; insts_more = omega arith; inst_same = λ i here. refl; definition_same = λ v here. refl }) same (λ c i here. refl)
 
 -- without an entry no arms are known
-empty_arms : (own : ℕ → List ℕ) (f : Body) (s t : SsaState) (blocks : Blocks) (b : ℕ) → Describes own f s [] blocks → SamePredecessors s t → Seals s t b → f.layout ≡ [] → Arms f t blocks
+empty_arms : (own : Own) (f : Body) (s t : SsaState) (blocks : Blocks) (b : ℕ) → Describes own f s [] blocks → SamePredecessors s t → Seals s t b → f.layout ≡ [] → Arms f t blocks
 empty_arms own f s t blocks b before same seals empty =
     let nowhere : (c i : ℕ) → Contains (predecessors_of t c) i → ⊥ = λ c i here. none_leads own f s [] blocks before empty c i (subst (λ xs. Contains xs i) (same c) here) in
     record {
@@ -200,7 +201,7 @@ empty_arms own f s t blocks b before same seals empty =
         ]
 
 -- a block that was sealed before
-again_arms : (own : ℕ → List ℕ) (f : Body) (s t : SsaState) (blocks : Blocks) (b : ℕ) → Describes own f s [] blocks → SamePredecessors s t → Seals s t b → is_yes (sealed_of s b) ≡ true → Arms f t blocks
+again_arms : (own : Own) (f : Body) (s t : SsaState) (blocks : Blocks) (b : ℕ) → Describes own f s [] blocks → SamePredecessors s t → Seals s t b → is_yes (sealed_of s b) ≡ true → Arms f t blocks
 again_arms own f s t blocks b before same seals was =
     arms_kept f f s t blocks blocks
     (record {
@@ -218,7 +219,7 @@ again_arms own f s t blocks b before same seals was =
     (arms_of own f s [] blocks before)
 
 -- a block that is sealed now
-new_arms : (own : ℕ → List ℕ) (f : Body) (s t : SsaState) (blocks : Blocks) (b : ℕ) → Describes own f s [] blocks → SamePredecessors s t → Seals s t b → has_entry f.layout ≡ true
+new_arms : (own : Own) (f : Body) (s t : SsaState) (blocks : Blocks) (b : ℕ) → Describes own f s [] blocks → SamePredecessors s t → Seals s t b → has_entry f.layout ≡ true
     → Arms f t (with_block_sealed blocks b (arms_into f s blocks b))
 new_arms own f s t blocks b before same seals has =
     let into : Edges = arms_into f s blocks b in
@@ -285,7 +286,7 @@ new_arms own f s t blocks b before same seals has =
     }
 
 -- A block is sealed: the tables describe the state while what waited in the block is completed.
-pub seal_described : (own : ℕ → List ℕ) (f : Body) (s t : SsaState) (blocks : Blocks) (b : ℕ) → Describes own f s [] blocks → BlocksSound blocks → SameRecords s t → Seals s t b → SamePredecessors s t
+pub seal_described : (own : Own) (f : Body) (s t : SsaState) (blocks : Blocks) (b : ℕ) → Describes own f s [] blocks → BlocksSound blocks → SameRecords s t → Seals s t b → SamePredecessors s t
     → Describes own f t (pending_of (sealed_of s b)) (with_seal f.layout (is_yes (sealed_of s b)) b (arms_into f s blocks b) blocks)
     × BlocksSound (with_seal f.layout (is_yes (sealed_of s b)) b (arms_into f s blocks b) blocks)
     × SameProgram blocks (with_seal f.layout (is_yes (sealed_of s b)) b (arms_into f s blocks b) blocks)

@@ -31,7 +31,7 @@ use Rattle.clif_ssa.specs.Tables.{is_yes, pending_of}
 use Rattle.clif_ssa.specs.declared.tables.Sealed.{Sealed}
 use Rattle.clif_ssa.specs.declared.tables.Sealed.TheVariants.{No, Yes}
 use Rattle.clif_ssa.specs.Ssa.{SsaState, no_state, record_of, sealed_of, zeroed, zeroed_in, completed, no_srcloc, SameBlocks, Seals, Waits, Zeroes}
-use Rattle.clif_ssa.specs.SoundLaws.{with_own}
+use Rattle.clif_ssa.specs.Own.{with_one_more}
 use Rattle.clif_ssa.specs.Structure.{IsNeededZero, HasNeededZeros, NothingStray}
 use Rattle.clif_ssa.proofs.Bodies.{Firm, firm_from, past_alias, param_exists, home_past, home-append}
 use Rattle.clif_ssa.proofs.Parameters.{param_node, param_firm, param_resolved, param_home_new, param_count, param_insts}
@@ -101,7 +101,7 @@ inst_longer f b shape types loc = record {
 }
 
 own_zeros : (own : ℕ → List ℕ) (f : Body) (b : ℕ) (shape : InstructionData) (types : List «Type») (loc : ℕ) → Firm f → b < length f.blocks
-    → (c : ℕ) → HasNeededZeros f c (own c) → HasNeededZeros (with_inst f b Back shape types loc) c (with_own own b (length f.insts) c)
+    → (c : ℕ) → HasNeededZeros f c (own c) → HasNeededZeros (with_inst f b Back shape types loc) c (with_one_more own b (length f.insts) c)
 own_zeros own f b shape types loc firm there c has =
     let g : Body = with_inst f b Back shape types loc in
     let needed : AllByRecursion (IsNeededZero g) has.zeros = all_kept f g (inst_longer f b shape types loc) (inst_resolved f b Back shape types loc firm) has.zeros has.needed in
@@ -120,15 +120,15 @@ own_zeros own f b shape types loc firm there c has =
       }
     ]
   where
-    own_here : (c : ℕ) → c ≡ b → own c ++ length f.insts ∷ [] ≡ with_own own b (length f.insts) c
+    own_here : (c : ℕ) → c ≡ b → own c ++ length f.insts ∷ [] ≡ with_one_more own b (length f.insts) c
     own_here c same = ap (λ d. own d ++ length f.insts ∷ []) same ∙ sym (updated-same own b (own b ++ length f.insts ∷ []) c same)
 
-    own_other : (c : ℕ) → c ≢ b → own c ≡ with_own own b (length f.insts) c
+    own_other : (c : ℕ) → c ≢ b → own c ≡ with_one_more own b (length f.insts) c
     own_other c other = sym (updated-other own b (own b ++ length f.insts ∷ []) c other)
 
 -- one more instruction of the caller's
 pub own_stray : (own : ℕ → List ℕ) (f : Body) (s : SsaState) (b : ℕ) (shape : InstructionData) (types : List «Type») (loc : ℕ) → Firm f → b < length f.blocks
-    → NothingStray own f s → NothingStray (with_own own b (length f.insts)) (with_inst f b Back shape types loc) s
+    → NothingStray own f s → NothingStray (with_one_more own b (length f.insts)) (with_inst f b Back shape types loc) s
 own_stray own f s b shape types loc firm there before =
     let g : Body = with_inst f b Back shape types loc in
     record {

@@ -1,9 +1,10 @@
 -- A variable is used in a block, or assigned.
-use Rattle.std.proofs.Common.{◌≡◌, ◌≢◌, ℕ, ◌==◌, ◌&&◌, List, ap, sym, ◌∙◌}
+use Rattle.std.proofs.Common.{◌≡◌, ◌≢◌, ℕ, ◌==◌, ◌&&◌, ap, sym, ◌∙◌}
 use Rattle.std.specs.Prelude.{Some, None, cond, Result, Ok, Err, OnOk}
 use Rattle.clif_ir.specs.Body.{Body}
 use Rattle.clif_paths.specs.Places.{start}
 use Rattle.clif_paths.specs.Blocks.{Blocks, last_place, with_write}
+use Rattle.clif_ssa.specs.Own.{Own}
 use Rattle.clif_ssa.specs.Ssa.{SsaState, record_of, Records, SameBlocks, SamePredecessors}
 use Rattle.clif_ssa.specs.SoundLaws.{DescribesSoundly, IsOpen}
 use Rattle.clif_ssa.proofs.Writing.{write_described}
@@ -16,7 +17,7 @@ on_ok (Ok value) A B follows holds = follows holds
 on_ok (Err error) A B follows holds = tt
 
 -- an assignment of a name's answer
-pub def_keeps : (own : ℕ → List ℕ) (f : Body) (s t : SsaState) (blocks : Blocks) (b x n value : ℕ) → DescribesSoundly own f s blocks → blocks.answer n ≡ value
+pub def_keeps : (own : Own) (f : Body) (s t : SsaState) (blocks : Blocks) (b x n value : ℕ) → DescribesSoundly own f s blocks → blocks.answer n ≡ value
     → IsOpen f s b → (blocks.naming n).home ≢ start → blocks.assigned (last_place blocks b) x ≡ None → Records s t x b value → SameBlocks s t → SamePredecessors s t
     → DescribesSoundly own f t (with_write blocks b x n)
 def_keeps own f s t blocks b x n value both answers open_block given none written same leads =

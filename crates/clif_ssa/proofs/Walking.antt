@@ -11,6 +11,7 @@ use Rattle.clif_paths.specs.Places.{start, Arm}
 use Rattle.clif_paths.specs.Blocks.{Blocks, front, last_place, ComesFrom, IsChain, with_chain, with_record}
 use Rattle.clif_paths.specs.LookUp.{last_of, Unrecorded}
 use Rattle.clif_ssa.specs.declared.tables.Pending.{Pending}
+use Rattle.clif_ssa.specs.Own.{Own}
 use Rattle.clif_ssa.specs.Tables.{is_yes, pending_of}
 use Rattle.clif_ssa.specs.Ssa.{SsaState, record_of, sealed_of, predecessors_of, SameBlocks, SamePredecessors}
 use Rattle.clif_ssa.specs.LookUp.{branch_block, only_block, single_predecessor, IsWalk, before_first, Copies}
@@ -42,7 +43,7 @@ alone_of f s block next is = by (is_yes (sealed_of s block)) refl is
     by false sealed is = absurd (none_some is)
 
 -- control comes to the block from its single predecessor alone
-comes_from : (own : ℕ → List ℕ) (f : Body) (s : SsaState) (completing : List Pending) (blocks : Blocks) (x block next : ℕ)
+comes_from : (own : Own) (f : Body) (s : SsaState) (completing : List Pending) (blocks : Blocks) (x block next : ℕ)
     → Describes own f s completing blocks → record_of s x block ≡ None → single_predecessor f s block ≡ Some next → ComesFrom blocks x next block
 comes_from own f s completing blocks x block next before none is =
     let alone : Alone f s block next = alone_of f s block next is in
@@ -87,7 +88,7 @@ pub record WalkIsChain (blocks : Blocks) (x block : ℕ) (passed : List ℕ) (re
   pub ends : last_of reached (reverse passed) ≡ block
   pub unrecorded : (v : ℕ) → Unrecorded blocks x v (reverse passed)
 
-pub walk_chain : (own : ℕ → List ℕ) (f : Body) (s : SsaState) (completing : List Pending) (blocks : Blocks) (x : ℕ) (passed : List ℕ) (block reached : ℕ)
+pub walk_chain : (own : Own) (f : Body) (s : SsaState) (completing : List Pending) (blocks : Blocks) (x : ℕ) (passed : List ℕ) (block reached : ℕ)
     → Describes own f s completing blocks → IsWalk f s x block passed reached → WalkIsChain blocks x block passed reached
 walk_chain own f s completing blocks x [] block reached before walk = record { chain = tt; ends = sym walk; unrecorded = λ v. tt }
 walk_chain own f s completing blocks x (b ∷ passed) block reached before walk =
@@ -118,7 +119,7 @@ walk_before f s x (b ∷ passed) block reached again walk here =
 -- THE RECORDS -----------------------------------------------------------------------------------------------------
 
 -- the state has more records, and is otherwise as before
-pub records_described : (own : ℕ → List ℕ) (f : Body) (s t : SsaState) (completing : List Pending) (blocks : Blocks) (recorded : ℕ → ℕ → Option ℕ)
+pub records_described : (own : Own) (f : Body) (s t : SsaState) (completing : List Pending) (blocks : Blocks) (recorded : ℕ → ℕ → Option ℕ)
     → Describes own f s completing blocks → SameBlocks s t → SamePredecessors s t → ((b x : ℕ) → recorded b x ≡ record_of t x b)
     → ((b x v : ℕ) → record_of t x b ≡ Some v → v < length f.values) → ((b x : ℕ) → record_of t x b ≡ None → record_of s x b ≡ None)
     → Describes own f t completing (record blocks { recorded = recorded })
@@ -132,8 +133,8 @@ records_described own f s t completing blocks recorded before same_blocks same_p
     arms_kept f f s t blocks after
     (record { edges = edges; insts_more = omega arith; layout = refl; same_yes = λ b. ap is_yes (same_blocks b); sealed = λ b. refl; joins = λ arm. refl })
     (arms_of own f s completing blocks before) in
-    let order : Ordered f t completing after =
-    ordered_kept f f s t completing blocks after
+    let order : Ordered own f t completing after =
+    ordered_kept own f f s t completing blocks after
     (record {
       edges = edges;
       passed = λ b i k j here. refl;
@@ -180,7 +181,7 @@ records_described own f s t completing blocks recorded before same_blocks same_p
       waiting_order = order.waiting_order;
       completing_order = order.completing_order;
       passes = order.passes;
-      instructions = λ b. instructions_kept f f blocks after b (own b) extends refl (before.instructions b);
+      instructions = λ b. instructions_kept f f blocks after b (own.insts b) extends refl (before.instructions b);
     }
 
 -- a copy changes the records alone
@@ -241,7 +242,7 @@ stands_reverse c (b ∷ xs) =
     turn false false = refl
 
 -- a record is copied into the blocks that a walk passed
-pub copied_described : (own : ℕ → List ℕ) (f : Body) (s t : SsaState) (completing : List Pending) (blocks : Blocks) (x v : ℕ) (passed : List ℕ)
+pub copied_described : (own : Own) (f : Body) (s t : SsaState) (completing : List Pending) (blocks : Blocks) (x v : ℕ) (passed : List ℕ)
     → Describes own f s completing blocks → Copies s t x v passed → SameBlocks s t → SamePredecessors s t → v < length f.values
     → Describes own f t completing (with_chain blocks x v (reverse passed))
 copied_described own f s t completing blocks x v passed before copies same_blocks same_predecessors exists =
@@ -259,8 +260,8 @@ copied_described own f s t completing blocks x v passed before copies same_block
     ])
     (λ b y none. (not_recorded (y == x && stands_in b passed) v (record_of s y b) (sym (copies y b) ∙ none)).1))
 
-pub copied_counted : (f : Body) (s t : SsaState) (blocks : Blocks) (x v : ℕ) (chain : List ℕ) → CountsArguments f s blocks → SamePredecessors s t
-    → CountsArguments f t (with_chain blocks x v chain)
-copied_counted f s t blocks x v chain counts same_predecessors =
-    subst (λ after. CountsArguments f t after) (sym (with_chain_is x v chain blocks))
-    (counts_kept f s t blocks (record blocks { recorded = (with_chain blocks x v chain).recorded }) counts same_predecessors (λ u. refl))
+pub copied_counted : (own : Own) (f : Body) (s t : SsaState) (blocks : Blocks) (x v : ℕ) (chain : List ℕ) → CountsArguments own f s blocks → SamePredecessors s t
+    → CountsArguments own f t (with_chain blocks x v chain)
+copied_counted own f s t blocks x v chain counts same_predecessors =
+    subst (λ after. CountsArguments own f t after) (sym (with_chain_is x v chain blocks))
+    (counts_kept own f s t blocks (record blocks { recorded = (with_chain blocks x v chain).recorded }) counts same_predecessors (λ u. refl))

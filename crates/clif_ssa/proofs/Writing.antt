@@ -1,5 +1,5 @@
 -- Items of the caller's: assignments, uses and instructions.
-use Rattle.std.proofs.Common.{◌≡◌, ◌≢◌, ℕ, suc, ◌<◌, ◌≤◌, ◌==◌, ◌&&◌, true, false, List, [], length, refl, ap, arith, sym, ◌∙◌, subst, ◌⊎◌, inl, inr}
+use Rattle.std.proofs.Common.{◌≡◌, ◌≢◌, ℕ, suc, ◌<◌, ◌≤◌, ◌==◌, ◌&&◌, true, false, [], length, refl, ap, arith, sym, ◌∙◌, subst, ◌⊎◌, inl, inr}
 use Rattle.std.specs.Prelude.{Option, Some, None, Contains, cond}
 use Rattle.std.proofs.lemmas.Grind.{common_steps}
 use Rattle.std.proofs.lemmas.Bool.{cases_eq}
@@ -16,6 +16,7 @@ use Rattle.clif_paths.specs.Steps.{updated, IsNewName}
 use Rattle.clif_paths.specs.Blocks.{Blocks, front, last_place, state_of, no_blocks, with_item, with_read, with_write, AssignsNot, Knows}
 use Rattle.clif_paths.proofs.BlockSteps.{first_sound, item_keeps, read_keeps, write_keeps}
 use Rattle.clif_paths.proofs.Tables.{updated-same, updated-other, record_other}
+use Rattle.clif_ssa.specs.Own.{Own, no_own}
 use Rattle.clif_ssa.specs.Tables.{is_yes, pending_of}
 use Rattle.clif_ssa.specs.declared.tables.Pending.{Pending}
 use Rattle.clif_ssa.specs.Ssa.{SsaState, no_state, record_of, sealed_of, predecessors_of, Records, SameRecords, SameBlocks, SamePredecessors}
@@ -30,7 +31,7 @@ use Rattle.clif_ssa.proofs.Counts.{counts_kept}
 -- THE STATE -------------------------------------------------------------------------------------------------------
 
 -- what waits in a state with the same blocks
-pub same_waiting : (own : ℕ → List ℕ) (f : Body) (s t : SsaState) (blocks : Blocks) → Describes own f s [] blocks → SameBlocks s t
+pub same_waiting : (own : Own) (f : Body) (s t : SsaState) (blocks : Blocks) → Describes own f s [] blocks → SameBlocks s t
     → ((b : ℕ) (p : Pending) → Contains (pending_of (sealed_of s b)) p → record_of t p.variable b ≢ None) → Waiting f t [] blocks
 same_waiting own f s t blocks before same still_recorded = record {
   waiting = λ b p here. before.waiting b p (subst (λ xs. Contains xs p) (ap pending_of (same b)) here);
@@ -46,9 +47,9 @@ same_waiting own f s t blocks before same still_recorded = record {
 }
 
 -- what tables say of arms and parameters, in a function that stays as it is
-pub record ArmsAndOrder (f : Body) (s : SsaState) (blocks : Blocks) : Type 0 where
+pub record ArmsAndOrder (own : Own) (f : Body) (s : SsaState) (blocks : Blocks) : Type 0 where
   pub arms : Arms f s blocks
-  pub order : Ordered f s [] blocks
+  pub order : Ordered own f s [] blocks
 
 -- the state has the same blocks, and the tables the same arms and values; no block in which a branch stands has a new item
 pub record SameShape (f : Body) (s t : SsaState) (blocks blocks' : Blocks) : Type 0 where
@@ -60,7 +61,7 @@ pub record SameShape (f : Body) (s t : SsaState) (blocks blocks' : Blocks) : Typ
   pub argument : (v : ℕ) (arm : Arm) → blocks'.function.argument v arm ≡ blocks.function.argument v arm
   pub count : (b i : ℕ) → Contains (predecessors_of s b) i → blocks'.count (branch_block f i) ≡ blocks.count (branch_block f i)
 
-pub shape_kept : (own : ℕ → List ℕ) (f : Body) (s t : SsaState) (blocks blocks' : Blocks) → Describes own f s [] blocks → SameShape f s t blocks blocks' → ArmsAndOrder f t blocks'
+pub shape_kept : (own : Own) (f : Body) (s t : SsaState) (blocks blocks' : Blocks) → Describes own f s [] blocks → SameShape f s t blocks blocks' → ArmsAndOrder own f t blocks'
 shape_kept own f s t blocks blocks' before same =
     let extends : Extends f f blocks blocks' =
     record { values_more = omega arith; insts_more = omega arith; inst_same = λ i here. refl; definition_same = λ v here. same.definition v } in
@@ -71,7 +72,7 @@ shape_kept own f s t blocks blocks' before same =
           arms_kept f f s t blocks blocks'
           (record { edges = edges; insts_more = omega arith; layout = refl; same_yes = λ b. ap is_yes (same.entries b); sealed = same.sealed; joins = same.joins }) old;
       order =
-          ordered_kept f f s t [] blocks blocks'
+          ordered_kept own f f s t [] blocks blocks'
           (record {
             edges = edges;
             passed = λ b i k j here. refl;
@@ -84,10 +85,10 @@ shape_kept own f s t blocks blocks' before same =
           (ordered_of own f s [] blocks before);
     }
 
-pub same_state : (own : ℕ → List ℕ) (f : Body) (s t : SsaState) (blocks : Blocks) → SameRecords s t → SameBlocks s t → SamePredecessors s t
+pub same_state : (own : Own) (f : Body) (s t : SsaState) (blocks : Blocks) → SameRecords s t → SameBlocks s t → SamePredecessors s t
     → Describes own f s [] blocks → Describes own f t [] blocks
 same_state own f s t blocks records same leads before =
-    let kept : ArmsAndOrder f t blocks =
+    let kept : ArmsAndOrder own f t blocks =
     shape_kept own f s t blocks blocks before
     (record {
       predecessors = leads;
@@ -117,7 +118,7 @@ block_params f b =
     (λ last. ap (λ (m : BlockNode). m.params) (sym (at_past f.blocks b empty_block (omega (arith, last)))))
     (λ past. ap (λ (m : BlockNode). m.params) (sym (at_past f.blocks b empty_block (omega (arith, past)))))
 
-pub block_described : (own : ℕ → List ℕ) (f : Body) (s : SsaState) (blocks : Blocks) → Describes own f s [] blocks → Describes own (with_block f) s [] blocks
+pub block_described : (own : Own) (f : Body) (s : SsaState) (blocks : Blocks) → Describes own f s [] blocks → Describes own (with_block f) s [] blocks
 block_described own f s blocks before =
     let g : Body = with_block f in
     let extends : Extends f g blocks blocks =
@@ -126,8 +127,8 @@ block_described own f s blocks before =
     let edges : SameEdges f g s s blocks blocks = same_edges f g s s blocks blocks old extends (λ b. refl) (λ b i here. refl) in
     let arms : Arms g s blocks =
     arms_kept f g s s blocks blocks (record { edges = edges; insts_more = omega arith; layout = refl; same_yes = λ b. refl; sealed = λ b. refl; joins = λ arm. refl }) old in
-    let order : Ordered g s [] blocks =
-    ordered_kept f g s s [] blocks blocks
+    let order : Ordered own g s [] blocks =
+    ordered_kept own f g s s [] blocks blocks
     (record {
       edges = edges;
       passed = same_passed f g s blocks blocks old extends;
@@ -164,7 +165,7 @@ block_described own f s blocks before =
       waiting_order = order.waiting_order;
       completing_order = order.completing_order;
       passes = order.passes;
-      instructions = λ b. instructions_kept f g blocks blocks b (own b) extends (block_insts f b) (before.instructions b);
+      instructions = λ b. instructions_kept f g blocks blocks b (own.insts b) extends (block_insts f b) (before.instructions b);
     }
 
 -- THE FIRST TABLES ------------------------------------------------------------------------------------------------
@@ -172,7 +173,7 @@ block_described own f s blocks before =
 unborn_or_complete : ◌≡◌ {A = Kind} Kind.unborn complete → ⊥
 unborn_or_complete same = cc
 
-pub first_described : (name : UserFuncName) (signature : SignatureShape) → DescribesSoundly (λ b. []) (empty_body name signature) no_state no_blocks
+pub first_described : (name : UserFuncName) (signature : SignatureShape) → DescribesSoundly no_own (empty_body name signature) no_state no_blocks
 first_described name signature =
     let f : Body = empty_body name signature in (
       record {
@@ -200,11 +201,17 @@ first_described name signature =
         complete_first = λ b v u x is pends home. absurd (unborn_or_complete (ap (λ (d : Definition). d.kind) is));
         waiting_order = λ b. in_order_small [] [] (omega arith);
         completing_order = λ b. in_order_small [] [] (omega arith);
-        passes = λ b v arm edge is at. absurd (unborn_or_complete (ap (λ (d : Definition). d.kind) is));
+        passes = λ b v arm edge is at j belongs. absurd (unborn_or_complete (ap (λ (d : Definition). d.kind) is));
         instructions = λ b. record { zeros = []; in_order = refl; are_zeros = tt };
       },
       first_sound,
-      record { counted = λ b i k v here. absurd (none_contained i here); no_more = λ b i k here. absurd (none_contained i here) },
+      record {
+        behind = λ b v is. absurd (let nothing : ◌≡◌ {A = Option ℕ} None (Some b) = is in cc);
+        callers = λ b. omega arith;
+        counted = λ b i k v here. absurd (none_contained i here);
+        no_fewer = λ b i k here. absurd (none_contained i here);
+        no_more = λ b i k here. absurd (none_contained i here);
+      },
     )
 
 -- AN ITEM ---------------------------------------------------------------------------------------------------------
@@ -247,13 +254,13 @@ item_shape f s blocks b open_block = record {
   count = λ c i here. updated-other blocks.count b (suc (blocks.count b)) (branch_block f i) (open_block c i here);
 }
 
-pub item_described : (own : ℕ → List ℕ) (f : Body) (s : SsaState) (blocks : Blocks) (b : ℕ) → DescribesSoundly own f s blocks → IsOpen f s b → DescribesSoundly own f s (with_item blocks b)
+pub item_described : (own : Own) (f : Body) (s : SsaState) (blocks : Blocks) (b : ℕ) → DescribesSoundly own f s blocks → IsOpen f s b → DescribesSoundly own f s (with_item blocks b)
 item_described own f s blocks b given open_block =
     let before : Describes own f s [] blocks = given.0 in
     let after : Blocks = with_item blocks b in
     let extends : Extends f f blocks after =
     record { values_more = omega arith; insts_more = omega arith; inst_same = λ i here. refl; definition_same = λ v here. refl } in
-    let kept : ArmsAndOrder f s after = shape_kept own f s s blocks after before (item_shape f s blocks b open_block) in (
+    let kept : ArmsAndOrder own f s after = shape_kept own f s s blocks after before (item_shape f s blocks b open_block) in (
       record {
         sealed = kept.arms.sealed;
         joined = kept.arms.joined;
@@ -280,14 +287,14 @@ item_described own f s blocks b given open_block =
         waiting_order = kept.order.waiting_order;
         completing_order = kept.order.completing_order;
         passes = kept.order.passes;
-        instructions = λ c. instructions_kept f f blocks after c (own c) extends refl (before.instructions c);
+        instructions = λ c. instructions_kept f f blocks after c (own.insts c) extends refl (before.instructions c);
       },
       item_keeps blocks b (record { unassigned = λ x. before.unwritten b (suc (blocks.count b)) x (omega arith) }) given.1,
-      counts_kept f s s blocks after given.2 (λ c. refl) (λ u. refl),
+      counts_kept own f s s blocks after given.2 (λ c. refl) (λ u. refl),
     )
 
 -- the new item assigns nothing so far
-pub item_unassigned : (own : ℕ → List ℕ) (f : Body) (s : SsaState) (blocks : Blocks) (b x : ℕ) → Describes own f s [] blocks → (with_item blocks b).assigned (last_place (with_item blocks b) b) x ≡ None
+pub item_unassigned : (own : Own) (f : Body) (s : SsaState) (blocks : Blocks) (b x : ℕ) → Describes own f s [] blocks → (with_item blocks b).assigned (last_place (with_item blocks b) b) x ≡ None
 item_unassigned own f s blocks b x before =
     let last : (with_item blocks b).count b ≡ suc (blocks.count b) = updated-same blocks.count b (suc (blocks.count b)) b refl in
     ap (λ k. blocks.assigned (inside b k) x) last ∙ before.unwritten b (suc (blocks.count b)) x (omega arith)
@@ -322,7 +329,7 @@ open_place f s blocks b open_block joined arm known at =
       | inr edge ↦ open_block there.0 edge.branch edge.leads (inside_block (sym edge.from ∙ at))
     ]
 
-pub write_described : (own : ℕ → List ℕ) (f : Body) (s t : SsaState) (blocks : Blocks) (b x n : ℕ) → DescribesSoundly own f s blocks → IsOpen f s b
+pub write_described : (own : Own) (f : Body) (s t : SsaState) (blocks : Blocks) (b x n : ℕ) → DescribesSoundly own f s blocks → IsOpen f s b
     → (blocks.naming n).home ≢ start → blocks.assigned (last_place blocks b) x ≡ None → Records s t x b (blocks.answer n) → SameBlocks s t → SamePredecessors s t
     → DescribesSoundly own f t (with_write blocks b x n)
 write_described own f s t blocks b x n both open_block given none written same leads =
@@ -335,7 +342,7 @@ write_described own f s t blocks b x n both open_block given none written same l
     let kept_records : (c : ℕ) (p : Pending) → Contains (pending_of (sealed_of s c)) p → record_of t p.variable c ≢ None =
     λ c p here is. before.waiting_recorded c p here (not_recorded (p.variable == x && c == b) v (record_of s p.variable c) (sym (written p.variable c) ∙ is)).1 in
     let waits : Waiting f t [] blocks = same_waiting own f s t blocks before same kept_records in
-    let still : ArmsAndOrder f t after =
+    let still : ArmsAndOrder own f t after =
     shape_kept own f s t blocks after before
     (record {
       predecessors = leads;
@@ -381,7 +388,7 @@ write_described own f s t blocks b x n both open_block given none written same l
         waiting_order = still.order.waiting_order;
         completing_order = still.order.completing_order;
         passes = still.order.passes;
-        instructions = λ c. instructions_kept f f blocks after c (own c) extends refl (before.instructions c);
+        instructions = λ c. instructions_kept f f blocks after c (own.insts c) extends refl (before.instructions c);
       },
       write_keeps blocks b x n
           (record {
@@ -389,10 +396,10 @@ write_described own f s t blocks b x n both open_block given none written same l
             is_given = given;
             open_block = open_place f s blocks b open_block before.joined;
           }) both.1,
-      counts_kept f s t blocks after both.2 leads (λ u. refl),
+      counts_kept own f s t blocks after both.2 leads (λ u. refl),
     )
 
-pub write_item_described : (own : ℕ → List ℕ) (f : Body) (s t : SsaState) (blocks : Blocks) (b x n : ℕ) → DescribesSoundly own f s blocks → IsOpen f s b
+pub write_item_described : (own : Own) (f : Body) (s t : SsaState) (blocks : Blocks) (b x n : ℕ) → DescribesSoundly own f s blocks → IsOpen f s b
     → (blocks.naming n).home ≢ start → Records s t x b (blocks.answer n) → SameBlocks s t → SamePredecessors s t
     → DescribesSoundly own f t (with_write (with_item blocks b) b x n)
 write_item_described own f s t blocks b x n both open_block given written same leads =
@@ -421,7 +428,7 @@ reads_or_fresh same = cc
 pub new_name_item : (blocks : Blocks) (b n : ℕ) → IsNewName (state_of blocks) n → IsNewName (state_of (with_item blocks b)) n
 new_name_item blocks b n name = record { new_name = name.new_name; unassigned = name.unassigned }
 
-pub read_described : (own : ℕ → List ℕ) (f : Body) (s : SsaState) (blocks : Blocks) (b n x v : ℕ) → DescribesSoundly own f s blocks
+pub read_described : (own : Own) (f : Body) (s : SsaState) (blocks : Blocks) (b n x v : ℕ) → DescribesSoundly own f s blocks
     → IsNewName (state_of blocks) n → blocks.assigned (last_place blocks b) x ≡ None → Knows blocks b x v → v < length f.values
     → DescribesSoundly own f s (with_read blocks b n x v)
 read_described own f s blocks b n x v both name none known exists =
@@ -432,7 +439,7 @@ read_described own f s blocks b n x v both name none known exists =
     name_cases blocks.naming blocks.answer n v new in
     let extends : Extends f f blocks after =
     record { values_more = omega arith; insts_more = omega arith; inst_same = λ i here. refl; definition_same = λ u here. refl } in
-    let kept : ArmsAndOrder f s after =
+    let kept : ArmsAndOrder own f s after =
     shape_kept own f s s blocks after before
     (record {
       predecessors = λ c. refl;
@@ -482,13 +489,13 @@ read_described own f s blocks b n x v both name none known exists =
         waiting_order = kept.order.waiting_order;
         completing_order = kept.order.completing_order;
         passes = kept.order.passes;
-        instructions = λ c. instructions_kept f f blocks after c (own c) extends refl (before.instructions c);
+        instructions = λ c. instructions_kept f f blocks after c (own.insts c) extends refl (before.instructions c);
       },
       read_keeps blocks b n x v (record { name = name; unassigned = none; known = known }) both.1,
-      counts_kept f s s blocks after both.2 (λ c. refl) (λ u. refl),
+      counts_kept own f s s blocks after both.2 (λ c. refl) (λ u. refl),
     )
 
-pub read_item_described : (own : ℕ → List ℕ) (f : Body) (s : SsaState) (blocks : Blocks) (b n x v : ℕ) → DescribesSoundly own f s blocks → IsOpen f s b
+pub read_item_described : (own : Own) (f : Body) (s : SsaState) (blocks : Blocks) (b n x v : ℕ) → DescribesSoundly own f s blocks → IsOpen f s b
     → IsNewName (state_of blocks) n → Knows blocks b x v → v < length f.values
     → DescribesSoundly own f s (with_read (with_item blocks b) b n x v)
 read_item_described own f s blocks b n x v both open_block name known exists =

@@ -22,9 +22,10 @@ use Rattle.clif_paths.proofs.Tables.{updated-same, updated-other, aliased_cases}
 use Rattle.clif_ssa.specs.declared.tables.Pending.{Pending}
 use Rattle.clif_ssa.specs.declared.tables.Sealed.{Sealed}
 use Rattle.clif_ssa.specs.declared.tables.Sealed.TheVariants.{No, Yes}
+use Rattle.clif_ssa.specs.Own.{Own}
 use Rattle.clif_ssa.specs.Tables.{is_yes, pending_of}
 use Rattle.clif_ssa.specs.Ssa.{SsaState, sealed_of, no_srcloc}
-use Rattle.clif_ssa.specs.Sound.{Describes, HomeFits, IsWaiting, IsZero, HasInstructions, InOrder, parameters_of, is_parameter_of, is_some_block, passed_at}
+use Rattle.clif_ssa.specs.Sound.{Describes, HomeFits, IsWaiting, IsZero, HasInstructions, InOrder, parameters_of, is_parameter_of, is_some_block, BelongsTo}
 use Rattle.clif_ssa.proofs.Bodies.{Firm, resolved-set, leads_inside-set, home-set_other, home-set_same, param_exists, param_origin}
 use Rattle.clif_ssa.proofs.Ordering.{contains_cons, contains_more, none_contained, parameters_same, parameters_first, parameters_skip, parameters_contain, is_parameter, is_no_parameter, is_parameter_elsewhere, place_without_before, order_without, stands_without, below_without, in_order_small, in_order_moved, in_order_tail, in_order_first}
 use Rattle.clif_ssa.proofs.Describing.{Extends, Arms, arms_of, arms_kept, SameEdges, same_edges, edge_before, Ordered, ordered_of, ordered_kept, same_passed, new_kinds, zeros_kept, instructions_kept, waiting_kept, waiting_exists, homes_kept, assigns_not_kept}
@@ -51,27 +52,27 @@ new_zero f blocks b x ty =
       defined = updated-same blocks.function.definition (length f.values) (record { home = front b; kind = zero_of x }) (length f.values) refl;
     }
 
-zero_instructions : (own : ℕ → List ℕ) (f : Body) (blocks : Blocks) (b x : ℕ) (ty : «Type») → b < length f.blocks
-    → Extends f (put_zero f b ty) blocks (with_zero_in blocks b x (length f.values)) → (c : ℕ) → HasInstructions f blocks c (own c)
-    → HasInstructions (put_zero f b ty) (with_zero_in blocks b x (length f.values)) c (own c)
+zero_instructions : (own : Own) (f : Body) (blocks : Blocks) (b x : ℕ) (ty : «Type») → b < length f.blocks
+    → Extends f (put_zero f b ty) blocks (with_zero_in blocks b x (length f.values)) → (c : ℕ) → HasInstructions f blocks c (own.insts c)
+    → HasInstructions (put_zero f b ty) (with_zero_in blocks b x (length f.values)) c (own.insts c)
 zero_instructions own f blocks b x ty there extends c has =
     elim (cases_eq c b) [
       | inl same ↦
           let g : Body = put_zero f b ty in
           let after : Blocks = with_zero_in blocks b x (length f.values) in
-          let here : HasInstructions f blocks b (own b) = subst (λ d. HasInstructions f blocks d (own d)) same has in
-          let now : HasInstructions g after b (own b) = record {
+          let here : HasInstructions f blocks b (own.insts b) = subst (λ d. HasInstructions f blocks d (own.insts d)) same has in
+          let now : HasInstructions g after b (own.insts b) = record {
             zeros = length f.insts ∷ here.zeros;
             in_order = inst_insts_here f b Front (UnaryImm (pos 0)) (ty ∷ []) no_srcloc there ∙ ap (λ xs. length f.insts ∷ xs) here.in_order;
             are_zeros = (new_zero f blocks b x ty, zeros_kept f g blocks after b here.zeros extends here.are_zeros);
           } in
-          subst (λ d. HasInstructions g after d (own d)) (sym same) now
+          subst (λ d. HasInstructions g after d (own.insts d)) (sym same) now
       | inr apart ↦
-          instructions_kept f (put_zero f b ty) blocks (with_zero_in blocks b x (length f.values)) c (own c) extends
+          instructions_kept f (put_zero f b ty) blocks (with_zero_in blocks b x (length f.values)) c (own.insts c) extends
           (inst_insts_other f b Front (UnaryImm (pos 0)) (ty ∷ []) no_srcloc c there apart) has
     ]
 
-pub zero_described : (own : ℕ → List ℕ) (f : Body) (s : SsaState) (completing : List Pending) (blocks : Blocks) (b x : ℕ) (ty : «Type»)
+pub zero_described : (own : Own) (f : Body) (s : SsaState) (completing : List Pending) (blocks : Blocks) (b x : ℕ) (ty : «Type»)
     → Firm f → Describes own f s completing blocks → b < length f.blocks
     → Describes own (put_zero f b ty) s completing (with_zero_in blocks b x (length f.values))
 zero_described own f s completing blocks b x ty firm before there =
@@ -92,8 +93,8 @@ zero_described own f s completing blocks b x ty firm before there =
     let edges : SameEdges f g s s blocks after = same_edges f g s s blocks after old_arms extends (λ c. refl) (λ c i here. refl) in
     let arms : Arms g s after =
     arms_kept f g s s blocks after (record { edges = edges; insts_more = extends.insts_more; layout = refl; same_yes = λ c. refl; sealed = λ c. refl; joins = λ arm. refl }) old_arms in
-    let order : Ordered g s completing after =
-    ordered_kept f g s s completing blocks after
+    let order : Ordered own g s completing after =
+    ordered_kept own f g s s completing blocks after
     (record {
       edges = edges;
       passed = same_passed f g s blocks after old_arms extends;
@@ -275,7 +276,7 @@ pub record WaitsSealed (s : SsaState) (blocks : Blocks) (p : Pending) (b : ℕ) 
   pub waits : blocks.function.definition p.param ≡ record { home = front b; kind = pending p.variable }
   pub is_sealed : is_yes (sealed_of s b) ≡ true
 
-alias_waiting : (own : ℕ → List ℕ) (f : Body) (s : SsaState) (p : Pending) (ps : List Pending) (blocks : Blocks) (z b : ℕ)
+alias_waiting : (own : Own) (f : Body) (s : SsaState) (p : Pending) (ps : List Pending) (blocks : Blocks) (z b : ℕ)
     → CanAlias f p.param z b → WaitsSealed s blocks p b → Describes own f s (p ∷ ps) blocks
     → (c : ℕ) (q : Pending) → Contains (pending_of (sealed_of s c)) q → IsWaiting (with_alias f p.param z) (with_dropped blocks p.param z) c q
 alias_waiting own f s p ps blocks z b can sealed before c q here =
@@ -285,7 +286,7 @@ alias_waiting own f s p ps blocks z b can sealed before c q here =
     none_contained q (subst (λ xs. Contains xs q) (ap (λ d. pending_of (sealed_of s d)) at ∙ none_pending (sealed_of s b) sealed.is_sealed) here) in
     waiting_kept f (with_alias f p.param z) blocks (with_dropped blocks p.param z) c q (alias_home_other f p.param z q.param other) refl waits
 
-alias_completed : (own : ℕ → List ℕ) (f : Body) (s : SsaState) (p : Pending) (ps : List Pending) (blocks : Blocks) (z b : ℕ)
+alias_completed : (own : Own) (f : Body) (s : SsaState) (p : Pending) (ps : List Pending) (blocks : Blocks) (z b : ℕ)
     → CanAlias f p.param z b → Describes own f s (p ∷ ps) blocks → (q : Pending) → Contains ps q
     → ((param_home (with_alias f p.param z) q.param ≡ None) × (resolved (with_alias f p.param z) q.param ≢ q.param))
     ⊎ ((c : ℕ) × IsWaiting (with_alias f p.param z) (with_dropped blocks p.param z) c q × (is_yes (sealed_of s c) ≡ true))
@@ -319,7 +320,7 @@ alias_completed own f s p ps blocks z b can before q here =
           ]
     ]
 
-alias_pends : (own : ℕ → List ℕ) (f : Body) (s : SsaState) (p : Pending) (ps : List Pending) (blocks : Blocks) (z b : ℕ)
+alias_pends : (own : Own) (f : Body) (s : SsaState) (p : Pending) (ps : List Pending) (blocks : Blocks) (z b : ℕ)
     → CanAlias f p.param z b → WaitsSealed s blocks p b → Describes own f s (p ∷ ps) blocks → (v y : ℕ)
     → resolved (with_alias f p.param z) v ≡ v → (blocks.function.definition v).kind ≡ pending y
     → ((c : ℕ) × Contains (pending_of (sealed_of s c)) (record { variable = y; param = v })) ⊎ Contains ps (record { variable = y; param = v })
@@ -348,7 +349,7 @@ pending_or_complete : {x : ℕ} → ◌≡◌ {A = Kind} (pending x) complete �
 pending_or_complete same = cc
 
 -- those that are still to be completed are parameters of the same blocks
-alias_parameters : (own : ℕ → List ℕ) (f : Body) (s : SsaState) (p : Pending) (ps : List Pending) (blocks : Blocks) (z b : ℕ)
+alias_parameters : (own : Own) (f : Body) (s : SsaState) (p : Pending) (ps : List Pending) (blocks : Blocks) (z b : ℕ)
     → CanAlias f p.param z b → Describes own f s (p ∷ ps) blocks → (c : ℕ) → parameters_of (with_alias f p.param z) c ps ≡ parameters_of f c ps
 alias_parameters own f s p ps blocks z b can before c =
     parameters_same f (with_alias f p.param z) c ps
@@ -369,7 +370,7 @@ alias_parameters own f s p ps blocks z b can before c =
           ]
     ])
 
-alias_completing_order : (own : ℕ → List ℕ) (f : Body) (s : SsaState) (p : Pending) (ps : List Pending) (blocks : Blocks) (z b : ℕ)
+alias_completing_order : (own : Own) (f : Body) (s : SsaState) (p : Pending) (ps : List Pending) (blocks : Blocks) (z b : ℕ)
     → CanAlias f p.param z b → Describes own f s (p ∷ ps) blocks → (c : ℕ) → InOrder (block_at (with_alias f p.param z) c).params (parameters_of (with_alias f p.param z) c ps)
 alias_completing_order own f s p ps blocks z b can before c =
     subst (λ qs. InOrder (block_at (with_alias f p.param z) c).params qs) (sym (alias_parameters own f s p ps blocks z b can before c))
@@ -390,9 +391,9 @@ alias_completing_order own f s p ps blocks z b can before c =
     ])
 
 -- the parameters that stay keep their order, and the complete ones their places
-pub alias_order : (own : ℕ → List ℕ) (f : Body) (s : SsaState) (p : Pending) (ps : List Pending) (blocks : Blocks) (z b : ℕ)
+pub alias_order : (own : Own) (f : Body) (s : SsaState) (p : Pending) (ps : List Pending) (blocks : Blocks) (z b : ℕ)
     → CanAlias f p.param z b → WaitsSealed s blocks p b → Describes own f s (p ∷ ps) blocks
-    → SameEdges f (with_alias f p.param z) s s blocks (with_dropped blocks p.param z) → Ordered (with_alias f p.param z) s ps (with_dropped blocks p.param z)
+    → SameEdges f (with_alias f p.param z) s s blocks (with_dropped blocks p.param z) → Ordered own (with_alias f p.param z) s ps (with_dropped blocks p.param z)
 alias_order own f s p ps blocks z b can sealed before edges =
     let v : ℕ = p.param in
     let g : Body = with_alias f v z in
@@ -415,7 +416,7 @@ alias_order own f s p ps blocks z b can sealed before edges =
             | inr apart ↦ subst (λ params. InOrder params (pending_of (sealed_of s c))) (sym apart.1) (before.waiting_order c)
           ];
       completing_order = alias_completing_order own f s p ps blocks z b can before;
-      passes = λ c u arm edge is at.
+      passes = λ c u arm edge is at j belongs.
           let same_place : place_of u (block_at g c).params ≡ place_of u (block_at f c).params =
           elim (alias_params f v z b can c) [
             | inl here ↦
@@ -424,10 +425,10 @@ alias_order own f s p ps blocks z b can sealed before edges =
                 (before.complete_first c u v p.variable is (sealed.waits ∙ ap (λ d. record { home = front d; kind = pending p.variable }) (sym here.0)) (can.parameter ∙ ap Some (sym here.0)))
             | inr apart ↦ ap (place_of u) apart.1
           ] in
-          ap (λ k. passed_at f edge.branch arm.edge k) same_place ∙ before.passes c u arm (edge_before f g s s blocks (with_dropped blocks v z) c arm edges edge) is at;
+          before.passes c u arm (edge_before f g s s blocks (with_dropped blocks v z) c arm edges edge) is at j (subst (λ k. BelongsTo own c edge.branch arm.edge k j) same_place belongs);
     }
 
-pub alias_described : (own : ℕ → List ℕ) (f : Body) (s : SsaState) (p : Pending) (ps : List Pending) (blocks : Blocks) (z b : ℕ)
+pub alias_described : (own : Own) (f : Body) (s : SsaState) (p : Pending) (ps : List Pending) (blocks : Blocks) (z b : ℕ)
     → CanAlias f p.param z b → WaitsSealed s blocks p b → Describes own f s (p ∷ ps) blocks
     → Describes own (with_alias f p.param z) s ps (with_dropped blocks p.param z)
 alias_described own f s p ps blocks z b can sealed before =
@@ -441,7 +442,7 @@ alias_described own f s p ps blocks z b can sealed before =
     let edges : SameEdges f g s s blocks after = same_edges f g s s blocks after old_arms extends (λ c. refl) (λ c i here. refl) in
     let arms : Arms g s after =
     arms_kept f g s s blocks after (record { edges = edges; insts_more = extends.insts_more; layout = refl; same_yes = λ c. refl; sealed = λ c. refl; joins = λ arm. refl }) old_arms in
-    let order : Ordered g s ps after = alias_order own f s p ps blocks z b can sealed before edges in
+    let order : Ordered own g s ps after = alias_order own f s p ps blocks z b can sealed before edges in
     record {
       sealed = arms.sealed;
       joined = arms.joined;
@@ -479,5 +480,5 @@ alias_described own f s p ps blocks z b can sealed before =
       waiting_order = order.waiting_order;
       completing_order = order.completing_order;
       passes = order.passes;
-      instructions = λ c. instructions_kept f g blocks after c (own c) extends (alias_insts f v z b can c) (before.instructions c);
+      instructions = λ c. instructions_kept f g blocks after c (own.insts c) extends (alias_insts f v z b can c) (before.instructions c);
     }

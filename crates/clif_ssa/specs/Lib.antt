@@ -1,4 +1,5 @@
 pub mod Tables
+pub mod Own
 pub mod Ssa
 pub mod Passed
 pub mod LookUp

@@ -1,7 +1,7 @@
 -- When the tables of the theory of variables on paths describe a function and the state of its construction. The
 -- tables have the program's side (items, assignments, names and their answers), which the caller brings, and the
 -- function's side, which is said here. Source: own, after the data that Braun et al. 2013 keep.
-use Rattle.std.specs.Prelude.{◌≡◌, ◌≢◌, ℕ, ◌<◌, ◌≤◌, ◌==◌, ◌&&◌, ◌⊎◌, Bool, true, false, List, [], ◌∷◌, ◌++◌, length, map, Option, Some, None, slice_get, slice_index_or, Contains, pos, if◌then◌else◌}
+use Rattle.std.specs.Prelude.{◌≡◌, ◌≢◌, ℕ, ◌+◌, ◌<◌, ◌≤◌, ◌==◌, ◌&&◌, ◌⊎◌, Bool, true, false, List, [], ◌∷◌, ◌++◌, length, map, Option, Some, None, slice_get, slice_index_or, Contains, pos, if◌then◌else◌}
 use Rattle.std.specs.List.{AllByRecursion}
 use Rattle.clif_ir.specs.Body.{Body, inst_at, block_at, resolved}
 use Rattle.clif_ir.specs.Consistent.{Once}
@@ -16,6 +16,7 @@ use Rattle.clif_paths.specs.State.{fresh, Kind, unborn, born, pending, complete,
 use Rattle.clif_paths.specs.Blocks.{Blocks, front, last_place, AssignsNot, Knows}
 use Rattle.clif_paths.specs.BlockLaws.{BlocksSound}
 use Rattle.clif_ssa.specs.declared.tables.Pending.{Pending}
+use Rattle.clif_ssa.specs.Own.{Own}
 use Rattle.clif_ssa.specs.Tables.{is_yes, pending_of}
 use Rattle.clif_ssa.specs.Ssa.{SsaState, record_of, sealed_of, predecessors_of}
 use Rattle.clif_ssa.specs.LookUp.{branch_block}
@@ -103,10 +104,14 @@ pub record IsEdgeInto (f : Body) (s : SsaState) (blocks : Blocks) (block : ℕ) 
   pub from : arm.source ≡ last_place blocks (branch_block f branch)
   pub to : edge_target f branch arm.edge ≡ Some block
 
+-- An argument of an edge belongs to a parameter of the block: it stands as far behind what the caller passed as the
+-- parameter behind the caller's.
+abbrev pub BelongsTo : Own → ℕ → ℕ → ℕ → ℕ → ℕ → Type 0
+BelongsTo own block branch edge place argument = argument + length (own.params block) ≡ place + length (own.passed branch edge)
+
 -- The tables describe the function and the state, while these parameters are being completed: those of sealed blocks
--- that wait, those of one block in the order of its parameters. `own` are the instructions of each block that the
--- caller made.
-pub record Describes (own : ℕ → List ℕ) (f : Body) (s : SsaState) (completing : List Pending) (blocks : Blocks) : Type 0 where
+-- that wait, those of one block in the order of its parameters. `own` is what the caller made.
+pub record Describes (own : Own) (f : Body) (s : SsaState) (completing : List Pending) (blocks : Blocks) : Type 0 where
   -- the arms into a block are known once it is sealed and there is an entry
   pub sealed : (b : ℕ) → blocks.sealed b ≡ (is_yes (sealed_of s b) && has_entry f.layout)
   -- they are the one from the start, if it is the entry, and the edges of the branches that lead to it
@@ -151,38 +156,51 @@ pub record Describes (own : ℕ → List ℕ) (f : Body) (s : SsaState) (complet
       → place_of v (block_at f b).params < place_of u (block_at f b).params
   pub waiting_order : (b : ℕ) → InOrder (block_at f b).params (pending_of (sealed_of s b))
   pub completing_order : (b : ℕ) → InOrder (block_at f b).params (parameters_of f b completing)
-  -- each edge to its block passes what the arm gives it, at its place
+  -- each edge to its block passes what the arm gives it, where that belongs to it
   pub passes : (b v : ℕ) (arm : Arm) (edge : IsEdgeInto f s blocks b arm)
       → blocks.function.definition v ≡ record { home = front b; kind = complete } → arm.target ≡ front b
-      → passed_at f edge.branch arm.edge (place_of v (block_at f b).params) ≡ Some (Value (blocks.function.argument v arm))
+      → (j : ℕ) → BelongsTo own b edge.branch arm.edge (place_of v (block_at f b).params) j
+      → passed_at f edge.branch arm.edge j ≡ Some (Value (blocks.function.argument v arm))
   -- the blocks' instructions
-  pub instructions : (b : ℕ) → HasInstructions f blocks b (own b)
+  pub instructions : (b : ℕ) → HasInstructions f blocks b (own.insts b)
 
 -- how many arguments edge `k` of an instruction passes
 abbrev pub passed_count : Body → ℕ → ℕ → ℕ
 passed_count f inst k = length (args_of (slice_get (edges_at f inst) k))
 
--- an edge that passes so many arguments passes one to a parameter of this kind at this place, unless it waits
-abbrev pub IsCounted : Kind → ℕ → ℕ → Type 0
-IsCounted unborn place count = place < count
-IsCounted (born n) place count = place < count
-IsCounted (pending x) place count = count ≤ place
-IsCounted complete place count = place < count
-IsCounted (zero_of x) place count = place < count
+-- a parameter of this kind stands at this place of a block that has so many parameters of the caller's: these come first
+abbrev pub IsBehind : Kind → ℕ → ℕ → Type 0
+IsBehind unborn place callers = ⊥
+IsBehind (born n) place callers = place < callers
+IsBehind (pending x) place callers = callers ≤ place
+IsBehind complete place callers = callers ≤ place
+IsBehind (zero_of x) place callers = ⊥
 
--- The edges of the branches that lead to a block pass arguments to its first parameters, and to exactly those that
--- don't wait.
-pub record CountsArguments (f : Body) (s : SsaState) (blocks : Blocks) : Type 0 where
+-- An edge that passes so many arguments, so many of them the caller's, passes one more to each complete parameter and
+-- none to those that wait.
+abbrev pub IsCounted : Kind → ℕ → ℕ → ℕ → ℕ → Type 0
+IsCounted unborn place callers count given = Unit {0}
+IsCounted (born n) place callers count given = Unit {0}
+IsCounted (pending x) place callers count given = count + callers ≤ place + given
+IsCounted complete place callers count given = place + given < count + callers
+IsCounted (zero_of x) place callers count given = Unit {0}
+
+-- In each block the caller's parameters come first. The edges of the branches that lead to it pass what the caller
+-- passed, and then arguments to exactly those of the other parameters that don't wait, which come first among these.
+pub record CountsArguments (own : Own) (f : Body) (s : SsaState) (blocks : Blocks) : Type 0 where
+  pub behind : (b v : ℕ) → param_home f v ≡ Some b
+      → IsBehind (blocks.function.definition v).kind (place_of v (block_at f b).params) (length (own.params b))
+  pub callers : (b : ℕ) → length (own.params b) ≤ length (block_at f b).params
   pub counted : (b i k v : ℕ) → Contains (predecessors_of s b) i → edge_target f i k ≡ Some b → param_home f v ≡ Some b
-      → IsCounted (blocks.function.definition v).kind (place_of v (block_at f b).params) (passed_count f i k)
+      → IsCounted (blocks.function.definition v).kind (place_of v (block_at f b).params) (length (own.params b)) (passed_count f i k) (length (own.passed i k))
+  pub no_fewer : (b i k : ℕ) → Contains (predecessors_of s b) i → edge_target f i k ≡ Some b
+      → length (own.passed i k) ≤ passed_count f i k
   pub no_more : (b i k : ℕ) → Contains (predecessors_of s b) i → edge_target f i k ≡ Some b
-      → passed_count f i k ≤ length (block_at f b).params
+      → passed_count f i k + length (own.params b) ≤ length (block_at f b).params + length (own.passed i k)
 
--- the same of one branch, which may come to lead to the block
-pub record EdgesCount (f : Body) (blocks : Blocks) (block inst : ℕ) : Type 0 where
-  pub counted : (k v : ℕ) → edge_target f inst k ≡ Some block → param_home f v ≡ Some block
-      → IsCounted (blocks.function.definition v).kind (place_of v (block_at f block).params) (passed_count f inst k)
-  pub no_more : (k : ℕ) → edge_target f inst k ≡ Some block → passed_count f inst k ≤ length (block_at f block).params
+-- The edges of a branch to the block pass what the caller passed, and nothing else.
+abbrev pub PassesOwn : Own → Body → ℕ → ℕ → Type 0
+PassesOwn own f block inst = (k : ℕ) → edge_target f inst k ≡ Some block → passed_count f inst k ≡ length (own.passed inst k)
 
 -- the program's side of both tables is the same
 pub record SameProgram (blocks blocks' : Blocks) : Type 0 where
@@ -193,14 +211,14 @@ pub record SameProgram (blocks blocks' : Blocks) : Type 0 where
 
 -- What a call of the construction keeps: there are sound tables with the same program's side that describe what it
 -- left.
-pub record Keeps (own : ℕ → List ℕ) (blocks : Blocks) (g : Body) (t : SsaState) : Type 0 where
+pub record Keeps (own : Own) (blocks : Blocks) (g : Body) (t : SsaState) : Type 0 where
   pub tables : Blocks
   pub describes : Describes own g t [] tables
   pub sound : BlocksSound tables
   pub same : SameProgram blocks tables
-  pub counts : CountsArguments g t tables
+  pub counts : CountsArguments own g t tables
 
 -- the same, and the value holds the variable at the end of the block
-pub record KeepsAndKnows (own : ℕ → List ℕ) (blocks : Blocks) (g : Body) (t : SsaState) (block variable value : ℕ) : Type 0 where
+pub record KeepsAndKnows (own : Own) (blocks : Blocks) (g : Body) (t : SsaState) (block variable value : ℕ) : Type 0 where
   pub kept : Keeps own blocks g t
   pub known : Knows kept.tables block variable value

@@ -1,13 +1,15 @@
 -- How the tables of the theory of variables on paths change as a function and the state of its construction do.
 -- Source: own.
-use Rattle.std.specs.Prelude.{◌≡◌, ◌≢◌, ℕ, ◌<◌, ◌==◌, ◌&&◌, ◌||◌, List, [], ◌∷◌, ◌++◌, ◌+◌, length, Bool, true, false, Some, None, Contains, if◌then◌else◌}
+use Rattle.std.specs.Prelude.{◌≡◌, ◌≢◌, ℕ, ◌<◌, ◌==◌, ◌&&◌, ◌||◌, List, [], ◌∷◌, ◌++◌, ◌+◌, length, Bool, true, false, Some, None, Contains, slice_get, if◌then◌else◌}
 use Rattle.clif_types.specs.declared.types.«Type».{«Type»}
 use Rattle.clif_types.specs.declared.extname.UserFuncName.{UserFuncName}
 use Rattle.clif_types.specs.Signature.{SignatureShape}
 use Rattle.clif_ir.specs.Body.{Body, empty_body}
 use Rattle.clif_ir.specs.Changes.{inserted_in, with_block, with_inst}
 use Rattle.clif_ir.specs.Consistent.{IsConsistent}
+use Rattle.clif_ir.specs.Instruction.{destinations}
 use Rattle.clif_ir.specs.Reading.{without}
+use Rattle.clif_ir.specs.declared.block_call.BlockArg.{BlockArg}
 use Rattle.clif_ir.specs.declared.instructions.InstructionData.{InstructionData}
 use Rattle.clif_ir.specs.declared.inst_list.BlockEnd.TheVariants.{Back}
 use Rattle.clif_paths.specs.Places.{start, Edges, same_place}
@@ -18,7 +20,8 @@ use Rattle.clif_ssa.specs.declared.tables.Pending.{Pending}
 use Rattle.clif_ssa.specs.Tables.{is_yes, pending_of}
 use Rattle.clif_ssa.specs.Ssa.{SsaState, no_state, record_of, sealed_of, predecessors_of, completed, Records, SameRecords, SameBlocks, SamePredecessors, Seals, Waits, Zeroes}
 use Rattle.clif_ssa.specs.LookUp.{branch_block}
-use Rattle.clif_ssa.specs.Sound.{Describes, CountsArguments, EdgesCount, has_entry, entry_of, is_some_block, edge_target, SameProgram, Keeps, KeepsAndKnows}
+use Rattle.clif_ssa.specs.Own.{Own, no_own, with_one_more}
+use Rattle.clif_ssa.specs.Sound.{Describes, CountsArguments, PassesOwn, args_of, has_entry, entry_of, is_some_block, edge_target, SameProgram, Keeps, KeepsAndKnows}
 
 -- the one arm into the entry's front, from the virtual start
 abbrev pub enters : ℕ → Edges
@@ -51,13 +54,17 @@ with_seal [] was_sealed b into blocks = blocks
 with_seal (entry ∷ layout) true b into blocks = blocks
 with_seal (entry ∷ layout) false b into blocks = with_block_sealed blocks b into
 
--- the instructions that the caller made, with one more in block `b`
-abbrev pub with_own : (ℕ → List ℕ) → ℕ → ℕ → ℕ → List ℕ
-with_own own b inst = updated own b (own b ++ inst ∷ [])
+-- what an edge of an instruction of this shape passes
+abbrev pub shape_passes : InstructionData → ℕ → List BlockArg
+shape_passes shape k = args_of (slice_get (destinations shape) k)
+
+-- what the caller made, with one more instruction of this shape in block `b`
+abbrev pub with_own : Own → ℕ → ℕ → InstructionData → Own
+with_own own b inst shape = record own { insts = with_one_more own.insts b inst; passed = updated own.passed inst (shape_passes shape) }
 
 -- tables that describe a function and a state, and are sound; and the edges to blocks pass what they have to
-abbrev pub DescribesSoundly : (ℕ → List ℕ) → Body → SsaState → Blocks → Type 0
-DescribesSoundly own f s blocks = Describes own f s [] blocks × BlocksSound blocks × CountsArguments f s blocks
+abbrev pub DescribesSoundly : Own → Body → SsaState → Blocks → Type 0
+DescribesSoundly own f s blocks = Describes own f s [] blocks × BlocksSound blocks × CountsArguments own f s blocks
 
 -- no branch that leads somewhere stands in the block
 abbrev pub IsOpen : Body → SsaState → ℕ → Type 0
@@ -67,43 +74,43 @@ IsOpen f s b = (c i : ℕ) → Contains (predecessors_of s c) i → branch_block
 abbrev pub FirstDescribes : Type 0
 FirstDescribes =
     (name : UserFuncName) (signature : SignatureShape) →
-    DescribesSoundly (λ b. []) (empty_body name signature) no_state no_blocks
+    DescribesSoundly no_own (empty_body name signature) no_state no_blocks
 
 -- the tables describe each state with the same records and the same blocks
 abbrev pub SameStateKeeps : Type 0
 SameStateKeeps =
-    (own : ℕ → List ℕ) (f : Body) (s t : SsaState) (blocks : Blocks) → SameRecords s t → SameBlocks s t →
+    (own : Own) (f : Body) (s t : SsaState) (blocks : Blocks) → SameRecords s t → SameBlocks s t →
     SamePredecessors s t →
-    (Describes own f s [] blocks → Describes own f t [] blocks) × (CountsArguments f s blocks → CountsArguments f t blocks)
+    (Describes own f s [] blocks → Describes own f t [] blocks) × (CountsArguments own f s blocks → CountsArguments own f t blocks)
 
 -- a block enters the layout, unless it is there
 abbrev pub InsertionKeeps : Type 0
 InsertionKeeps =
-    (own : ℕ → List ℕ) (f : Body) (s : SsaState) (completing : List Pending) (blocks : Blocks) (b : ℕ) →
+    (own : Own) (f : Body) (s : SsaState) (completing : List Pending) (blocks : Blocks) (b : ℕ) →
     Describes own f s completing blocks → BlocksSound blocks →
     Describes own (inserted_in f b) s completing (with_entry f.layout s b blocks)
     × BlocksSound (with_entry f.layout s b blocks)
     × SameProgram blocks (with_entry f.layout s b blocks)
-    × (CountsArguments f s blocks → CountsArguments (inserted_in f b) s (with_entry f.layout s b blocks))
+    × (CountsArguments own f s blocks → CountsArguments own (inserted_in f b) s (with_entry f.layout s b blocks))
 
 -- a new block
 abbrev pub NewBlockKeeps : Type 0
 NewBlockKeeps =
-    (own : ℕ → List ℕ) (f : Body) (s : SsaState) (blocks : Blocks) →
+    (own : Own) (f : Body) (s : SsaState) (blocks : Blocks) →
     (Describes own f s [] blocks → Describes own (with_block f) s [] blocks)
-    × (CountsArguments f s blocks → CountsArguments (with_block f) s blocks)
+    × (CountsArguments own f s blocks → CountsArguments own (with_block f) s blocks)
 
 -- an item that uses a variable: the new name is answered by a value that the block knows to hold it
 abbrev pub ReadItemKeeps : Type 0
 ReadItemKeeps =
-    (own : ℕ → List ℕ) (f : Body) (s : SsaState) (blocks : Blocks) (b n x v : ℕ) → DescribesSoundly own f s blocks →
+    (own : Own) (f : Body) (s : SsaState) (blocks : Blocks) (b n x v : ℕ) → DescribesSoundly own f s blocks →
     IsOpen f s b → IsNewName (state_of blocks) n → Knows blocks b x v → v < length f.values →
     DescribesSoundly own f s (with_read (with_item blocks b) b n x v)
 
 -- an assignment at the last place of a block, which doesn't assign the variable
 abbrev pub WriteHereKeeps : Type 0
 WriteHereKeeps =
-    (own : ℕ → List ℕ) (f : Body) (s t : SsaState) (blocks : Blocks) (b x n : ℕ) → DescribesSoundly own f s blocks →
+    (own : Own) (f : Body) (s t : SsaState) (blocks : Blocks) (b x n : ℕ) → DescribesSoundly own f s blocks →
     IsOpen f s b → (blocks.naming n).home ≢ start → blocks.assigned (last_place blocks b) x ≡ None →
     Records s t x b (blocks.answer n) → SameBlocks s t → SamePredecessors s t →
     DescribesSoundly own f t (with_write blocks b x n)
@@ -111,30 +118,30 @@ WriteHereKeeps =
 -- an item that assigns a name to a variable
 abbrev pub WriteItemKeeps : Type 0
 WriteItemKeeps =
-    (own : ℕ → List ℕ) (f : Body) (s t : SsaState) (blocks : Blocks) (b x n : ℕ) → DescribesSoundly own f s blocks →
+    (own : Own) (f : Body) (s t : SsaState) (blocks : Blocks) (b x n : ℕ) → DescribesSoundly own f s blocks →
     IsOpen f s b → (blocks.naming n).home ≢ start → Records s t x b (blocks.answer n) → SameBlocks s t → SamePredecessors s t →
     DescribesSoundly own f t (with_write (with_item blocks b) b x n)
 
 -- an instruction of the caller's without results, at the end of a block
 abbrev pub OwnInstructionKeeps : Type 0
 OwnInstructionKeeps =
-    (own : ℕ → List ℕ) (f : Body) (s : SsaState) (blocks : Blocks) (b : ℕ) (shape : InstructionData) (loc : ℕ) →
+    (own : Own) (f : Body) (s : SsaState) (blocks : Blocks) (b : ℕ) (shape : InstructionData) (loc : ℕ) →
     IsConsistent f → DescribesSoundly own f s blocks → IsOpen f s b → b < length f.blocks →
-    DescribesSoundly (with_own own b (length f.insts)) (with_inst f b Back shape [] loc) s (with_item blocks b)
+    DescribesSoundly (with_own own b (length f.insts) shape) (with_inst f b Back shape [] loc) s (with_item blocks b)
 
 -- the same with one result, by which a new name is given
 abbrev pub OwnResultKeeps : Type 0
 OwnResultKeeps =
-    (own : ℕ → List ℕ) (f : Body) (s : SsaState) (blocks : Blocks) (b n : ℕ) (shape : InstructionData) (ty : «Type»)
+    (own : Own) (f : Body) (s : SsaState) (blocks : Blocks) (b n : ℕ) (shape : InstructionData) (ty : «Type»)
     (loc : ℕ) →
     IsConsistent f → DescribesSoundly own f s blocks → IsOpen f s b → b < length f.blocks → IsNewName (state_of blocks) n →
-    DescribesSoundly (with_own own b (length f.insts)) (with_inst f b Back shape (ty ∷ []) loc) s
+    DescribesSoundly (with_own own b (length f.insts) shape) (with_inst f b Back shape (ty ∷ []) loc) s
     (with_born (with_item blocks b) (last_place (with_item blocks b) b) n (length f.values))
 
 -- a use of a variable that isn't recorded in an unsealed block
 abbrev pub WaitingUseKeeps : Type 0
 WaitingUseKeeps =
-    (own : ℕ → List ℕ) (f g : Body) (s t : SsaState) (blocks : Blocks) (x : ℕ) (ty : «Type») (b : ℕ) →
+    (own : Own) (f g : Body) (s t : SsaState) (blocks : Blocks) (x : ℕ) (ty : «Type») (b : ℕ) →
     IsConsistent f → DescribesSoundly own f s blocks → b < length f.blocks →
     record_of s x b ≡ None → is_yes (sealed_of s b) ≡ false → Waits s t f g x ty b → SamePredecessors s t →
     KeepsAndKnows own blocks g t b x (length f.values)
@@ -142,7 +149,7 @@ WaitingUseKeeps =
 -- the same in a sealed block to which no branch leads
 abbrev pub ZeroUseKeeps : Type 0
 ZeroUseKeeps =
-    (own : ℕ → List ℕ) (f g : Body) (s t : SsaState) (blocks : Blocks) (x : ℕ) (ty : «Type») (b : ℕ) →
+    (own : Own) (f g : Body) (s t : SsaState) (blocks : Blocks) (x : ℕ) (ty : «Type») (b : ℕ) →
     IsConsistent f → DescribesSoundly own f s blocks → predecessors_of s b ≡ [] → b < length f.blocks →
     record_of s x b ≡ None → is_yes (sealed_of s b) ≡ true → Zeroes s t f g x ty b → SamePredecessors s t →
     KeepsAndKnows own blocks g t b x (length f.values + 1)
@@ -150,33 +157,28 @@ ZeroUseKeeps =
 -- a block to which no branch leads is sealed, and what waited in it is completed
 abbrev pub SealingKeeps : Type 0
 SealingKeeps =
-    (own : ℕ → List ℕ) (f : Body) (s t : SsaState) (blocks : Blocks) (b : ℕ) →
+    (own : Own) (f : Body) (s t : SsaState) (blocks : Blocks) (b : ℕ) →
     IsConsistent f → DescribesSoundly own f s blocks → predecessors_of s b ≡ [] →
     SameRecords s t → Seals s t b → SamePredecessors s t →
     Keeps own blocks (completed f (pending_of (sealed_of s b))) t
 
--- a branch, whose edges to an unsealed block pass what they have to, is put behind those that lead to it
+-- a branch, whose edges to an unsealed block pass what the caller passed, is put behind those that lead to it
 abbrev pub PredecessorDeclared : Type 0
 PredecessorDeclared =
-    (own : ℕ → List ℕ) (f : Body) (s t : SsaState) (blocks : Blocks) (b i : ℕ) → DescribesSoundly own f s blocks →
+    (own : Own) (f : Body) (s t : SsaState) (blocks : Blocks) (b i : ℕ) → DescribesSoundly own f s blocks →
     i < length f.insts → has_entry f.layout ≡ true → is_yes (sealed_of s b) ≡ false → entry_of f ≢ Some b →
     ((j : ℕ) → Contains (predecessors_of s b) j → branch_block f j ≢ branch_block f i) →
-    EdgesCount f blocks b i → SameRecords s t → SameBlocks s t →
+    PassesOwn own f b i → SameRecords s t → SameBlocks s t →
     ((c : ℕ) → predecessors_of t c ≡ (if c == b then predecessors_of s c ++ i ∷ [] else predecessors_of s c)) →
     DescribesSoundly own f t blocks
 
 -- a branch leads no longer to an unsealed block
 abbrev pub PredecessorRemoved : Type 0
 PredecessorRemoved =
-    (own : ℕ → List ℕ) (f : Body) (s t : SsaState) (blocks : Blocks) (b i : ℕ) → DescribesSoundly own f s blocks →
+    (own : Own) (f : Body) (s t : SsaState) (blocks : Blocks) (b i : ℕ) → DescribesSoundly own f s blocks →
     is_yes (sealed_of s b) ≡ false → SameRecords s t → SameBlocks s t →
     ((c : ℕ) → predecessors_of t c ≡ (if c == b then without i (predecessors_of s c) else predecessors_of s c)) →
     DescribesSoundly own f t blocks
-
--- where no branch leads anywhere, no edge has to pass anything
-abbrev pub NothingLeadsCounts : Type 0
-NothingLeadsCounts =
-    (f : Body) (s : SsaState) (blocks : Blocks) → ((b : ℕ) → predecessors_of s b ≡ []) → CountsArguments f s blocks
 
 -- tables with the same program have the same new names
 abbrev pub NewNameStays : Type 0

@@ -1,7 +1,7 @@
 //! Laws for the builder above: the tables of the theory of variables on paths describe what it makes of a function by
 //! itself, and stay sound.
 
-ghost use Rattle.clif_ssa.specs.SoundLaws.{FirstDescribes, SameStateKeeps, InsertionKeeps, NewBlockKeeps, ReadItemKeeps, WriteHereKeeps, WriteItemKeeps, OwnInstructionKeeps, OwnResultKeeps, WaitingUseKeeps, ZeroUseKeeps, SealingKeeps, PredecessorDeclared, PredecessorRemoved, NothingLeadsCounts, NewNameStays};
+ghost use Rattle.clif_ssa.specs.SoundLaws.{FirstDescribes, SameStateKeeps, InsertionKeeps, NewBlockKeeps, ReadItemKeeps, WriteHereKeeps, WriteItemKeeps, OwnInstructionKeeps, OwnResultKeeps, WaitingUseKeeps, ZeroUseKeeps, SealingKeeps, PredecessorDeclared, PredecessorRemoved, NewNameStays};
 ghost use Rattle.clif_ssa.specs.Structure.{UsesAgree};
 
 /// The first tables describe a function without blocks, of which nothing is known.
@@ -72,11 +72,6 @@ pub fn predecessor_keeps()
 /// A branch leads no longer to an unsealed block.
 pub fn removed_predecessor_keeps()
     ensures { PredecessorRemoved }
-{}
-
-/// Where no branch leads anywhere, no edge has to pass anything.
-pub fn nothing_leads_counts()
-    ensures { NothingLeadsCounts }
 {}
 
 /// Tables with the same program have the same new names.

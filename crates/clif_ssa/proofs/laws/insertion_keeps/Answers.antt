@@ -8,5 +8,5 @@ returns c = λ own f s completing blocks b before sound. (
   (inserted own f s completing blocks b before sound).0,
   (inserted own f s completing blocks b before sound).1,
   (entry_same f.layout s b blocks).program,
-  λ counts. inserted_counted f s blocks _ b (entry_same f.layout s b blocks).definition counts,
+  λ counts. inserted_counted own f s blocks _ b (entry_same f.layout s b blocks).definition counts,
 )

@@ -6,5 +6,5 @@ use Rattle.clif_ssa.proofs.laws.same_state_keeps.Goals as goal
 pub returns : goal.returns
 returns c = λ own f s t blocks records same leads. (
   same_state own f s t blocks records same leads,
-  λ counts. counts_kept f s t blocks blocks counts leads (λ v. refl),
+  λ counts. counts_kept own f s t blocks blocks counts leads (λ v. refl),
 )
