@@ -5,6 +5,7 @@ use Rattle.clif_types.specs.declared.extname.UserFuncName.{UserFuncName}
 use Rattle.clif_types.specs.Signature.{SignatureShape}
 use Rattle.clif_ir.specs.Body.{empty_body}
 use Rattle.clif_paths.specs.Blocks.{no_blocks}
+use Rattle.clif_ssa.specs.Own.{no_own}
 use Rattle.clif_ssa.specs.Ssa.{no_state}
 use Rattle.clif_ssa.proofs.Straying.{first_stray}
 use Rattle.clif_ssa.proofs.Writing.{first_described}
@@ -93,7 +94,7 @@ carries_nothing name signature =
     let first = first_described name signature in
     record {
       tables = no_blocks;
-      own = λ b. [];
+      own = no_own;
       program = nothing_so_far;
       items = λ b N named. absurd (some_none N named);
       earlier = λ N. tt;
@@ -103,6 +104,7 @@ carries_nothing name signature =
       entry = record { none = λ none. refl; some = λ e is. absurd (some_none e is) };
       describes = first.0;
       sound = first.1;
+      counts = first.2;
       nothing_stray = first_stray name signature;
       nothing_leads = λ b. refl;
     }

@@ -16,6 +16,7 @@ use Rattle.clif_ir.specs.Changes.{inserted_in, with_inst}
 use Rattle.clif_paths.specs.Places.{inside}
 use Rattle.clif_paths.specs.Blocks.{Blocks, last_place, with_item, with_born}
 use Rattle.clif_paths.proofs.Tables.{updated-same, updated-other}
+use Rattle.clif_ssa.specs.Own.{with_one_more}
 use Rattle.clif_ssa.specs.Ssa.{SsaState}
 use Rattle.clif_ssa.specs.Sound.{SameProgram}
 use Rattle.clif_ssa.specs.SoundLaws.{with_entry, with_own, DescribesSoundly, IsOpen}
@@ -25,6 +26,7 @@ use Rattle.clif_ssa.proofs.Bodies.{Firm, firm_from}
 use Rattle.clif_ssa.proofs.Completing.{SameButLayout, inserted_same, inserted_firm, entry_same}
 use Rattle.clif_ssa.proofs.Entering.{inserted}
 use Rattle.clif_ssa.proofs.Instructions.{inst_new}
+use Rattle.clif_ssa.proofs.Counting.{inserted_counted}
 use Rattle.clif_ssa.proofs.Owning.{own_described, own_result_described}
 use Rattle.clif_meaning.specs.Name.{Name, answer_of}
 use Rattle.clif_meaning.specs.Instruction.{Operation, Instruction, Edge}
@@ -43,7 +45,7 @@ use Rattle.clif_simulation.proofs.Carrying.{carries_item, numbers_kept, all_mapp
 use Rattle.clif_simulation.proofs.ItemCalls.{PutsItem, adds_instruction, adds_result, last-with_item, number_of_answer}
 use Rattle.clif_simulation.proofs.Growing.{placed_kept, goes_on-then, goes_on-inserted, goes_on-with_inst}
 use Rattle.clif_simulation.proofs.Values.{is_value_at, false_is, values_added, next_is_new}
-use Rattle.clif_simulation.proofs.Unbranched.{open_everywhere, nothing_counts}
+use Rattle.clif_simulation.proofs.Unbranched.{open_everywhere}
 use Rattle.clif_simulation.proofs.Calls.{values_same, name_stays, longer_calls}
 
 -- an instruction as the machine sees it, by its parts
@@ -92,7 +94,7 @@ module _ (calls : List AnsweredCall) (f : Body) (s : SsaState) (c : Carries call
   before : DescribesSoundly c.own h s T
   before =
       let entered = inserted c.own f s [] c.tables b c.describes c.sound in
-      (entered.0, entered.1, nothing_counts h s T c.nothing_leads)
+      (entered.0, entered.1, inserted_counted c.own f s c.tables T b (entry_same f.layout s b c.tables).definition c.counts)
 
   open_block : IsOpen h s b
   open_block = open_everywhere h s b c.nothing_leads
@@ -115,18 +117,18 @@ module _ (calls : List AnsweredCall) (f : Body) (s : SsaState) (c : Carries call
   edges_same : edges_of shape ≡ map (answered_edge after) instruction.edges
   edges_same = matches.no_edges ∙ sym (edges_answered after instruction.edges matches.edges)
 
-  own_here : with_own c.own b (length h.insts) b ≡ c.own b ++ length h.insts ∷ []
-  own_here = updated-same c.own b (c.own b ++ length h.insts ∷ []) b refl
+  own_here : with_one_more c.own.insts b (length h.insts) b ≡ c.own.insts b ++ length h.insts ∷ []
+  own_here = updated-same c.own.insts b (c.own.insts b ++ length h.insts ∷ []) b refl
 
-  own_elsewhere : (d : ℕ) → d ≢ b → with_own c.own b (length h.insts) d ≡ c.own d
-  own_elsewhere d other = updated-other c.own b (c.own b ++ length h.insts ∷ []) d other
+  own_elsewhere : (d : ℕ) → d ≢ b → with_one_more c.own.insts b (length h.insts) d ≡ c.own.insts d
+  own_elsewhere d other = updated-other c.own.insts b (c.own.insts b ++ length h.insts ∷ []) d other
 
   longer_insts : (types : List «Type») → length h.insts < length (with_inst h b Back shape types loc).insts
   longer_insts types = grind (arith, common_steps)
 
   -- nothing stays behind that isn't needed
-  stray_after : (types : List «Type») → NothingStray (with_own c.own b (length h.insts)) (with_inst h b Back shape types loc) s
-  stray_after types = own_stray c.own h s b shape types loc firm there_still (inserted_stray c.own f s b c.nothing_stray)
+  stray_after : (types : List «Type») → NothingStray (with_one_more c.own.insts b (length h.insts)) (with_inst h b Back shape types loc) s
+  stray_after types = own_stray c.own.insts h s b shape types loc firm there_still (inserted_stray c.own.insts f s b c.nothing_stray)
 
   -- without results
   module _ (no_results : result_types instruction.operation instruction.controlling ≡ []) (controlling : (g : Body) → controlling_of g shape [] ≡ instruction.controlling) where
@@ -162,10 +164,10 @@ module _ (calls : List AnsweredCall) (f : Body) (s : SsaState) (c : Carries call
         let adds = adds_instruction calls call T b B current.named unwritten instruction puts in
         carries_item calls call f g s s c (placed_kept f g consistent on) on.more_insts b B (Instruct (length calls) instruction []) T (with_item T b) adds
         (restated calls c.tables T same_side c.program)
-        (with_own c.own b (length h.insts)) (length h.insts ∷ []) own_here own_elsewhere new_is (longer_insts [], tt) (earlier_after, tt, matches.edges)
+        (with_own c.own b (length h.insts) shape) (length h.insts ∷ []) own_here own_elsewhere new_is (longer_insts [], tt) (earlier_after, tt, matches.edges)
         (values_added calls call T (with_item T b) b B (Instruct (length calls) instruction []) adds none_given (values_same calls c.tables T same_side c.values_given))
         (entry_begun calls after f g b B (Requests.entry_instructed calls call B current.current instruction refl) refl current.named (name_stays calls f s c call matches.edges) c.entry)
-        described.0 described.1 (stray_after []) c.nothing_leads
+        described.0 described.1 described.2 (stray_after []) c.nothing_leads
 
   -- with one result
   module _ (ty : «Type») (one_result : result_types instruction.operation instruction.controlling ≡ ty ∷ []) (controlling : instruction.controlling ≡ ty)
@@ -211,8 +213,8 @@ module _ (calls : List AnsweredCall) (f : Body) (s : SsaState) (c : Carries call
         let adds = adds_result calls call T b B current.named unwritten instruction (length h.values) (last_place (with_item T b) b) puts_result number (last-with_item T b) in
         carries_item calls call f k s s c (placed_kept f k consistent goes) goes.more_insts b B (Instruct (length calls) instruction (result ∷ [])) T T' adds
         (restated calls c.tables T same_side c.program)
-        (with_own c.own b (length h.insts)) (length h.insts ∷ []) own_here own_elsewhere result_is (longer_insts (ty ∷ []), tt)
+        (with_own c.own b (length h.insts) shape) (length h.insts ∷ []) own_here own_elsewhere result_is (longer_insts (ty ∷ []), tt)
         (earlier_after, (let l = longer_calls calls f s c call in omega (arith, l), tt), matches.edges)
         (values_added calls call T T' b B (Instruct (length calls) instruction (result ∷ [])) adds given_result (values_same calls c.tables T same_side c.values_given))
         (entry_begun calls after f k b B (Requests.entry_instructed calls call B current.current instruction refl) refl current.named (name_stays calls f s c call matches.edges) c.entry)
-        described.0 described.1 (stray_after (ty ∷ [])) c.nothing_leads
+        described.0 described.1 described.2 (stray_after (ty ∷ [])) c.nothing_leads

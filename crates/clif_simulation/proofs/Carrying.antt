@@ -8,8 +8,9 @@ use Rattle.std.proofs.lemmas.Grind.{flat_map-append}
 use Rattle.clif_ir.specs.Body.{Body, inst_at}
 use Rattle.clif_paths.specs.Blocks.{Blocks}
 use Rattle.clif_paths.specs.BlockLaws.{BlocksSound}
+use Rattle.clif_ssa.specs.Own.{Own}
 use Rattle.clif_ssa.specs.Ssa.{SsaState}
-use Rattle.clif_ssa.specs.Sound.{Describes}
+use Rattle.clif_ssa.specs.Sound.{CountsArguments, Describes}
 use Rattle.clif_ssa.specs.Structure.{NothingStray}
 use Rattle.clif_meaning.specs.Name.{Name}
 use Rattle.clif_meaning.specs.Instruction.{Edge}
@@ -101,28 +102,29 @@ module _ (calls : List AnsweredCall) (call : AnsweredCall) where
 
     -- the items of a block are carried on
     items_kept : (block : ℕ) (name : Name) → block_name calls block ≡ Some name
-        → map (λ inst. placed_of g (inst_at g inst)) (c.own block) ≡ flat_map (carried after) ((program_so_far calls).items name)
+        → map (λ inst. placed_of g (inst_at g inst)) (c.own.insts block) ≡ flat_map (carried after) ((program_so_far calls).items name)
     items_kept block name named =
-        own_kept (c.own block) (c.own_exist block) ∙ c.items block name named ∙ sym (all_carried ((program_so_far calls).items name) (c.earlier name))
+        own_kept (c.own.insts block) (c.own_exist block) ∙ c.items block name named ∙ sym (all_carried ((program_so_far calls).items name) (c.earlier name))
 
     -- a call without an item
     pub carries_on : (T : Blocks) → IsProgramOf after T
-        → ((block : ℕ) (name : Name) → block_name after block ≡ Some name → (block_name calls block ≡ Some name) ⊎ ((c.own block ≡ []) × ((program_so_far calls).items name ≡ [])))
+        → ((block : ℕ) (name : Name) → block_name after block ≡ Some name → (block_name calls block ≡ Some name) ⊎ ((c.own.insts block ≡ []) × ((program_so_far calls).items name ≡ [])))
         → ((block : ℕ) (name : Name) → block_name calls block ≡ Some name → block_name after block ≡ Some name)
         → ((name : Name) → (program_so_far after).items name ≡ (program_so_far calls).items name)
-        → ValuesGiven after T → HasEntry after g → Describes c.own g t [] T → BlocksSound T → NothingStray c.own g t → NothingLeads t → Carries after g t
-    carries_on T program named stays items values entry describes sound nothing_stray nothing_leads = record {
+        → ValuesGiven after T → HasEntry after g → Describes c.own g t [] T → BlocksSound T → CountsArguments c.own g t T → NothingStray c.own.insts g t → NothingLeads t → Carries after g t
+    carries_on T program named stays items values entry describes sound counts nothing_stray nothing_leads = record {
       tables = T;
       own = c.own;
       program = program;
       items = λ block name here. by block name (named block name here);
       earlier = λ name. subst (AllByRecursion (NamesEarlier after)) (sym (items name)) (all_mapped (NamesEarlier calls) (NamesEarlier after) earlier_stays ((program_so_far calls).items name) (c.earlier name));
-      own_exist = λ block. own_exists (c.own block) (c.own_exist block);
+      own_exist = λ block. own_exists (c.own.insts block) (c.own_exist block);
       own_named = λ block none. c.own_named block (unnamed block none (block_name calls block) refl);
       values_given = values;
       entry = entry;
       describes = describes;
       sound = sound;
+      counts = counts;
       nothing_stray = nothing_stray;
       nothing_leads = nothing_leads;
     }
@@ -131,38 +133,38 @@ module _ (calls : List AnsweredCall) (call : AnsweredCall) where
         unnamed block none None is = is
         unnamed block none (Some name) is = absurd (none_some name (sym none ∙ stays block name is))
 
-        by : (block : ℕ) (name : Name) → (block_name calls block ≡ Some name) ⊎ ((c.own block ≡ []) × ((program_so_far calls).items name ≡ []))
-            → map (λ inst. placed_of g (inst_at g inst)) (c.own block) ≡ flat_map (carried after) ((program_so_far after).items name)
+        by : (block : ℕ) (name : Name) → (block_name calls block ≡ Some name) ⊎ ((c.own.insts block ≡ []) × ((program_so_far calls).items name ≡ []))
+            → map (λ inst. placed_of g (inst_at g inst)) (c.own.insts block) ≡ flat_map (carried after) ((program_so_far after).items name)
         by block name (inl old) = items_kept block name old ∙ ap (flat_map (carried after)) (sym (items name))
         by block name (inr new) = ap (map (λ inst. placed_of g (inst_at g inst))) new.0 ∙ ap (flat_map (carried after)) (sym (items name ∙ new.1))
 
     -- a call with an item
-    module _ (b : ℕ) (B : Name) (item : Item) (T1 T : Blocks) (adds : AddsItem calls after T1 T b B item) (was : IsProgramOf calls T1) (own : ℕ → List ℕ) (new : List ℕ)
-        (own_here : own b ≡ c.own b ++ new) (own_elsewhere : (d : ℕ) → d ≢ b → own d ≡ c.own d)
+    module _ (b : ℕ) (B : Name) (item : Item) (T1 T : Blocks) (adds : AddsItem calls after T1 T b B item) (was : IsProgramOf calls T1) (own : Own) (new : List ℕ)
+        (own_here : own.insts b ≡ c.own.insts b ++ new) (own_elsewhere : (d : ℕ) → d ≢ b → own.insts d ≡ c.own.insts d)
         (new_is : map (λ inst. placed_of g (inst_at g inst)) new ≡ carried after item)
         (new_exist : AllByRecursion (λ (i : ℕ). i < length g.insts) new) (item_earlier : NamesEarlier after item) where
       one_more : flat_map (carried after) (item ∷ []) ≡ carried after item
       one_more = append-nil (carried after item)
 
-      items_here : map (λ inst. placed_of g (inst_at g inst)) (own b) ≡ flat_map (carried after) ((program_so_far after).items B)
+      items_here : map (λ inst. placed_of g (inst_at g inst)) (own.insts b) ≡ flat_map (carried after) ((program_so_far after).items B)
       items_here =
           ap (map (λ inst. placed_of g (inst_at g inst))) own_here
-          ∙ map-append (λ inst. placed_of g (inst_at g inst)) (c.own b) new
-          ∙ ap (λ (rest : List Placed). map (λ inst. placed_of g (inst_at g inst)) (c.own b) ++ rest) (new_is ∙ sym one_more)
+          ∙ map-append (λ inst. placed_of g (inst_at g inst)) (c.own.insts b) new
+          ∙ ap (λ (rest : List Placed). map (λ inst. placed_of g (inst_at g inst)) (c.own.insts b) ++ rest) (new_is ∙ sym one_more)
           ∙ ap (λ (front : List Placed). front ++ flat_map (carried after) (item ∷ [])) (items_kept b B adds.named)
           ∙ sym (flat_map-append (carried after) ((program_so_far calls).items B) (item ∷ []))
           ∙ ap (flat_map (carried after)) (sym adds.items_here)
 
-      items_of : HasItems after g own
+      items_of : HasItems after g own.insts
       items_of block name named = by (ℕ_discrete block b)
         where
           old : block_name calls block ≡ Some name
           old = sym (adds.names block) ∙ named
 
-          by : Dec (block ≡ b) → map (λ inst. placed_of g (inst_at g inst)) (own block) ≡ flat_map (carried after) ((program_so_far after).items name)
+          by : Dec (block ≡ b) → map (λ inst. placed_of g (inst_at g inst)) (own.insts block) ≡ flat_map (carried after) ((program_so_far after).items name)
           by (yes same) =
               let is_B : name ≡ B = one_answer name B (block_name calls block) old (ap (block_name calls) same ∙ adds.named) in
-              ap (λ (d : ℕ). map (λ inst. placed_of g (inst_at g inst)) (own d)) same ∙ items_here
+              ap (λ (d : ℕ). map (λ inst. placed_of g (inst_at g inst)) (own.insts d)) same ∙ items_here
               ∙ ap (λ (n : Name). flat_map (carried after) ((program_so_far after).items n)) (sym is_B)
           by (no other) =
               ap (map (λ inst. placed_of g (inst_at g inst))) (own_elsewhere block other) ∙ items_kept block name old
@@ -180,21 +182,21 @@ module _ (calls : List AnsweredCall) (call : AnsweredCall) where
               (subst (AllByRecursion (NamesEarlier after)) (sym adds.items_here) (all_append (NamesEarlier after) ((program_so_far calls).items B) (item ∷ []) (old B) (item_earlier, tt)))
           by (inr other) = subst (AllByRecursion (NamesEarlier after)) (sym (adds.items_elsewhere name other)) (old name)
 
-      own_all : OwnExist g own
+      own_all : OwnExist g own.insts
       own_all block = by (ℕ_discrete block b)
         where
-          by : Dec (block ≡ b) → AllByRecursion (λ (i : ℕ). i < length g.insts) (own block)
+          by : Dec (block ≡ b) → AllByRecursion (λ (i : ℕ). i < length g.insts) (own.insts block)
           by (yes same) =
-              subst (λ (d : ℕ). AllByRecursion (λ (i : ℕ). i < length g.insts) (own d)) (sym same)
-              (subst (AllByRecursion (λ (i : ℕ). i < length g.insts)) (sym own_here) (all_append (λ (i : ℕ). i < length g.insts) (c.own b) new (own_exists (c.own b) (c.own_exist b)) new_exist))
-          by (no other) = subst (AllByRecursion (λ (i : ℕ). i < length g.insts)) (sym (own_elsewhere block other)) (own_exists (c.own block) (c.own_exist block))
+              subst (λ (d : ℕ). AllByRecursion (λ (i : ℕ). i < length g.insts) (own.insts d)) (sym same)
+              (subst (AllByRecursion (λ (i : ℕ). i < length g.insts)) (sym own_here) (all_append (λ (i : ℕ). i < length g.insts) (c.own.insts b) new (own_exists (c.own.insts b) (c.own_exist b)) new_exist))
+          by (no other) = subst (AllByRecursion (λ (i : ℕ). i < length g.insts)) (sym (own_elsewhere block other)) (own_exists (c.own.insts block) (c.own_exist block))
 
-      own_unnamed : (block : ℕ) → block_name after block ≡ None → Dec (block ≡ b) → own block ≡ []
+      own_unnamed : (block : ℕ) → block_name after block ≡ None → Dec (block ≡ b) → own.insts block ≡ []
       own_unnamed block none (yes same) = absurd (none_some B (sym none ∙ adds.names block ∙ ap (block_name calls) same ∙ adds.named))
       own_unnamed block none (no other) = own_elsewhere block other ∙ c.own_named block (sym (adds.names block) ∙ none)
 
-      pub carries_item : ValuesGiven after T → HasEntry after g → Describes own g t [] T → BlocksSound T → NothingStray own g t → NothingLeads t → Carries after g t
-      carries_item values entry describes sound nothing_stray nothing_leads = record {
+      pub carries_item : ValuesGiven after T → HasEntry after g → Describes own g t [] T → BlocksSound T → CountsArguments own g t T → NothingStray own.insts g t → NothingLeads t → Carries after g t
+      carries_item values entry describes sound counts nothing_stray nothing_leads = record {
         tables = T;
         own = own;
         program = extended calls after T1 T b B item adds was;
@@ -206,6 +208,7 @@ module _ (calls : List AnsweredCall) (call : AnsweredCall) where
         entry = entry;
         describes = describes;
         sound = sound;
+        counts = counts;
         nothing_stray = nothing_stray;
         nothing_leads = nothing_leads;
       }

@@ -203,7 +203,7 @@ module _ (calls : List AnsweredCall) (f : Body) (s : SsaState) (consistent : IsC
     abbrev pub placed_inst : ℕ → Placed
     placed_inst inst = placed_of f (inst_at f inst)
 
-    abbrev pub has : (c : ℕ) → HasInstructions f carries.tables c (carries.own c)
+    abbrev pub has : (c : ℕ) → HasInstructions f carries.tables c (carries.own.insts c)
     has c = carries.describes.instructions c
 
     -- how many zeros come first
@@ -214,7 +214,7 @@ module _ (calls : List AnsweredCall) (f : Body) (s : SsaState) (consistent : IsC
     block_items =
         ap (λ (b : Bool). if b then map placed_inst (block_at f e).insts else []) (any_first f.layout e (Entry.found calls f s carries entry is_entry))
         ∙ ap (map placed_inst) (has e).in_order
-        ∙ map-append placed_inst (has e).zeros (carries.own e)
+        ∙ map-append placed_inst (has e).zeros (carries.own.insts e)
         ∙ ap (λ (rest : List Placed). map placed_inst (has e).zeros ++ rest) (carries.items e entry (Entry.named calls f s carries entry is_entry))
 
     -- an instruction of the entry gives the value, before so many of the caller's
@@ -258,10 +258,10 @@ module _ (calls : List AnsweredCall) (f : Body) (s : SsaState) (consistent : IsC
 
     -- a result of the caller's instruction
     of_own : (r i t k c m : ℕ) (C : Name) → block_name calls c ≡ Some C → slice_get (inst_at f i).results t ≡ Some r
-        → Visits (carries.tables.function.definition r).home (straight e k) → slice_get (carries.own c) m ≡ Some i → IsDefined r (so_many calls k items)
+        → Visits (carries.tables.function.definition r).home (straight e k) → slice_get (carries.own.insts c) m ≡ Some i → IsDefined r (so_many calls k items)
     of_own r i t k c m C named result visits stands =
         let at : slice_get (flat_map (carried calls) ((program_so_far calls).items C)) m ≡ Some (placed_inst i) =
-        ap (λ (ps : List Placed). slice_get ps m) (sym (carries.items c C named)) ∙ map_at placed_inst (carries.own c) m i stands in
+        ap (λ (ps : List Placed). slice_get ps m) (sym (carries.items c C named)) ∙ map_at placed_inst (carries.own.insts c) m i stands in
         let it : OfItem calls ((program_so_far calls).items C) m (placed_inst i) = of_item calls ((program_so_far calls).items C) m (placed_inst i) at in
         let results : (inst_at f i).results ≡ map (answered calls) it.results = ap (λ (p : Placed). p.results) it.is in
         let from : (x : Name) × (slice_get it.results t ≡ Some x) × (answered calls x ≡ r) =
@@ -292,13 +292,13 @@ module _ (calls : List AnsweredCall) (f : Body) (s : SsaState) (consistent : IsC
     of_inst_in : (r i t k c q : ℕ) → slice_get (inst_at f i).results t ≡ Some r → Visits (carries.tables.function.definition r).home (straight e k)
         → slice_get (block_at f c).insts q ≡ Some i → IsDefined r (so_many calls k items)
     of_inst_in r i t k c q result visits stands =
-        by_block (in_two (has c).zeros (carries.own c) q i (ap (λ (insts : List ℕ). slice_get insts q) (sym (has c).in_order) ∙ stands))
+        by_block (in_two (has c).zeros (carries.own.insts c) q i (ap (λ (insts : List ℕ). slice_get insts q) (sym (has c).in_order) ∙ stands))
       where
-        by_name : (m : ℕ) → slice_get (carries.own c) m ≡ Some i → (o : Option Name) → block_name calls c ≡ o → IsDefined r (so_many calls k items)
-        by_name m own None none = absurd (no_item (carries.own c) m i (carries.own_named c none) own)
+        by_name : (m : ℕ) → slice_get (carries.own.insts c) m ≡ Some i → (o : Option Name) → block_name calls c ≡ o → IsDefined r (so_many calls k items)
+        by_name m own None none = absurd (no_item (carries.own.insts c) m i (carries.own_named c none) own)
         by_name m own (Some C) named = of_own r i t k c m C named result visits own
 
-        by_block : ((q < length (has c).zeros) × (slice_get (has c).zeros q ≡ Some i)) ⊎ ((m : ℕ) × (q ≡ length (has c).zeros + m) × (slice_get (carries.own c) m ≡ Some i))
+        by_block : ((q < length (has c).zeros) × (slice_get (has c).zeros q ≡ Some i)) ⊎ ((m : ℕ) × (q ≡ length (has c).zeros + m) × (slice_get (carries.own.insts c) m ≡ Some i))
             → IsDefined r (so_many calls k items)
         by_block (inl first) = of_zero r i t k c q result visits first.0 first.1
         by_block (inr second) = by_name second.0 second.2 (block_name calls c) refl

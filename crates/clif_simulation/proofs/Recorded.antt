@@ -135,10 +135,10 @@ module _ (calls : List AnsweredCall) (f : Body) (s : SsaState) (consistent : IsC
         let place : length (block_at f e).insts ≡ p.index + length (flat_map (carried calls) (drop used.index items)) =
         ap (λ (b : ℕ). length (block_at f b).insts) (sym here) ∙ used.place
         ∙ ap (λ (N : Name). p.index + length (flat_map (carried calls) (drop used.index ((program_so_far calls).items N)))) name_is in
-        let own : length (carries.own e) ≡ length (flat_map (carried calls) items) =
-        sym (map_length _ (carries.own e)) ∙ ap length (carries.items e entry (Entry.named calls f s carries entry is_entry)) in
-        let insts : length (block_at f e).insts ≡ zero_count + length (carries.own e) =
-        ap length (carries.describes.instructions e).in_order ∙ length-append (carries.describes.instructions e).zeros (carries.own e) in
+        let own : length (carries.own.insts e) ≡ length (flat_map (carried calls) items) =
+        sym (map_length _ (carries.own.insts e)) ∙ ap length (carries.items e entry (Entry.named calls f s carries entry is_entry)) in
+        let insts : length (block_at f e).insts ≡ zero_count + length (carries.own.insts e) =
+        ap length (carries.describes.instructions e).in_order ∙ length-append (carries.describes.instructions e).zeros (carries.own.insts e) in
         let twice = counted_twice calls items used.index in
         let nothing = use_counts_nothing calls items used.index used.variable used.name stands in
         subst (λ (v : ℕ). IsGivenAlong (function_code (view_of f)) (resolved f v) path) used.answers

@@ -162,7 +162,7 @@ module _ (calls : List AnsweredCall) (f : Body) (ssa : SsaState) (consistent : I
     placed_inst : ℕ → Placed
     placed_inst inst = placed_of f (inst_at f inst)
 
-    has : HasInstructions f carries.tables e (carries.own e)
+    has : HasInstructions f carries.tables e (carries.own.insts e)
     has = carries.describes.instructions e
 
     block_items : items_of f e ≡ map placed_inst has.zeros ++ flat_map (carried calls) items
@@ -170,7 +170,7 @@ module _ (calls : List AnsweredCall) (f : Body) (ssa : SsaState) (consistent : I
     block_items =
         ap (λ (b : Bool). if b then map placed_inst (block_at f e).insts else []) (any_first f.layout e (Entry.found calls f ssa carries entry is_entry))
         ∙ ap (map placed_inst) has.in_order
-        ∙ map-append placed_inst has.zeros (carries.own e)
+        ∙ map-append placed_inst has.zeros (carries.own.insts e)
         ∙ ap (λ (rest : List Placed). map placed_inst has.zeros ++ rest) (carries.items e entry (Entry.named calls f ssa carries entry is_entry))
 
     -- the value is a zero's

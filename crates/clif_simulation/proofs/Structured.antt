@@ -70,13 +70,13 @@ pub no_branches : (calls : List AnsweredCall) (f : Body) (s : SsaState) → Carr
 no_branches calls f s carries b =
     let here = carries.describes.instructions b in
     subst (AllByRecursion (IsPlain f)) (sym here.in_order)
-    (all_append (IsPlain f) here.zeros (carries.own b)
+    (all_append (IsPlain f) here.zeros (carries.own.insts b)
     (all_mapped (IsZero f carries.tables b) (IsPlain f) (zero_plain f carries.tables b) here.zeros here.are_zeros) (own_plain (block_name calls b) refl))
   where
-    own_plain : (o : Option Name) → block_name calls b ≡ o → AllByRecursion (IsPlain f) (carries.own b)
+    own_plain : (o : Option Name) → block_name calls b ≡ o → AllByRecursion (IsPlain f) (carries.own.insts b)
     own_plain None none = subst (AllByRecursion (IsPlain f)) (sym (carries.own_named b none)) tt
     own_plain (Some name) named =
-        of_placed f (carries.own b)
+        of_placed f (carries.own.insts b)
         (subst (AllByRecursion (λ (placed : Placed). placed.instruction.edges ≡ [])) (sym (carries.items b name named))
         (all_plain calls ((program_so_far calls).items name) (carries.earlier name)))
 

@@ -4,8 +4,9 @@
 use Rattle.std.specs.Prelude.{◌≡◌, ◌≢◌, ◌<◌, ◌≤◌, ℕ, List, [], ◌∷◌, length, map, flat_map, Some, None, IsTrue}
 use Rattle.std.specs.List.{AllByRecursion}
 use Rattle.clif_ir.specs.Body.{Body, inst_at, value_at}
+use Rattle.clif_ssa.specs.Own.{Own}
 use Rattle.clif_ssa.specs.Ssa.{SsaState, predecessors_of}
-use Rattle.clif_ssa.specs.Sound.{Describes, entry_of}
+use Rattle.clif_ssa.specs.Sound.{Describes, CountsArguments, entry_of}
 use Rattle.clif_ssa.specs.Structure.{NothingStray}
 use Rattle.clif_paths.specs.Places.{start}
 use Rattle.clif_paths.specs.Blocks.{Blocks}
@@ -85,18 +86,19 @@ NothingLeads s = (block : ℕ) → predecessors_of s block ≡ []
 
 pub record Carries (calls : List AnsweredCall) (f : Body) (s : SsaState) : Type 0 where
   pub tables : Blocks
-  -- the instructions of each block that the caller made
-  pub own : ℕ → List ℕ
+  -- what the caller made
+  pub own : Own
   pub program : IsProgramOf calls tables
-  pub items : HasItems calls f own
+  pub items : HasItems calls f own.insts
   pub earlier : (name : Name) → AllByRecursion (NamesEarlier calls) ((program_so_far calls).items name)
-  pub own_exist : OwnExist f own
-  pub own_named : OwnNamed calls own
+  pub own_exist : OwnExist f own.insts
+  pub own_named : OwnNamed calls own.insts
   pub values_given : ValuesGiven calls tables
   pub entry : HasEntry calls f
   pub describes : Describes own f s [] tables
   pub sound : BlocksSound tables
-  pub nothing_stray : NothingStray own f s
+  pub counts : CountsArguments own f s tables
+  pub nothing_stray : NothingStray own.insts f s
   -- so far no call makes a branch
   pub nothing_leads : NothingLeads s
 

@@ -234,6 +234,7 @@ own_counted own f s blocks b i before counts unsealed passes = record {
       where
         false_true : ◌≡◌ {A = Bool} false true → ⊥
         false_true same = cc
+
         never_complete : (v : ℕ) → param_home f v ≡ Some b → (blocks.function.definition v).kind ≡ complete → ⊥
         never_complete v is kind =
             let home : (c : ℕ) × ((blocks.function.definition v).home ≡ front c) × (blocks.sealed c ≡ true) = subst (λ (k : Kind). HomeFits blocks v k) kind (before.homes v) in

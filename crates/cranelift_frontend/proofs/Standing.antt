@@ -31,7 +31,8 @@ use Rattle.clif_meaning.specs.Ledger.{BlockState}
 use Rattle.clif_simulation.specs.Carries.{Carries, IsCurrent, GoesOn}
 use Rattle.clif_simulation.proofs.Beginning.{carries_nothing, one_current}
 use Rattle.clif_simulation.proofs.Calls.{carries_created, carries_switched, carries_declared, carries_sealed, carries_assigned, carries_used}
-use Rattle.clif_simulation.proofs.Unbranched.{nothing_counts}
+use Rattle.clif_ssa.proofs.Counting.{inserted_counted}
+use Rattle.clif_ssa.specs.Own.{Own}
 use Rattle.clif_simulation.proofs.Growing.{goes_on-same, goes_on-then, goes_on-inserted, goes_on-with_param, goes_on-zeroed, goes_on-completed}
 use Rattle.cranelift_frontend.specs.declared.context.BlockStatus.{BlockStatus}
 use Rattle.cranelift_frontend.specs.declared.context.BlockStatus.TheVariants.{Empty, Partial, Filled}
@@ -84,7 +85,7 @@ inserted_cases f block b stands = by (stands_in block f.layout) refl
         appended absent = ap (λ (t : Bool). (if t then f else record f { layout = f.layout ++ block ∷ [] }).layout) absent
 
 -- a use of a variable that is recorded leaves everything
-known_keeps : (own : ℕ → List ℕ) (f g : Body) (s t : SsaState) (blocks : Blocks) (x b v : ℕ) → DescribesSoundly own f s blocks → record_of s x b ≡ Some v
+known_keeps : (own : Own) (f g : Body) (s t : SsaState) (blocks : Blocks) (x b v : ℕ) → DescribesSoundly own f s blocks → record_of s x b ≡ Some v
     → g ≡ f → t ≡ s → KeepsAndKnows own blocks g t b x v
 known_keeps own f g s t blocks x b v before is same_body same_state =
     subst (λ h. KeepsAndKnows own blocks h t b x v) (sym same_body)
@@ -94,9 +95,9 @@ known_keeps own f g s t blocks x b v before is same_body same_state =
     }))
 
 -- what a use leaves: tables that are kept and know the answer, a function that goes on, and an answer that exists
-record UsedIn (own : ℕ → List ℕ) (tables : Blocks) (f g : Body) (t : SsaState) (block variable value : ℕ) : Type 0 where
+record UsedIn (own : Own) (tables : Blocks) (f g : Body) (t : SsaState) (block variable value : ℕ) : Type 0 where
   pub kept : KeepsAndKnows own tables g t block variable value
-  pub nothing_stray : NothingStray own g t
+  pub nothing_stray : NothingStray own.insts g t
   pub goes_on : GoesOn f g
   pub exists : value < length g.values
   pub layout : g.layout ≡ (inserted_in f block).layout
@@ -193,10 +194,10 @@ module _ (declared : SignatureShape) (calls : List AnsweredCall) (f : Body) (c :
     before : DescribesSoundly stands.carries.own h c.ssa T
     before =
         let entered = inserted stands.carries.own f c.ssa [] stands.carries.tables block stands.carries.describes stands.carries.sound in
-        (entered.0, entered.1, nothing_counts h c.ssa T stands.carries.nothing_leads)
+        (entered.0, entered.1, inserted_counted stands.carries.own f c.ssa stands.carries.tables T block (entry_same f.layout c.ssa block stands.carries.tables).definition stands.carries.counts)
 
-    stray_before : NothingStray stands.carries.own h c.ssa
-    stray_before = inserted_stray stands.carries.own f c.ssa block stands.carries.nothing_stray
+    stray_before : NothingStray stands.carries.own.insts h c.ssa
+    stray_before = inserted_stray stands.carries.own.insts f c.ssa block stands.carries.nothing_stray
 
     firm : Firm h
     firm = inserted_firm f block (firm_from f consistent)
@@ -226,7 +227,7 @@ module _ (declared : SignatureShape) (calls : List AnsweredCall) (f : Body) (c :
     used_in : UsedIn stands.carries.own stands.carries.tables f g d.ssa block variable value
     used_in = by (record_of c.ssa variable block) refl (is_yes (sealed_of c.ssa block)) refl
       where
-        with_value : (v : ℕ) → value ≡ v → KeepsAndKnows stands.carries.own T g d.ssa block variable v → NothingStray stands.carries.own g d.ssa → GoesOn f g → v < length g.values → g.layout ≡ h.layout
+        with_value : (v : ℕ) → value ≡ v → KeepsAndKnows stands.carries.own T g d.ssa block variable v → NothingStray stands.carries.own.insts g d.ssa → GoesOn f g → v < length g.values → g.layout ≡ h.layout
             → UsedIn stands.carries.own stands.carries.tables f g d.ssa block variable value
         with_value v is kept nothing_stray on exists layout =
             subst (UsedIn stands.carries.own stands.carries.tables f g d.ssa block variable) (sym is)
@@ -238,14 +239,14 @@ module _ (declared : SignatureShape) (calls : List AnsweredCall) (f : Body) (c :
             let known = uses.known v is in
             let exists : v < length h.values = before.0.records_exist block variable v is in
             with_value v known.2 (known_keeps stands.carries.own h g c.ssa d.ssa T variable block v before is known.0 known.1)
-            (subst (λ (k : Body). NothingStray stands.carries.own k d.ssa) (sym known.0) (subst (λ (r : SsaState). NothingStray stands.carries.own h r) (sym known.1) stray_before))
+            (subst (λ (k : Body). NothingStray stands.carries.own.insts k d.ssa) (sym known.0) (subst (λ (r : SsaState). NothingStray stands.carries.own.insts h r) (sym known.1) stray_before))
             (goes_on-then f h g to_inserted (goes_on-same h g known.0))
             (subst (λ (k : Body). v < length k.values) (sym known.0) exists) (ap (λ (k : Body). k.layout) known.0)
         by None is false sealed =
             let waits = uses.waits is sealed in
             with_value (length h.values) (waits.1 ∙ ap length (sym same.values))
             (waits_locally stands.carries.own h g c.ssa d.ssa T variable ty block firm before.0 before.2 before.1 there_still is sealed waits.0 leads)
-            (waits_stray stands.carries.own h g c.ssa d.ssa variable ty block firm there_still waits.0 stray_before)
+            (waits_stray stands.carries.own.insts h g c.ssa d.ssa variable ty block firm there_still waits.0 stray_before)
             (goes_on-then f h g to_inserted (subst (GoesOn h) (sym waits.0.function) (goes_on-with_param h block ty)))
             (subst (λ (k : Body). length h.values < length k.values) (sym waits.0.function) (more_values h)) (ap (λ (k : Body). k.layout) waits.0.function)
           where
@@ -256,7 +257,7 @@ module _ (declared : SignatureShape) (calls : List AnsweredCall) (f : Body) (c :
             let k : Body = with_param h block ty in
             with_value (length h.values + 1) (zero.1 ∙ ap (λ (vs : List _). length vs + 1) (sym same.values))
             (zeroes_locally stands.carries.own h g c.ssa d.ssa T variable ty block firm housed before.0 before.2 before.1 (stands.carries.nothing_leads block) there_still is sealed zero.0 leads)
-            (zeroes_stray stands.carries.own h g c.ssa d.ssa variable ty block firm there_still zero.0 stray_before)
+            (zeroes_stray stands.carries.own.insts h g c.ssa d.ssa variable ty block firm there_still zero.0 stray_before)
             (goes_on-then f h g to_inserted (goes_on-then h k g (goes_on-with_param h block ty) (subst (GoesOn k) (sym zero.0.function) (goes_on-zeroed k block (length h.values)))))
             (subst (λ (b : Body). length h.values + 1 < length b.values) (sym zero.0.function) (more_values h))
             (ap (λ (b : Body). b.layout) zero.0.function ∙ still k)
