@@ -30,7 +30,7 @@ fn uses_along(rt: &impl Abort, made: &mut Fixture, count: usize) -> Result<(), F
 /// A use at the end of a long chain, and one at the end of a chain twice as long.
 #[test]
 fn chains(rt: HostRuntime) -> Result<(), Fail> {
-    for count in [20_000, 40_000] {
+    for count in [50_000, 100_000] {
         let mut made = Fixture::new(rt.alloc());
         uses_along(&rt, &mut made, count)?;
     }
@@ -80,7 +80,7 @@ fn uses_below(rt: &impl Abort, made: &mut Fixture, count: usize) -> Result<(), F
 /// Diamonds below each other, and twice as many.
 #[test]
 fn diamonds(rt: HostRuntime) -> Result<(), Fail> {
-    for count in [500, 1_000] {
+    for count in [5_000, 10_000] {
         let mut made = Fixture::new(rt.alloc());
         uses_below(&rt, &mut made, count)?;
     }
