@@ -13,6 +13,7 @@ use Rattle.clif_meaning.specs.Request.{Request, CreateBlock, SwitchToBlock, Seal
 use Rattle.clif_meaning.specs.Acceptance.{iconst, jump, return_, Accepted, Misuse, verdict_on}
 use Rattle.clif_meaning.specs.FunctionView.{Placed, BlockView, FunctionView}
 use Rattle.clif_meaning.specs.Typing.{EdgesMatch}
+use Rattle.clif_meaning.specs.SameMeaning.{SameMeaning}
 use Rattle.clif_meaning.specs.Headline.{script_behaviour, function_behaviour}
 use Rattle.clif_meaning.specs.Examples.{i8, i32, placed, ended_with}
 
@@ -60,38 +61,42 @@ going (condition ∷ more) edges = record {
   stack_map = [];
 }
 
--- the function of the row, where block2 ends in a branch with these edges
-abbrev pub both_arms_blocks : List (Edge ℕ ℕ) → ℕ → BlockView
-both_arms_blocks edges zero =
+-- the function of the row, where block1 and block2 end in branches with these edges
+abbrev pub both_arms_blocks : List (Edge ℕ ℕ) → List (Edge ℕ ℕ) → ℕ → BlockView
+both_arms_blocks first second zero =
     record { parameters = []; items = placed (Compute (Iconst (pos 5))) i32 [] (0 ∷ []) ∷ going [] (passing 1 0 ∷ []) ∷ [] }
-both_arms_blocks edges (suc zero) = record { parameters = 1 ∷ []; items = going (1 ∷ []) (plain 2 ∷ plain 3 ∷ []) ∷ [] }
-both_arms_blocks edges (suc (suc zero)) =
+both_arms_blocks first second (suc zero) = record { parameters = 1 ∷ []; items = going (1 ∷ []) first ∷ [] }
+both_arms_blocks first second (suc (suc zero)) =
     record {
       parameters = [];
-      items = placed (Compute (Iconst (negsuc 0))) i32 [] (2 ∷ []) ∷ placed (Compute Iadd) i32 (1 ∷ 2 ∷ []) (3 ∷ []) ∷ going (3 ∷ []) edges ∷ [];
+      items = placed (Compute (Iconst (negsuc 0))) i32 [] (2 ∷ []) ∷ placed (Compute Iadd) i32 (1 ∷ 2 ∷ []) (3 ∷ []) ∷ going (3 ∷ []) second ∷ [];
     }
-both_arms_blocks edges (suc (suc (suc zero))) = record { parameters = []; items = placed Return type.Invalid (1 ∷ []) [] ∷ [] }
-both_arms_blocks edges (suc (suc (suc (suc number)))) = no_block
+both_arms_blocks first second (suc (suc (suc zero))) = record { parameters = []; items = placed Return type.Invalid (1 ∷ []) [] ∷ [] }
+both_arms_blocks first second (suc (suc (suc (suc number)))) = no_block
 
 abbrev pub both_arms_signature : SignatureShape
 both_arms_signature = record { params = []; returns = record { value_type = i32 } ∷ []; call_conv = SystemV }
 
-abbrev pub both_arms_with : List (Edge ℕ ℕ) → FunctionView
-both_arms_with edges = record {
+abbrev pub both_arms_with : List (Edge ℕ ℕ) → List (Edge ℕ ℕ) → FunctionView
+both_arms_with first second = record {
   signature = both_arms_signature;
   entry = Some 0;
-  blocks = both_arms_blocks edges;
+  blocks = both_arms_blocks first second;
   resolved = λ v. v;
   value_type = λ v. i32;
   slots = [];
 }
 
 abbrev pub both_arms_function : FunctionView
-both_arms_function = both_arms_with (passing 1 3 ∷ passing 1 3 ∷ [])
+both_arms_function = both_arms_with (plain 2 ∷ plain 3 ∷ []) (passing 1 3 ∷ passing 1 3 ∷ [])
 
 -- the argument stands on one arm alone
 abbrev pub one_arm_function : FunctionView
-one_arm_function = both_arms_with (passing 1 3 ∷ plain 1 ∷ [])
+one_arm_function = both_arms_with (plain 2 ∷ plain 3 ∷ []) (passing 1 3 ∷ plain 1 ∷ [])
+
+-- the arms of the first branch are swapped
+abbrev pub swapped_function : FunctionView
+swapped_function = both_arms_with (plain 3 ∷ plain 2 ∷ []) (passing 1 3 ∷ passing 1 3 ∷ [])
 
 pub record BranchExamples : Type 0 where
   pub difference : computed Isub i8 (3 ∷ 5 ∷ []) ≡ Values (254 ∷ [])
@@ -101,6 +106,9 @@ pub record BranchExamples : Type 0 where
   -- the row answers 0 on both machines, in every world
   pub script : (world : World) → script_behaviour both_arms_script both_arms_function world 42 ≡ ended_with (0 ∷ []) world
   pub function : (world : World) → function_behaviour both_arms_script both_arms_function U64 world 24 ≡ ended_with (0 ∷ []) world
+  -- with swapped arms the function answers 5 at once, and doesn't mean what the row means
+  pub swapped : (world : World) → function_behaviour both_arms_script swapped_function U64 world 4 ≡ ended_with (5 ∷ []) world
+  pub swapped_differs : (world : World) → SameMeaning (script_behaviour both_arms_script swapped_function world) (function_behaviour both_arms_script swapped_function U64 world) → ⊥
   pub accepted : verdict_on both_arms_script ≡ Accepted
   pub edges_match : EdgesMatch both_arms_function
   pub one_arm : EdgesMatch one_arm_function → ⊥
