@@ -46,3 +46,4 @@ pub mod Public
 pub mod Alongside
 pub mod Recorded
 pub mod CountedOnce
+pub mod Answered

@@ -182,8 +182,7 @@ impl SSABuilder {
         ensures counts_one { record_of self.old variable block ≡ None → is_yes (sealed_of self.old block) ≡ true → predecessors_of self.old block ≡ [] → OnOk result (CountsLookup self.old self.new variable block) }
         ensures looks { record_of self.old variable block ≡ None → is_yes (sealed_of self.old block) ≡ true → predecessors_of self.old block ≢ [] → IfOk result (λ r. UsesVariable variable ty block (stage func.old self.old no_look_up) r.0 (stage func.new self.new (found r.0 r.1.instructions_added_to_blocks.items))) }
         ensures keeps { (own : ℕ → List ℕ) (tables : Blocks) → DescribesSoundly own func.old self.old tables → IfOk result (λ r. KeepsAndKnows own tables func.new self.new block variable r.0) }
-        ensures recorded { (own : ℕ → List ℕ) (tables : Blocks) → DescribesSoundly own func.old self.old tables → IfOk result (λ r. HasRecordOf func.new self.new variable block r.0) }
-        ensures recorded_here { IsLocal self.old variable block → IfOk result (λ r. HasRecordOf func.new self.new variable block r.0) }
+        ensures recorded { IfOk result (λ r. HasRecordOf func.new self.new variable block r.0) }
         ensures remembers { (x b : ℕ) → OnOk result (Remembers x b func.old self.old func.new self.new) }
         ensures parameters { IsLocal self.old variable block → is_yes (sealed_of self.old block) ≡ true → (b : ℕ) → OnOk result ((block_at func.new b).params ≡ (block_at func.old b).params) }
         ensures nothing_stray { (own : ℕ → List ℕ) → IsLocal self.old variable block → NothingStray own func.old self.old → OnOk result (NothingStray own func.new self.new) }
