@@ -11,7 +11,7 @@ use Rattle.clif_ssa.specs.declared.tables.Pending.{Pending}
 use Rattle.clif_ssa.specs.declared.tables.Sealed.{Sealed}
 use Rattle.clif_ssa.specs.declared.tables.Sealed.TheVariants.{No, Yes}
 use Rattle.clif_ssa.specs.Tables.{is_yes, pending_of, one_more}
-use Rattle.clif_ssa.specs.Ssa.{SsaState, no_state, record_of, lookups_of, sealed_of, Records, RecordsStay, SameBlocks, SameLookups, SameRecords, SealedStays, Seals, CountsLookup}
+use Rattle.clif_ssa.specs.Ssa.{SsaState, record_of, lookups_of, sealed_of, Records, SameBlocks, SameLookups, SameRecords, SealedStays, Seals, CountsLookup}
 use Rattle.clif_ssa.specs.Structure.{LooksOnce}
 use Rattle.clif_ssa.specs.Running.{CountsOnce, ToComplete}
 use Rattle.clif_ssa.proofs.Ordering.{contains_cons, contains_more, contains_first, none_contained}
@@ -63,14 +63,6 @@ counts_then s t u first next = record {
   records = λ x b none. first.records x b (next.records x b none);
 }
 
--- records that stay aren't lost
-pub none_lost : (s t : SsaState) → RecordsStay s t → (x b : ℕ) → record_of t x b ≡ None → record_of s x b ≡ None
-none_lost s t stay x b none = by (record_of s x b) refl
-  where
-    by : (found : Option ℕ) → record_of s x b ≡ found → found ≡ None
-    by None is = refl
-    by (Some v) is = absurd (some_none (sym (stay x b v is) ∙ none))
-
 -- no record is lost, and nothing is counted
 pub once_kept : (s t : SsaState) → ((x b : ℕ) → record_of t x b ≡ None → record_of s x b ≡ None) → SameLookups s t → SameBlocks s t → CountsOnce s t
 once_kept s t records lookups blocks = record {
@@ -119,9 +111,6 @@ once_waits s t x b v unrecorded recorded lookups waiting unsealed = record {
   records = kept;
 }
   where
-    new : Pending
-    new = record { variable = x; param = v }
-
     kept : (y c : ℕ) → record_of t y c ≡ None → record_of s y c ≡ None
     kept = records_kept s t x b v recorded
 
@@ -289,13 +278,3 @@ once_follows s t b ps step stays before = record {
 
 pub once_same : (s : SsaState) (b : ℕ) (ps qs : List Pending) → ps ≡ qs → ToComplete s b ps → ToComplete s b qs
 once_same s b ps qs same before = subst (ToComplete s b) same before
-
--- nothing was counted so far
-pub once_first_state : LooksOnce no_state
-once_first_state = record {
-  once = λ x b. omega arith;
-  unrecorded = λ x b none. refl;
-  unsealed = λ x b no. refl;
-  waiting_recorded = λ b p here. absurd (none_contained p here);
-  apart = λ b j k below inside. absurd (omega (arith, inside));
-}
