@@ -8,20 +8,17 @@ use Rattle.clif_ir.specs.Body.{Body, block_at, value_at, resolved}
 use Rattle.clif_ir.specs.Changes.{with_param, with_alias, with_branch_argument, inserted_in}
 use Rattle.clif_ir.specs.Consistent.{IsConsistent}
 use Rattle.clif_ir.specs.Reading.{param_home, stands_in}
-use Rattle.clif_paths.specs.Blocks.{Blocks}
 use Rattle.clif_paths.specs.LookUp.{InList}
 use Rattle.clif_ssa.specs.declared.look_up.Call.{Call}
 use Rattle.clif_ssa.specs.declared.look_up.Call.TheVariants.{UseVar, FinishPredecessorsLookup}
 use Rattle.clif_ssa.specs.declared.side_effects.SideEffects.{SideEffects}
 use Rattle.clif_ssa.specs.declared.tables.Pending.{Pending}
-use Rattle.clif_ssa.specs.Own.{Own}
 use Rattle.clif_ssa.specs.Tables.{is_yes, pending_of}
 use Rattle.clif_ssa.specs.Ssa.{SsaState, Named, NamesExist, record_of, sealed_of, predecessors_of, zeroed, RecordsStay, Waits, Zeroes}
 use Rattle.clif_ssa.specs.LookUp.{Stage, LookUpState, LooksUp, FinishesLookUp, MakesCall, MakesCalls, none_made, made, CompletesParameter, Copies, before_first, no_look_up, calls_for, with_calls, with_arguments}
 use Rattle.clif_ssa.specs.Running.{stage, CompletesAll, MakesAll}
 use Rattle.clif_ssa.specs.Sealing.{SealsLocally, SealsByLookUp}
-use Rattle.clif_ssa.specs.Structure.{StayAlike, HasRecordOf, LosesWaiting, NothingStray, Remembers}
-use Rattle.clif_ssa.specs.Sound.{Keeps, KeepsAndKnows}
+use Rattle.clif_ssa.specs.Structure.{StayAlike, LosesWaiting, NothingStray, Remembers}
 use Rattle.clif_ssa.proofs.Bodies.{Firm, firm_from, resolved_twice}
 use Rattle.clif_ssa.proofs.Ordering.{contains_cons, contains_first, contains_more, none_contained}
 use Rattle.clif_ssa.proofs.Describing.{is_recorded}
@@ -213,6 +210,12 @@ record Answers (f g : Body) (value : ℕ) : Type 0 where
   grown : Grown f g
   there : value < length g.values
 
+pub result_exists : (param block : ℕ) (m n : Stage) (finishes : FinishesLookUp param block m n) → Sane m
+    → (r : ℕ) → Contains (reverse finishes.results) r → r < length m.function.values
+result_exists param block m n finishes sane r here =
+    sane.results r
+    (subst (λ rs. Contains rs r) (sym finishes.taken) (in_left finishes.results finishes.others r (of_reversed finishes.results r here)))
+
 pub finishes_stay : (param block : ℕ) (m n : Stage) → FinishesLookUp param block m n → param < length m.function.values → Sane m → Stays m n
 finishes_stay param block m n finishes exists sane =
     let f : Body = m.function in
@@ -231,7 +234,7 @@ finishes_stay param block m n finishes exists sane =
                 elim more [
                   | inl value ↦
                       let r : ℕ = value.one.comes.0 in
-                      let inside : r < length f.values = result_exists r value.one.comes.1 in
+                      let inside : r < length f.values = result_exists param block m n finishes sane r value.one.comes.1 in
                       let is : resolved f r ≡ finishes.value = value.one.comes.2 in
                       let there : finishes.value < length f.values = omega (arith, resolved_inside f r sane.firm inside, is) in
                       let own_end : resolved f finishes.value ≡ finishes.value = ap (λ v. resolved f v) (sym is) ∙ resolved_twice f sane.firm r ∙ is in
@@ -259,19 +262,17 @@ finishes_stay param block m n finishes exists sane =
       };
     }
   where
-    in_all : (r : ℕ) → Contains (finishes.results ++ finishes.others) r → r < length m.function.values
-    in_all r here = sane.results r (subst (λ rs. Contains rs r) (sym finishes.taken) here)
-
-    result_exists : (r : ℕ) → Contains (reverse finishes.results) r → r < length m.function.values
-    result_exists r here = in_all r (in_left finishes.results finishes.others r (of_reversed finishes.results r here))
-
     other_exists : (r : ℕ) → Contains finishes.others r → r < length m.function.values
-    other_exists r here = in_all r (in_right finishes.results finishes.others r here)
+    other_exists r here = sane.results r (subst (λ rs. Contains rs r) (sym finishes.taken) (in_right finishes.results finishes.others r here))
 
 -- CALLS -----------------------------------------------------------------------------------------------------------
 
 sane_with : (m : Stage) (calls : List Call) → Sane m → CallsKnown (length m.function.values) calls → Sane (with_calls m calls)
 sane_with m calls sane known = record { firm = sane.firm; recorded = sane.recorded; results = sane.results; calls = known }
+
+-- once the end of a look-up is taken from the calls
+pub known_next : (m : Stage) (param block : ℕ) (calls : List Call) → m.look_up.calls ≡ FinishPredecessorsLookup param block ∷ calls → Sane m → Sane (with_calls m calls)
+known_next m param block calls is sane = sane_with m calls sane (after_finish (length m.function.values) m.look_up.calls calls param block is sane.calls).1
 
 pub call_stays : (x : ℕ) (ty : «Type») (m n : Stage) → MakesCall x ty m n → Sane m → Stays m n
 call_stays x ty m n (inl look) sane =
@@ -336,7 +337,7 @@ no_calls_known : (n : ℕ) → CallsKnown n []
 unfolding CallsKnown
 no_calls_known n = tt
 
-sane_first : (f : Body) (s : SsaState) (l : LookUpState) → l ≡ no_look_up → IsConsistent f → NamesExist f s → Sane (stage f s l)
+pub sane_first : (f : Body) (s : SsaState) (l : LookUpState) → l ≡ no_look_up → IsConsistent f → NamesExist f s → Sane (stage f s l)
 sane_first f s l nothing known named = subst (λ k. Sane (stage f s k)) (sym nothing) (record {
   firm = firm_from f known;
   recorded = named.recorded;
@@ -438,17 +439,3 @@ pub seal_loses : (f g : Body) (s t : SsaState) (b : ℕ) (result : Result SideEf
     → OnOk result (LosesWaiting f g (pending_of (sealed_of s b)))
 seal_loses f g s t b (Err error) known known' seals = tt
 seal_loses f g s t b (Ok r) known known' seals = loses_waiting f g (pending_of (sealed_of s b)) known known' seals.function
-
--- what the tables know in a block is recorded there
-pub known_recorded : (own : Own) (tables : Blocks) (g : Body) (t : SsaState) (b x value : ℕ) → KeepsAndKnows own tables g t b x value → HasRecordOf g t x b value
-known_recorded own tables g t b x value keeps =
-    let kept : Keeps own tables g t = keeps.kept in (
-      keeps.known.value,
-      sym (kept.describes.recorded b x) ∙ keeps.known.is_recorded,
-      sym (kept.describes.resolves keeps.known.value) ∙ keeps.known.resolves ∙ kept.describes.resolves value,
-    )
-
-pub all_recorded : (own : Own) (tables : Blocks) (g : Body) (t : SsaState) (b x : ℕ) {E : Type 0} (result : Result (ℕ × SideEffects) E)
-    → IfOk result (λ r. KeepsAndKnows own tables g t b x r.0) → IfOk result (λ r. HasRecordOf g t x b r.0)
-all_recorded own tables g t b x (Err error) keeps = tt
-all_recorded own tables g t b x (Ok r) keeps = known_recorded own tables g t b x r.0 keeps

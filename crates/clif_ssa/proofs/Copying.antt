@@ -1,6 +1,6 @@
 -- A record is copied to blocks in turn.
 use Rattle.std.proofs.Common.{◌≡◌, ◌≢◌, ℕ, zero, suc, ◌<◌, ◌==◌, ◌&&◌, ◌||◌, Bool, true, false, List, [], ◌∷◌, ◌++◌, length, take, get_or, refl, ap, arith, sym, ◌∙◌, ◌⊎◌, inl, inr}
-use Rattle.std.specs.Prelude.{Option, Some, slice_index, if◌then◌else◌}
+use Rattle.std.specs.Prelude.{Option, Some, None, slice_index, if◌then◌else◌}
 use Rattle.std.proofs.lemmas.List.Folds.{list_any-append}
 use Rattle.std.proofs.lemmas.Grind.{common_steps}
 use Rattle.std.proofs.lemmas.Bool.{cases_eq}
@@ -57,6 +57,18 @@ copied-cell old new x value blocks copied y b v is = by (y == x && stands_in b b
     by true at = inr (sym (same_some at))
     by false at = inl at
 
+some_none : {x : ℕ} → ◌≡◌ {A = Option ℕ} (Some x) None → ⊥
+some_none same = cc
+
+-- no cell is emptied
+pub copied-kept : (old new : ℕ → ℕ → Option ℕ) (x value : ℕ) (blocks : List ℕ) → Copied old new x value blocks
+    → (y b : ℕ) → new y b ≡ None → old y b ≡ None
+copied-kept old new x value blocks copied y b none = by (y == x && stands_in b blocks) (sym (copied.cell y b) ∙ none)
+  where
+    by : (test : Bool) → (if test then Some value else old y b) ≡ None → old y b ≡ None
+    by true at = absurd (some_none at)
+    by false at = at
+
 pub before-all : (x : ℕ) (xs : List ℕ) → ((k : ℕ) → k < length xs → slice_index xs k ≢ x) → before_first x xs ≡ xs
 before-all x [] none = refl
 before-all x (y ∷ xs) none =
@@ -78,4 +90,4 @@ before-passed x (suc k) (y ∷ xs) inside at none =
     let other : y ≢ x = none 0 (omega arith) in
     grind (arith, common_steps, rest, other)
 
-pub ruleset copying_rules = (copied-none, copied-further, copied-cell, before-passed, before-all)
+pub ruleset copying_rules = (copied-none, copied-further, copied-cell, copied-kept, before-passed, before-all)

@@ -45,3 +45,5 @@ pub mod Counts
 pub mod Public
 pub mod Alongside
 pub mod Recorded
+pub mod CountedOnce
+pub mod Answered

@@ -1,6 +1,6 @@
 -- Parameters that waited in a block are completed, and the block is sealed.
-use Rattle.std.proofs.Common.{◌≡◌, ◌≢◌, ℕ, suc, ◌<◌, ◌+◌, ◌==◌, Bool, true, false, List, [], ◌∷◌, ◌++◌, length, drop, get_or, refl, ap, arith, sym, ◌∙◌, subst, inl, inr, append-nil}
-use Rattle.std.specs.Prelude.{Contains, Result, Ok, Err, OnOk, IfOk, if◌then◌else◌}
+use Rattle.std.proofs.Common.{◌≡◌, ◌≢◌, ℕ, suc, ◌<◌, ◌+◌, ◌==◌, Bool, true, false, List, [], ◌∷◌, ◌++◌, length, drop, get_or, refl, ap, arith, sym, ◌∙◌, subst, ◌⊎◌, inl, inr, append-nil}
+use Rattle.std.specs.Prelude.{Contains, Result, Ok, Err, OnOk, OnErr, IfOk, if◌then◌else◌}
 use Rattle.std.proofs.lemmas.Grind.{common_steps}
 use Rattle.std.proofs.Math.Seq.{drop-cons}
 use Rattle.std.proofs.lemmas.Bool.{cases_eq}
@@ -137,11 +137,25 @@ pub on_any : {T E A : Type 0} (answer : Result T E) → A → OnOk answer A
 on_any (Ok v) holds = holds
 on_any (Err e) holds = tt
 
+pub on_any_err : {T E A : Type 0} (answer : Result T E) → A → OnErr answer A
+on_any_err (Ok v) holds = tt
+on_any_err (Err e) holds = holds
+
+-- what is sealed stays so, whether one block more is sealed or none
+pub still-sealed : (s t : SsaState) (b : ℕ) → SealedStays s t ⊎ SealsOne s t b → (c : ℕ) → is_yes (sealed_of s c) ≡ true → is_yes (sealed_of t c) ≡ true
+still-sealed s t b (inl stays) c is = stays c ∙ is
+still-sealed s t b (inr seals) c is = seals c ∙ by (c == b)
+  where
+    by : (test : Bool) → (if test then true else is_yes (sealed_of s c)) ≡ true
+    by true = refl
+    by false = is
+
 pub sealed-locally : (f g : Body) (s t u : SsaState) (b : ℕ) (waiting : List Pending) (answer : Result SideEffects BuildError) → Seals s t b → SameRecords s t → SameRecords t u
     → u.blocks ≡ t.blocks → waiting ≡ pending_of (sealed_of s b) → OnOk answer (g ≡ completed f waiting)
     → IfOk answer (λ r. r.instructions_added_to_blocks.items ≡ completing_blocks f waiting) → SealsLocally f s g u b answer
 sealed-locally f g s t u b waiting answer seals first next blocks same function told = record {
   sealed = on_any answer (λ c. ap (λ (bs : List SsaBlock). sealed_at bs c) blocks ∙ seals c);
+  refused = on_any_err answer (inr (λ c. ap (λ (bs : List SsaBlock). sealed_at bs c) blocks ∙ seals c));
   records = λ x c. next x c ∙ first x c;
   function = subst (λ ps. OnOk answer (g ≡ completed f ps)) same function;
   told = subst (λ ps. IfOk answer (λ r. r.instructions_added_to_blocks.items ≡ completing_blocks f ps)) same told;

@@ -1,15 +1,17 @@
 -- What a look-up that is under way keeps, and why it ends. Source: own.
-use Rattle.std.specs.Prelude.{◌≡◌, ℕ, zero, suc, ◌+◌, ◌-◌, ◌<◌, ◌≤◌, ◌==◌, List, [], ◌∷◌, ◌++◌, length, slice_index, Option, Some, None, true, false, Contains, EachIndex, if◌then◌else◌}
+use Rattle.std.specs.Prelude.{◌≡◌, ◌≢◌, ℕ, zero, suc, ◌+◌, ◌-◌, ◌<◌, ◌≤◌, ◌==◌, List, [], ◌∷◌, ◌++◌, length, map, slice_index, Option, Some, None, true, false, Contains, EachIndex, if◌then◌else◌}
 use Rattle.clif_types.specs.declared.types.«Type».{«Type»}
 use Rattle.clif_ir.specs.Body.{Body, value_at}
 use Rattle.clif_ir.specs.Changes.{with_param}
+use Rattle.clif_ir.specs.Consistent.{Once}
 use Rattle.clif_ssa.specs.declared.look_up.Call.{Call}
 use Rattle.clif_ssa.specs.declared.look_up.Call.TheVariants.{UseVar, FinishPredecessorsLookup}
 use Rattle.clif_ssa.specs.declared.tables.Pending.{Pending}
 use Rattle.clif_ssa.specs.declared.tables.Sealed.TheVariants.{No}
 use Rattle.clif_ssa.specs.Tables.{is_yes, pending_of}
-use Rattle.clif_ssa.specs.Ssa.{SsaState, record_of, sealed_of, predecessors_of, Records, SameBlocks, SamePredecessors, SameLookups}
+use Rattle.clif_ssa.specs.Ssa.{SsaState, record_of, lookups_of, sealed_of, predecessors_of, Records, SameBlocks, SamePredecessors, SameLookups}
 use Rattle.clif_ssa.specs.LookUp.{LookUpState, Stage, BeginsLookUp, CompletesParameter, MakesCalls}
+use Rattle.clif_ssa.specs.Structure.{LooksOnce}
 
 abbrev pub stage : Body → SsaState → LookUpState → Stage
 stage f s l = record { function = f; state = s; look_up = l }
@@ -82,3 +84,18 @@ pub record MakesAll (x : ℕ) (ty : «Type») (m : Stage) (value : ℕ) (n : Sta
   pub function : n.function ≡ last.function
   pub state : n.state ≡ last.state
   pub look_up : n.look_up ≡ record { calls = []; results = []; zeros = last.look_up.zeros }
+
+-- A step keeps that look-ups begin at most once: no record is lost, and where one was, no look-up begins.
+pub record CountsOnce (s t : SsaState) : Type 0 where
+  pub looks_once : LooksOnce s → LooksOnce t
+  pub counts : (x b : ℕ) → record_of s x b ≢ None → lookups_of t x b ≡ lookups_of s x b
+  pub records : (x b : ℕ) → record_of t x b ≡ None → record_of s x b ≡ None
+
+-- Parameters that waited in a block, which is sealed now, are still to be completed: the look-ups of their variables,
+-- which are different ones, didn't begin.
+pub record ToComplete (s : SsaState) (block : ℕ) (waiting : List Pending) : Type 0 where
+  pub once : LooksOnce s
+  pub sealed : is_yes (sealed_of s block) ≡ true
+  pub none_began : (p : Pending) → Contains waiting p → lookups_of s p.variable block ≡ 0
+  pub recorded : (p : Pending) → Contains waiting p → record_of s p.variable block ≢ None
+  pub apart : Once (map (λ (p : Pending). p.variable) waiting)

@@ -1,10 +1,10 @@
 -- What sealing a block makes of the state of the construction. Source: own.
-use Rattle.std.specs.Prelude.{◌≡◌, ℕ, ◌==◌, List, true, Result, OnOk, IfOk, if◌then◌else◌}
+use Rattle.std.specs.Prelude.{◌≡◌, ℕ, ◌==◌, ◌⊎◌, List, true, Result, OnOk, OnErr, IfOk, if◌then◌else◌}
 use Rattle.clif_types.specs.declared.error.BuildError.{BuildError}
 use Rattle.clif_ir.specs.Body.{Body}
 use Rattle.clif_ssa.specs.declared.side_effects.SideEffects.{SideEffects}
 use Rattle.clif_ssa.specs.Tables.{is_yes, pending_of}
-use Rattle.clif_ssa.specs.Ssa.{SsaState, sealed_of, completed, completing_blocks, SamePredecessors, SameRecords, Seals}
+use Rattle.clif_ssa.specs.Ssa.{SsaState, sealed_of, completed, completing_blocks, SameBlocks, SamePredecessors, SameRecords, Seals}
 use Rattle.clif_ssa.specs.LookUp.{LookUpState, no_look_up}
 use Rattle.clif_ssa.specs.Running.{stage, CompletesAll}
 
@@ -15,6 +15,7 @@ SealsOne old new block = (b : ℕ) → is_yes (sealed_of new b) ≡ (if b == blo
 -- a block to which nothing leads is sealed: what waits in it becomes names of zeros
 pub record SealsLocally (f : Body) (s : SsaState) (g : Body) (t : SsaState) (block : ℕ) (answer : Result SideEffects BuildError) : Type 0 where
   pub sealed : OnOk answer (Seals s t block)
+  pub refused : OnErr answer (SameBlocks s t ⊎ Seals s t block)
   pub records : SameRecords s t
   pub function : OnOk answer (g ≡ completed f (pending_of (sealed_of s block)))
   pub told : IfOk answer (λ r. r.instructions_added_to_blocks.items ≡ completing_blocks f (pending_of (sealed_of s block)))

@@ -1,15 +1,15 @@
 -- What values go on standing for, what a block keeps of its parameters, and that the construction leaves nothing
 -- behind which isn't needed. Source: own, after Braun et al. 2013 (a variable's value in a block stays the same value
 -- while parameters are completed; a parameter without arguments is replaced).
-use Rattle.std.specs.Prelude.{◌≡◌, ◌≢◌, ◌<◌, ℕ, List, [], ◌∷◌, ◌++◌, length, Some, None, pos, Contains}
+use Rattle.std.specs.Prelude.{◌≡◌, ◌≢◌, ◌<◌, ◌≤◌, ℕ, List, [], ◌∷◌, ◌++◌, length, map, Some, None, pos, false, Contains}
 use Rattle.std.specs.List.{AllByRecursion}
 use Rattle.clif_ir.specs.Body.{Body, value_at, inst_at, block_at, resolved}
-use Rattle.clif_ir.specs.Consistent.{Stands}
+use Rattle.clif_ir.specs.Consistent.{Once, Stands}
 use Rattle.clif_ir.specs.Reading.{param_home}
 use Rattle.clif_ir.specs.declared.instructions.InstructionData.TheVariants.{UnaryImm}
 use Rattle.clif_ssa.specs.declared.tables.Pending.{Pending}
-use Rattle.clif_ssa.specs.Tables.{pending_of}
-use Rattle.clif_ssa.specs.Ssa.{SsaState, record_of, sealed_of}
+use Rattle.clif_ssa.specs.Tables.{is_yes, pending_of}
+use Rattle.clif_ssa.specs.Ssa.{SsaState, record_of, lookups_of, sealed_of}
 
 -- two values that stand for one value go on doing so
 abbrev pub StayAlike : Body → Body → Type 0
@@ -81,3 +81,13 @@ pub record NothingStray (own : ℕ → List ℕ) (f : Body) (s : SsaState) : Typ
   -- a value has the type of the one that it stands for; so a zero is of the type of the parameter in whose place it is
   pub alias_types : (v : ℕ) → (value_at f (resolved f v)).ty ≡ (value_at f v).ty
   pub zeros : (b : ℕ) → HasNeededZeros f b (own b)
+
+-- At most one look-up of a variable begins in the predecessors of a block, since it leaves a record there.
+pub record LooksOnce (s : SsaState) : Type 0 where
+  pub once : (x b : ℕ) → lookups_of s x b ≤ 1
+  -- none began where nothing is recorded, or where the block is unsealed
+  pub unrecorded : (x b : ℕ) → record_of s x b ≡ None → lookups_of s x b ≡ 0
+  pub unsealed : (x b : ℕ) → is_yes (sealed_of s b) ≡ false → lookups_of s x b ≡ 0
+  -- the variables of parameters that wait in a block are recorded there, and are different ones
+  pub waiting_recorded : (b : ℕ) (p : Pending) → Contains (pending_of (sealed_of s b)) p → record_of s p.variable b ≢ None
+  pub apart : (b : ℕ) → Once (map (λ (p : Pending). p.variable) (pending_of (sealed_of s b)))

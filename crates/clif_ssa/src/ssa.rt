@@ -1,5 +1,5 @@
 //! The builder of SSA form.
-ghost use Rattle.std.specs.Prelude.{◌≡◌, ◌≢◌, ◌<◌, ◌==◌, ◌↔◌, ◌++◌, List, [], ◌∷◌, ℕ, IsTrue, Some, None, true, false, length, OnOk, OnErr, IfOk, IfSome, Contains, ◌+◌};
+ghost use Rattle.std.specs.Prelude.{◌≡◌, ◌≢◌, ◌<◌, ◌==◌, ◌↔◌, ◌++◌, ◌⊎◌, List, [], ◌∷◌, ℕ, IsTrue, Some, None, true, false, length, OnOk, OnErr, IfOk, IfSome, Contains, ◌+◌};
 ghost use Rattle.clif_ir.specs.Body.{Body, block_at, value_at};
 ghost use Rattle.clif_ir.specs.Consistent.{Stands};
 ghost use Rattle.clif_ssa.specs.Limits.{IsFull, Takes};
@@ -10,9 +10,9 @@ ghost use Rattle.clif_paths.specs.Blocks.{Blocks, last_place, with_write};
 ghost use Rattle.clif_ssa.specs.Own.{Own};
 ghost use Rattle.clif_ssa.specs.Sound.{Describes, PassesOwn, Keeps, KeepsAndKnows, entry_of, has_entry};
 ghost use Rattle.clif_ssa.specs.SoundLaws.{DescribesSoundly, IsOpen};
-ghost use Rattle.clif_ssa.specs.Structure.{HasRecordOf, LosesWaiting, NothingStray, Remembers};
+ghost use Rattle.clif_ssa.specs.Structure.{HasRecordOf, LooksOnce, LosesWaiting, NothingStray, Remembers};
 ghost use Rattle.clif_ssa.specs.LookUp.{branch_block, no_look_up, LooksUp, MakesCall, UsesVariable, CompletesParameter};
-ghost use Rattle.clif_ssa.specs.Running.{stage, found, with_call, CallsFit, CompletesAll, MakesAll};
+ghost use Rattle.clif_ssa.specs.Running.{stage, found, with_call, CallsFit, CompletesAll, CountsOnce, MakesAll, ToComplete};
 ghost use Rattle.clif_ssa.specs.Sealing.{SealsOne, SealsLocally, SealsByLookUp};
 ghost use Rattle.clif_ssa.specs.Ssa.{no_state, record_of, sealed_of, predecessors_of, lookups_of, completed, completing_blocks, CountsLookup, Declares, HasMore, IsLocal, Named, NamesExist, Records, RecordsStay, Removes, SamePredecessors, SameBlocks, SameLookups, SameRecords, SealedStays, Seals, Waits, Zeroes};
 
@@ -49,7 +49,8 @@ impl Model for SSABuilder {
 impl SSABuilder {
     /// A builder that knows nothing.
     pub fn new(alloc: Global) -> Self
-        ensures { result ≡ no_state }
+        ensures nothing { result ≡ no_state }
+        ensures looks_once { LooksOnce result }
     {
         SSABuilder {
             alloc,
@@ -60,7 +61,8 @@ impl SSABuilder {
 
     /// Forgets everything, and keeps the memory.
     pub fn clear(&mut self)
-        ensures { self.new ≡ no_state }
+        ensures nothing { self.new ≡ no_state }
+        ensures looks_once { LooksOnce self.new }
     {
         self.tables.clear();
     }
@@ -80,6 +82,7 @@ impl SSABuilder {
         ensures described { (own : Own) (f : Body) (tables : Blocks) → Describes own f self.old [] tables → Describes own f self.new [] tables }
         ensures remembers { (f : Body) (x b : ℕ) → Remembers x b f self.old f self.new }
         ensures nothing_stray { (own : ℕ → List ℕ) (f : Body) → NothingStray own f self.old → NothingStray own f self.new }
+        ensures looks_once { LooksOnce self.old → LooksOnce self.new }
         ensures known { OnOk result (block < length self.new.blocks) }
         ensures only_memory { OnErr result (result ≡ Err BuildError.Memory) }
     {
@@ -95,6 +98,7 @@ impl SSABuilder {
         ensures records { self.new.records ≡ self.old.records }
         ensures blocks { SameBlocks self.old self.new }
         ensures described { (own : Own) (f : Body) (tables : Blocks) → inst < length f.insts → has_entry f.layout ≡ true → entry_of f ≢ Some block → ((j : ℕ) → Contains (predecessors_of self.old block) j → branch_block f j ≢ branch_block f inst) → PassesOwn own f block inst → DescribesSoundly own f self.old tables → OnOk result (DescribesSoundly own f self.new tables) }
+        ensures looks_once { LooksOnce self.old → LooksOnce self.new }
         ensures only_memory { OnErr result (result ≡ Err BuildError.Memory) }
     {
         self.tables.declare_predecessor(block, inst)
@@ -109,6 +113,7 @@ impl SSABuilder {
         ensures records { self.new.records ≡ self.old.records }
         ensures blocks { SameBlocks self.old self.new }
         ensures described { (own : Own) (f : Body) (tables : Blocks) → DescribesSoundly own f self.old tables → DescribesSoundly own f self.new tables }
+        ensures looks_once { LooksOnce self.old → LooksOnce self.new }
     {
         self.tables.remove_predecessor(block, inst);
     }
@@ -148,6 +153,7 @@ impl SSABuilder {
         ensures keeps { (own : Own) (f : Body) (tables : Blocks) (n : ℕ) → DescribesSoundly own f self.old tables → IsOpen f self.old block → tables.answer n ≡ value → (tables.naming n).home ≢ start → tables.assigned (last_place tables block) variable ≡ None → OnOk result (DescribesSoundly own f self.new (with_write tables block variable n)) }
         ensures remembers { (f : Body) (x b : ℕ) → (x ≡ variable → b ≡ block → ⊥) → OnOk result (Remembers x b f self.old f self.new) }
         ensures nothing_stray { (own : ℕ → List ℕ) (f : Body) → NothingStray own f self.old → NothingStray own f self.new }
+        ensures looks_once { LooksOnce self.old → LooksOnce self.new }
         ensures only_memory { OnErr result (result ≡ Err BuildError.Memory) }
     {
         self.tables.record(variable, block, value)
@@ -177,11 +183,11 @@ impl SSABuilder {
         ensures counts_one { record_of self.old variable block ≡ None → is_yes (sealed_of self.old block) ≡ true → predecessors_of self.old block ≡ [] → OnOk result (CountsLookup self.old self.new variable block) }
         ensures looks { record_of self.old variable block ≡ None → is_yes (sealed_of self.old block) ≡ true → predecessors_of self.old block ≢ [] → IfOk result (λ r. UsesVariable variable ty block (stage func.old self.old no_look_up) r.0 (stage func.new self.new (found r.0 r.1.instructions_added_to_blocks.items))) }
         ensures keeps { (own : Own) (tables : Blocks) → DescribesSoundly own func.old self.old tables → IfOk result (λ r. KeepsAndKnows own tables func.new self.new block variable r.0) }
-        ensures recorded { (own : Own) (tables : Blocks) → DescribesSoundly own func.old self.old tables → IfOk result (λ r. HasRecordOf func.new self.new variable block r.0) }
-        ensures recorded_here { IsLocal self.old variable block → IfOk result (λ r. HasRecordOf func.new self.new variable block r.0) }
+        ensures recorded { IfOk result (λ r. HasRecordOf func.new self.new variable block r.0) }
         ensures remembers { (x b : ℕ) → OnOk result (Remembers x b func.old self.old func.new self.new) }
         ensures parameters { IsLocal self.old variable block → is_yes (sealed_of self.old block) ≡ true → (b : ℕ) → OnOk result ((block_at func.new b).params ≡ (block_at func.old b).params) }
         ensures nothing_stray { (own : ℕ → List ℕ) → IsLocal self.old variable block → NothingStray own func.old self.old → OnOk result (NothingStray own func.new self.new) }
+        ensures looks_once { LooksOnce self.old → LooksOnce self.new }
         ensures predecessors { SamePredecessors self.old self.new }
         ensures stay { RecordsStay self.old self.new }
         ensures flags { SealedStays self.old self.new }
@@ -224,6 +230,7 @@ impl SSABuilder {
         requires unrecorded { record_of self.old variable block ≡ None }
         ensures counts_none { is_yes (sealed_of self.old block) ≡ false → OnOk result (SameLookups self.old self.new) }
         ensures counts_one { is_yes (sealed_of self.old block) ≡ true → OnOk result (CountsLookup self.old self.new variable block) }
+        ensures once { CountsOnce self.old self.new }
         ensures waits { is_yes (sealed_of self.old block) ≡ false → OnOk result (Waits self.old self.new func.old func.new variable ty block) × IfOk result (λ r. (r.0 ≡ length func.old.values) × (r.1.instructions_added_to_blocks.items ≡ [])) }
         ensures zero { is_yes (sealed_of self.old block) ≡ true → OnOk result (Zeroes self.old self.new func.old func.new variable ty block) × IfOk result (λ r. (r.0 ≡ length func.old.values + 1) × (r.1.instructions_added_to_blocks.items ≡ block ∷ [])) }
         ensures predecessors { SamePredecessors self.old self.new }
@@ -265,6 +272,7 @@ impl SSABuilder {
         ensures flags { SealedStays self.old self.new }
         ensures more { HasMore func.old func.new }
         ensures names { NamesExist func.new self.new }
+        ensures once { CountsOnce self.old self.new }
         ensures full { result ≡ Err BuildError.Full → IsFull func.new }
         ensures never_failed { result ≢ Err BuildError.Failed }
     {
@@ -292,6 +300,7 @@ impl SSABuilder {
         ensures flags { SealedStays self.old self.new }
         ensures more { HasMore func.old func.new }
         ensures names { NamesExist func.new self.new }
+        ensures once { CountsOnce self.old self.new }
         ensures exists { IfOk result (λ v. v < length func.new.values) }
         ensures full { result ≡ Err BuildError.Full → IsFull func.new }
         ensures never_failed { result ≢ Err BuildError.Failed }
@@ -320,6 +329,7 @@ impl SSABuilder {
         ensures flags { SealedStays self.old self.new }
         ensures more { HasMore func.old func.new }
         ensures names { NamesExist func.new self.new }
+        ensures once { CountsOnce self.old self.new }
         ensures full { result ≡ Err BuildError.Full → IsFull func.new }
         ensures never_failed { result ≢ Err BuildError.Failed }
     {
@@ -356,6 +366,7 @@ impl SSABuilder {
         ensures flags { SealedStays self.old self.new }
         ensures more { HasMore func.old func.new }
         ensures names { NamesExist func.new self.new }
+        ensures looks_once { (rest : List Pending) → ToComplete self.old block (waiting ∷ rest) → ToComplete self.new block rest }
         ensures full { result ≡ Err BuildError.Full → IsFull func.new }
         ensures never_failed { result ≢ Err BuildError.Failed }
     {
@@ -383,6 +394,7 @@ impl SSABuilder {
         ensures flags { SealedStays self.old self.new }
         ensures more { HasMore func.old func.new }
         ensures names { NamesExist func.new self.new }
+        ensures looks_once { ToComplete self.old block waiting.now → LooksOnce self.new }
         ensures full { result ≡ Err BuildError.Full → IsFull func.new }
         ensures never_failed { result ≢ Err BuildError.Failed }
     {
@@ -403,6 +415,7 @@ impl SSABuilder {
         ensures told { IfOk result (λ r. r.instructions_added_to_blocks.items ≡ completing_blocks func.old waiting.now) }
         ensures records { SameRecords self.old self.new }
         ensures blocks { self.new.blocks ≡ self.old.blocks }
+        ensures looks_once { ToComplete self.old block waiting.now → LooksOnce self.new }
         ensures more { HasMore func.old func.new }
         ensures full { result ≡ Err BuildError.Full → IsFull func.new }
         ensures takes { result ≢ Err BuildError.Memory → Takes func.old func.new 0 0 }
@@ -425,8 +438,10 @@ impl SSABuilder {
     ) -> Result<SideEffects, BuildError>
         requires named { Named func.old self.old }
         ensures sealed { OnOk result (SealsOne self.old self.new block) }
+        ensures err { OnErr result (SealedStays self.old self.new ⊎ SealsOne self.old self.new block) }
         ensures local { predecessors_of self.old block ≡ [] → SealsLocally func.old self.old func.new self.new block result }
         ensures completes { predecessors_of self.old block ≢ [] → IfOk result (λ r. SealsByLookUp func.old self.old func.new self.new block r.instructions_added_to_blocks.items) }
+        ensures looks_once { LooksOnce self.old → LooksOnce self.new }
         ensures predecessors { SamePredecessors self.old self.new }
         ensures stay { RecordsStay self.old self.new }
         ensures more { HasMore func.old func.new }
@@ -457,12 +472,14 @@ impl SSABuilder {
     ) -> Result<SideEffects, BuildError>
         requires named { Named func.old self.old }
         ensures sealed { OnOk result (SealsOne self.old self.new block) }
+        ensures err { OnErr result (SealedStays self.old self.new ⊎ SealsOne self.old self.new block) }
         ensures local { predecessors_of self.old block ≡ [] → SealsLocally func.old self.old func.new self.new block result }
         ensures keeps { (own : Own) (tables : Blocks) → DescribesSoundly own func.old self.old tables → OnOk result (Keeps own tables func.new self.new) }
         ensures remembers { (x b : ℕ) → OnOk result (Remembers x b func.old self.old func.new self.new) }
         ensures parameters { predecessors_of self.old block ≡ [] → OnOk result (LosesWaiting func.old func.new (pending_of (sealed_of self.old block))) }
         ensures nothing_stray { (own : ℕ → List ℕ) → predecessors_of self.old block ≡ [] → NothingStray own func.old self.old → OnOk result (NothingStray own func.new self.new) }
         ensures completes { predecessors_of self.old block ≢ [] → IfOk result (λ r. SealsByLookUp func.old self.old func.new self.new block r.instructions_added_to_blocks.items) }
+        ensures looks_once { LooksOnce self.old → LooksOnce self.new }
         ensures predecessors { SamePredecessors self.old self.new }
         ensures stay { RecordsStay self.old self.new }
         ensures more { HasMore func.old func.new }
@@ -481,8 +498,10 @@ impl SSABuilder {
     pub fn seal_all_blocks(&mut self, func: &mut Function) -> Result<SideEffects, BuildError>
         requires named { Named func.old self.old }
         ensures sealed { OnOk result ((b : ℕ) → b < length self.old.blocks → is_yes (sealed_of self.new b) ≡ true) }
+        ensures sealed_stays { (b : ℕ) → is_yes (sealed_of self.old b) ≡ true → is_yes (sealed_of self.new b) ≡ true }
         ensures keeps { (own : Own) (tables : Blocks) → DescribesSoundly own func.old self.old tables → OnOk result (Keeps own tables func.new self.new) }
         ensures remembers { (x b : ℕ) → OnOk result (Remembers x b func.old self.old func.new self.new) }
+        ensures looks_once { LooksOnce self.old → LooksOnce self.new }
         ensures predecessors { SamePredecessors self.old self.new }
         ensures stay { RecordsStay self.old self.new }
         ensures more { HasMore func.old func.new }

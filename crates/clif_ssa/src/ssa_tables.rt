@@ -7,7 +7,7 @@ ghost use Rattle.clif_ssa.specs.Limits.{IsFull};
 ghost use Rattle.clif_ssa.specs.Tables.{is_yes, pending_of};
 ghost use Rattle.clif_ssa.specs.declared.tables.Sealed.{Sealed};
 ghost use Rattle.clif_ssa.specs.Ssa.{no_state, Declares, Removes, Seals, record_of, sealed_of, predecessors_of, lookups_of, Named, NamesExist, HasMore, SealedStays, Records, RecordsStay, SameRecords, SameBlocks, SamePredecessors, SameLookups, CountsLookup};
-ghost use Rattle.clif_ssa.specs.Running.{stage, Got};
+ghost use Rattle.clif_ssa.specs.Running.{stage, CountsOnce, Got};
 ghost use Rattle.clif_ssa.specs.LookUp.{single_predecessor, WalksTo, before_first, Copies, calls_for};
 
 use crate::look_up::LookUp;
@@ -162,6 +162,7 @@ impl SsaTables {
     /// Counts a look-up of a variable in the predecessors of a block.
     pub fn count_lookup(&mut self, variable: Variable, block: Block) -> Result<(), BuildError>
         ensures ok { OnOk result (CountsLookup self.old self.new variable block) }
+        ensures err { OnErr result (SameLookups self.old self.new) }
         ensures records { SameRecords self.old self.new }
         ensures blocks { self.new.blocks ≡ self.old.blocks }
         ensures only_memory { OnErr result (result ≡ Err BuildError.Memory) }
@@ -258,6 +259,7 @@ impl SsaTables {
         ensures others { (x b : ℕ) → (record_of self.new x b ≡ record_of self.old x b) ⊎ ((x ≡ variable) × (stands_in b passed.now ≡ true)) }
         ensures blocks { self.new.blocks ≡ self.old.blocks }
         ensures lookups { SameLookups self.old self.new }
+        ensures none_lost { (x b : ℕ) → record_of self.new x b ≡ None → record_of self.old x b ≡ None }
         ensures only_memory { OnErr result (result ≡ Err BuildError.Memory) }
     {
         for block in passed.as_slice().iter() {
@@ -278,6 +280,7 @@ impl SsaTables {
         look_up: &mut LookUp,
     ) -> Result<(), BuildError>
         ensures counted { OnOk result (CountsLookup self.old self.new variable block) }
+        ensures counts { SameLookups self.old self.new ⊎ CountsLookup self.old self.new variable block }
         ensures records { SameRecords self.old self.new }
         ensures blocks { self.new.blocks ≡ self.old.blocks }
         ensures look_up { OnOk result (look_up.new ≡ record look_up.old { calls = calls_for (predecessors_of self.old block) param block ++ look_up.old.calls }) }
@@ -310,6 +313,7 @@ impl SsaTables {
         ensures flags { SealedStays self.old self.new }
         ensures more { HasMore func.old func.new }
         ensures named { NamesExist func.old self.old → NamesExist func.new self.new }
+        ensures once { CountsOnce self.old self.new }
         ensures full { result ≡ Err BuildError.Full → IsFull func.new }
         ensures never_failed { result ≢ Err BuildError.Failed }
     {
@@ -340,6 +344,7 @@ impl SsaTables {
         ensures flags { SealedStays self.old self.new }
         ensures more { HasMore func.old func.new }
         ensures names { NamesExist func.old self.old → NamesExist func.new self.new }
+        ensures once { CountsOnce self.old self.new }
         ensures full { result ≡ Err BuildError.Full → IsFull func.new }
         ensures never_failed { result ≢ Err BuildError.Failed }
     {

@@ -1,6 +1,8 @@
-use Rattle.std.proofs.Common.{rules, ◌<◌, ◌≤◌, ◌∙◌, sym, length, arith}
+use Rattle.std.proofs.Common.{rules, ◌<◌, ◌≤◌, ◌+◌, List, ◌∷◌, ◌∙◌, sym, length, drop, arith}
 use Rattle.std.specs.Prelude.{Contains}
+use Rattle.clif_ssa.specs.declared.tables.Pending.{Pending}
 use Rattle.clif_ssa.specs.Running.{stage}
+use Rattle.clif_ssa.proofs.CountedOnce.{once_same}
 use Rattle.clif_ssa.proofs.Naming.{more-then}
 use Rattle.clif_ssa.proofs.Waited.{drop-item, all-further}
 use Rattle.clif_ssa.proofs.ssa.SSABuilder.complete_all.Goals as goal
@@ -28,4 +30,20 @@ loop-pending-preserved c =
       stay = λ x b v is. c.complete_parameter.ensures.stay x b v (c.loop-pending.invariant.stay x b v is);
       flags = λ b. c.complete_parameter.ensures.flags b ∙ c.loop-pending.invariant.flags b;
       more = more-then c.args.func.now c.loop-pending.func c.complete_parameter.new.func c.loop-pending.invariant.more c.complete_parameter.ensures.more;
+      once = λ before.
+          c.complete_parameter.ensures.looks_once (drop (c.loop-pending.pending-index + 1) c.args.waiting.now)
+          (once_same c.loop-pending.self c.args.block (drop c.loop-pending.pending-index c.args.waiting.now) (c.pending-item.result ∷ drop (c.loop-pending.pending-index + 1) c.args.waiting.now)
+          (drop-item c.args.waiting.now c.loop-pending.pending-index c.pending-item.result inside c.pending-item.is) (c.loop-pending.invariant.once before));
     }
+
+pub returns-in_err-complete_parameter-clause-looks_once :
+    goal.returns-in_err-complete_parameter-clause-looks_once
+returns-in_err-complete_parameter-clause-looks_once c = λ before.
+    let inside : c.loop-pending.pending-index < length c.args.waiting.now = search rules in
+    let rest : List Pending = drop (c.loop-pending.pending-index + 1) c.args.waiting.now in
+    (c.complete_parameter.ensures.looks_once rest
+    (once_same c.loop-pending.self c.args.block (drop c.loop-pending.pending-index c.args.waiting.now) (c.pending-item.result ∷ rest)
+    (drop-item c.args.waiting.now c.loop-pending.pending-index c.pending-item.result inside c.pending-item.is) (c.loop-pending.invariant.once before))).once
+
+pub returns-clause-looks_once : goal.returns-clause-looks_once
+returns-clause-looks_once c = λ before. (c.loop-pending.invariant.once before).once

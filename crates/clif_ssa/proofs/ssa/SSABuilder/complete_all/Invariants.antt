@@ -1,7 +1,7 @@
 use Rattle.std.proofs.Common.{◌≡◌, [], drop}
 use Rattle.clif_ssa.specs.Ssa.{SamePredecessors, RecordsStay, SealedStays, HasMore, NamesExist}
 use Rattle.clif_ssa.specs.LookUp.{Stage}
-use Rattle.clif_ssa.specs.Running.{stage, CompletesAll}
+use Rattle.clif_ssa.specs.Running.{stage, CompletesAll, ToComplete}
 use Rattle.clif_ssa.proofs.ssa.SSABuilder.complete_all.Given as goal
 
 abbrev pub invariant-loop-pending : goal.invariant-loop-pending
@@ -14,4 +14,5 @@ invariant-loop-pending l = record {
   stay : RecordsStay l.initial.self l.self;
   flags : SealedStays l.initial.self l.self;
   more : HasMore l.initial.func l.func;
+  once : ToComplete l.initial.self l.block l.waiting → ToComplete l.self l.block (drop l.pending-index l.waiting);
 }

@@ -1,6 +1,7 @@
 use Rattle.std.proofs.Common.{◌≡◌, ◌++◌, drop}
 use Rattle.clif_ssa.specs.Limits.{Takes}
 use Rattle.clif_ssa.specs.Ssa.{completed, completing_blocks, HasMore, SameRecords}
+use Rattle.clif_ssa.specs.Running.{ToComplete}
 use Rattle.clif_ssa.proofs.ssa.SSABuilder.complete_locally.Given as goal
 
 abbrev pub invariant-loop-pending : goal.invariant-loop-pending
@@ -11,5 +12,6 @@ invariant-loop-pending l = record {
   records : SameRecords l.initial.self-inside.tables l.self-inside.tables;
   blocks : l.self-inside.tables.blocks ≡ l.initial.self-inside.tables.blocks;
   more : HasMore l.initial.func l.func;
+  once : ToComplete l.initial.self-inside.tables l.block l.waiting → ToComplete l.self-inside.tables l.block (drop l.pending-index l.waiting);
   takes : Takes l.initial.func l.func 0 0;
 }

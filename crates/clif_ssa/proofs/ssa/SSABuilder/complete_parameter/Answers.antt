@@ -1,5 +1,6 @@
-use Rattle.std.proofs.Common.{ap}
+use Rattle.std.proofs.Common.{ap, ◌∙◌}
 use Rattle.clif_ssa.specs.Tables.{sealed_at, predecessors_at}
+use Rattle.clif_ssa.proofs.CountedOnce.{once_completes, once_follows}
 use Rattle.clif_ssa.proofs.Naming.{has_more}
 use Rattle.clif_ssa.proofs.Local.{named-same}
 use Rattle.clif_ssa.proofs.Waited.{begun-fits}
@@ -22,3 +23,35 @@ make_calls-requires-clause-calls_fit c =
     begun-fits c.args.func.now c.self.inside.tables c.begin_look_up.new.self c.args.look_up.now c.begin_look_up.new.look_up c.args.waiting.param c.args.block
     (rw (c.self.view_is) c.requires.named) (λ b. ap (λ blocks. predecessors_at blocks b) c.begin_look_up.ensures.blocks) c.requires.param_exists
     c.requires.idle.0 c.requires.idle.1 c.in_ok-begin_look_up.ensures.look_up
+
+pub returns-in_err-_value-clause-stay : goal.returns-in_err-_value-clause-stay
+returns-in_err-_value-clause-stay c = rw (← c.self.view_is) (λ x b v is. c.make_calls.ensures.stay x b v (c.begin_look_up.ensures.records x b ∙ is))
+
+pub returns-clause-stay : goal.returns-clause-stay
+returns-clause-stay c = rw (← c.self.view_is) (λ x b v is. c.make_calls.ensures.stay x b v (c.begin_look_up.ensures.records x b ∙ is))
+
+-- ONCE ------------------------------------------------------------------------------------------------------------
+
+pub returns-in_err-begin_look_up-clause-looks_once :
+    goal.returns-in_err-begin_look_up-clause-looks_once
+returns-in_err-begin_look_up-clause-looks_once c =
+    rw (← c.self.view_is)
+    (λ rest before.
+    once_completes c.self.inside.tables c.begin_look_up.new.self c.args.block c.args.waiting rest c.begin_look_up.ensures.records (λ b. ap (λ blocks. sealed_at blocks b) c.begin_look_up.ensures.blocks)
+    c.begin_look_up.ensures.counts before)
+
+pub returns-in_err-_value-clause-looks_once : goal.returns-in_err-_value-clause-looks_once
+returns-in_err-_value-clause-looks_once c =
+    rw (← c.self.view_is)
+    (λ rest before.
+    once_follows c.begin_look_up.new.self c.make_calls.new.self c.args.block rest c.make_calls.ensures.once c.make_calls.ensures.flags
+    (once_completes c.self.inside.tables c.begin_look_up.new.self c.args.block c.args.waiting rest c.begin_look_up.ensures.records (λ b. ap (λ blocks. sealed_at blocks b) c.begin_look_up.ensures.blocks)
+    c.begin_look_up.ensures.counts before))
+
+pub returns-clause-looks_once : goal.returns-clause-looks_once
+returns-clause-looks_once c =
+    rw (← c.self.view_is)
+    (λ rest before.
+    once_follows c.begin_look_up.new.self c.make_calls.new.self c.args.block rest c.make_calls.ensures.once c.make_calls.ensures.flags
+    (once_completes c.self.inside.tables c.begin_look_up.new.self c.args.block c.args.waiting rest c.begin_look_up.ensures.records (λ b. ap (λ blocks. sealed_at blocks b) c.begin_look_up.ensures.blocks)
+    c.begin_look_up.ensures.counts before))

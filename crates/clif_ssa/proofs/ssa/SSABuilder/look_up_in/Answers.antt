@@ -1,6 +1,9 @@
+use Rattle.std.proofs.Common.{ap}
+use Rattle.clif_ssa.specs.Tables.{sealed_at}
 use Rattle.clif_ssa.specs.LookUp.{WalksTo}
 use Rattle.clif_ssa.specs.Running.{stage, Got}
 use Rattle.clif_ssa.proofs.Using.{on_ok}
+use Rattle.clif_ssa.proofs.CountedOnce.{counts_then, once_kept}
 use Rattle.clif_ssa.proofs.Making.{got-exists, looks_up, looked-stay, looked-named}
 use Rattle.clif_ssa.proofs.ssa.SSABuilder.look_up_in.Goals as goal
 
@@ -32,3 +35,10 @@ returns-clause-names c =
     (got-exists c.args.variable c.args.ty c.in_ok-reached.reached c.in_ok-value.value _ _ (got c) c.requires.named)
     c.copy_record.ensures.blocks c.copy_record.ensures.recorded
     (c.record_or_parameter.ensures.names (rw (c.self.view_is) c.requires.named))
+
+pub returns-clause-once : goal.returns-clause-once
+returns-clause-once c =
+    rw (← c.self.view_is)
+    (counts_then c.self.inside.tables c.record_or_parameter.new.self c.copy_record.new.self c.record_or_parameter.ensures.once
+    (once_kept c.record_or_parameter.new.self c.copy_record.new.self c.copy_record.ensures.none_lost c.copy_record.ensures.lookups
+    (λ b. ap (λ blocks. sealed_at blocks b) c.copy_record.ensures.blocks)))

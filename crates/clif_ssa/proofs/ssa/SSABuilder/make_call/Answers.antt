@@ -1,8 +1,9 @@
-use Rattle.std.proofs.Common.{rules, ◌≡◌, ◌<◌, ◌∙◌, sym, subst, length, arith, refl, inl}
+use Rattle.std.proofs.Common.{rules, ◌≡◌, ◌<◌, ◌∷◌, ◌∙◌, ap, sym, subst, length, arith, refl, inl}
 use Rattle.std.specs.Prelude.{EachIndex, slice_index}
 use Rattle.clif_ir.specs.Body.{inst_at}
 use Rattle.clif_ssa.specs.declared.look_up.Call.TheVariants.{UseVar, FinishPredecessorsLookup}
 use Rattle.clif_ssa.specs.Ssa.{predecessors_of}
+use Rattle.clif_ssa.specs.LookUp.{LooksUp}
 use Rattle.clif_ssa.specs.Running.{stage, CallExists, CallsFit, with_call}
 use Rattle.clif_ssa.proofs.Naming.{named-more}
 use Rattle.clif_ssa.proofs.Calling.{look-fits, finish-fits, popped-look, both_ok, on_ok', same_block, leading-each}
@@ -56,3 +57,16 @@ pub returns-in-FinishPredecessorsLookup-clause-names :
     goal.returns-in-FinishPredecessorsLookup-clause-names
 returns-in-FinishPredecessorsLookup-clause-names c =
     (named-more c.args.func.now c.finish_look_up.new.func c.args.self.now c.args.self.now c.finish_look_up.ensures.more (λ b. refl) (λ x b v is. inl is) (λ b p here. inl here) c.requires.named)
+
+pub returns-in-Some-clause-made : goal.returns-in-Some-clause-made
+returns-in-Some-clause-made c =
+    let same : (inst_at c.args.func.now c.in-UseVar.branch).block ≡ c.in-Some.block = same_block (sym c.inst_block.ensures ∙ c.in-Some.is) in
+    on_ok' c.look_up_in.result
+    (λ looks.
+    inl (record {
+      branch = c.in-UseVar.branch;
+      calls = c.args.look_up.now.calls;
+      is_next = ap (λ call. call ∷ c.args.look_up.now.calls) c.in-UseVar.is;
+      looks = subst (λ b. LooksUp c.args.variable c.args.ty b (stage c.args.func.now c.args.self.now c.args.look_up.now) (stage c.look_up_in.new.func c.look_up_in.new.self c.look_up_in.new.look_up)) (sym same) looks;
+    }))
+    c.look_up_in.ensures.looks

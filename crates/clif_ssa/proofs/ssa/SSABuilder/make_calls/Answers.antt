@@ -4,6 +4,7 @@ use Rattle.clif_ssa.specs.LookUp.MakesCalls.{none_made, made}
 use Rattle.clif_ssa.specs.Running.{stage, CallsFit}
 use Rattle.clif_ssa.proofs.Naming.{has_more, more-then}
 use Rattle.clif_ssa.proofs.Calling.{call-less, popped_is}
+use Rattle.clif_ssa.proofs.CountedOnce.{counts_self, counts_then}
 use Rattle.clif_ssa.proofs.ssa.SSABuilder.make_calls.Goals as goal
 
 pub make_call-requires-clause-calls_fit : goal.make_call-requires-clause-calls_fit
@@ -20,6 +21,7 @@ loop-call-init c = record {
   stay = λ x b v is. is;
   flags = λ b. refl;
   more = has_more c.args.func.now;
+  once = counts_self c.args.self.now;
 }
 
 pub loop-call-smaller : goal.loop-call-smaller
@@ -41,4 +43,14 @@ loop-call-preserved c =
       stay = λ x b v is. c.make_call.ensures.stay x b v (c.loop-call.invariant.stay x b v is);
       flags = λ b. c.make_call.ensures.flags b ∙ c.loop-call.invariant.flags b;
       more = more-then c.args.func.now c.loop-call.func c.make_call.new.func c.loop-call.invariant.more c.make_call.ensures.more;
+      once = counts_then c.args.self.now c.loop-call.self c.make_call.new.self c.loop-call.invariant.once c.make_call.ensures.once;
     }
+
+pub returns-in_err-make_call-clause-stay : goal.returns-in_err-make_call-clause-stay
+returns-in_err-make_call-clause-stay c = λ x b v is. c.make_call.ensures.stay x b v (c.loop-call.invariant.stay x b v is)
+
+pub returns-in_err-make_call-clause-once : goal.returns-in_err-make_call-clause-once
+returns-in_err-make_call-clause-once c = counts_then c.args.self.now c.loop-call.self c.make_call.new.self c.loop-call.invariant.once c.make_call.ensures.once
+
+pub returns-clause-once : goal.returns-clause-once
+returns-clause-once c = c.loop-call.invariant.once

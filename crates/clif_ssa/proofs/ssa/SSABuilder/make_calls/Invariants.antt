@@ -1,6 +1,6 @@
 use Rattle.clif_ssa.specs.Ssa.{SamePredecessors, RecordsStay, SealedStays, HasMore, NamesExist}
 use Rattle.clif_ssa.specs.LookUp.{MakesCalls}
-use Rattle.clif_ssa.specs.Running.{stage, CallsFit, work_of}
+use Rattle.clif_ssa.specs.Running.{stage, CallsFit, CountsOnce, work_of}
 use Rattle.clif_ssa.proofs.ssa.SSABuilder.make_calls.Given as goal
 
 abbrev pub invariant-loop-call : goal.invariant-loop-call
@@ -12,6 +12,7 @@ invariant-loop-call l = record {
   stay : RecordsStay l.initial.self l.self;
   flags : SealedStays l.initial.self l.self;
   more : HasMore l.initial.func l.func;
+  once : CountsOnce l.initial.self l.self;
 }
 
 abbrev pub decreases-loop-call : goal.decreases-loop-call

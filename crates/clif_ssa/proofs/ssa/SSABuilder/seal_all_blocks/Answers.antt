@@ -1,4 +1,4 @@
-use Rattle.std.proofs.Common.{rules, ◌≡◌, ◌∙◌, arith, subst, refl}
+use Rattle.std.proofs.Common.{rules, ◌≡◌, ◌∙◌, arith, subst, refl, inr}
 use Rattle.std.specs.Prelude.{Ok}
 use Rattle.std.proofs.lemmas.Grind.{common_steps}
 use Rattle.clif_ssa.specs.Sealing.{SealsOne}
@@ -6,7 +6,7 @@ use Rattle.clif_ssa.proofs.Naming.{has_more, more-then}
 use Rattle.clif_ssa.proofs.Alongside.{seal_remembers, remembers_then}
 use Rattle.clif_ssa.proofs.Losing.{same_remembers}
 use Rattle.clif_ssa.proofs.Public.{seal_keeps, keeps_then, keeps_itself}
-use Rattle.clif_ssa.proofs.Waited.{named-kept, sealed-below}
+use Rattle.clif_ssa.proofs.Waited.{named-kept, sealed-below, still-sealed}
 use Rattle.clif_ssa.proofs.ssa.SSABuilder.seal_all_blocks.Goals as goal
 
 pub returns-in_err-told-clause-stay : goal.returns-in_err-told-clause-stay
@@ -20,6 +20,8 @@ loop-number-init c = record {
   sealed = λ b inside. absurd (omega (arith, inside));
   named = c.requires.named;
   names = λ named. named;
+  sealed_stays = λ b is. is;
+  once = λ once. once;
   same = λ b. refl;
   stay = λ x b v is. is;
   more = has_more c.args.func.now;
@@ -36,6 +38,9 @@ loop-number-preserved c =
       sealed = sealed-below c.loop-number.self c.seal_one_block.new.self c.loop-number.number c.loop-number.invariant.sealed seals;
       named = named-kept c.loop-number.func c.seal_one_block.new.func c.loop-number.self c.seal_one_block.new.self c.seal_one_block.ensures.predecessors c.seal_one_block.ensures.names
           c.loop-number.invariant.named;
+      sealed_stays = λ b is.
+          still-sealed c.loop-number.self c.seal_one_block.new.self c.new-block.result (inr c.in_ok-told.ensures.sealed) b (c.loop-number.invariant.sealed_stays b is);
+      once = λ once. c.seal_one_block.ensures.looks_once (c.loop-number.invariant.once once);
       names = λ named. c.seal_one_block.ensures.names (c.loop-number.invariant.names named);
       same = λ b. c.seal_one_block.ensures.predecessors b ∙ c.loop-number.invariant.same b;
       stay = λ x b v is. c.seal_one_block.ensures.stay x b v (c.loop-number.invariant.stay x b v is);
@@ -50,3 +55,25 @@ loop-number-preserved c =
           (seal_remembers x b c.loop-number.func c.seal_one_block.new.func c.loop-number.self c.seal_one_block.new.self c.new-block.result (Ok c.in_ok-told.told)
           c.law_consistent.ensures c.loop-number.invariant.named c.seal_one_block.ensures.stay c.in_ok-told.ensures.local c.in_ok-told.ensures.completes);
     }
+
+-- AFTER AN ERROR --------------------------------------------------------------------------------------------------
+
+pub returns-in_err-told-clause-sealed_stays : goal.returns-in_err-told-clause-sealed_stays
+returns-in_err-told-clause-sealed_stays c = λ b is.
+    still-sealed c.loop-number.self c.seal_one_block.new.self c.new-block.result c.in_err-told.ensures.err b (c.loop-number.invariant.sealed_stays b is)
+
+pub returns-in_err-append-clause-sealed_stays : goal.returns-in_err-append-clause-sealed_stays
+returns-in_err-append-clause-sealed_stays c = λ b is.
+    still-sealed c.loop-number.self c.seal_one_block.new.self c.new-block.result (inr c.in_ok-told.ensures.sealed) b (c.loop-number.invariant.sealed_stays b is)
+
+pub returns-clause-sealed_stays : goal.returns-clause-sealed_stays
+returns-clause-sealed_stays c = c.loop-number.invariant.sealed_stays
+
+pub returns-in_err-told-clause-looks_once : goal.returns-in_err-told-clause-looks_once
+returns-in_err-told-clause-looks_once c = λ once. c.seal_one_block.ensures.looks_once (c.loop-number.invariant.once once)
+
+pub returns-in_err-append-clause-looks_once : goal.returns-in_err-append-clause-looks_once
+returns-in_err-append-clause-looks_once c = λ once. c.seal_one_block.ensures.looks_once (c.loop-number.invariant.once once)
+
+pub returns-clause-looks_once : goal.returns-clause-looks_once
+returns-clause-looks_once c = c.loop-number.invariant.once

@@ -5,12 +5,14 @@ use Rattle.clif_ssa.specs.Sound.{Keeps}
 use Rattle.clif_ssa.specs.SoundLaws.{DescribesSoundly}
 use Rattle.clif_ssa.specs.Tables.{is_yes}
 use Rattle.clif_ssa.specs.Ssa.{sealed_of, SamePredecessors, RecordsStay, HasMore, Named, NamesExist}
-use Rattle.clif_ssa.specs.Structure.{Remembers}
+use Rattle.clif_ssa.specs.Structure.{LooksOnce, Remembers}
 use Rattle.clif_ssa.proofs.ssa.SSABuilder.seal_all_blocks.Given as goal
 
 abbrev pub invariant-loop-number : goal.invariant-loop-number
 invariant-loop-number l = record {
   sealed : (b : ℕ) → b < l.number → is_yes (sealed_of l.self b) ≡ true;
+  sealed_stays : (b : ℕ) → is_yes (sealed_of l.initial.self b) ≡ true → is_yes (sealed_of l.self b) ≡ true;
+  once : LooksOnce l.initial.self → LooksOnce l.self;
   named : Named l.func l.self;
   names : NamesExist l.initial.func l.initial.self → NamesExist l.func l.self;
   same : SamePredecessors l.initial.self l.self;

@@ -1,12 +1,13 @@
-use Rattle.std.proofs.Common.{rules, ◌≡◌, ◌≢◌, ◌∙◌, [], ap, arith, subst}
+use Rattle.std.proofs.Common.{rules, ◌≡◌, ◌≢◌, ◌∙◌, [], ap, arith, subst, sym, inr}
 use Rattle.std.specs.Prelude.{Contains}
 use Rattle.std.proofs.lemmas.Grind.{common_steps}
-use Rattle.clif_ssa.specs.Tables.{is_yes, pending_of, record_at, sealed_at, predecessors_at}
+use Rattle.clif_ssa.specs.Tables.{is_yes, pending_of, record_at, lookups_at, sealed_at, predecessors_at}
 use Rattle.clif_ssa.specs.Ssa.{NamesExist, sealed_of, predecessors_of}
+use Rattle.clif_ssa.proofs.CountedOnce.{once_same, once_seals}
 use Rattle.clif_ssa.proofs.Naming.{has_more}
 use Rattle.clif_ssa.proofs.Local.{named-same}
 use Rattle.clif_ssa.proofs.Public.{seals_by_look_up}
-use Rattle.clif_ssa.proofs.Waited.{on_any, seals-one, sealed-locally, sealed-named, leading-named}
+use Rattle.clif_ssa.proofs.Waited.{on_any, on_any_err, seals-one, sealed-locally, sealed-named, leading-named}
 use Rattle.clif_ssa.proofs.ssa.SSABuilder.seal_one_block.Goals as goal
 
 pub returns-in_err-waiting-clause-names : goal.returns-in_err-waiting-clause-names
@@ -65,3 +66,61 @@ returns-clause-completes c =
     seals_by_look_up c.args.func.now c.complete_all.new.func c.self.inside.tables c.seal.new.self c.complete_all.new.self c.args.block c.as_slice-2.result.now
     c.new-look_up.result c.complete_all.new.look_up c.into_zeros-instructions_added_to_blocks.result.items
     c.seal.ensures.records c.in_ok-waiting.ensures.ok c.seal.ensures.predecessors same c.new-look_up.ensures c.in_ok-complete_all.ensures.completes told)
+
+-- AFTER AN ERROR --------------------------------------------------------------------------------------------------
+
+pub returns-then-not-has_any_predecessors-clause-err :
+    goal.returns-then-not-has_any_predecessors-clause-err
+returns-then-not-has_any_predecessors-clause-err c =
+    rw (← c.self.view_is)
+    (on_any_err c.complete_locally.result
+    (inr (seals-one c.self.inside.tables c.seal.new.self c.complete_locally.new.self c.args.block c.in_ok-waiting.ensures.ok
+    (λ b. ap (λ blocks. is_yes (sealed_at blocks b)) c.complete_locally.ensures.blocks))))
+
+pub returns-in_err-complete_all-clause-err : goal.returns-in_err-complete_all-clause-err
+returns-in_err-complete_all-clause-err c =
+    rw (← c.self.view_is)
+    (on_any_err _
+    (inr (seals-one c.self.inside.tables c.seal.new.self c.complete_all.new.self c.args.block c.in_ok-waiting.ensures.ok c.complete_all.ensures.flags)))
+
+pub returns-in_err-complete_all-clause-stay : goal.returns-in_err-complete_all-clause-stay
+returns-in_err-complete_all-clause-stay c =
+    rw (← c.self.view_is) (λ x b v is. c.complete_all.ensures.stay x b v (ap (λ rows. record_at rows x b) c.seal.ensures.records ∙ is))
+
+pub returns-clause-stay : goal.returns-clause-stay
+returns-clause-stay c =
+    rw (← c.self.view_is) (λ x b v is. c.complete_all.ensures.stay x b v (ap (λ rows. record_at rows x b) c.seal.ensures.records ∙ is))
+
+-- ONCE ------------------------------------------------------------------------------------------------------------
+
+pub returns-then-not-has_any_predecessors-clause-looks_once :
+    goal.returns-then-not-has_any_predecessors-clause-looks_once
+returns-then-not-has_any_predecessors-clause-looks_once c =
+    let same : c.as_slice.result.now ≡ pending_of (sealed_of c.self.inside.tables c.args.block) = first_of (search rules, grind (arith, common_steps)) in
+    rw (← c.self.view_is)
+    (λ once.
+    c.complete_locally.ensures.looks_once
+    (once_same c.seal.new.self c.args.block (pending_of (sealed_of c.self.inside.tables c.args.block)) c.as_slice.result.now (sym same)
+    (once_seals c.self.inside.tables c.seal.new.self c.args.block c.in_ok-waiting.ensures.ok
+    (λ x b. ap (λ rows. record_at rows x b) c.seal.ensures.records) (λ x b. ap (λ rows. lookups_at rows x b) c.seal.ensures.records) once)))
+
+pub returns-in_err-complete_all-clause-looks_once :
+    goal.returns-in_err-complete_all-clause-looks_once
+returns-in_err-complete_all-clause-looks_once c =
+    let same : c.as_slice-2.result.now ≡ pending_of (sealed_of c.self.inside.tables c.args.block) = first_of (search rules, grind (arith, common_steps)) in
+    rw (← c.self.view_is)
+    (λ once.
+    c.complete_all.ensures.looks_once
+    (once_same c.seal.new.self c.args.block (pending_of (sealed_of c.self.inside.tables c.args.block)) c.as_slice-2.result.now (sym same)
+    (once_seals c.self.inside.tables c.seal.new.self c.args.block c.in_ok-waiting.ensures.ok
+    (λ x b. ap (λ rows. record_at rows x b) c.seal.ensures.records) (λ x b. ap (λ rows. lookups_at rows x b) c.seal.ensures.records) once)))
+
+pub returns-clause-looks_once : goal.returns-clause-looks_once
+returns-clause-looks_once c =
+    let same : c.as_slice-2.result.now ≡ pending_of (sealed_of c.self.inside.tables c.args.block) = first_of (search rules, grind (arith, common_steps)) in
+    rw (← c.self.view_is)
+    (λ once.
+    c.complete_all.ensures.looks_once
+    (once_same c.seal.new.self c.args.block (pending_of (sealed_of c.self.inside.tables c.args.block)) c.as_slice-2.result.now (sym same)
+    (once_seals c.self.inside.tables c.seal.new.self c.args.block c.in_ok-waiting.ensures.ok
+    (λ x b. ap (λ rows. record_at rows x b) c.seal.ensures.records) (λ x b. ap (λ rows. lookups_at rows x b) c.seal.ensures.records) once)))

@@ -1,6 +1,7 @@
 use Rattle.std.proofs.Common.{rules, ◌≡◌, length}
 use Rattle.std.proofs.lemmas.Result.{err_from_is_err_and}
 use Rattle.clif_ir.specs.Changes.{with_param}
+use Rattle.clif_ssa.proofs.CountedOnce.{once_waits}
 use Rattle.clif_ssa.proofs.Naming.{param-named, param-named-waits}
 use Rattle.clif_ssa.proofs.Local.{param-named-unrecorded, param-named-then, param-takes-then, param-zeroes, param-zero-answer, param-zero-told}
 use Rattle.clif_ssa.proofs.ssa.SSABuilder.use_locally.Goals as goal
@@ -58,3 +59,8 @@ pub returns-clause-names : goal.returns-clause-names
 returns-clause-names c =
     param-named-waits c.args.func.now c.append_block_param.new.self c.args.self.now c.wait.new.self c.args.variable c.args.block c.args.ty
     (search rules) (λ y b. search rules) (λ b. search rules) (λ b. search rules)
+
+pub returns-clause-once : goal.returns-clause-once
+returns-clause-once c =
+    once_waits c.args.self.now c.wait.new.self c.args.variable c.args.block (length c.args.func.now.values) c.requires.unrecorded
+    (λ y b. search rules) (λ y b. search rules) (λ b. search rules) (search rules)

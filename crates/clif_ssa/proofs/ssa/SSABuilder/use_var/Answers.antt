@@ -3,8 +3,9 @@ use Rattle.clif_ssa.specs.Tables.{is_yes}
 use Rattle.clif_ssa.specs.Ssa.{record_of, sealed_of, predecessors_of}
 use Rattle.clif_ssa.specs.Running.{stage}
 use Rattle.clif_ssa.proofs.Calling.{look-fits}
+use Rattle.clif_ssa.proofs.Answered.{use_recorded}
 use Rattle.clif_ssa.proofs.Recorded.{local_recorded}
-use Rattle.clif_ssa.proofs.Alongside.{use_alike, local_remembers, local_leaves, known_recorded, all_recorded}
+use Rattle.clif_ssa.proofs.Alongside.{use_alike, local_remembers, local_leaves}
 use Rattle.clif_ssa.proofs.Losing.{same_remembers}
 use Rattle.clif_ssa.proofs.Using.{on_ok}
 use Rattle.clif_ssa.proofs.Public.{something_leads, popped_nothing, known_use, local_use, machine_use}
@@ -49,16 +50,22 @@ returns-clause-keeps c = λ own tables both.
 -- RECORDED --------------------------------------------------------------------------------------------------------
 
 pub returns-in-Some-clause-recorded : goal.returns-in-Some-clause-recorded
-returns-in-Some-clause-recorded c = λ own tables both.
-    known_recorded own tables c.args.func.now c.args.self.now c.args.block c.args.variable c.in-Some.value (returns-in-Some-clause-keeps c own tables both)
+returns-in-Some-clause-recorded c =
+    let is : record_of c.args.self.now c.args.variable c.args.block ≡ Some c.in-Some.value = search rules in
+    (c.in-Some.value, is, refl)
 
 pub returns-then-is_local-clause-recorded : goal.returns-then-is_local-clause-recorded
-returns-then-is_local-clause-recorded c = λ own tables both.
-    all_recorded own tables c.use_locally.new.func c.use_locally.new.self c.args.block c.args.variable c.use_locally.result (returns-then-is_local-clause-keeps c own tables both)
+returns-then-is_local-clause-recorded c =
+    let none : record_of c.args.self.now c.args.variable c.args.block ≡ None = search rules in
+    local_recorded c.args.func.now c.use_locally.new.func c.args.self.now c.use_locally.new.self c.args.variable c.args.ty c.args.block c.use_locally.result
+    c.law_consistent.ensures c.requires.exists none c.use_locally.ensures.waits c.use_locally.ensures.zero
 
 pub returns-clause-recorded : goal.returns-clause-recorded
-returns-clause-recorded c = λ own tables both.
-    known_recorded own tables c.make_calls.new.func c.make_calls.new.self c.args.block c.args.variable c.in_ok-value.value (returns-clause-keeps c own tables both)
+returns-clause-recorded c =
+    let some : predecessors_of c.args.self.now c.args.block ≢ [] = rw (← c.self.view_is) ((c.if-is_local.ensures.no refl).1) in
+    use_recorded c.args.variable c.args.ty c.args.block c.args.func.now c.look_up_in.new.func c.make_calls.new.func c.args.self.now c.look_up_in.new.self c.make_calls.new.self
+    _ c.look_up_in.new.look_up c.make_calls.new.look_up c.in_ok-value.value c.new-look_up.ensures
+    c.law_consistent.ensures (c.requires.named (something_leads c.args.self.now c.args.block some)) c.in_ok-look_up_in.ensures.looks c.in_ok-value.ensures.made c.make_calls.ensures.stay
 
 -- REMEMBERS -------------------------------------------------------------------------------------------------------
 
@@ -106,24 +113,6 @@ returns-clause-parameters c = λ is_local sealed b.
 
 pub returns-clause-nothing_stray : goal.returns-clause-nothing_stray
 returns-clause-nothing_stray c = λ own is_local before.
-    let none : record_of c.args.self.now c.args.variable c.args.block ≡ None = search rules in
-    let sealed : is_yes (sealed_of c.args.self.now c.args.block) ≡ true = rw (← c.self.view_is) ((c.if-is_local.ensures.no refl).0) in
-    let some : predecessors_of c.args.self.now c.args.block ≢ [] = rw (← c.self.view_is) ((c.if-is_local.ensures.no refl).1) in
-    absurd (some (is_local none sealed))
-
-pub returns-in-Some-clause-recorded_here : goal.returns-in-Some-clause-recorded_here
-returns-in-Some-clause-recorded_here c = λ is_local.
-    let is : record_of c.args.self.now c.args.variable c.args.block ≡ Some c.in-Some.value = search rules in
-    (c.in-Some.value, is, refl)
-
-pub returns-then-is_local-clause-recorded_here : goal.returns-then-is_local-clause-recorded_here
-returns-then-is_local-clause-recorded_here c = λ is_local.
-    let none : record_of c.args.self.now c.args.variable c.args.block ≡ None = search rules in
-    local_recorded c.args.func.now c.use_locally.new.func c.args.self.now c.use_locally.new.self c.args.variable c.args.ty c.args.block c.use_locally.result
-    c.law_consistent.ensures c.requires.exists none c.use_locally.ensures.waits c.use_locally.ensures.zero
-
-pub returns-clause-recorded_here : goal.returns-clause-recorded_here
-returns-clause-recorded_here c = λ is_local.
     let none : record_of c.args.self.now c.args.variable c.args.block ≡ None = search rules in
     let sealed : is_yes (sealed_of c.args.self.now c.args.block) ≡ true = rw (← c.self.view_is) ((c.if-is_local.ensures.no refl).0) in
     let some : predecessors_of c.args.self.now c.args.block ≢ [] = rw (← c.self.view_is) ((c.if-is_local.ensures.no refl).1) in

@@ -1,4 +1,7 @@
-use Rattle.std.proofs.Common.{rules}
+use Rattle.std.proofs.Common.{rules, ◌≡◌, length}
+use Rattle.std.specs.Prelude.{None}
+use Rattle.clif_ssa.specs.Ssa.{record_of}
+use Rattle.clif_ssa.proofs.CountedOnce.{counts_self, once_kept, once_recorded, once_waits, once_begins}
 use Rattle.clif_ssa.proofs.Naming.{param-named, param-named-waits}
 use Rattle.clif_ssa.proofs.ssa_tables.SsaTables.add_parameter.Goals as goal
 
@@ -26,3 +29,31 @@ pub returns-clause-named : goal.returns-clause-named
 returns-clause-named c named =
     param-named-waits c.args.func.now c.append_block_param.new.self c.args.self.now _ c.args.variable c.args.block c.args.ty
     (search rules) (λ y b. search rules) (λ b. search rules) (λ b. search rules) named
+
+-- ONCE ------------------------------------------------------------------------------------------------------------
+
+pub returns-in_err-param-clause-once : goal.returns-in_err-param-clause-once
+returns-in_err-param-clause-once c = counts_self _
+
+pub returns-in_err-set-clause-once : goal.returns-in_err-set-clause-once
+returns-in_err-set-clause-once c = once_kept c.args.self.now _ (λ x b none. (let same : record_of c.args.self.now x b ≡ None = search rules in same)) (λ x b. search rules) (λ b. search rules)
+
+pub returns-in_err-begin_look_up-clause-once : goal.returns-in_err-begin_look_up-clause-once
+returns-in_err-begin_look_up-clause-once c =
+    once_begins c.args.self.now c.begin_look_up.new.self c.args.variable c.args.block (length c.args.func.now.values) c.requires.unrecorded (search rules) (λ y b. search rules) (λ b. search rules) (search rules)
+
+pub returns-in_err-push_result-clause-once : goal.returns-in_err-push_result-clause-once
+returns-in_err-push_result-clause-once c =
+    once_recorded c.args.self.now _ c.args.variable c.args.block (length c.args.func.now.values) (λ y b. search rules) (λ y b. search rules) (λ b. search rules)
+
+pub returns-in_err-wait-clause-once : goal.returns-in_err-wait-clause-once
+returns-in_err-wait-clause-once c =
+    once_recorded c.args.self.now _ c.args.variable c.args.block (length c.args.func.now.values) (λ y b. search rules) (λ y b. search rules) (λ b. search rules)
+
+pub returns-then-is_sealed-clause-once : goal.returns-then-is_sealed-clause-once
+returns-then-is_sealed-clause-once c =
+    once_begins c.args.self.now c.begin_look_up.new.self c.args.variable c.args.block (length c.args.func.now.values) c.requires.unrecorded (search rules) (λ y b. search rules) (λ b. search rules) (search rules)
+
+pub returns-clause-once : goal.returns-clause-once
+returns-clause-once c =
+    once_waits c.args.self.now _ c.args.variable c.args.block (length c.args.func.now.values) c.requires.unrecorded (λ y b. search rules) (λ y b. search rules) (λ b. search rules) (search rules)

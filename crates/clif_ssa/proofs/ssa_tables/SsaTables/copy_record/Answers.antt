@@ -2,7 +2,7 @@ use Rattle.std.proofs.Common.{rules, ◌≡◌, ◌<◌, ◌≤◌, ◌∙◌, a
 use Rattle.std.proofs.lemmas.Grind.{common_steps}
 use Rattle.clif_ssa.specs.Tables.{record_at}
 use Rattle.clif_ssa.proofs.Local.{copied-others}
-use Rattle.clif_ssa.proofs.Copying.{get_or-inside, Copied, before-passed, before-all}
+use Rattle.clif_ssa.proofs.Copying.{get_or-inside, Copied, copied-kept, before-passed, before-all}
 use Rattle.clif_ssa.specs.LookUp.{before_first}
 use Rattle.clif_ssa.proofs.ssa_tables.SsaTables.copy_record.Goals as goal
 
@@ -41,3 +41,10 @@ pub returns-then-eq-clause-others : goal.returns-then-eq-clause-others
 returns-then-eq-clause-others c =
     rw (← c.self.view_is)
     (copied-others (record_at c.self.inside.variables) (record_at c.loop-block.self-inside.variables) c.args.variable c.args.value c.loop-block.block-index c.args.passed.now c.loop-block.invariant.0)
+
+pub returns-in_err-set-clause-none_lost : goal.returns-in_err-set-clause-none_lost
+returns-in_err-set-clause-none_lost c =
+    rw (← c.self.view_is)
+    (λ x b none.
+    copied-kept (record_at c.self.inside.variables) (record_at c.loop-block.self-inside.variables) c.args.variable c.args.value (take c.loop-block.block-index c.args.passed.now) c.loop-block.invariant.0 x b
+    (sym (c.in_err-set.ensures.err x b) ∙ none))

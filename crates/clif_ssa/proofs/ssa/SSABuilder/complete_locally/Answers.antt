@@ -1,0 +1,51 @@
+use Rattle.std.proofs.Common.{rules, ◌<◌, ◌+◌, ◌∷◌, ap, length, drop, arith, inl, inr}
+use Rattle.std.proofs.lemmas.Grind.{common_steps}
+use Rattle.clif_ssa.specs.Tables.{sealed_at}
+use Rattle.clif_ssa.proofs.CountedOnce.{once_same, once_completes}
+use Rattle.clif_ssa.proofs.Waited.{drop-item}
+use Rattle.clif_ssa.proofs.ssa.SSABuilder.complete_locally.Goals as goal
+
+pub loop-pending-preserved : goal.loop-pending-preserved
+loop-pending-preserved c =
+    let inside : c.loop-pending.pending-index < length c.args.waiting.now = search rules in
+    record {
+      function = first_of (search rules, grind (arith, common_steps));
+      told = first_of (search rules, grind (arith, common_steps));
+      records = first_of (search rules, grind (arith, common_steps));
+      blocks = first_of (search rules, grind (arith, common_steps));
+      more = first_of (search rules, grind (arith, common_steps));
+      takes = first_of (search rules, grind (arith, common_steps));
+      once = λ before.
+          once_completes c.loop-pending.self-inside.tables c.count_lookup.new.self c.args.block c.pending-item.result (drop (c.loop-pending.pending-index + 1) c.args.waiting.now)
+          c.count_lookup.ensures.records (λ b. ap (λ blocks. sealed_at blocks b) c.count_lookup.ensures.blocks) (inr c.in_ok-count_lookup.ensures.ok)
+          (once_same c.loop-pending.self-inside.tables c.args.block (drop c.loop-pending.pending-index c.args.waiting.now)
+          (c.pending-item.result ∷ drop (c.loop-pending.pending-index + 1) c.args.waiting.now)
+          (drop-item c.args.waiting.now c.loop-pending.pending-index c.pending-item.result inside c.pending-item.is) (c.loop-pending.invariant.once before));
+    }
+
+pub returns-in_err-count_lookup-clause-looks_once :
+    goal.returns-in_err-count_lookup-clause-looks_once
+returns-in_err-count_lookup-clause-looks_once c =
+    let inside : c.loop-pending.pending-index < length c.args.waiting.now = search rules in
+    rw (← c.self.view_is)
+    (λ before.
+    (once_completes c.loop-pending.self-inside.tables c.count_lookup.new.self c.args.block c.pending-item.result (drop (c.loop-pending.pending-index + 1) c.args.waiting.now)
+    c.count_lookup.ensures.records (λ b. ap (λ blocks. sealed_at blocks b) c.count_lookup.ensures.blocks) (inl c.in_err-count_lookup.ensures.err)
+    (once_same c.loop-pending.self-inside.tables c.args.block (drop c.loop-pending.pending-index c.args.waiting.now)
+    (c.pending-item.result ∷ drop (c.loop-pending.pending-index + 1) c.args.waiting.now)
+    (drop-item c.args.waiting.now c.loop-pending.pending-index c.pending-item.result inside c.pending-item.is) (c.loop-pending.invariant.once before))).once)
+
+pub returns-in_err-replace_by_zero-clause-looks_once :
+    goal.returns-in_err-replace_by_zero-clause-looks_once
+returns-in_err-replace_by_zero-clause-looks_once c =
+    let inside : c.loop-pending.pending-index < length c.args.waiting.now = search rules in
+    rw (← c.self.view_is)
+    (λ before.
+    (once_completes c.loop-pending.self-inside.tables c.count_lookup.new.self c.args.block c.pending-item.result (drop (c.loop-pending.pending-index + 1) c.args.waiting.now)
+    c.count_lookup.ensures.records (λ b. ap (λ blocks. sealed_at blocks b) c.count_lookup.ensures.blocks) (inr c.in_ok-count_lookup.ensures.ok)
+    (once_same c.loop-pending.self-inside.tables c.args.block (drop c.loop-pending.pending-index c.args.waiting.now)
+    (c.pending-item.result ∷ drop (c.loop-pending.pending-index + 1) c.args.waiting.now)
+    (drop-item c.args.waiting.now c.loop-pending.pending-index c.pending-item.result inside c.pending-item.is) (c.loop-pending.invariant.once before))).once)
+
+pub returns-clause-looks_once : goal.returns-clause-looks_once
+returns-clause-looks_once c = rw (← c.self.view_is) (λ before. (c.loop-pending.invariant.once before).once)
