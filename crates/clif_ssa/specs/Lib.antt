@@ -1,5 +1,6 @@
 pub mod Tables
 pub mod Ssa
+pub mod Constructs
 pub mod Passed
 pub mod LookUp
 pub mod Incoming

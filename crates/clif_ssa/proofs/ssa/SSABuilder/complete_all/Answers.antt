@@ -1,7 +1,8 @@
-use Rattle.std.proofs.Common.{rules, ◌<◌, ◌≤◌, ◌∙◌, sym, length, arith}
+use Rattle.std.proofs.Common.{rules, refl, ◌<◌, ◌≤◌, ◌∙◌, sym, length, arith}
 use Rattle.std.specs.Prelude.{Contains}
 use Rattle.clif_ssa.specs.Running.{stage}
-use Rattle.clif_ssa.proofs.Naming.{more-then}
+use Rattle.clif_ssa.proofs.Constructing.{constructs_none, constructs_then, tells_more_none, tells_more_then}
+use Rattle.clif_ssa.proofs.Naming.{has_more, more-then}
 use Rattle.clif_ssa.proofs.Waited.{drop-item, all-further}
 use Rattle.clif_ssa.proofs.ssa.SSABuilder.complete_all.Goals as goal
 
@@ -12,6 +13,19 @@ complete_parameter-requires-clause-param_exists c =
     let was : c.pending-item.result.param < length c.args.func.now.values = c.requires.params_exist c.pending-item.result here in
     let more : length c.args.func.now.values ≤ length c.loop-pending.func.values = c.loop-pending.invariant.more.values in
     omega (arith, was, more)
+
+pub loop-pending-init : goal.loop-pending-init
+loop-pending-init c = record {
+  completes = λ n rest. rest;
+  idle = c.requires.idle;
+  named = c.requires.named;
+  same = λ b. refl;
+  stay = λ x b v is. is;
+  flags = λ b. refl;
+  more = has_more c.args.func.now;
+  constructs = constructs_none c.args.func.now;
+  tells = tells_more_none c.args.func.now c.args.look_up.now.zeros;
+}
 
 pub loop-pending-preserved : goal.loop-pending-preserved
 loop-pending-preserved c =
@@ -28,4 +42,19 @@ loop-pending-preserved c =
       stay = λ x b v is. c.complete_parameter.ensures.stay x b v (c.loop-pending.invariant.stay x b v is);
       flags = λ b. c.complete_parameter.ensures.flags b ∙ c.loop-pending.invariant.flags b;
       more = more-then c.args.func.now c.loop-pending.func c.complete_parameter.new.func c.loop-pending.invariant.more c.complete_parameter.ensures.more;
+      constructs = constructs_then c.args.func.now c.loop-pending.func c.complete_parameter.new.func c.loop-pending.invariant.constructs c.complete_parameter.ensures.constructs;
+      tells =
+          tells_more_then c.args.func.now c.loop-pending.func c.complete_parameter.new.func c.args.look_up.now.zeros c.loop-pending.look_up.zeros c.complete_parameter.new.look_up.zeros
+          c.complete_parameter.ensures.constructs c.loop-pending.invariant.tells c.in_ok-complete_parameter.ensures.tells;
     }
+
+pub returns-in_err-complete_parameter-clause-constructs :
+    goal.returns-in_err-complete_parameter-clause-constructs
+returns-in_err-complete_parameter-clause-constructs c =
+    constructs_then c.args.func.now c.loop-pending.func c.complete_parameter.new.func c.loop-pending.invariant.constructs c.complete_parameter.ensures.constructs
+
+pub returns-clause-constructs : goal.returns-clause-constructs
+returns-clause-constructs c = c.loop-pending.invariant.constructs
+
+pub returns-clause-tells : goal.returns-clause-tells
+returns-clause-tells c = c.loop-pending.invariant.tells

@@ -1,4 +1,5 @@
 use Rattle.std.proofs.Common.{◌≡◌, [], drop}
+use Rattle.clif_ssa.specs.Constructs.{OnlyConstructs, TellsMore}
 use Rattle.clif_ssa.specs.Ssa.{SamePredecessors, RecordsStay, SealedStays, HasMore, NamesExist}
 use Rattle.clif_ssa.specs.LookUp.{Stage}
 use Rattle.clif_ssa.specs.Running.{stage, CompletesAll}
@@ -14,4 +15,6 @@ invariant-loop-pending l = record {
   stay : RecordsStay l.initial.self l.self;
   flags : SealedStays l.initial.self l.self;
   more : HasMore l.initial.func l.func;
+  constructs : OnlyConstructs l.initial.func l.func;
+  tells : TellsMore l.initial.func l.func l.initial.look_up.zeros l.look_up.zeros;
 }

@@ -3,6 +3,7 @@ use Rattle.clif_ssa.specs.Tables.{sealed_at, predecessors_at}
 use Rattle.clif_ssa.proofs.Naming.{has_more}
 use Rattle.clif_ssa.proofs.Local.{named-same}
 use Rattle.clif_ssa.proofs.Waited.{begun-fits}
+use Rattle.clif_ssa.proofs.Constructing.{constructs_none}
 use Rattle.clif_ssa.proofs.ssa.SSABuilder.complete_parameter.Goals as goal
 
 pub returns-in_err-begin_look_up-clause-names : goal.returns-in_err-begin_look_up-clause-names
@@ -22,3 +23,6 @@ make_calls-requires-clause-calls_fit c =
     begun-fits c.args.func.now c.self.inside.tables c.begin_look_up.new.self c.args.look_up.now c.begin_look_up.new.look_up c.args.waiting.param c.args.block
     (rw (c.self.view_is) c.requires.named) (λ b. ap (λ blocks. predecessors_at blocks b) c.begin_look_up.ensures.blocks) c.requires.param_exists
     c.requires.idle.0 c.requires.idle.1 c.in_ok-begin_look_up.ensures.look_up
+
+pub returns-in_err-begin_look_up-clause-constructs : goal.returns-in_err-begin_look_up-clause-constructs
+returns-in_err-begin_look_up-clause-constructs c = constructs_none c.args.func.now

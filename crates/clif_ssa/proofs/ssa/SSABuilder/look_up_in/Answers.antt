@@ -2,6 +2,7 @@ use Rattle.clif_ssa.specs.LookUp.{WalksTo}
 use Rattle.clif_ssa.specs.Running.{stage, Got}
 use Rattle.clif_ssa.proofs.Using.{on_ok}
 use Rattle.clif_ssa.proofs.Making.{got-exists, looks_up, looked-stay, looked-named}
+use Rattle.clif_ssa.proofs.Constructing.{constructs_none}
 use Rattle.clif_ssa.proofs.ssa.SSABuilder.look_up_in.Goals as goal
 
 -- what is had before the copies
@@ -32,3 +33,6 @@ returns-clause-names c =
     (got-exists c.args.variable c.args.ty c.in_ok-reached.reached c.in_ok-value.value _ _ (got c) c.requires.named)
     c.copy_record.ensures.blocks c.copy_record.ensures.recorded
     (c.record_or_parameter.ensures.names (rw (c.self.view_is) c.requires.named))
+
+pub returns-in_err-reached-clause-constructs : goal.returns-in_err-reached-clause-constructs
+returns-in_err-reached-clause-constructs c = constructs_none c.args.func.now

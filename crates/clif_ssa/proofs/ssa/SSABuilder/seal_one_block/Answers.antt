@@ -7,6 +7,7 @@ use Rattle.clif_ssa.proofs.Naming.{has_more}
 use Rattle.clif_ssa.proofs.Local.{named-same}
 use Rattle.clif_ssa.proofs.Public.{seals_by_look_up}
 use Rattle.clif_ssa.proofs.Waited.{on_any, seals-one, sealed-locally, sealed-named, leading-named}
+use Rattle.clif_ssa.proofs.Constructing.{constructs_none}
 use Rattle.clif_ssa.proofs.ssa.SSABuilder.seal_one_block.Goals as goal
 
 pub returns-in_err-waiting-clause-names : goal.returns-in_err-waiting-clause-names
@@ -65,3 +66,6 @@ returns-clause-completes c =
     seals_by_look_up c.args.func.now c.complete_all.new.func c.self.inside.tables c.seal.new.self c.complete_all.new.self c.args.block c.as_slice-2.result.now
     c.new-look_up.result c.complete_all.new.look_up c.into_zeros-instructions_added_to_blocks.result.items
     c.seal.ensures.records c.in_ok-waiting.ensures.ok c.seal.ensures.predecessors same c.new-look_up.ensures c.in_ok-complete_all.ensures.completes told)
+
+pub returns-in_err-waiting-clause-constructs : goal.returns-in_err-waiting-clause-constructs
+returns-in_err-waiting-clause-constructs c = constructs_none c.args.func.now

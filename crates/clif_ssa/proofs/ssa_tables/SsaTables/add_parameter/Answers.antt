@@ -1,5 +1,7 @@
 use Rattle.std.proofs.Common.{rules}
 use Rattle.clif_ssa.proofs.Naming.{param-named, param-named-waits}
+use Rattle.clif_ssa.proofs.Constructing.{constructs_same}
+use Rattle.clif_ssa.proofs.Constructed.{param_made}
 use Rattle.clif_ssa.proofs.ssa_tables.SsaTables.add_parameter.Goals as goal
 
 pub returns-in_err-begin_look_up-clause-named : goal.returns-in_err-begin_look_up-clause-named
@@ -26,3 +28,24 @@ pub returns-clause-named : goal.returns-clause-named
 returns-clause-named c named =
     param-named-waits c.args.func.now c.append_block_param.new.self c.args.self.now _ c.args.variable c.args.block c.args.ty
     (search rules) (λ y b. search rules) (λ b. search rules) (λ b. search rules) named
+
+pub returns-in_err-param-clause-constructs : goal.returns-in_err-param-clause-constructs
+returns-in_err-param-clause-constructs c = constructs_same c.args.func.now c.append_block_param.new.self c.in_err-param.ensures.err
+
+pub returns-in_err-set-clause-constructs : goal.returns-in_err-set-clause-constructs
+returns-in_err-set-clause-constructs c = param_made c.args.func.now c.append_block_param.new.self c.args.block c.args.ty c.in_ok-param.ensures.ok
+
+pub returns-in_err-begin_look_up-clause-constructs : goal.returns-in_err-begin_look_up-clause-constructs
+returns-in_err-begin_look_up-clause-constructs c = param_made c.args.func.now c.append_block_param.new.self c.args.block c.args.ty c.in_ok-param.ensures.ok
+
+pub returns-then-is_sealed-clause-constructs : goal.returns-then-is_sealed-clause-constructs
+returns-then-is_sealed-clause-constructs c = param_made c.args.func.now c.append_block_param.new.self c.args.block c.args.ty c.in_ok-param.ensures.ok
+
+pub returns-in_err-push_result-clause-constructs : goal.returns-in_err-push_result-clause-constructs
+returns-in_err-push_result-clause-constructs c = param_made c.args.func.now c.append_block_param.new.self c.args.block c.args.ty c.in_ok-param.ensures.ok
+
+pub returns-in_err-wait-clause-constructs : goal.returns-in_err-wait-clause-constructs
+returns-in_err-wait-clause-constructs c = param_made c.args.func.now c.append_block_param.new.self c.args.block c.args.ty c.in_ok-param.ensures.ok
+
+pub returns-clause-constructs : goal.returns-clause-constructs
+returns-clause-constructs c = param_made c.args.func.now c.append_block_param.new.self c.args.block c.args.ty c.in_ok-param.ensures.ok

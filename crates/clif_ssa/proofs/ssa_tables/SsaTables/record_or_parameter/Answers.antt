@@ -2,6 +2,7 @@ use Rattle.std.proofs.Common.{rules, ◌≡◌}
 use Rattle.std.specs.Prelude.{None}
 use Rattle.clif_ssa.specs.Ssa.{record_of}
 use Rattle.clif_ssa.proofs.Calling.{added}
+use Rattle.clif_ssa.proofs.Constructing.{constructs_none}
 use Rattle.clif_ssa.proofs.ssa_tables.SsaTables.record_or_parameter.Goals as goal
 
 pub returns-clause-got : goal.returns-clause-got
@@ -10,3 +11,9 @@ returns-clause-got c =
     added c.args.variable c.args.ty c.args.block c.args.func.now c.add_parameter.new.func c.args.self.now c.add_parameter.new.self c.args.look_up.now c.add_parameter.new.look_up
     c.add_parameter.result none c.add_parameter.ensures.number c.add_parameter.ensures.function c.add_parameter.ensures.records c.add_parameter.ensures.predecessors
     c.add_parameter.ensures.waits c.add_parameter.ensures.begins
+
+pub returns-in_err-push_result-clause-constructs : goal.returns-in_err-push_result-clause-constructs
+returns-in_err-push_result-clause-constructs c = constructs_none c.args.func.now
+
+pub returns-in-Some-clause-constructs : goal.returns-in-Some-clause-constructs
+returns-in-Some-clause-constructs c = constructs_none c.args.func.now
