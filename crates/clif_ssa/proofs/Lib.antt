@@ -42,6 +42,8 @@ pub mod Adding
 pub mod Aliasing
 pub mod Counting
 pub mod Counts
+pub mod Constructing
+pub mod Constructed
 pub mod Public
 pub mod Alongside
 pub mod Recorded

@@ -1,6 +1,7 @@
 pub mod Tables
 pub mod Own
 pub mod Ssa
+pub mod Constructs
 pub mod Passed
 pub mod LookUp
 pub mod Incoming

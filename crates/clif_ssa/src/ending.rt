@@ -2,6 +2,7 @@
 ghost use Rattle.std.specs.Prelude.{◌≡◌, ◌≢◌, ◌<◌, ◌≤◌, ◌⊎◌, [], ◌∷◌, ◌++◌, ℕ, List, length, slice_index, EachIndex, OnOk, OnErr, IfOk, Some, reverse, take, drop};
 ghost use Rattle.std.specs.Option.{option_to_list};
 ghost use Rattle.clif_ir.specs.Reading.{param_home};
+ghost use Rattle.clif_ssa.specs.Constructs.{OnlyConstructs, TellsZeros, TellsMore};
 ghost use Rattle.clif_ssa.specs.Limits.{IsFull};
 ghost use Rattle.clif_ssa.specs.Ssa.{SsaState, predecessors_of, HasMore};
 ghost use Rattle.clif_ssa.specs.LookUp.{EndsLookUp, IsNoParameter, FinishesLookUp, with_arguments};
@@ -64,6 +65,8 @@ pub fn pass_arguments(
     requires values_exist { EachIndex values.now (λ k. slice_index values.now k < length func.old.values) }
     ensures ok { OnOk result (func.new ≡ with_arguments func.old block branches.now values.now) }
     ensures more { HasMore func.old func.new }
+    ensures constructs { OnlyConstructs func.old func.new }
+    ensures tells { TellsZeros func.old func.new [] }
     ensures only_memory { OnErr result (result ≡ Err BuildError.Memory) }
 {
     for (place, branch) in branches.iter().enumerate() {
@@ -90,9 +93,12 @@ pub fn end_look_up(
     ensures ends { IfOk result (λ e. EndsLookUp param home block predecessors.now results.now func.old func.new e.value (option_to_list e.zero)) }
     ensures exists { IfOk result (λ e. e.value < length func.new.values) }
     ensures more { HasMore func.old func.new }
+    ensures constructs { OnlyConstructs func.old func.new }
+    ensures tells { IfOk result (λ e. TellsZeros func.old func.new (option_to_list e.zero)) }
     ensures full { result ≡ Err BuildError.Full → IsFull func.new }
     ensures never_failed { result ≢ Err BuildError.Failed }
 {
+    func.law_consistent();
     match what_comes(func, param, results) {
         Incoming::Nothing => become_zero(func, param),
         Incoming::One(value) => {
@@ -124,6 +130,8 @@ fn end_or_stay(
     ensures ends { IfOk result (λ e. IsNoParameter param func.old func.new e.value (option_to_list e.zero) ⊎ ((home : ℕ) × (param_home func.old param ≡ Some home) × EndsLookUp param home block predecessors.now results.now func.old func.new e.value (option_to_list e.zero))) }
     ensures exists { IfOk result (λ e. e.value < length func.new.values) }
     ensures more { HasMore func.old func.new }
+    ensures constructs { OnlyConstructs func.old func.new }
+    ensures tells { IfOk result (λ e. TellsZeros func.old func.new (option_to_list e.zero)) }
     ensures full { result ≡ Err BuildError.Full → IsFull func.new }
     ensures never_failed { result ≢ Err BuildError.Failed }
 {
@@ -152,6 +160,8 @@ pub fn finish_look_up(
     ensures ok { (s : SsaState) → predecessors_of s block ≡ predecessors.now → OnOk result (FinishesLookUp param block (stage func.old s look_up.old) (stage func.new s look_up.new)) }
     ensures exist { OnOk result (EachIndex look_up.new.results (λ k. slice_index look_up.new.results k < length func.new.values)) }
     ensures more { HasMore func.old func.new }
+    ensures constructs { OnlyConstructs func.old func.new }
+    ensures tells { OnOk result (TellsMore func.old func.new look_up.old.zeros look_up.new.zeros) }
     ensures full { result ≡ Err BuildError.Full → IsFull func.new }
     ensures never_failed { result ≢ Err BuildError.Failed }
 {

@@ -2,6 +2,7 @@
 ghost use Rattle.std.specs.Prelude.{◌≡◌, ◌≢◌, ◌<◌, ◌==◌, ◌↔◌, ◌++◌, ◌⊎◌, List, [], ◌∷◌, ℕ, IsTrue, Some, None, true, false, length, OnOk, OnErr, IfOk, IfSome, Contains, ◌+◌};
 ghost use Rattle.clif_ir.specs.Body.{Body, block_at, value_at};
 ghost use Rattle.clif_ir.specs.Consistent.{Stands};
+ghost use Rattle.clif_ssa.specs.Constructs.{OnlyConstructs, TellsMore, TellsZeros};
 ghost use Rattle.clif_ssa.specs.Limits.{IsFull, Takes};
 ghost use Rattle.clif_ssa.specs.Tables.{is_yes, pending_of};
 ghost use Rattle.clif_ssa.specs.declared.tables.Pending.{Pending};
@@ -192,6 +193,8 @@ impl SSABuilder {
         ensures stay { RecordsStay self.old self.new }
         ensures flags { SealedStays self.old self.new }
         ensures more { HasMore func.old func.new }
+        ensures constructs { OnlyConstructs func.old func.new }
+        ensures tells { IfOk result (λ r. TellsZeros func.old func.new r.1.instructions_added_to_blocks.items) }
         ensures names { NamesExist func.old self.old → NamesExist func.new self.new }
         ensures exists { NamesExist func.old self.old → IfOk result (λ r. r.0 < length func.new.values) }
         ensures full { result ≡ Err BuildError.Full → IsFull func.new }
@@ -237,6 +240,8 @@ impl SSABuilder {
         ensures stay { RecordsStay self.old self.new }
         ensures flags { SealedStays self.old self.new }
         ensures more { HasMore func.old func.new }
+        ensures constructs { OnlyConstructs func.old func.new }
+        ensures tells { IfOk result (λ r. TellsZeros func.old func.new r.1.instructions_added_to_blocks.items) }
         ensures names { NamesExist func.old self.old → NamesExist func.new self.new }
         ensures err { OnErr result (SameBlocks self.old self.new) }
         ensures full { result ≡ Err BuildError.Full → IsFull func.new }
@@ -271,6 +276,8 @@ impl SSABuilder {
         ensures stay { RecordsStay self.old self.new }
         ensures flags { SealedStays self.old self.new }
         ensures more { HasMore func.old func.new }
+        ensures constructs { OnlyConstructs func.old func.new }
+        ensures tells { OnOk result (TellsMore func.old func.new look_up.old.zeros look_up.new.zeros) }
         ensures names { NamesExist func.new self.new }
         ensures once { CountsOnce self.old self.new }
         ensures full { result ≡ Err BuildError.Full → IsFull func.new }
@@ -299,6 +306,8 @@ impl SSABuilder {
         ensures stay { RecordsStay self.old self.new }
         ensures flags { SealedStays self.old self.new }
         ensures more { HasMore func.old func.new }
+        ensures constructs { OnlyConstructs func.old func.new }
+        ensures tells { OnOk result (TellsMore func.old func.new look_up.old.zeros look_up.new.zeros) }
         ensures names { NamesExist func.new self.new }
         ensures once { CountsOnce self.old self.new }
         ensures exists { IfOk result (λ v. v < length func.new.values) }
@@ -328,6 +337,8 @@ impl SSABuilder {
         ensures stay { RecordsStay self.old self.new }
         ensures flags { SealedStays self.old self.new }
         ensures more { HasMore func.old func.new }
+        ensures constructs { OnlyConstructs func.old func.new }
+        ensures tells { OnOk result (TellsMore func.old func.new look_up.old.zeros look_up.new.zeros) }
         ensures names { NamesExist func.new self.new }
         ensures once { CountsOnce self.old self.new }
         ensures full { result ≡ Err BuildError.Full → IsFull func.new }
@@ -365,6 +376,8 @@ impl SSABuilder {
         ensures stay { RecordsStay self.old self.new }
         ensures flags { SealedStays self.old self.new }
         ensures more { HasMore func.old func.new }
+        ensures constructs { OnlyConstructs func.old func.new }
+        ensures tells { OnOk result (TellsMore func.old func.new look_up.old.zeros look_up.new.zeros) }
         ensures names { NamesExist func.new self.new }
         ensures looks_once { (rest : List Pending) → ToComplete self.old block (waiting ∷ rest) → ToComplete self.new block rest }
         ensures full { result ≡ Err BuildError.Full → IsFull func.new }
@@ -393,6 +406,8 @@ impl SSABuilder {
         ensures stay { RecordsStay self.old self.new }
         ensures flags { SealedStays self.old self.new }
         ensures more { HasMore func.old func.new }
+        ensures constructs { OnlyConstructs func.old func.new }
+        ensures tells { OnOk result (TellsMore func.old func.new look_up.old.zeros look_up.new.zeros) }
         ensures names { NamesExist func.new self.new }
         ensures looks_once { ToComplete self.old block waiting.now → LooksOnce self.new }
         ensures full { result ≡ Err BuildError.Full → IsFull func.new }
@@ -417,6 +432,8 @@ impl SSABuilder {
         ensures blocks { self.new.blocks ≡ self.old.blocks }
         ensures looks_once { ToComplete self.old block waiting.now → LooksOnce self.new }
         ensures more { HasMore func.old func.new }
+        ensures constructs { OnlyConstructs func.old func.new }
+        ensures tells { IfOk result (λ r. TellsZeros func.old func.new r.instructions_added_to_blocks.items) }
         ensures full { result ≡ Err BuildError.Full → IsFull func.new }
         ensures takes { result ≢ Err BuildError.Memory → Takes func.old func.new 0 0 }
         ensures never_failed { result ≢ Err BuildError.Failed }
@@ -445,6 +462,8 @@ impl SSABuilder {
         ensures predecessors { SamePredecessors self.old self.new }
         ensures stay { RecordsStay self.old self.new }
         ensures more { HasMore func.old func.new }
+        ensures constructs { OnlyConstructs func.old func.new }
+        ensures tells { IfOk result (λ r. TellsZeros func.old func.new r.instructions_added_to_blocks.items) }
         ensures names { NamesExist func.old self.old → NamesExist func.new self.new }
         ensures full { result ≡ Err BuildError.Full → IsFull func.new }
         ensures takes { predecessors_of self.old block ≡ [] → result ≢ Err BuildError.Memory → Takes func.old func.new 0 0 }
@@ -483,6 +502,8 @@ impl SSABuilder {
         ensures predecessors { SamePredecessors self.old self.new }
         ensures stay { RecordsStay self.old self.new }
         ensures more { HasMore func.old func.new }
+        ensures constructs { OnlyConstructs func.old func.new }
+        ensures tells { IfOk result (λ r. TellsZeros func.old func.new r.instructions_added_to_blocks.items) }
         ensures names { NamesExist func.old self.old → NamesExist func.new self.new }
         ensures full { result ≡ Err BuildError.Full → IsFull func.new }
         ensures takes { predecessors_of self.old block ≡ [] → result ≢ Err BuildError.Memory → Takes func.old func.new 0 0 }
@@ -505,6 +526,8 @@ impl SSABuilder {
         ensures predecessors { SamePredecessors self.old self.new }
         ensures stay { RecordsStay self.old self.new }
         ensures more { HasMore func.old func.new }
+        ensures constructs { OnlyConstructs func.old func.new }
+        ensures tells { IfOk result (λ r. TellsZeros func.old func.new r.instructions_added_to_blocks.items) }
         ensures names { NamesExist func.old self.old → NamesExist func.new self.new }
         ensures full { result ≡ Err BuildError.Full → IsFull func.new }
         ensures never_failed { result ≢ Err BuildError.Failed }

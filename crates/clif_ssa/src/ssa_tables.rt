@@ -3,6 +3,7 @@ ghost use Rattle.std.specs.Prelude.{◌≡◌, ◌≢◌, ◌<◌, ◌↔◌, �
 ghost use Rattle.clif_ir.specs.Changes.{with_param};
 ghost use Rattle.clif_ir.specs.Consistent.{Stands};
 ghost use Rattle.clif_ir.specs.Reading.{stands_in};
+ghost use Rattle.clif_ssa.specs.Constructs.{OnlyConstructs, TellsMore};
 ghost use Rattle.clif_ssa.specs.Limits.{IsFull};
 ghost use Rattle.clif_ssa.specs.Tables.{is_yes, pending_of};
 ghost use Rattle.clif_ssa.specs.declared.tables.Sealed.{Sealed};
@@ -312,6 +313,8 @@ impl SsaTables {
         ensures stay { RecordsStay self.old self.new }
         ensures flags { SealedStays self.old self.new }
         ensures more { HasMore func.old func.new }
+        ensures constructs { OnlyConstructs func.old func.new }
+        ensures tells { OnOk result (TellsMore func.old func.new look_up.old.zeros look_up.new.zeros) }
         ensures named { NamesExist func.old self.old → NamesExist func.new self.new }
         ensures once { CountsOnce self.old self.new }
         ensures full { result ≡ Err BuildError.Full → IsFull func.new }
@@ -343,6 +346,8 @@ impl SsaTables {
         ensures stay { RecordsStay self.old self.new }
         ensures flags { SealedStays self.old self.new }
         ensures more { HasMore func.old func.new }
+        ensures constructs { OnlyConstructs func.old func.new }
+        ensures tells { OnOk result (TellsMore func.old func.new look_up.old.zeros look_up.new.zeros) }
         ensures names { NamesExist func.old self.old → NamesExist func.new self.new }
         ensures once { CountsOnce self.old self.new }
         ensures full { result ≡ Err BuildError.Full → IsFull func.new }

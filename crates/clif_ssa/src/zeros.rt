@@ -3,6 +3,7 @@ ghost use Rattle.std.specs.Prelude.{◌≡◌, ◌≢◌, ◌<◌, ◌+◌, ◌+
 ghost use Rattle.std.specs.Option.{option_to_list};
 ghost use Rattle.clif_ir.specs.Body.{resolved};
 ghost use Rattle.clif_ir.specs.Reading.{param_home};
+ghost use Rattle.clif_ssa.specs.Constructs.{OnlyConstructs, TellsZeros};
 ghost use Rattle.clif_ssa.specs.Limits.{IsFull, Takes};
 ghost use Rattle.clif_ssa.specs.Ssa.{with_zero, zeroed_in, HasMore};
 
@@ -22,6 +23,8 @@ pub(crate) fn replace_by_zero(
     ensures answer { MatchOption (param_home func.old param) (IfOk result (λ v. v ≡ param)) (λ _. IfOk result (λ v. v ≡ length func.old.values)) }
     ensures told { OnOk result (side_effects.new.instructions_added_to_blocks.items ≡ side_effects.old.instructions_added_to_blocks.items ++ option_to_list (param_home func.old param)) }
     ensures more { HasMore func.old func.new }
+    ensures constructs { OnlyConstructs func.old func.new }
+    ensures tells { OnOk result (TellsZeros func.old func.new (option_to_list (param_home func.old param))) }
     ensures full { result ≡ Err BuildError.Full → IsFull func.new }
     ensures takes { result ≢ Err BuildError.Memory → Takes func.old func.new 0 0 }
     ensures never_failed { result ≢ Err BuildError.Failed }
@@ -47,6 +50,8 @@ pub(crate) fn become_zero(func: &mut Function, param: Value) -> Result<Ending, B
     ensures answer { MatchOption (param_home func.old param) (IfOk result (λ e. e.value ≡ param)) (λ _. IfOk result (λ e. e.value ≡ length func.old.values)) }
     ensures told { IfOk result (λ e. e.zero ≡ param_home func.old param) }
     ensures more { HasMore func.old func.new }
+    ensures constructs { OnlyConstructs func.old func.new }
+    ensures tells { IfOk result (λ e. TellsZeros func.old func.new (option_to_list e.zero)) }
     ensures full { result ≡ Err BuildError.Full → IsFull func.new }
     ensures takes { result ≢ Err BuildError.Memory → Takes func.old func.new 0 0 }
     ensures never_failed { result ≢ Err BuildError.Failed }
@@ -58,6 +63,7 @@ pub(crate) fn become_zero(func: &mut Function, param: Value) -> Result<Ending, B
         });
     };
     let value = put_zero(func, block, func.value_type(param))?;
+    func.law_consistent();
     func.change_param_to_alias(param, value)?;
     let zero = Some(block);
     Ok(Ending { value, zero })
@@ -73,6 +79,8 @@ fn put_zero(func: &mut Function, block: Block, ty: Type) -> Result<Value, BuildE
     ensures full { result ≡ Err BuildError.Full → IsFull func.new }
     ensures err { OnErr result ((func.new.values ≡ func.old.values) × (func.new.insts ≡ func.old.insts)) }
     ensures more { HasMore func.old func.new }
+    ensures constructs { OnlyConstructs func.old func.new }
+    ensures tells { OnOk result (TellsZeros func.old func.new (block ∷ [])) }
     ensures never_failed { result ≢ Err BuildError.Failed }
 {
     func.ensure_block_inserted(block)?;

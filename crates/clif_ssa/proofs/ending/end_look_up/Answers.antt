@@ -1,6 +1,8 @@
 use Rattle.std.proofs.Common.{◌∙◌, ap, sym, length, arith}
 use Rattle.clif_ir.specs.Body.{Body}
 use Rattle.clif_ssa.proofs.Bodies.{param_exists}
+use Rattle.clif_ssa.proofs.Constructing.{constructs_same}
+use Rattle.clif_ssa.proofs.Constructed.{alias_made, param_is}
 use Rattle.clif_ssa.proofs.Zeroing.{alias_count_same}
 use Rattle.clif_ssa.proofs.ending.end_look_up.Goals as goal
 
@@ -22,3 +24,14 @@ pub returns-in_ok-pass_arguments-in-Several-clause-exists :
     goal.returns-in_ok-pass_arguments-in-Several-clause-exists
 returns-in_ok-pass_arguments-in-Several-clause-exists c =
     omega (arith, param_exists c.args.func.now c.args.param c.args.home c.requires.is_parameter, c.pass_arguments.ensures.more.values)
+
+pub returns-in_err-change_param_to_alias-in-One-clause-constructs :
+    goal.returns-in_err-change_param_to_alias-in-One-clause-constructs
+returns-in_err-change_param_to_alias-in-One-clause-constructs c =
+    constructs_same c.args.func.now c.change_param_to_alias.new.self c.in_err-change_param_to_alias-in-One.ensures.err
+
+pub returns-in_ok-change_param_to_alias-in-One-clause-constructs :
+    goal.returns-in_ok-change_param_to_alias-in-One-clause-constructs
+returns-in_ok-change_param_to_alias-in-One-clause-constructs c =
+    alias_made c.args.func.now c.change_param_to_alias.new.self c.args.param c.in-One.value c.law_consistent.ensures
+    (param_is c.args.func.now c.args.param c.args.home c.requires.is_parameter) c.in_ok-change_param_to_alias-in-One.ensures.ok

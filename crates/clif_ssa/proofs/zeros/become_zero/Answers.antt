@@ -1,9 +1,12 @@
-use Rattle.std.proofs.Common.{◌≡◌, rules, arith, subst, sym}
+use Rattle.std.proofs.Common.{◌≡◌, ◌∷◌, [], rules, arith, subst, sym}
 use Rattle.std.proofs.lemmas.Grind.{common_steps}
 use Rattle.clif_ir.specs.Body.{Body}
 use Rattle.clif_ir.specs.Reading.{param_home}
+use Rattle.clif_ssa.specs.Constructs.{OnlyConstructs}
 use Rattle.clif_ssa.specs.Limits.{Takes}
 use Rattle.clif_ssa.specs.Ssa.{zeroed_in}
+use Rattle.clif_ssa.proofs.Constructing.{constructs_none, constructs_same, constructs_then, tells_then}
+use Rattle.clif_ssa.proofs.Constructed.{alias_made, alias_told, param_is, zero_param}
 use Rattle.clif_ssa.proofs.Taking.{Takes-zeroed_in}
 use Rattle.clif_ssa.proofs.zeros.become_zero.Goals as goal
 
@@ -12,3 +15,33 @@ returns-clause-takes c = λ not_memory.
     let f : Body = c.args.func.now in
     let done : c.change_param_to_alias.new.self ≡ zeroed_in (param_home f c.args.param) f c.args.param = first_of (search rules, grind (arith, common_steps)) in
     subst (λ (g : Body). Takes f g 0 0) (sym done) (Takes-zeroed_in f c.args.param)
+
+pub returns-in_default-clause-constructs : goal.returns-in_default-clause-constructs
+returns-in_default-clause-constructs c = constructs_none c.args.func.now
+
+pub change_param_to_alias-requires-clause-is_param :
+    goal.change_param_to_alias-requires-clause-is_param
+change_param_to_alias-requires-clause-is_param c =
+    param_is c.put_zero.new.func c.args.param c.in-Some.block
+    (zero_param c.args.func.now c.put_zero.new.func c.args.param c.in-Some.block c.value_type.result (search rules) c.in_ok-value.ensures.ok)
+
+pub returns-in_err-change_param_to_alias-clause-constructs : goal.returns-in_err-change_param_to_alias-clause-constructs
+returns-in_err-change_param_to_alias-clause-constructs c =
+    constructs_then c.args.func.now c.put_zero.new.func c.change_param_to_alias.new.self c.put_zero.ensures.constructs
+    (constructs_same c.put_zero.new.func c.change_param_to_alias.new.self c.in_err-change_param_to_alias.ensures.err)
+
+-- what the alias makes
+made : (c : goal.In_ok-change_param_to_alias) → OnlyConstructs c.put_zero.new.func c.change_param_to_alias.new.self
+made c =
+    alias_made c.put_zero.new.func c.change_param_to_alias.new.self c.args.param c.in_ok-value.value c.law_consistent.ensures
+    (param_is c.put_zero.new.func c.args.param c.in-Some.block
+    (zero_param c.args.func.now c.put_zero.new.func c.args.param c.in-Some.block c.value_type.result (search rules) c.in_ok-value.ensures.ok))
+    c.in_ok-change_param_to_alias.ensures.ok
+
+pub returns-clause-constructs : goal.returns-clause-constructs
+returns-clause-constructs c = constructs_then c.args.func.now c.put_zero.new.func c.change_param_to_alias.new.self c.put_zero.ensures.constructs (made c)
+
+pub returns-clause-tells : goal.returns-clause-tells
+returns-clause-tells c =
+    tells_then c.args.func.now c.put_zero.new.func c.change_param_to_alias.new.self (c.in-Some.block ∷ []) [] (made c) c.in_ok-value.ensures.tells
+    (alias_told c.put_zero.new.func c.change_param_to_alias.new.self c.args.param c.in_ok-value.value c.in_ok-change_param_to_alias.ensures.ok)

@@ -1,9 +1,10 @@
-use Rattle.std.proofs.Common.{rules, ◌<◌, ◌≤◌, ◌+◌, List, ◌∷◌, ◌∙◌, sym, length, drop, arith}
+use Rattle.std.proofs.Common.{rules, ◌<◌, ◌≤◌, ◌+◌, List, ◌∷◌, ◌∙◌, sym, length, drop, arith, refl}
 use Rattle.std.specs.Prelude.{Contains}
 use Rattle.clif_ssa.specs.declared.tables.Pending.{Pending}
 use Rattle.clif_ssa.specs.Running.{stage}
 use Rattle.clif_ssa.proofs.CountedOnce.{once_same}
-use Rattle.clif_ssa.proofs.Naming.{more-then}
+use Rattle.clif_ssa.proofs.Naming.{more-then, has_more}
+use Rattle.clif_ssa.proofs.Constructing.{constructs_none, constructs_then, tells_more_none, tells_more_then}
 use Rattle.clif_ssa.proofs.Waited.{drop-item, all-further}
 use Rattle.clif_ssa.proofs.ssa.SSABuilder.complete_all.Goals as goal
 
@@ -14,6 +15,20 @@ complete_parameter-requires-clause-param_exists c =
     let was : c.pending-item.result.param < length c.args.func.now.values = c.requires.params_exist c.pending-item.result here in
     let more : length c.args.func.now.values ≤ length c.loop-pending.func.values = c.loop-pending.invariant.more.values in
     omega (arith, was, more)
+
+pub loop-pending-init : goal.loop-pending-init
+loop-pending-init c = record {
+  completes = λ n rest. rest;
+  idle = c.requires.idle;
+  named = c.requires.named;
+  same = λ b. refl;
+  stay = λ x b v is. is;
+  flags = λ b. refl;
+  more = has_more c.args.func.now;
+  constructs = constructs_none c.args.func.now;
+  tells = tells_more_none c.args.func.now c.args.look_up.now.zeros;
+  once = λ before. before;
+}
 
 pub loop-pending-preserved : goal.loop-pending-preserved
 loop-pending-preserved c =
@@ -34,6 +49,10 @@ loop-pending-preserved c =
           c.complete_parameter.ensures.looks_once (drop (c.loop-pending.pending-index + 1) c.args.waiting.now)
           (once_same c.loop-pending.self c.args.block (drop c.loop-pending.pending-index c.args.waiting.now) (c.pending-item.result ∷ drop (c.loop-pending.pending-index + 1) c.args.waiting.now)
           (drop-item c.args.waiting.now c.loop-pending.pending-index c.pending-item.result inside c.pending-item.is) (c.loop-pending.invariant.once before));
+      constructs = constructs_then c.args.func.now c.loop-pending.func c.complete_parameter.new.func c.loop-pending.invariant.constructs c.complete_parameter.ensures.constructs;
+      tells =
+          tells_more_then c.args.func.now c.loop-pending.func c.complete_parameter.new.func c.args.look_up.now.zeros c.loop-pending.look_up.zeros c.complete_parameter.new.look_up.zeros
+          c.complete_parameter.ensures.constructs c.loop-pending.invariant.tells c.in_ok-complete_parameter.ensures.tells;
     }
 
 pub returns-in_err-complete_parameter-clause-looks_once :
@@ -47,3 +66,14 @@ returns-in_err-complete_parameter-clause-looks_once c = λ before.
 
 pub returns-clause-looks_once : goal.returns-clause-looks_once
 returns-clause-looks_once c = λ before. (c.loop-pending.invariant.once before).once
+
+pub returns-in_err-complete_parameter-clause-constructs :
+    goal.returns-in_err-complete_parameter-clause-constructs
+returns-in_err-complete_parameter-clause-constructs c =
+    constructs_then c.args.func.now c.loop-pending.func c.complete_parameter.new.func c.loop-pending.invariant.constructs c.complete_parameter.ensures.constructs
+
+pub returns-clause-constructs : goal.returns-clause-constructs
+returns-clause-constructs c = c.loop-pending.invariant.constructs
+
+pub returns-clause-tells : goal.returns-clause-tells
+returns-clause-tells c = c.loop-pending.invariant.tells

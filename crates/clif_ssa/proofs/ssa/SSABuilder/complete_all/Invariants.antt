@@ -1,4 +1,5 @@
 use Rattle.std.proofs.Common.{◌≡◌, [], drop}
+use Rattle.clif_ssa.specs.Constructs.{OnlyConstructs, TellsMore}
 use Rattle.clif_ssa.specs.Ssa.{SamePredecessors, RecordsStay, SealedStays, HasMore, NamesExist}
 use Rattle.clif_ssa.specs.LookUp.{Stage}
 use Rattle.clif_ssa.specs.Running.{stage, CompletesAll, ToComplete}
@@ -15,4 +16,6 @@ invariant-loop-pending l = record {
   flags : SealedStays l.initial.self l.self;
   more : HasMore l.initial.func l.func;
   once : ToComplete l.initial.self l.block l.waiting → ToComplete l.self l.block (drop l.pending-index l.waiting);
+  constructs : OnlyConstructs l.initial.func l.func;
+  tells : TellsMore l.initial.func l.func l.initial.look_up.zeros l.look_up.zeros;
 }

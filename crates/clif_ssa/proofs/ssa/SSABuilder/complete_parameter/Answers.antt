@@ -4,6 +4,7 @@ use Rattle.clif_ssa.proofs.CountedOnce.{once_completes, once_follows}
 use Rattle.clif_ssa.proofs.Naming.{has_more}
 use Rattle.clif_ssa.proofs.Local.{named-same}
 use Rattle.clif_ssa.proofs.Waited.{begun-fits}
+use Rattle.clif_ssa.proofs.Constructing.{constructs_none}
 use Rattle.clif_ssa.proofs.ssa.SSABuilder.complete_parameter.Goals as goal
 
 pub returns-in_err-begin_look_up-clause-names : goal.returns-in_err-begin_look_up-clause-names
@@ -55,3 +56,6 @@ returns-clause-looks_once c =
     once_follows c.begin_look_up.new.self c.make_calls.new.self c.args.block rest c.make_calls.ensures.once c.make_calls.ensures.flags
     (once_completes c.self.inside.tables c.begin_look_up.new.self c.args.block c.args.waiting rest c.begin_look_up.ensures.records (λ b. ap (λ blocks. sealed_at blocks b) c.begin_look_up.ensures.blocks)
     c.begin_look_up.ensures.counts before))
+
+pub returns-in_err-begin_look_up-clause-constructs : goal.returns-in_err-begin_look_up-clause-constructs
+returns-in_err-begin_look_up-clause-constructs c = constructs_none c.args.func.now

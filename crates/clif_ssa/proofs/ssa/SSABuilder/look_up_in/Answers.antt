@@ -5,6 +5,7 @@ use Rattle.clif_ssa.specs.Running.{stage, Got}
 use Rattle.clif_ssa.proofs.Using.{on_ok}
 use Rattle.clif_ssa.proofs.CountedOnce.{counts_then, once_kept}
 use Rattle.clif_ssa.proofs.Making.{got-exists, looks_up, looked-stay, looked-named}
+use Rattle.clif_ssa.proofs.Constructing.{constructs_none}
 use Rattle.clif_ssa.proofs.ssa.SSABuilder.look_up_in.Goals as goal
 
 -- what is had before the copies
@@ -42,3 +43,6 @@ returns-clause-once c =
     (counts_then c.self.inside.tables c.record_or_parameter.new.self c.copy_record.new.self c.record_or_parameter.ensures.once
     (once_kept c.record_or_parameter.new.self c.copy_record.new.self c.copy_record.ensures.none_lost c.copy_record.ensures.lookups
     (λ b. ap (λ blocks. sealed_at blocks b) c.copy_record.ensures.blocks)))
+
+pub returns-in_err-reached-clause-constructs : goal.returns-in_err-reached-clause-constructs
+returns-in_err-reached-clause-constructs c = constructs_none c.args.func.now

@@ -1,10 +1,12 @@
-use Rattle.std.proofs.Common.{◌∙◌, sym, subst, refl}
-use Rattle.clif_ssa.specs.LookUp.{MakesCall}
+use Rattle.std.proofs.Common.{◌≡◌, ℕ, List, ◌∙◌, ap, sym, subst, refl}
+use Rattle.clif_ssa.specs.Constructs.{TellsMore}
+use Rattle.clif_ssa.specs.LookUp.{LookUpState, MakesCall}
 use Rattle.clif_ssa.specs.LookUp.MakesCalls.{none_made, made}
 use Rattle.clif_ssa.specs.Running.{stage, CallsFit}
 use Rattle.clif_ssa.proofs.Naming.{has_more, more-then}
 use Rattle.clif_ssa.proofs.Calling.{call-less, popped_is}
 use Rattle.clif_ssa.proofs.CountedOnce.{counts_self, counts_then}
+use Rattle.clif_ssa.proofs.Constructing.{constructs_none, constructs_then, tells_more_none, tells_more_then}
 use Rattle.clif_ssa.proofs.ssa.SSABuilder.make_calls.Goals as goal
 
 pub make_call-requires-clause-calls_fit : goal.make_call-requires-clause-calls_fit
@@ -22,6 +24,8 @@ loop-call-init c = record {
   flags = λ b. refl;
   more = has_more c.args.func.now;
   once = counts_self c.args.self.now;
+  constructs = constructs_none c.args.func.now;
+  tells = tells_more_none c.args.func.now c.args.look_up.now.zeros;
 }
 
 pub loop-call-smaller : goal.loop-call-smaller
@@ -44,6 +48,11 @@ loop-call-preserved c =
       flags = λ b. c.make_call.ensures.flags b ∙ c.loop-call.invariant.flags b;
       more = more-then c.args.func.now c.loop-call.func c.make_call.new.func c.loop-call.invariant.more c.make_call.ensures.more;
       once = counts_then c.args.self.now c.loop-call.self c.make_call.new.self c.loop-call.invariant.once c.make_call.ensures.once;
+      constructs = constructs_then c.args.func.now c.loop-call.func c.make_call.new.func c.loop-call.invariant.constructs c.make_call.ensures.constructs;
+      tells =
+          tells_more_then c.args.func.now c.loop-call.func c.make_call.new.func c.args.look_up.now.zeros c.loop-call.look_up.zeros c.make_call.new.look_up.zeros
+          c.make_call.ensures.constructs c.loop-call.invariant.tells
+          (subst (λ zeros. TellsMore c.loop-call.func c.make_call.new.func zeros c.make_call.new.look_up.zeros) (ap (λ (l : LookUpState). l.zeros) c.in-Some.ensures.1) c.in_ok-make_call.ensures.tells);
     }
 
 pub returns-in_err-make_call-clause-stay : goal.returns-in_err-make_call-clause-stay
@@ -54,3 +63,16 @@ returns-in_err-make_call-clause-once c = counts_then c.args.self.now c.loop-call
 
 pub returns-clause-once : goal.returns-clause-once
 returns-clause-once c = c.loop-call.invariant.once
+
+pub returns-in_err-make_call-clause-constructs : goal.returns-in_err-make_call-clause-constructs
+returns-in_err-make_call-clause-constructs c =
+    constructs_then c.args.func.now c.loop-call.func c.make_call.new.func c.loop-call.invariant.constructs c.make_call.ensures.constructs
+
+pub returns-clause-constructs : goal.returns-clause-constructs
+returns-clause-constructs c = c.loop-call.invariant.constructs
+
+pub returns-clause-tells : goal.returns-clause-tells
+returns-clause-tells c =
+    let zeros : LookUpState → List ℕ = λ l. l.zeros in
+    let same : c.take_result.new.self.zeros ≡ c.loop-call.look_up.zeros = ap zeros c.take_result.ensures.taken ∙ ap zeros c.in_default.ensures.1 in
+    subst (λ told. TellsMore c.args.func.now c.loop-call.func c.args.look_up.now.zeros told) (sym same) c.loop-call.invariant.tells

@@ -1,3 +1,4 @@
+use Rattle.clif_ssa.specs.Constructs.{OnlyConstructs, TellsMore}
 use Rattle.clif_ssa.specs.Ssa.{SamePredecessors, RecordsStay, SealedStays, HasMore, NamesExist}
 use Rattle.clif_ssa.specs.LookUp.{MakesCalls}
 use Rattle.clif_ssa.specs.Running.{stage, CallsFit, CountsOnce, work_of}
@@ -13,6 +14,8 @@ invariant-loop-call l = record {
   flags : SealedStays l.initial.self l.self;
   more : HasMore l.initial.func l.func;
   once : CountsOnce l.initial.self l.self;
+  constructs : OnlyConstructs l.initial.func l.func;
+  tells : TellsMore l.initial.func l.func l.initial.look_up.zeros l.look_up.zeros;
 }
 
 abbrev pub decreases-loop-call : goal.decreases-loop-call

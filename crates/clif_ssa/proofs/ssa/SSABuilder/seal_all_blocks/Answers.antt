@@ -2,6 +2,7 @@ use Rattle.std.proofs.Common.{rules, ◌≡◌, ◌∙◌, arith, subst, refl, i
 use Rattle.std.specs.Prelude.{Ok}
 use Rattle.std.proofs.lemmas.Grind.{common_steps}
 use Rattle.clif_ssa.specs.Sealing.{SealsOne}
+use Rattle.clif_ssa.proofs.Constructing.{constructs_none, constructs_then, tells_all, tells_more_none, tells_more_then}
 use Rattle.clif_ssa.proofs.Naming.{has_more, more-then}
 use Rattle.clif_ssa.proofs.Alongside.{seal_remembers, remembers_then}
 use Rattle.clif_ssa.proofs.Losing.{same_remembers}
@@ -25,6 +26,8 @@ loop-number-init c = record {
   same = λ b. refl;
   stay = λ x b v is. is;
   more = has_more c.args.func.now;
+  constructs = constructs_none c.args.func.now;
+  tells = tells_more_none c.args.func.now c.new-side_effects.result.instructions_added_to_blocks.items;
   keeps = λ own tables both. keeps_itself own tables c.args.func.now c.args.self.now both;
   remembers = λ x b. same_remembers x b c.args.func.now c.args.self.now c.args.self.now refl;
 }
@@ -45,6 +48,10 @@ loop-number-preserved c =
       same = λ b. c.seal_one_block.ensures.predecessors b ∙ c.loop-number.invariant.same b;
       stay = λ x b v is. c.seal_one_block.ensures.stay x b v (c.loop-number.invariant.stay x b v is);
       more = more-then c.args.func.now c.loop-number.func c.seal_one_block.new.func c.loop-number.invariant.more c.seal_one_block.ensures.more;
+      constructs = constructs_then c.args.func.now c.loop-number.func c.seal_one_block.new.func c.loop-number.invariant.constructs c.seal_one_block.ensures.constructs;
+      tells =
+          tells_more_then c.args.func.now c.loop-number.func c.seal_one_block.new.func _ _ _ c.seal_one_block.ensures.constructs c.loop-number.invariant.tells
+          (_, c.in_ok-append.ensures.ok, c.in_ok-told.ensures.tells);
       keeps = λ own tables both.
           keeps_then own tables c.loop-number.func c.seal_one_block.new.func c.loop-number.self c.seal_one_block.new.self (c.loop-number.invariant.keeps own tables both)
           (λ blocks described.
@@ -77,3 +84,17 @@ returns-in_err-append-clause-looks_once c = λ once. c.seal_one_block.ensures.lo
 
 pub returns-clause-looks_once : goal.returns-clause-looks_once
 returns-clause-looks_once c = c.loop-number.invariant.once
+
+pub returns-in_err-told-clause-constructs : goal.returns-in_err-told-clause-constructs
+returns-in_err-told-clause-constructs c =
+    constructs_then c.args.func.now c.loop-number.func c.seal_one_block.new.func c.loop-number.invariant.constructs c.seal_one_block.ensures.constructs
+
+pub returns-in_err-append-clause-constructs : goal.returns-in_err-append-clause-constructs
+returns-in_err-append-clause-constructs c =
+    constructs_then c.args.func.now c.loop-number.func c.seal_one_block.new.func c.loop-number.invariant.constructs c.seal_one_block.ensures.constructs
+
+pub returns-clause-constructs : goal.returns-clause-constructs
+returns-clause-constructs c = c.loop-number.invariant.constructs
+
+pub returns-clause-tells : goal.returns-clause-tells
+returns-clause-tells c = tells_all c.args.func.now c.loop-number.func _ _ c.new-side_effects.ensures c.loop-number.invariant.tells

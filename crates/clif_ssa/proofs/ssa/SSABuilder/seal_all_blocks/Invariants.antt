@@ -1,6 +1,7 @@
 use Rattle.std.proofs.Common.{◌≡◌, ◌<◌, ℕ, true}
 use Rattle.clif_paths.specs.Blocks.{Blocks}
 use Rattle.clif_ssa.specs.Own.{Own}
+use Rattle.clif_ssa.specs.Constructs.{OnlyConstructs, TellsMore}
 use Rattle.clif_ssa.specs.Sound.{Keeps}
 use Rattle.clif_ssa.specs.SoundLaws.{DescribesSoundly}
 use Rattle.clif_ssa.specs.Tables.{is_yes}
@@ -19,5 +20,7 @@ invariant-loop-number l = record {
   stay : RecordsStay l.initial.self l.self;
   more : HasMore l.initial.func l.func;
   keeps : (own : Own) (tables : Blocks) → DescribesSoundly own l.initial.func l.initial.self tables → Keeps own tables l.func l.self;
+  constructs : OnlyConstructs l.initial.func l.func;
+  tells : TellsMore l.initial.func l.func l.initial.side_effects.instructions_added_to_blocks.items l.side_effects.instructions_added_to_blocks.items;
   remembers : (x b : ℕ) → Remembers x b l.initial.func l.initial.self l.func l.self;
 }

@@ -8,6 +8,7 @@ use Rattle.clif_ssa.proofs.Naming.{has_more}
 use Rattle.clif_ssa.proofs.Local.{named-same}
 use Rattle.clif_ssa.proofs.Public.{seals_by_look_up}
 use Rattle.clif_ssa.proofs.Waited.{on_any, on_any_err, seals-one, sealed-locally, sealed-named, leading-named}
+use Rattle.clif_ssa.proofs.Constructing.{constructs_none}
 use Rattle.clif_ssa.proofs.ssa.SSABuilder.seal_one_block.Goals as goal
 
 pub returns-in_err-waiting-clause-names : goal.returns-in_err-waiting-clause-names
@@ -124,3 +125,6 @@ returns-clause-looks_once c =
     (once_same c.seal.new.self c.args.block (pending_of (sealed_of c.self.inside.tables c.args.block)) c.as_slice-2.result.now (sym same)
     (once_seals c.self.inside.tables c.seal.new.self c.args.block c.in_ok-waiting.ensures.ok
     (λ x b. ap (λ rows. record_at rows x b) c.seal.ensures.records) (λ x b. ap (λ rows. lookups_at rows x b) c.seal.ensures.records) once)))
+
+pub returns-in_err-waiting-clause-constructs : goal.returns-in_err-waiting-clause-constructs
+returns-in_err-waiting-clause-constructs c = constructs_none c.args.func.now

@@ -2,6 +2,8 @@ use Rattle.std.proofs.Common.{rules, ◌≡◌, length}
 use Rattle.std.proofs.lemmas.Result.{err_from_is_err_and}
 use Rattle.clif_ir.specs.Changes.{with_param}
 use Rattle.clif_ssa.proofs.CountedOnce.{once_waits}
+use Rattle.clif_ssa.proofs.Constructing.{constructs_same, constructs_then}
+use Rattle.clif_ssa.proofs.Constructed.{param_made}
 use Rattle.clif_ssa.proofs.Naming.{param-named, param-named-waits}
 use Rattle.clif_ssa.proofs.Local.{param-named-unrecorded, param-named-then, param-takes-then, param-zeroes, param-zero-answer, param-zero-told}
 use Rattle.clif_ssa.proofs.ssa.SSABuilder.use_locally.Goals as goal
@@ -64,3 +66,30 @@ pub returns-clause-once : goal.returns-clause-once
 returns-clause-once c =
     once_waits c.args.self.now c.wait.new.self c.args.variable c.args.block (length c.args.func.now.values) c.requires.unrecorded
     (λ y b. search rules) (λ y b. search rules) (λ b. search rules) (search rules)
+
+-- WHAT IS CHANGED -------------------------------------------------------------------------------------------------
+
+pub returns-in_err-param-clause-constructs : goal.returns-in_err-param-clause-constructs
+returns-in_err-param-clause-constructs c = constructs_same c.args.func.now c.append_block_param.new.self c.in_err-param.ensures.err
+
+pub returns-in_err-record-clause-constructs : goal.returns-in_err-record-clause-constructs
+returns-in_err-record-clause-constructs c = param_made c.args.func.now c.append_block_param.new.self c.args.block c.args.ty c.in_ok-param.ensures.ok
+
+pub returns-in_err-count_lookup-clause-constructs : goal.returns-in_err-count_lookup-clause-constructs
+returns-in_err-count_lookup-clause-constructs c = param_made c.args.func.now c.append_block_param.new.self c.args.block c.args.ty c.in_ok-param.ensures.ok
+
+pub returns-in_err-wait-clause-constructs : goal.returns-in_err-wait-clause-constructs
+returns-in_err-wait-clause-constructs c = param_made c.args.func.now c.append_block_param.new.self c.args.block c.args.ty c.in_ok-param.ensures.ok
+
+pub returns-clause-constructs : goal.returns-clause-constructs
+returns-clause-constructs c = param_made c.args.func.now c.append_block_param.new.self c.args.block c.args.ty c.in_ok-param.ensures.ok
+
+pub returns-in_err-zero-clause-constructs : goal.returns-in_err-zero-clause-constructs
+returns-in_err-zero-clause-constructs c =
+    constructs_then c.args.func.now c.append_block_param.new.self c.replace_by_zero.new.func
+    (param_made c.args.func.now c.append_block_param.new.self c.args.block c.args.ty c.in_ok-param.ensures.ok) c.replace_by_zero.ensures.constructs
+
+pub returns-then-is_sealed-clause-constructs : goal.returns-then-is_sealed-clause-constructs
+returns-then-is_sealed-clause-constructs c =
+    constructs_then c.args.func.now c.append_block_param.new.self c.replace_by_zero.new.func
+    (param_made c.args.func.now c.append_block_param.new.self c.args.block c.args.ty c.in_ok-param.ensures.ok) c.replace_by_zero.ensures.constructs

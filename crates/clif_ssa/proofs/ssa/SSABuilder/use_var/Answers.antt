@@ -4,6 +4,7 @@ use Rattle.clif_ssa.specs.Ssa.{record_of, sealed_of, predecessors_of}
 use Rattle.clif_ssa.specs.Running.{stage}
 use Rattle.clif_ssa.proofs.Calling.{look-fits}
 use Rattle.clif_ssa.proofs.Answered.{use_recorded}
+use Rattle.clif_ssa.proofs.Constructing.{constructs_none, constructs_then}
 use Rattle.clif_ssa.proofs.Recorded.{local_recorded}
 use Rattle.clif_ssa.proofs.Alongside.{use_alike, local_remembers, local_leaves}
 use Rattle.clif_ssa.proofs.Losing.{same_remembers}
@@ -117,3 +118,16 @@ returns-clause-nothing_stray c = λ own is_local before.
     let sealed : is_yes (sealed_of c.args.self.now c.args.block) ≡ true = rw (← c.self.view_is) ((c.if-is_local.ensures.no refl).0) in
     let some : predecessors_of c.args.self.now c.args.block ≢ [] = rw (← c.self.view_is) ((c.if-is_local.ensures.no refl).1) in
     absurd (some (is_local none sealed))
+
+-- WHAT IS CHANGED -------------------------------------------------------------------------------------------------
+
+pub returns-in-Some-clause-constructs : goal.returns-in-Some-clause-constructs
+returns-in-Some-clause-constructs c = constructs_none c.args.func.now
+
+pub returns-in_err-value-clause-constructs : goal.returns-in_err-value-clause-constructs
+returns-in_err-value-clause-constructs c =
+    constructs_then c.args.func.now c.look_up_in.new.func c.make_calls.new.func c.look_up_in.ensures.constructs c.make_calls.ensures.constructs
+
+pub returns-clause-constructs : goal.returns-clause-constructs
+returns-clause-constructs c =
+    constructs_then c.args.func.now c.look_up_in.new.func c.make_calls.new.func c.look_up_in.ensures.constructs c.make_calls.ensures.constructs

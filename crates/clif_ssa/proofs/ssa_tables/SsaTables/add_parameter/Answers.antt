@@ -3,6 +3,8 @@ use Rattle.std.specs.Prelude.{None}
 use Rattle.clif_ssa.specs.Ssa.{record_of}
 use Rattle.clif_ssa.proofs.CountedOnce.{counts_self, once_kept, once_recorded, once_waits, once_begins}
 use Rattle.clif_ssa.proofs.Naming.{param-named, param-named-waits}
+use Rattle.clif_ssa.proofs.Constructing.{constructs_same}
+use Rattle.clif_ssa.proofs.Constructed.{param_made}
 use Rattle.clif_ssa.proofs.ssa_tables.SsaTables.add_parameter.Goals as goal
 
 pub returns-in_err-begin_look_up-clause-named : goal.returns-in_err-begin_look_up-clause-named
@@ -57,3 +59,24 @@ returns-then-is_sealed-clause-once c =
 pub returns-clause-once : goal.returns-clause-once
 returns-clause-once c =
     once_waits c.args.self.now _ c.args.variable c.args.block (length c.args.func.now.values) c.requires.unrecorded (λ y b. search rules) (λ y b. search rules) (λ b. search rules) (search rules)
+
+pub returns-in_err-param-clause-constructs : goal.returns-in_err-param-clause-constructs
+returns-in_err-param-clause-constructs c = constructs_same c.args.func.now c.append_block_param.new.self c.in_err-param.ensures.err
+
+pub returns-in_err-set-clause-constructs : goal.returns-in_err-set-clause-constructs
+returns-in_err-set-clause-constructs c = param_made c.args.func.now c.append_block_param.new.self c.args.block c.args.ty c.in_ok-param.ensures.ok
+
+pub returns-in_err-begin_look_up-clause-constructs : goal.returns-in_err-begin_look_up-clause-constructs
+returns-in_err-begin_look_up-clause-constructs c = param_made c.args.func.now c.append_block_param.new.self c.args.block c.args.ty c.in_ok-param.ensures.ok
+
+pub returns-then-is_sealed-clause-constructs : goal.returns-then-is_sealed-clause-constructs
+returns-then-is_sealed-clause-constructs c = param_made c.args.func.now c.append_block_param.new.self c.args.block c.args.ty c.in_ok-param.ensures.ok
+
+pub returns-in_err-push_result-clause-constructs : goal.returns-in_err-push_result-clause-constructs
+returns-in_err-push_result-clause-constructs c = param_made c.args.func.now c.append_block_param.new.self c.args.block c.args.ty c.in_ok-param.ensures.ok
+
+pub returns-in_err-wait-clause-constructs : goal.returns-in_err-wait-clause-constructs
+returns-in_err-wait-clause-constructs c = param_made c.args.func.now c.append_block_param.new.self c.args.block c.args.ty c.in_ok-param.ensures.ok
+
+pub returns-clause-constructs : goal.returns-clause-constructs
+returns-clause-constructs c = param_made c.args.func.now c.append_block_param.new.self c.args.block c.args.ty c.in_ok-param.ensures.ok

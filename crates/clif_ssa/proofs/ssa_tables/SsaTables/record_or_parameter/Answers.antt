@@ -3,6 +3,7 @@ use Rattle.std.specs.Prelude.{None}
 use Rattle.clif_ssa.specs.Ssa.{record_of}
 use Rattle.clif_ssa.proofs.Calling.{added}
 use Rattle.clif_ssa.proofs.CountedOnce.{counts_self}
+use Rattle.clif_ssa.proofs.Constructing.{constructs_none}
 use Rattle.clif_ssa.proofs.ssa_tables.SsaTables.record_or_parameter.Goals as goal
 
 pub returns-clause-got : goal.returns-clause-got
@@ -17,3 +18,9 @@ returns-in_err-push_result-clause-once c = counts_self _
 
 pub returns-in-Some-clause-once : goal.returns-in-Some-clause-once
 returns-in-Some-clause-once c = counts_self _
+
+pub returns-in_err-push_result-clause-constructs : goal.returns-in_err-push_result-clause-constructs
+returns-in_err-push_result-clause-constructs c = constructs_none c.args.func.now
+
+pub returns-in-Some-clause-constructs : goal.returns-in-Some-clause-constructs
+returns-in-Some-clause-constructs c = constructs_none c.args.func.now
