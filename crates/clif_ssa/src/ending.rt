@@ -26,7 +26,7 @@ pub enum Incoming {
 }
 
 /// What comes to a parameter with these results of its block's predecessors.
-pub fn what_comes(func: &Function, param: Value, results: &[Value]) -> Incoming
+pub(crate) fn what_comes(func: &Function, param: Value, results: &[Value]) -> Incoming
     requires { EachIndex results.now (λ k. slice_index results.now k < length func.now.values) }
     ensures exact { IsIncoming func.now param results.now result }
     ensures exists { IncomingExists func.now result }
@@ -54,7 +54,7 @@ pub fn what_comes(func: &Function, param: Value, results: &[Value]) -> Incoming
 
 /// Passes each value on each edge of its branch to a block, at the end. The only error is `Memory`; some
 /// edges may pass theirs then.
-pub fn pass_arguments(
+pub(crate) fn pass_arguments(
     func: &mut Function,
     block: Block,
     branches: &[Inst],
@@ -78,7 +78,7 @@ pub fn pass_arguments(
 /// Ends the look-up of a parameter, by the results of the predecessors of its block, in their order:
 /// where nothing comes to it, it becomes a name of a new zero; where one value does, a name of that; and
 /// where several do, the edges of the predecessors pass them.
-pub fn end_look_up(
+pub(crate) fn end_look_up(
     func: &mut Function,
     param: Value,
     home: Block,
@@ -146,7 +146,7 @@ fn end_or_stay(
 
 /// Ends the look-up of a parameter of a block: the last results, one for each of these predecessors,
 /// make way for one. A value that isn't a parameter any more is the result itself.
-pub fn finish_look_up(
+pub(crate) fn finish_look_up(
     func: &mut Function,
     predecessors: &[Inst],
     param: Value,

@@ -14,14 +14,14 @@
 //! fails, and `tells` that the block of each zero is told, in order (`specs/Constructs`).
 #![tactic(auto)]
 
-pub mod ending;
+mod ending;
 pub mod laws;
-pub mod look_up;
-pub mod passed;
+mod look_up;
+mod passed;
 pub mod side_effects;
 pub mod ssa;
-pub mod ssa_tables;
-pub mod tables;
+mod ssa_tables;
+mod tables;
 #[cfg(test)]
 mod tests;
 pub mod variable;

@@ -36,7 +36,7 @@ impl Model for LookUp {
 
 impl LookUp {
     /// Nothing is looked up yet.
-    pub fn new(alloc: Global) -> Self
+    pub(crate) fn new(alloc: Global) -> Self
         ensures { result ≡ no_look_up }
     {
         LookUp {
@@ -47,7 +47,7 @@ impl LookUp {
     }
 
     /// Takes the next call, if there is one.
-    pub fn next_call(&mut self) -> Option<Call>
+    pub(crate) fn next_call(&mut self) -> Option<Call>
         ensures { MatchOption result (self.old.calls ≡ [] × self.new ≡ self.old) (λ call. (self.old.calls ≡ call ∷ self.new.calls) × (self.new ≡ record self.old { calls = self.new.calls })) }
     {
         self.calls.pop()
@@ -55,7 +55,7 @@ impl LookUp {
 
     #[tactic(auto, using(crate::proofs::Stacks::stack_rules))]
     /// Puts the calls that look a variable up in the predecessors of a block, for a parameter of it.
-    pub fn begin(
+    pub(crate) fn begin(
         &mut self,
         predecessors: &[Inst],
         param: Value,
@@ -73,7 +73,7 @@ impl LookUp {
     }
 
     /// Puts a result.
-    pub fn push_result(&mut self, value: Value) -> Result<(), BuildError>
+    pub(crate) fn push_result(&mut self, value: Value) -> Result<(), BuildError>
         ensures ok { OnOk result (self.new ≡ record self.old { results = value ∷ self.old.results }) }
         ensures only_memory { OnErr result (result ≡ Err BuildError.Memory) }
     {
@@ -83,7 +83,7 @@ impl LookUp {
 
     #[tactic(auto, using(crate::proofs::Stacks::stack_rules))]
     /// The last `count` results, in the order in which they came.
-    pub fn last_results(&self, count: usize) -> &[Value]
+    pub(crate) fn last_results(&self, count: usize) -> &[Value]
         requires { count ≤ length self.now.results }
         ensures { result.now ≡ reverse (take count self.now.results) }
     {
@@ -92,7 +92,7 @@ impl LookUp {
 
     #[tactic(auto, using(crate::proofs::Stacks::stack_rules))]
     /// Forgets the last `count` results.
-    pub fn drop_results(&mut self, count: usize)
+    pub(crate) fn drop_results(&mut self, count: usize)
         requires { count ≤ length self.old.results }
         ensures { self.new ≡ record self.old { results = drop count self.old.results } }
     {
@@ -101,7 +101,7 @@ impl LookUp {
     }
 
     /// Takes the one result.
-    pub fn take_result(&mut self) -> Value
+    pub(crate) fn take_result(&mut self) -> Value
         requires { length self.old.results ≡ 1 }
         ensures one { self.old.results ≡ result ∷ [] }
         ensures taken { self.new ≡ record self.old { results = [] } }
@@ -113,7 +113,7 @@ impl LookUp {
     }
 
     /// Tells of the zero that was put into this block, if one was.
-    pub fn tell_zero(&mut self, zero: Option<Block>) -> Result<(), BuildError>
+    pub(crate) fn tell_zero(&mut self, zero: Option<Block>) -> Result<(), BuildError>
         ensures ok { OnOk result (self.new ≡ record self.old { zeros = self.old.zeros ++ option_to_list zero }) }
         ensures only_memory { OnErr result (result ≡ Err BuildError.Memory) }
     {
@@ -124,7 +124,7 @@ impl LookUp {
     }
 
     /// The blocks of the zeros that were put, in order.
-    pub fn into_zeros(self) -> Vec<Block>
+    pub(crate) fn into_zeros(self) -> Vec<Block>
         ensures { result.items ≡ self.zeros }
     {
         self.zeros

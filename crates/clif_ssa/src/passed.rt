@@ -30,7 +30,7 @@ impl Model for PassedBlocks {
 
 impl PassedBlocks {
     /// No block was passed.
-    pub fn new(alloc: Global) -> Self
+    pub(crate) fn new(alloc: Global) -> Self
         ensures { result ≡ [] }
     {
         PassedBlocks {
@@ -40,14 +40,14 @@ impl PassedBlocks {
     }
 
     /// The blocks, in order.
-    pub fn as_slice(&self) -> &[Block]
+    pub(crate) fn as_slice(&self) -> &[Block]
         ensures { result.now ≡ self.now }
     {
         self.blocks.as_slice()
     }
 
     /// Forgets all blocks, in a step.
-    pub fn clear(&mut self)
+    pub(crate) fn clear(&mut self)
         ensures { self.new ≡ [] }
     {
         self.blocks.clear();
@@ -55,7 +55,7 @@ impl PassedBlocks {
 
     #[tactic(auto, using(crate::proofs::SparseSet::passed_rules))]
     /// Whether a block was passed.
-    pub fn contains(&self, block: Block) -> bool
+    pub(crate) fn contains(&self, block: Block) -> bool
         ensures { IsTrue result ↔ Stands block self.now }
     {
         match self.places.get(block.index()) {
@@ -77,7 +77,7 @@ impl PassedBlocks {
     #[tactic(auto, using(crate::proofs::SparseSet::passed_rules))]
     /// Puts a block that wasn't passed behind the others. The only error is `Memory`, and the blocks are
     /// then as they were.
-    pub fn push(&mut self, block: Block) -> Result<(), BuildError>
+    pub(crate) fn push(&mut self, block: Block) -> Result<(), BuildError>
         requires { Stands block self.old → ⊥ }
         ensures ok { OnOk result (self.new ≡ self.old ++ block ∷ []) }
         ensures err { OnErr result (self.new ≡ self.old) }

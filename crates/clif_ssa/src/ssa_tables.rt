@@ -37,7 +37,7 @@ impl Model for SsaTables {
 
 impl SsaTables {
     /// Nothing is known.
-    pub fn new(alloc: Global) -> Self
+    pub(crate) fn new(alloc: Global) -> Self
         ensures { result ≡ no_state }
     {
         SsaTables {
@@ -47,7 +47,7 @@ impl SsaTables {
     }
 
     /// Forgets everything, and keeps the memory.
-    pub fn clear(&mut self)
+    pub(crate) fn clear(&mut self)
         ensures { self.new ≡ no_state }
     {
         self.variables.clear();
@@ -55,14 +55,14 @@ impl SsaTables {
     }
 
     /// Whether nothing is known.
-    pub fn is_empty(&self) -> bool
+    pub(crate) fn is_empty(&self) -> bool
         ensures { IsTrue result ↔ (self.now ≡ no_state) }
     {
         self.variables.is_empty() && self.blocks.is_empty()
     }
 
     /// Makes a block known.
-    pub fn declare_block(&mut self, block: Block) -> Result<(), BuildError>
+    pub(crate) fn declare_block(&mut self, block: Block) -> Result<(), BuildError>
         ensures records { self.new.records ≡ self.old.records }
         ensures blocks { (b : ℕ) → sealed_of self.new b ≡ sealed_of self.old b }
         ensures predecessors { SamePredecessors self.old self.new }
@@ -73,7 +73,7 @@ impl SsaTables {
     }
 
     /// Puts a branch behind those that lead to a block.
-    pub fn declare_predecessor(&mut self, block: Block, branch: Inst) -> Result<(), BuildError>
+    pub(crate) fn declare_predecessor(&mut self, block: Block, branch: Inst) -> Result<(), BuildError>
         ensures ok { OnOk result (Declares self.old self.new block branch) }
         ensures err { OnErr result (SamePredecessors self.old self.new) }
         ensures records { self.new.records ≡ self.old.records }
@@ -84,7 +84,7 @@ impl SsaTables {
     }
 
     /// Takes a branch away from those that lead to a block; the others keep their order.
-    pub fn remove_predecessor(&mut self, block: Block, branch: Inst)
+    pub(crate) fn remove_predecessor(&mut self, block: Block, branch: Inst)
         requires { Stands branch (predecessors_of self.old block) }
         ensures removed { Removes self.old self.new block branch }
         ensures records { self.new.records ≡ self.old.records }
@@ -94,21 +94,21 @@ impl SsaTables {
     }
 
     /// The branches that lead to a block, in order.
-    pub fn predecessors(&self, block: Block) -> &[Inst]
+    pub(crate) fn predecessors(&self, block: Block) -> &[Inst]
         ensures { result.now ≡ predecessors_of self.now block }
     {
         self.blocks.predecessors(block)
     }
 
     /// Whether any branch leads to a block.
-    pub fn has_any_predecessors(&self, block: Block) -> bool
+    pub(crate) fn has_any_predecessors(&self, block: Block) -> bool
         ensures { IsTrue result ↔ (predecessors_of self.now block ≢ []) }
     {
         !self.blocks.predecessors(block).is_empty()
     }
 
     /// How many blocks are known, by their numbers from 0 on.
-    pub fn block_count(&self) -> usize
+    pub(crate) fn block_count(&self) -> usize
         ensures exact { result ≡ length self.now.blocks }
         ensures bounded { result < 2 ^ 32 }
     {
@@ -116,14 +116,14 @@ impl SsaTables {
     }
 
     /// Whether a block is sealed.
-    pub fn is_sealed(&self, block: Block) -> bool
+    pub(crate) fn is_sealed(&self, block: Block) -> bool
         ensures { result ≡ is_yes (sealed_of self.now block) }
     {
         self.blocks.is_sealed(block)
     }
 
     /// Whether a block is unsealed or nothing leads to it.
-    pub fn is_local(&self, block: Block) -> bool
+    pub(crate) fn is_local(&self, block: Block) -> bool
         ensures yes { IsTrue result → is_yes (sealed_of self.now block) ≡ true → predecessors_of self.now block ≡ [] }
         ensures no { result ≡ false → (is_yes (sealed_of self.now block) ≡ true) × (predecessors_of self.now block ≢ []) }
     {
@@ -131,21 +131,21 @@ impl SsaTables {
     }
 
     /// The record of a variable in a block.
-    pub fn record_at(&self, variable: Variable, block: Block) -> Option<Value>
+    pub(crate) fn record_at(&self, variable: Variable, block: Block) -> Option<Value>
         ensures { result ≡ record_of self.now variable block }
     {
         self.variables.get(variable, block)
     }
 
     /// How many look-ups of a variable in the predecessors of a block began.
-    pub fn lookups(&self, variable: Variable, block: Block) -> u32
+    pub(crate) fn lookups(&self, variable: Variable, block: Block) -> u32
         ensures { result ≡ lookups_of self.now variable block }
     {
         self.variables.lookups(variable, block)
     }
 
     /// Records a value for a variable in a block. After an error each record is as it was.
-    pub fn record(
+    pub(crate) fn record(
         &mut self,
         variable: Variable,
         block: Block,
@@ -161,7 +161,7 @@ impl SsaTables {
     }
 
     /// Counts a look-up of a variable in the predecessors of a block.
-    pub fn count_lookup(&mut self, variable: Variable, block: Block) -> Result<(), BuildError>
+    pub(crate) fn count_lookup(&mut self, variable: Variable, block: Block) -> Result<(), BuildError>
         ensures ok { OnOk result (CountsLookup self.old self.new variable block) }
         ensures err { OnErr result (SameLookups self.old self.new) }
         ensures records { SameRecords self.old self.new }
@@ -172,7 +172,7 @@ impl SsaTables {
     }
 
     /// Puts a parameter behind those that wait in an unsealed block.
-    pub fn wait(&mut self, block: Block, variable: Variable, param: Value) -> Result<(), BuildError>
+    pub(crate) fn wait(&mut self, block: Block, variable: Variable, param: Value) -> Result<(), BuildError>
         requires { is_yes (sealed_of self.old block) ≡ false }
         ensures ok { OnOk result ((b : ℕ) → sealed_of self.new b ≡ (if b == block then Sealed.No (pending_of (sealed_of self.old b) ++ record { variable = variable; param = param } ∷ []) else sealed_of self.old b)) }
         ensures err { OnErr result (SameBlocks self.old self.new) }
@@ -184,7 +184,7 @@ impl SsaTables {
     }
 
     /// Seals a block, and answers the parameters that waited in it.
-    pub fn seal(&mut self, block: Block) -> Result<PendingList, BuildError>
+    pub(crate) fn seal(&mut self, block: Block) -> Result<PendingList, BuildError>
         ensures pending { IfOk result (λ l. l ≡ pending_of (sealed_of self.old block)) }
         ensures ok { OnOk result (Seals self.old self.new block) }
         ensures err { OnErr result (SameBlocks self.old self.new) }
@@ -196,7 +196,7 @@ impl SsaTables {
     }
 
     /// The block from which alone control comes to a sealed block, by one branch.
-    pub fn single_predecessor(&self, func: &Function, block: Block) -> Option<Block>
+    pub(crate) fn single_predecessor(&self, func: &Function, block: Block) -> Option<Block>
         requires { Named func.now self.now }
         ensures exact { result ≡ single_predecessor func.now self.now block }
         ensures exists { IfSome result (λ b. b < length func.now.blocks) }
@@ -216,7 +216,7 @@ impl SsaTables {
     /// Walks from a block along single predecessors, as long as the variable isn't recorded and no block
     /// comes again, and answers the block that is reached. `passed` holds the blocks passed then. The
     /// only error is `Memory`.
-    pub fn walk(
+    pub(crate) fn walk(
         &self,
         func: &Function,
         variable: Variable,
@@ -248,7 +248,7 @@ impl SsaTables {
     /// Records a value for a variable in the blocks passed, up to the first `from` among them.
     ///
     /// The only error is `Memory`. Some blocks may have the record then.
-    pub fn copy_record(
+    pub(crate) fn copy_record(
         &mut self,
         variable: Variable,
         value: Value,
@@ -273,7 +273,7 @@ impl SsaTables {
     }
 
     /// Begins the look-up of a variable in the predecessors of a block, for a parameter of it.
-    pub fn begin_look_up(
+    pub(crate) fn begin_look_up(
         &mut self,
         variable: Variable,
         param: Value,
@@ -294,7 +294,7 @@ impl SsaTables {
     #[tactic(auto, using(crate::proofs::Naming::naming_rules))]
     /// Appends a parameter for a variable to a block that doesn't record it, and records it. In an
     /// unsealed block it waits, and is a result; in a sealed one the look-up in its predecessors begins.
-    pub fn add_parameter(
+    pub(crate) fn add_parameter(
         &mut self,
         func: &mut Function,
         variable: Variable,
@@ -332,7 +332,7 @@ impl SsaTables {
     }
 
     /// The record of a variable in a block, which is a result then, or a new parameter of the block.
-    pub fn record_or_parameter(
+    pub(crate) fn record_or_parameter(
         &mut self,
         func: &mut Function,
         variable: Variable,

@@ -45,7 +45,7 @@ impl Model for Records {
 
 impl Records {
     /// No records.
-    pub fn new(alloc: Global) -> Self
+    pub(crate) fn new(alloc: Global) -> Self
         ensures { result ≡ [] }
     {
         Records {
@@ -54,7 +54,7 @@ impl Records {
     }
 
     /// The cell of a block.
-    pub fn get(&self, block: Block) -> Cell
+    pub(crate) fn get(&self, block: Block) -> Cell
         ensures { result ≡ slice_index_or self.now block no_cell }
     {
         match self.cells.get(block.index()) {
@@ -64,7 +64,7 @@ impl Records {
     }
 
     /// Sets the cell of a block. After an error each cell is as it was.
-    pub fn set(&mut self, block: Block, cell: Cell) -> Result<(), BuildError>
+    pub(crate) fn set(&mut self, block: Block, cell: Cell) -> Result<(), BuildError>
         ensures ok { OnOk result ((b : ℕ) → slice_index_or self.new b no_cell ≡ (if b == block then cell else slice_index_or self.old b no_cell)) }
         ensures err { OnErr result ((b : ℕ) → slice_index_or self.new b no_cell ≡ slice_index_or self.old b no_cell) }
         ensures only_memory { OnErr result (result ≡ Err BuildError.Memory) }
@@ -102,7 +102,7 @@ impl Model for PendingList {
 
 impl PendingList {
     /// No parameter waits.
-    pub fn new(alloc: Global) -> Self
+    pub(crate) fn new(alloc: Global) -> Self
         ensures { result ≡ [] }
     {
         PendingList {
@@ -111,14 +111,14 @@ impl PendingList {
     }
 
     /// The parameters that wait, in order.
-    pub fn as_slice(&self) -> &[Pending]
+    pub(crate) fn as_slice(&self) -> &[Pending]
         ensures { result.now ≡ self.now }
     {
         self.items.as_slice()
     }
 
     /// Puts a parameter behind the others. After an error the list is as it was.
-    pub fn push(&mut self, variable: Variable, param: Value) -> Result<(), BuildError>
+    pub(crate) fn push(&mut self, variable: Variable, param: Value) -> Result<(), BuildError>
         ensures ok { OnOk result (self.new ≡ self.old ++ record { variable = variable; param = param } ∷ []) }
         ensures err { OnErr result (self.new ≡ self.old) }
         ensures only_memory { OnErr result (result ≡ Err BuildError.Memory) }
@@ -145,7 +145,7 @@ impl Model for VariableTable {
 
 impl VariableTable {
     /// No records.
-    pub fn new(alloc: Global) -> Self
+    pub(crate) fn new(alloc: Global) -> Self
         ensures { result ≡ [] }
     {
         VariableTable {
@@ -154,14 +154,14 @@ impl VariableTable {
     }
 
     /// Forgets all records, and keeps the memory.
-    pub fn clear(&mut self)
+    pub(crate) fn clear(&mut self)
         ensures { self.new ≡ [] }
     {
         self.rows.clear();
     }
 
     /// Whether nothing was ever recorded.
-    pub fn is_empty(&self) -> bool
+    pub(crate) fn is_empty(&self) -> bool
         ensures { IsTrue result ↔ (self.now ≡ []) }
     {
         self.rows.is_empty()
@@ -178,14 +178,14 @@ impl VariableTable {
     }
 
     /// The record of a variable in a block.
-    pub fn get(&self, variable: Variable, block: Block) -> Option<Value>
+    pub(crate) fn get(&self, variable: Variable, block: Block) -> Option<Value>
         ensures { result ≡ record_at self.now variable block }
     {
         self.cell(variable, block).value
     }
 
     /// How many look-ups of a variable in a block's predecessors began.
-    pub fn lookups(&self, variable: Variable, block: Block) -> u32
+    pub(crate) fn lookups(&self, variable: Variable, block: Block) -> u32
         ensures { result ≡ lookups_at self.now variable block }
     {
         self.cell(variable, block).lookups
@@ -208,7 +208,7 @@ impl VariableTable {
     }
 
     /// Records a value for a variable in a block. After an error each record is as it was.
-    pub fn set(&mut self, variable: Variable, block: Block, value: Value) -> Result<(), BuildError>
+    pub(crate) fn set(&mut self, variable: Variable, block: Block, value: Value) -> Result<(), BuildError>
         ensures ok { OnOk result ((v b : ℕ) → record_at self.new v b ≡ (if v == variable && b == block then Some value else record_at self.old v b)) }
         ensures lookups { (v b : ℕ) → lookups_at self.new v b ≡ lookups_at self.old v b }
         ensures err { OnErr result ((v b : ℕ) → record_at self.new v b ≡ record_at self.old v b) }
@@ -223,7 +223,7 @@ impl VariableTable {
     }
 
     /// Counts a look-up of a variable in a block's predecessors. After an error each count is as it was.
-    pub fn count_lookup(&mut self, variable: Variable, block: Block) -> Result<(), BuildError>
+    pub(crate) fn count_lookup(&mut self, variable: Variable, block: Block) -> Result<(), BuildError>
         ensures records { (v b : ℕ) → record_at self.new v b ≡ record_at self.old v b }
         ensures ok { OnOk result ((v b : ℕ) → lookups_at self.new v b ≡ (if v == variable && b == block then one_more (lookups_at self.old v b) else lookups_at self.old v b)) }
         ensures err { OnErr result ((v b : ℕ) → lookups_at self.new v b ≡ lookups_at self.old v b) }
@@ -260,7 +260,7 @@ impl Model for Predecessors {
 
 impl Predecessors {
     /// No branch.
-    pub fn new(alloc: Global) -> Self
+    pub(crate) fn new(alloc: Global) -> Self
         ensures { result ≡ [] }
     {
         Predecessors {
@@ -269,14 +269,14 @@ impl Predecessors {
     }
 
     /// The branches, in order.
-    pub fn as_slice(&self) -> &[Inst]
+    pub(crate) fn as_slice(&self) -> &[Inst]
         ensures { result.now ≡ self.now }
     {
         self.branches.as_slice()
     }
 
     /// Puts a branch behind the others. After an error the list is as it was.
-    pub fn push(&mut self, branch: Inst) -> Result<(), BuildError>
+    pub(crate) fn push(&mut self, branch: Inst) -> Result<(), BuildError>
         ensures ok { OnOk result (self.new ≡ self.old ++ branch ∷ []) }
         ensures err { OnErr result (self.new ≡ self.old) }
         ensures only_memory { OnErr result (result ≡ Err BuildError.Memory) }
@@ -302,7 +302,7 @@ impl Predecessors {
 
     /// Takes the first entry of this branch away, which stands in the list; those behind it move up.
     #[tactic(auto, using(clif_ir::proofs::Reading::place_rules))]
-    pub fn remove(&mut self, branch: Inst)
+    pub(crate) fn remove(&mut self, branch: Inst)
         requires { Stands branch self.old }
         ensures { self.new ≡ without branch self.old }
     {
@@ -340,7 +340,7 @@ impl Model for BlockTable {
 
 impl BlockTable {
     /// No block.
-    pub fn new(alloc: Global) -> Self
+    pub(crate) fn new(alloc: Global) -> Self
         ensures { result ≡ [] }
     {
         BlockTable {
@@ -349,21 +349,21 @@ impl BlockTable {
     }
 
     /// Forgets all blocks, and keeps the memory.
-    pub fn clear(&mut self)
+    pub(crate) fn clear(&mut self)
         ensures { self.new ≡ [] }
     {
         self.blocks.clear();
     }
 
     /// Whether no block was ever declared.
-    pub fn is_empty(&self) -> bool
+    pub(crate) fn is_empty(&self) -> bool
         ensures { IsTrue result ↔ (self.now ≡ []) }
     {
         self.blocks.is_empty()
     }
 
     /// How many blocks there is room for.
-    pub fn len(&self) -> usize
+    pub(crate) fn len(&self) -> usize
         ensures exact { result ≡ length self.now }
         ensures bounded { result < 2 ^ 32 }
     {
@@ -371,7 +371,7 @@ impl BlockTable {
     }
 
     /// Whether a block is sealed.
-    pub fn is_sealed(&self, block: Block) -> bool
+    pub(crate) fn is_sealed(&self, block: Block) -> bool
         ensures { result ≡ is_yes (sealed_at self.now block) }
     {
         match self.blocks.get(block.index()) {
@@ -381,7 +381,7 @@ impl BlockTable {
     }
 
     /// The branches that lead to a block.
-    pub fn predecessors(&self, block: Block) -> &[Inst]
+    pub(crate) fn predecessors(&self, block: Block) -> &[Inst]
         ensures { result.now ≡ predecessors_at self.now block }
     {
         match self.blocks.get(block.index()) {
@@ -391,7 +391,7 @@ impl BlockTable {
     }
 
     /// Makes room for a block. What is known of each block stays.
-    pub fn declare(&mut self, block: Block) -> Result<(), BuildError>
+    pub(crate) fn declare(&mut self, block: Block) -> Result<(), BuildError>
         ensures same { (b : ℕ) → known_at self.new b ≡ known_at self.old b }
         ensures ok { OnOk result (block < length self.new) }
         ensures only_memory { OnErr result (result ≡ Err BuildError.Memory) }
@@ -410,7 +410,7 @@ impl BlockTable {
     }
 
     /// Puts a branch behind those that lead to a block.
-    pub fn declare_predecessor(&mut self, block: Block, branch: Inst) -> Result<(), BuildError>
+    pub(crate) fn declare_predecessor(&mut self, block: Block, branch: Inst) -> Result<(), BuildError>
         ensures sealed { (b : ℕ) → sealed_at self.new b ≡ sealed_at self.old b }
         ensures ok { OnOk result ((b : ℕ) → predecessors_at self.new b ≡ (if b == block then predecessors_at self.old b ++ branch ∷ [] else predecessors_at self.old b)) }
         ensures err { OnErr result ((b : ℕ) → predecessors_at self.new b ≡ predecessors_at self.old b) }
@@ -421,7 +421,7 @@ impl BlockTable {
     }
 
     /// Takes a branch away from those that lead to a block; the others keep their order.
-    pub fn remove_predecessor(&mut self, block: Block, branch: Inst)
+    pub(crate) fn remove_predecessor(&mut self, block: Block, branch: Inst)
         requires { Stands branch (predecessors_at self.old block) }
         ensures sealed { (b : ℕ) → sealed_at self.new b ≡ sealed_at self.old b }
         ensures ok { (b : ℕ) → predecessors_at self.new b ≡ (if b == block then without branch (predecessors_at self.old b) else predecessors_at self.old b) }
@@ -432,7 +432,7 @@ impl BlockTable {
     }
 
     /// Puts a parameter behind those that wait in an unsealed block.
-    pub fn wait(&mut self, block: Block, variable: Variable, param: Value) -> Result<(), BuildError>
+    pub(crate) fn wait(&mut self, block: Block, variable: Variable, param: Value) -> Result<(), BuildError>
         requires { is_yes (sealed_at self.old block) ≡ false }
         ensures ok { OnOk result ((b : ℕ) → sealed_at self.new b ≡ (if b == block then Sealed.No (pending_of (sealed_at self.old b) ++ record { variable = variable; param = param } ∷ []) else sealed_at self.old b)) }
         ensures err { OnErr result ((b : ℕ) → sealed_at self.new b ≡ sealed_at self.old b) }
@@ -447,7 +447,7 @@ impl BlockTable {
     }
 
     /// Seals a block, and answers the parameters that waited in it.
-    pub fn seal(&mut self, block: Block) -> Result<PendingList, BuildError>
+    pub(crate) fn seal(&mut self, block: Block) -> Result<PendingList, BuildError>
         ensures pending { IfOk result (λ l. l ≡ pending_of (sealed_at self.old block)) }
         ensures ok { OnOk result ((b : ℕ) → sealed_at self.new b ≡ (if b == block then Sealed.Yes else sealed_at self.old b)) }
         ensures known { OnOk result (block < length self.new) }
