@@ -45,3 +45,11 @@ pub mod Counts
 pub mod Public
 pub mod Alongside
 pub mod Recorded
+pub mod Structuring
+pub mod StructuredSteps
+pub mod StructuredEnds
+pub mod StructuredMachine
+pub mod StructuredFinish
+pub mod StructuredLaws
+pub mod StructuredUses
+pub mod StructuredPublic

@@ -1,5 +1,5 @@
 //! The builder of SSA form.
-ghost use Rattle.std.specs.Prelude.{◌≡◌, ◌≢◌, ◌<◌, ◌==◌, ◌↔◌, ◌++◌, List, [], ◌∷◌, ℕ, IsTrue, Some, None, true, false, length, OnOk, OnErr, IfOk, IfSome, Contains, ◌+◌};
+ghost use Rattle.std.specs.Prelude.{◌≡◌, ◌≢◌, ◌<◌, ◌==◌, ◌↔◌, ◌++◌, List, [], ◌∷◌, ℕ, IsTrue, Some, None, true, false, length, slice_get, OnOk, OnErr, IfOk, IfSome, Contains, ◌+◌};
 ghost use Rattle.clif_ir.specs.Body.{Body, block_at, value_at};
 ghost use Rattle.clif_ir.specs.Consistent.{Stands};
 ghost use Rattle.clif_ssa.specs.Limits.{IsFull, Takes};
@@ -7,9 +7,10 @@ ghost use Rattle.clif_ssa.specs.Tables.{is_yes, pending_of};
 ghost use Rattle.clif_ssa.specs.declared.tables.Pending.{Pending};
 ghost use Rattle.clif_paths.specs.Places.{start};
 ghost use Rattle.clif_paths.specs.Blocks.{Blocks, last_place, with_write};
-ghost use Rattle.clif_ssa.specs.Sound.{Describes, EdgesCount, Keeps, KeepsAndKnows, entry_of, has_entry};
+ghost use Rattle.clif_ssa.specs.Sound.{Describes, EdgesCount, args_of, edge_target, edges_at, Keeps, KeepsAndKnows, entry_of, has_entry};
 ghost use Rattle.clif_ssa.specs.SoundLaws.{DescribesSoundly, IsOpen};
 ghost use Rattle.clif_ssa.specs.Structure.{HasRecordOf, LosesWaiting, NothingStray, Remembers};
+ghost use Rattle.clif_ssa.specs.Structured.{Callers, HasType, Structured, VariableTypes};
 ghost use Rattle.clif_ssa.specs.LookUp.{branch_block, no_look_up, LooksUp, MakesCall, UsesVariable, CompletesParameter};
 ghost use Rattle.clif_ssa.specs.Running.{stage, found, with_call, CallsFit, CompletesAll, MakesAll};
 ghost use Rattle.clif_ssa.specs.Sealing.{SealsOne, SealsLocally, SealsByLookUp};
@@ -79,6 +80,7 @@ impl SSABuilder {
         ensures described { (own : ℕ → List ℕ) (f : Body) (tables : Blocks) → Describes own f self.old [] tables → Describes own f self.new [] tables }
         ensures remembers { (f : Body) (x b : ℕ) → Remembers x b f self.old f self.new }
         ensures nothing_stray { (own : ℕ → List ℕ) (f : Body) → NothingStray own f self.old → NothingStray own f self.new }
+        ensures structured { (types : VariableTypes) (callers : Callers) (f : Body) → Structured types callers f self.old [] → Structured types callers f self.new [] }
         ensures known { OnOk result (block < length self.new.blocks) }
         ensures only_memory { OnErr result (result ≡ Err BuildError.Memory) }
     {
@@ -94,6 +96,7 @@ impl SSABuilder {
         ensures records { self.new.records ≡ self.old.records }
         ensures blocks { SameBlocks self.old self.new }
         ensures described { (own : ℕ → List ℕ) (f : Body) (tables : Blocks) → inst < length f.insts → has_entry f.layout ≡ true → entry_of f ≢ Some block → ((j : ℕ) → Contains (predecessors_of self.old block) j → branch_block f j ≢ branch_block f inst) → EdgesCount f tables block inst → DescribesSoundly own f self.old tables → OnOk result (DescribesSoundly own f self.new tables) }
+        ensures structured { (types : VariableTypes) (callers : Callers) (f : Body) → inst < length f.insts → ((j : ℕ) → Contains (predecessors_of self.old block) j → j ≢ inst) → ((k : ℕ) → edge_target f inst k ≡ Some block → args_of (slice_get (edges_at f inst) k) ≡ callers.passed inst k) → Structured types callers f self.old [] → OnOk result (Structured types callers f self.new []) }
         ensures only_memory { OnErr result (result ≡ Err BuildError.Memory) }
     {
         self.tables.declare_predecessor(block, inst)
@@ -108,6 +111,7 @@ impl SSABuilder {
         ensures records { self.new.records ≡ self.old.records }
         ensures blocks { SameBlocks self.old self.new }
         ensures described { (own : ℕ → List ℕ) (f : Body) (tables : Blocks) → DescribesSoundly own f self.old tables → DescribesSoundly own f self.new tables }
+        ensures structured { (types : VariableTypes) (callers : Callers) (f : Body) → Structured types callers f self.old [] → Structured types callers f self.new [] }
     {
         self.tables.remove_predecessor(block, inst);
     }
@@ -147,6 +151,7 @@ impl SSABuilder {
         ensures keeps { (own : ℕ → List ℕ) (f : Body) (tables : Blocks) (n : ℕ) → DescribesSoundly own f self.old tables → IsOpen f self.old block → tables.answer n ≡ value → (tables.naming n).home ≢ start → tables.assigned (last_place tables block) variable ≡ None → OnOk result (DescribesSoundly own f self.new (with_write tables block variable n)) }
         ensures remembers { (f : Body) (x b : ℕ) → (x ≡ variable → b ≡ block → ⊥) → OnOk result (Remembers x b f self.old f self.new) }
         ensures nothing_stray { (own : ℕ → List ℕ) (f : Body) → NothingStray own f self.old → NothingStray own f self.new }
+        ensures structured { (types : VariableTypes) (callers : Callers) (f : Body) → HasType f value (types variable) → Structured types callers f self.old [] → OnOk result (Structured types callers f self.new []) }
         ensures only_memory { OnErr result (result ≡ Err BuildError.Memory) }
     {
         self.tables.record(variable, block, value)
@@ -181,6 +186,7 @@ impl SSABuilder {
         ensures remembers { (x b : ℕ) → OnOk result (Remembers x b func.old self.old func.new self.new) }
         ensures parameters { IsLocal self.old variable block → is_yes (sealed_of self.old block) ≡ true → (b : ℕ) → OnOk result ((block_at func.new b).params ≡ (block_at func.old b).params) }
         ensures nothing_stray { (own : ℕ → List ℕ) → IsLocal self.old variable block → NothingStray own func.old self.old → OnOk result (NothingStray own func.new self.new) }
+        ensures structured { (types : VariableTypes) (callers : Callers) → ty ≡ types variable → Structured types callers func.old self.old [] → IfOk result (λ r. Structured types callers func.new self.new [] × HasType func.new r.0 ty) }
         ensures predecessors { SamePredecessors self.old self.new }
         ensures stay { RecordsStay self.old self.new }
         ensures flags { SealedStays self.old self.new }
@@ -461,6 +467,7 @@ impl SSABuilder {
         ensures remembers { (x b : ℕ) → OnOk result (Remembers x b func.old self.old func.new self.new) }
         ensures parameters { predecessors_of self.old block ≡ [] → OnOk result (LosesWaiting func.old func.new (pending_of (sealed_of self.old block))) }
         ensures nothing_stray { (own : ℕ → List ℕ) → predecessors_of self.old block ≡ [] → NothingStray own func.old self.old → OnOk result (NothingStray own func.new self.new) }
+        ensures structured { (types : VariableTypes) (callers : Callers) → Structured types callers func.old self.old [] → OnOk result (Structured types callers func.new self.new []) }
         ensures completes { predecessors_of self.old block ≢ [] → IfOk result (λ r. SealsByLookUp func.old self.old func.new self.new block r.instructions_added_to_blocks.items) }
         ensures predecessors { SamePredecessors self.old self.new }
         ensures stay { RecordsStay self.old self.new }
@@ -482,6 +489,7 @@ impl SSABuilder {
         ensures sealed { OnOk result ((b : ℕ) → b < length self.old.blocks → is_yes (sealed_of self.new b) ≡ true) }
         ensures keeps { (own : ℕ → List ℕ) (tables : Blocks) → DescribesSoundly own func.old self.old tables → OnOk result (Keeps own tables func.new self.new) }
         ensures remembers { (x b : ℕ) → OnOk result (Remembers x b func.old self.old func.new self.new) }
+        ensures structured { (types : VariableTypes) (callers : Callers) → Structured types callers func.old self.old [] → OnOk result (Structured types callers func.new self.new []) }
         ensures predecessors { SamePredecessors self.old self.new }
         ensures stay { RecordsStay self.old self.new }
         ensures more { HasMore func.old func.new }

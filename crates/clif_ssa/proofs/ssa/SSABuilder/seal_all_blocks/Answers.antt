@@ -6,6 +6,7 @@ use Rattle.clif_ssa.proofs.Naming.{has_more, more-then}
 use Rattle.clif_ssa.proofs.Alongside.{seal_remembers, remembers_then}
 use Rattle.clif_ssa.proofs.Losing.{same_remembers}
 use Rattle.clif_ssa.proofs.Public.{seal_keeps, keeps_then, keeps_itself}
+use Rattle.clif_ssa.proofs.StructuredPublic.{seal_structured}
 use Rattle.clif_ssa.proofs.Waited.{named-kept, sealed-below}
 use Rattle.clif_ssa.proofs.ssa.SSABuilder.seal_all_blocks.Goals as goal
 
@@ -25,6 +26,7 @@ loop-number-init c = record {
   more = has_more c.args.func.now;
   keeps = λ own tables both. keeps_itself own tables c.args.func.now c.args.self.now both;
   remembers = λ x b. same_remembers x b c.args.func.now c.args.self.now c.args.self.now refl;
+  structured = λ types callers before. before;
 }
 
 pub loop-number-preserved : goal.loop-number-preserved
@@ -49,4 +51,7 @@ loop-number-preserved c =
           remembers_then x b c.args.func.now c.loop-number.func c.seal_one_block.new.func c.args.self.now c.loop-number.self c.seal_one_block.new.self (c.loop-number.invariant.remembers x b)
           (seal_remembers x b c.loop-number.func c.seal_one_block.new.func c.loop-number.self c.seal_one_block.new.self c.new-block.result (Ok c.in_ok-told.told)
           c.law_consistent.ensures c.loop-number.invariant.named c.seal_one_block.ensures.stay c.in_ok-told.ensures.local c.in_ok-told.ensures.completes);
+      structured = λ types callers before.
+          seal_structured types callers c.loop-number.func c.seal_one_block.new.func c.loop-number.self c.seal_one_block.new.self c.new-block.result (Ok c.in_ok-told.told)
+          c.law_consistent.ensures (c.loop-number.invariant.structured types callers before) c.seal_one_block.ensures.predecessors c.in_ok-told.ensures.local c.in_ok-told.ensures.completes;
     }

@@ -1,10 +1,11 @@
-use Rattle.std.proofs.Common.{◌≡◌, ◌<◌, ℕ, List, true}
+use Rattle.std.proofs.Common.{◌≡◌, ◌<◌, ℕ, List, [], true}
 use Rattle.clif_paths.specs.Blocks.{Blocks}
 use Rattle.clif_ssa.specs.Sound.{Keeps}
 use Rattle.clif_ssa.specs.SoundLaws.{DescribesSoundly}
 use Rattle.clif_ssa.specs.Tables.{is_yes}
 use Rattle.clif_ssa.specs.Ssa.{sealed_of, SamePredecessors, RecordsStay, HasMore, Named, NamesExist}
 use Rattle.clif_ssa.specs.Structure.{Remembers}
+use Rattle.clif_ssa.specs.Structured.{Callers, Structured, VariableTypes}
 use Rattle.clif_ssa.proofs.ssa.SSABuilder.seal_all_blocks.Given as goal
 
 abbrev pub invariant-loop-number : goal.invariant-loop-number
@@ -17,4 +18,5 @@ invariant-loop-number l = record {
   more : HasMore l.initial.func l.func;
   keeps : (own : ℕ → List ℕ) (tables : Blocks) → DescribesSoundly own l.initial.func l.initial.self tables → Keeps own tables l.func l.self;
   remembers : (x b : ℕ) → Remembers x b l.initial.func l.initial.self l.func l.self;
+  structured : (types : VariableTypes) (callers : Callers) → Structured types callers l.initial.func l.initial.self [] → Structured types callers l.func l.self [];
 }
