@@ -19,7 +19,7 @@ use Rattle.clif_ssa.proofs.Housing.{Housed, place_behind, place_apart, length_wi
 use Rattle.clif_ssa.proofs.Ordering.{stands_place, place_without_before}
 use Rattle.clif_ssa.proofs.Zeroing.{CanAlias, alias_described, alias_firm, alias_params, alias_home_other, alias_home_same}
 
-drop_can : (f : Body) (v w b : ℕ) → Firm f → param_home f v ≡ Some b → w < length f.values → resolved f w ≡ w → w ≢ v → CanAlias f v w b
+pub drop_can : (f : Body) (v w b : ℕ) → Firm f → param_home f v ≡ Some b → w < length f.values → resolved f w ≡ w → w ≢ v → CanAlias f v w b
 drop_can f v w b firm home exists ends apart = record { firm = firm; parameter = home; own_end = ends; exists = exists; apart = apart }
 
 pub drop_described : (own : Own) (f : Body) (s : SsaState) (p : Pending) (ps : List Pending) (tables : Blocks) (w b : ℕ)

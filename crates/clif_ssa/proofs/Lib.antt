@@ -49,3 +49,11 @@ pub mod Alongside
 pub mod Recorded
 pub mod CountedOnce
 pub mod Answered
+pub mod Structuring
+pub mod StructuredSteps
+pub mod StructuredEnds
+pub mod StructuredMachine
+pub mod StructuredFinish
+pub mod StructuredLaws
+pub mod StructuredUses
+pub mod StructuredPublic

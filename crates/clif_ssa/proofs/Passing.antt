@@ -41,7 +41,7 @@ targets_same : (b v : ℕ) (edges : List BlockCall) → targets (with_argument_t
 targets_same b v [] = refl
 targets_same b v (edge ∷ edges) = ap (λ c. c ∷ targets (with_argument_to b v edges)) (appended_block b v edge) ∙ ap (λ cs. edge.block ∷ cs) (targets_same b v edges)
 
-args_more : (b v : ℕ) (edges : List BlockCall) (k : ℕ) → slice_get (targets edges) k ≡ Some b
+pub args_more : (b v : ℕ) (edges : List BlockCall) (k : ℕ) → slice_get (targets edges) k ≡ Some b
     → args_of (slice_get (with_argument_to b v edges) k) ≡ args_of (slice_get edges k) ++ Value v ∷ []
 args_more b v [] k leads = absurd (none_some leads)
   where
@@ -51,7 +51,7 @@ args_more b v (edge ∷ edges) zero leads =
     ap (λ (e : BlockCall). e.args) (if_true edge.block b (record edge { args = edge.args ++ Value v ∷ [] }) edge (same_some leads))
 args_more b v (edge ∷ edges) (suc k) leads = args_more b v edges k leads
 
-args_same : (b v : ℕ) (edges : List BlockCall) (k : ℕ) → slice_get (targets edges) k ≢ Some b
+pub args_same : (b v : ℕ) (edges : List BlockCall) (k : ℕ) → slice_get (targets edges) k ≢ Some b
     → args_of (slice_get (with_argument_to b v edges) k) ≡ args_of (slice_get edges k)
 args_same b v [] k apart = refl
 args_same b v (edge ∷ edges) zero apart =
@@ -117,10 +117,10 @@ more_node f i b v = record (inst_at f i) { shape = with_argument b v (inst_at f 
 inst_here : (f : Body) (i b v : ℕ) → i < length f.insts → inst_at (with_branch_argument f i b v) i ≡ more_node f i b v
 inst_here f i b v within = at_set (λ m. m ≡ more_node f i b v) f.insts i (more_node f i b v) i no_inst within (λ _. refl) (λ differs. absurd (differs refl))
 
-inst_other : (f : Body) (i b v j : ℕ) → i < length f.insts → j ≢ i → inst_at (with_branch_argument f i b v) j ≡ inst_at f j
+pub inst_other : (f : Body) (i b v j : ℕ) → i < length f.insts → j ≢ i → inst_at (with_branch_argument f i b v) j ≡ inst_at f j
 inst_other f i b v j within other = at_set (λ m. m ≡ inst_at f j) f.insts i (more_node f i b v) j no_inst within (λ same. absurd (other same)) (λ _. refl)
 
-edges_here : (f : Body) (i b v : ℕ) → i < length f.insts → edges_at (with_branch_argument f i b v) i ≡ with_argument_to b v (edges_at f i)
+pub edges_here : (f : Body) (i b v : ℕ) → i < length f.insts → edges_at (with_branch_argument f i b v) i ≡ with_argument_to b v (edges_at f i)
 edges_here f i b v within = ap (λ (n : InstNode). destinations n.shape) (inst_here f i b v within) ∙ destinations-with_argument b v (inst_at f i).shape
 
 pub one_passes : (f : Body) (i b v : ℕ) → i < length f.insts → Passing b f (with_branch_argument f i b v)
@@ -194,7 +194,7 @@ contains_first i is = (0, omega arith, refl)
 abbrev pub AllExist : Body → List ℕ → Type 0
 AllExist f branches = (j : ℕ) → Contains branches j → j < length f.insts
 
-exist_then : (f g : Body) (i : ℕ) (branches : List ℕ) → length g.insts ≡ length f.insts → AllExist f (i ∷ branches) → AllExist g branches
+pub exist_then : (f g : Body) (i : ℕ) (branches : List ℕ) → length g.insts ≡ length f.insts → AllExist f (i ∷ branches) → AllExist g branches
 exist_then f g i branches count exist j here = let old : j < length f.insts = exist j (contains_more i branches j here) in omega (arith, old, count)
 
 pub arguments_pass : (branches : List ℕ) (values : List ℕ) (f : Body) (b : ℕ) → AllExist f branches → Passing b f (with_arguments f b branches values)
@@ -206,7 +206,7 @@ arguments_pass (i ∷ branches) (v ∷ values) f b exist =
     (arguments_pass branches values (with_branch_argument f i b v) b (exist_then f (with_branch_argument f i b v) i branches first.count exist))
 
 -- a branch that isn't one of them stays as it is
-others_stay : (branches : List ℕ) (values : List ℕ) (f : Body) (b j : ℕ) → AllExist f branches → (Contains branches j → ⊥)
+pub others_stay : (branches : List ℕ) (values : List ℕ) (f : Body) (b j : ℕ) → AllExist f branches → (Contains branches j → ⊥)
     → inst_at (with_arguments f b branches values) j ≡ inst_at f j
 others_stay [] values f b j exist apart = refl
 others_stay (i ∷ branches) [] f b j exist apart = refl

@@ -48,15 +48,15 @@ pub record OnlyNeeded (own : ℕ → List ℕ) (f : Body) : Type 0 where
   pub zeros : (b : ℕ) → HasNeededZeros f b (own b)
 
 -- the second function has what the first has, and maybe more behind it
-record Longer (f g : Body) : Type 0 where
-  values_more : length f.values ≤ length g.values
-  insts_more : length f.insts ≤ length g.insts
-  inst_same : (i : ℕ) → i < length f.insts → inst_at g i ≡ inst_at f i
-  types_same : (v : ℕ) → v < length f.values → (value_at g v).ty ≡ (value_at f v).ty
-  home_same : (v : ℕ) → v < length f.values → param_home f v ≡ None → param_home g v ≡ None
+pub record Longer (f g : Body) : Type 0 where
+  pub values_more : length f.values ≤ length g.values
+  pub insts_more : length f.insts ≤ length g.insts
+  pub inst_same : (i : ℕ) → i < length f.insts → inst_at g i ≡ inst_at f i
+  pub types_same : (v : ℕ) → v < length f.values → (value_at g v).ty ≡ (value_at f v).ty
+  pub home_same : (v : ℕ) → v < length f.values → param_home f v ≡ None → param_home g v ≡ None
 
 -- a zero that another value still stands for
-needed_kept : (f g : Body) (i : ℕ) → Longer f g → (old : IsNeededZero f i) → resolved g old.alias ≡ old.value → IsNeededZero g i
+pub needed_kept : (f g : Body) (i : ℕ) → Longer f g → (old : IsNeededZero f i) → resolved g old.alias ≡ old.value → IsNeededZero g i
 needed_kept f g i longer old ends =
     let same : inst_at g i ≡ inst_at f i = longer.inst_same i old.exists in
     record {
@@ -72,11 +72,11 @@ needed_kept f g i longer old ends =
     }
 
 -- where each value ends where it ended
-all_kept : (f g : Body) → Longer f g → ((v : ℕ) → resolved g v ≡ resolved f v) → (zeros : List ℕ) → AllByRecursion (IsNeededZero f) zeros → AllByRecursion (IsNeededZero g) zeros
+pub all_kept : (f g : Body) → Longer f g → ((v : ℕ) → resolved g v ≡ resolved f v) → (zeros : List ℕ) → AllByRecursion (IsNeededZero f) zeros → AllByRecursion (IsNeededZero g) zeros
 all_kept f g longer same [] all = tt
 all_kept f g longer same (i ∷ zeros) all = (needed_kept f g i longer all.0 (same all.0.alias ∙ all.0.stands_for), all_kept f g longer same zeros all.1)
 
-types_kept : (f g : Body) → Longer f g → Firm f → ((v : ℕ) → resolved g v ≡ resolved f v) → ((v : ℕ) → (value_at f (resolved f v)).ty ≡ (value_at f v).ty)
+pub types_kept : (f g : Body) → Longer f g → Firm f → ((v : ℕ) → resolved g v ≡ resolved f v) → ((v : ℕ) → (value_at f (resolved f v)).ty ≡ (value_at f v).ty)
     → (v : ℕ) → (value_at g (resolved g v)).ty ≡ (value_at g v).ty
 types_kept f g longer firm same types v =
     elim (below_or_not v (length f.values)) [
@@ -86,12 +86,12 @@ types_kept f g longer firm same types v =
       | inr past ↦ ap (λ w. (value_at g w).ty) (same v ∙ follow_end f.values (length f.values) v (past_alias f.values v past))
     ]
 
-value_old : (values more : List ValueNode) (v : ℕ) → v < length values → (slice_index_or (values ++ more) v no_value).ty ≡ (slice_index_or values v no_value).ty
+pub value_old : (values more : List ValueNode) (v : ℕ) → v < length values → (slice_index_or (values ++ more) v no_value).ty ≡ (slice_index_or values v no_value).ty
 value_old values more v here = ap (λ (n : ValueNode). n.ty) (get_or-append values more no_value v here)
 
 -- THE CALLER'S INSTRUCTIONS ---------------------------------------------------------------------------------------
 
-inst_longer : (f : Body) (b : ℕ) (shape : InstructionData) (types : List «Type») (loc : ℕ) → Longer f (with_inst f b Back shape types loc)
+pub inst_longer : (f : Body) (b : ℕ) (shape : InstructionData) (types : List «Type») (loc : ℕ) → Longer f (with_inst f b Back shape types loc)
 inst_longer f b shape types loc = record {
   values_more = inst_values_more f b Back shape types loc;
   insts_more = omega (arith, inst_insts_more f b Back shape types loc);
@@ -100,7 +100,7 @@ inst_longer f b shape types loc = record {
   home_same = λ v here none. inst_param_home f b Back shape types loc v ∙ none;
 }
 
-own_zeros : (own : ℕ → List ℕ) (f : Body) (b : ℕ) (shape : InstructionData) (types : List «Type») (loc : ℕ) → Firm f → b < length f.blocks
+pub own_zeros : (own : ℕ → List ℕ) (f : Body) (b : ℕ) (shape : InstructionData) (types : List «Type») (loc : ℕ) → Firm f → b < length f.blocks
     → (c : ℕ) → HasNeededZeros f c (own c) → HasNeededZeros (with_inst f b Back shape types loc) c (with_one_more own b (length f.insts) c)
 own_zeros own f b shape types loc firm there c has =
     let g : Body = with_inst f b Back shape types loc in
@@ -150,7 +150,7 @@ first_stray name signature = record {
     no_insts zero = refl
     no_insts (suc b) = refl
 
-inserted_needed : (own : ℕ → List ℕ) (f : Body) (b : ℕ) → OnlyNeeded own f → OnlyNeeded own (inserted_in f b)
+pub inserted_needed : (own : ℕ → List ℕ) (f : Body) (b : ℕ) → OnlyNeeded own f → OnlyNeeded own (inserted_in f b)
 inserted_needed own f b before = by (stands_in b f.layout)
   where
     longer : Longer f (with_layout f b)
@@ -176,10 +176,10 @@ inserted_stray own f s b before =
       zeros = needed.zeros;
     }
 
-block_longer : (f : Body) → Longer f (with_block f)
+pub block_longer : (f : Body) → Longer f (with_block f)
 block_longer f = record { values_more = omega arith; insts_more = omega arith; inst_same = λ i here. refl; types_same = λ v here. refl; home_same = λ v here none. none }
 
-new_block_insts : (blocks : List BlockNode) (b : ℕ) → (slice_index_or (blocks ++ empty_block ∷ []) b empty_block).insts ≡ (slice_index_or blocks b empty_block).insts
+pub new_block_insts : (blocks : List BlockNode) (b : ℕ) → (slice_index_or (blocks ++ empty_block ∷ []) b empty_block).insts ≡ (slice_index_or blocks b empty_block).insts
 new_block_insts [] zero = refl
 new_block_insts [] (suc zero) = refl
 new_block_insts [] (suc (suc b)) = refl
@@ -206,7 +206,7 @@ same_stray own f s t same before = record {
 
 -- A PARAMETER -----------------------------------------------------------------------------------------------------
 
-param_longer : (f : Body) (b : ℕ) (ty : «Type») → Longer f (with_param f b ty)
+pub param_longer : (f : Body) (b : ℕ) (ty : «Type») → Longer f (with_param f b ty)
 param_longer f b ty = record {
   values_more = omega (arith, param_count f b ty);
   insts_more = omega arith;
@@ -215,7 +215,7 @@ param_longer f b ty = record {
   home_same = λ v here none. home-append f.values (param_node ty b ∷ []) v here ∙ none;
 }
 
-param_needed : (own : ℕ → List ℕ) (f : Body) (b : ℕ) (ty : «Type») → Firm f → b < length f.blocks → OnlyNeeded own f → OnlyNeeded own (with_param f b ty)
+pub param_needed : (own : ℕ → List ℕ) (f : Body) (b : ℕ) (ty : «Type») → Firm f → b < length f.blocks → OnlyNeeded own f → OnlyNeeded own (with_param f b ty)
 param_needed own f b ty firm there before = record {
   alias_types = types_kept f (with_param f b ty) (param_longer f b ty) firm (param_resolved f b ty firm) before.alias_types;
   zeros = λ c. record {
@@ -272,7 +272,7 @@ module _ (f : Body) (b p : ℕ) (ty : «Type») (firm : Firm f) (is : param_home
       last_type [] n = refl
       last_type (m ∷ values) n = last_type values n
 
-  longer : Longer f g
+  pub longer : Longer f g
   longer = record {
     values_more = omega (arith, alias_count_same k p z, zero_count f b ty);
     insts_more = omega (arith, inst_insts_more f b Front (UnaryImm (pos 0)) (ty ∷ []) no_srcloc);
@@ -353,7 +353,7 @@ needed_of : (own : ℕ → List ℕ) (f : Body) (s : SsaState) → NothingStray 
 needed_of own f s before = record { alias_types = before.alias_types; zeros = before.zeros }
 
 -- the same where the block enters the layout
-zeroed_needed : (own : ℕ → List ℕ) (f : Body) (b p : ℕ) → Firm f → param_home f p ≡ Some b → OnlyNeeded own f → OnlyNeeded own (zeroed f b p)
+pub zeroed_needed : (own : ℕ → List ℕ) (f : Body) (b p : ℕ) → Firm f → param_home f p ≡ Some b → OnlyNeeded own f → OnlyNeeded own (zeroed f b p)
 zeroed_needed own f b p firm is before =
     let h : Body = inserted_in f b in
     let count : length h.values ≡ length f.values = ap length (inserted_same f b).values in
@@ -376,10 +376,10 @@ completed_needed own (p ∷ ps) f firm before = by (λ g firm_g needed. complete
 same_some : {x y : ℕ} → ◌≡◌ {A = Option ℕ} (Some x) (Some y) → x ≡ y
 same_some same = cc
 
-seal_here : (c b : ℕ) (x y : Sealed) → c ≡ b → (if c == b then x else y) ≡ x
+pub seal_here : (c b : ℕ) (x y : Sealed) → c ≡ b → (if c == b then x else y) ≡ x
 seal_here c b x y same = grind (arith, common_steps, same)
 
-seal_other : (c b : ℕ) (x y : Sealed) → c ≢ b → (if c == b then x else y) ≡ y
+pub seal_other : (c b : ℕ) (x y : Sealed) → c ≢ b → (if c == b then x else y) ≡ y
 seal_other c b x y apart = grind (arith, common_steps, apart)
 
 -- a block is sealed
@@ -402,7 +402,7 @@ seal_stray own f g s t b firm seals is before =
       zeros = needed.zeros;
     })
 
-param_home_cases : (f : Body) (b : ℕ) (ty : «Type») (v c : ℕ) → param_home (with_param f b ty) v ≡ Some c → (v ≡ length f.values) × (c ≡ b) ⊎ (v ≢ length f.values) × (param_home f v ≡ Some c)
+pub param_home_cases : (f : Body) (b : ℕ) (ty : «Type») (v c : ℕ) → param_home (with_param f b ty) v ≡ Some c → (v ≡ length f.values) × (c ≡ b) ⊎ (v ≢ length f.values) × (param_home f v ≡ Some c)
 param_home_cases f b ty v c is =
     elim (cases_eq v (length f.values)) [
       | inl same ↦ inl (same, same_some (sym is ∙ ap (param_home (with_param f b ty)) same ∙ param_home_new f b ty))

@@ -11,3 +11,4 @@ pub mod Limits
 pub mod Sound
 pub mod SoundLaws
 pub mod Structure
+pub mod Structured

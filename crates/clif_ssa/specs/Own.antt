@@ -15,6 +15,10 @@ pub record Own : Type 0 where
 abbrev pub with_one_more : (ℕ → List ℕ) → ℕ → ℕ → ℕ → List ℕ
 with_one_more insts b inst = updated insts b (insts b ++ inst ∷ [])
 
+-- with one more parameter of the caller's at the end of those of block `b`
+abbrev pub with_own_param : Own → ℕ → ℕ → Own
+with_own_param own b param = record own { params = updated own.params b (own.params b ++ param ∷ []) }
+
 -- nothing so far
 abbrev pub no_own : Own
 no_own = record { insts = λ b. []; params = λ b. []; passed = λ i k. [] }

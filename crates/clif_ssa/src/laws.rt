@@ -3,6 +3,7 @@
 
 ghost use Rattle.clif_ssa.specs.SoundLaws.{FirstDescribes, SameStateKeeps, InsertionKeeps, NewBlockKeeps, ReadItemKeeps, WriteHereKeeps, WriteItemKeeps, OwnInstructionKeeps, OwnResultKeeps, WaitingUseKeeps, ZeroUseKeeps, SealingKeeps, PredecessorDeclared, PredecessorRemoved, NewNameStays};
 ghost use Rattle.clif_ssa.specs.Structure.{UsesAgree};
+ghost use Rattle.clif_ssa.specs.Structured.{FirstStructured, NewBlockStructured, InsertionStructured, InstructionStructured, ParameterStructured};
 
 /// The first tables describe a function without blocks, of which nothing is known.
 pub fn first_describes()
@@ -82,4 +83,29 @@ pub fn new_name_stays()
 /// Two uses of a variable in a block stand for one value, where nothing between them assigns it there.
 pub fn uses_agree()
     ensures { UsesAgree }
+{}
+
+/// A function without blocks, of which nothing is known, has the structure.
+pub fn first_structured()
+    ensures { FirstStructured }
+{}
+
+/// A new block leaves the structure.
+pub fn new_block_structured()
+    ensures { NewBlockStructured }
+{}
+
+/// A block that enters the layout leaves the structure.
+pub fn insertion_structured()
+    ensures { InsertionStructured }
+{}
+
+/// One more instruction of the caller's leaves the structure.
+pub fn instruction_structured()
+    ensures { InstructionStructured }
+{}
+
+/// A parameter of the caller's leaves the structure, in a block that has no parameter of a variable so far.
+pub fn parameter_structured()
+    ensures { ParameterStructured }
 {}

@@ -1,5 +1,5 @@
 //! The builder of SSA form.
-ghost use Rattle.std.specs.Prelude.{◌≡◌, ◌≢◌, ◌<◌, ◌==◌, ◌↔◌, ◌++◌, ◌⊎◌, List, [], ◌∷◌, ℕ, IsTrue, Some, None, true, false, length, OnOk, OnErr, IfOk, IfSome, Contains, ◌+◌};
+ghost use Rattle.std.specs.Prelude.{◌≡◌, ◌≢◌, ◌<◌, ◌==◌, ◌↔◌, ◌++◌, ◌⊎◌, List, [], ◌∷◌, ℕ, IsTrue, Some, None, true, false, length, OnOk, OnErr, IfOk, IfSome, Contains, ◌+◌, slice_get};
 ghost use Rattle.clif_ir.specs.Body.{Body, block_at, value_at};
 ghost use Rattle.clif_ir.specs.Consistent.{Stands};
 ghost use Rattle.clif_ssa.specs.Constructs.{OnlyConstructs, TellsMore, TellsZeros};
@@ -9,9 +9,10 @@ ghost use Rattle.clif_ssa.specs.declared.tables.Pending.{Pending};
 ghost use Rattle.clif_paths.specs.Places.{start};
 ghost use Rattle.clif_paths.specs.Blocks.{Blocks, last_place, with_write};
 ghost use Rattle.clif_ssa.specs.Own.{Own};
-ghost use Rattle.clif_ssa.specs.Sound.{Describes, PassesOwn, Keeps, KeepsAndKnows, entry_of, has_entry};
+ghost use Rattle.clif_ssa.specs.Sound.{Describes, PassesOwn, Keeps, KeepsAndKnows, entry_of, has_entry, args_of, edge_target, edges_at};
 ghost use Rattle.clif_ssa.specs.SoundLaws.{DescribesSoundly, IsOpen};
 ghost use Rattle.clif_ssa.specs.Structure.{HasRecordOf, LooksOnce, LosesWaiting, NothingStray, Remembers};
+ghost use Rattle.clif_ssa.specs.Structured.{HasType, Structured, VariableTypes};
 ghost use Rattle.clif_ssa.specs.LookUp.{branch_block, no_look_up, LooksUp, MakesCall, UsesVariable, CompletesParameter};
 ghost use Rattle.clif_ssa.specs.Running.{stage, found, with_call, CallsFit, CompletesAll, CountsOnce, MakesAll, ToComplete};
 ghost use Rattle.clif_ssa.specs.Sealing.{SealsOne, SealsLocally, SealsByLookUp};
@@ -84,6 +85,7 @@ impl SSABuilder {
         ensures remembers { (f : Body) (x b : ℕ) → Remembers x b f self.old f self.new }
         ensures nothing_stray { (own : ℕ → List ℕ) (f : Body) → NothingStray own f self.old → NothingStray own f self.new }
         ensures looks_once { LooksOnce self.old → LooksOnce self.new }
+        ensures structured { (types : VariableTypes) (own : Own) (f : Body) → Structured types own f self.old [] → Structured types own f self.new [] }
         ensures known { OnOk result (block < length self.new.blocks) }
         ensures only_memory { OnErr result (result ≡ Err BuildError.Memory) }
     {
@@ -100,6 +102,7 @@ impl SSABuilder {
         ensures blocks { SameBlocks self.old self.new }
         ensures described { (own : Own) (f : Body) (tables : Blocks) → inst < length f.insts → has_entry f.layout ≡ true → entry_of f ≢ Some block → ((j : ℕ) → Contains (predecessors_of self.old block) j → branch_block f j ≢ branch_block f inst) → PassesOwn own f block inst → DescribesSoundly own f self.old tables → OnOk result (DescribesSoundly own f self.new tables) }
         ensures looks_once { LooksOnce self.old → LooksOnce self.new }
+        ensures structured { (types : VariableTypes) (own : Own) (f : Body) → inst < length f.insts → ((j : ℕ) → Contains (predecessors_of self.old block) j → j ≢ inst) → ((k : ℕ) → edge_target f inst k ≡ Some block → args_of (slice_get (edges_at f inst) k) ≡ own.passed inst k) → Structured types own f self.old [] → OnOk result (Structured types own f self.new []) }
         ensures only_memory { OnErr result (result ≡ Err BuildError.Memory) }
     {
         self.tables.declare_predecessor(block, inst)
@@ -115,6 +118,7 @@ impl SSABuilder {
         ensures blocks { SameBlocks self.old self.new }
         ensures described { (own : Own) (f : Body) (tables : Blocks) → DescribesSoundly own f self.old tables → DescribesSoundly own f self.new tables }
         ensures looks_once { LooksOnce self.old → LooksOnce self.new }
+        ensures structured { (types : VariableTypes) (own : Own) (f : Body) → Structured types own f self.old [] → Structured types own f self.new [] }
     {
         self.tables.remove_predecessor(block, inst);
     }
@@ -155,6 +159,7 @@ impl SSABuilder {
         ensures remembers { (f : Body) (x b : ℕ) → (x ≡ variable → b ≡ block → ⊥) → OnOk result (Remembers x b f self.old f self.new) }
         ensures nothing_stray { (own : ℕ → List ℕ) (f : Body) → NothingStray own f self.old → NothingStray own f self.new }
         ensures looks_once { LooksOnce self.old → LooksOnce self.new }
+        ensures structured { (types : VariableTypes) (own : Own) (f : Body) → HasType f value (types variable) → Structured types own f self.old [] → OnOk result (Structured types own f self.new []) }
         ensures only_memory { OnErr result (result ≡ Err BuildError.Memory) }
     {
         self.tables.record(variable, block, value)
@@ -189,6 +194,7 @@ impl SSABuilder {
         ensures parameters { IsLocal self.old variable block → is_yes (sealed_of self.old block) ≡ true → (b : ℕ) → OnOk result ((block_at func.new b).params ≡ (block_at func.old b).params) }
         ensures nothing_stray { (own : ℕ → List ℕ) → IsLocal self.old variable block → NothingStray own func.old self.old → OnOk result (NothingStray own func.new self.new) }
         ensures looks_once { LooksOnce self.old → LooksOnce self.new }
+        ensures structured { (types : VariableTypes) (own : Own) → ty ≡ types variable → Structured types own func.old self.old [] → IfOk result (λ r. Structured types own func.new self.new [] × HasType func.new r.0 ty) }
         ensures predecessors { SamePredecessors self.old self.new }
         ensures stay { RecordsStay self.old self.new }
         ensures flags { SealedStays self.old self.new }
@@ -497,6 +503,7 @@ impl SSABuilder {
         ensures remembers { (x b : ℕ) → OnOk result (Remembers x b func.old self.old func.new self.new) }
         ensures parameters { predecessors_of self.old block ≡ [] → OnOk result (LosesWaiting func.old func.new (pending_of (sealed_of self.old block))) }
         ensures nothing_stray { (own : ℕ → List ℕ) → predecessors_of self.old block ≡ [] → NothingStray own func.old self.old → OnOk result (NothingStray own func.new self.new) }
+        ensures structured { (types : VariableTypes) (own : Own) → Structured types own func.old self.old [] → OnOk result (Structured types own func.new self.new []) }
         ensures completes { predecessors_of self.old block ≢ [] → IfOk result (λ r. SealsByLookUp func.old self.old func.new self.new block r.instructions_added_to_blocks.items) }
         ensures looks_once { LooksOnce self.old → LooksOnce self.new }
         ensures predecessors { SamePredecessors self.old self.new }
@@ -523,6 +530,7 @@ impl SSABuilder {
         ensures keeps { (own : Own) (tables : Blocks) → DescribesSoundly own func.old self.old tables → OnOk result (Keeps own tables func.new self.new) }
         ensures remembers { (x b : ℕ) → OnOk result (Remembers x b func.old self.old func.new self.new) }
         ensures looks_once { LooksOnce self.old → LooksOnce self.new }
+        ensures structured { (types : VariableTypes) (own : Own) → Structured types own func.old self.old [] → OnOk result (Structured types own func.new self.new []) }
         ensures predecessors { SamePredecessors self.old self.new }
         ensures stay { RecordsStay self.old self.new }
         ensures more { HasMore func.old func.new }

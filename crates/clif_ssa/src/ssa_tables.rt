@@ -73,7 +73,11 @@ impl SsaTables {
     }
 
     /// Puts a branch behind those that lead to a block.
-    pub(crate) fn declare_predecessor(&mut self, block: Block, branch: Inst) -> Result<(), BuildError>
+    pub(crate) fn declare_predecessor(
+        &mut self,
+        block: Block,
+        branch: Inst,
+    ) -> Result<(), BuildError>
         ensures ok { OnOk result (Declares self.old self.new block branch) }
         ensures err { OnErr result (SamePredecessors self.old self.new) }
         ensures records { self.new.records ≡ self.old.records }
@@ -161,7 +165,11 @@ impl SsaTables {
     }
 
     /// Counts a look-up of a variable in the predecessors of a block.
-    pub(crate) fn count_lookup(&mut self, variable: Variable, block: Block) -> Result<(), BuildError>
+    pub(crate) fn count_lookup(
+        &mut self,
+        variable: Variable,
+        block: Block,
+    ) -> Result<(), BuildError>
         ensures ok { OnOk result (CountsLookup self.old self.new variable block) }
         ensures err { OnErr result (SameLookups self.old self.new) }
         ensures records { SameRecords self.old self.new }
@@ -172,7 +180,12 @@ impl SsaTables {
     }
 
     /// Puts a parameter behind those that wait in an unsealed block.
-    pub(crate) fn wait(&mut self, block: Block, variable: Variable, param: Value) -> Result<(), BuildError>
+    pub(crate) fn wait(
+        &mut self,
+        block: Block,
+        variable: Variable,
+        param: Value,
+    ) -> Result<(), BuildError>
         requires { is_yes (sealed_of self.old block) ≡ false }
         ensures ok { OnOk result ((b : ℕ) → sealed_of self.new b ≡ (if b == block then Sealed.No (pending_of (sealed_of self.old b) ++ record { variable = variable; param = param } ∷ []) else sealed_of self.old b)) }
         ensures err { OnErr result (SameBlocks self.old self.new) }

@@ -208,7 +208,12 @@ impl VariableTable {
     }
 
     /// Records a value for a variable in a block. After an error each record is as it was.
-    pub(crate) fn set(&mut self, variable: Variable, block: Block, value: Value) -> Result<(), BuildError>
+    pub(crate) fn set(
+        &mut self,
+        variable: Variable,
+        block: Block,
+        value: Value,
+    ) -> Result<(), BuildError>
         ensures ok { OnOk result ((v b : ℕ) → record_at self.new v b ≡ (if v == variable && b == block then Some value else record_at self.old v b)) }
         ensures lookups { (v b : ℕ) → lookups_at self.new v b ≡ lookups_at self.old v b }
         ensures err { OnErr result ((v b : ℕ) → record_at self.new v b ≡ record_at self.old v b) }
@@ -223,7 +228,11 @@ impl VariableTable {
     }
 
     /// Counts a look-up of a variable in a block's predecessors. After an error each count is as it was.
-    pub(crate) fn count_lookup(&mut self, variable: Variable, block: Block) -> Result<(), BuildError>
+    pub(crate) fn count_lookup(
+        &mut self,
+        variable: Variable,
+        block: Block,
+    ) -> Result<(), BuildError>
         ensures records { (v b : ℕ) → record_at self.new v b ≡ record_at self.old v b }
         ensures ok { OnOk result ((v b : ℕ) → lookups_at self.new v b ≡ (if v == variable && b == block then one_more (lookups_at self.old v b) else lookups_at self.old v b)) }
         ensures err { OnErr result ((v b : ℕ) → lookups_at self.new v b ≡ lookups_at self.old v b) }
@@ -410,7 +419,11 @@ impl BlockTable {
     }
 
     /// Puts a branch behind those that lead to a block.
-    pub(crate) fn declare_predecessor(&mut self, block: Block, branch: Inst) -> Result<(), BuildError>
+    pub(crate) fn declare_predecessor(
+        &mut self,
+        block: Block,
+        branch: Inst,
+    ) -> Result<(), BuildError>
         ensures sealed { (b : ℕ) → sealed_at self.new b ≡ sealed_at self.old b }
         ensures ok { OnOk result ((b : ℕ) → predecessors_at self.new b ≡ (if b == block then predecessors_at self.old b ++ branch ∷ [] else predecessors_at self.old b)) }
         ensures err { OnErr result ((b : ℕ) → predecessors_at self.new b ≡ predecessors_at self.old b) }
@@ -432,7 +445,12 @@ impl BlockTable {
     }
 
     /// Puts a parameter behind those that wait in an unsealed block.
-    pub(crate) fn wait(&mut self, block: Block, variable: Variable, param: Value) -> Result<(), BuildError>
+    pub(crate) fn wait(
+        &mut self,
+        block: Block,
+        variable: Variable,
+        param: Value,
+    ) -> Result<(), BuildError>
         requires { is_yes (sealed_at self.old block) ≡ false }
         ensures ok { OnOk result ((b : ℕ) → sealed_at self.new b ≡ (if b == block then Sealed.No (pending_of (sealed_at self.old b) ++ record { variable = variable; param = param } ∷ []) else sealed_at self.old b)) }
         ensures err { OnErr result ((b : ℕ) → sealed_at self.new b ≡ sealed_at self.old b) }

@@ -8,6 +8,7 @@ use Rattle.clif_ssa.proofs.Alongside.{seal_remembers, remembers_then}
 use Rattle.clif_ssa.proofs.Losing.{same_remembers}
 use Rattle.clif_ssa.proofs.Public.{seal_keeps, keeps_then, keeps_itself}
 use Rattle.clif_ssa.proofs.Waited.{named-kept, sealed-below, still-sealed}
+use Rattle.clif_ssa.proofs.StructuredPublic.{seal_structured}
 use Rattle.clif_ssa.proofs.ssa.SSABuilder.seal_all_blocks.Goals as goal
 
 pub returns-in_err-told-clause-stay : goal.returns-in_err-told-clause-stay
@@ -30,6 +31,7 @@ loop-number-init c = record {
   tells = tells_more_none c.args.func.now c.new-side_effects.result.instructions_added_to_blocks.items;
   keeps = λ own tables both. keeps_itself own tables c.args.func.now c.args.self.now both;
   remembers = λ x b. same_remembers x b c.args.func.now c.args.self.now c.args.self.now refl;
+  structured = λ types own before. before;
 }
 
 pub loop-number-preserved : goal.loop-number-preserved
@@ -61,6 +63,9 @@ loop-number-preserved c =
           remembers_then x b c.args.func.now c.loop-number.func c.seal_one_block.new.func c.args.self.now c.loop-number.self c.seal_one_block.new.self (c.loop-number.invariant.remembers x b)
           (seal_remembers x b c.loop-number.func c.seal_one_block.new.func c.loop-number.self c.seal_one_block.new.self c.new-block.result (Ok c.in_ok-told.told)
           c.law_consistent.ensures c.loop-number.invariant.named c.seal_one_block.ensures.stay c.in_ok-told.ensures.local c.in_ok-told.ensures.completes);
+      structured = λ types own before.
+          seal_structured types own c.loop-number.func c.seal_one_block.new.func c.loop-number.self c.seal_one_block.new.self c.new-block.result (Ok c.in_ok-told.told)
+          c.law_consistent.ensures (c.loop-number.invariant.structured types own before) c.seal_one_block.ensures.predecessors c.in_ok-told.ensures.local c.in_ok-told.ensures.completes;
     }
 
 -- AFTER AN ERROR --------------------------------------------------------------------------------------------------

@@ -1,4 +1,4 @@
-use Rattle.std.proofs.Common.{◌≡◌, ◌<◌, ℕ, true}
+use Rattle.std.proofs.Common.{◌≡◌, ◌<◌, ℕ, true, []}
 use Rattle.clif_paths.specs.Blocks.{Blocks}
 use Rattle.clif_ssa.specs.Own.{Own}
 use Rattle.clif_ssa.specs.Constructs.{OnlyConstructs, TellsMore}
@@ -7,6 +7,7 @@ use Rattle.clif_ssa.specs.SoundLaws.{DescribesSoundly}
 use Rattle.clif_ssa.specs.Tables.{is_yes}
 use Rattle.clif_ssa.specs.Ssa.{sealed_of, SamePredecessors, RecordsStay, HasMore, Named, NamesExist}
 use Rattle.clif_ssa.specs.Structure.{LooksOnce, Remembers}
+use Rattle.clif_ssa.specs.Structured.{Structured, VariableTypes}
 use Rattle.clif_ssa.proofs.ssa.SSABuilder.seal_all_blocks.Given as goal
 
 abbrev pub invariant-loop-number : goal.invariant-loop-number
@@ -23,4 +24,5 @@ invariant-loop-number l = record {
   constructs : OnlyConstructs l.initial.func l.func;
   tells : TellsMore l.initial.func l.func l.initial.side_effects.instructions_added_to_blocks.items l.side_effects.instructions_added_to_blocks.items;
   remembers : (x b : ℕ) → Remembers x b l.initial.func l.initial.self l.func l.self;
+  structured : (types : VariableTypes) (own : Own) → Structured types own l.initial.func l.initial.self [] → Structured types own l.func l.self [];
 }

@@ -1,5 +1,6 @@
 use Rattle.clif_ssa.proofs.Alongside.{seal_remembers, seal_leaves, seal_loses}
 use Rattle.clif_ssa.proofs.Public.{seal_keeps}
+use Rattle.clif_ssa.proofs.StructuredPublic.{seal_structured}
 use Rattle.clif_ssa.proofs.ssa.SSABuilder.seal_block.Goals as goal
 
 pub returns-clause-keeps : goal.returns-clause-keeps
@@ -21,3 +22,8 @@ pub returns-clause-nothing_stray : goal.returns-clause-nothing_stray
 returns-clause-nothing_stray c = λ own alone before.
     seal_leaves own c.args.func.now c.seal_one_block-told.new.func c.args.self.now c.seal_one_block-told.new.self c.args.block c.seal_one_block-told.result
     c.law_consistent.ensures (c.seal_one_block-told.ensures.local alone) before
+
+pub returns-clause-structured : goal.returns-clause-structured
+returns-clause-structured c = λ types own before.
+    seal_structured types own c.args.func.now c.seal_one_block-told.new.func c.args.self.now c.seal_one_block-told.new.self c.args.block c.seal_one_block-told.result
+    c.law_consistent.ensures before c.seal_one_block-told.ensures.predecessors c.seal_one_block-told.ensures.local c.seal_one_block-told.ensures.completes

@@ -1,7 +1,8 @@
-use Rattle.std.proofs.Common.{rules, ◌≡◌, ◌≢◌, Some, None, true, [], refl}
+use Rattle.std.proofs.Common.{rules, ◌≡◌, ◌≢◌, Some, None, true, [], refl, sym, subst}
 use Rattle.clif_ssa.specs.Tables.{is_yes}
 use Rattle.clif_ssa.specs.Ssa.{record_of, sealed_of, predecessors_of}
 use Rattle.clif_ssa.specs.Running.{stage}
+use Rattle.clif_ssa.specs.Structured.{HasType}
 use Rattle.clif_ssa.proofs.Calling.{look-fits}
 use Rattle.clif_ssa.proofs.Answered.{use_recorded}
 use Rattle.clif_ssa.proofs.Constructing.{constructs_none, constructs_then}
@@ -10,6 +11,7 @@ use Rattle.clif_ssa.proofs.Alongside.{use_alike, local_remembers, local_leaves}
 use Rattle.clif_ssa.proofs.Losing.{same_remembers}
 use Rattle.clif_ssa.proofs.Using.{on_ok}
 use Rattle.clif_ssa.proofs.Public.{something_leads, popped_nothing, known_use, local_use, machine_use}
+use Rattle.clif_ssa.proofs.StructuredPublic.{local_structured, machine_structured}
 use Rattle.clif_ssa.proofs.ssa.SSABuilder.use_var.Goals as goal
 
 pub returns-in-Some-clause-keeps : goal.returns-in-Some-clause-keeps
@@ -131,3 +133,22 @@ returns-in_err-value-clause-constructs c =
 pub returns-clause-constructs : goal.returns-clause-constructs
 returns-clause-constructs c =
     constructs_then c.args.func.now c.look_up_in.new.func c.make_calls.new.func c.look_up_in.ensures.constructs c.make_calls.ensures.constructs
+
+-- STRUCTURED ------------------------------------------------------------------------------------------------------
+
+pub returns-in-Some-clause-structured : goal.returns-in-Some-clause-structured
+returns-in-Some-clause-structured c = λ types own same before.
+    let is : record_of c.args.self.now c.args.variable c.args.block ≡ Some c.in-Some.value = search rules in
+    (before, subst (λ t. HasType c.args.func.now c.in-Some.value t) (sym same) (before.recorded c.args.variable c.args.block c.in-Some.value is))
+
+pub returns-then-is_local-clause-structured : goal.returns-then-is_local-clause-structured
+returns-then-is_local-clause-structured c = λ types own same before.
+    let none : record_of c.args.self.now c.args.variable c.args.block ≡ None = search rules in
+    local_structured types own c.args.func.now c.use_locally.new.func c.args.self.now c.use_locally.new.self c.args.variable c.args.ty c.args.block c.use_locally.result
+    c.law_consistent.ensures same before c.requires.exists none c.use_locally.ensures.predecessors c.use_locally.ensures.waits c.use_locally.ensures.zero
+
+pub returns-clause-structured : goal.returns-clause-structured
+returns-clause-structured c = λ types own same before.
+    machine_structured types own c.args.func.now c.look_up_in.new.func c.make_calls.new.func c.args.self.now c.look_up_in.new.self c.make_calls.new.self
+    c.args.variable c.args.ty c.args.block _ c.look_up_in.new.look_up c.make_calls.new.look_up c.in_ok-value.value c.new-look_up.ensures
+    c.law_consistent.ensures same before c.in_ok-look_up_in.ensures.looks c.in_ok-value.ensures.made
