@@ -15,7 +15,7 @@ use Rattle.clif_ssa.specs.declared.tables.SsaBlock.{SsaBlock}
 use Rattle.clif_ssa.specs.declared.tables.Sealed.{Sealed}
 use Rattle.clif_ssa.specs.declared.tables.Sealed.TheVariants.{Yes}
 use Rattle.clif_ssa.specs.Tables.{is_yes, pending_of, sealed_at, predecessors_at}
-use Rattle.clif_ssa.specs.Ssa.{SsaState, sealed_of, predecessors_of, completed, completing_blocks, NamesExist, Named, Seals, SealedStays, SamePredecessors, SameRecords, CountsLookup}
+use Rattle.clif_ssa.specs.Ssa.{SsaState, sealed_of, predecessors_of, lookups_of, completed, completing_blocks, counted_for, NamesExist, Named, Seals, SealedStays, SamePredecessors, SameRecords, SameLookups, CountsLookup, CountsEach}
 use Rattle.clif_ssa.specs.LookUp.{LookUpState, Stage, calls_for, CompletesParameter}
 use Rattle.clif_ssa.specs.Running.{stage, Balances, CallExists, CallsFit, CompletesAll, MakesAll}
 use Rattle.clif_ssa.specs.Sealing.{SealsOne, SealsLocally}
@@ -150,13 +150,37 @@ still-sealed s t b (inr seals) c is = seals c ∙ by (c == b)
     by true = refl
     by false = is
 
+-- a block that isn't the one that is sealed stays as it was
+pub other-same : (s t : SsaState) (b : ℕ) → SealedStays s t ⊎ SealsOne s t b → (c : ℕ) → c ≢ b → is_yes (sealed_of t c) ≡ is_yes (sealed_of s c)
+other-same s t b (inl stays) c apart = stays c
+other-same s t b (inr seals) c apart = seals c ∙ grind (arith, common_steps, apart)
+
+-- a look-up is counted for the first of these parameters
+pub counted-next : (s t : SsaState) (block : ℕ) (p : Pending) (rest waiting : List Pending) → waiting ≡ p ∷ rest → CountsLookup s t p.variable block → (v b : ℕ)
+    → counted_for block rest v b (lookups_of t v b) ≡ counted_for block waiting v b (lookups_of s v b)
+counted-next s t block p rest waiting is counts v b =
+    ap (λ n. counted_for block rest v b n) (counts v b) ∙ ap (λ ps. counted_for block ps v b (lookups_of s v b)) (sym is)
+
+pub counted-all : (s t : SsaState) (block : ℕ) (waiting : List Pending) (k : ℕ) → drop k waiting ≡ []
+    → ((v b : ℕ) → counted_for block (drop k waiting) v b (lookups_of t v b) ≡ counted_for block waiting v b (lookups_of s v b)) → CountsEach s t block waiting
+counted-all s t block waiting k none counts v b = ap (λ ps. counted_for block ps v b (lookups_of t v b)) (sym none) ∙ counts v b
+
+-- the same from the state before the block was sealed
+counted-since : (s t u : SsaState) (block : ℕ) (waiting pending : List Pending) (answer : Result SideEffects BuildError) → SameLookups s t → waiting ≡ pending
+    → OnOk answer (CountsEach t u block waiting) → OnOk answer (CountsEach s u block pending)
+counted-since s t u block waiting pending (Ok r) lookups same counts =
+    λ v b. subst (λ ps. CountsEach t u block ps) same counts v b ∙ ap (λ n. counted_for block pending v b n) (lookups v b)
+counted-since s t u block waiting pending (Err e) lookups same counts = tt
+
 pub sealed-locally : (f g : Body) (s t u : SsaState) (b : ℕ) (waiting : List Pending) (answer : Result SideEffects BuildError) → Seals s t b → SameRecords s t → SameRecords t u
+    → SameLookups s t → OnOk answer (CountsEach t u b waiting)
     → u.blocks ≡ t.blocks → waiting ≡ pending_of (sealed_of s b) → OnOk answer (g ≡ completed f waiting)
     → IfOk answer (λ r. r.instructions_added_to_blocks.items ≡ completing_blocks f waiting) → SealsLocally f s g u b answer
-sealed-locally f g s t u b waiting answer seals first next blocks same function told = record {
+sealed-locally f g s t u b waiting answer seals first next lookups counts blocks same function told = record {
   sealed = on_any answer (λ c. ap (λ (bs : List SsaBlock). sealed_at bs c) blocks ∙ seals c);
   refused = on_any_err answer (inr (λ c. ap (λ (bs : List SsaBlock). sealed_at bs c) blocks ∙ seals c));
   records = λ x c. next x c ∙ first x c;
+  counted = counted-since s t u b waiting (pending_of (sealed_of s b)) answer lookups same counts;
   function = subst (λ ps. OnOk answer (g ≡ completed f ps)) same function;
   told = subst (λ ps. IfOk answer (λ r. r.instructions_added_to_blocks.items ≡ completing_blocks f ps)) same told;
 }

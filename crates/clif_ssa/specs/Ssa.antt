@@ -100,6 +100,15 @@ abbrev pub CountsLookup : SsaState → SsaState → ℕ → ℕ → Type 0
 CountsLookup old new variable block =
     (v b : ℕ) → lookups_of new v b ≡ (if v == variable && b == block then one_more (lookups_of old v b) else lookups_of old v b)
 
+-- a count of look-ups of variable `v` in block `b`, after one more in `block` for each of these parameters
+abbrev pub counted_for : ℕ → List Pending → ℕ → ℕ → ℕ → ℕ
+counted_for block [] v b count = count
+counted_for block (p ∷ pending) v b count = counted_for block pending v b (if v == p.variable && b == block then one_more count else count)
+
+-- one look-up more is counted for each of these parameters
+abbrev pub CountsEach : SsaState → SsaState → ℕ → List Pending → Type 0
+CountsEach old new block pending = (v b : ℕ) → lookups_of new v b ≡ counted_for block pending v b (lookups_of old v b)
+
 -- whether each block is sealed, and what waits in it, is as before
 abbrev pub SameBlocks : SsaState → SsaState → Type 0
 SameBlocks old new = (b : ℕ) → sealed_of new b ≡ sealed_of old b

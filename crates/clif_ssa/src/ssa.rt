@@ -1,5 +1,5 @@
 //! The builder of SSA form.
-ghost use Rattle.std.specs.Prelude.{◌≡◌, ◌≢◌, ◌<◌, ◌==◌, ◌↔◌, ◌++◌, ◌⊎◌, List, [], ◌∷◌, ℕ, IsTrue, Some, None, true, false, length, OnOk, OnErr, IfOk, IfSome, Contains, ◌+◌, slice_get};
+ghost use Rattle.std.specs.Prelude.{◌≡◌, ◌≢◌, ◌<◌, ◌≤◌, ◌==◌, ◌↔◌, ◌++◌, ◌⊎◌, List, [], ◌∷◌, ℕ, IsTrue, Some, None, true, false, length, OnOk, OnErr, IfOk, IfSome, Contains, ◌+◌, slice_get};
 ghost use Rattle.clif_ir.specs.Body.{Body, block_at, value_at};
 ghost use Rattle.clif_ir.specs.Consistent.{Stands};
 ghost use Rattle.clif_ssa.specs.Constructs.{OnlyConstructs, TellsMore, TellsZeros};
@@ -15,8 +15,8 @@ ghost use Rattle.clif_ssa.specs.Structure.{HasRecordOf, LooksOnce, LosesWaiting,
 ghost use Rattle.clif_ssa.specs.Structured.{HasType, Structured, VariableTypes};
 ghost use Rattle.clif_ssa.specs.LookUp.{branch_block, no_look_up, LooksUp, MakesCall, UsesVariable, CompletesParameter};
 ghost use Rattle.clif_ssa.specs.Running.{stage, found, with_call, CallsFit, CompletesAll, CountsOnce, MakesAll, ToComplete};
-ghost use Rattle.clif_ssa.specs.Sealing.{SealsOne, SealsLocally, SealsByLookUp};
-ghost use Rattle.clif_ssa.specs.Ssa.{no_state, record_of, sealed_of, predecessors_of, lookups_of, completed, completing_blocks, CountsLookup, Declares, HasMore, IsLocal, Named, NamesExist, Records, RecordsStay, Removes, SamePredecessors, SameBlocks, SameLookups, SameRecords, SealedStays, Seals, Waits, Zeroes};
+ghost use Rattle.clif_ssa.specs.Sealing.{SealsBelow, SealsOne, SealsLocally, SealsByLookUp};
+ghost use Rattle.clif_ssa.specs.Ssa.{no_state, record_of, sealed_of, predecessors_of, lookups_of, completed, completing_blocks, CountsEach, CountsLookup, Declares, HasMore, IsLocal, Named, NamesExist, Records, RecordsStay, Removes, SamePredecessors, SameBlocks, SameLookups, SameRecords, SealedStays, Seals, Waits, Zeroes};
 
 use crate::ending::finish_look_up;
 use crate::look_up::{Call, LookUp};
@@ -435,6 +435,7 @@ impl SSABuilder {
         ensures function { OnOk result (func.new ≡ completed func.old waiting.now) }
         ensures told { IfOk result (λ r. r.instructions_added_to_blocks.items ≡ completing_blocks func.old waiting.now) }
         ensures records { SameRecords self.old self.new }
+        ensures counted { OnOk result (CountsEach self.old self.new block waiting.now) }
         ensures blocks { self.new.blocks ≡ self.old.blocks }
         ensures looks_once { ToComplete self.old block waiting.now → LooksOnce self.new }
         ensures more { HasMore func.old func.new }
@@ -527,6 +528,8 @@ impl SSABuilder {
         requires named { Named func.old self.old }
         ensures sealed { OnOk result ((b : ℕ) → b < length self.old.blocks → is_yes (sealed_of self.new b) ≡ true) }
         ensures sealed_stays { (b : ℕ) → is_yes (sealed_of self.old b) ≡ true → is_yes (sealed_of self.new b) ≡ true }
+        ensures others { (b : ℕ) → length self.old.blocks ≤ b → is_yes (sealed_of self.new b) ≡ is_yes (sealed_of self.old b) }
+        ensures in_turn { IfOk result (λ r. SealsBelow func.old self.old (length self.old.blocks) func.new self.new r.instructions_added_to_blocks.items) }
         ensures keeps { (own : Own) (tables : Blocks) → DescribesSoundly own func.old self.old tables → OnOk result (Keeps own tables func.new self.new) }
         ensures remembers { (x b : ℕ) → OnOk result (Remembers x b func.old self.old func.new self.new) }
         ensures looks_once { LooksOnce self.old → LooksOnce self.new }

@@ -1,10 +1,10 @@
-use Rattle.std.proofs.Common.{rules, ◌<◌, ◌+◌, ◌∷◌, ap, length, drop, arith, refl, inl, inr}
+use Rattle.std.proofs.Common.{rules, ◌<◌, ◌+◌, ◌∙◌, ◌∷◌, ap, length, drop, arith, refl, inl, inr}
 use Rattle.std.proofs.lemmas.Grind.{common_steps}
 use Rattle.clif_ssa.specs.Tables.{sealed_at}
 use Rattle.clif_ssa.proofs.CountedOnce.{once_same, once_completes}
 use Rattle.clif_ssa.proofs.Constructing.{constructs_none, constructs_then, tells_all, tells_more_none, tells_more_then}
 use Rattle.clif_ssa.proofs.Naming.{has_more}
-use Rattle.clif_ssa.proofs.Waited.{drop-item}
+use Rattle.clif_ssa.proofs.Waited.{counted-next, counted-all, drop-item}
 use Rattle.clif_ssa.proofs.ssa.SSABuilder.complete_locally.Goals as goal
 
 pub loop-pending-init : goal.loop-pending-init
@@ -12,6 +12,7 @@ loop-pending-init c = record {
   function = refl;
   told = refl;
   records = λ v b. refl;
+  counted = λ v b. refl;
   blocks = refl;
   more = has_more c.args.func.now;
   constructs = constructs_none c.args.func.now;
@@ -27,6 +28,11 @@ loop-pending-preserved c =
       function = first_of (search rules, grind (arith, common_steps));
       told = first_of (search rules, grind (arith, common_steps));
       records = first_of (search rules, grind (arith, common_steps));
+      counted = λ v b.
+          counted-next c.loop-pending.self-inside.tables c.count_lookup.new.self c.args.block c.pending-item.result (drop (c.loop-pending.pending-index + 1) c.args.waiting.now)
+          (drop c.loop-pending.pending-index c.args.waiting.now)
+          (drop-item c.args.waiting.now c.loop-pending.pending-index c.pending-item.result inside c.pending-item.is) c.in_ok-count_lookup.ensures.ok v b
+          ∙ c.loop-pending.invariant.counted v b;
       blocks = first_of (search rules, grind (arith, common_steps));
       more = first_of (search rules, grind (arith, common_steps));
       constructs = constructs_then c.args.func.now c.loop-pending.func c.replace_by_zero.new.func c.loop-pending.invariant.constructs c.replace_by_zero.ensures.constructs;
@@ -65,6 +71,12 @@ returns-in_err-replace_by_zero-clause-looks_once c =
     (once_same c.loop-pending.self-inside.tables c.args.block (drop c.loop-pending.pending-index c.args.waiting.now)
     (c.pending-item.result ∷ drop (c.loop-pending.pending-index + 1) c.args.waiting.now)
     (drop-item c.args.waiting.now c.loop-pending.pending-index c.pending-item.result inside c.pending-item.is) (c.loop-pending.invariant.once before))).once)
+
+pub returns-clause-counted : goal.returns-clause-counted
+returns-clause-counted c =
+    rw (← c.self.view_is)
+    (counted-all c.self.inside.tables c.loop-pending.self-inside.tables c.args.block c.args.waiting.now c.loop-pending.pending-index
+    (first_of (search rules, grind (arith, common_steps))) c.loop-pending.invariant.counted)
 
 pub returns-clause-looks_once : goal.returns-clause-looks_once
 returns-clause-looks_once c = rw (← c.self.view_is) (λ before. (c.loop-pending.invariant.once before).once)

@@ -1,7 +1,7 @@
-use Rattle.std.proofs.Common.{◌≡◌, ◌++◌, drop}
+use Rattle.std.proofs.Common.{◌≡◌, ◌++◌, ℕ, drop}
 use Rattle.clif_ssa.specs.Constructs.{OnlyConstructs, TellsMore}
 use Rattle.clif_ssa.specs.Limits.{Takes}
-use Rattle.clif_ssa.specs.Ssa.{completed, completing_blocks, HasMore, SameRecords}
+use Rattle.clif_ssa.specs.Ssa.{completed, completing_blocks, counted_for, lookups_of, HasMore, SameRecords}
 use Rattle.clif_ssa.specs.Running.{ToComplete}
 use Rattle.clif_ssa.proofs.ssa.SSABuilder.complete_locally.Given as goal
 
@@ -11,6 +11,8 @@ invariant-loop-pending l = record {
   told : l.side_effects.instructions_added_to_blocks.items ++ completing_blocks l.func (drop l.pending-index l.waiting)
       ≡ l.initial.side_effects.instructions_added_to_blocks.items ++ completing_blocks l.initial.func l.waiting;
   records : SameRecords l.initial.self-inside.tables l.self-inside.tables;
+  counted : (v b : ℕ) → counted_for l.block (drop l.pending-index l.waiting) v b (lookups_of l.self-inside.tables v b)
+      ≡ counted_for l.block l.waiting v b (lookups_of l.initial.self-inside.tables v b);
   blocks : l.self-inside.tables.blocks ≡ l.initial.self-inside.tables.blocks;
   more : HasMore l.initial.func l.func;
   once : ToComplete l.initial.self-inside.tables l.block l.waiting → ToComplete l.self-inside.tables l.block (drop l.pending-index l.waiting);

@@ -1,13 +1,13 @@
-use Rattle.std.proofs.Common.{rules, ◌≡◌, ◌∙◌, arith, subst, refl, inr}
+use Rattle.std.proofs.Common.{rules, ◌≡◌, ◌<◌, ◌+◌, ◌∙◌, length, arith, subst, refl, sym, inr}
 use Rattle.std.specs.Prelude.{Ok}
 use Rattle.std.proofs.lemmas.Grind.{common_steps}
-use Rattle.clif_ssa.specs.Sealing.{SealsOne}
+use Rattle.clif_ssa.specs.Sealing.{SealsOne, SealsWith, SealsBelow, none_sealed, next_sealed}
 use Rattle.clif_ssa.proofs.Constructing.{constructs_none, constructs_then, tells_all, tells_more_none, tells_more_then}
 use Rattle.clif_ssa.proofs.Naming.{has_more, more-then}
 use Rattle.clif_ssa.proofs.Alongside.{seal_remembers, remembers_then}
 use Rattle.clif_ssa.proofs.Losing.{same_remembers}
 use Rattle.clif_ssa.proofs.Public.{seal_keeps, keeps_then, keeps_itself}
-use Rattle.clif_ssa.proofs.Waited.{named-kept, sealed-below, still-sealed}
+use Rattle.clif_ssa.proofs.Waited.{named-kept, other-same, sealed-below, still-sealed}
 use Rattle.clif_ssa.proofs.StructuredPublic.{seal_structured}
 use Rattle.clif_ssa.proofs.ssa.SSABuilder.seal_all_blocks.Goals as goal
 
@@ -23,6 +23,8 @@ loop-number-init c = record {
   named = c.requires.named;
   names = λ named. named;
   sealed_stays = λ b is. is;
+  others = λ b above. refl;
+  in_turn = subst (λ told. SealsBelow c.args.func.now c.args.self.now 0 c.args.func.now c.args.self.now told) (sym c.new-side_effects.ensures) none_sealed;
   once = λ once. once;
   same = λ b. refl;
   stay = λ x b v is. is;
@@ -39,12 +41,23 @@ loop-number-preserved c =
     let number : c.new-block.result ≡ c.loop-number.number = first_of (search rules, grind (arith, common_steps)) in
     let seals : SealsOne c.loop-number.self c.seal_one_block.new.self c.loop-number.number =
     subst (λ k. SealsOne c.loop-number.self c.seal_one_block.new.self k) number c.in_ok-told.ensures.sealed in
+    let inside : c.loop-number.number < length c.args.self.now.blocks = first_of (search rules, grind (arith, common_steps)) in
     record {
       sealed = sealed-below c.loop-number.self c.seal_one_block.new.self c.loop-number.number c.loop-number.invariant.sealed seals;
       named = named-kept c.loop-number.func c.seal_one_block.new.func c.loop-number.self c.seal_one_block.new.self c.seal_one_block.ensures.predecessors c.seal_one_block.ensures.names
           c.loop-number.invariant.named;
       sealed_stays = λ b is.
           still-sealed c.loop-number.self c.seal_one_block.new.self c.new-block.result (inr c.in_ok-told.ensures.sealed) b (c.loop-number.invariant.sealed_stays b is);
+      others = λ b above.
+          other-same c.loop-number.self c.seal_one_block.new.self c.loop-number.number (inr seals) b (omega (arith, inside, above)) ∙ c.loop-number.invariant.others b above;
+      in_turn =
+          subst (λ told. SealsBelow c.args.func.now c.args.self.now (c.loop-number.number + 1) c.seal_one_block.new.func c.seal_one_block.new.self told) (sym c.in_ok-append.ensures.ok)
+          (next_sealed c.loop-number.invariant.in_turn
+          (subst (λ k. SealsWith c.loop-number.func c.loop-number.self c.seal_one_block.new.func c.seal_one_block.new.self k c.in_ok-told.told) number (record {
+            predecessors = c.seal_one_block.ensures.predecessors;
+            local = c.in_ok-told.ensures.local;
+            completes = c.in_ok-told.ensures.completes;
+          })));
       once = λ once. c.seal_one_block.ensures.looks_once (c.loop-number.invariant.once once);
       names = λ named. c.seal_one_block.ensures.names (c.loop-number.invariant.names named);
       same = λ b. c.seal_one_block.ensures.predecessors b ∙ c.loop-number.invariant.same b;
@@ -77,6 +90,21 @@ returns-in_err-told-clause-sealed_stays c = λ b is.
 pub returns-in_err-append-clause-sealed_stays : goal.returns-in_err-append-clause-sealed_stays
 returns-in_err-append-clause-sealed_stays c = λ b is.
     still-sealed c.loop-number.self c.seal_one_block.new.self c.new-block.result (inr c.in_ok-told.ensures.sealed) b (c.loop-number.invariant.sealed_stays b is)
+
+pub returns-in_err-told-clause-others : goal.returns-in_err-told-clause-others
+returns-in_err-told-clause-others c = λ b above.
+    let number : c.new-block.result ≡ c.loop-number.number = first_of (search rules, grind (arith, common_steps)) in
+    let inside : c.loop-number.number < length c.args.self.now.blocks = first_of (search rules, grind (arith, common_steps)) in
+    other-same c.loop-number.self c.seal_one_block.new.self c.new-block.result c.in_err-told.ensures.err b (omega (arith, number, inside, above)) ∙ c.loop-number.invariant.others b above
+
+pub returns-in_err-append-clause-others : goal.returns-in_err-append-clause-others
+returns-in_err-append-clause-others c = λ b above.
+    let number : c.new-block.result ≡ c.loop-number.number = first_of (search rules, grind (arith, common_steps)) in
+    let inside : c.loop-number.number < length c.args.self.now.blocks = first_of (search rules, grind (arith, common_steps)) in
+    other-same c.loop-number.self c.seal_one_block.new.self c.new-block.result (inr c.in_ok-told.ensures.sealed) b (omega (arith, number, inside, above)) ∙ c.loop-number.invariant.others b above
+
+pub returns-clause-others : goal.returns-clause-others
+returns-clause-others c = c.loop-number.invariant.others
 
 pub returns-clause-sealed_stays : goal.returns-clause-sealed_stays
 returns-clause-sealed_stays c = c.loop-number.invariant.sealed_stays

@@ -1,7 +1,8 @@
-use Rattle.std.proofs.Common.{◌≡◌, ◌<◌, ℕ, true, []}
+use Rattle.std.proofs.Common.{◌≡◌, ◌<◌, ◌≤◌, ℕ, true, [], length}
 use Rattle.clif_paths.specs.Blocks.{Blocks}
 use Rattle.clif_ssa.specs.Own.{Own}
 use Rattle.clif_ssa.specs.Constructs.{OnlyConstructs, TellsMore}
+use Rattle.clif_ssa.specs.Sealing.{SealsBelow}
 use Rattle.clif_ssa.specs.Sound.{Keeps}
 use Rattle.clif_ssa.specs.SoundLaws.{DescribesSoundly}
 use Rattle.clif_ssa.specs.Tables.{is_yes}
@@ -14,6 +15,8 @@ abbrev pub invariant-loop-number : goal.invariant-loop-number
 invariant-loop-number l = record {
   sealed : (b : ℕ) → b < l.number → is_yes (sealed_of l.self b) ≡ true;
   sealed_stays : (b : ℕ) → is_yes (sealed_of l.initial.self b) ≡ true → is_yes (sealed_of l.self b) ≡ true;
+  others : (b : ℕ) → length l.initial.self.blocks ≤ b → is_yes (sealed_of l.self b) ≡ is_yes (sealed_of l.initial.self b);
+  in_turn : SealsBelow l.initial.func l.initial.self l.number l.func l.self l.side_effects.instructions_added_to_blocks.items;
   once : LooksOnce l.initial.self → LooksOnce l.self;
   named : Named l.func l.self;
   names : NamesExist l.initial.func l.initial.self → NamesExist l.func l.self;

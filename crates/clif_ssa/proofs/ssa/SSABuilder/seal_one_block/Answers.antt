@@ -30,7 +30,8 @@ returns-then-not-has_any_predecessors-clause-local c =
     rw (← c.self.view_is)
     (λ none.
     sealed-locally c.args.func.now c.complete_locally.new.func c.self.inside.tables c.seal.new.self c.complete_locally.new.self c.args.block c.as_slice.result.now c.complete_locally.result
-    c.in_ok-waiting.ensures.ok (λ x b. ap (λ rows. record_at rows x b) c.seal.ensures.records) c.complete_locally.ensures.records c.complete_locally.ensures.blocks same
+    c.in_ok-waiting.ensures.ok (λ x b. ap (λ rows. record_at rows x b) c.seal.ensures.records) c.complete_locally.ensures.records
+    (λ x b. ap (λ rows. lookups_at rows x b) c.seal.ensures.records) c.complete_locally.ensures.counted c.complete_locally.ensures.blocks same
     c.complete_locally.ensures.function c.complete_locally.ensures.told)
 
 pub returns-then-not-has_any_predecessors-clause-names : goal.returns-then-not-has_any_predecessors-clause-names
