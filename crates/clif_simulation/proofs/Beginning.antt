@@ -15,7 +15,7 @@ use Rattle.clif_meaning.specs.Request.{Request, CreateBlock, SwitchToBlock, Seal
 use Rattle.clif_meaning.specs.Ledger.{Ledger, ledger_after, ledger_with, empty_ledger, with_layout, with_begun_at, with_begun, with_filled_at, with_terminator, with_predecessor, is_inserted, is_terminator}
 use Rattle.clif_meaning.specs.Program.{Program, Item, with_call, empty_program, with_item_at, with_inserted}
 use Rattle.clif_simulation.specs.Tables.{program_so_far, IsProgramOf}
-use Rattle.clif_simulation.specs.Carries.{Carries}
+use Rattle.clif_simulation.proofs.Unbranched.{CarriesUnbranched}
 use Rattle.clif_simulation.proofs.Values.{false_is}
 
 some_none : {X : Type 0} (x : X) → None ≡ Some x → ⊥
@@ -89,7 +89,7 @@ nothing_so_far = record {
 }
 
 -- a new function carries the empty list of calls
-pub carries_nothing : (name : UserFuncName) (signature : SignatureShape) → Carries [] (empty_body name signature) no_state
+pub carries_nothing : (name : UserFuncName) (signature : SignatureShape) → CarriesUnbranched [] (empty_body name signature) no_state
 carries_nothing name signature =
     let first = first_described name signature in
     record {
@@ -100,6 +100,8 @@ carries_nothing name signature =
       earlier = λ N. tt;
       own_exist = λ b. tt;
       own_named = λ b none. refl;
+      own_inserted = λ b out. refl;
+      no_parameters = λ b. refl;
       values_given = λ x is. absurd (false_is is);
       entry = record { none = λ none. refl; some = λ e is. absurd (some_none e is) };
       describes = first.0;

@@ -36,16 +36,17 @@ use Rattle.clif_meaning.specs.Program.{Item, Instruct, result_types, answers_fro
 use Rattle.clif_meaning.specs.FunctionView.{Placed}
 use Rattle.clif_meaning.specs.View.{placed_of, operation_of, edges_of, controlling_of, first_type}
 use Rattle.clif_simulation.specs.Tables.{code, answered}
-use Rattle.clif_simulation.specs.Carries.{answered_edge, carried, Carries, IsEarlier, IsCurrent, GoesOn}
+use Rattle.clif_simulation.specs.Carries.{answered_edge, carried, IsEarlier, IsCurrent, GoesOn}
 use Rattle.clif_simulation.proofs.NameLists.{the_one}
 use Rattle.clif_simulation.proofs.Staying.{restated}
 use Rattle.clif_simulation.proofs.Requests
 use Rattle.clif_simulation.proofs.Requests.{entry_begun}
 use Rattle.clif_simulation.proofs.Carrying.{carries_item, numbers_kept, all_mapped, earlier_name}
 use Rattle.clif_simulation.proofs.ItemCalls.{PutsItem, adds_instruction, adds_result, last-with_item, number_of_answer}
+use Rattle.clif_simulation.proofs.Layouts.{out_before, never_out}
 use Rattle.clif_simulation.proofs.Growing.{placed_kept, goes_on-then, goes_on-inserted, goes_on-with_inst}
 use Rattle.clif_simulation.proofs.Values.{is_value_at, false_is, values_added, next_is_new}
-use Rattle.clif_simulation.proofs.Unbranched.{open_everywhere}
+use Rattle.clif_simulation.proofs.Unbranched.{open_everywhere, CarriesUnbranched}
 use Rattle.clif_simulation.proofs.Calls.{values_same, name_stays, longer_calls}
 
 -- an instruction as the machine sees it, by its parts
@@ -70,7 +71,7 @@ pub record SameInstruction (calls : List AnsweredCall) (shape : InstructionData)
 edges_answered : (calls : List AnsweredCall) (edges : List (Edge Name Name)) → edges ≡ [] → map (answered_edge calls) edges ≡ []
 edges_answered calls edges none = ap (map (answered_edge calls)) none
 
-module _ (calls : List AnsweredCall) (f : Body) (s : SsaState) (c : Carries calls f s) (consistent : IsConsistent f)
+module _ (calls : List AnsweredCall) (f : Body) (s : SsaState) (c : CarriesUnbranched calls f s) (consistent : IsConsistent f)
     (b : ℕ) (B : Name) (current : IsCurrent calls b B) (there : b < length f.blocks)
     (shape : InstructionData) (instruction : Instruction Name Name) (loc : ℕ) (numbers : List ℕ) (matches : SameInstruction calls shape instruction) where
   abbrev call : AnsweredCall
@@ -158,13 +159,13 @@ module _ (calls : List AnsweredCall) (f : Body) (s : SsaState) (c : Carries call
         by zero h = false_is h
         by (suc i) h = false_is h
 
-    pub carries_terminator : Carries after g s
+    pub carries_terminator : CarriesUnbranched after g s
     carries_terminator =
         let described = own_described c.own h s T b shape loc firm before open_block there_still in
         let adds = adds_instruction calls call T b B current.named unwritten instruction puts in
-        carries_item calls call f g s s c (placed_kept f g consistent on) on.more_insts b B (Instruct (length calls) instruction []) T (with_item T b) adds
+        carries_item calls call f g s s c (placed_kept f g consistent on) on.more_insts (out_before f b) b B (Instruct (length calls) instruction []) T (with_item T b) adds
         (restated calls c.tables T same_side c.program)
-        (with_own c.own b (length h.insts) shape) (length h.insts ∷ []) own_here own_elsewhere new_is (longer_insts [], tt) (earlier_after, tt, matches.edges)
+        (with_own c.own b (length h.insts) shape) (length h.insts ∷ []) own_here own_elsewhere c.no_parameters (λ out. absurd (never_out f b out)) new_is (longer_insts [], tt) (earlier_after, tt, matches.edges)
         (values_added calls call T (with_item T b) b B (Instruct (length calls) instruction []) adds none_given (values_same calls c.tables T same_side c.values_given))
         (entry_begun calls after f g b B (Requests.entry_instructed calls call B current.current instruction refl) refl current.named (name_stays calls f s c call matches.edges) c.entry)
         described.0 described.1 described.2 (stray_after []) c.nothing_leads
@@ -206,14 +207,14 @@ module _ (calls : List AnsweredCall) (f : Body) (s : SsaState) (c : Carries call
         by (suc zero) h = the_one result
         by (suc (suc i)) h = absurd (false_is h)
 
-    pub carries_result : Carries after k s
+    pub carries_result : CarriesUnbranched after k s
     carries_result =
         let described = own_result_described c.own h s T b (code result) shape ty loc firm before open_block there_still (next_is_new calls T 1 (restated calls c.tables T same_side c.program)) in
         let T' : Blocks = with_born (with_item T b) (last_place (with_item T b) b) (code result) (length h.values) in
         let adds = adds_result calls call T b B current.named unwritten instruction (length h.values) (last_place (with_item T b) b) puts_result number (last-with_item T b) in
-        carries_item calls call f k s s c (placed_kept f k consistent goes) goes.more_insts b B (Instruct (length calls) instruction (result ∷ [])) T T' adds
+        carries_item calls call f k s s c (placed_kept f k consistent goes) goes.more_insts (out_before f b) b B (Instruct (length calls) instruction (result ∷ [])) T T' adds
         (restated calls c.tables T same_side c.program)
-        (with_own c.own b (length h.insts) shape) (length h.insts ∷ []) own_here own_elsewhere result_is (longer_insts (ty ∷ []), tt)
+        (with_own c.own b (length h.insts) shape) (length h.insts ∷ []) own_here own_elsewhere c.no_parameters (λ out. absurd (never_out f b out)) result_is (longer_insts (ty ∷ []), tt)
         (earlier_after, (let l = longer_calls calls f s c call in omega (arith, l), tt), matches.edges)
         (values_added calls call T T' b B (Instruct (length calls) instruction (result ∷ [])) adds given_result (values_same calls c.tables T same_side c.values_given))
         (entry_begun calls after f k b B (Requests.entry_instructed calls call B current.current instruction refl) refl current.named (name_stays calls f s c call matches.edges) c.entry)

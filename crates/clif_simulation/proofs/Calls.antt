@@ -6,6 +6,7 @@ use Rattle.clif_types.specs.declared.types.«Type».{«Type»}
 use Rattle.clif_ir.specs.Body.{Body, empty_block, block_at}
 use Rattle.clif_ir.specs.Consistent.{IsConsistent}
 use Rattle.clif_ir.specs.Changes.{with_block, inserted_in}
+use Rattle.clif_ir.specs.Reading.{stands_in}
 use Rattle.clif_paths.specs.Places.{inside}
 use Rattle.clif_paths.specs.State.{Naming}
 use Rattle.clif_paths.specs.Blocks.{Blocks, with_item, with_read, with_write}
@@ -26,7 +27,7 @@ use Rattle.clif_meaning.specs.Request.{Request, CreateBlock, SwitchToBlock, Seal
 use Rattle.clif_meaning.specs.Ledger.{BlockState, ABlock, AVariable, AValue, ledger_after, has_value, or_invalid, variable_type}
 use Rattle.clif_meaning.specs.Program.{Use, Assign}
 use Rattle.clif_simulation.specs.Tables.{code, number_or_none, program_so_far, block_name}
-use Rattle.clif_simulation.specs.Carries.{Carries, IsCurrent, NothingLeads, ValuesGiven, GoesOn}
+use Rattle.clif_simulation.specs.Carries.{IsCurrent, NothingLeads, ValuesGiven, GoesOn}
 use Rattle.std.proofs.lemmas.List.{append-nil}
 use Rattle.clif_ir.specs.declared.function.BlockNode.{BlockNode}
 use Rattle.clif_simulation.proofs.NameLists.{the_one, MakesNoBlock, names_stay, names_of}
@@ -34,9 +35,10 @@ use Rattle.clif_simulation.proofs.Staying.{unchanged, created, restated, old_or_
 use Rattle.clif_simulation.proofs.Requests
 use Rattle.clif_simulation.proofs.Requests.{entry_stays, entry_begun}
 use Rattle.clif_simulation.proofs.Carrying.{carries_on, carries_item}
-use Rattle.clif_simulation.proofs.Unbranched.{open_everywhere, nothing_still}
+use Rattle.clif_simulation.proofs.Unbranched.{open_everywhere, nothing_still, CarriesUnbranched}
 use Rattle.clif_simulation.proofs.ItemCalls.{adds_use, adds_assignment}
 use Rattle.clif_simulation.proofs.Growing.{placed_kept, goes_on-completed}
+use Rattle.clif_simulation.proofs.Layouts.{out_before, still_out-completed}
 use Rattle.clif_simulation.proofs.Values.{is_value_at, false_is, values_kept, values_added, next_is_new, value_answered}
 
 -- a block that doesn't exist has no instructions
@@ -74,7 +76,7 @@ names_count (state ∷ states) = ap suc (names_count states)
 pub values_same : (calls : List AnsweredCall) (T T' : Blocks) → SameProgram T T' → ValuesGiven calls T → ValuesGiven calls T'
 values_same calls T T' same given name is at_start = given name is (sym (ap (λ (n : Naming). n.home) (same.naming (code name))) ∙ at_start)
 
-module _ (calls : List AnsweredCall) (f : Body) (s : SsaState) (c : Carries calls f s) where
+module _ (calls : List AnsweredCall) (f : Body) (s : SsaState) (c : CarriesUnbranched calls f s) where
   abbrev with_answers : Request → List ℕ → List AnsweredCall
   with_answers request numbers = calls ++ record { request = request; numbers = numbers } ∷ []
 
@@ -94,10 +96,10 @@ module _ (calls : List AnsweredCall) (f : Body) (s : SsaState) (c : Carries call
 
   -- a block is made
   pub carries_created : (t : SsaState) (numbers : List ℕ) → length (ledger_after (script_of calls)).blocks ≡ length f.blocks → SameRecords s t → SameBlocks s t → SamePredecessors s t
-      → Carries (with_answers CreateBlock numbers) (with_block f) t
+      → CarriesUnbranched (with_answers CreateBlock numbers) (with_block f) t
   carries_created t numbers as_many records same leads =
       let call : AnsweredCall = the_call CreateBlock numbers in
-      carries_on calls call f (with_block f) s t c (λ i below. refl) (omega arith) c.tables
+      carries_on calls call f (with_block f) s t c (λ i below. refl) (omega arith) (λ b out. out) c.tables
       (created calls call refl c.tables c.tables (same_program c.tables) (Requests.items_created calls call refl) c.program)
       named (kept calls call refl) (Requests.items_created calls call refl)
       (values_kept calls call c.tables c.tables (same_program c.tables) one_answer_none c.values_given)
@@ -127,10 +129,10 @@ module _ (calls : List AnsweredCall) (f : Body) (s : SsaState) (c : Carries call
           by (inr new) = inr (empty b new.0, no_items N new.1 (c.program.only_blocks N))
 
   -- another block is made current
-  pub carries_switched : (block : Name) (numbers : List ℕ) → Carries (with_answers (SwitchToBlock block) numbers) f s
+  pub carries_switched : (block : Name) (numbers : List ℕ) → CarriesUnbranched (with_answers (SwitchToBlock block) numbers) f s
   carries_switched block numbers =
       let call : AnsweredCall = the_call (SwitchToBlock block) numbers in
-      carries_on calls call f f s s c (λ i below. refl) (omega arith) c.tables
+      carries_on calls call f f s s c (λ i below. refl) (omega arith) (λ b out. out) c.tables
       (unchanged calls call c.tables c.tables (same_program c.tables) tt (Requests.items_switched calls call block refl) c.program)
       (name_was call tt) (name_stays call tt) (Requests.items_switched calls call block refl)
       (values_kept calls call c.tables c.tables (same_program c.tables) (λ index. refl) c.values_given)
@@ -138,10 +140,10 @@ module _ (calls : List AnsweredCall) (f : Body) (s : SsaState) (c : Carries call
       c.describes c.sound c.counts c.nothing_stray c.nothing_leads
 
   -- a variable is declared
-  pub carries_declared : (ty : «Type») (numbers : List ℕ) → Carries (with_answers (DeclareVar ty) numbers) f s
+  pub carries_declared : (ty : «Type») (numbers : List ℕ) → CarriesUnbranched (with_answers (DeclareVar ty) numbers) f s
   carries_declared ty numbers =
       let call : AnsweredCall = the_call (DeclareVar ty) numbers in
-      carries_on calls call f f s s c (λ i below. refl) (omega arith) c.tables
+      carries_on calls call f f s s c (λ i below. refl) (omega arith) (λ b out. out) c.tables
       (unchanged calls call c.tables c.tables (same_program c.tables) tt (Requests.items_declared calls call ty refl) c.program)
       (name_was call tt) (name_stays call tt) (Requests.items_declared calls call ty refl)
       (values_kept calls call c.tables c.tables (same_program c.tables) (one_variable_none (length (ledger_after (script_of calls)).variables)) c.values_given)
@@ -151,13 +153,13 @@ module _ (calls : List AnsweredCall) (f : Body) (s : SsaState) (c : Carries call
   -- a block is sealed, and the entry stays
   pub carries_sealed : (t : SsaState) (block : Name) (numbers : List ℕ) (b : ℕ) → IsConsistent f → SameRecords s t → Seals s t b → SamePredecessors s t
       → entry_of (completed f (pending_of (sealed_of s b))) ≡ entry_of f
-      → Carries (with_answers (SealBlock block) numbers) (completed f (pending_of (sealed_of s b))) t
+      → CarriesUnbranched (with_answers (SealBlock block) numbers) (completed f (pending_of (sealed_of s b))) t
   carries_sealed t block numbers b consistent records seals leads entry =
       let call : AnsweredCall = the_call (SealBlock block) numbers in
       let g : Body = completed f (pending_of (sealed_of s b)) in
       let after = seals_locally c.own f s t c.tables b consistent (c.describes, c.sound, c.counts) (c.nothing_leads b) records seals leads in
       let on = goes_on-completed f (pending_of (sealed_of s b)) in
-      carries_on calls call f g s t c (placed_kept f g consistent on) on.more_insts after.tables
+      carries_on calls call f g s t c (placed_kept f g consistent on) on.more_insts (still_out-completed f (pending_of (sealed_of s b))) after.tables
       (unchanged calls call c.tables after.tables after.same tt (Requests.items_sealed calls call block refl) c.program)
       (name_was call tt) (name_stays call tt) (Requests.items_sealed calls call block refl)
       (values_kept calls call c.tables after.tables after.same (λ index. refl) c.values_given)
@@ -167,7 +169,7 @@ module _ (calls : List AnsweredCall) (f : Body) (s : SsaState) (c : Carries call
   -- a value is assigned to a variable in the current block
   pub carries_assigned : (t : SsaState) (x : ℕ) (n : Name) (value b : ℕ) (B : Name) (numbers : List ℕ) → IsCurrent calls b B
       → number_of calls n ≡ Some value → IsTrue (has_value (ledger_after (script_of calls)) n) → Records s t x b value → SameBlocks s t → SamePredecessors s t
-      → Carries (with_answers (DefVar x n) numbers) f t
+      → CarriesUnbranched (with_answers (DefVar x n) numbers) f t
   carries_assigned t x n value b B numbers current number is_value records same leads =
       let call : AnsweredCall = the_call (DefVar x n) numbers in
       let known = value_answered calls c.tables n c.program c.values_given is_value in
@@ -177,8 +179,8 @@ module _ (calls : List AnsweredCall) (f : Body) (s : SsaState) (c : Carries call
       let unwritten : (y : ℕ) → c.tables.assigned (inside b (suc (c.tables.count b))) y ≡ None = λ y. c.describes.unwritten b (suc (c.tables.count b)) y (omega arith) in
       let puts = Requests.puts_assignment calls call B current.current x n refl in
       let adds = adds_assignment calls call c.tables b B current.named unwritten x n puts known.1 in
-      carries_item calls call f f s t c (λ i below. refl) (omega arith) b B (Assign x n) c.tables (with_write (with_item c.tables b) b x (code n)) adds c.program c.own []
-      (sym (append-nil (c.own.insts b))) (λ d other. refl) refl tt (let e = known.1 in let l = longer_calls call in omega (arith, e, l))
+      carries_item calls call f f s t c (λ i below. refl) (omega arith) (λ d out. out) b B (Assign x n) c.tables (with_write (with_item c.tables b) b x (code n)) adds c.program c.own []
+      (sym (append-nil (c.own.insts b))) (λ d other. refl) c.no_parameters (λ out. refl) refl tt (let e = known.1 in let l = longer_calls call in omega (arith, e, l))
       (values_added calls call c.tables (with_write (with_item c.tables b) b x (code n)) b B (Assign x n) adds (λ index is. absurd (false_is is)) c.values_given)
       (entry_stays calls (calls ++ call ∷ []) f f (Requests.entry_assigned calls call B current.current x n refl) refl (name_stays call tt) c.entry)
       after.0 after.1 after.2 (same_stray c.own.insts f s t same c.nothing_stray) (nothing_still s t leads c.nothing_leads)
@@ -186,7 +188,7 @@ module _ (calls : List AnsweredCall) (f : Body) (s : SsaState) (c : Carries call
   -- a variable is used in the current block
   pub carries_used : (g : Body) (t : SsaState) (x v b : ℕ) (B : Name) → IsConsistent f → IsCurrent calls b B → KeepsAndKnows c.own c.tables g t b x v → NothingStray c.own.insts g t → SamePredecessors s t → GoesOn f g → v < length g.values
       → g.layout ≡ (inserted_in f b).layout
-      → Carries (with_answers (UseVar x) (v ∷ [])) g t
+      → CarriesUnbranched (with_answers (UseVar x) (v ∷ [])) g t
   carries_used g t x v b B consistent current after nothing_stray leads on exists layout =
       let call : AnsweredCall = the_call (UseVar x) (v ∷ []) in
       let T : Blocks = after.kept.tables in
@@ -197,8 +199,9 @@ module _ (calls : List AnsweredCall) (f : Body) (s : SsaState) (c : Carries call
       let puts = Requests.puts_use calls call B current.current x refl in
       let adds = adds_use calls call T b B current.named unwritten x v puts refl in
       let T' : Blocks = with_read (with_item T b) b (code (answer_of (length calls) 0)) x v in
-      carries_item calls call f g s t c (placed_kept f g consistent on) on.more_insts b B (Use x (answer_of (length calls) 0)) T T' adds was c.own []
-      (sym (append-nil (c.own.insts b))) (λ d other. refl) refl tt (let l = longer_calls call in omega (arith, l))
+      carries_item calls call f g s t c (placed_kept f g consistent on) on.more_insts
+      (λ d out. out_before f b d (ap (stands_in d) (sym layout) ∙ out)) b B (Use x (answer_of (length calls) 0)) T T' adds was c.own []
+      (sym (append-nil (c.own.insts b))) (λ d other. refl) c.no_parameters (λ out. refl) refl tt (let l = longer_calls call in omega (arith, l))
       (values_added calls call T T' b B (Use x (answer_of (length calls) 0)) adds
       (λ index is. first_value (length calls) (or_invalid (variable_type (ledger_after (script_of calls)) x)) index is)
       (values_same calls c.tables T after.kept.same c.values_given))

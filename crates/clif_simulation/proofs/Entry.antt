@@ -23,10 +23,9 @@ use Rattle.clif_meaning.specs.Program.{Program, Item, Instruct, Use, Assign}
 use Rattle.clif_meaning.specs.WellPlaced.{item_gives, item_names, program_code, IsWellPlaced, IsGivenAlong, given_on_entry}
 use Rattle.clif_meaning.proofs.StraightLine.{nothing_contained, none_of}
 use Rattle.clif_simulation.specs.Tables.{code, answered, program_so_far, block_name, item_at, assigned_by, origin_of, IsGiven}
-use Rattle.clif_simulation.specs.Carries.{Carries}
 use Rattle.clif_simulation.specs.Laws.{IsFinished}
 use Rattle.clif_simulation.proofs.Straight.{arms, OnlyEntry, same_step, same_block, strictly_before, none_elsewhere}
-use Rattle.clif_simulation.proofs.Unbranched.{none_leads}
+use Rattle.clif_simulation.proofs.Unbranched.{none_leads, CarriesUnbranched}
 use Rattle.clif_simulation.proofs.Listed.{no_parameters, place_within, through_block, is_path, given_earlier, none_on_entry}
 
 -- what a value stands for stands for itself
@@ -48,17 +47,17 @@ some_is x y e = cc
 none_some : {n : ℕ} → None ≡ Some n → ⊥
 none_some e = cc
 
-begins : (layout : List ℕ) (e : ℕ) → slice_get layout 0 ≡ Some e → has_entry layout ≡ true
+pub begins : (layout : List ℕ) (e : ℕ) → slice_get layout 0 ≡ Some e → has_entry layout ≡ true
 begins [] e found = cc
 begins (b ∷ layout) e found = refl
 
-module _ (calls : List AnsweredCall) (f : Body) (s : SsaState) (carries : Carries calls f s) where
+module _ (calls : List AnsweredCall) (f : Body) (s : SsaState) (carries : CarriesUnbranched calls f s) where
   abbrev pub tables : Blocks
   tables = carries.tables
 
   -- No parameter waits ------------------------------------------------------------------------------------------------
 
-  pub nothing_pending : IsConsistent f → IsFinished f s → NothingPending tables.function
+  pub nothing_pending : IsConsistent f → IsFinished calls f s → NothingPending tables.function
   nothing_pending consistent finished = record { none = none }
     where
       by : (v x : ℕ) → ((b : ℕ) × Contains (pending_of (sealed_of s b)) (record { variable = x; param = v })) ⊎ Contains {X = Pending} [] (record { variable = x; param = v }) → ⊥
@@ -94,7 +93,7 @@ module _ (calls : List AnsweredCall) (f : Body) (s : SsaState) (carries : Carrie
   pub is_born : (w b k : ℕ) → (tables.function.definition w).home ≡ inside b (suc k) → IsBorn w b k
   is_born w b k at = born_by w b k (tables.function.definition w).kind (carries.describes.homes w) at
 
-module _ (calls : List AnsweredCall) (f : Body) (s : SsaState) (carries : Carries calls f s)
+module _ (calls : List AnsweredCall) (f : Body) (s : SsaState) (carries : CarriesUnbranched calls f s)
     (entry : Name) (is_entry : (program_so_far calls).entry ≡ Some entry)
   where
     abbrev pub e : ℕ
@@ -122,11 +121,11 @@ module _ (calls : List AnsweredCall) (f : Body) (s : SsaState) (carries : Carrie
         by b target (inl enters) = target ∙ ap front (some_is b e (sym enters.1 ∙ found))
         by b target (inr edge) = absurd (none_leads s carries.nothing_leads b edge.branch edge.leads)
 
-    sealed : IsFinished f s → carries.tables.sealed e ≡ true
+    sealed : IsFinished calls f s → carries.tables.sealed e ≡ true
     sealed finished =
         carries.describes.sealed e ∙ ap (λ (b : Bool). b && has_entry f.layout) (finished.entry_sealed e found) ∙ begins f.layout e found
 
-    pub only_entry : IsFinished f s → OnlyEntry carries.tables e
+    pub only_entry : IsFinished calls f s → OnlyEntry carries.tables e
     only_entry finished = record {
       joined = joined;
       sealed = sealed finished;
@@ -208,7 +207,7 @@ module _ (calls : List AnsweredCall) (f : Body) (s : SsaState) (carries : Carrie
 
     -- The theory's conclusion -------------------------------------------------------------------------------------------
 
-    in_entry : IsFinished f s → IsWellPlaced (program_code (program_so_far calls)) → (k x n : ℕ) (o : Option Item) → item_at calls entry k ≡ o
+    in_entry : IsFinished calls f s → IsWellPlaced (program_code (program_so_far calls)) → (k x n : ℕ) (o : Option Item) → item_at calls entry k ≡ o
         → assigned_by o x ≡ Some n → StrictlyBefore (arms carries.tables) (carries.tables.naming n).home (inside e (suc k))
     in_entry finished placed k x n None stands assigned = cc
     in_entry finished placed k x n (Some (Instruct place instruction results)) stands assigned = cc
@@ -224,7 +223,7 @@ module _ (calls : List AnsweredCall) (f : Body) (s : SsaState) (carries : Carrie
             subst (λ (p : Place). StrictlyBefore (arms carries.tables) p (inside e (suc k))) (sym home)
             (strictly_before carries.tables e (only_entry finished) e (suc before.0) (suc k) (omega (arith, before.1)))
 
-    at_item : IsFinished f s → IsWellPlaced (program_code (program_so_far calls)) → (b k x n : ℕ) (o : Option Name) → block_name calls b ≡ o
+    at_item : IsFinished calls f s → IsWellPlaced (program_code (program_so_far calls)) → (b k x n : ℕ) (o : Option Name) → block_name calls b ≡ o
         → carries.tables.assigned (inside b (suc k)) x ≡ Some n → StrictlyBefore (arms carries.tables) (carries.tables.naming n).home (inside b (suc k))
     at_item finished placed b k x n None name assigned = absurd (none_some (sym (carries.program.elsewhere_nothing b (suc k) x name) ∙ assigned))
     at_item finished placed b k x n (Some block) name assigned = by (b == e) refl
@@ -241,13 +240,13 @@ module _ (calls : List AnsweredCall) (f : Body) (s : SsaState) (carries : Carrie
             subst (λ (c : ℕ). StrictlyBefore (arms carries.tables) (carries.tables.naming n).home (inside c (suc k))) (sym here)
             (in_entry finished placed k x n (item_at calls entry k) refl item)
 
-    pub at_place : IsFinished f s → IsWellPlaced (program_code (program_so_far calls)) → (place : Place) (x n : ℕ)
+    pub at_place : IsFinished calls f s → IsWellPlaced (program_code (program_so_far calls)) → (place : Place) (x n : ℕ)
         → carries.tables.assigned place x ≡ Some n → StrictlyBefore (arms carries.tables) (carries.tables.naming n).home place
     at_place finished placed start x n assigned = absurd (none_some (sym (carries.program.start_assigns_nothing x) ∙ assigned))
     at_place finished placed (inside b zero) x n assigned = absurd (none_some (sym (carries.program.front_assigns_nothing b x) ∙ assigned))
     at_place finished placed (inside b (suc k)) x n assigned = at_item finished placed b k x n (block_name calls b) refl assigned
 
-    pub is_correct : IsConsistent f → IsFinished f s → IsWellPlaced (program_code (program_so_far calls)) → IsCorrect (state_of carries.tables)
+    pub is_correct : IsConsistent f → IsFinished calls f s → IsWellPlaced (program_code (program_so_far calls)) → IsCorrect (state_of carries.tables)
     is_correct consistent finished placed =
         correct (state_of carries.tables) carries.sound.sound (nothing_pending calls f s carries consistent finished)
         (record { given_before = at_place finished placed })

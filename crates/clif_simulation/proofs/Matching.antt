@@ -1,5 +1,5 @@
 -- How one step of the script's machine is matched, and what both machines show at an end.
-use Rattle.std.proofs.Common.{◌≡◌, ℕ, zero, suc, ◌<◌, List, [], ◌∷◌, map, drop, slice_get, Some, inl, inr, refl, ap₂, arith}
+use Rattle.std.proofs.Common.{◌≡◌, ℕ, zero, suc, ◌<◌, ◌≤◌, List, [], ◌∷◌, map, drop, slice_get, Some, inl, inr, refl, ap₂, arith}
 use Rattle.clif_meaning.specs.Bits.{Bits}
 use Rattle.clif_meaning.specs.Memory.{Memory}
 use Rattle.clif_meaning.specs.Machine.{Machine, Control, At, HasReturned, HasTrapped, IsStuck, Observation, ending_of}
@@ -7,7 +7,7 @@ use Rattle.clif_meaning.specs.Instruction.{Operation, Compute, Jump, Brif, Retur
 use Rattle.clif_types.specs.declared.types.«Type».{«Type»}
 use Rattle.clif_meaning.specs.World.{World}
 use Rattle.clif_meaning.specs.Outcome.{Outcome, Gives, Goes, Returns, Traps, Calls, NoStep, Computed, Values, Fault, Undefined, computed, outcome_of_computed, outcome_of}
-use Rattle.clif_meaning.proofs.Stuttering.{Matched, ShowsOnlyEnds}
+use Rattle.clif_meaning.proofs.Stuttering.{Matched, ShowsOnlyEnds, steps_from}
 use Rattle.clif_simulation.proofs.Giving.{In}
 
 -- Lists -----------------------------------------------------------------------------------------------------------------
@@ -50,6 +50,11 @@ module _ {S T : Type 0} (left : Machine S Observation) (right : Machine T Observ
       quiet : ShowsOnlyEnds right 0 t
       quiet zero h = inl refl
       quiet (suc j) h = absurd (omega arith)
+
+  -- by some steps that show nothing new
+  pub matched_by_more : (n : ℕ) → Related (left.next s) (steps_from right (suc n) t) → ((j : ℕ) → j ≤ suc n → right.shown (steps_from right j t) ≡ right.shown t)
+      → Matched left right Related measure s t
+  matched_by_more n related quiet = record { steps = suc n; related = related; quiet = λ j within. inl (quiet j within); gets_on = inl (omega arith) }
 
 -- Ends ------------------------------------------------------------------------------------------------------------------
 
