@@ -15,7 +15,8 @@ use Rattle.clif_meaning.specs.Request.{Request, CreateBlock, SwitchToBlock, Seal
 use Rattle.clif_meaning.specs.Ledger.{Ledger, ledger_after, ledger_with, empty_ledger, with_layout, with_begun_at, with_begun, with_filled_at, with_terminator, with_predecessor, is_inserted, is_terminator}
 use Rattle.clif_meaning.specs.Program.{Program, Item, with_call, empty_program, with_item_at, with_inserted}
 use Rattle.clif_simulation.specs.Tables.{program_so_far, IsProgramOf}
-use Rattle.clif_simulation.proofs.Unbranched.{CarriesUnbranched}
+use Rattle.clif_simulation.specs.Carries.{Carries}
+use Rattle.clif_simulation.proofs.Unbranched.{branched}
 use Rattle.clif_simulation.proofs.Values.{false_is}
 
 some_none : {X : Type 0} (x : X) → None ≡ Some x → ⊥
@@ -89,10 +90,10 @@ nothing_so_far = record {
 }
 
 -- a new function carries the empty list of calls
-pub carries_nothing : (name : UserFuncName) (signature : SignatureShape) → CarriesUnbranched [] (empty_body name signature) no_state
+pub carries_nothing : (name : UserFuncName) (signature : SignatureShape) → Carries [] (empty_body name signature) no_state
 carries_nothing name signature =
     let first = first_described name signature in
-    record {
+    branched [] (empty_body name signature) no_state (record {
       tables = no_blocks;
       own = no_own;
       program = nothing_so_far;
@@ -109,4 +110,4 @@ carries_nothing name signature =
       counts = first.2;
       nothing_stray = first_stray name signature;
       nothing_leads = λ b. refl;
-    }
+    })

@@ -271,7 +271,7 @@ module _ (calls : List AnsweredCall) (f : Body) (s : SsaState) (consistent : IsC
     at_item b k x n (Some B) name assigned =
         record { on_every_path = by_item b k x n B name (item_at calls B k) refl (sym (carries.program.assigned b k B name x) ∙ assigned) }
 
-    at_place : (place : paths.Place) (x n : ℕ) → carries.tables.assigned place x ≡ Some n → StrictlyBefore (arms carries.tables) (carries.tables.naming n).home place
+    pub at_place : (place : paths.Place) (x n : ℕ) → carries.tables.assigned place x ≡ Some n → StrictlyBefore (arms carries.tables) (carries.tables.naming n).home place
     at_place start x n assigned = absurd (none_some n (sym (carries.program.start_assigns_nothing x) ∙ assigned))
     at_place (inside b zero) x n assigned = absurd (none_some n (sym (carries.program.front_assigns_nothing b x) ∙ assigned))
     at_place (inside b (suc k)) x n assigned = at_item b k x n (block_name calls b) refl assigned

@@ -22,10 +22,11 @@ use Rattle.clif_simulation.specs.Tables.{code, answered, program_so_far, block_n
 use Rattle.clif_simulation.specs.Carries.{carried}
 use Rattle.clif_simulation.specs.Laws.{IsFinished}
 use Rattle.clif_simulation.specs.Structure.{IsAnswerAt, AreRecords}
-use Rattle.clif_simulation.proofs.Unbranched.{CarriesUnbranched}
+use Rattle.clif_simulation.proofs.Unbranched.{CarriesUnbranched, branched}
 use Rattle.clif_simulation.proofs.Straight.{arms, straight, straight_end, straight_follows}
 use Rattle.clif_simulation.proofs.Listed.{place_within}
 use Rattle.clif_simulation.proofs.Entry
+use Rattle.clif_simulation.proofs.Flow
 use Rattle.clif_simulation.proofs.Placing
 use Rattle.clif_simulation.proofs.Placing.{map_length, so_many, not_start}
 use Rattle.clif_simulation.proofs.Structured.{no_branches, no_targets, in_entry, given_on_path, no_entry}
@@ -73,7 +74,7 @@ module _ (calls : List AnsweredCall) (f : Body) (s : SsaState) (consistent : IsC
     allowed = record {
       known = λ arm sealed. refl;
       rooted = carries.sound.sound.rooted;
-      given_before = Entry.at_place calls f s carries entry is_entry finished placed;
+      given_before = Flow.at_place calls f s consistent (branched calls f s carries) placed;
     }
 
     under : SoundUnder (arms carries.tables) (state_of carries.tables)

@@ -56,38 +56,7 @@ use Rattle.clif_simulation.proofs.Listed.{all_at, no_parameters, none_mapped, pl
 use Rattle.clif_simulation.proofs.OwnEdges
 use Rattle.clif_simulation.proofs.OwnEdges.{last_item}
 use Rattle.clif_simulation.proofs.Placing.{at_second, map_at, placed_item}
-use Rattle.clif_simulation.proofs.Matching.{item_here, rest_behind, same_bits, matched_by_one, matched_by_none, matched_by_more, SameEnd, same_ending, IsPlain, outcome_plain}
-
-script_still : (run : ScriptRun) (state : ScriptState) (c : Control Item) (d : Control Placed) → SameEnd c d → script.step_at run state c ≡ state
-script_still run state (At rest) d same = absurd same
-script_still run state (HasReturned results) d same = refl
-script_still run state (HasTrapped reason) d same = refl
-script_still run state IsStuck d same = refl
-
-function_still : (run : FunctionRun) (state : FunctionState) (c : Control Item) (d : Control Placed) → SameEnd c d → function_machine_of.step_at run state d ≡ state
-function_still run state (At items) (At rest) same = absurd same
-function_still run state (HasReturned a) (At rest) same = absurd same
-function_still run state (HasTrapped a) (At rest) same = absurd same
-function_still run state IsStuck (At rest) same = absurd same
-function_still run state c (HasReturned results) same = refl
-function_still run state c (HasTrapped reason) same = refl
-function_still run state c IsStuck same = refl
-
-abbrev pub observation : List Event → Ending → Observation
-observation events ending = record { events = events; ending = ending }
-
--- how many items are left
-abbrev pub remaining : Control Item → ℕ
-remaining (At rest) = length rest
-remaining (HasReturned results) = 0
-remaining (HasTrapped reason) = 0
-remaining IsStuck = 0
-
-first_is : {X : Type 0} (x y : X) (xs ys : List X) → (x ∷ xs) ≡ (y ∷ ys) → x ≡ y
-first_is x y xs ys same = cc
-
-rest_is : {X : Type 0} (x y : X) (xs ys : List X) → (x ∷ xs) ≡ (y ∷ ys) → xs ≡ ys
-rest_is x y xs ys same = cc
+use Rattle.clif_simulation.proofs.Matching.{script_still, function_still, observation, remaining, first_is, rest_is, item_here, rest_behind, same_bits, matched_by_one, matched_by_none, matched_by_more, SameEnd, same_ending, IsPlain, outcome_plain}
 
 -- no bits, and nothing changes
 pub nothing_assigned : {Place : Type 0} (same : Place → Place → Bool) (places : List Place) (old : Place → ℕ) → assigned same places [] old ≡ old

@@ -28,11 +28,12 @@ use Rattle.clif_simulation.specs.Tables.{code, answered, program_so_far, block_n
 use Rattle.clif_simulation.specs.Carries.{answered_edge, carried}
 use Rattle.clif_simulation.specs.Laws.{IsFinished}
 use Rattle.clif_simulation.specs.Structure.{callers_parameters, HasCallersParameters}
-use Rattle.clif_simulation.proofs.Unbranched.{CarriesUnbranched, PlainlyEarlier}
+use Rattle.clif_simulation.proofs.Unbranched.{CarriesUnbranched, branched, PlainlyEarlier}
 use Rattle.clif_simulation.proofs.Straight.{arms, straight, straight_end, straight_follows, strictly_before}
 use Rattle.clif_simulation.proofs.Listed.{no_parameters, place_within}
 use Rattle.clif_simulation.proofs.Carrying.{all_append, all_mapped}
 use Rattle.clif_simulation.proofs.Entry
+use Rattle.clif_simulation.proofs.Flow
 use Rattle.clif_simulation.proofs.Placing
 use Rattle.clif_simulation.proofs.Placing.{in_two, map_from, map_length, contained_at, contained, all_at, so_many, OfItem, of_item, not_start}
 
@@ -230,7 +231,7 @@ module _ (calls : List AnsweredCall) (f : Body) (s : SsaState) (consistent : IsC
         let before = Entry.named_before calls f s carries entry is_entry placed it.j (Instruct it.place it.instruction it.results) it.stands n
         (contained it.instruction.operands there.0 n second.1) in
         let only = Entry.only_entry calls f s carries entry is_entry finished in
-        let correct : IsCorrect (state_of carries.tables) = Entry.is_correct calls f s carries entry is_entry consistent finished placed in
+        let correct : IsCorrect (state_of carries.tables) = Flow.is_correct calls f s consistent (branched calls f s carries) placed finished in
         let given : (carries.tables.naming (code n)).home ≢ start = not_start (carries.tables.naming (code n)).home e (suc before.0) before.2 in
         let within : suc it.j ≤ carries.tables.count e =
         omega (arith, Entry.counted calls f s carries entry is_entry, place_within items it.j (Instruct it.place it.instruction it.results) it.stands) in

@@ -75,7 +75,7 @@ nothing_passes own f inst none =
     ap (λ (edges : List (Edge ℕ ℕ)). record (placed_of f (inst_at f inst)) { instruction = record (placed_of f (inst_at f inst)).instruction { edges = edges } })
     (ap (as_passed (own.passed inst) 0) none ∙ sym none)
 
-all_nothing_passes : (own : Own) (f : Body) (insts : List ℕ) → ((inst : ℕ) → In inst insts → edges_of (inst_at f inst).shape ≡ [])
+pub all_nothing_passes : (own : Own) (f : Body) (insts : List ℕ) → ((inst : ℕ) → In inst insts → edges_of (inst_at f inst).shape ≡ [])
     → map (own_placed own f) insts ≡ map (λ inst. placed_of f (inst_at f inst)) insts
 all_nothing_passes own f [] none = refl
 all_nothing_passes own f (inst ∷ insts) none =
@@ -104,20 +104,20 @@ items_without calls (Instruct place instruction results ∷ items) earlier = (ap
 items_without calls (Use variable name ∷ items) earlier = items_without calls items earlier.1
 items_without calls (Assign variable name ∷ items) earlier = items_without calls items earlier.1
 
-names_earlier : (calls : List AnsweredCall) (items : List Item) → AllByRecursion (PlainlyEarlier calls) items → AllByRecursion (NamesEarlier calls) items
+pub names_earlier : (calls : List AnsweredCall) (items : List Item) → AllByRecursion (PlainlyEarlier calls) items → AllByRecursion (NamesEarlier calls) items
 names_earlier calls [] earlier = tt
 names_earlier calls (Instruct place instruction results ∷ items) earlier =
     ((earlier.0.0, earlier.0.1, subst (AllByRecursion (EdgeEarlier calls)) (sym earlier.0.2) tt), names_earlier calls items earlier.1)
 names_earlier calls (Use variable name ∷ items) earlier = (earlier.0, names_earlier calls items earlier.1)
 names_earlier calls (Assign variable name ∷ items) earlier = (earlier.0, names_earlier calls items earlier.1)
 
-end_of_items : (calls : List AnsweredCall) (items : List Item) → AllByRecursion (PlainlyEarlier calls) items → EdgesEnd items
+pub end_of_items : (calls : List AnsweredCall) (items : List Item) → AllByRecursion (PlainlyEarlier calls) items → EdgesEnd items
 end_of_items calls [] earlier = tt
 end_of_items calls (Instruct place instruction results ∷ items) earlier = (inl earlier.0.2, end_of_items calls items earlier.1)
 end_of_items calls (Use variable name ∷ items) earlier = end_of_items calls items earlier.1
 end_of_items calls (Assign variable name ∷ items) earlier = end_of_items calls items earlier.1
 
-no_target : (f : Body) (inst k target : ℕ) → edges_of (inst_at f inst).shape ≡ [] → edge_target f inst k ≡ Some target → ⊥
+pub no_target : (f : Body) (inst k target : ℕ) → edges_of (inst_at f inst).shape ≡ [] → edge_target f inst k ≡ Some target → ⊥
 no_target f inst k target none leads = by (destinations (inst_at f inst).shape) (none_mapped edge_of (destinations (inst_at f inst).shape) none) k leads
   where
     by : (edges : List BlockCall) → edges ≡ [] → (k : ℕ) → slice_get (map (λ (edge : BlockCall). edge.block) edges) k ≡ Some target → ⊥
@@ -138,17 +138,17 @@ module _ (calls : List AnsweredCall) (f : Body) (s : SsaState) where
             absurd (none_leads s nothing edge.block inst (carries.declared block inst 0 edge.block (in_contained (carries.own.insts block) inst there)
             (ap (λ (es : List BlockCall). slice_get (map (λ (e : BlockCall). e.block) es) 0) some)))
 
-    plain_items : PlainlyHasItems calls f carries.own.insts
+    pub plain_items : PlainlyHasItems calls f carries.own.insts
     plain_items block name named = sym (all_nothing_passes carries.own f (carries.own.insts block) (own_without block)) ∙ carries.items block name named
 
-    plainly_earlier : (name : Name) → ((program_so_far calls).items name ≡ []) ⊎ ((block : ℕ) × (block_name calls block ≡ Some name))
+    pub plainly_earlier : (name : Name) → ((program_so_far calls).items name ≡ []) ⊎ ((block : ℕ) × (block_name calls block ≡ Some name))
         → AllByRecursion (PlainlyEarlier calls) ((program_so_far calls).items name)
     plainly_earlier name (inl none) = subst (AllByRecursion (PlainlyEarlier calls)) (sym none) tt
     plainly_earlier name (inr block) =
         of_items calls ((program_so_far calls).items name) (carries.earlier name)
         (subst (AllByRecursion HasNoEdges) (plain_items block.0 name block.1) (all_without f (carries.own.insts block.0) (own_without block.0)))
 
-    pub unbranched : CarriesUnbranched calls f s
+    abbrev pub unbranched : CarriesUnbranched calls f s
     unbranched = record {
       tables = carries.tables;
       own = carries.own;
@@ -169,13 +169,13 @@ module _ (calls : List AnsweredCall) (f : Body) (s : SsaState) where
     }
 
   module _ (carries : CarriesUnbranched calls f s) where
-    own_plain : (block : ℕ) (o : Option Name) → block_name calls block ≡ o → (inst : ℕ) → In inst (carries.own.insts block) → edges_of (inst_at f inst).shape ≡ []
+    pub own_plain : (block : ℕ) (o : Option Name) → block_name calls block ≡ o → (inst : ℕ) → In inst (carries.own.insts block) → edges_of (inst_at f inst).shape ≡ []
     own_plain block None unnamed inst there = absurd (subst (In inst) (carries.own_named block unnamed) there)
     own_plain block (Some name) named inst there =
         without_at f (carries.own.insts block)
         (subst (AllByRecursion HasNoEdges) (sym (carries.items block name named)) (items_without calls ((program_so_far calls).items name) (carries.earlier name))) inst there
 
-    pub branched : Carries calls f s
+    abbrev pub branched : Carries calls f s
     branched = record {
       tables = carries.tables;
       own = carries.own;
