@@ -1,11 +1,11 @@
 -- When both machines agree: what denotes one instance has the same bits on both sides. Each kind of item keeps it, with
--- the bits that the machines give.
+-- the bits that the machines give, and so does an edge.
 use Rattle.std.proofs.Common.{◌≡◌, ◌≢◌, ◌⊎◌, ℕ, ◌≤◌, ◌==◌, Bool, true, false, List, [], ◌∷◌, map, length, Some, None, inl, inr, refl, sym, ◌∙◌, ap, arith}
 use Rattle.std.proofs.lemmas.Bool.{eqb-true}
 use Rattle.std.proofs.lemmas.Bool.Decides.{nat_tests}
 use Rattle.clif_paths.specs.Places.{Arm, Path}
-use Rattle.clif_paths.specs.State.{fresh, reads, Naming, Program, born, Definition, Function}
-use Rattle.clif_paths.specs.Denotation.{Instance, given, variable, name, instances, denotes}
+use Rattle.clif_paths.specs.State.{fresh, reads, Naming, Program, born, zero_of, Definition, Function}
+use Rattle.clif_paths.specs.Denotation.{Instance, zero, given, variable, name, instances, denotes}
 use Rattle.clif_paths.specs.Laws.{age}
 use Rattle.clif_paths.proofs.PathLemmas.{dec_place}
 use Rattle.clif_paths.proofs.Executing.{program_steps, function_steps, variable-kept, variable-assigned, entered-sealed, name-past, denotes-past}
@@ -18,10 +18,14 @@ use Rattle.clif_simulation.specs.Tables.{code}
 use Rattle.clif_simulation.proofs.Codes
 use Rattle.clif_simulation.proofs.Giving.{In, name_keeps, value_keeps, same_given, same_or_other}
 
--- what denotes one instance has the same bits
-pub record Agrees (program : Program) (function : Function) (path : Path) (variables : ℕ → ℕ) (names : Name → ℕ) (values : ℕ → ℕ) : Type 0 where
-  pub of_variable : (x w : ℕ) → instances program path (variable x) ≡ denotes program function path w → variables x ≡ values w
-  pub of_name : (n : Name) (w : ℕ) → instances program path (name (code n)) ≡ denotes program function path w → names n ≡ values w
+-- what denotes one instance has the same bits: variables and names, and such values
+pub record Agrees (live : ℕ → Type 0) (program : Program) (function : Function) (path : Path) (variables : ℕ → ℕ) (names : Name → ℕ) (values : ℕ → ℕ) : Type 0 where
+  pub of_variable : (x w : ℕ) → live w → instances program path (variable x) ≡ denotes program function path w → variables x ≡ values w
+  pub of_name : (n : Name) (w : ℕ) → live w → instances program path (name (code n)) ≡ denotes program function path w → names n ≡ values w
+
+-- each value
+abbrev pub any_value : ℕ → Type 0
+any_value w = Unit {0}
 
 -- what arose before isn't what is given now
 too_young : (n : ℕ) (arm : Arm) (path : Path) (i : Instance) → age i ≤ length path → i ≡ given n (arm ∷ path) → ⊥
@@ -30,18 +34,20 @@ too_young n arm path i old new =
     absurd (omega arith)
 
 -- An instruction at the arm's target gives these names, by their answers, and nothing else is given there.
-pub record GivesThere (program : Program) (function : Function) (arm : Arm) (path : Path) (results : List Name) (answered : Name → ℕ) : Type 0 where
+pub record GivesThere (live : ℕ → Type 0) (program : Program) (function : Function) (arm : Arm) (path : Path) (results : List Name) (answered : Name → ℕ) : Type 0 where
   pub known : program.is_sealed arm.target ≡ true
   pub unassigned : (x : ℕ) → program.assigned arm.target x ≡ None
   pub named : (n : Name) → In n results → program.naming (code n) ≡ record { home = arm.target; origin = fresh }
   pub defined : (n : Name) → In n results → function.definition (answered n) ≡ record { home = arm.target; kind = born (code n) }
   pub only_names : (n : Name) → (program.naming (code n)).home ≡ arm.target → In n results
   pub only_values : (w : ℕ) → (function.definition w).home ≡ arm.target → (n : Name) × In n results × (w ≡ answered n)
-  pub not_yet : (n : Name) → In n results → instances program path (name (code n)) ≡ denotes program function path (answered n)
+  pub are_live : (n : Name) → In n results → live (answered n)
+  -- whatever was given before, to name and value alike
+  pub before : (n : Name) → In n results → instances program path (name (code n)) ≡ denotes program function path (answered n)
 
-module _ (program : Program) (function : Function) (arm : Arm) (path : Path) (results : List Name) (answered : Name → ℕ)
-    (gives : GivesThere program function arm path results answered)
-    (variables : ℕ → ℕ) (names : Name → ℕ) (values : ℕ → ℕ) (agrees : Agrees program function path variables names values) (bits : List ℕ)
+module _ (live : ℕ → Type 0) (program : Program) (function : Function) (arm : Arm) (path : Path) (results : List Name) (answered : Name → ℕ)
+    (gives : GivesThere live program function arm path results answered)
+    (variables : ℕ → ℕ) (names : Name → ℕ) (values : ℕ → ℕ) (agrees : Agrees live program function path variables names values) (bits : List ℕ)
   where
     abbrev pub new_names : Name → ℕ
     new_names = assigned same_name results bits names
@@ -52,15 +58,15 @@ module _ (program : Program) (function : Function) (arm : Arm) (path : Path) (re
     value_given : (n : Name) → In n results → denotes program function (arm ∷ path) (answered n) ≡ given (code n) (arm ∷ path)
     value_given n there = (function_steps program function arm path).born_here (answered n) (code n) (gives.defined n there)
 
-    name_given : (n : Name) → In n results → instances program (arm ∷ path) (name (code n)) ≡ given (code n) (arm ∷ path)
+    pub name_given : (n : Name) → In n results → instances program (arm ∷ path) (name (code n)) ≡ given (code n) (arm ∷ path)
     name_given n there = (program_steps program arm path).given_here (code n) (gives.named n there)
 
     -- a value that is defined elsewhere keeps its bits
-    value_stays : (w : ℕ) → (function.definition w).home ≢ arm.target → new_values w ≡ values w
+    pub value_stays : (w : ℕ) → (function.definition w).home ≢ arm.target → new_values w ≡ values w
     value_stays w elsewhere = value_keeps answered results bits values w (λ n there e.
         elsewhere (ap (λ (v : ℕ). (function.definition v).home) e ∙ ap (λ (d : Definition). d.home) (gives.defined n there)))
 
-    name_stays : (n : Name) → (program.naming (code n)).home ≢ arm.target → new_names n ≡ names n
+    pub name_stays : (n : Name) → (program.naming (code n)).home ≢ arm.target → new_names n ≡ names n
     name_stays n elsewhere = name_keeps results bits names n (λ there. elsewhere (ap (λ (k : Naming). k.home) (gives.named n there)))
 
     -- nothing older denotes what a value born here does
@@ -70,8 +76,8 @@ module _ (program : Program) (function : Function) (arm : Arm) (path : Path) (re
         too_young (code found.0) arm path i old
         (same ∙ ap (λ (v : ℕ). denotes program function (arm ∷ path) v) found.2 ∙ value_given found.0 found.1)
 
-    variable_agrees : (x w : ℕ) → instances program (arm ∷ path) (variable x) ≡ denotes program function (arm ∷ path) w → variables x ≡ new_values w
-    variable_agrees x w same = by (dec_place (function.definition w).home arm.target)
+    variable_agrees : (x w : ℕ) → live w → instances program (arm ∷ path) (variable x) ≡ denotes program function (arm ∷ path) w → variables x ≡ new_values w
+    variable_agrees x w is_live same = by (dec_place (function.definition w).home arm.target)
       where
         kept : instances program (arm ∷ path) (variable x) ≡ instances program path (variable x)
         kept = variable-kept program arm path x gives.known (gives.unassigned x)
@@ -79,7 +85,7 @@ module _ (program : Program) (function : Function) (arm : Arm) (path : Path) (re
         by : Dec ((function.definition w).home ≡ arm.target) → variables x ≡ new_values w
         by (yes at) = absurd (none_older (instances program path (variable x)) w (program_knows program path (variable x)) at (sym kept ∙ same))
         by (no elsewhere) =
-            agrees.of_variable x w (sym kept ∙ same ∙ denotes-past program function arm path w elsewhere) ∙ sym (value_stays w elsewhere)
+            agrees.of_variable x w is_live (sym kept ∙ same ∙ denotes-past program function arm path w elsewhere) ∙ sym (value_stays w elsewhere)
 
     pub apart : (a b : Name) → In a results → In b results → answered a ≡ answered b → a ≡ b
     apart a b in_a in_b same =
@@ -89,8 +95,8 @@ module _ (program : Program) (function : Function) (arm : Arm) (path : Path) (re
         let codes : code a ≡ code b = cc in
         Codes.differ a b codes
 
-    name_agrees : (n : Name) (w : ℕ) → instances program (arm ∷ path) (name (code n)) ≡ denotes program function (arm ∷ path) w → new_names n ≡ new_values w
-    name_agrees n w same = by (dec_place (program.naming (code n)).home arm.target) (dec_place (function.definition w).home arm.target)
+    name_agrees : (n : Name) (w : ℕ) → live w → instances program (arm ∷ path) (name (code n)) ≡ denotes program function (arm ∷ path) w → new_names n ≡ new_values w
+    name_agrees n w is_live same = by (dec_place (program.naming (code n)).home arm.target) (dec_place (function.definition w).home arm.target)
       where
         old_name : (program.naming (code n)).home ≢ arm.target → instances program (arm ∷ path) (name (code n)) ≡ instances program path (name (code n))
         old_name other = name-past program arm path (code n) other
@@ -106,7 +112,7 @@ module _ (program : Program) (function : Function) (arm : Arm) (path : Path) (re
         by : Dec ((program.naming (code n)).home ≡ arm.target) → Dec ((function.definition w).home ≡ arm.target) → new_names n ≡ new_values w
         by (yes here) (yes at) =
             let there : In n results = gives.only_names n here in
-            same_given answered results bits names values n apart there (agrees.of_name n (answered n) (gives.not_yet n there))
+            same_given answered results bits names values n apart there (agrees.of_name n (answered n) (gives.are_live n there) (gives.before n there))
             ∙ ap new_values (sym (answers there (gives.only_values w at)))
         by (yes here) (no elsewhere) =
             absurd (too_young (code n) arm path (denotes program function path w) (function_knows program function path w)
@@ -114,10 +120,10 @@ module _ (program : Program) (function : Function) (arm : Arm) (path : Path) (re
         by (no other) (yes at) =
             absurd (none_older (instances program path (name (code n))) w (program_knows program path (name (code n))) at (sym (old_name other) ∙ same))
         by (no other) (no elsewhere) =
-            name_stays n other ∙ agrees.of_name n w (sym (old_name other) ∙ same ∙ denotes-past program function arm path w elsewhere)
+            name_stays n other ∙ agrees.of_name n w is_live (sym (old_name other) ∙ same ∙ denotes-past program function arm path w elsewhere)
             ∙ sym (value_stays w elsewhere)
 
-    pub given_agrees : Agrees program function (arm ∷ path) variables new_names new_values
+    pub given_agrees : Agrees live program function (arm ∷ path) variables new_names new_values
     given_agrees = record { of_variable = variable_agrees; of_name = name_agrees }
 
 -- A use at the arm's target gives this name, and nothing else is given there.
@@ -128,9 +134,9 @@ pub record UsesThere (program : Program) (function : Function) (arm : Arm) (x : 
   pub only_names : (n : Name) → (program.naming (code n)).home ≡ arm.target → n ≡ used
   pub no_values : (w : ℕ) → (function.definition w).home ≢ arm.target
 
-module _ (program : Program) (function : Function) (arm : Arm) (path : Path) (x : ℕ) (used : Name)
+module _ (live : ℕ → Type 0) (program : Program) (function : Function) (arm : Arm) (path : Path) (x : ℕ) (used : Name)
     (uses : UsesThere program function arm x used)
-    (variables : ℕ → ℕ) (names : Name → ℕ) (values : ℕ → ℕ) (agrees : Agrees program function path variables names values)
+    (variables : ℕ → ℕ) (names : Name → ℕ) (values : ℕ → ℕ) (agrees : Agrees live program function path variables names values)
   where
     abbrev pub names_with_use : Name → ℕ
     names_with_use = assigned same_name (used ∷ []) (variables x ∷ []) names
@@ -141,23 +147,23 @@ module _ (program : Program) (function : Function) (arm : Arm) (path : Path) (x 
     kept_value : (w : ℕ) → denotes program function (arm ∷ path) w ≡ denotes program function path w
     kept_value w = denotes-past program function arm path w (uses.no_values w)
 
-    read_name : instances program (arm ∷ path) (name (code used)) ≡ instances program path (variable x)
+    pub read_name : instances program (arm ∷ path) (name (code used)) ≡ instances program path (variable x)
     read_name =
         (program_steps program arm path).read_here (code used) x uses.named ∙ entered-sealed program arm path x uses.known
 
-    used_agrees_at : (n : Name) (w : ℕ) → instances program (arm ∷ path) (name (code n)) ≡ denotes program function (arm ∷ path) w → names_with_use n ≡ values w
-    used_agrees_at n w same = by (same_or_other n used)
+    used_agrees_at : (n : Name) (w : ℕ) → live w → instances program (arm ∷ path) (name (code n)) ≡ denotes program function (arm ∷ path) w → names_with_use n ≡ values w
+    used_agrees_at n w is_live same = by (same_or_other n used)
       where
         by : ((same_name n used ≡ true) × (n ≡ used)) ⊎ ((same_name n used ≡ false) × (n ≢ used)) → names_with_use n ≡ values w
         by (inl one) =
-            rw (one.0) (agrees.of_variable x w (sym read_name
+            rw (one.0) (agrees.of_variable x w is_live (sym read_name
             ∙ ap (λ (m : Name). instances program (arm ∷ path) (name (code m))) (sym one.1) ∙ same ∙ kept_value w))
         by (inr other) =
-            rw (other.0) (agrees.of_name n w (sym (name-past program arm path (code n) (λ here. other.1 (uses.only_names n here))) ∙ same ∙ kept_value w))
+            rw (other.0) (agrees.of_name n w is_live (sym (name-past program arm path (code n) (λ here. other.1 (uses.only_names n here))) ∙ same ∙ kept_value w))
 
-    pub used_agrees : Agrees program function (arm ∷ path) variables names_with_use values
+    pub used_agrees : Agrees live program function (arm ∷ path) variables names_with_use values
     used_agrees = record {
-      of_variable = λ y w same. agrees.of_variable y w (sym (kept_variable y) ∙ same ∙ kept_value w);
+      of_variable = λ y w is_live same. agrees.of_variable y w is_live (sym (kept_variable y) ∙ same ∙ kept_value w);
       of_name = used_agrees_at;
     }
 
@@ -169,9 +175,9 @@ pub record AssignsThere (program : Program) (function : Function) (arm : Arm) (x
   pub no_names : (n : Name) → (program.naming (code n)).home ≢ arm.target
   pub no_values : (w : ℕ) → (function.definition w).home ≢ arm.target
 
-module _ (program : Program) (function : Function) (arm : Arm) (path : Path) (x : ℕ) (from : Name)
+module _ (live : ℕ → Type 0) (program : Program) (function : Function) (arm : Arm) (path : Path) (x : ℕ) (from : Name)
     (assigns : AssignsThere program function arm x from)
-    (variables : ℕ → ℕ) (names : Name → ℕ) (values : ℕ → ℕ) (agrees : Agrees program function path variables names values)
+    (variables : ℕ → ℕ) (names : Name → ℕ) (values : ℕ → ℕ) (agrees : Agrees live program function path variables names values)
   where
     abbrev pub variables_with_assignment : ℕ → ℕ
     variables_with_assignment = assigned same_variable (x ∷ []) (names from ∷ []) variables
@@ -179,29 +185,183 @@ module _ (program : Program) (function : Function) (arm : Arm) (path : Path) (x 
     same_value_denoted : (w : ℕ) → denotes program function (arm ∷ path) w ≡ denotes program function path w
     same_value_denoted w = denotes-past program function arm path w (assigns.no_values w)
 
-    assigned_agrees_at : (y w : ℕ) → instances program (arm ∷ path) (variable y) ≡ denotes program function (arm ∷ path) w → variables_with_assignment y ≡ values w
-    assigned_agrees_at y w same = by (y == x) refl
+    assigned_agrees_at : (y w : ℕ) → live w → instances program (arm ∷ path) (variable y) ≡ denotes program function (arm ∷ path) w → variables_with_assignment y ≡ values w
+    assigned_agrees_at y w is_live same = by (y == x) refl
       where
         by : (test : Bool) → (y == x) ≡ test → variables_with_assignment y ≡ values w
         by true one =
-            rw one (agrees.of_name from w (
+            rw one (agrees.of_name from w is_live (
             sym (variable-assigned program arm path x (code from) assigns.written)
             ∙ ap (λ (z : ℕ). instances program (arm ∷ path) (variable z)) (sym (eqb-true y x one)) ∙ same ∙ same_value_denoted w))
         by false other =
             let apart : y ≢ x = grind (arith, nat_tests) in
-            rw other (agrees.of_variable y w (
+            rw other (agrees.of_variable y w is_live (
             sym (variable-kept program arm path y assigns.known (assigns.unwritten y apart)) ∙ same ∙ same_value_denoted w))
 
-    pub assigned_agrees : Agrees program function (arm ∷ path) variables_with_assignment names values
+    pub assigned_agrees : Agrees live program function (arm ∷ path) variables_with_assignment names values
     assigned_agrees = record {
       of_variable = assigned_agrees_at;
-      of_name = λ n w same. agrees.of_name n w (sym (name-past program arm path (code n) (assigns.no_names n)) ∙ same ∙ same_value_denoted w);
+      of_name = λ n w is_live same. agrees.of_name n w is_live (sym (name-past program arm path (code n) (assigns.no_names n)) ∙ same ∙ same_value_denoted w);
+    }
+
+-- Bits of zeros ---------------------------------------------------------------------------------------------------------
+
+-- a variable or name that holds a zero has no bits set, and neither has a zero
+pub record ZerosAreZero (program : Program) (function : Function) (path : Path) (variables : ℕ → ℕ) (names : Name → ℕ) (values : ℕ → ℕ) : Type 0 where
+  pub of_variable : (x y : ℕ) → instances program path (variable x) ≡ zero y → variables x ≡ 0
+  pub of_name : (n : Name) (y : ℕ) → instances program path (name (code n)) ≡ zero y → names n ≡ 0
+  pub of_value : (w y : ℕ) → (function.definition w).kind ≡ zero_of y → values w ≡ 0
+
+given_no_zero : (n y : ℕ) (path : Path) → ◌≡◌ {A = Instance} (given n path) (zero y) → ⊥
+given_no_zero n y path h = cc
+
+born_no_zero : (n y : ℕ) → born n ≡ zero_of y → ⊥
+born_no_zero n y h = cc
+
+module _ (live : ℕ → Type 0) (program : Program) (function : Function) (arm : Arm) (path : Path) (results : List Name) (answered : Name → ℕ)
+    (gives : GivesThere live program function arm path results answered)
+    (variables : ℕ → ℕ) (names : Name → ℕ) (values : ℕ → ℕ) (agrees : Agrees live program function path variables names values) (bits : List ℕ)
+    (zeros : ZerosAreZero program function path variables names values)
+  where
+    pub given_zeros :
+        ZerosAreZero program function (arm ∷ path) variables
+        (new_names live program function arm path results answered gives variables names values agrees bits)
+        (new_values live program function arm path results answered gives variables names values agrees bits)
+    given_zeros = record {
+      of_variable = λ x y is. zeros.of_variable x y (sym (variable-kept program arm path x gives.known (gives.unassigned x)) ∙ is);
+      of_name = λ n y is. by n y is (dec_place (program.naming (code n)).home arm.target);
+      of_value = λ w y is.
+          value_keeps answered results bits values w (λ n there e.
+          born_no_zero (code n) y
+          (ap (λ (d : Definition). d.kind) (sym (gives.defined n there)) ∙ ap (λ (v : ℕ). (function.definition v).kind) (sym e) ∙ is))
+          ∙ zeros.of_value w y is;
+    }
+      where
+        by : (n : Name) (y : ℕ) → instances program (arm ∷ path) (name (code n)) ≡ zero y → Dec ((program.naming (code n)).home ≡ arm.target)
+            → new_names live program function arm path results answered gives variables names values agrees bits n ≡ 0
+        by n y is (yes here) =
+            absurd (given_no_zero (code n) y (arm ∷ path)
+            (sym (name_given live program function arm path results answered gives variables names values agrees bits n (gives.only_names n here)) ∙ is))
+        by n y is (no other) =
+            name_stays live program function arm path results answered gives variables names values agrees bits n other
+            ∙ zeros.of_name n y (sym (name-past program arm path (code n) other) ∙ is)
+
+module _ (live : ℕ → Type 0) (program : Program) (function : Function) (arm : Arm) (path : Path) (x : ℕ) (used : Name)
+    (uses : UsesThere program function arm x used)
+    (variables : ℕ → ℕ) (names : Name → ℕ) (values : ℕ → ℕ) (agrees : Agrees live program function path variables names values)
+    (zeros : ZerosAreZero program function path variables names values)
+  where
+    pub used_zeros :
+        ZerosAreZero program function (arm ∷ path) variables
+        (names_with_use live program function arm path x used uses variables names values agrees) values
+    used_zeros = record {
+      of_variable = λ z y is. zeros.of_variable z y (sym (variable-kept program arm path z uses.known (uses.unassigned z)) ∙ is);
+      of_name = λ n y is. by n y is (same_or_other n used);
+      of_value = zeros.of_value;
+    }
+      where
+        by : (n : Name) (y : ℕ) → instances program (arm ∷ path) (name (code n)) ≡ zero y
+            → ((same_name n used ≡ true) × (n ≡ used)) ⊎ ((same_name n used ≡ false) × (n ≢ used))
+            → names_with_use live program function arm path x used uses variables names values agrees n ≡ 0
+        by n y is (inl one) =
+            rw (one.0) (zeros.of_variable x y (sym (read_name live program function arm path x used uses variables names values agrees)
+            ∙ ap (λ (m : Name). instances program (arm ∷ path) (name (code m))) (sym one.1) ∙ is))
+        by n y is (inr other) =
+            rw (other.0) (zeros.of_name n y (sym (name-past program arm path (code n) (λ here. other.1 (uses.only_names n here))) ∙ is))
+
+module _ (live : ℕ → Type 0) (program : Program) (function : Function) (arm : Arm) (path : Path) (x : ℕ) (from : Name)
+    (assigns : AssignsThere program function arm x from)
+    (variables : ℕ → ℕ) (names : Name → ℕ) (values : ℕ → ℕ) (agrees : Agrees live program function path variables names values)
+    (zeros : ZerosAreZero program function path variables names values)
+  where
+    pub assigned_zeros :
+        ZerosAreZero program function (arm ∷ path)
+        (variables_with_assignment live program function arm path x from assigns variables names values agrees) names values
+    assigned_zeros = record {
+      of_variable = λ z y is. by z y is (z == x) refl;
+      of_name = λ n y is. zeros.of_name n y (sym (name-past program arm path (code n) (assigns.no_names n)) ∙ is);
+      of_value = zeros.of_value;
+    }
+      where
+        by : (z y : ℕ) → instances program (arm ∷ path) (variable z) ≡ zero y → (test : Bool) → (z == x) ≡ test
+            → variables_with_assignment live program function arm path x from assigns variables names values agrees z ≡ 0
+        by z y is true one =
+            rw one (zeros.of_name from y (sym (variable-assigned program arm path x (code from) assigns.written)
+            ∙ ap (λ (u : ℕ). instances program (arm ∷ path) (variable u)) (sym (eqb-true z x one)) ∙ is))
+        by z y is false other =
+            let apart : z ≢ x = grind (arith, nat_tests) in
+            rw other (zeros.of_variable z y (sym (variable-kept program arm path z assigns.known (assigns.unwritten z apart)) ∙ is))
+
+-- Along an edge ---------------------------------------------------------------------------------------------------------
+
+-- What such a value is after an edge: what another was before, with its bits, or a zero without bits.
+abbrev pub ComesAlong : (ℕ → Type 0) → Program → Function → Arm → Path → (ℕ → ℕ) → (ℕ → ℕ) → ℕ → Type 0
+ComesAlong live program function arm path old new w =
+    ((u : ℕ) × live u × (denotes program function (arm ∷ path) w ≡ denotes program function path u) × (new w ≡ old u))
+    ⊎ ((x : ℕ) × (denotes program function (arm ∷ path) w ≡ zero x) × (new w ≡ 0))
+
+-- Nothing is assigned and no name is given at the arm's target, and values come along.
+pub record EntersThere (live : ℕ → Type 0) (program : Program) (function : Function) (arm : Arm) (path : Path) (old new : ℕ → ℕ) : Type 0 where
+  pub known : program.is_sealed arm.target ≡ true
+  pub unassigned : (x : ℕ) → program.assigned arm.target x ≡ None
+  pub no_names : (n : ℕ) → (program.naming n).home ≢ arm.target
+  pub comes : (w : ℕ) → live w → ComesAlong live program function arm path old new w
+  pub zeros_stay : (w y : ℕ) → (function.definition w).kind ≡ zero_of y → new w ≡ old w
+
+module _ (live : ℕ → Type 0) (program : Program) (function : Function) (arm : Arm) (path : Path) (old new : ℕ → ℕ)
+    (enters : EntersThere live program function arm path old new)
+    (variables : ℕ → ℕ) (names : Name → ℕ) (agrees : Agrees live program function path variables names old)
+    (zeros : ZerosAreZero program function path variables names old)
+  where
+    same_variable_there : (x : ℕ) → instances program (arm ∷ path) (variable x) ≡ instances program path (variable x)
+    same_variable_there x = variable-kept program arm path x enters.known (enters.unassigned x)
+
+    same_name_there : (n : Name) → instances program (arm ∷ path) (name (code n)) ≡ instances program path (name (code n))
+    same_name_there n = name-past program arm path (code n) (enters.no_names (code n))
+
+    pub entered_agrees : Agrees live program function (arm ∷ path) variables names new
+    entered_agrees = record {
+      of_variable = λ x w is_live same. variable_by x w same (enters.comes w is_live);
+      of_name = λ n w is_live same. name_by n w same (enters.comes w is_live);
+    }
+      where
+        variable_by : (x w : ℕ) → instances program (arm ∷ path) (variable x) ≡ denotes program function (arm ∷ path) w
+            → ComesAlong live program function arm path old new w → variables x ≡ new w
+        variable_by x w same (inl from) = agrees.of_variable x from.0 from.1 (sym (same_variable_there x) ∙ same ∙ from.2) ∙ sym from.3
+        variable_by x w same (inr none) = zeros.of_variable x none.0 (sym (same_variable_there x) ∙ same ∙ none.1) ∙ sym none.2
+
+        name_by : (n : Name) (w : ℕ) → instances program (arm ∷ path) (name (code n)) ≡ denotes program function (arm ∷ path) w
+            → ComesAlong live program function arm path old new w → names n ≡ new w
+        name_by n w same (inl from) = agrees.of_name n from.0 from.1 (sym (same_name_there n) ∙ same ∙ from.2) ∙ sym from.3
+        name_by n w same (inr none) = zeros.of_name n none.0 (sym (same_name_there n) ∙ same ∙ none.1) ∙ sym none.2
+
+    pub entered_zeros : ZerosAreZero program function (arm ∷ path) variables names new
+    entered_zeros = record {
+      of_variable = λ x y is. zeros.of_variable x y (sym (same_variable_there x) ∙ is);
+      of_name = λ n y is. zeros.of_name n y (sym (same_name_there n) ∙ is);
+      of_value = λ w y is. enters.zeros_stay w y is ∙ zeros.of_value w y is;
     }
 
 -- where all bits are zero, they agree
-pub zeros_agree : (program : Program) (function : Function) (path : Path) (variables : ℕ → ℕ) (names : Name → ℕ) (values : ℕ → ℕ)
-    → ((x : ℕ) → variables x ≡ 0) → ((n : Name) → names n ≡ 0) → ((w : ℕ) → values w ≡ 0) → Agrees program function path variables names values
-zeros_agree program function path variables names values zero_variables zero_names zero_values = record {
-  of_variable = λ x w same. zero_variables x ∙ sym (zero_values w);
-  of_name = λ n w same. zero_names n ∙ sym (zero_values w);
+pub zeros_agree : (live : ℕ → Type 0) (program : Program) (function : Function) (path : Path) (variables : ℕ → ℕ) (names : Name → ℕ) (values : ℕ → ℕ)
+    → ((x : ℕ) → variables x ≡ 0) → ((n : Name) → names n ≡ 0) → ((w : ℕ) → values w ≡ 0) → Agrees live program function path variables names values
+zeros_agree live program function path variables names values zero_variables zero_names zero_values = record {
+  of_variable = λ x w is_live same. zero_variables x ∙ sym (zero_values w);
+  of_name = λ n w is_live same. zero_names n ∙ sym (zero_values w);
+}
+
+-- where values have the same bits, they agree as well
+pub agrees_still : (live : ℕ → Type 0) (program : Program) (function : Function) (path : Path) (variables : ℕ → ℕ) (names : Name → ℕ) (old new : ℕ → ℕ)
+    → ((w : ℕ) → new w ≡ old w) → Agrees live program function path variables names old → Agrees live program function path variables names new
+agrees_still live program function path variables names old new same agrees = record {
+  of_variable = λ x w is_live is. agrees.of_variable x w is_live is ∙ sym (same w);
+  of_name = λ n w is_live is. agrees.of_name n w is_live is ∙ sym (same w);
+}
+
+pub zeros_still : (program : Program) (function : Function) (path : Path) (variables : ℕ → ℕ) (names : Name → ℕ) (old new : ℕ → ℕ)
+    → ((w : ℕ) → new w ≡ old w) → ZerosAreZero program function path variables names old → ZerosAreZero program function path variables names new
+zeros_still program function path variables names old new same zeros = record {
+  of_variable = zeros.of_variable;
+  of_name = zeros.of_name;
+  of_value = λ w y is. same w ∙ zeros.of_value w y is;
 }

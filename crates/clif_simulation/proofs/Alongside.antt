@@ -28,19 +28,20 @@ use Rattle.clif_meaning.specs.FunctionMachine.{Collector, FunctionRun, FunctionS
 use Rattle.clif_meaning.specs.FunctionView.{Placed}
 use Rattle.clif_meaning.specs.WellPlaced.{program_code, IsWellPlaced}
 use Rattle.clif_simulation.specs.Tables.{code, answered, program_so_far}
-use Rattle.clif_simulation.specs.Carries.{Carries, carried, answered_instruction}
+use Rattle.clif_simulation.specs.Carries.{carried, answered_instruction}
 use Rattle.clif_simulation.specs.Reading.{script_run_so_far, function_run_so_far}
+use Rattle.clif_simulation.proofs.Unbranched.{CarriesUnbranched, PlainlyEarlier}
 use Rattle.clif_simulation.proofs.Giving.{In, in_contained, name_keeps, value_keeps, same_or_other}
-use Rattle.clif_simulation.proofs.Agreement.{Agrees, GivesThere, given_agrees, UsesThere, used_agrees, AssignsThere, assigned_agrees}
+use Rattle.clif_simulation.proofs.Agreement.{any_value, Agrees, GivesThere, given_agrees, UsesThere, used_agrees, AssignsThere, assigned_agrees}
 use Rattle.clif_simulation.proofs.Straight.{next_arm, straight, straight_end, straight_follows, visits_so_far, absent_name, absent_value, same_step}
 use Rattle.clif_simulation.proofs.Matching.{item_here, rest_behind, same_bits, IsPlain, outcome_plain}
-use Rattle.clif_simulation.proofs.Listed.{place_within}
+use Rattle.clif_simulation.proofs.Listed.{all_at, place_within}
 use Rattle.clif_simulation.proofs.Ended.{with_ends_only, defined-end, is-end, denotes-end, name_stays, value_stays, visited_place}
 use Rattle.clif_simulation.proofs.Opened.{Opens, opened}
 use Rattle.clif_simulation.proofs.Opened
 use Rattle.clif_simulation.proofs.Counted.{gives_results, as_many}
 use Rattle.clif_simulation.proofs.Entry
-use Rattle.clif_simulation.proofs.Items
+use Rattle.clif_simulation.proofs.ItemsAt
 
 -- places that get bits, as many as places, have the same ones whatever they had before
 same_given_places : {X : Type 0} (same : X → X → Bool) → ((a b : X) → (same a b ≡ true) ⊎ ((same a b ≡ false) × (a ≢ b)))
@@ -77,7 +78,7 @@ mapped_count : {X Y : Type 0} (g : X → Y) (xs : List X) → length (map g xs) 
 mapped_count g [] = refl
 mapped_count g (x ∷ xs) = ap suc (mapped_count g xs)
 
-module _ (calls : List AnsweredCall) (f : Body) (ssa : SsaState) (consistent : IsConsistent f) (carries : Carries calls f ssa)
+module _ (calls : List AnsweredCall) (f : Body) (ssa : SsaState) (consistent : IsConsistent f) (carries : CarriesUnbranched calls f ssa)
     (entry : Name) (is_entry : (program_so_far calls).entry ≡ Some entry) (placed : IsWellPlaced (program_code (program_so_far calls)))
     (sealed : ℕ → Bool) (joins : Edges) (opens : Opens carries.tables (Entry.e calls f ssa carries entry is_entry) sealed joins)
     (width : PointerWidth) (world : World) (tracked : Name → Bool) (collector : Collector)
@@ -127,7 +128,7 @@ module _ (calls : List AnsweredCall) (f : Body) (ssa : SsaState) (consistent : I
       pub same_events : p.events ≡ q.events
       pub names : Name → ℕ
       pub values : ℕ → ℕ
-      pub agrees : Agrees program function (straight e k) p.variables names values
+      pub agrees : Agrees any_value program function (straight e k) p.variables names values
       pub names_are : (x : Name) (j : ℕ) → j < k → (tables.naming (code x)).home ≡ inside e (suc j) → names x ≡ p.names x
       pub values_are : (w i : ℕ) → i ≤ k → (function.definition w).home ≡ inside e i → values w ≡ q.values w
 
@@ -176,7 +177,7 @@ module _ (calls : List AnsweredCall) (f : Body) (ssa : SsaState) (consistent : I
         ∙ sym at.same
         ∙ sym (value_stays program function e at.i (suc j) u k at.home at.before (omega (arith, before))) in
         let is : u ≡ resolved f (answered calls x) = carries.describes.resolves v ∙ ap (resolved f) answer in
-        sym (a.names_are x j before home) ∙ a.agrees.of_name x u same ∙ a.values_are u at.i (omega (arith, at.before, before)) at.home ∙ ap q.values is
+        sym (a.names_are x j before home) ∙ a.agrees.of_name x u tt same ∙ a.values_are u at.i (omega (arith, at.before, before)) at.home ∙ ap q.values is
 
     -- at the end so far each record has its variable's bits
     pub recorded_bits : (k : ℕ) (p : ScriptState) (q : FunctionState) → Alongside k p q → k ≡ length items → (x v : ℕ) → record_of ssa x e ≡ Some v
@@ -192,7 +193,7 @@ module _ (calls : List AnsweredCall) (f : Body) (ssa : SsaState) (consistent : I
         let at : Found v k = found v k a.within (here.there.on_every_path (straight e k) way (straight_end e k)) in
         let same : instances program (straight e k) (variable x) ≡ denotes program function (straight e k) u =
         sym (here.agrees (straight e k) way (straight_end e k)) ∙ sym at.same in
-        a.agrees.of_variable x u same ∙ a.values_are u at.i at.before at.home ∙ ap q.values (carries.describes.resolves v)
+        a.agrees.of_variable x u tt same ∙ a.values_are u at.i at.before at.home ∙ ap q.values (carries.describes.resolves v)
 
     -- What stands at the place of an item -----------------------------------------------------------------------------
 
@@ -209,9 +210,9 @@ module _ (calls : List AnsweredCall) (f : Body) (ssa : SsaState) (consistent : I
     not_visited place k at there = absurd (omega (arith, visits_so_far e k e (suc k) (subst (λ (q : Place). Visits q (straight e k)) at there)))
 
     gives_there : (k place : ℕ) (instruction : Instruction Name Name) (results : List Name) → slice_get items k ≡ Some (Instruct place instruction results)
-        → GivesThere program function (next_arm e k) (straight e k) results (answered calls)
+        → GivesThere any_value program function (next_arm e k) (straight e k) results (answered calls)
     gives_there k place instruction results stands =
-        let g = Items.gives_there calls f ssa carries entry is_entry k place instruction results stands in
+        let g = ItemsAt.gives_there calls carries.own f ssa tables carries.program carries.describes e entry (Entry.named calls f ssa carries entry is_entry) k place instruction results stands (straight e k) in
         let end : (n : Name) → In n results → tables.function.resolve (answered calls n) ≡ answered calls n = λ n there.
         let home : (tables.naming (code n)).home ≡ inside e (suc k) = ap (λ (m : Naming). m.home) (g.named n there) in
         let born_there = carries.describes.born_there (code n) (no_start (tables.naming (code n)).home e (suc k) home) (ap (λ (m : Naming). m.origin) (g.named n there)) in
@@ -227,7 +228,8 @@ module _ (calls : List AnsweredCall) (f : Body) (ssa : SsaState) (consistent : I
           defined = defined;
           only_names = g.only_names;
           only_values = λ w at. g.only_values w (defined_there w k at);
-          not_yet = λ n there.
+          are_live = λ n there. tt;
+          before = λ n there.
               absent_name program (code n) (straight e k) (not_visited (tables.naming (code n)).home k (ap (λ (m : Naming). m.home) (g.named n there)))
               ∙ sym (absent_value program function (answered calls n) (straight e k)
               (not_visited (function.definition (answered calls n)).home k (ap (λ (d : Definition). d.home) (defined n there))));
@@ -235,7 +237,7 @@ module _ (calls : List AnsweredCall) (f : Body) (ssa : SsaState) (consistent : I
 
     uses_there : (k x : ℕ) (used : Name) → slice_get items k ≡ Some (Use x used) → UsesThere program function (next_arm e k) x used
     uses_there k x used stands =
-        let u = Items.uses_there calls f ssa carries entry is_entry k x used stands in
+        let u = ItemsAt.uses_there calls carries.own f ssa tables carries.program carries.describes e entry (Entry.named calls f ssa carries entry is_entry) k x used stands in
         record {
           known = known k (Use x used) stands;
           unassigned = u.unassigned;
@@ -246,7 +248,7 @@ module _ (calls : List AnsweredCall) (f : Body) (ssa : SsaState) (consistent : I
 
     assigns_there : (k x : ℕ) (from : Name) → slice_get items k ≡ Some (Assign x from) → AssignsThere program function (next_arm e k) x from
     assigns_there k x from stands =
-        let u = Items.assigns_there calls f ssa carries entry is_entry k x from stands in
+        let u = ItemsAt.assigns_there calls carries.own f ssa tables carries.program carries.describes e entry (Entry.named calls f ssa carries entry is_entry) k x from stands in
         record {
           known = known k (Assign x from) stands;
           written = u.written;
@@ -261,7 +263,7 @@ module _ (calls : List AnsweredCall) (f : Body) (ssa : SsaState) (consistent : I
         → (x v : ℕ) → record_of ssa x e ≡ Some v → p.variables x ≡ q.values (resolved f v)
     recorded_before_end k p q a place instruction results stands at_end none x v is = by (order at.i k at.before)
       where
-        gives : GivesThere program function (next_arm e k) (straight e k) results (answered calls)
+        gives : GivesThere any_value program function (next_arm e k) (straight e k) results (answered calls)
         gives = gives_there k place instruction results stands
 
         holds : Holds edges program tables.function v (variable x) (inside e (suc k))
@@ -293,7 +295,7 @@ module _ (calls : List AnsweredCall) (f : Body) (ssa : SsaState) (consistent : I
 
         by : (at.i ≤ k) ⊎ (at.i ≡ suc k) → p.variables x ≡ q.values (resolved f v)
         by (inl before) =
-            a.agrees.of_variable x (tables.function.resolve v) same ∙ a.values_are (tables.function.resolve v) at.i before at.home
+            a.agrees.of_variable x (tables.function.resolve v) tt same ∙ a.values_are (tables.function.resolve v) at.i before at.home
             ∙ ap q.values (carries.describes.resolves v)
         by (inr here) = absurd (not_given (at.home ∙ ap (inside e) here))
 
@@ -340,7 +342,7 @@ module _ (calls : List AnsweredCall) (f : Body) (ssa : SsaState) (consistent : I
           same_events = a.same_events;
           names = assigned same_name (used ∷ []) (p.variables x ∷ []) a.names;
           values = a.values;
-          agrees = used_agrees program function (next_arm e k) (straight e k) x used uses p.variables a.names a.values a.agrees;
+          agrees = used_agrees any_value program function (next_arm e k) (straight e k) x used uses p.variables a.names a.values a.agrees;
           names_are = λ n j below home. by uses n j (below_or_at j k below) home (same_or_other n used);
           values_are = same_values k q a.values uses.no_values a.values_are;
         }
@@ -366,8 +368,8 @@ module _ (calls : List AnsweredCall) (f : Body) (ssa : SsaState) (consistent : I
           same_events = a.same_events;
           names = a.names;
           values = a.values;
-          agrees = subst (λ (bits : ℕ). Agrees program function (next_arm e k ∷ straight e k) (assigned script.same_variable (x ∷ []) (bits ∷ []) p.variables) a.names a.values) is
-              (assigned_agrees program function (next_arm e k) (straight e k) x from assigns p.variables a.names a.values a.agrees);
+          agrees = subst (λ (bits : ℕ). Agrees any_value program function (next_arm e k ∷ straight e k) (assigned script.same_variable (x ∷ []) (bits ∷ []) p.variables) a.names a.values) is
+              (assigned_agrees any_value program function (next_arm e k) (straight e k) x from assigns p.variables a.names a.values a.agrees);
           names_are = λ n j below home. by assigns n j (below_or_at j k below) home;
           values_are = same_values k q a.values assigns.no_values a.values_are;
         }
@@ -404,7 +406,7 @@ module _ (calls : List AnsweredCall) (f : Body) (ssa : SsaState) (consistent : I
           same_events = a.same_events;
           names = assigned same_name results bits a.names;
           values = assigned same_value (map (answered calls) results) bits a.values;
-          agrees = given_agrees program function (next_arm e k) (straight e k) results (answered calls) gives p.variables a.names a.values a.agrees bits;
+          agrees = given_agrees any_value program function (next_arm e k) (straight e k) results (answered calls) gives p.variables a.names a.values a.agrees bits;
           names_are = λ n j below home. name_is gives n j (below_or_at j k below) home;
           values_are = λ w i within at. value_is gives w i (order i k within) at;
         }
@@ -415,7 +417,7 @@ module _ (calls : List AnsweredCall) (f : Body) (ssa : SsaState) (consistent : I
         apart : (i j : ℕ) (h : Place) → i < j → h ≡ inside e i → h ≡ inside e j → ⊥
         apart i j h below one other = absurd (omega (arith, below, same_step (sym one ∙ other)))
 
-        name_is : GivesThere program function (next_arm e k) (straight e k) results (answered calls) → (n : Name) (j : ℕ) → (j < k) ⊎ (j ≡ k)
+        name_is : GivesThere any_value program function (next_arm e k) (straight e k) results (answered calls) → (n : Name) (j : ℕ) → (j < k) ⊎ (j ≡ k)
             → (tables.naming (code n)).home ≡ inside e (suc j) → assigned same_name results bits a.names n ≡ assigned same_name results bits p.names n
         name_is gives n j (inl below) home =
             let out : In n results → ⊥ = λ there. apart (suc j) (suc k) (tables.naming (code n)).home (omega (arith, below)) home (ap (λ (m : Naming). m.home) (gives.named n there)) in
@@ -423,7 +425,7 @@ module _ (calls : List AnsweredCall) (f : Body) (ssa : SsaState) (consistent : I
         name_is gives n j (inr at) home =
             same_given_places same_name name_cases results bits a.names p.names n as_many (gives.only_names n (home ∙ ap (λ (i : ℕ). inside e (suc i)) at))
 
-        value_is : GivesThere program function (next_arm e k) (straight e k) results (answered calls) → (w i : ℕ) → (i ≤ k) ⊎ (i ≡ suc k)
+        value_is : GivesThere any_value program function (next_arm e k) (straight e k) results (answered calls) → (w i : ℕ) → (i ≤ k) ⊎ (i ≡ suc k)
             → (function.definition w).home ≡ inside e i
             → assigned same_value (map (answered calls) results) bits a.values w ≡ assigned same_value (map (answered calls) results) bits q.values w
         value_is gives w i (inl before) at =
@@ -457,7 +459,7 @@ module _ (calls : List AnsweredCall) (f : Body) (ssa : SsaState) (consistent : I
         (gives_results (script_of calls) entry k (Instruct place instruction results) (item_here items k (Instruct place instruction results) rest here))
         (map p.names instruction.operands) p.memory memory bits is)
     after_outcome k place instruction results rest p q here a (Goes edge given memory) plain is left on =
-        absurd (no_edge_taken p (Items.no_edges calls f ssa carries entry is_entry k place instruction results (item_here items k (Instruct place instruction results) rest here))
+        absurd (no_edge_taken p ((all_at (PlainlyEarlier calls) items k (Instruct place instruction results) (carries.earlier entry) (item_here items k (Instruct place instruction results) rest here)).2)
         edge given memory left on)
     after_outcome k place instruction results rest p q here a (Returns bits) plain is left on = cc
     after_outcome k place instruction results rest p q here a (Traps reason) plain is left on = cc

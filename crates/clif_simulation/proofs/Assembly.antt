@@ -4,8 +4,6 @@ use Rattle.clif_types.specs.declared.target.PointerWidth.{PointerWidth}
 use Rattle.clif_types.specs.Target.{pointer_type_of}
 use Rattle.clif_ir.specs.Body.{Body}
 use Rattle.clif_ir.specs.Consistent.{IsConsistent}
-use Rattle.clif_paths.specs.Blocks.{state_of}
-use Rattle.clif_paths.specs.Laws.{IsCorrect}
 use Rattle.clif_ssa.specs.Ssa.{SsaState}
 use Rattle.clif_meaning.specs.Event.{types_of}
 use Rattle.clif_meaning.specs.Name.{Name}
@@ -25,12 +23,11 @@ use Rattle.clif_meaning.proofs.Stuttering
 use Rattle.clif_simulation.specs.Tables.{program_so_far}
 use Rattle.clif_simulation.specs.Carries.{Carries}
 use Rattle.clif_simulation.specs.Laws.{IsFinished}
-use Rattle.clif_simulation.proofs.Entry
 use Rattle.clif_simulation.proofs.Stepping
 use Rattle.clif_simulation.proofs.Starting
 
 module _ (calls : List AnsweredCall) (f : Body) (ssa : SsaState) (width : PointerWidth) (consistent : IsConsistent f) (carries : Carries calls f ssa)
-    (finished : IsFinished f ssa) (world : World) (fits : IsWorldOf f.signature (view_of f) width world)
+    (finished : IsFinished calls f ssa) (world : World) (fits : IsWorldOf f.signature (view_of f) width world)
     (premises : Premises (script_of calls) f.signature (pointer_type_of width) (script_run (script_of calls) (view_of f) world))
   where
     abbrev left : Machine ScriptState Observation
@@ -42,12 +39,11 @@ module _ (calls : List AnsweredCall) (f : Body) (ssa : SsaState) (width : Pointe
     -- with an entry
     entered : (entry : Name) → (program_so_far calls).entry ≡ Some entry → SameMeaning (observed left) (observed right)
     entered entry is_entry =
-        let correct : IsCorrect (state_of carries.tables) = Entry.is_correct calls f ssa carries entry is_entry consistent finished premises.given_before in
         let empty = Starting.no_arguments calls entry (types_of f.signature.params) world is_entry premises.well_typed.entry fits.arguments in
         Stuttering.same_meaning left right
-        (Stepping.Related calls f ssa carries finished width world entry is_entry premises.given_before correct)
-        (Stepping.measure calls f ssa carries finished width world entry is_entry premises.given_before correct)
-        (Starting.simulates calls f ssa carries finished width world entry is_entry premises.given_before correct empty)
+        (Stepping.Related calls f ssa consistent carries finished width world f.signature premises.given_before premises.targets_filled premises.well_typed)
+        (Stepping.measure calls f ssa consistent carries finished width world f.signature premises.given_before premises.targets_filled premises.well_typed)
+        (Starting.simulates calls f ssa consistent carries finished width world f.signature premises.given_before premises.targets_filled premises.well_typed entry is_entry empty)
 
     -- with none both are stuck at once
     not_entered : (program_so_far calls).entry ≡ None → SameMeaning (observed left) (observed right)

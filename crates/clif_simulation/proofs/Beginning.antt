@@ -16,6 +16,7 @@ use Rattle.clif_meaning.specs.Ledger.{Ledger, ledger_after, ledger_with, empty_l
 use Rattle.clif_meaning.specs.Program.{Program, Item, with_call, empty_program, with_item_at, with_inserted}
 use Rattle.clif_simulation.specs.Tables.{program_so_far, IsProgramOf}
 use Rattle.clif_simulation.specs.Carries.{Carries}
+use Rattle.clif_simulation.proofs.Unbranched.{branched}
 use Rattle.clif_simulation.proofs.Values.{false_is}
 
 some_none : {X : Type 0} (x : X) → None ≡ Some x → ⊥
@@ -92,7 +93,7 @@ nothing_so_far = record {
 pub carries_nothing : (name : UserFuncName) (signature : SignatureShape) → Carries [] (empty_body name signature) no_state
 carries_nothing name signature =
     let first = first_described name signature in
-    record {
+    branched [] (empty_body name signature) no_state (record {
       tables = no_blocks;
       own = no_own;
       program = nothing_so_far;
@@ -100,6 +101,8 @@ carries_nothing name signature =
       earlier = λ N. tt;
       own_exist = λ b. tt;
       own_named = λ b none. refl;
+      own_inserted = λ b out. refl;
+      no_parameters = λ b. refl;
       values_given = λ x is. absurd (false_is is);
       entry = record { none = λ none. refl; some = λ e is. absurd (some_none e is) };
       describes = first.0;
@@ -107,4 +110,4 @@ carries_nothing name signature =
       counts = first.2;
       nothing_stray = first_stray name signature;
       nothing_leads = λ b. refl;
-    }
+    })

@@ -36,16 +36,17 @@ use Rattle.clif_meaning.specs.Program.{Item, Instruct, result_types, answers_fro
 use Rattle.clif_meaning.specs.FunctionView.{Placed}
 use Rattle.clif_meaning.specs.View.{placed_of, operation_of, edges_of, controlling_of, first_type}
 use Rattle.clif_simulation.specs.Tables.{code, answered}
-use Rattle.clif_simulation.specs.Carries.{answered_edge, carried, Carries, IsEarlier, IsCurrent, GoesOn}
+use Rattle.clif_simulation.specs.Carries.{Carries, NothingLeads, answered_edge, carried, IsEarlier, IsCurrent, GoesOn}
 use Rattle.clif_simulation.proofs.NameLists.{the_one}
 use Rattle.clif_simulation.proofs.Staying.{restated}
 use Rattle.clif_simulation.proofs.Requests
 use Rattle.clif_simulation.proofs.Requests.{entry_begun}
 use Rattle.clif_simulation.proofs.Carrying.{carries_item, numbers_kept, all_mapped, earlier_name}
 use Rattle.clif_simulation.proofs.ItemCalls.{PutsItem, adds_instruction, adds_result, last-with_item, number_of_answer}
+use Rattle.clif_simulation.proofs.Layouts.{out_before, never_out}
 use Rattle.clif_simulation.proofs.Growing.{placed_kept, goes_on-then, goes_on-inserted, goes_on-with_inst}
 use Rattle.clif_simulation.proofs.Values.{is_value_at, false_is, values_added, next_is_new}
-use Rattle.clif_simulation.proofs.Unbranched.{open_everywhere}
+use Rattle.clif_simulation.proofs.Unbranched.{unbranched, branched, open_everywhere, CarriesUnbranched}
 use Rattle.clif_simulation.proofs.Calls.{values_same, name_stays, longer_calls}
 
 -- an instruction as the machine sees it, by its parts
@@ -70,9 +71,12 @@ pub record SameInstruction (calls : List AnsweredCall) (shape : InstructionData)
 edges_answered : (calls : List AnsweredCall) (edges : List (Edge Name Name)) → edges ≡ [] → map (answered_edge calls) edges ≡ []
 edges_answered calls edges none = ap (map (answered_edge calls)) none
 
-module _ (calls : List AnsweredCall) (f : Body) (s : SsaState) (c : Carries calls f s) (consistent : IsConsistent f)
+module _ (calls : List AnsweredCall) (f : Body) (s : SsaState) (c : Carries calls f s) (nothing : NothingLeads s) (consistent : IsConsistent f)
     (b : ℕ) (B : Name) (current : IsCurrent calls b B) (there : b < length f.blocks)
     (shape : InstructionData) (instruction : Instruction Name Name) (loc : ℕ) (numbers : List ℕ) (matches : SameInstruction calls shape instruction) where
+  abbrev u : CarriesUnbranched calls f s
+  u = unbranched calls f s c nothing
+
   abbrev call : AnsweredCall
   call = record { request = Build instruction; numbers = numbers }
 
@@ -83,21 +87,21 @@ module _ (calls : List AnsweredCall) (f : Body) (s : SsaState) (c : Carries call
   h = inserted_in f b
 
   abbrev T : Blocks
-  T = with_entry f.layout s b c.tables
+  T = with_entry f.layout s b u.tables
 
   same : SameButLayout f h
   same = inserted_same f b
 
-  same_side : SameProgram c.tables T
-  same_side = (entry_same f.layout s b c.tables).program
+  same_side : SameProgram u.tables T
+  same_side = (entry_same f.layout s b u.tables).program
 
-  before : DescribesSoundly c.own h s T
+  before : DescribesSoundly u.own h s T
   before =
-      let entered = inserted c.own f s [] c.tables b c.describes c.sound in
-      (entered.0, entered.1, inserted_counted c.own f s c.tables T b (entry_same f.layout s b c.tables).definition c.counts)
+      let entered = inserted u.own f s [] u.tables b u.describes u.sound in
+      (entered.0, entered.1, inserted_counted u.own f s u.tables T b (entry_same f.layout s b u.tables).definition u.counts)
 
   open_block : IsOpen h s b
-  open_block = open_everywhere h s b c.nothing_leads
+  open_block = open_everywhere h s b u.nothing_leads
 
   firm : Firm h
   firm = inserted_firm f b (firm_from f consistent)
@@ -117,18 +121,18 @@ module _ (calls : List AnsweredCall) (f : Body) (s : SsaState) (c : Carries call
   edges_same : edges_of shape ≡ map (answered_edge after) instruction.edges
   edges_same = matches.no_edges ∙ sym (edges_answered after instruction.edges matches.edges)
 
-  own_here : with_one_more c.own.insts b (length h.insts) b ≡ c.own.insts b ++ length h.insts ∷ []
-  own_here = updated-same c.own.insts b (c.own.insts b ++ length h.insts ∷ []) b refl
+  own_here : with_one_more u.own.insts b (length h.insts) b ≡ u.own.insts b ++ length h.insts ∷ []
+  own_here = updated-same u.own.insts b (u.own.insts b ++ length h.insts ∷ []) b refl
 
-  own_elsewhere : (d : ℕ) → d ≢ b → with_one_more c.own.insts b (length h.insts) d ≡ c.own.insts d
-  own_elsewhere d other = updated-other c.own.insts b (c.own.insts b ++ length h.insts ∷ []) d other
+  own_elsewhere : (d : ℕ) → d ≢ b → with_one_more u.own.insts b (length h.insts) d ≡ u.own.insts d
+  own_elsewhere d other = updated-other u.own.insts b (u.own.insts b ++ length h.insts ∷ []) d other
 
   longer_insts : (types : List «Type») → length h.insts < length (with_inst h b Back shape types loc).insts
   longer_insts types = grind (arith, common_steps)
 
   -- nothing stays behind that isn't needed
-  stray_after : (types : List «Type») → NothingStray (with_one_more c.own.insts b (length h.insts)) (with_inst h b Back shape types loc) s
-  stray_after types = own_stray c.own.insts h s b shape types loc firm there_still (inserted_stray c.own.insts f s b c.nothing_stray)
+  stray_after : (types : List «Type») → NothingStray (with_one_more u.own.insts b (length h.insts)) (with_inst h b Back shape types loc) s
+  stray_after types = own_stray u.own.insts h s b shape types loc firm there_still (inserted_stray u.own.insts f s b u.nothing_stray)
 
   -- without results
   module _ (no_results : result_types instruction.operation instruction.controlling ≡ []) (controlling : (g : Body) → controlling_of g shape [] ≡ instruction.controlling) where
@@ -160,14 +164,14 @@ module _ (calls : List AnsweredCall) (f : Body) (s : SsaState) (c : Carries call
 
     pub carries_terminator : Carries after g s
     carries_terminator =
-        let described = own_described c.own h s T b shape loc firm before open_block there_still in
+        let described = own_described u.own h s T b shape loc firm before open_block there_still in
         let adds = adds_instruction calls call T b B current.named unwritten instruction puts in
-        carries_item calls call f g s s c (placed_kept f g consistent on) on.more_insts b B (Instruct (length calls) instruction []) T (with_item T b) adds
-        (restated calls c.tables T same_side c.program)
-        (with_own c.own b (length h.insts) shape) (length h.insts ∷ []) own_here own_elsewhere new_is (longer_insts [], tt) (earlier_after, tt, matches.edges)
-        (values_added calls call T (with_item T b) b B (Instruct (length calls) instruction []) adds none_given (values_same calls c.tables T same_side c.values_given))
-        (entry_begun calls after f g b B (Requests.entry_instructed calls call B current.current instruction refl) refl current.named (name_stays calls f s c call matches.edges) c.entry)
-        described.0 described.1 described.2 (stray_after []) c.nothing_leads
+        branched after g s (carries_item calls call f g s s u (placed_kept f g consistent on) on.more_insts (out_before f b) b B (Instruct (length calls) instruction []) T (with_item T b) adds
+        (restated calls u.tables T same_side u.program)
+        (with_own u.own b (length h.insts) shape) (length h.insts ∷ []) own_here own_elsewhere u.no_parameters (λ out. absurd (never_out f b out)) new_is (longer_insts [], tt) (earlier_after, tt, matches.edges)
+        (values_added calls call T (with_item T b) b B (Instruct (length calls) instruction []) adds none_given (values_same calls u.tables T same_side u.values_given))
+        (entry_begun calls after f g b B (Requests.entry_instructed calls call B current.current instruction refl) refl current.named (name_stays calls f s c nothing call matches.edges) u.entry)
+        described.0 described.1 described.2 (stray_after []) u.nothing_leads)
 
   -- with one result
   module _ (ty : «Type») (one_result : result_types instruction.operation instruction.controlling ≡ ty ∷ []) (controlling : instruction.controlling ≡ ty)
@@ -208,13 +212,13 @@ module _ (calls : List AnsweredCall) (f : Body) (s : SsaState) (c : Carries call
 
     pub carries_result : Carries after k s
     carries_result =
-        let described = own_result_described c.own h s T b (code result) shape ty loc firm before open_block there_still (next_is_new calls T 1 (restated calls c.tables T same_side c.program)) in
+        let described = own_result_described u.own h s T b (code result) shape ty loc firm before open_block there_still (next_is_new calls T 1 (restated calls u.tables T same_side u.program)) in
         let T' : Blocks = with_born (with_item T b) (last_place (with_item T b) b) (code result) (length h.values) in
         let adds = adds_result calls call T b B current.named unwritten instruction (length h.values) (last_place (with_item T b) b) puts_result number (last-with_item T b) in
-        carries_item calls call f k s s c (placed_kept f k consistent goes) goes.more_insts b B (Instruct (length calls) instruction (result ∷ [])) T T' adds
-        (restated calls c.tables T same_side c.program)
-        (with_own c.own b (length h.insts) shape) (length h.insts ∷ []) own_here own_elsewhere result_is (longer_insts (ty ∷ []), tt)
-        (earlier_after, (let l = longer_calls calls f s c call in omega (arith, l), tt), matches.edges)
-        (values_added calls call T T' b B (Instruct (length calls) instruction (result ∷ [])) adds given_result (values_same calls c.tables T same_side c.values_given))
-        (entry_begun calls after f k b B (Requests.entry_instructed calls call B current.current instruction refl) refl current.named (name_stays calls f s c call matches.edges) c.entry)
-        described.0 described.1 described.2 (stray_after (ty ∷ [])) c.nothing_leads
+        branched after k s (carries_item calls call f k s s u (placed_kept f k consistent goes) goes.more_insts (out_before f b) b B (Instruct (length calls) instruction (result ∷ [])) T T' adds
+        (restated calls u.tables T same_side u.program)
+        (with_own u.own b (length h.insts) shape) (length h.insts ∷ []) own_here own_elsewhere u.no_parameters (λ out. absurd (never_out f b out)) result_is (longer_insts (ty ∷ []), tt)
+        (earlier_after, (let l = longer_calls calls f s c nothing call in omega (arith, l), tt), matches.edges)
+        (values_added calls call T T' b B (Instruct (length calls) instruction (result ∷ [])) adds given_result (values_same calls u.tables T same_side u.values_given))
+        (entry_begun calls after f k b B (Requests.entry_instructed calls call B current.current instruction refl) refl current.named (name_stays calls f s c nothing call matches.edges) u.entry)
+        described.0 described.1 described.2 (stray_after (ty ∷ [])) u.nothing_leads)

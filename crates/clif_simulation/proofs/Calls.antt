@@ -6,6 +6,7 @@ use Rattle.clif_types.specs.declared.types.«Type».{«Type»}
 use Rattle.clif_ir.specs.Body.{Body, empty_block, block_at}
 use Rattle.clif_ir.specs.Consistent.{IsConsistent}
 use Rattle.clif_ir.specs.Changes.{with_block, inserted_in}
+use Rattle.clif_ir.specs.Reading.{stands_in}
 use Rattle.clif_paths.specs.Places.{inside}
 use Rattle.clif_paths.specs.State.{Naming}
 use Rattle.clif_paths.specs.Blocks.{Blocks, with_item, with_read, with_write}
@@ -34,9 +35,10 @@ use Rattle.clif_simulation.proofs.Staying.{unchanged, created, restated, old_or_
 use Rattle.clif_simulation.proofs.Requests
 use Rattle.clif_simulation.proofs.Requests.{entry_stays, entry_begun}
 use Rattle.clif_simulation.proofs.Carrying.{carries_on, carries_item}
-use Rattle.clif_simulation.proofs.Unbranched.{open_everywhere, nothing_still}
+use Rattle.clif_simulation.proofs.Unbranched.{unbranched, branched, open_everywhere, nothing_still, CarriesUnbranched}
 use Rattle.clif_simulation.proofs.ItemCalls.{adds_use, adds_assignment}
 use Rattle.clif_simulation.proofs.Growing.{placed_kept, goes_on-completed}
+use Rattle.clif_simulation.proofs.Layouts.{out_before, still_out-completed}
 use Rattle.clif_simulation.proofs.Values.{is_value_at, false_is, values_kept, values_added, next_is_new, value_answered}
 
 -- a block that doesn't exist has no instructions
@@ -74,7 +76,10 @@ names_count (state ∷ states) = ap suc (names_count states)
 pub values_same : (calls : List AnsweredCall) (T T' : Blocks) → SameProgram T T' → ValuesGiven calls T → ValuesGiven calls T'
 values_same calls T T' same given name is at_start = given name is (sym (ap (λ (n : Naming). n.home) (same.naming (code name))) ∙ at_start)
 
-module _ (calls : List AnsweredCall) (f : Body) (s : SsaState) (c : Carries calls f s) where
+module _ (calls : List AnsweredCall) (f : Body) (s : SsaState) (c : Carries calls f s) (nothing : NothingLeads s) where
+  abbrev u : CarriesUnbranched calls f s
+  u = unbranched calls f s c nothing
+
   abbrev with_answers : Request → List ℕ → List AnsweredCall
   with_answers request numbers = calls ++ record { request = request; numbers = numbers } ∷ []
 
@@ -89,7 +94,7 @@ module _ (calls : List AnsweredCall) (f : Body) (s : SsaState) (c : Carries call
   name_stays call no_block b N is = names_stay calls call no_block b ∙ is
 
   name_was : (call : AnsweredCall) → MakesNoBlock call.request → (b : ℕ) (N : Name) → block_name (calls ++ call ∷ []) b ≡ Some N
-      → (block_name calls b ≡ Some N) ⊎ ((c.own.insts b ≡ []) × ((program_so_far calls).items N ≡ []))
+      → (block_name calls b ≡ Some N) ⊎ ((u.own.insts b ≡ []) × ((program_so_far calls).items N ≡ []))
   name_was call no_block b N is = inl (sym (names_stay calls call no_block b) ∙ is)
 
   -- a block is made
@@ -97,56 +102,56 @@ module _ (calls : List AnsweredCall) (f : Body) (s : SsaState) (c : Carries call
       → Carries (with_answers CreateBlock numbers) (with_block f) t
   carries_created t numbers as_many records same leads =
       let call : AnsweredCall = the_call CreateBlock numbers in
-      carries_on calls call f (with_block f) s t c (λ i below. refl) (omega arith) c.tables
-      (created calls call refl c.tables c.tables (same_program c.tables) (Requests.items_created calls call refl) c.program)
+      branched (with_answers CreateBlock numbers) (with_block f) t (carries_on calls call f (with_block f) s t u (λ i below. refl) (omega arith) (λ b out. out) u.tables
+      (created calls call refl u.tables u.tables (same_program u.tables) (Requests.items_created calls call refl) u.program)
       named (kept calls call refl) (Requests.items_created calls call refl)
-      (values_kept calls call c.tables c.tables (same_program c.tables) one_answer_none c.values_given)
-      (entry_stays calls (calls ++ call ∷ []) f (with_block f) (Requests.entry_created calls call refl) refl (kept calls call refl) c.entry)
-      (same_state c.own (with_block f) s t c.tables records same leads (block_described c.own f s c.tables c.describes))
-      c.sound (counts_kept c.own (with_block f) s t c.tables c.tables (block_counted c.own f s c.tables c.counts) leads (λ v. refl)) (same_stray c.own.insts (with_block f) s t same (block_stray c.own.insts f s c.nothing_stray)) (nothing_still s t leads c.nothing_leads)
+      (values_kept calls call u.tables u.tables (same_program u.tables) one_answer_none u.values_given)
+      (entry_stays calls (calls ++ call ∷ []) f (with_block f) (Requests.entry_created calls call refl) refl (kept calls call refl) u.entry)
+      (same_state u.own (with_block f) s t u.tables records same leads (block_described u.own f s u.tables u.describes))
+      u.sound (counts_kept u.own (with_block f) s t u.tables u.tables (block_counted u.own f s u.tables u.counts) leads (λ v. refl)) (same_stray u.own.insts (with_block f) s t same (block_stray u.own.insts f s u.nothing_stray)) (nothing_still s t leads u.nothing_leads))
     where
-      empty : (b : ℕ) → b ≡ length (names_of (ledger_after (script_of calls)).blocks) → c.own.insts b ≡ []
+      empty : (b : ℕ) → b ≡ length (names_of (ledger_after (script_of calls)).blocks) → u.own.insts b ≡ []
       empty b last =
-          let has = c.describes.instructions b in
+          let has = u.describes.instructions b in
           let past : length f.blocks ≤ b = omega (arith, last, as_many, names_count (ledger_after (script_of calls)).blocks) in
-          own_empty (c.own.insts b) has.zeros (block_at f b).insts has.in_order (ap (λ (node : BlockNode). node.insts) (past_block f b past))
+          own_empty (u.own.insts b) has.zeros (block_at f b).insts has.in_order (ap (λ (node : BlockNode). node.insts) (past_block f b past))
 
       no_items : (N : Name) → answer_of (length calls) 0 ≡ N → ((program_so_far calls).items N ≡ []) ⊎ ((b : ℕ) × (block_name calls b ≡ Some N)) → (program_so_far calls).items N ≡ []
       no_items N new (inl none) = none
       no_items N new (inr block) =
-          let earlier : N.place < length calls = c.program.blocks_earlier block.0 N block.1 in
+          let earlier : N.place < length calls = u.program.blocks_earlier block.0 N block.1 in
           let late : length calls ≡ N.place = ap (λ (M : Name). M.place) new in
           absurd (omega (arith, earlier, late))
 
-      named : (b : ℕ) (N : Name) → block_name (with_answers CreateBlock numbers) b ≡ Some N → (block_name calls b ≡ Some N) ⊎ ((c.own.insts b ≡ []) × ((program_so_far calls).items N ≡ []))
+      named : (b : ℕ) (N : Name) → block_name (with_answers CreateBlock numbers) b ≡ Some N → (block_name calls b ≡ Some N) ⊎ ((u.own.insts b ≡ []) × ((program_so_far calls).items N ≡ []))
       named b N is = by (old_or_new calls (the_call CreateBlock numbers) refl b N is)
         where
           by : (block_name calls b ≡ Some N) ⊎ ((b ≡ length (names_of (ledger_after (script_of calls)).blocks)) × (answer_of (length calls) 0 ≡ N))
-              → (block_name calls b ≡ Some N) ⊎ ((c.own.insts b ≡ []) × ((program_so_far calls).items N ≡ []))
+              → (block_name calls b ≡ Some N) ⊎ ((u.own.insts b ≡ []) × ((program_so_far calls).items N ≡ []))
           by (inl old) = inl old
-          by (inr new) = inr (empty b new.0, no_items N new.1 (c.program.only_blocks N))
+          by (inr new) = inr (empty b new.0, no_items N new.1 (u.program.only_blocks N))
 
   -- another block is made current
   pub carries_switched : (block : Name) (numbers : List ℕ) → Carries (with_answers (SwitchToBlock block) numbers) f s
   carries_switched block numbers =
       let call : AnsweredCall = the_call (SwitchToBlock block) numbers in
-      carries_on calls call f f s s c (λ i below. refl) (omega arith) c.tables
-      (unchanged calls call c.tables c.tables (same_program c.tables) tt (Requests.items_switched calls call block refl) c.program)
+      branched (calls ++ call ∷ []) f s (carries_on calls call f f s s u (λ i below. refl) (omega arith) (λ b out. out) u.tables
+      (unchanged calls call u.tables u.tables (same_program u.tables) tt (Requests.items_switched calls call block refl) u.program)
       (name_was call tt) (name_stays call tt) (Requests.items_switched calls call block refl)
-      (values_kept calls call c.tables c.tables (same_program c.tables) (λ index. refl) c.values_given)
-      (entry_stays calls (calls ++ call ∷ []) f f (Requests.entry_switched calls call block refl) refl (name_stays call tt) c.entry)
-      c.describes c.sound c.counts c.nothing_stray c.nothing_leads
+      (values_kept calls call u.tables u.tables (same_program u.tables) (λ index. refl) u.values_given)
+      (entry_stays calls (calls ++ call ∷ []) f f (Requests.entry_switched calls call block refl) refl (name_stays call tt) u.entry)
+      u.describes u.sound u.counts u.nothing_stray u.nothing_leads)
 
   -- a variable is declared
   pub carries_declared : (ty : «Type») (numbers : List ℕ) → Carries (with_answers (DeclareVar ty) numbers) f s
   carries_declared ty numbers =
       let call : AnsweredCall = the_call (DeclareVar ty) numbers in
-      carries_on calls call f f s s c (λ i below. refl) (omega arith) c.tables
-      (unchanged calls call c.tables c.tables (same_program c.tables) tt (Requests.items_declared calls call ty refl) c.program)
+      branched (calls ++ call ∷ []) f s (carries_on calls call f f s s u (λ i below. refl) (omega arith) (λ b out. out) u.tables
+      (unchanged calls call u.tables u.tables (same_program u.tables) tt (Requests.items_declared calls call ty refl) u.program)
       (name_was call tt) (name_stays call tt) (Requests.items_declared calls call ty refl)
-      (values_kept calls call c.tables c.tables (same_program c.tables) (one_variable_none (length (ledger_after (script_of calls)).variables)) c.values_given)
-      (entry_stays calls (calls ++ call ∷ []) f f (Requests.entry_declared calls call ty refl) refl (name_stays call tt) c.entry)
-      c.describes c.sound c.counts c.nothing_stray c.nothing_leads
+      (values_kept calls call u.tables u.tables (same_program u.tables) (one_variable_none (length (ledger_after (script_of calls)).variables)) u.values_given)
+      (entry_stays calls (calls ++ call ∷ []) f f (Requests.entry_declared calls call ty refl) refl (name_stays call tt) u.entry)
+      u.describes u.sound u.counts u.nothing_stray u.nothing_leads)
 
   -- a block is sealed, and the entry stays
   pub carries_sealed : (t : SsaState) (block : Name) (numbers : List ℕ) (b : ℕ) → IsConsistent f → SameRecords s t → Seals s t b → SamePredecessors s t
@@ -155,14 +160,14 @@ module _ (calls : List AnsweredCall) (f : Body) (s : SsaState) (c : Carries call
   carries_sealed t block numbers b consistent records seals leads entry =
       let call : AnsweredCall = the_call (SealBlock block) numbers in
       let g : Body = completed f (pending_of (sealed_of s b)) in
-      let after = seals_locally c.own f s t c.tables b consistent (c.describes, c.sound, c.counts) (c.nothing_leads b) records seals leads in
+      let after = seals_locally u.own f s t u.tables b consistent (u.describes, u.sound, u.counts) (u.nothing_leads b) records seals leads in
       let on = goes_on-completed f (pending_of (sealed_of s b)) in
-      carries_on calls call f g s t c (placed_kept f g consistent on) on.more_insts after.tables
-      (unchanged calls call c.tables after.tables after.same tt (Requests.items_sealed calls call block refl) c.program)
+      branched (calls ++ call ∷ []) g t (carries_on calls call f g s t u (placed_kept f g consistent on) on.more_insts (still_out-completed f (pending_of (sealed_of s b))) after.tables
+      (unchanged calls call u.tables after.tables after.same tt (Requests.items_sealed calls call block refl) u.program)
       (name_was call tt) (name_stays call tt) (Requests.items_sealed calls call block refl)
-      (values_kept calls call c.tables after.tables after.same (λ index. refl) c.values_given)
-      (entry_stays calls (calls ++ call ∷ []) f g (Requests.entry_sealed calls call block refl) entry (name_stays call tt) c.entry)
-      after.describes after.sound after.counts (seal_stray c.own.insts f g s t b (firm_from f consistent) seals refl c.nothing_stray) (nothing_still s t leads c.nothing_leads)
+      (values_kept calls call u.tables after.tables after.same (λ index. refl) u.values_given)
+      (entry_stays calls (calls ++ call ∷ []) f g (Requests.entry_sealed calls call block refl) entry (name_stays call tt) u.entry)
+      after.describes after.sound after.counts (seal_stray u.own.insts f g s t b (firm_from f consistent) seals refl u.nothing_stray) (nothing_still s t leads u.nothing_leads))
 
   -- a value is assigned to a variable in the current block
   pub carries_assigned : (t : SsaState) (x : ℕ) (n : Name) (value b : ℕ) (B : Name) (numbers : List ℕ) → IsCurrent calls b B
@@ -170,37 +175,38 @@ module _ (calls : List AnsweredCall) (f : Body) (s : SsaState) (c : Carries call
       → Carries (with_answers (DefVar x n) numbers) f t
   carries_assigned t x n value b B numbers current number is_value records same leads =
       let call : AnsweredCall = the_call (DefVar x n) numbers in
-      let known = value_answered calls c.tables n c.program c.values_given is_value in
-      let written : Records s t x b (c.tables.answer (code n)) = subst (Records s t x b) (sym (known.0 ∙ ap number_or_none number)) records in
-      let before : DescribesSoundly c.own f s c.tables = (c.describes, c.sound, c.counts) in
-      let after = write_item_described c.own f s t c.tables b x (code n) before (open_everywhere f s b c.nothing_leads) known.2 written same leads in
-      let unwritten : (y : ℕ) → c.tables.assigned (inside b (suc (c.tables.count b))) y ≡ None = λ y. c.describes.unwritten b (suc (c.tables.count b)) y (omega arith) in
+      let known = value_answered calls u.tables n u.program u.values_given is_value in
+      let written : Records s t x b (u.tables.answer (code n)) = subst (Records s t x b) (sym (known.0 ∙ ap number_or_none number)) records in
+      let before : DescribesSoundly u.own f s u.tables = (u.describes, u.sound, u.counts) in
+      let after = write_item_described u.own f s t u.tables b x (code n) before (open_everywhere f s b u.nothing_leads) known.2 written same leads in
+      let unwritten : (y : ℕ) → u.tables.assigned (inside b (suc (u.tables.count b))) y ≡ None = λ y. u.describes.unwritten b (suc (u.tables.count b)) y (omega arith) in
       let puts = Requests.puts_assignment calls call B current.current x n refl in
-      let adds = adds_assignment calls call c.tables b B current.named unwritten x n puts known.1 in
-      carries_item calls call f f s t c (λ i below. refl) (omega arith) b B (Assign x n) c.tables (with_write (with_item c.tables b) b x (code n)) adds c.program c.own []
-      (sym (append-nil (c.own.insts b))) (λ d other. refl) refl tt (let e = known.1 in let l = longer_calls call in omega (arith, e, l))
-      (values_added calls call c.tables (with_write (with_item c.tables b) b x (code n)) b B (Assign x n) adds (λ index is. absurd (false_is is)) c.values_given)
-      (entry_stays calls (calls ++ call ∷ []) f f (Requests.entry_assigned calls call B current.current x n refl) refl (name_stays call tt) c.entry)
-      after.0 after.1 after.2 (same_stray c.own.insts f s t same c.nothing_stray) (nothing_still s t leads c.nothing_leads)
+      let adds = adds_assignment calls call u.tables b B current.named unwritten x n puts known.1 in
+      branched (calls ++ call ∷ []) f t (carries_item calls call f f s t u (λ i below. refl) (omega arith) (λ d out. out) b B (Assign x n) u.tables (with_write (with_item u.tables b) b x (code n)) adds u.program u.own []
+      (sym (append-nil (u.own.insts b))) (λ d other. refl) u.no_parameters (λ out. refl) refl tt (let e = known.1 in let l = longer_calls call in omega (arith, e, l))
+      (values_added calls call u.tables (with_write (with_item u.tables b) b x (code n)) b B (Assign x n) adds (λ index is. absurd (false_is is)) u.values_given)
+      (entry_stays calls (calls ++ call ∷ []) f f (Requests.entry_assigned calls call B current.current x n refl) refl (name_stays call tt) u.entry)
+      after.0 after.1 after.2 (same_stray u.own.insts f s t same u.nothing_stray) (nothing_still s t leads u.nothing_leads))
 
   -- a variable is used in the current block
-  pub carries_used : (g : Body) (t : SsaState) (x v b : ℕ) (B : Name) → IsConsistent f → IsCurrent calls b B → KeepsAndKnows c.own c.tables g t b x v → NothingStray c.own.insts g t → SamePredecessors s t → GoesOn f g → v < length g.values
+  pub carries_used : (g : Body) (t : SsaState) (x v b : ℕ) (B : Name) → IsConsistent f → IsCurrent calls b B → KeepsAndKnows u.own u.tables g t b x v → NothingStray u.own.insts g t → SamePredecessors s t → GoesOn f g → v < length g.values
       → g.layout ≡ (inserted_in f b).layout
       → Carries (with_answers (UseVar x) (v ∷ [])) g t
   carries_used g t x v b B consistent current after nothing_stray leads on exists layout =
       let call : AnsweredCall = the_call (UseVar x) (v ∷ []) in
       let T : Blocks = after.kept.tables in
-      let was = restated calls c.tables T after.kept.same c.program in
-      let now : NothingLeads t = nothing_still s t leads c.nothing_leads in
-      let read = read_item_described c.own g t T b (code (answer_of (length calls) 0)) x v (after.kept.describes, after.kept.sound, after.kept.counts) (open_everywhere g t b now) (next_is_new calls T 0 was) after.known exists in
+      let was = restated calls u.tables T after.kept.same u.program in
+      let now : NothingLeads t = nothing_still s t leads u.nothing_leads in
+      let read = read_item_described u.own g t T b (code (answer_of (length calls) 0)) x v (after.kept.describes, after.kept.sound, after.kept.counts) (open_everywhere g t b now) (next_is_new calls T 0 was) after.known exists in
       let unwritten : (y : ℕ) → T.assigned (inside b (suc (T.count b))) y ≡ None = λ y. after.kept.describes.unwritten b (suc (T.count b)) y (omega arith) in
       let puts = Requests.puts_use calls call B current.current x refl in
       let adds = adds_use calls call T b B current.named unwritten x v puts refl in
       let T' : Blocks = with_read (with_item T b) b (code (answer_of (length calls) 0)) x v in
-      carries_item calls call f g s t c (placed_kept f g consistent on) on.more_insts b B (Use x (answer_of (length calls) 0)) T T' adds was c.own []
-      (sym (append-nil (c.own.insts b))) (λ d other. refl) refl tt (let l = longer_calls call in omega (arith, l))
+      branched (calls ++ call ∷ []) g t (carries_item calls call f g s t u (placed_kept f g consistent on) on.more_insts
+      (λ d out. out_before f b d (ap (stands_in d) (sym layout) ∙ out)) b B (Use x (answer_of (length calls) 0)) T T' adds was u.own []
+      (sym (append-nil (u.own.insts b))) (λ d other. refl) u.no_parameters (λ out. refl) refl tt (let l = longer_calls call in omega (arith, l))
       (values_added calls call T T' b B (Use x (answer_of (length calls) 0)) adds
       (λ index is. first_value (length calls) (or_invalid (variable_type (ledger_after (script_of calls)) x)) index is)
-      (values_same calls c.tables T after.kept.same c.values_given))
-      (entry_begun calls (calls ++ call ∷ []) f g b B (Requests.entry_used calls call B current.current x refl) layout current.named (name_stays call tt) c.entry)
-      read.0 read.1 read.2 nothing_stray now
+      (values_same calls u.tables T after.kept.same u.values_given))
+      (entry_begun calls (calls ++ call ∷ []) f g b B (Requests.entry_used calls call B current.current x refl) layout current.named (name_stays call tt) u.entry)
+      read.0 read.1 read.2 nothing_stray now)

@@ -1,11 +1,12 @@
 -- A function carries one more call: with an item, or without.
-use Rattle.std.proofs.Common.{◌≡◌, ◌≢◌, ℕ, suc, ◌<◌, ◌≤◌, List, [], ◌∷◌, ◌++◌, length, map, refl, sym, ◌∙◌, ap, subst, arith, Option, Some, None, ◌⊎◌, inl, inr}
+use Rattle.std.proofs.Common.{◌≡◌, ◌≢◌, ℕ, suc, ◌<◌, ◌≤◌, List, [], ◌∷◌, ◌++◌, length, map, refl, sym, ◌∙◌, ap, subst, arith, Option, Some, None, ◌⊎◌, inl, inr, false}
 use Rattle.std.proofs.Math.Decide.{ℕ_discrete}
 use Rattle.std.specs.Prelude.{flat_map}
 use Rattle.std.specs.List.{AllByRecursion}
 use Rattle.std.proofs.lemmas.List.{append-nil, map-append}
 use Rattle.std.proofs.lemmas.Grind.{flat_map-append}
 use Rattle.clif_ir.specs.Body.{Body, inst_at}
+use Rattle.clif_ir.specs.Reading.{stands_in}
 use Rattle.clif_paths.specs.Blocks.{Blocks}
 use Rattle.clif_paths.specs.BlockLaws.{BlocksSound}
 use Rattle.clif_ssa.specs.Own.{Own}
@@ -19,7 +20,8 @@ use Rattle.clif_meaning.specs.Program.{Item, Instruct, Use, Assign}
 use Rattle.clif_meaning.specs.FunctionView.{Placed}
 use Rattle.clif_meaning.specs.View.{placed_of}
 use Rattle.clif_simulation.specs.Tables.{answered, program_so_far, block_name, IsProgramOf}
-use Rattle.clif_simulation.specs.Carries.{answered_edge, answered_instruction, carried, HasItems, HasEntry, IsEarlier, NamesEarlier, NothingLeads, OwnExist, ValuesGiven, Carries}
+use Rattle.clif_simulation.specs.Carries.{answered_edge, answered_instruction, carried, HasEntry, IsEarlier, NothingLeads, OwnExist, ValuesGiven}
+use Rattle.clif_simulation.proofs.Unbranched.{CarriesUnbranched, PlainlyEarlier, PlainlyHasItems}
 use Rattle.clif_simulation.proofs.Numbers.{answered_stays}
 use Rattle.clif_simulation.proofs.Extending.{AddsItem, extended, one_answer}
 
@@ -47,7 +49,7 @@ module _ (calls : List AnsweredCall) (call : AnsweredCall) where
   numbers_kept = map_same (answered after) (answered calls) (IsEarlier calls) (λ name earlier. answered_stays calls call name earlier)
 
   -- what an item is in the function stays
-  pub carried_stays : (item : Item) → NamesEarlier calls item → carried after item ≡ carried calls item
+  pub carried_stays : (item : Item) → PlainlyEarlier calls item → carried after item ≡ carried calls item
   carried_stays (Instruct place instruction results) earlier =
       ap (λ (operands : List ℕ). record { instruction = record (answered_instruction after instruction) { operands = operands }; results = map (answered after) results; stack_map = [] } ∷ [])
       (numbers_kept instruction.operands earlier.0)
@@ -65,7 +67,7 @@ module _ (calls : List AnsweredCall) (call : AnsweredCall) where
   carried_stays (Use variable name) earlier = refl
   carried_stays (Assign variable name) earlier = refl
 
-  pub all_carried : (items : List Item) → AllByRecursion (NamesEarlier calls) items → flat_map (carried after) items ≡ flat_map (carried calls) items
+  pub all_carried : (items : List Item) → AllByRecursion (PlainlyEarlier calls) items → flat_map (carried after) items ≡ flat_map (carried calls) items
   all_carried [] all = refl
   all_carried (item ∷ items) all =
       ap (λ (first : List Placed). first ++ flat_map (carried after) items) (carried_stays item all.0)
@@ -85,15 +87,16 @@ module _ (calls : List AnsweredCall) (call : AnsweredCall) where
               more [] = refl
               more (d ∷ ds) = ap suc (more ds)
 
-  pub earlier_stays : (item : Item) → NamesEarlier calls item → NamesEarlier after item
+  pub earlier_stays : (item : Item) → PlainlyEarlier calls item → PlainlyEarlier after item
   earlier_stays (Instruct place instruction results) earlier =
       (all_mapped (IsEarlier calls) (IsEarlier after) earlier_name instruction.operands earlier.0, all_mapped (IsEarlier calls) (IsEarlier after) earlier_name results earlier.1, earlier.2)
   earlier_stays (Use variable name) earlier = earlier_name name earlier
   earlier_stays (Assign variable name) earlier = earlier_name name earlier
 
   -- the new function keeps the instructions, as the machine sees them
-  module _ (f g : Body) (s t : SsaState) (c : Carries calls f s)
-      (kept : (i : ℕ) → i < length f.insts → placed_of g (inst_at g i) ≡ placed_of f (inst_at f i)) (more : length f.insts ≤ length g.insts) where
+  module _ (f g : Body) (s t : SsaState) (c : CarriesUnbranched calls f s)
+      (kept : (i : ℕ) → i < length f.insts → placed_of g (inst_at g i) ≡ placed_of f (inst_at f i)) (more : length f.insts ≤ length g.insts)
+      (inserted : (b : ℕ) → stands_in b g.layout ≡ false → stands_in b f.layout ≡ false) where
     own_kept : (insts : List ℕ) → AllByRecursion (λ (i : ℕ). i < length f.insts) insts → map (λ inst. placed_of g (inst_at g inst)) insts ≡ map (λ inst. placed_of f (inst_at f inst)) insts
     own_kept = map_same (λ inst. placed_of g (inst_at g inst)) (λ inst. placed_of f (inst_at f inst)) (λ (i : ℕ). i < length f.insts) kept
 
@@ -111,15 +114,17 @@ module _ (calls : List AnsweredCall) (call : AnsweredCall) where
         → ((block : ℕ) (name : Name) → block_name after block ≡ Some name → (block_name calls block ≡ Some name) ⊎ ((c.own.insts block ≡ []) × ((program_so_far calls).items name ≡ [])))
         → ((block : ℕ) (name : Name) → block_name calls block ≡ Some name → block_name after block ≡ Some name)
         → ((name : Name) → (program_so_far after).items name ≡ (program_so_far calls).items name)
-        → ValuesGiven after T → HasEntry after g → Describes c.own g t [] T → BlocksSound T → CountsArguments c.own g t T → NothingStray c.own.insts g t → NothingLeads t → Carries after g t
+        → ValuesGiven after T → HasEntry after g → Describes c.own g t [] T → BlocksSound T → CountsArguments c.own g t T → NothingStray c.own.insts g t → NothingLeads t → CarriesUnbranched after g t
     carries_on T program named stays items values entry describes sound counts nothing_stray nothing_leads = record {
       tables = T;
       own = c.own;
       program = program;
       items = λ block name here. by block name (named block name here);
-      earlier = λ name. subst (AllByRecursion (NamesEarlier after)) (sym (items name)) (all_mapped (NamesEarlier calls) (NamesEarlier after) earlier_stays ((program_so_far calls).items name) (c.earlier name));
+      earlier = λ name. subst (AllByRecursion (PlainlyEarlier after)) (sym (items name)) (all_mapped (PlainlyEarlier calls) (PlainlyEarlier after) earlier_stays ((program_so_far calls).items name) (c.earlier name));
       own_exist = λ block. own_exists (c.own.insts block) (c.own_exist block);
       own_named = λ block none. c.own_named block (unnamed block none (block_name calls block) refl);
+      own_inserted = λ block out. c.own_inserted block (inserted block out);
+      no_parameters = c.no_parameters;
       values_given = values;
       entry = entry;
       describes = describes;
@@ -141,8 +146,9 @@ module _ (calls : List AnsweredCall) (call : AnsweredCall) where
     -- a call with an item
     module _ (b : ℕ) (B : Name) (item : Item) (T1 T : Blocks) (adds : AddsItem calls after T1 T b B item) (was : IsProgramOf calls T1) (own : Own) (new : List ℕ)
         (own_here : own.insts b ≡ c.own.insts b ++ new) (own_elsewhere : (d : ℕ) → d ≢ b → own.insts d ≡ c.own.insts d)
+        (no_parameters : (d : ℕ) → own.params d ≡ []) (new_inserted : stands_in b g.layout ≡ false → new ≡ [])
         (new_is : map (λ inst. placed_of g (inst_at g inst)) new ≡ carried after item)
-        (new_exist : AllByRecursion (λ (i : ℕ). i < length g.insts) new) (item_earlier : NamesEarlier after item) where
+        (new_exist : AllByRecursion (λ (i : ℕ). i < length g.insts) new) (item_earlier : PlainlyEarlier after item) where
       one_more : flat_map (carried after) (item ∷ []) ≡ carried after item
       one_more = append-nil (carried after item)
 
@@ -155,7 +161,7 @@ module _ (calls : List AnsweredCall) (call : AnsweredCall) where
           ∙ sym (flat_map-append (carried after) ((program_so_far calls).items B) (item ∷ []))
           ∙ ap (flat_map (carried after)) (sym adds.items_here)
 
-      items_of : HasItems after g own.insts
+      items_of : PlainlyHasItems after g own.insts
       items_of block name named = by (ℕ_discrete block b)
         where
           old : block_name calls block ≡ Some name
@@ -170,17 +176,17 @@ module _ (calls : List AnsweredCall) (call : AnsweredCall) where
               ap (map (λ inst. placed_of g (inst_at g inst))) (own_elsewhere block other) ∙ items_kept block name old
               ∙ ap (flat_map (carried after)) (sym (adds.items_elsewhere name (λ is_B. other (was.distinct block b B (old ∙ ap (λ (n : Name). Some n) is_B) adds.named))))
 
-      all_earlier : (name : Name) → AllByRecursion (NamesEarlier after) ((program_so_far after).items name)
+      all_earlier : (name : Name) → AllByRecursion (PlainlyEarlier after) ((program_so_far after).items name)
       all_earlier name = by (adds.same_or_other name)
         where
-          old : (n : Name) → AllByRecursion (NamesEarlier after) ((program_so_far calls).items n)
-          old n = all_mapped (NamesEarlier calls) (NamesEarlier after) earlier_stays ((program_so_far calls).items n) (c.earlier n)
+          old : (n : Name) → AllByRecursion (PlainlyEarlier after) ((program_so_far calls).items n)
+          old n = all_mapped (PlainlyEarlier calls) (PlainlyEarlier after) earlier_stays ((program_so_far calls).items n) (c.earlier n)
 
-          by : (name ≡ B) ⊎ (name ≢ B) → AllByRecursion (NamesEarlier after) ((program_so_far after).items name)
+          by : (name ≡ B) ⊎ (name ≢ B) → AllByRecursion (PlainlyEarlier after) ((program_so_far after).items name)
           by (inl same) =
-              subst (λ (n : Name). AllByRecursion (NamesEarlier after) ((program_so_far after).items n)) (sym same)
-              (subst (AllByRecursion (NamesEarlier after)) (sym adds.items_here) (all_append (NamesEarlier after) ((program_so_far calls).items B) (item ∷ []) (old B) (item_earlier, tt)))
-          by (inr other) = subst (AllByRecursion (NamesEarlier after)) (sym (adds.items_elsewhere name other)) (old name)
+              subst (λ (n : Name). AllByRecursion (PlainlyEarlier after) ((program_so_far after).items n)) (sym same)
+              (subst (AllByRecursion (PlainlyEarlier after)) (sym adds.items_here) (all_append (PlainlyEarlier after) ((program_so_far calls).items B) (item ∷ []) (old B) (item_earlier, tt)))
+          by (inr other) = subst (AllByRecursion (PlainlyEarlier after)) (sym (adds.items_elsewhere name other)) (old name)
 
       own_all : OwnExist g own.insts
       own_all block = by (ℕ_discrete block b)
@@ -195,7 +201,13 @@ module _ (calls : List AnsweredCall) (call : AnsweredCall) where
       own_unnamed block none (yes same) = absurd (none_some B (sym none ∙ adds.names block ∙ ap (block_name calls) same ∙ adds.named))
       own_unnamed block none (no other) = own_elsewhere block other ∙ c.own_named block (sym (adds.names block) ∙ none)
 
-      pub carries_item : ValuesGiven after T → HasEntry after g → Describes own g t [] T → BlocksSound T → CountsArguments own g t T → NothingStray own.insts g t → NothingLeads t → Carries after g t
+      own_outside : (block : ℕ) → stands_in block g.layout ≡ false → Dec (block ≡ b) → own.insts block ≡ []
+      own_outside block out (no other) = own_elsewhere block other ∙ c.own_inserted block (inserted block out)
+      own_outside block out (yes same) =
+          let out_here : stands_in b g.layout ≡ false = subst (λ (d : ℕ). stands_in d g.layout ≡ false) same out in
+          ap own.insts same ∙ own_here ∙ ap (λ (is : List ℕ). is ++ new) (c.own_inserted b (inserted b out_here)) ∙ new_inserted out_here
+
+      pub carries_item : ValuesGiven after T → HasEntry after g → Describes own g t [] T → BlocksSound T → CountsArguments own g t T → NothingStray own.insts g t → NothingLeads t → CarriesUnbranched after g t
       carries_item values entry describes sound counts nothing_stray nothing_leads = record {
         tables = T;
         own = own;
@@ -204,6 +216,8 @@ module _ (calls : List AnsweredCall) (call : AnsweredCall) where
         earlier = all_earlier;
         own_exist = own_all;
         own_named = λ block none. own_unnamed block none (ℕ_discrete block b);
+        own_inserted = λ block out. own_outside block out (ℕ_discrete block b);
+        no_parameters = no_parameters;
         values_given = values;
         entry = entry;
         describes = describes;

@@ -36,7 +36,7 @@ use Rattle.clif_simulation.specs.ReadingExamples.{half_body_with, half_body, hal
 use Rattle.clif_simulation.proofs.Starting.{no_arguments, none_assigned}
 use Rattle.clif_simulation.proofs.Values.{false_is}
 use Rattle.clif_simulation.proofs.Reaching.{given_behind, leads_nowhere}
-use Rattle.clif_simulation.specs.Carries.{NamesEarlier}
+use Rattle.clif_simulation.proofs.Unbranched.{PlainlyEarlier}
 
 -- the program: a use, and a constant
 abbrev items : List Item
@@ -256,7 +256,7 @@ fits f = record { arguments = tt; slots = record { aligned = λ s slot h. cc; ac
 leads_nowhere_here : (p : Place Name) → (code_so_far answered_calls).flow.targets p ≡ []
 leads_nowhere_here p =
     leads_nowhere answered_calls ((program_so_far answered_calls).items p.block) p.index
-    (each_item (NamesEarlier answered_calls) (omega arith, ((tt, (omega arith, tt), refl), tt)) p.block)
+    (each_item (PlainlyEarlier answered_calls) (omega arith, ((tt, (omega arith, tt), refl), tt)) p.block)
 
 use_is_given : IsGivenBefore (code_so_far answered_calls) (answer_of 3 0) (behind block0 1)
 use_is_given path walk =

@@ -1,12 +1,18 @@
 -- Names and their numbers.
 pub mod Codes
+-- No branch leads to any block.
+pub mod Unbranched
 -- A finished function that carries calls means what their program means.
 mod Giving
 mod Agreement
 mod Straight
 mod Listed
 mod Entry
-mod Items
+mod ItemsAt
+mod OwnEdges
+mod Flow
+mod Edges
+mod Fronts
 mod Matching
 mod Stepping
 mod Starting
@@ -21,11 +27,10 @@ mod Setting
 pub mod RightReading
 -- The row `first`, half built.
 mod HalfRow
--- No branch leads to any block.
-pub mod Unbranched
 -- A function goes on to carry one more call.
 pub mod Numbers
 pub mod NameLists
+mod Layouts
 pub mod Extending
 pub mod ItemCalls
 pub mod Growing

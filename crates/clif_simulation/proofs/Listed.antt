@@ -1,5 +1,5 @@
 -- What a script's program has, and places of lists.
-use Rattle.std.proofs.Common.{◌≡◌, ℕ, zero, suc, ◌<◌, List, [], ◌∷◌, length, fold, slice_get, Option, Some, None, Contains, ◌⊎◌, inl, inr, refl, ◌∙◌, ap, subst, arith}
+use Rattle.std.proofs.Common.{◌≡◌, ℕ, zero, suc, ◌<◌, List, [], ◌∷◌, length, map, fold, slice_get, Option, Some, None, Contains, ◌⊎◌, inl, inr, refl, ◌∙◌, ap, subst, arith}
 use Rattle.std.specs.List.{AllByRecursion}
 use Rattle.clif_meaning.specs.Name.{Name}
 use Rattle.clif_meaning.specs.Request.{Request, CreateBlock, SwitchToBlock, SealBlock, DeclareVar, DefVar, UseVar, Build, Finalize, Script}
@@ -43,6 +43,14 @@ pub all_at : {X : Type 0} (P : X → Type 0) (xs : List X) (k : ℕ) (x : X) →
 all_at P [] k x all found = cc
 all_at P (y ∷ xs) zero x all found = let same : y ≡ x = cc in subst P same all.0
 all_at P (y ∷ xs) (suc k) x all found = all_at P xs k x all.1 found
+
+-- a list of which nothing is mapped has nothing
+pub none_mapped : {X Y : Type 0} (g : X → Y) (xs : List X) → map g xs ≡ [] → xs ≡ []
+none_mapped g [] none = refl
+none_mapped {X} {Y} g (x ∷ xs) none = absurd (some (g x) (map g xs) none)
+  where
+    some : (y : Y) (ys : List Y) → (y ∷ ys) ≡ [] → ⊥
+    some y ys h = cc
 
 -- The straight path through a block ---------------------------------------------------------------------------------
 

@@ -1,13 +1,20 @@
 -- How one step of the script's machine is matched, and what both machines show at an end.
-use Rattle.std.proofs.Common.{◌≡◌, ℕ, zero, suc, ◌<◌, List, [], ◌∷◌, map, drop, slice_get, Some, inl, inr, refl, ap₂, arith}
+use Rattle.std.proofs.Common.{◌≡◌, ℕ, zero, suc, ◌<◌, ◌≤◌, List, [], ◌∷◌, length, map, drop, slice_get, Some, inl, inr, refl, ap₂, arith}
 use Rattle.clif_meaning.specs.Bits.{Bits}
 use Rattle.clif_meaning.specs.Memory.{Memory}
-use Rattle.clif_meaning.specs.Machine.{Machine, Control, At, HasReturned, HasTrapped, IsStuck, Observation, ending_of}
+use Rattle.clif_meaning.specs.Machine.{Machine, Control, At, HasReturned, HasTrapped, IsStuck, Observation, Ending, ending_of}
+use Rattle.clif_meaning.specs.Event.{Event}
+use Rattle.clif_meaning.specs.Program.{Item}
+use Rattle.clif_meaning.specs.FunctionView.{Placed}
+use Rattle.clif_meaning.specs.ScriptMachine as script
+use Rattle.clif_meaning.specs.ScriptMachine.{ScriptRun, ScriptState}
+use Rattle.clif_meaning.specs.FunctionMachine as function_machine_of
+use Rattle.clif_meaning.specs.FunctionMachine.{FunctionRun, FunctionState}
 use Rattle.clif_meaning.specs.Instruction.{Operation, Compute, Jump, Brif, Return}
 use Rattle.clif_types.specs.declared.types.«Type».{«Type»}
 use Rattle.clif_meaning.specs.World.{World}
 use Rattle.clif_meaning.specs.Outcome.{Outcome, Gives, Goes, Returns, Traps, Calls, NoStep, Computed, Values, Fault, Undefined, computed, outcome_of_computed, outcome_of}
-use Rattle.clif_meaning.proofs.Stuttering.{Matched, ShowsOnlyEnds}
+use Rattle.clif_meaning.proofs.Stuttering.{Matched, ShowsOnlyEnds, steps_from}
 use Rattle.clif_simulation.proofs.Giving.{In}
 
 -- Lists -----------------------------------------------------------------------------------------------------------------
@@ -24,6 +31,13 @@ rest_behind [] zero x rest e = cc
 rest_behind [] (suc k) x rest e = cc
 rest_behind (y ∷ xs) zero x rest e = cc
 rest_behind (y ∷ xs) (suc k) x rest e = rest_behind xs k x rest e
+
+-- the parts of one list that is two
+pub first_is : {X : Type 0} (x y : X) (xs ys : List X) → (x ∷ xs) ≡ (y ∷ ys) → x ≡ y
+first_is x y xs ys same = cc
+
+pub rest_is : {X : Type 0} (x y : X) (xs ys : List X) → (x ∷ xs) ≡ (y ∷ ys) → xs ≡ ys
+rest_is x y xs ys same = cc
 
 -- the bits of things and of what stands for them
 pub same_bits : {X Y : Type 0} (xs : List X) (g : X → ℕ) (h : Y → ℕ) (other : X → Y) → ((x : X) → In x xs → g x ≡ h (other x)) → map g xs ≡ map h (map other xs)
@@ -50,6 +64,11 @@ module _ {S T : Type 0} (left : Machine S Observation) (right : Machine T Observ
       quiet : ShowsOnlyEnds right 0 t
       quiet zero h = inl refl
       quiet (suc j) h = absurd (omega arith)
+
+  -- by some steps that show nothing new
+  pub matched_by_more : (n : ℕ) → Related (left.next s) (steps_from right (suc n) t) → ((j : ℕ) → j ≤ suc n → right.shown (steps_from right j t) ≡ right.shown t)
+      → Matched left right Related measure s t
+  matched_by_more n related quiet = record { steps = suc n; related = related; quiet = λ j within. inl (quiet j within); gets_on = inl (omega arith) }
 
 -- Ends ------------------------------------------------------------------------------------------------------------------
 
@@ -112,3 +131,32 @@ outcome_plain world (Compute arithmetic) ty operands memory = computed_plain (co
 outcome_plain world Jump ty operands memory = (goes_plain ty world operands memory).0
 outcome_plain world Brif ty operands memory = (goes_plain ty world operands memory).1
 outcome_plain world Return ty operands memory = tt
+
+-- Steps and measures -------------------------------------------------------------------------------------------------------
+
+-- what ended in one way stays
+pub script_still : (run : ScriptRun) (state : ScriptState) (c : Control Item) (d : Control Placed) → SameEnd c d → script.step_at run state c ≡ state
+script_still run state (At rest) d same = absurd same
+script_still run state (HasReturned results) d same = refl
+script_still run state (HasTrapped reason) d same = refl
+script_still run state IsStuck d same = refl
+
+pub function_still : (run : FunctionRun) (state : FunctionState) (c : Control Item) (d : Control Placed) → SameEnd c d → function_machine_of.step_at run state d ≡ state
+function_still run state (At items) (At rest) same = absurd same
+function_still run state (HasReturned a) (At rest) same = absurd same
+function_still run state (HasTrapped a) (At rest) same = absurd same
+function_still run state IsStuck (At rest) same = absurd same
+function_still run state c (HasReturned results) same = refl
+function_still run state c (HasTrapped reason) same = refl
+function_still run state c IsStuck same = refl
+
+-- what a machine shows, by its parts
+abbrev pub observation : List Event → Ending → Observation
+observation events ending = record { events = events; ending = ending }
+
+-- how many items are left
+abbrev pub remaining : Control Item → ℕ
+remaining (At rest) = length rest
+remaining (HasReturned results) = 0
+remaining (HasTrapped reason) = 0
+remaining IsStuck = 0

@@ -19,7 +19,7 @@ use Rattle.clif_meaning.specs.Request.{AnsweredCall}
 use Rattle.clif_meaning.specs.Program.{Item, Instruct, Use, Assign}
 use Rattle.clif_meaning.specs.WellPlaced.{program_code, IsWellPlaced}
 use Rattle.clif_simulation.specs.Tables.{code, program_so_far, block_name, item_at, assigned_by}
-use Rattle.clif_simulation.specs.Carries.{Carries}
+use Rattle.clif_simulation.proofs.Unbranched.{CarriesUnbranched}
 use Rattle.clif_simulation.proofs.Straight.{arms, first_arm, OnlyEntry, strictly_before, none_elsewhere}
 use Rattle.clif_simulation.proofs.Entry
 
@@ -47,7 +47,7 @@ begins : (layout : List ℕ) (e : ℕ) → slice_get layout 0 ≡ Some e → has
 begins [] e found = cc
 begins (b ∷ layout) e found = refl
 
-module _ (calls : List AnsweredCall) (f : Body) (s : SsaState) (carries : Carries calls f s)
+module _ (calls : List AnsweredCall) (f : Body) (s : SsaState) (carries : CarriesUnbranched calls f s)
     (entry : Name) (is_entry : (program_so_far calls).entry ≡ Some entry)
   where
     abbrev pub e : ℕ

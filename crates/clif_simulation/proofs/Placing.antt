@@ -28,8 +28,9 @@ use Rattle.clif_meaning.specs.FunctionView.{Placed}
 use Rattle.clif_meaning.specs.View.{placed_of, items_of}
 use Rattle.clif_meaning.proofs.StraightLine.{none_of}
 use Rattle.clif_simulation.specs.Tables.{code, answered, program_so_far, block_name}
-use Rattle.clif_simulation.specs.Carries.{Carries, carried, answered_instruction}
+use Rattle.clif_simulation.specs.Carries.{carried, answered_instruction}
 use Rattle.clif_simulation.specs.Laws.{IsFinished}
+use Rattle.clif_simulation.proofs.Unbranched.{CarriesUnbranched}
 use Rattle.clif_simulation.proofs.Straight.{straight, same_block, visits_so_far}
 use Rattle.clif_simulation.proofs.Entry
 
@@ -191,7 +192,7 @@ not_start p b k at none = no_start (sym none ∙ at)
     no_start : start ≡ inside b k → ⊥
     no_start h = cc
 
-module _ (calls : List AnsweredCall) (f : Body) (s : SsaState) (consistent : IsConsistent f) (carries : Carries calls f s) (finished : IsFinished f s)
+module _ (calls : List AnsweredCall) (f : Body) (s : SsaState) (consistent : IsConsistent f) (carries : CarriesUnbranched calls f s) (finished : IsFinished calls f s)
     (entry : Name) (is_entry : (program_so_far calls).entry ≡ Some entry)
   where
     abbrev pub e : ℕ

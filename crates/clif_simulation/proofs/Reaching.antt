@@ -10,7 +10,7 @@ use Rattle.clif_meaning.specs.Path.{Place, Flow, IsPath, Leads, IsReachable}
 use Rattle.clif_meaning.specs.WellPlaced.{Code, IsGivenAlong, IsGivenBefore, given_on_entry, item_targets, item_gives, program_code}
 use Rattle.clif_meaning.proofs.StraightLine.{nothing_contained, none_of}
 use Rattle.clif_simulation.specs.Tables.{program_so_far}
-use Rattle.clif_simulation.specs.Carries.{NamesEarlier}
+use Rattle.clif_simulation.proofs.Unbranched.{PlainlyEarlier}
 use Rattle.clif_simulation.specs.Reading.{with_ends, code_so_far, behind}
 use Rattle.clif_simulation.proofs.Listed.{no_parameters, through_block, given_earlier}
 
@@ -41,18 +41,18 @@ along_same {Block} {Thing} code x (p ∷ path) along = by along (along_same code
     by (inr (inr before)) later = inr (inr (later before))
 
 module _ (calls : List AnsweredCall) where
-  item_leads : (item : Item) → NamesEarlier calls item → item_targets (Some item) ≡ []
+  item_leads : (item : Item) → PlainlyEarlier calls item → item_targets (Some item) ≡ []
   item_leads (Instruct place instruction results) earlier = ap (λ (edges : List (Edge Name Name)). map (λ edge. edge.target) edges) earlier.2
   item_leads (Use variable name) earlier = refl
   item_leads (Assign variable name) earlier = refl
 
-  pub leads_nowhere : (items : List Item) (k : ℕ) → AllByRecursion (NamesEarlier calls) items → item_targets (slice_get items k) ≡ []
+  pub leads_nowhere : (items : List Item) (k : ℕ) → AllByRecursion (PlainlyEarlier calls) items → item_targets (slice_get items k) ≡ []
   leads_nowhere [] k all = refl
   leads_nowhere (item ∷ items) zero all = item_leads item all.0
   leads_nowhere (item ∷ items) (suc k) all = leads_nowhere items k all.1
 
   -- the blocks that are reached are the entry
-  pub reached_entry : ((name : Name) → AllByRecursion (NamesEarlier calls) ((program_so_far calls).items name)) → (name : Name)
+  pub reached_entry : ((name : Name) → AllByRecursion (PlainlyEarlier calls) ((program_so_far calls).items name)) → (name : Name)
       → IsReachable (code_so_far calls).flow (behind name 0) → (program_so_far calls).entry ≡ Some name
   reached_entry earlier name reached =
       in_entry (code_so_far calls).flow (λ p. leads_nowhere ((program_so_far calls).items p.block) p.index (earlier p.block)) (behind name 0) reached.0 reached.1

@@ -19,12 +19,14 @@ use Rattle.clif_meaning.specs.Path.{Place, IsPath}
 use Rattle.clif_meaning.specs.WellPlaced.{function_code, function_flow, program_code, placed_gives, IsGivenAlong, IsWellPlaced, Records, RecordsWellPlaced}
 use Rattle.clif_meaning.proofs.StraightLine.{given_along}
 use Rattle.clif_simulation.specs.Tables.{code, answered, program_so_far, block_name, item_at}
-use Rattle.clif_simulation.specs.Carries.{Carries, carried}
+use Rattle.clif_simulation.specs.Carries.{carried}
 use Rattle.clif_simulation.specs.Laws.{IsFinished}
 use Rattle.clif_simulation.specs.Structure.{IsAnswerAt, AreRecords}
+use Rattle.clif_simulation.proofs.Unbranched.{CarriesUnbranched, branched}
 use Rattle.clif_simulation.proofs.Straight.{arms, straight, straight_end, straight_follows}
 use Rattle.clif_simulation.proofs.Listed.{place_within}
 use Rattle.clif_simulation.proofs.Entry
+use Rattle.clif_simulation.proofs.Flow
 use Rattle.clif_simulation.proofs.Placing
 use Rattle.clif_simulation.proofs.Placing.{map_length, so_many, not_start}
 use Rattle.clif_simulation.proofs.Structured.{no_branches, no_targets, in_entry, given_on_path, no_entry}
@@ -56,7 +58,7 @@ module _ (calls : List AnsweredCall) where
   use_counts_nothing (Use x n ∷ items) (suc k) y m is = use_counts_nothing items k y m is
   use_counts_nothing (Assign x n ∷ items) (suc k) y m is = use_counts_nothing items k y m is
 
-module _ (calls : List AnsweredCall) (f : Body) (s : SsaState) (consistent : IsConsistent f) (carries : Carries calls f s) (finished : IsFinished f s)
+module _ (calls : List AnsweredCall) (f : Body) (s : SsaState) (consistent : IsConsistent f) (carries : CarriesUnbranched calls f s) (finished : IsFinished calls f s)
     (placed : IsWellPlaced (program_code (program_so_far calls))) where
   module _ (entry : Name) (is_entry : (program_so_far calls).entry ≡ Some entry) where
     abbrev e : ℕ
@@ -72,7 +74,7 @@ module _ (calls : List AnsweredCall) (f : Body) (s : SsaState) (consistent : IsC
     allowed = record {
       known = λ arm sealed. refl;
       rooted = carries.sound.sound.rooted;
-      given_before = Entry.at_place calls f s carries entry is_entry finished placed;
+      given_before = Flow.at_place calls f s consistent (branched calls f s carries) placed;
     }
 
     under : SoundUnder (arms carries.tables) (state_of carries.tables)

@@ -19,8 +19,8 @@ use Rattle.clif_meaning.specs.FunctionMachine.{Collector, FunctionRun, FunctionS
 use Rattle.clif_meaning.specs.View.{view_of}
 use Rattle.clif_meaning.specs.Headline.{IsWorldOf}
 use Rattle.clif_simulation.specs.Tables.{program_so_far, block_name}
-use Rattle.clif_simulation.specs.Carries.{Carries}
 use Rattle.clif_simulation.specs.Reading.{PremisesSoFar, script_run_so_far, function_run_so_far, starting_at, SideBySide, StartAlike, RunSideBySide}
+use Rattle.clif_simulation.proofs.Unbranched.{CarriesUnbranched}
 use Rattle.clif_simulation.proofs.Starting.{no_arguments, none_assigned}
 use Rattle.clif_simulation.proofs.Reaching.{reached_entry}
 use Rattle.clif_simulation.proofs.Entry
@@ -28,7 +28,7 @@ use Rattle.clif_simulation.proofs.Opened.{Opens}
 use Rattle.clif_simulation.proofs.Opened
 use Rattle.clif_simulation.proofs.Setting
 
-module _ (calls : List AnsweredCall) (signature : SignatureShape) (f : Body) (ssa : SsaState) (consistent : IsConsistent f) (carries : Carries calls f ssa)
+module _ (calls : List AnsweredCall) (signature : SignatureShape) (f : Body) (ssa : SsaState) (consistent : IsConsistent f) (carries : CarriesUnbranched calls f ssa)
     (width : PointerWidth) (world : World) (tracked : Name → Bool) (collector : Collector)
     (fits : IsWorldOf signature (view_of f) width world) (premises : PremisesSoFar calls signature)
   where

@@ -32,9 +32,10 @@ use Rattle.clif_meaning.specs.View.{placed_of, items_of, first_type}
 use Rattle.clif_meaning.specs.WellPlaced.{item_gives, program_code, IsWellPlaced}
 use Rattle.clif_meaning.proofs.StraightLine.{nothing_contained}
 use Rattle.clif_simulation.specs.Tables.{code, answered, program_so_far, IsGiven}
-use Rattle.clif_simulation.specs.Carries.{Carries, carried}
+use Rattle.clif_simulation.specs.Carries.{carried}
 use Rattle.clif_simulation.specs.Reading.{starting_at, IsAtEnd, StandAlike, StartAlike, SideBySide}
-use Rattle.clif_simulation.proofs.Agreement.{zeros_agree}
+use Rattle.clif_simulation.proofs.Unbranched.{CarriesUnbranched}
+use Rattle.clif_simulation.proofs.Agreement.{any_value, zeros_agree}
 use Rattle.clif_simulation.proofs.Straight.{first_arm, straight, same_block, same_step, absent_name, absent_value}
 use Rattle.clif_simulation.proofs.Ended.{defined-end, is-end}
 use Rattle.clif_simulation.proofs.Opened.{Opens}
@@ -43,7 +44,7 @@ use Rattle.clif_simulation.proofs.Counted.{gives_results, terminator_gives_none}
 use Rattle.clif_simulation.proofs.Matching.{item_here, rest_behind}
 use Rattle.clif_simulation.proofs.Listed.{place_within}
 use Rattle.clif_simulation.proofs.Reaching
-use Rattle.clif_simulation.proofs.Starting.{zero_placed, is_zero_placed, any_first, zero_bits}
+use Rattle.clif_simulation.proofs.Fronts.{zero_placed, is_zero_placed, any_first, zero_bits}
 use Rattle.clif_simulation.proofs.Entry
 use Rattle.clif_simulation.proofs.Alongside
 
@@ -53,7 +54,7 @@ nothing_behind [] k none = omega arith
 nothing_behind (x ∷ xs) zero none = cc
 nothing_behind (x ∷ xs) (suc k) none = let below = nothing_behind xs k none in omega (arith, below)
 
-module _ (calls : List AnsweredCall) (f : Body) (ssa : SsaState) (consistent : IsConsistent f) (carries : Carries calls f ssa)
+module _ (calls : List AnsweredCall) (f : Body) (ssa : SsaState) (consistent : IsConsistent f) (carries : CarriesUnbranched calls f ssa)
     (entry : Name) (is_entry : (program_so_far calls).entry ≡ Some entry) (placed : IsWellPlaced (program_code (program_so_far calls)))
     (sealed : ℕ → Bool) (joins : Edges) (opens : Opens carries.tables (Entry.e calls f ssa carries entry is_entry) sealed joins)
     (width : PointerWidth) (world : World) (tracked : Name → Bool) (collector : Collector)
@@ -249,7 +250,7 @@ module _ (calls : List AnsweredCall) (f : Body) (ssa : SsaState) (consistent : I
           same_events = events ∙ sym z.events;
           names = p.names;
           values = state.values;
-          agrees = zeros_agree (Alongside.program calls f ssa consistent carries entry is_entry placed sealed joins opens width world tracked collector)
+          agrees = zeros_agree any_value (Alongside.program calls f ssa consistent carries entry is_entry placed sealed joins opens width world tracked collector)
               (Alongside.function calls f ssa consistent carries entry is_entry placed sealed joins opens width world tracked collector)
               (straight e 0) p.variables p.names state.values variables names (λ w. zero_now w (z.values w));
           names_are = λ x j below home. refl;
@@ -440,7 +441,7 @@ module _ (calls : List AnsweredCall) (f : Body) (ssa : SsaState) (consistent : I
             same_events = start_alike.same_events ∙ sym z.events;
             names = λ n. 0;
             values = front_values state;
-            agrees = record { of_variable = of_variable state z; of_name = of_name state };
+            agrees = record { of_variable = λ x w is_live. of_variable state z x w; of_name = λ n w is_live. of_name state n w };
             names_are = λ x j below home. absurd (omega (arith, below));
             values_are = λ w i within home. values_here state w (home ∙ ap (inside e) (none_below i within));
           }

@@ -1,67 +1,80 @@
--- The relation between the states of both machines, and that each step of the script's keeps it.
-use Rattle.std.proofs.Common.{◌≡◌, ℕ, suc, ◌<◌, List, [], ◌∷◌, length, map, drop, flat_map, slice_get, Some, ◌⊎◌, inl, inr, refl, sym, ◌∙◌, ap, ap₂, subst, subst₂, arith}
+-- One step of the script's machine is matched by the function's machine: both stand before the same items of a block and
+-- agree, or ended in one way. A step along an edge is matched by that and the zeros of the block that it leads to.
+use Rattle.std.proofs.Common.{◌≡◌, ℕ, zero, suc, ◌+◌, ◌-◌, ◌<◌, ◌≤◌, nat_lt, Bool, true, List, [], ◌∷◌, ◌++◌, map, length, drop, flat_map, slice_get, Option, Some, None, Contains, ◌⊎◌, inl, inr, refl, sym, ◌∙◌, ap, ap₂, subst, subst₂, arith}
+use Rattle.std.specs.Prelude.{IsTrue}
+use Rattle.std.specs.List.{AllByRecursion}
+use Rattle.std.proofs.lemmas.Bool.Decides.{nat_tests}
+use Rattle.clif_types.specs.Signature.{SignatureShape}
+use Rattle.clif_types.specs.declared.types.«Type».{«Type»}
 use Rattle.clif_types.specs.declared.target.PointerWidth.{PointerWidth}
-use Rattle.clif_ir.specs.Body.{Body}
+use Rattle.clif_ir.specs.Body.{Body, inst_at, resolved}
+use Rattle.clif_ir.specs.Consistent.{IsConsistent}
+use Rattle.clif_paths.specs.Places.{inside, Arm, Path, Follows, end_of}
 use Rattle.clif_paths.specs.State.{Program, Function}
-use Rattle.clif_paths.specs.Blocks.{state_of}
+use Rattle.clif_paths.specs.Denotation.{denotes}
+use Rattle.clif_paths.specs.Blocks.{Blocks, state_of}
 use Rattle.clif_paths.specs.Laws.{IsCorrect}
+use Rattle.clif_paths.proofs.PathLemmas.{same_place-refl}
 use Rattle.clif_ssa.specs.Ssa.{SsaState}
-use Rattle.clif_meaning.specs.Name.{Name}
+use Rattle.clif_ssa.specs.Sound.{edges_at}
+use Rattle.clif_meaning.specs.Bits.{Bits}
+use Rattle.clif_meaning.specs.Memory.{Memory}
+use Rattle.clif_meaning.specs.Event.{Event, types_of}
+use Rattle.clif_meaning.specs.Name.{Name, same_name}
 use Rattle.clif_meaning.specs.Request.{AnsweredCall, script_of}
-use Rattle.clif_meaning.specs.Instruction.{Instruction, Edge}
+use Rattle.clif_meaning.specs.Ledger.{ledger_after, is_filled, or_invalid, type_of}
+use Rattle.clif_meaning.specs.Instruction.{Operation, Compute, Jump, Brif, Return, Edge, Instruction}
 use Rattle.clif_meaning.specs.Program.{Item, Instruct, Use, Assign}
 use Rattle.clif_meaning.specs.World.{World}
-use Rattle.clif_meaning.specs.Event.{Event}
-use Rattle.clif_meaning.specs.Memory.{Memory}
 use Rattle.clif_meaning.specs.Outcome.{Outcome, Gives, Goes, Returns, Traps, Calls, NoStep, outcome_of}
+use Rattle.clif_meaning.specs.Store.{assigned, argument_bits, shown_memory}
 use Rattle.clif_meaning.specs.Machine.{Machine, Control, At, HasReturned, HasTrapped, IsStuck, Observation, Ending, ending_of}
-use Rattle.clif_meaning.specs.Store.{shown_memory}
 use Rattle.clif_meaning.specs.ScriptMachine as script
 use Rattle.clif_meaning.specs.ScriptMachine.{ScriptRun, ScriptState, script_machine}
 use Rattle.clif_meaning.specs.FunctionMachine as function_machine_of
-use Rattle.clif_meaning.specs.FunctionMachine.{FunctionRun, FunctionState, ByMaps, function_machine, value_bits}
+use Rattle.clif_meaning.specs.FunctionMachine.{FunctionRun, FunctionState, ByMaps, function_machine, value_bits, same_value}
 use Rattle.clif_meaning.specs.FunctionView.{Placed}
-use Rattle.clif_meaning.specs.View.{view_of}
+use Rattle.clif_meaning.specs.View.{view_of, edge_of, edges_of, argument_of}
 use Rattle.clif_meaning.specs.Headline.{script_run, function_run}
-use Rattle.clif_meaning.specs.WellPlaced.{program_code, IsWellPlaced}
-use Rattle.clif_meaning.proofs.Stuttering.{Matched}
-use Rattle.clif_simulation.specs.Tables.{answered, program_so_far}
-use Rattle.clif_simulation.specs.Carries.{Carries, carried, answered_instruction, answered_edge}
+use Rattle.clif_meaning.specs.Premises.{EachItem, HasGoodTargets, IsGoodTarget, IsItemWellTyped, WellTyped, parameter_types}
+use Rattle.clif_meaning.specs.Typing.{EdgeMatches, EachEdgeMatches, argument_type, call_shape}
+use Rattle.clif_meaning.specs.WellPlaced.{item_names, program_code, IsWellPlaced}
+use Rattle.clif_meaning.proofs.Stuttering.{Matched, steps_from}
+use Rattle.clif_simulation.specs.Tables.{code, answered, program_so_far, block_name}
+use Rattle.clif_simulation.specs.Carries.{Carries, carried, own_placed}
 use Rattle.clif_simulation.specs.Laws.{IsFinished}
 use Rattle.clif_simulation.proofs.Giving.{in_contained}
-use Rattle.clif_simulation.proofs.Agreement.{Agrees, given_agrees, used_agrees, assigned_agrees}
-use Rattle.clif_simulation.proofs.Straight.{next_arm, straight}
-use Rattle.clif_simulation.proofs.Items
-use Rattle.clif_simulation.proofs.Matching.{item_here, rest_behind, same_bits, matched_by_one, matched_by_none, SameEnd, same_ending, IsPlain, outcome_plain}
+use Rattle.clif_simulation.proofs.Agreement.{Agrees, GivesThere, EntersThere, ZerosAreZero, given_agrees, used_agrees, assigned_agrees, entered_agrees, given_zeros, used_zeros, assigned_zeros, entered_zeros, agrees_still, zeros_still}
+use Rattle.clif_simulation.proofs.Entry.{resolved_twice}
+use Rattle.clif_simulation.proofs.Straight.{arms, next_arm}
+use Rattle.clif_simulation.proofs.Edges
+use Rattle.clif_simulation.proofs.Flow
+use Rattle.clif_simulation.proofs.Fronts
+use Rattle.clif_simulation.proofs.Fronts.{HasFront, has_front, placed_inst, goes_on_quietly, steps_behind}
+use Rattle.clif_simulation.proofs.ItemsAt
+use Rattle.clif_simulation.proofs.Listed.{all_at, no_parameters, none_mapped, place_within}
+use Rattle.clif_simulation.proofs.OwnEdges
+use Rattle.clif_simulation.proofs.OwnEdges.{last_item}
+use Rattle.clif_simulation.proofs.Placing.{at_second, map_at, placed_item}
+use Rattle.clif_simulation.proofs.Matching.{script_still, function_still, observation, remaining, first_is, rest_is, item_here, rest_behind, same_bits, matched_by_one, matched_by_none, matched_by_more, SameEnd, same_ending, IsPlain, outcome_plain}
 
-script_still : (run : ScriptRun) (state : ScriptState) (c : Control Item) (d : Control Placed) → SameEnd c d → script.step_at run state c ≡ state
-script_still run state (At rest) d same = absurd same
-script_still run state (HasReturned results) d same = refl
-script_still run state (HasTrapped reason) d same = refl
-script_still run state IsStuck d same = refl
+-- no bits, and nothing changes
+pub nothing_assigned : {Place : Type 0} (same : Place → Place → Bool) (places : List Place) (old : Place → ℕ) → assigned same places [] old ≡ old
+nothing_assigned same [] old = refl
+nothing_assigned same (place ∷ places) old = refl
 
-function_still : (run : FunctionRun) (state : FunctionState) (c : Control Item) (d : Control Placed) → SameEnd c d → function_machine_of.step_at run state d ≡ state
-function_still run state (At items) (At rest) same = absurd same
-function_still run state (HasReturned a) (At rest) same = absurd same
-function_still run state (HasTrapped a) (At rest) same = absurd same
-function_still run state IsStuck (At rest) same = absurd same
-function_still run state c (HasReturned results) same = refl
-function_still run state c (HasTrapped reason) same = refl
-function_still run state c IsStuck same = refl
+-- no operation is a call so far
+each_edge : {Block Operand : Type 0} (type_of_operand : Operand → «Type») (parameters : Block → List «Type») (operation : Operation) (edges : List (Edge Block Operand))
+    → EachEdgeMatches type_of_operand parameters (call_shape operation) edges → AllByRecursion (EdgeMatches type_of_operand parameters [] []) edges
+each_edge type_of_operand parameters (Compute arithmetic) edges matches = matches
+each_edge type_of_operand parameters Jump edges matches = matches
+each_edge type_of_operand parameters Brif edges matches = matches
+each_edge type_of_operand parameters Return edges matches = matches
 
-abbrev pub observation : List Event → Ending → Observation
-observation events ending = record { events = events; ending = ending }
-
--- how many items are left
-abbrev pub remaining : Control Item → ℕ
-remaining (At rest) = length rest
-remaining (HasReturned results) = 0
-remaining (HasTrapped reason) = 0
-remaining IsStuck = 0
-
-module _ (calls : List AnsweredCall) (f : Body) (ssa : SsaState) (carries : Carries calls f ssa) (finished : IsFinished f ssa)
-    (width : PointerWidth) (world : World) (entry : Name) (is_entry : (program_so_far calls).entry ≡ Some entry)
-    (placed : IsWellPlaced (program_code (program_so_far calls))) (right : IsCorrect (state_of carries.tables))
+module _ (calls : List AnsweredCall) (f : Body) (ssa : SsaState) (consistent : IsConsistent f) (carries : Carries calls f ssa) (finished : IsFinished calls f ssa)
+    (width : PointerWidth) (world : World) (signature : SignatureShape) (placed : IsWellPlaced (program_code (program_so_far calls)))
+    (targets : EachItem (HasGoodTargets (ledger_after (script_of calls)) (program_so_far calls)) (program_so_far calls))
+    (typed : WellTyped (ledger_after (script_of calls)) (program_so_far calls) signature)
   where
     abbrev pub left_run : ScriptRun
     left_run = script_run (script_of calls) (view_of f) world
@@ -75,26 +88,46 @@ module _ (calls : List AnsweredCall) (f : Body) (ssa : SsaState) (carries : Carr
     abbrev pub right_machine : Machine FunctionState Observation
     right_machine = function_machine right_run
 
-    abbrev pub items : List Item
-    items = Items.items calls f ssa carries entry is_entry
-
-    abbrev pub e : ℕ
-    e = Items.e calls f ssa carries entry is_entry
+    abbrev pub tables : Blocks
+    tables = carries.tables
 
     abbrev pub program : Program
-    program = Items.program calls f ssa carries entry is_entry
+    program = Edges.program calls f ssa consistent carries finished placed
 
     abbrev pub function : Function
-    function = Items.function calls f ssa carries entry is_entry
+    function = Edges.function calls f ssa consistent carries finished placed
 
-    -- both stand before the same items of the entry, and agree
-    pub record Running (k : ℕ) (rest : List Item) (p : ScriptState) (q : FunctionState) : Type 0 where
-      pub behind : drop k items ≡ rest
+    abbrev pub live : ℕ → Type 0
+    live = Edges.live calls f ssa consistent carries finished placed
+
+    abbrev pub items : Name → List Item
+    items = (program_so_far calls).items
+
+    -- Both stand before these items of a block, which a path leads to, and agree; so many of the caller's instructions are
+    -- left.
+    pub record IsAt (b : ℕ) (B : Name) (k : ℕ) (rest : List Item) (left : List ℕ) (path : Path) (p : ScriptState) (q : FunctionState) : Type 0 where
+      pub named : block_name calls b ≡ Some B
+      pub follows : Follows (arms tables) path
+      pub ends : end_of path ≡ inside b k
+      pub behind : drop k (items B) ≡ rest
+      pub front : List ℕ
+      pub own_is : carries.own.insts b ≡ front ++ left
+      pub left_is : map (own_placed carries.own f) left ≡ flat_map (carried calls) rest
       pub script_at : p.control ≡ At rest
-      pub function_at : q.control ≡ At (flat_map (carried calls) rest)
+      pub function_at : q.control ≡ At (map (placed_inst f) left)
       pub same_memory : p.memory ≡ q.memory
       pub same_events : p.events ≡ q.events
-      pub agrees : Agrees program function (straight e k) p.variables p.names q.values
+      pub agrees : Agrees live program function path p.variables p.names q.values
+      pub zeros : ZerosAreZero program function path p.variables p.names q.values
+
+    pub record Running (p : ScriptState) (q : FunctionState) : Type 0 where
+      pub block : ℕ
+      pub name : Name
+      pub index : ℕ
+      pub rest : List Item
+      pub left : List ℕ
+      pub path : Path
+      pub is_at : IsAt block name index rest left path p q
 
     -- both ended in one way
     pub record Ended (p : ScriptState) (q : FunctionState) : Type 0 where
@@ -103,7 +136,7 @@ module _ (calls : List AnsweredCall) (f : Body) (ssa : SsaState) (carries : Carr
       pub same_events : p.events ≡ q.events
 
     abbrev pub Related : ScriptState → FunctionState → Type 0
-    Related p q = ((k : ℕ) × (rest : List Item) × Running k rest p q) ⊎ Ended p q
+    Related p q = Running p q ⊎ Ended p q
 
     abbrev pub measure : ScriptState → ℕ
     measure p = remaining p.control
@@ -118,7 +151,7 @@ module _ (calls : List AnsweredCall) (f : Body) (ssa : SsaState) (carries : Carr
 
     pub shows : (p : ScriptState) (q : FunctionState) → Related p q → left_machine.shown p ≡ right_machine.shown q
     shows p q (inl running) =
-        let r = running.2 in
+        let r = running.is_at in
         shown p q r.same_events (
         ap (λ (c : Control Item). ending_of c (shown_memory left_run.hidden p.memory)) r.script_at
         ∙ sym (ap (λ (c : Control Placed). ending_of c (shown_memory left_run.hidden q.memory)) r.function_at))
@@ -142,124 +175,394 @@ module _ (calls : List AnsweredCall) (f : Body) (ssa : SsaState) (carries : Carr
     ended_step p q ended =
         by_one p p q q (script_still left_run p p.control q.control ended.same_end) (function_still right_run q p.control q.control ended.same_end) (inr ended)
 
-    -- the end of the block without a terminator
-    stuck_step : (k : ℕ) (p : ScriptState) (q : FunctionState) → Running k [] p q → IsMatched p q
-    stuck_step k p q r =
-        by_one p (record p { control = IsStuck }) q (record q { control = IsStuck }) (ap (script.step_at left_run p) r.script_at) (ap (function_machine_of.step_at right_run q) r.function_at)
-        (inr (record { same_end = tt; same_memory = r.same_memory; same_events = r.same_events }))
+    -- Within a block --------------------------------------------------------------------------------------------------------
 
-    use_step : (k x : ℕ) (used : Name) (rest : List Item) (p : ScriptState) (q : FunctionState) → Running k (Use x used ∷ rest) p q → IsMatched p q
-    use_step k x used rest p q r =
-        let left_is : left_machine.next p ≡ script.run_item left_run p (Use x used) rest = ap (script.step_at left_run p) r.script_at in
-        let before : measure p ≡ length (Use x used ∷ rest) = ap remaining r.script_at in
-        by_none p (script.run_item left_run p (Use x used) rest) q left_is
-        (inl (
-          suc k,
-          rest,
-          record {
-            behind = rest_behind items k (Use x used) rest r.behind;
-            script_at = refl;
-            function_at = r.function_at;
-            same_memory = r.same_memory;
-            same_events = r.same_events;
-            agrees = used_agrees program function (next_arm e k) (straight e k) x used
-                (Items.uses_there calls f ssa carries entry is_entry k x used (item_here items k (Use x used) rest r.behind)) p.variables p.names q.values r.agrees;
-          },
-        ))
-        (omega (arith, before))
+    module _ (b : ℕ) (B : Name) (k : ℕ) (path : Path) where
+      -- the path goes on to the next place of the block
+      goes_on : block_name calls b ≡ Some B → (item : Item) → slice_get (items B) k ≡ Some item → Follows (arms tables) path → end_of path ≡ inside b k
+          → Follows (arms tables) (next_arm b k ∷ path)
+      goes_on named item stands follows ends =
+          let count = carries.program.counts b B named in
+          let below : k < tables.count b = omega (arith, count, place_within (items B) k item stands) in
+          let there : nat_lt k (tables.count b) ≡ true = grind (arith, nat_tests) in
+          (rw (there, same_place-refl (inside b k)) refl, sym ends, follows)
 
-    assign_step : (k x : ℕ) (from : Name) (rest : List Item) (p : ScriptState) (q : FunctionState) → Running k (Assign x from ∷ rest) p q → IsMatched p q
-    assign_step k x from rest p q r =
-        let left_is : left_machine.next p ≡ script.run_item left_run p (Assign x from) rest = ap (script.step_at left_run p) r.script_at in
-        let before : measure p ≡ length (Assign x from ∷ rest) = ap remaining r.script_at in
-        by_none p (script.run_item left_run p (Assign x from) rest) q left_is
-        (inl (
-          suc k,
-          rest,
-          record {
-            behind = rest_behind items k (Assign x from) rest r.behind;
-            script_at = refl;
-            function_at = r.function_at;
-            same_memory = r.same_memory;
-            same_events = r.same_events;
-            agrees = assigned_agrees program function (next_arm e k) (straight e k) x from
-                (Items.assigns_there calls f ssa carries entry is_entry k x from (item_here items k (Assign x from) rest r.behind)) p.variables p.names q.values r.agrees;
-          },
-        ))
-        (omega (arith, before))
+      -- the end of the block without a terminator
+      stuck_step : (left : List ℕ) (p : ScriptState) (q : FunctionState) → IsAt b B k [] left path p q → IsMatched p q
+      stuck_step [] p q r =
+          by_one p (record p { control = IsStuck }) q (record q { control = IsStuck })
+          (ap (script.step_at left_run p) r.script_at) (ap (function_machine_of.step_at right_run q) r.function_at)
+          (inr (record { same_end = tt; same_memory = r.same_memory; same_events = r.same_events }))
+      stuck_step (i ∷ left) p q r = absurd (none (own_placed carries.own f i) (map (own_placed carries.own f) left) r.left_is)
+        where
+          none : (x : Placed) (xs : List Placed) → (x ∷ xs) ≡ [] → ⊥
+          none x xs h = cc
 
-    placed_of_item : Instruction Name Name → List Name → Placed
-    placed_of_item instruction results =
-        record { instruction = answered_instruction calls instruction; results = map (answered calls) results; stack_map = [] }
+      use_step : (x : ℕ) (used : Name) (rest : List Item) (left : List ℕ) (p : ScriptState) (q : FunctionState) → IsAt b B k (Use x used ∷ rest) left path p q → IsMatched p q
+      use_step x used rest left p q r =
+          let left_is : left_machine.next p ≡ script.run_item left_run p (Use x used) rest = ap (script.step_at left_run p) r.script_at in
+          let before : measure p ≡ length (Use x used ∷ rest) = ap remaining r.script_at in
+          let stands : slice_get (items B) k ≡ Some (Use x used) = item_here (items B) k (Use x used) rest r.behind in
+          let uses = ItemsAt.uses_there calls carries.own f ssa tables carries.program carries.describes b B r.named k x used stands in
+          by_none p (script.run_item left_run p (Use x used) rest) q left_is
+          (inl (record {
+            block = b;
+            name = B;
+            index = suc k;
+            rest = rest;
+            left = left;
+            path = next_arm b k ∷ path;
+            is_at = record {
+              named = r.named;
+              follows = goes_on r.named (Use x used) stands r.follows r.ends;
+              ends = refl;
+              behind = rest_behind (items B) k (Use x used) rest r.behind;
+              front = r.front;
+              own_is = r.own_is;
+              left_is = r.left_is;
+              script_at = refl;
+              function_at = r.function_at;
+              same_memory = r.same_memory;
+              same_events = r.same_events;
+              agrees = used_agrees live program function (next_arm b k) path x used uses p.variables p.names q.values r.agrees;
+              zeros = used_zeros live program function (next_arm b k) path x used uses p.variables p.names q.values r.agrees r.zeros;
+            };
+          }))
+          (omega (arith, before))
 
-    -- where there are no edges, both machines are stuck at a branch
-    no_edge_taken : {k : ℕ} {rest : List Item} {p : ScriptState} {q : FunctionState} → Running k rest p q → {edges : List (Edge Name Name)} → edges ≡ []
-        → (edge : ℕ) (given : List ℕ) (memory : Memory)
-        → Related (script.follow_edge left_run (record p { memory = memory }) given (slice_get edges edge))
-        (function_machine_of.follow_edge right_run (record q { memory = memory }) given (slice_get (map (answered_edge calls) edges) edge))
-    no_edge_taken {k} {rest} {p} {q} r {edges} none edge given memory =
-        subst (λ (es : List (Edge Name Name)). Related (script.follow_edge left_run (record p { memory = memory }) given (slice_get es edge))
-        (function_machine_of.follow_edge right_run (record q { memory = memory }) given (slice_get (map (answered_edge calls) es) edge))) (sym none)
-        (inr (record { same_end = tt; same_memory = refl; same_events = r.same_events }))
+      assign_step : (x : ℕ) (from : Name) (rest : List Item) (left : List ℕ) (p : ScriptState) (q : FunctionState) → IsAt b B k (Assign x from ∷ rest) left path p q → IsMatched p q
+      assign_step x from rest left p q r =
+          let left_is : left_machine.next p ≡ script.run_item left_run p (Assign x from) rest = ap (script.step_at left_run p) r.script_at in
+          let before : measure p ≡ length (Assign x from ∷ rest) = ap remaining r.script_at in
+          let stands : slice_get (items B) k ≡ Some (Assign x from) = item_here (items B) k (Assign x from) rest r.behind in
+          let assigns = ItemsAt.assigns_there calls carries.own f ssa tables carries.program carries.describes b B r.named k x from stands in
+          by_none p (script.run_item left_run p (Assign x from) rest) q left_is
+          (inl (record {
+            block = b;
+            name = B;
+            index = suc k;
+            rest = rest;
+            left = left;
+            path = next_arm b k ∷ path;
+            is_at = record {
+              named = r.named;
+              follows = goes_on r.named (Assign x from) stands r.follows r.ends;
+              ends = refl;
+              behind = rest_behind (items B) k (Assign x from) rest r.behind;
+              front = r.front;
+              own_is = r.own_is;
+              left_is = r.left_is;
+              script_at = refl;
+              function_at = r.function_at;
+              same_memory = r.same_memory;
+              same_events = r.same_events;
+              agrees = assigned_agrees live program function (next_arm b k) path x from assigns p.variables p.names q.values r.agrees;
+              zeros = assigned_zeros live program function (next_arm b k) path x from assigns p.variables p.names q.values r.agrees r.zeros;
+            };
+          }))
+          (omega (arith, before))
 
-    after_outcome : (k place : ℕ) (instruction : Instruction Name Name) (results : List Name) (rest : List Item) (p : ScriptState) (q : FunctionState)
-        → Running k (Instruct place instruction results ∷ rest) p q → (o : Outcome) → IsPlain o
-        → Related (script.carry_out left_run p instruction.edges results rest o)
-        (function_machine_of.carry_out right_run q (placed_of_item instruction results) (flat_map (carried calls) rest) o)
-    unfolding placed_of_item
-    after_outcome k place instruction results rest p q r (Gives bits memory) plain = inl (
-      suc k,
-      rest,
-      record {
-        behind = rest_behind items k (Instruct place instruction results) rest r.behind;
-        script_at = refl;
-        function_at = refl;
-        same_memory = refl;
-        same_events = r.same_events;
-        agrees = given_agrees program function (next_arm e k) (straight e k) results (answered calls)
-            (Items.gives_there calls f ssa carries entry is_entry k place instruction results (item_here items k (Instruct place instruction results) rest r.behind))
-            p.variables p.names q.values r.agrees bits;
-      },
-    )
-    after_outcome k place instruction results rest p q r (Goes edge given memory) plain =
-        no_edge_taken r (Items.no_edges calls f ssa carries entry is_entry k place instruction results (item_here items k (Instruct place instruction results) rest r.behind)) edge given memory
-    after_outcome k place instruction results rest p q r (Returns bits) plain =
-        inr (record { same_end = refl; same_memory = r.same_memory; same_events = r.same_events })
-    after_outcome k place instruction results rest p q r (Traps reason) plain =
-        inr (record { same_end = refl; same_memory = r.same_memory; same_events = r.same_events })
-    after_outcome k place instruction results rest p q r (Calls callee call arguments) plain = absurd plain
-    after_outcome k place instruction results rest p q r NoStep plain =
-        inr (record { same_end = tt; same_memory = r.same_memory; same_events = r.same_events })
+      -- a name that the item at this place names has the bits that its answer has
+      operand_agrees : (rest : List Item) (left : List ℕ) (p : ScriptState) (q : FunctionState) → IsAt b B k rest left path p q
+          → (item : Item) → slice_get (items B) k ≡ Some item → (x : Name) → Contains (item_names (Some item)) x → p.names x ≡ q.values (resolved f (answered calls x))
+      operand_agrees rest left p q r item stands x names_it =
+          let correct : IsCorrect (state_of tables) = Flow.is_correct calls f ssa consistent carries placed finished in
+          let on = Flow.named_before calls f ssa consistent carries placed path b k B r.follows r.ends r.named item stands x names_it in
+          let stands_for = correct.answers (code x) on.given (inside b k) (record {
+            on_every_path = λ way follows ends. (Flow.named_before calls f ssa consistent carries placed way b k B follows ends r.named item stands x names_it).visits;
+          }) in
+          let same : function.resolve (tables.answer (code x)) ≡ resolved f (answered calls x) =
+          carries.describes.resolves (tables.answer (code x)) ∙ ap (resolved f) on.answer in
+          r.agrees.of_name x (resolved f (answered calls x))
+          (carries.describes.resolves (resolved f (answered calls x)) ∙ resolved_twice f (answered calls x) consistent)
+          (sym (stands_for.denotes_name program path r.follows r.ends) ∙ ap (λ (v : ℕ). denotes program function path v) same)
 
-    instruct_step : (k place : ℕ) (instruction : Instruction Name Name) (results : List Name) (rest : List Item) (p : ScriptState) (q : FunctionState)
-        → Running k (Instruct place instruction results ∷ rest) p q → IsMatched p q
-    unfolding placed_of_item
-    instruct_step k place instruction results rest p q r =
-        let stands : slice_get items k ≡ Some (Instruct place instruction results) = item_here items k (Instruct place instruction results) rest r.behind in
-        let operands : map p.names instruction.operands ≡ map (value_bits right_run q) (map (answered calls) instruction.operands) =
-        same_bits instruction.operands p.names (value_bits right_run q) (answered calls) (λ x there.
-        Items.operand_agrees calls f ssa carries entry is_entry right finished placed k (Instruct place instruction results) stands x
-        (in_contained instruction.operands x there) p.variables p.names q.values r.agrees) in
-        let outcome : Outcome = outcome_of world instruction.operation instruction.controlling (map p.names instruction.operands) p.memory in
-        let same : outcome_of world instruction.operation instruction.controlling (map (value_bits right_run q) (map (answered calls) instruction.operands)) q.memory
-        ≡ outcome_of world instruction.operation instruction.controlling (map p.names instruction.operands) p.memory =
-        ap₂ (λ (bits : List ℕ) (m : Memory). outcome_of world instruction.operation instruction.controlling bits m) (sym operands) (sym r.same_memory) in
-        let left_is : left_machine.next p ≡ script.carry_out left_run p instruction.edges results rest outcome = ap (script.step_at left_run p) r.script_at in
-        let right_is : right_machine.next q ≡ function_machine_of.carry_out right_run q (placed_of_item instruction results) (flat_map (carried calls) rest) outcome =
-        ap (function_machine_of.step_at right_run q) r.function_at
-        ∙ ap (λ (o : Outcome). function_machine_of.carry_out right_run q (placed_of_item instruction results) (flat_map (carried calls) rest) o) same in
-        by_one p (script.carry_out left_run p instruction.edges results rest outcome)
-        q (function_machine_of.carry_out right_run q (placed_of_item instruction results) (flat_map (carried calls) rest) outcome)
-        left_is right_is
-        (after_outcome k place instruction results rest p q r outcome
-        (outcome_plain world instruction.operation instruction.controlling (map p.names instruction.operands) p.memory))
+    -- An instruction ----------------------------------------------------------------------------------------------------------
 
-    running_step : (k : ℕ) (rest : List Item) (p : ScriptState) (q : FunctionState) → Running k rest p q → IsMatched p q
-    running_step k [] p q r = stuck_step k p q r
-    running_step k (Instruct place instruction results ∷ rest) p q r = instruct_step k place instruction results rest p q r
-    running_step k (Use x used ∷ rest) p q r = use_step k x used rest p q r
-    running_step k (Assign x from ∷ rest) p q r = assign_step k x from rest p q r
+    module _ (b : ℕ) (B : Name) (k : ℕ) (path : Path) (place : ℕ) (instruction : Instruction Name Name) (results : List Name) (rest : List Item) (i : ℕ) (left : List ℕ)
+        (p : ScriptState) (q : FunctionState) (r : IsAt b B k (Instruct place instruction results ∷ rest) (i ∷ left) path p q)
+      where
+        stands : slice_get (items B) k ≡ Some (Instruct place instruction results)
+        stands = item_here (items B) k (Instruct place instruction results) rest r.behind
+
+        is : own_placed carries.own f i ≡ placed_item calls instruction results
+        is =
+            first_is (own_placed carries.own f i) (placed_item calls instruction results) (map (own_placed carries.own f) left) (flat_map (carried calls) rest) r.left_is
+
+        left_are : map (own_placed carries.own f) left ≡ flat_map (carried calls) rest
+        left_are =
+            rest_is (own_placed carries.own f i) (placed_item calls instruction results) (map (own_placed carries.own f) left) (flat_map (carried calls) rest) r.left_is
+
+        there : slice_get (carries.own.insts b) (length r.front) ≡ Some i
+        there = ap (λ (xs : List ℕ). slice_get xs (length r.front)) r.own_is ∙ at_second r.front (i ∷ left) (length r.front) 0 (omega arith)
+
+        outcome : Outcome
+        outcome = outcome_of world instruction.operation instruction.controlling (map p.names instruction.operands) p.memory
+
+        same_operands : map p.names instruction.operands ≡ map (value_bits right_run q) (map (answered calls) instruction.operands)
+        same_operands =
+            same_bits instruction.operands p.names (value_bits right_run q) (answered calls) (λ x named_there.
+            operand_agrees b B k path (Instruct place instruction results ∷ rest) (i ∷ left) p q r (Instruct place instruction results) stands x
+            (in_contained instruction.operands x named_there))
+
+        same_outcome :
+            outcome_of world (placed_inst f i).instruction.operation (placed_inst f i).instruction.controlling (map (value_bits right_run q) (placed_inst f i).instruction.operands) q.memory
+            ≡ outcome
+        unfolding outcome
+        same_outcome =
+            ap (λ (o : Placed). outcome_of world o.instruction.operation o.instruction.controlling (map (value_bits right_run q) o.instruction.operands) q.memory) is
+            ∙ ap₂ (λ (bits : List ℕ) (m : Memory). outcome_of world instruction.operation instruction.controlling bits m) (sym same_operands) (sym r.same_memory)
+
+        left_goes : left_machine.next p ≡ script.carry_out left_run p instruction.edges results rest outcome
+        unfolding outcome
+        left_goes = ap (script.step_at left_run p) r.script_at
+
+        right_goes : right_machine.next q ≡ function_machine_of.carry_out right_run q (placed_inst f i) (map (placed_inst f) left) outcome
+        right_goes =
+            ap (function_machine_of.step_at right_run q) r.function_at
+            ∙ ap (λ (o : Outcome). function_machine_of.carry_out right_run q (placed_inst f i) (map (placed_inst f) left) o) same_outcome
+
+        abbrev gives : (way : Path) → GivesThere live program function (next_arm b k) way results (answered calls)
+        gives way = ItemsAt.gives_there calls carries.own f ssa tables carries.program carries.describes b B r.named k place instruction results stands way
+
+        same_results : (bits : List Bits) → assigned same_value (placed_inst f i).results bits q.values ≡ assigned same_value (map (answered calls) results) bits q.values
+        same_results bits = ap (λ (o : Placed). assigned same_value o.results bits q.values) is
+
+        -- on to the next item
+        gives_results : (bits : List Bits) (memory : Memory) → left_machine.next p ≡ script.give_results (record p { memory = memory }) results rest bits
+            → right_machine.next q ≡ function_machine_of.give_results (record q { memory = memory }) (placed_inst f i).results (map (placed_inst f) left) bits → IsMatched p q
+        gives_results bits memory left_next right_next =
+            by_one p (script.give_results (record p { memory = memory }) results rest bits)
+            q (function_machine_of.give_results (record q { memory = memory }) (placed_inst f i).results (map (placed_inst f) left) bits) left_next right_next
+            (inl (record {
+              block = b;
+              name = B;
+              index = suc k;
+              rest = rest;
+              left = left;
+              path = next_arm b k ∷ path;
+              is_at = record {
+                named = r.named;
+                follows = goes_on b B k path r.named (Instruct place instruction results) stands r.follows r.ends;
+                ends = refl;
+                behind = rest_behind (items B) k (Instruct place instruction results) rest r.behind;
+                front = r.front ++ i ∷ [];
+                own_is = r.own_is ∙ one_more r.front;
+                left_is = left_are;
+                script_at = refl;
+                function_at = refl;
+                same_memory = refl;
+                same_events = r.same_events;
+                agrees = subst (λ (values : ℕ → ℕ). Agrees live program function (next_arm b k ∷ path) p.variables (assigned same_name results bits p.names) values) (sym (same_results bits))
+                    (given_agrees live program function (next_arm b k) path results (answered calls) (gives path) p.variables p.names q.values r.agrees bits);
+                zeros = subst (λ (values : ℕ → ℕ). ZerosAreZero program function (next_arm b k ∷ path) p.variables (assigned same_name results bits p.names) values) (sym (same_results bits))
+                    (given_zeros live program function (next_arm b k) path results (answered calls) (gives path) p.variables p.names q.values r.agrees bits r.zeros);
+              };
+            }))
+          where
+            one_more : (front : List ℕ) → front ++ i ∷ left ≡ (front ++ i ∷ []) ++ left
+            one_more [] = refl
+            one_more (x ∷ front) = ap (λ (xs : List ℕ). x ∷ xs) (one_more front)
+
+        -- along an edge
+        module _ (n : ℕ) (edge : Edge Name Name) (is_edge : slice_get instruction.edges n ≡ Some edge) (given : List Bits) (memory : Memory)
+            (left_next : left_machine.next p ≡ script.follow_edge left_run (record p { memory = memory }) given (Some edge))
+            (right_next : right_machine.next q ≡ function_machine_of.follow_edge right_run (record q { memory = memory }) given (slice_get (edges_of (inst_at f i).shape) n))
+          where
+            nothing_passed : edge.arguments ≡ []
+            nothing_passed =
+                let item : IsItemWellTyped (ledger_after (script_of calls)) (program_so_far calls) (types_of signature.returns) (Instruct place instruction results) =
+                all_at (IsItemWellTyped (ledger_after (script_of calls)) (program_so_far calls) (types_of signature.returns)) (items B) k (Instruct place instruction results) (typed.items B) stands in
+                let matches : EdgeMatches (λ name. or_invalid (type_of (ledger_after (script_of calls)) name)) (parameter_types (ledger_after (script_of calls)) (program_so_far calls)) [] [] edge =
+                all_at (EdgeMatches (λ name. or_invalid (type_of (ledger_after (script_of calls)) name)) (parameter_types (ledger_after (script_of calls)) (program_so_far calls)) [] [])
+                instruction.edges n edge
+                (each_edge (λ name. or_invalid (type_of (ledger_after (script_of calls)) name)) (parameter_types (ledger_after (script_of calls)) (program_so_far calls)) instruction.operation instruction.edges item.edges) is_edge in
+                none_mapped (argument_type (λ name. or_invalid (type_of (ledger_after (script_of calls)) name)) [] []) edge.arguments
+                (matches ∙ ap (λ (names : List Name). map (λ ty. Some ty) (map (λ name. or_invalid (type_of (ledger_after (script_of calls)) name)) names)) (no_parameters (script_of calls) edge.target))
+
+            filled : IsTrue (is_filled (ledger_after (script_of calls)) edge.target)
+            filled =
+                let item : HasGoodTargets (ledger_after (script_of calls)) (program_so_far calls) (Instruct place instruction results) =
+                all_at (HasGoodTargets (ledger_after (script_of calls)) (program_so_far calls)) (items B) k (Instruct place instruction results) (targets B) stands in
+                (all_at (IsGoodTarget (ledger_after (script_of calls)) (program_so_far calls)) instruction.edges n edge item is_edge).filled
+
+            abbrev d : ℕ
+            d = answered calls edge.target
+
+            abbrev of_function : OwnEdges.IsEdgeOf calls f ssa consistent carries i n edge
+            of_function = OwnEdges.edge_in_function calls f ssa consistent carries i instruction results is n edge is_edge
+
+            abbrev arm : Arm
+            arm = Edges.arm calls f ssa consistent carries finished placed b B r.named k place instruction results stands (length r.front) i there is n edge is_edge nothing_passed filled
+
+            -- the states behind the edge
+            abbrev p1 : ScriptState
+            p1 = script.follow_edge left_run (record p { memory = memory }) given (Some edge)
+
+            abbrev q1 : FunctionState
+            q1 =
+                function_machine_of.enter_block right_run (record q { memory = memory }) d
+                (map (argument_bits (value_bits right_run q) given) (map argument_of of_function.call.args))
+
+            right_is : right_machine.next q ≡ q1
+            right_is =
+                right_next
+                ∙ ap (function_machine_of.follow_edge right_run (record q { memory = memory }) given)
+                (map_at edge_of (edges_at f i) n of_function.call of_function.stands)
+                ∙ ap (λ (c : ℕ). function_machine_of.enter_block right_run (record q { memory = memory }) c
+                (map (argument_bits (value_bits right_run q) given) (map argument_of of_function.call.args))) of_function.target
+
+            same_names : p1.names ≡ p.names
+            same_names =
+                ap (λ (names : List Name). assigned same_name names (map (argument_bits p.names given) edge.arguments) p.names) (no_parameters (script_of calls) edge.target)
+
+            abbrev behind : Path
+            behind = next_arm b k ∷ path
+
+            agrees_behind : Agrees live program function behind p.variables p.names q.values
+            agrees_behind =
+                subst₂ (λ (names : Name → ℕ) (values : ℕ → ℕ). Agrees live program function behind p.variables names values)
+                (nothing_assigned same_name results p.names) (nothing_assigned same_value (map (answered calls) results) q.values)
+                (given_agrees live program function (next_arm b k) path results (answered calls) (gives path) p.variables p.names q.values r.agrees [])
+
+            zeros_behind : ZerosAreZero program function behind p.variables p.names q.values
+            zeros_behind =
+                subst₂ (λ (names : Name → ℕ) (values : ℕ → ℕ). ZerosAreZero program function behind p.variables names values)
+                (nothing_assigned same_name results p.names) (nothing_assigned same_value (map (answered calls) results) q.values)
+                (given_zeros live program function (next_arm b k) path results (answered calls) (gives path) p.variables p.names q.values r.agrees [] r.zeros)
+
+            enters : EntersThere live program function arm behind q.values q1.values
+            enters =
+                Edges.enters calls f ssa consistent carries finished placed b B r.named k place instruction results stands (length r.front) i there is n edge is_edge nothing_passed filled
+                behind given q.values zeros_behind.of_value
+
+            agrees_there : Agrees live program function (arm ∷ behind) p.variables p.names q1.values
+            agrees_there = entered_agrees live program function arm behind q.values q1.values enters p.variables p.names agrees_behind zeros_behind
+
+            zeros_there : ZerosAreZero program function (arm ∷ behind) p.variables p.names q1.values
+            zeros_there = entered_zeros live program function arm behind q.values q1.values enters p.variables p.names agrees_behind zeros_behind
+
+            follows_there : Follows (arms tables) (arm ∷ behind)
+            follows_there =
+                let last : suc k ≡ length (items B) = last_item (items B) k place instruction results n edge (carries.edges_end B) stands is_edge in (
+                  Edges.known calls f ssa consistent carries finished placed b B r.named k place instruction results stands (length r.front) i there is n edge is_edge nothing_passed filled,
+                  ap (inside b) (carries.program.counts b B r.named ∙ sym last),
+                  goes_on b B k path r.named (Instruct place instruction results) stands r.follows r.ends,
+                )
+
+            abbrev has : HasFront f tables d (carries.own.insts d)
+            has = has_front f tables d (carries.own.insts d) (carries.describes.instructions d) (carries.own_inserted d)
+
+            abbrev Left : ℕ → FunctionState → Type 0
+            Left = Fronts.ZerosLeft right_run f tables d (map (placed_inst f) (carries.own.insts d)) q1 zeros_there.of_value
+
+            all_left : Left (length has.zeros) q1
+            all_left = record {
+              left = has.zeros;
+              count = refl;
+              all = has.are_zeros;
+              at = ap (λ (ps : List Placed). At ps) has.in_order;
+              memory = refl;
+              events = refl;
+              values = λ w. refl;
+            }
+
+            left_after : (j m : ℕ) → j + m ≡ length has.zeros → Left m (steps_from right_machine j q1)
+            left_after j m sum = Fronts.zeros_left right_run f tables d (map (placed_inst f) (carries.own.insts d)) q1 zeros_there.of_value j m (length has.zeros) sum all_left
+
+            after_first : (j : ℕ) → steps_from right_machine (suc j) q ≡ steps_from right_machine j q1
+            after_first j = steps_behind right_machine j q ∙ ap (steps_from right_machine j) right_is
+
+            -- where the zeros are done
+            abbrev q2 : FunctionState
+            q2 = steps_from right_machine (length has.zeros) q1
+
+            done : Left 0 q2
+            done = left_after (length has.zeros) 0 (omega arith)
+
+            running : Running p1 q2
+            running = record {
+              block = d;
+              name = edge.target;
+              index = 0;
+              rest = items edge.target;
+              left = carries.own.insts d;
+              path = arm ∷ behind;
+              is_at = record {
+                named = Edges.target_named calls f ssa consistent carries finished placed b B r.named k place instruction results stands (length r.front) i there is n edge is_edge nothing_passed filled;
+                follows = follows_there;
+                ends = refl;
+                behind = refl;
+                front = [];
+                own_is = refl;
+                left_is = carries.items d edge.target
+                    (Edges.target_named calls f ssa consistent carries finished placed b B r.named k place instruction results stands (length r.front) i there is n edge is_edge nothing_passed filled);
+                script_at = refl;
+                function_at = Fronts.at_rest right_run f tables d (map (placed_inst f) (carries.own.insts d)) q1 zeros_there.of_value q2 done;
+                same_memory = sym done.memory;
+                same_events = r.same_events ∙ sym done.events;
+                agrees = subst (λ (names : Name → ℕ). Agrees live program function (arm ∷ behind) p.variables names q2.values) (sym same_names)
+                    (agrees_still live program function (arm ∷ behind) p.variables p.names q1.values q2.values done.values agrees_there);
+                zeros = subst (λ (names : Name → ℕ). ZerosAreZero program function (arm ∷ behind) p.variables names q2.values) (sym same_names)
+                    (zeros_still program function (arm ∷ behind) p.variables p.names q1.values q2.values done.values zeros_there);
+              };
+            }
+
+            quietly : (j : ℕ) → j ≤ suc (length has.zeros) → right_machine.shown (steps_from right_machine j q) ≡ right_machine.shown q
+            quietly zero within = refl
+            quietly (suc j) within =
+                ap right_machine.shown (after_first j)
+                ∙ Fronts.shown_quietly right_run f tables d (map (placed_inst f) (carries.own.insts d)) q1 zeros_there.of_value (length has.zeros - j) (steps_from right_machine j q1)
+                (left_after j (length has.zeros - j) (omega (arith, within)))
+                ∙ sym (goes_on_quietly right_run q (map (placed_inst f) (i ∷ left)) q.events r.function_at refl)
+
+            pub goes_along : IsMatched p q
+            goes_along =
+                matched_by_more left_machine right_machine Related measure p q (length has.zeros)
+                (subst₂ (λ (x : ScriptState) (y : FunctionState). Related x y) (sym left_next) (sym (after_first (length has.zeros))) (inl running)) quietly
+
+        goes : (n : ℕ) (given : List Bits) (memory : Memory) (o : Option (Edge Name Name)) → slice_get instruction.edges n ≡ o
+            → left_machine.next p ≡ script.follow_edge left_run (record p { memory = memory }) given (slice_get instruction.edges n)
+            → right_machine.next q ≡ function_machine_of.follow_edge right_run (record q { memory = memory }) given (slice_get (edges_of (inst_at f i).shape) n) → IsMatched p q
+        goes n given memory None none left_next right_next =
+            by_one p (record p { memory = memory; control = IsStuck }) q (record q { memory = memory; control = IsStuck })
+            (left_next ∙ ap (script.follow_edge left_run (record p { memory = memory }) given) none)
+            (right_next
+            ∙ ap (function_machine_of.follow_edge right_run (record q { memory = memory }) given) (OwnEdges.no_edge_in_function calls f ssa consistent carries i instruction results is n none))
+            (inr (record { same_end = tt; same_memory = refl; same_events = r.same_events }))
+        goes n given memory (Some edge) is_edge left_next right_next =
+            goes_along n edge is_edge given memory (left_next ∙ ap (script.follow_edge left_run (record p { memory = memory }) given) is_edge) right_next
+
+        after_outcome : (o : Outcome) → IsPlain o → left_machine.next p ≡ script.carry_out left_run p instruction.edges results rest o
+            → right_machine.next q ≡ function_machine_of.carry_out right_run q (placed_inst f i) (map (placed_inst f) left) o → IsMatched p q
+        after_outcome (Gives bits memory) plain left_next right_next = gives_results bits memory left_next right_next
+        after_outcome (Goes n given memory) plain left_next right_next = goes n given memory (slice_get instruction.edges n) refl left_next right_next
+        after_outcome (Returns bits) plain left_next right_next =
+            by_one p (record p { control = HasReturned bits }) q (record q { control = HasReturned bits }) left_next right_next
+            (inr (record { same_end = refl; same_memory = r.same_memory; same_events = r.same_events }))
+        after_outcome (Traps reason) plain left_next right_next =
+            by_one p (record p { control = HasTrapped reason }) q (record q { control = HasTrapped reason }) left_next right_next
+            (inr (record { same_end = refl; same_memory = r.same_memory; same_events = r.same_events }))
+        after_outcome (Calls callee call arguments) plain left_next right_next = absurd plain
+        after_outcome NoStep plain left_next right_next =
+            by_one p (record p { control = IsStuck }) q (record q { control = IsStuck }) left_next right_next
+            (inr (record { same_end = tt; same_memory = r.same_memory; same_events = r.same_events }))
+
+        pub instruct_step : IsMatched p q
+        unfolding outcome
+        instruct_step =
+            after_outcome outcome (outcome_plain world instruction.operation instruction.controlling (map p.names instruction.operands) p.memory) left_goes right_goes
+
+    running_step : (b : ℕ) (B : Name) (k : ℕ) (rest : List Item) (left : List ℕ) (path : Path) (p : ScriptState) (q : FunctionState) → IsAt b B k rest left path p q → IsMatched p q
+    running_step b B k [] left path p q r = stuck_step b B k path left p q r
+    running_step b B k (Use x used ∷ rest) left path p q r = use_step b B k path x used rest left p q r
+    running_step b B k (Assign x from ∷ rest) left path p q r = assign_step b B k path x from rest left p q r
+    running_step b B k (Instruct place instruction results ∷ rest) (i ∷ left) path p q r = instruct_step b B k path place instruction results rest i left p q r
+    running_step b B k (Instruct place instruction results ∷ rest) [] path p q r = absurd (none (placed_item calls instruction results) (flat_map (carried calls) rest) r.left_is)
+      where
+        none : (x : Placed) (xs : List Placed) → [] ≡ (x ∷ xs) → ⊥
+        none x xs h = cc
 
     pub step : (p : ScriptState) (q : FunctionState) → Related p q → IsMatched p q
-    step p q (inl running) = running_step running.0 running.1 p q running.2
+    step p q (inl running) = running_step running.block running.name running.index running.rest running.left running.path p q running.is_at
     step p q (inr ended) = ended_step p q ended

@@ -1,7 +1,7 @@
 -- Paths in a function without branches: the one path through the entry, and what every path has visited.
 use Rattle.std.proofs.Common.{◌≡◌, ◌≢◌, ◌⊎◌, ℕ, zero, suc, ◌<◌, ◌≤◌, ◌==◌, nat_lt, ◌&&◌, Bool, true, false, [], ◌∷◌, inl, inr, refl, sym, ◌∙◌, ap, subst, arith}
 use Rattle.std.proofs.lemmas.Bool.Decides.{nat_tests}
-use Rattle.clif_paths.specs.Places.{Place, start, inside, same_place, Arm, Path, Follows, Visits, VisitsBefore, end_of, Dominates, StrictlyBefore}
+use Rattle.clif_paths.specs.Places.{Place, start, inside, same_place, Arm, Path, Follows, Visits, VisitsBefore, end_of, StrictlyBefore}
 use Rattle.clif_paths.specs.State.{Program, Function}
 use Rattle.clif_paths.specs.Denotation.{absent, name, instances, denotes}
 use Rattle.clif_paths.specs.Blocks.{Blocks, front, arm_into, state_of}
@@ -129,9 +129,6 @@ module _ (blocks : Blocks) (e : ℕ) (only : OnlyEntry blocks e) where
           others : (arm : Arm) (path : Path) → arm.target ≡ inside b k → Visits (inside b j) (arm ∷ path) → Visits (inside b j) path
           others arm path ends (inl here) = absurd (omega (arith, same_step (here ∙ ends)))
           others arm path ends (inr there) = there
-
-  pub dominates : (b j k : ℕ) → j ≤ k → Dominates (arms blocks) (inside b j) (inside b k)
-  dominates b j k below = record { on_every_path = λ path follows ends. (through path b k follows ends).visited j below }
 
   -- no path comes to another block
   pub none_elsewhere : (b k : ℕ) → b ≢ e → (place : Place) → StrictlyBefore (arms blocks) place (inside b k)

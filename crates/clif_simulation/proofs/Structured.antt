@@ -25,13 +25,15 @@ use Rattle.clif_meaning.specs.Path.{Place, IsPath, Leads}
 use Rattle.clif_meaning.specs.WellPlaced.{function_code, function_flow, program_code, placed_gives, placed_names, placed_passes, placed_targets, known_argument, IsGivenAlong, IsWellPlaced, WellPlaced}
 use Rattle.clif_meaning.proofs.StraightLine.{given_along, nothing_contained, none_of}
 use Rattle.clif_simulation.specs.Tables.{code, answered, program_so_far, block_name}
-use Rattle.clif_simulation.specs.Carries.{Carries, answered_edge, carried, NamesEarlier}
+use Rattle.clif_simulation.specs.Carries.{answered_edge, carried}
 use Rattle.clif_simulation.specs.Laws.{IsFinished}
 use Rattle.clif_simulation.specs.Structure.{callers_parameters, HasCallersParameters}
+use Rattle.clif_simulation.proofs.Unbranched.{CarriesUnbranched, branched, PlainlyEarlier}
 use Rattle.clif_simulation.proofs.Straight.{arms, straight, straight_end, straight_follows, strictly_before}
 use Rattle.clif_simulation.proofs.Listed.{no_parameters, place_within}
 use Rattle.clif_simulation.proofs.Carrying.{all_append, all_mapped}
 use Rattle.clif_simulation.proofs.Entry
+use Rattle.clif_simulation.proofs.Flow
 use Rattle.clif_simulation.proofs.Placing
 use Rattle.clif_simulation.proofs.Placing.{in_two, map_from, map_length, contained_at, contained, all_at, so_many, OfItem, of_item, not_start}
 
@@ -48,12 +50,12 @@ zero_plain : (f : Body) (blocks : Blocks) (b i : ℕ) → IsZero f blocks b i �
 zero_plain f blocks b i is_zero = ap edges_of is_zero.shape
 
 -- an item's instruction, and so those of a list of items, have no edges
-carried_plain : (calls : List AnsweredCall) (item : Item) → NamesEarlier calls item → AllByRecursion (λ (placed : Placed). placed.instruction.edges ≡ []) (carried calls item)
+carried_plain : (calls : List AnsweredCall) (item : Item) → PlainlyEarlier calls item → AllByRecursion (λ (placed : Placed). placed.instruction.edges ≡ []) (carried calls item)
 carried_plain calls (Instruct place instruction results) earlier = (ap (map (answered_edge calls)) earlier.2, tt)
 carried_plain calls (Use variable name) earlier = tt
 carried_plain calls (Assign variable name) earlier = tt
 
-all_plain : (calls : List AnsweredCall) (items : List Item) → AllByRecursion (NamesEarlier calls) items
+all_plain : (calls : List AnsweredCall) (items : List Item) → AllByRecursion (PlainlyEarlier calls) items
     → AllByRecursion (λ (placed : Placed). placed.instruction.edges ≡ []) (flat_map (carried calls) items)
 all_plain calls [] earlier = tt
 all_plain calls (item ∷ items) earlier =
@@ -66,7 +68,7 @@ of_placed f [] all = tt
 of_placed f (i ∷ insts) all = (all.0, of_placed f insts all.1)
 
 -- what carries a list of calls has no branch so far
-pub no_branches : (calls : List AnsweredCall) (f : Body) (s : SsaState) → Carries calls f s → HasNoBranches f
+pub no_branches : (calls : List AnsweredCall) (f : Body) (s : SsaState) → CarriesUnbranched calls f s → HasNoBranches f
 no_branches calls f s carries b =
     let here = carries.describes.instructions b in
     subst (AllByRecursion (IsPlain f)) (sym here.in_order)
@@ -139,7 +141,7 @@ edges_match_at f (i ∷ insts) plain = (
 )
 
 -- no edge exists so far
-pub edges_match : (calls : List AnsweredCall) (f : Body) (s : SsaState) → Carries calls f s → EdgesMatch (view_of f)
+pub edges_match : (calls : List AnsweredCall) (f : Body) (s : SsaState) → CarriesUnbranched calls f s → EdgesMatch (view_of f)
 edges_match calls f s carries block = by (list_any (λ other. other == block) f.layout)
   where
     by : (t : Bool) → EdgesMatchAt f (if t then map (placed_at_inst f) (block_at f block).insts else [])
@@ -148,7 +150,7 @@ edges_match calls f s carries block = by (list_any (λ other. other == block) f.
 
 -- PARAMETERS ------------------------------------------------------------------------------------------------------
 
-pub no_parameter : (calls : List AnsweredCall) (f : Body) (s : SsaState) → IsConsistent f → Carries calls f s → IsFinished f s → (b : ℕ) → (block_at f b).params ≡ []
+pub no_parameter : (calls : List AnsweredCall) (f : Body) (s : SsaState) → IsConsistent f → CarriesUnbranched calls f s → IsFinished calls f s → (b : ℕ) → (block_at f b).params ≡ []
 no_parameter calls f s consistent carries finished b = by (block_at f b).params refl
   where
     by : (params : List ℕ) → (block_at f b).params ≡ params → (block_at f b).params ≡ []
@@ -157,7 +159,7 @@ no_parameter calls f s consistent carries finished b = by (block_at f b).params 
         let waits = carries.nothing_stray.parameters v b (stands_home f consistent v b (subst (Stands v) (sym is) (0, omega arith, refl))) in
         absurd (none_of (pending_of (sealed_of s b)) (record { variable = waits.0; param = v }) (finished.none_waits b) waits.1)
 
-pub callers_only : (calls : List AnsweredCall) (f : Body) (s : SsaState) → IsConsistent f → Carries calls f s → IsFinished f s → HasCallersParameters calls f
+pub callers_only : (calls : List AnsweredCall) (f : Body) (s : SsaState) → IsConsistent f → CarriesUnbranched calls f s → IsFinished calls f s → HasCallersParameters calls f
 callers_only calls f s consistent carries finished b = no_parameter calls f s consistent carries finished b ∙ by (block_name calls b)
   where
     by : (o : Option Name) → [] ≡ map (answered calls) (callers_parameters calls o)
@@ -169,7 +171,7 @@ callers_only calls f s consistent carries finished b = no_parameter calls f s co
 pub no_entry : (e : ℕ) → None ≡ Some e → ⊥
 no_entry e h = cc
 
-module _ (calls : List AnsweredCall) (f : Body) (s : SsaState) (consistent : IsConsistent f) (carries : Carries calls f s) (finished : IsFinished f s) where
+module _ (calls : List AnsweredCall) (f : Body) (s : SsaState) (consistent : IsConsistent f) (carries : CarriesUnbranched calls f s) (finished : IsFinished calls f s) where
   module _ (entry : Name) (is_entry : (program_so_far calls).entry ≡ Some entry) where
     abbrev e : ℕ
     e = Placing.e calls f s consistent carries finished entry is_entry
@@ -229,7 +231,7 @@ module _ (calls : List AnsweredCall) (f : Body) (s : SsaState) (consistent : IsC
         let before = Entry.named_before calls f s carries entry is_entry placed it.j (Instruct it.place it.instruction it.results) it.stands n
         (contained it.instruction.operands there.0 n second.1) in
         let only = Entry.only_entry calls f s carries entry is_entry finished in
-        let correct : IsCorrect (state_of carries.tables) = Entry.is_correct calls f s carries entry is_entry consistent finished placed in
+        let correct : IsCorrect (state_of carries.tables) = Flow.is_correct calls f s consistent (branched calls f s carries) placed finished in
         let given : (carries.tables.naming (code n)).home ≢ start = not_start (carries.tables.naming (code n)).home e (suc before.0) before.2 in
         let within : suc it.j ≤ carries.tables.count e =
         omega (arith, Entry.counted calls f s carries entry is_entry, place_within items it.j (Instruct it.place it.instruction it.results) it.stands) in

@@ -1,12 +1,14 @@
 -- When a function, with the state of its construction, carries a list of calls: its blocks hold the program's
 -- instructions in order, operands being the answers of the names, with only zeros before them; and the state on paths
--- is sound. Source: own.
-use Rattle.std.specs.Prelude.{◌≡◌, ◌≢◌, ◌<◌, ◌≤◌, ℕ, List, [], ◌∷◌, length, map, flat_map, Some, None, IsTrue}
+-- is sound. Its edges may pass more than the program's: arguments for variables. Source: own.
+use Rattle.std.specs.Prelude.{◌≡◌, ◌≢◌, ◌<◌, ◌≤◌, ◌⊎◌, ℕ, suc, List, [], ◌∷◌, length, map, flat_map, Some, None, IsTrue, Contains, false}
 use Rattle.std.specs.List.{AllByRecursion}
+use Rattle.clif_ir.specs.declared.block_call.BlockArg.{BlockArg}
 use Rattle.clif_ir.specs.Body.{Body, inst_at, value_at}
+use Rattle.clif_ir.specs.Reading.{stands_in}
 use Rattle.clif_ssa.specs.Own.{Own}
 use Rattle.clif_ssa.specs.Ssa.{SsaState, predecessors_of}
-use Rattle.clif_ssa.specs.Sound.{Describes, CountsArguments, entry_of}
+use Rattle.clif_ssa.specs.Sound.{Describes, CountsArguments, entry_of, edge_target}
 use Rattle.clif_ssa.specs.Structure.{NothingStray}
 use Rattle.clif_paths.specs.Places.{start}
 use Rattle.clif_paths.specs.Blocks.{Blocks}
@@ -17,7 +19,7 @@ use Rattle.clif_meaning.specs.Ledger.{ledger_after, has_value}
 use Rattle.clif_meaning.specs.Instruction.{Instruction, Argument, Known, CallResult, CallPayload, Edge}
 use Rattle.clif_meaning.specs.Program.{Item, Instruct, Use, Assign}
 use Rattle.clif_meaning.specs.FunctionView.{Placed}
-use Rattle.clif_meaning.specs.View.{placed_of}
+use Rattle.clif_meaning.specs.View.{argument_of, placed_of}
 use Rattle.clif_simulation.specs.Tables.{code, answered, block_name, program_so_far, IsProgramOf}
 
 -- what an edge passes, and an edge, with numbers in place of names
@@ -45,11 +47,23 @@ carried calls (Instruct place instruction results) =
 carried calls (Use variable name) = []
 carried calls (Assign variable name) = []
 
+-- edges, of which the first has this number, with what the caller passed in place of what they pass
+abbrev pub as_passed : (ℕ → List BlockArg) → ℕ → List (Edge ℕ ℕ) → List (Edge ℕ ℕ)
+as_passed passed k [] = []
+as_passed passed k (edge ∷ edges) = record edge { arguments = map argument_of (passed k) } ∷ as_passed passed (suc k) edges
+
+-- an instruction of the caller's as the machine sees it, but that its edges pass what the caller passed: arguments for
+-- variables are put behind that
+abbrev pub own_placed : Own → Body → ℕ → Placed
+own_placed own f inst =
+    let placed = placed_of f (inst_at f inst) in
+    record placed { instruction = record placed.instruction { edges = as_passed (own.passed inst) 0 placed.instruction.edges } }
+
 -- a block's own instructions are those of the program's items, in order
-abbrev pub HasItems : List AnsweredCall → Body → (ℕ → List ℕ) → Type 0
+abbrev pub HasItems : List AnsweredCall → Body → Own → Type 0
 HasItems calls f own =
     (block : ℕ) (name : Name) → block_name calls block ≡ Some name
-    → map (λ inst. placed_of f (inst_at f inst)) (own block) ≡ flat_map (carried calls) ((program_so_far calls).items name)
+    → map (own_placed own f) (own.insts block) ≡ flat_map (carried calls) ((program_so_far calls).items name)
 
 -- the entry of the layout is the program's
 pub record HasEntry (calls : List AnsweredCall) (f : Body) : Type 0 where
@@ -61,12 +75,31 @@ pub record HasEntry (calls : List AnsweredCall) (f : Body) : Type 0 where
 abbrev pub IsEarlier : List AnsweredCall → Name → Type 0
 IsEarlier calls name = name.place < length calls
 
--- what an item names, and what it gives, was answered; an instruction has no edges so far
+-- what an edge passes was answered
+abbrev pub PassesEarlier : List AnsweredCall → Argument Name → Type 0
+PassesEarlier calls (Known name) = IsEarlier calls name
+PassesEarlier calls (CallResult index) = Unit {0}
+PassesEarlier calls (CallPayload index) = Unit {0}
+
+-- the target of an edge was answered, and is the block with the number of its answer; what the edge passes was answered
+pub record EdgeEarlier (calls : List AnsweredCall) (edge : Edge Name Name) : Type 0 where
+  pub target : IsEarlier calls edge.target
+  pub leads : block_name calls (answered calls edge.target) ≡ Some edge.target
+  pub passes : AllByRecursion (PassesEarlier calls) edge.arguments
+
+-- what an item names, and what it gives, was answered
 abbrev pub NamesEarlier : List AnsweredCall → Item → Type 0
 NamesEarlier calls (Instruct place instruction results) =
-    AllByRecursion (IsEarlier calls) instruction.operands × AllByRecursion (IsEarlier calls) results × (instruction.edges ≡ [])
+    AllByRecursion (IsEarlier calls) instruction.operands × AllByRecursion (IsEarlier calls) results × AllByRecursion (EdgeEarlier calls) instruction.edges
 NamesEarlier calls (Use variable name) = IsEarlier calls name
 NamesEarlier calls (Assign variable name) = IsEarlier calls name
+
+-- an instruction with edges is the last item of its block
+abbrev pub EdgesEnd : List Item → Type 0
+EdgesEnd [] = Unit {0}
+EdgesEnd (Instruct place instruction results ∷ rest) = ((instruction.edges ≡ []) ⊎ (rest ≡ [])) × EdgesEnd rest
+EdgesEnd (Use variable name ∷ rest) = EdgesEnd rest
+EdgesEnd (Assign variable name ∷ rest) = EdgesEnd rest
 
 -- the caller's instructions exist
 abbrev pub OwnExist : Body → (ℕ → List ℕ) → Type 0
@@ -75,6 +108,15 @@ OwnExist f own = (block : ℕ) → AllByRecursion (λ inst. inst < length f.inst
 -- only blocks that have a name have instructions of the caller's
 abbrev pub OwnNamed : List AnsweredCall → (ℕ → List ℕ) → Type 0
 OwnNamed calls own = (block : ℕ) → block_name calls block ≡ None → own block ≡ []
+
+-- a block outside the layout has no instructions of the caller's
+abbrev pub OwnInserted : Body → (ℕ → List ℕ) → Type 0
+OwnInserted f own = (block : ℕ) → stands_in block f.layout ≡ false → own block ≡ []
+
+-- an instruction of the caller's is declared at each block that one of its edges leads to
+abbrev pub AreDeclared : Body → SsaState → (ℕ → List ℕ) → Type 0
+AreDeclared f s own =
+    (block inst k target : ℕ) → Contains (own block) inst → edge_target f inst k ≡ Some target → Contains (predecessors_of s target) inst
 
 -- what the ledger of the calls has as a value is given by an item
 abbrev pub ValuesGiven : List AnsweredCall → Blocks → Type 0
@@ -89,18 +131,22 @@ pub record Carries (calls : List AnsweredCall) (f : Body) (s : SsaState) : Type 
   -- what the caller made
   pub own : Own
   pub program : IsProgramOf calls tables
-  pub items : HasItems calls f own.insts
+  pub items : HasItems calls f own
   pub earlier : (name : Name) → AllByRecursion (NamesEarlier calls) ((program_so_far calls).items name)
+  pub edges_end : (name : Name) → EdgesEnd ((program_so_far calls).items name)
   pub own_exist : OwnExist f own.insts
   pub own_named : OwnNamed calls own.insts
+  pub own_inserted : OwnInserted f own.insts
+  pub declared : AreDeclared f s own.insts
+  -- so far no call makes a parameter of the caller's
+  pub no_parameters : (block : ℕ) → own.params block ≡ []
   pub values_given : ValuesGiven calls tables
   pub entry : HasEntry calls f
   pub describes : Describes own f s [] tables
   pub sound : BlocksSound tables
   pub counts : CountsArguments own f s tables
-  pub nothing_stray : NothingStray own.insts f s
-  -- so far no call makes a branch
-  pub nothing_leads : NothingLeads s
+  -- so far nothing is said of what a function with branches has that isn't needed
+  pub nothing_stray : NothingLeads s → NothingStray own.insts f s
 
 -- A function that goes on: its signature and its instructions stay, and its values keep their types.
 pub record GoesOn (f g : Body) : Type 0 where

@@ -1,5 +1,5 @@
 -- The laws, as the contracts of this crate's functions state them.
-use Rattle.std.specs.Prelude.{◌≡◌, ℕ, true, List, [], Some}
+use Rattle.std.specs.Prelude.{◌≡◌, ℕ, true, List, [], Some, IsTrue}
 use Rattle.clif_types.specs.declared.target.PointerWidth.{PointerWidth}
 use Rattle.clif_types.specs.Signature.{SignatureShape}
 use Rattle.clif_ir.specs.Body.{Body}
@@ -9,31 +9,35 @@ use Rattle.clif_ssa.specs.Tables.{is_yes, pending_of}
 use Rattle.clif_ssa.specs.Sound.{entry_of}
 use Rattle.clif_meaning.specs.Name.{Name}
 use Rattle.clif_meaning.specs.Request.{AnsweredCall, script_of}
+use Rattle.clif_meaning.specs.Ledger.{ledger_after, is_filled}
 use Rattle.clif_meaning.specs.View.{view_of}
 use Rattle.clif_meaning.specs.Headline.{MeansTheSame}
-use Rattle.clif_simulation.specs.Tables.{code}
-use Rattle.clif_simulation.specs.Carries.{Carries}
+use Rattle.clif_simulation.specs.Tables.{code, block_name}
+use Rattle.clif_simulation.specs.Carries.{Carries, NothingLeads}
 use Rattle.clif_simulation.specs.Reading.{ReadsRight}
 
 -- Different names have different numbers.
 abbrev pub CodesDiffer : Type 0
 CodesDiffer = (a b : Name) → code a ≡ code b → a ≡ b
 
--- The construction is finished: no parameter waits, and the entry is sealed.
-pub record IsFinished (f : Body) (s : SsaState) : Type 0 where
+-- The construction is finished: no parameter waits, and the entry and each block that has its terminator are sealed.
+pub record IsFinished (calls : List AnsweredCall) (f : Body) (s : SsaState) : Type 0 where
   pub none_waits : (block : ℕ) → pending_of (sealed_of s block) ≡ []
   pub entry_sealed : (entry : ℕ) → entry_of f ≡ Some entry → is_yes (sealed_of s entry) ≡ true
+  pub filled_sealed : (block : ℕ) (name : Name) → block_name calls block ≡ Some name → IsTrue (is_filled (ledger_after (script_of calls)) name)
+      → is_yes (sealed_of s block) ≡ true
 
--- A finished function that carries a list of calls means what the list's program means. Each function keeps
--- consistency, of which it needs that aliases end.
+-- A finished function that carries a list of calls means what the list's program means, with branches, joins and loops.
+-- Each function keeps consistency.
 abbrev pub CarryingMeansTheSame : Type 0
 CarryingMeansTheSame =
     (calls : List AnsweredCall) (f : Body) (s : SsaState) (width : PointerWidth)
-    → IsConsistent f → Carries calls f s → IsFinished f s
+    → IsConsistent f → Carries calls f s → IsFinished calls f s
     → MeansTheSame (script_of calls) f.signature width (view_of f)
 
--- A function that carries a list of calls reads right on runs and bits, whether it is finished or not.
+-- A function that carries a list of calls reads right on runs and bits, whether it is finished or not: so far, one
+-- without branches.
 abbrev pub CarryingReadsRight : Type 0
 CarryingReadsRight =
     (calls : List AnsweredCall) (signature : SignatureShape) (f : Body) (s : SsaState)
-    → IsConsistent f → Carries calls f s → ReadsRight calls signature f s
+    → IsConsistent f → Carries calls f s → NothingLeads s → ReadsRight calls signature f s

@@ -1,5 +1,6 @@
 -- What holds of a finished function that carries a list of calls, beside what it means: its values are defined before
--- they are named, the arguments of its edges match, and no block has a parameter of a variable. Source: own.
+-- they are named, the arguments of its edges match, and no block has a parameter of a variable. So far these are laws on
+-- functions without branches. Source: own.
 use Rattle.std.specs.Prelude.{◌≡◌, ℕ, ◌+◌, List, [], length, map, flat_map, drop, Option, Some, None, Contains}
 use Rattle.clif_ir.specs.Body.{Body, block_at}
 use Rattle.clif_ir.specs.Consistent.{IsConsistent}
@@ -13,7 +14,7 @@ use Rattle.clif_meaning.specs.Typing.{EdgesMatch}
 use Rattle.clif_meaning.specs.Premises.{CallersEdgesMatch}
 use Rattle.clif_meaning.specs.WellPlaced.{program_code, IsWellPlaced, WellPlaced, Records, RecordsWellPlaced}
 use Rattle.clif_simulation.specs.Tables.{answered, program_so_far, block_name, item_at}
-use Rattle.clif_simulation.specs.Carries.{Carries, carried}
+use Rattle.clif_simulation.specs.Carries.{Carries, NothingLeads, carried}
 use Rattle.clif_simulation.specs.Laws.{IsFinished}
 
 -- the parameters of a block that the caller made, by the block's name
@@ -29,14 +30,14 @@ HasCallersParameters calls f =
 abbrev pub CarryingLeavesNoParameters : Type 0
 CarryingLeavesNoParameters =
     (calls : List AnsweredCall) (f : Body) (s : SsaState)
-    → IsConsistent f → Carries calls f s → IsFinished f s
+    → IsConsistent f → Carries calls f s → NothingLeads s → IsFinished calls f s
     → HasCallersParameters calls f
 
 -- Where the caller's arguments match the caller's parameters, a finished function's edges match.
 abbrev pub CarryingMatchesEdges : Type 0
 CarryingMatchesEdges =
     (calls : List AnsweredCall) (f : Body) (s : SsaState)
-    → IsConsistent f → Carries calls f s → IsFinished f s
+    → IsConsistent f → Carries calls f s → NothingLeads s → IsFinished calls f s
     → CallersEdgesMatch (script_of calls)
     → EdgesMatch (view_of f)
 
@@ -45,7 +46,7 @@ CarryingMatchesEdges =
 abbrev pub CarryingIsWellPlaced : Type 0
 CarryingIsWellPlaced =
     (calls : List AnsweredCall) (f : Body) (s : SsaState)
-    → IsConsistent f → Carries calls f s → IsFinished f s
+    → IsConsistent f → Carries calls f s → NothingLeads s → IsFinished calls f s
     → IsWellPlaced (program_code (program_of (script_of calls)))
     → WellPlaced (view_of f)
 
@@ -70,7 +71,7 @@ pub record AreRecords (calls : List AnsweredCall) (f : Body) (s : SsaState) (rec
 abbrev pub RecordsAreWellPlaced : Type 0
 RecordsAreWellPlaced =
     (calls : List AnsweredCall) (f : Body) (s : SsaState) (records : Records)
-    → IsConsistent f → Carries calls f s → IsFinished f s
+    → IsConsistent f → Carries calls f s → NothingLeads s → IsFinished calls f s
     → IsWellPlaced (program_code (program_of (script_of calls)))
     → AreRecords calls f s records
     → RecordsWellPlaced (view_of f) records

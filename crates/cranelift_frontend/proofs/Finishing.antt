@@ -1,8 +1,8 @@
 -- Where `finalize` succeeds, no parameter waits and the entry is sealed, so the finished function means what the list
 -- of calls means.
 use Rattle.std.proofs.Common.{◌≡◌, ◌≢◌, ℕ, zero, suc, ◌+◌, ◌<◌, ◌≤◌, List, [], ◌∷◌, length, refl, sym, ◌∙◌, ap, subst, arith, ◌⊎◌, inl, inr}
-use Rattle.std.specs.Prelude.{slice_get, Option, Some, None, Bool, true, false, if◌then◌else◌, ◌==◌, OnOk, Err, Contains}
-use Rattle.std.proofs.lemmas.Option.{same_Some}
+use Rattle.std.specs.Prelude.{slice_get, Option, Some, None, Bool, true, false, if◌then◌else◌, ◌==◌, OnOk, Err, Contains, IsTrue}
+use Rattle.std.proofs.lemmas.Option.{same_Some, slice_get-map}
 use Rattle.std.proofs.lemmas.Grind.{common_steps}
 use Rattle.clif_types.specs.Signature.{SignatureShape}
 use Rattle.clif_types.specs.declared.target.PointerWidth.{PointerWidth}
@@ -14,14 +14,19 @@ use Rattle.clif_ssa.specs.declared.tables.Sealed.{Sealed}
 use Rattle.clif_ssa.specs.declared.tables.Sealed.TheVariants.{No, Yes}
 use Rattle.clif_ssa.specs.Tables.{is_yes, pending_of}
 use Rattle.clif_ssa.specs.Ssa.{sealed_of}
+use Rattle.clif_meaning.specs.Name.{Name}
+use Rattle.clif_meaning.specs.Ledger.{BlockState, is_filled, state_has}
 use Rattle.clif_meaning.specs.Request.{AnsweredCall, script_of}
 use Rattle.clif_meaning.specs.View.{view_of}
 use Rattle.clif_meaning.specs.Headline.{MeansTheSame}
 use Rattle.clif_meaning.specs.Premises.{PlacementPremises}
 use Rattle.clif_meaning.specs.Typing.{EdgesMatch}
 use Rattle.clif_meaning.specs.WellPlaced.{Records, RecordsWellPlaced, WellPlaced}
+use Rattle.clif_simulation.specs.Tables as simulation
 use Rattle.clif_simulation.specs.Laws.{IsFinished}
 use Rattle.clif_simulation.specs.Structure.{AreRecords, HasCallersParameters}
+use Rattle.clif_simulation.proofs.Values.{false_is}
+use Rattle.clif_simulation.proofs.Unbranched.{CarriesUnbranched, unbranched}
 use Rattle.clif_simulation.proofs.Structured.{callers_only, edges_match, well_placed}
 use Rattle.clif_simulation.proofs.Recorded.{records_well_placed}
 use Rattle.clif_simulation.proofs.Assembly.{means_the_same}
@@ -32,7 +37,9 @@ use Rattle.cranelift_frontend.specs.declared.context.BlockStatus.TheVariants.{Em
 use Rattle.cranelift_frontend.specs.declared.frontend.FunctionBuilder.{FunctionBuilder}
 use Rattle.cranelift_frontend.specs.Context.{ContextState, status_of}
 use Rattle.cranelift_frontend.specs.Builder.{answer_of, block_fault, first_fault, or_else, verdict_of, is_empty_status, is_filled_status}
+use Rattle.cranelift_frontend.specs.Ledger.{ledger_of, block_name}
 use Rattle.cranelift_frontend.specs.StandsFor.{StandsIn, StandsFor}
+use Rattle.cranelift_frontend.proofs.LedgerNames.{state-by-name, name-number}
 
 -- no block is at fault, where none is the first
 no_fault : (c : ContextState) (count from k : ℕ) → first_fault c from count ≡ None → from ≤ k → k < from + count → block_fault c k ≡ None
@@ -115,15 +122,36 @@ module _ (declared : SignatureShape) (calls : List AnsweredCall) (f : Body) (c :
           let waits = stands.carries.describes.waiting b q here in
           none_in_sealed (sealed_of c.ssa b) (begun_sealed b (stands.ledger.parameters q.param b waits.parameter).begun)
 
-  pub is_finished : IsFinished f c.ssa
+  filled_not_empty : (status : BlockStatus) → IsTrue (is_filled_status status) → status ≢ Empty
+  filled_not_empty Empty filled = absurd (false_is filled)
+  filled_not_empty Partial filled = absurd (false_is filled)
+  filled_not_empty Filled filled = λ same. apart same
+    where
+      apart : Filled ≡ Empty → ⊥
+      apart h = cc
+
+  -- a block that has its terminator is sealed
+  filled_sealed : (b : ℕ) (name : Name) → simulation.block_name calls b ≡ Some name → IsTrue (is_filled (ledger_of calls) name) → is_yes (sealed_of c.ssa b) ≡ true
+  filled_sealed b name named filled =
+      let numbered : block_name (ledger_of calls) b ≡ Some name = sym (slice_get-map (λ (state : BlockState). state.block) (ledger_of calls).blocks b) ∙ named in
+      let state = state-by-name calls (ledger_of calls) (name-number calls (ledger_of calls) f c p stands.ledger) b name numbered in
+      let of_state : IsTrue state.0.is_filled = subst (λ (o : Option BlockState). IsTrue (state_has (λ (s : BlockState). s.is_filled) o)) state.3 filled in
+      begun_sealed b (filled_not_empty (status_of c b) (subst (λ (t : Bool). IsTrue t) (stands.ledger.blocks b state.0 state.1).is_filled of_state))
+
+  pub is_finished : IsFinished calls f c.ssa
   is_finished = record {
     none_waits = none_waits;
     entry_sealed = λ entry is. begun_sealed entry (stands.begun entry (entry_stands f.layout entry is));
+    filled_sealed = filled_sealed;
   }
+
+-- so far a builder's function has no branch
+plainly : (declared : SignatureShape) (calls : List AnsweredCall) (b : FunctionBuilder) → StandsFor declared calls b → CarriesUnbranched calls b.func.now b.ctx.now.ssa
+plainly declared calls b stands = unbranched calls b.func.now b.ctx.now.ssa stands.carries stands.nothing_leads
 
 -- what holds of a finished function holds where `finalize` succeeds
 pub on_finished : (declared : SignatureShape) (calls : List AnsweredCall) (b : FunctionBuilder) → StandsFor declared calls b
-    → (P : Type 0) → (IsFinished b.func.now b.ctx.now.ssa → P) → OnOk (verdict_of b.failed b.ctx.now (length b.func.now.blocks)) P
+    → (P : Type 0) → (IsFinished calls b.func.now b.ctx.now.ssa → P) → OnOk (verdict_of b.failed b.ctx.now (length b.func.now.blocks)) P
 on_finished declared calls b stands P holds = by b.failed
   where
     of_fault : (o : Option FinalizeError) → first_fault b.ctx.now 0 (length b.func.now.blocks) ≡ o → OnOk (answer_of o) P
@@ -145,21 +173,21 @@ finished_means declared calls b width stands consistent =
 pub finished_parameters : (declared : SignatureShape) (calls : List AnsweredCall) (b : FunctionBuilder) → StandsFor declared calls b → IsConsistent b.func.now
     → OnOk (verdict_of b.failed b.ctx.now (length b.func.now.blocks)) (HasCallersParameters calls b.func.now)
 finished_parameters declared calls b stands consistent =
-    on_finished declared calls b stands (HasCallersParameters calls b.func.now) (λ finished. callers_only calls b.func.now b.ctx.now.ssa consistent stands.carries finished)
+    on_finished declared calls b stands (HasCallersParameters calls b.func.now) (λ finished. callers_only calls b.func.now b.ctx.now.ssa consistent (plainly declared calls b stands) finished)
 
 pub finished_edges : (declared : SignatureShape) (calls : List AnsweredCall) (b : FunctionBuilder) → StandsFor declared calls b
     → OnOk (verdict_of b.failed b.ctx.now (length b.func.now.blocks)) (EdgesMatch (view_of b.func.now))
-finished_edges declared calls b stands = on_finished declared calls b stands (EdgesMatch (view_of b.func.now)) (λ finished. edges_match calls b.func.now b.ctx.now.ssa stands.carries)
+finished_edges declared calls b stands = on_finished declared calls b stands (EdgesMatch (view_of b.func.now)) (λ finished. edges_match calls b.func.now b.ctx.now.ssa (plainly declared calls b stands))
 
 pub finished_placed : (declared : SignatureShape) (calls : List AnsweredCall) (b : FunctionBuilder) → StandsFor declared calls b → IsConsistent b.func.now
     → PlacementPremises (script_of calls) declared → OnOk (verdict_of b.failed b.ctx.now (length b.func.now.blocks)) (WellPlaced (view_of b.func.now))
 finished_placed declared calls b stands consistent premises =
     on_finished declared calls b stands (WellPlaced (view_of b.func.now)) (λ finished.
-    well_placed calls b.func.now b.ctx.now.ssa consistent stands.carries finished premises.given_before)
+    well_placed calls b.func.now b.ctx.now.ssa consistent (plainly declared calls b stands) finished premises.given_before)
 
 pub finished_records : (declared : SignatureShape) (calls : List AnsweredCall) (records : Records) (b : FunctionBuilder) → StandsFor declared calls b → IsConsistent b.func.now
     → AreRecords calls b.func.now b.ctx.now.ssa records → PlacementPremises (script_of calls) declared
     → OnOk (verdict_of b.failed b.ctx.now (length b.func.now.blocks)) (RecordsWellPlaced (view_of b.func.now) records)
 finished_records declared calls records b stands consistent are premises =
     on_finished declared calls b stands (RecordsWellPlaced (view_of b.func.now) records) (λ finished.
-    records_well_placed calls b.func.now b.ctx.now.ssa consistent stands.carries finished premises.given_before records are)
+    records_well_placed calls b.func.now b.ctx.now.ssa consistent (plainly declared calls b stands) finished premises.given_before records are)

@@ -28,7 +28,8 @@ use Rattle.clif_ssa.proofs.Locally.{waits_locally, zeroes_locally}
 use Rattle.clif_meaning.specs.Name.{Name}
 use Rattle.clif_meaning.specs.Request.{AnsweredCall, CreateBlock, SwitchToBlock, SealBlock, DeclareVar, DefVar, UseVar}
 use Rattle.clif_meaning.specs.Ledger.{BlockState}
-use Rattle.clif_simulation.specs.Carries.{Carries, IsCurrent, GoesOn}
+use Rattle.clif_simulation.specs.Carries.{Carries, NothingLeads, IsCurrent, GoesOn}
+use Rattle.clif_simulation.proofs.Unbranched.{nothing_still}
 use Rattle.clif_simulation.proofs.Beginning.{carries_nothing, one_current}
 use Rattle.clif_simulation.proofs.Calls.{carries_created, carries_switched, carries_declared, carries_sealed, carries_assigned, carries_used}
 use Rattle.clif_ssa.proofs.Counting.{inserted_counted}
@@ -123,13 +124,14 @@ module _ (declared : SignatureShape) (calls : List AnsweredCall) (f : Body) (c :
     signature = ap (λ (h : Body). h.signature) is ∙ stands.signature;
     ledger = ledger;
     carries = subst (λ (h : Body). Carries (calls ++ record { request = CreateBlock; numbers = numbers } ∷ []) h d.ssa) (sym is)
-        (carries_created calls f c.ssa stands.carries d.ssa numbers stands.ledger.block_count (λ v b. ap (λ (rows : List (List Cell)). record_of (record c.ssa { records = rows }) v b) records) same leads);
+        (carries_created calls f c.ssa stands.carries stands.nothing_leads d.ssa numbers stands.ledger.block_count (λ v b. ap (λ (rows : List (List Cell)). record_of (record c.ssa { records = rows }) v b) records) same leads);
+    nothing_leads = nothing_still c.ssa d.ssa leads stands.nothing_leads;
     begun = λ b there empty. stands.begun b (ap (stands_in b) (ap (λ (h : Body). h.layout) (sym is)) ∙ there) (ap (λ (s : List BlockStatus). status_of (record c { status = s }) b) (sym status) ∙ empty);
   }
 
   pub stands_switched : (q : Option ℕ) (name : Name) → LedgerAgrees (calls ++ record { request = SwitchToBlock name; numbers = [] } ∷ []) (ledger_of (calls ++ record { request = SwitchToBlock name; numbers = [] } ∷ [])) f c q
       → StandsIn declared (calls ++ record { request = SwitchToBlock name; numbers = [] } ∷ []) f c q
-  stands_switched q name ledger = record { signature = stands.signature; ledger = ledger; carries = carries_switched calls f c.ssa stands.carries name []; begun = stands.begun }
+  stands_switched q name ledger = record { signature = stands.signature; ledger = ledger; carries = carries_switched calls f c.ssa stands.carries stands.nothing_leads name []; nothing_leads = stands.nothing_leads; begun = stands.begun }
 
   pub stands_declared : (d : ContextState) (ty : «Type») (numbers : List ℕ) → d.ssa ≡ c.ssa → d.status ≡ c.status
       → LedgerAgrees (calls ++ record { request = DeclareVar ty; numbers = numbers } ∷ []) (ledger_of (calls ++ record { request = DeclareVar ty; numbers = numbers } ∷ [])) f d p
@@ -137,7 +139,8 @@ module _ (declared : SignatureShape) (calls : List AnsweredCall) (f : Body) (c :
   stands_declared d ty numbers ssa status ledger = record {
     signature = stands.signature;
     ledger = ledger;
-    carries = subst (Carries (calls ++ record { request = DeclareVar ty; numbers = numbers } ∷ []) f) (sym ssa) (carries_declared calls f c.ssa stands.carries ty numbers);
+    carries = subst (Carries (calls ++ record { request = DeclareVar ty; numbers = numbers } ∷ []) f) (sym ssa) (carries_declared calls f c.ssa stands.carries stands.nothing_leads ty numbers);
+    nothing_leads = subst NothingLeads (sym ssa) stands.nothing_leads;
     begun = λ b there empty. stands.begun b there (ap (λ (s : List BlockStatus). status_of (record c { status = s }) b) (sym status) ∙ empty);
   }
 
@@ -150,8 +153,9 @@ module _ (declared : SignatureShape) (calls : List AnsweredCall) (f : Body) (c :
     signature = ap (λ (h : Body). h.signature) is ∙ (goes_on-completed f pending).signature ∙ stands.signature;
     ledger = ledger;
     carries = subst (λ (h : Body). Carries (calls ++ record { request = SealBlock name; numbers = [] } ∷ []) h d.ssa) (sym is)
-        (carries_sealed calls f c.ssa stands.carries d.ssa name [] block consistent records seals leads
+        (carries_sealed calls f c.ssa stands.carries stands.nothing_leads d.ssa name [] block consistent records seals leads
         (ap (λ (l : List ℕ). slice_get l 0) layout));
+    nothing_leads = nothing_still c.ssa d.ssa leads stands.nothing_leads;
     begun = λ b there empty. still b (stands_in b (completing_blocks f pending)) (sym (begins b) ∙ empty) (stands.begun b (ap (stands_in b) (sym layout ∙ ap (λ (h : Body). h.layout) (sym is)) ∙ there));
   }
     where
@@ -174,8 +178,9 @@ module _ (declared : SignatureShape) (calls : List AnsweredCall) (f : Body) (c :
       record {
         signature = stands.signature;
         ledger = ledger;
-        carries = carries_assigned calls f c.ssa stands.carries d.ssa variable name value block current.0 [] current.1 names.number names.is_value records
+        carries = carries_assigned calls f c.ssa stands.carries stands.nothing_leads d.ssa variable name value block current.0 [] current.1 names.number names.is_value records
             (λ b. ap (λ bs. sealed_of (record c.ssa { blocks = bs }) b) blocks) (λ b. ap (λ bs. predecessors_of (record c.ssa { blocks = bs }) b) blocks);
+        nothing_leads = nothing_still c.ssa d.ssa (λ b. ap (λ bs. predecessors_of (record c.ssa { blocks = bs }) b) blocks) stands.nothing_leads;
         begun = λ b there empty. stands.begun b there (ap (λ (s : List BlockStatus). status_of (record c { status = s }) b) (sym status) ∙ empty);
       }
 
@@ -197,7 +202,7 @@ module _ (declared : SignatureShape) (calls : List AnsweredCall) (f : Body) (c :
         (entered.0, entered.1, inserted_counted stands.carries.own f c.ssa stands.carries.tables T block (entry_same f.layout c.ssa block stands.carries.tables).definition stands.carries.counts)
 
     stray_before : NothingStray stands.carries.own.insts h c.ssa
-    stray_before = inserted_stray stands.carries.own.insts f c.ssa block stands.carries.nothing_stray
+    stray_before = inserted_stray stands.carries.own.insts f c.ssa block (stands.carries.nothing_stray stands.nothing_leads)
 
     firm : Firm h
     firm = inserted_firm f block (firm_from f consistent)
@@ -256,7 +261,7 @@ module _ (declared : SignatureShape) (calls : List AnsweredCall) (f : Body) (c :
             let zero = uses.zero is sealed in
             let k : Body = with_param h block ty in
             with_value (length h.values + 1) (zero.1 ∙ ap (λ (vs : List _). length vs + 1) (sym same.values))
-            (zeroes_locally stands.carries.own h g c.ssa d.ssa T variable ty block firm housed before.0 before.2 before.1 (stands.carries.nothing_leads block) there_still is sealed zero.0 leads)
+            (zeroes_locally stands.carries.own h g c.ssa d.ssa T variable ty block firm housed before.0 before.2 before.1 (stands.nothing_leads block) there_still is sealed zero.0 leads)
             (zeroes_stray stands.carries.own.insts h g c.ssa d.ssa variable ty block firm there_still zero.0 stray_before)
             (goes_on-then f h g to_inserted (goes_on-then h k g (goes_on-with_param h block ty) (subst (GoesOn k) (sym zero.0.function) (goes_on-zeroed k block (length h.values)))))
             (subst (λ (b : Body). length h.values + 1 < length b.values) (sym zero.0.function) (more_values h))
@@ -280,7 +285,8 @@ module _ (declared : SignatureShape) (calls : List AnsweredCall) (f : Body) (c :
         record {
           signature = used_in.goes_on.signature ∙ stands.signature;
           ledger = ledger;
-          carries = carries_used calls f c.ssa stands.carries g d.ssa variable value block current.0 consistent current.1 used_in.kept used_in.nothing_stray leads used_in.goes_on used_in.exists used_in.layout;
+          carries = carries_used calls f c.ssa stands.carries stands.nothing_leads g d.ssa variable value block current.0 consistent current.1 used_in.kept used_in.nothing_stray leads used_in.goes_on used_in.exists used_in.layout;
+          nothing_leads = nothing_still c.ssa d.ssa leads stands.nothing_leads;
           begun = λ b stays. not_empty c d block (begun (status_of c block)) sets (begun_not_empty (status_of c block)) b
               (was b (inserted_cases f block b (ap (stands_in b) (sym used_in.layout) ∙ stays)));
         }
@@ -297,6 +303,7 @@ stands_begins f c p function context position = record {
       (subst (λ (d : ContextState). LedgerAgrees [] (ledger_of []) (empty_body f.name f.signature) d p) (sym context)
       (subst (LedgerAgrees [] (ledger_of []) (empty_body f.name f.signature) empty_context) (sym position) (agrees-empty f.name f.signature)));
   carries = subst (λ (g : Body). Carries [] g c.ssa) (sym function) (subst (λ (d : ContextState). Carries [] (empty_body f.name f.signature) d.ssa) (sym context) (carries_nothing f.name f.signature));
+  nothing_leads = subst (λ (d : ContextState). NothingLeads d.ssa) (sym context) (λ b. refl);
   begun = λ b there empty. absurd (nowhere b (sym (ap (λ (g : Body). stands_in b g.layout) function) ∙ there));
 }
   where
