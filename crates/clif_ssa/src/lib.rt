@@ -22,8 +22,6 @@ pub mod side_effects;
 pub mod ssa;
 mod ssa_tables;
 mod tables;
-#[cfg(test)]
-mod tests;
 pub mod variable;
 mod zeros;
 

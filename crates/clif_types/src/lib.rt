@@ -43,5 +43,3 @@ pub use target::{PointerWidth, TargetFrontendConfig};
 pub use trapcode::TrapCode;
 pub use types::{LaneCount, LaneType, Type};
 
-#[cfg(test)]
-mod tests;

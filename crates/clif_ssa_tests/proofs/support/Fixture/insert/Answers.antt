@@ -9,7 +9,7 @@ use Rattle.clif_types.specs.declared.types.«Type».{«Type»}
 use Rattle.clif_ir.specs.declared.instructions.InstructionData.{InstructionData}
 use Rattle.clif_ir.specs.declared.inst_list.BlockEnd.TheVariants.{Back}
 use Rattle.clif_ir.specs.Changes.{with_inst, inst_node, result_nodes}
-use Rattle.clif_ssa.proofs.tests.support.Fixture.insert.Goals as goal
+use Rattle.clif_ssa_tests.proofs.support.Fixture.insert.Goals as goal
 
 -- more exists, and the same is named
 same-named : (f g : Body) (s t : SsaState) → length f.values ≤ length g.values → length f.insts ≤ length g.insts

@@ -1,22 +1,22 @@
 //! Plain data: makers, readers and texts.
 #![tactic(auto)]
 
-use crate::alias_region::{AliasRegionData, AliasRegionSet};
-use crate::call_conv::CallConv;
-use crate::condcodes::IntCC;
-use crate::entities::tables::{AliasRegion, SigRef, StackSlot};
-use crate::error::BuildError;
-use crate::extfunc::{AbiParam, ExtFuncData, Signature};
-use crate::extname::{ExternalName, TestcaseName, UserExternalName, UserFuncName};
-use crate::globalvalue::GlobalValueData;
-use crate::libcall::LibCall;
-use crate::memflags::MemFlagsData;
-use crate::sourceloc::SourceLoc;
-use crate::stackmap::UserStackMapEntry;
-use crate::stackslot::{DynamicStackSlotData, StackSlotData};
-use crate::target::{PointerWidth, TargetFrontendConfig};
-use crate::trapcode::TrapCode;
-use crate::types;
+use clif_types::alias_region::{AliasRegionData, AliasRegionSet};
+use clif_types::call_conv::CallConv;
+use clif_types::condcodes::IntCC;
+use clif_types::entities::tables::{AliasRegion, SigRef, StackSlot};
+use clif_types::error::BuildError;
+use clif_types::extfunc::{AbiParam, ExtFuncData, Signature};
+use clif_types::extname::{ExternalName, TestcaseName, UserExternalName, UserFuncName};
+use clif_types::globalvalue::GlobalValueData;
+use clif_types::libcall::LibCall;
+use clif_types::memflags::MemFlagsData;
+use clif_types::sourceloc::SourceLoc;
+use clif_types::stackmap::UserStackMapEntry;
+use clif_types::stackslot::{DynamicStackSlotData, StackSlotData};
+use clif_types::target::{PointerWidth, TargetFrontendConfig};
+use clif_types::trapcode::TrapCode;
+use clif_types::types;
 use std::alloc::{AllocError, Global};
 use std::fmt;
 use std::fmt::{Display, Write};

@@ -1,12 +1,12 @@
 //! Numbers and sets of them.
 #![tactic(auto)]
 
-use crate::entities::code::{Block, ExceptionTable, Inst, JumpTable, Value};
-use crate::entities::tables::{
+use clif_types::entities::code::{Block, ExceptionTable, Inst, JumpTable, Value};
+use clif_types::entities::tables::{
     AliasRegion, Constant, DynamicStackSlot, FuncRef, GlobalValue, SigRef, StackSlot, ValueLabel,
 };
-use crate::entity::EntityRef;
-use crate::entity_set::EntitySet;
+use clif_types::entity::EntityRef;
+use clif_types::entity_set::EntitySet;
 use std::alloc::Global;
 use std::fmt::{Debug, Display};
 use std::process::Abort;

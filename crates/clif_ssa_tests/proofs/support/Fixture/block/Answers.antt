@@ -8,7 +8,7 @@ use Rattle.std.specs.Prelude.{Result, Ok, Err, OnOk, OnErr, if◌then◌else◌}
 use Rattle.clif_types.specs.declared.error.BuildError.{BuildError}
 use Rattle.clif_ir.specs.Changes.{inserted_in, with_layout}
 use Rattle.clif_ir.specs.Reading.{stands_in}
-use Rattle.clif_ssa.proofs.tests.support.Fixture.block.Goals as goal
+use Rattle.clif_ssa_tests.proofs.support.Fixture.block.Goals as goal
 
 -- more exists, and the same is named
 same-named : (f g : Body) (s t : SsaState) → length f.values ≤ length g.values → length f.insts ≤ length g.insts

@@ -9,7 +9,7 @@ use Rattle.clif_types.specs.declared.error.BuildError.{BuildError}
 use Rattle.clif_ssa.specs.declared.tables.SsaBlock.{SsaBlock}
 use Rattle.clif_ssa.specs.Tables.{predecessors_at, sealed_at}
 use Rattle.clif_ssa.specs.Ssa.{record_of, Records, SameRecords}
-use Rattle.clif_ssa.proofs.tests.support.Fixture.define.Goals as goal
+use Rattle.clif_ssa_tests.proofs.support.Fixture.define.Goals as goal
 
 same_some : {x y : ℕ} → ◌≡◌ {A = Option ℕ} (Some x) (Some y) → x ≡ y
 same_some same = cc

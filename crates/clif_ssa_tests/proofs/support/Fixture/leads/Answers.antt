@@ -7,7 +7,7 @@ use Rattle.clif_ssa.specs.Ssa.{SsaState, SamePredecessors, NamesExist}
 use Rattle.std.specs.Prelude.{Result, Ok, Err, OnOk, OnErr, if◌then◌else◌}
 use Rattle.clif_types.specs.declared.error.BuildError.{BuildError}
 use Rattle.clif_ssa.specs.Ssa.{predecessors_of, Declares}
-use Rattle.clif_ssa.proofs.tests.support.Fixture.leads.Goals as goal
+use Rattle.clif_ssa_tests.proofs.support.Fixture.leads.Goals as goal
 
 contains_last : (xs : List ℕ) (y x : ℕ) → Contains (xs ++ y ∷ []) x → Contains xs x ⊎ (y ≡ x)
 contains_last [] y x (zero, inside, at) = inr at

@@ -4,7 +4,7 @@ use Rattle.std.specs.Prelude.{Some, Contains}
 use Rattle.clif_ir.specs.Body.{Body}
 use Rattle.clif_ssa.specs.Tables.{record_at, pending_of}
 use Rattle.clif_ssa.specs.Ssa.{SsaState, SamePredecessors, SameBlocks, NamesExist}
-use Rattle.clif_ssa.proofs.tests.support.Fixture.bare_block.Goals as goal
+use Rattle.clif_ssa_tests.proofs.support.Fixture.bare_block.Goals as goal
 
 -- more exists, and the same is named
 same-named : (f g : Body) (s t : SsaState) → length f.values ≤ length g.values → length f.insts ≤ length g.insts

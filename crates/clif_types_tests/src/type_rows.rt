@@ -1,8 +1,8 @@
 //! Types: their widths, their lanes and their texts.
 #![tactic(auto)]
 
-use crate::types;
-use crate::types::{LaneCount, LaneType, Type};
+use clif_types::types;
+use clif_types::types::{LaneCount, LaneType, Type};
 use std::test::Fail;
 
 /// The widths, lanes and texts that Cranelift documents.

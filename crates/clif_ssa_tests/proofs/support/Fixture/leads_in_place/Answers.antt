@@ -5,7 +5,7 @@ use Rattle.clif_ir.specs.Body.{Body}
 use Rattle.clif_ir.specs.Reading.{without}
 use Rattle.clif_ssa.specs.Tables.{record_at, pending_of}
 use Rattle.clif_ssa.specs.Ssa.{SsaState, predecessors_of, Removes, SameBlocks, NamesExist}
-use Rattle.clif_ssa.proofs.tests.support.Fixture.leads_in_place.Goals as goal
+use Rattle.clif_ssa_tests.proofs.support.Fixture.leads_in_place.Goals as goal
 
 -- what stands in a list without one entry stands in the list
 later : (x : ℕ) (y : ℕ) (ys : List ℕ) → Contains ys x → Contains (y ∷ ys) x

@@ -1,0 +1,16 @@
+//! Tests of `clif_ssa`, of what no clause says: that calls succeed, what they make of a function's text, and that long
+//! look-ups end in time.
+#![tactic(auto)]
+
+#[cfg(test)]
+mod long;
+#[cfg(test)]
+mod predecessors;
+#[cfg(test)]
+mod programs;
+#[cfg(test)]
+mod steps;
+#[cfg(test)]
+mod support;
+#[cfg(test)]
+mod undefined;

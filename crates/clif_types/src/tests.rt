@@ -1,6 +1,0 @@
-//! Tests of what no clause says: that calls succeed, and texts as the printer's rules and Cranelift give them.
-#![tactic(auto)]
-
-mod data_rows;
-mod numbers;
-mod type_rows;
