@@ -5,9 +5,9 @@ ghost use Rattle.std.specs.Prelude.{◌≤◌, ◌<◌, length, IsTrue, EachInde
 ghost use Rattle.clif_ir.specs.Consistent.{EdgeExists};
 ghost use Rattle.clif_ssa.specs.Ssa.{Declares, NamesExist};
 
-use clif_ssa::{SSABuilder, SideEffects, Variable};
 use clif_ir::inst_list::BlockEnd;
 use clif_ir::{BinaryOpcode, BlockCall, Function, InstructionData, ValueList};
+use clif_ssa::{SSABuilder, SideEffects, Variable};
 use clif_types::{
     Block, CallConv, EntityRef, Inst, Signature, SourceLoc, Type, UserFuncName, Value, types,
 };

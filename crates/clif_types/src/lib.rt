@@ -42,4 +42,3 @@ pub use stackslot::{DynamicStackSlotData, StackSlotData};
 pub use target::{PointerWidth, TargetFrontendConfig};
 pub use trapcode::TrapCode;
 pub use types::{LaneCount, LaneType, Type};
-
