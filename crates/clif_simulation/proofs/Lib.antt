@@ -13,6 +13,7 @@ mod OwnEdges
 mod Flow
 mod Edges
 mod Fronts
+mod Targets
 mod Matching
 mod Stepping
 mod Starting

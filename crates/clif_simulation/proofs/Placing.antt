@@ -1,9 +1,8 @@
 -- In a finished function that carries a list of calls, values are defined before they are named, if the program's names
 -- are given before they are.
-use Rattle.std.proofs.Common.{◌≡◌, ◌≢◌, ℕ, zero, suc, ◌+◌, ◌<◌, ◌≤◌, ◌==◌, if◌then◌else◌, Bool, true, List, [], ◌∷◌, ◌++◌, length, map, flat_map, take, slice_get, Option, Some, None, Contains, ◌⊎◌, inl, inr, refl, sym, ◌∙◌, ap, subst, arith}
+use Rattle.std.proofs.Common.{◌≡◌, ℕ, zero, suc, ◌+◌, ◌<◌, ◌≤◌, if◌then◌else◌, Bool, List, [], ◌∷◌, ◌++◌, length, map, flat_map, take, slice_get, Option, Some, None, Contains, ◌⊎◌, inl, inr, refl, sym, ◌∙◌, ap, subst, arith}
 use Rattle.std.specs.Prelude.{slice_index, slice_index_or}
-use Rattle.std.specs.List.{AllByRecursion, list_any}
-use Rattle.std.proofs.lemmas.Bool.Decides.{nat_tests}
+use Rattle.std.specs.List.{AllByRecursion}
 use Rattle.std.proofs.lemmas.List.{map-append}
 use Rattle.clif_ir.specs.Body.{Body, value_at, inst_at, block_at, resolved, alias_of, alias_of_origin}
 use Rattle.clif_ir.specs.Consistent.{IsConsistent, IsOrigin, Stands}
@@ -12,7 +11,7 @@ use Rattle.clif_ir.specs.declared.function.ValueOrigin.{ValueOrigin}
 use Rattle.clif_ir.specs.declared.function.ValueOrigin.TheVariants as origin
 use Rattle.clif_ir.proofs.Aliases.{follow-inside, resolved-no_alias}
 use Rattle.clif_ir.proofs.Keeps.{leads_inside}
-use Rattle.clif_paths.specs.Places.{Place, start, inside, Visits}
+use Rattle.clif_paths.specs.Places.{Place, inside, Visits}
 use Rattle.clif_paths.specs.State.{Naming, Definition}
 use Rattle.clif_paths.specs.Blocks.{front}
 use Rattle.clif_ssa.specs.declared.tables.Pending.{Pending}
@@ -32,6 +31,8 @@ use Rattle.clif_simulation.specs.Carries.{carried, answered_instruction}
 use Rattle.clif_simulation.specs.Laws.{IsFinished}
 use Rattle.clif_simulation.proofs.Unbranched.{CarriesUnbranched}
 use Rattle.clif_simulation.proofs.Straight.{straight, same_block, visits_so_far}
+use Rattle.clif_simulation.proofs.Fronts.{any_first}
+use Rattle.clif_simulation.proofs.ItemsAt.{not_start}
 use Rattle.clif_simulation.proofs.Entry
 
 -- PLACES OF LISTS -------------------------------------------------------------------------------------------------
@@ -174,23 +175,10 @@ visits_block e zero b j (inr there) = absurd there
 visits_block e (suc k) b j (inl here) = same_block here
 visits_block e (suc k) b j (inr there) = visits_block e k b j there
 
-pub any_first : (layout : List ℕ) (block : ℕ) → slice_get layout 0 ≡ Some block → list_any (λ other. other == block) layout ≡ true
-any_first [] block first = cc
-any_first (other ∷ layout) block first =
-    let same : other ≡ block = cc in
-    let here : (other == block) ≡ true = grind (arith, nat_tests) in
-    rw here refl
-
 no_item : {X : Type 0} (xs : List X) (k : ℕ) (x : X) → xs ≡ [] → slice_get xs k ≡ Some x → ⊥
 no_item [] zero x none is = cc
 no_item [] (suc k) x none is = cc
 no_item (y ∷ xs) k x none is = cc
-
-pub not_start : (p : Place) (b k : ℕ) → p ≡ inside b k → p ≢ start
-not_start p b k at none = no_start (sym none ∙ at)
-  where
-    no_start : start ≡ inside b k → ⊥
-    no_start h = cc
 
 module _ (calls : List AnsweredCall) (f : Body) (s : SsaState) (consistent : IsConsistent f) (carries : CarriesUnbranched calls f s) (finished : IsFinished calls f s)
     (entry : Name) (is_entry : (program_so_far calls).entry ≡ Some entry)

@@ -28,7 +28,8 @@ use Rattle.clif_simulation.proofs.Listed.{place_within}
 use Rattle.clif_simulation.proofs.Entry
 use Rattle.clif_simulation.proofs.Flow
 use Rattle.clif_simulation.proofs.Placing
-use Rattle.clif_simulation.proofs.Placing.{map_length, so_many, not_start}
+use Rattle.clif_simulation.proofs.Placing.{map_length, so_many}
+use Rattle.clif_simulation.proofs.ItemsAt.{not_start}
 use Rattle.clif_simulation.proofs.Structured.{no_branches, no_targets, in_entry, given_on_path, no_entry}
 
 same_Some : {X : Type 0} {a b : X} → Some a ≡ Some b → a ≡ b

@@ -2,10 +2,8 @@
 -- agree, or ended in one way. A step along an edge is matched by that and the zeros of the block that it leads to.
 use Rattle.std.proofs.Common.{◌≡◌, ℕ, zero, suc, ◌+◌, ◌-◌, ◌<◌, ◌≤◌, nat_lt, Bool, true, List, [], ◌∷◌, ◌++◌, map, length, drop, flat_map, slice_get, Option, Some, None, Contains, ◌⊎◌, inl, inr, refl, sym, ◌∙◌, ap, ap₂, subst, subst₂, arith}
 use Rattle.std.specs.Prelude.{IsTrue}
-use Rattle.std.specs.List.{AllByRecursion}
 use Rattle.std.proofs.lemmas.Bool.Decides.{nat_tests}
 use Rattle.clif_types.specs.Signature.{SignatureShape}
-use Rattle.clif_types.specs.declared.types.«Type».{«Type»}
 use Rattle.clif_types.specs.declared.target.PointerWidth.{PointerWidth}
 use Rattle.clif_ir.specs.Body.{Body, inst_at, resolved}
 use Rattle.clif_ir.specs.Consistent.{IsConsistent}
@@ -19,11 +17,11 @@ use Rattle.clif_ssa.specs.Ssa.{SsaState}
 use Rattle.clif_ssa.specs.Sound.{edges_at}
 use Rattle.clif_meaning.specs.Bits.{Bits}
 use Rattle.clif_meaning.specs.Memory.{Memory}
-use Rattle.clif_meaning.specs.Event.{Event, types_of}
+use Rattle.clif_meaning.specs.Event.{Event}
 use Rattle.clif_meaning.specs.Name.{Name, same_name}
 use Rattle.clif_meaning.specs.Request.{AnsweredCall, script_of}
-use Rattle.clif_meaning.specs.Ledger.{ledger_after, is_filled, or_invalid, type_of}
-use Rattle.clif_meaning.specs.Instruction.{Operation, Compute, Jump, Brif, Return, Edge, Instruction}
+use Rattle.clif_meaning.specs.Ledger.{ledger_after, is_filled}
+use Rattle.clif_meaning.specs.Instruction.{Edge, Instruction}
 use Rattle.clif_meaning.specs.Program.{Item, Instruct, Use, Assign}
 use Rattle.clif_meaning.specs.World.{World}
 use Rattle.clif_meaning.specs.Outcome.{Outcome, Gives, Goes, Returns, Traps, Calls, NoStep, outcome_of}
@@ -36,8 +34,7 @@ use Rattle.clif_meaning.specs.FunctionMachine.{FunctionRun, FunctionState, ByMap
 use Rattle.clif_meaning.specs.FunctionView.{Placed}
 use Rattle.clif_meaning.specs.View.{view_of, edge_of, edges_of, argument_of}
 use Rattle.clif_meaning.specs.Headline.{script_run, function_run}
-use Rattle.clif_meaning.specs.Premises.{EachItem, HasGoodTargets, IsGoodTarget, IsItemWellTyped, WellTyped, parameter_types}
-use Rattle.clif_meaning.specs.Typing.{EdgeMatches, EachEdgeMatches, argument_type, call_shape}
+use Rattle.clif_meaning.specs.Premises.{EachItem, HasGoodTargets, WellTyped}
 use Rattle.clif_meaning.specs.WellPlaced.{item_names, program_code, IsWellPlaced}
 use Rattle.clif_meaning.proofs.Stuttering.{Matched, steps_from}
 use Rattle.clif_simulation.specs.Tables.{code, answered, program_so_far, block_name}
@@ -52,9 +49,10 @@ use Rattle.clif_simulation.proofs.Flow
 use Rattle.clif_simulation.proofs.Fronts
 use Rattle.clif_simulation.proofs.Fronts.{HasFront, has_front, placed_inst, goes_on_quietly, steps_behind}
 use Rattle.clif_simulation.proofs.ItemsAt
-use Rattle.clif_simulation.proofs.Listed.{all_at, no_parameters, none_mapped, place_within}
+use Rattle.clif_simulation.proofs.Listed.{no_parameters, place_within}
 use Rattle.clif_simulation.proofs.OwnEdges
 use Rattle.clif_simulation.proofs.OwnEdges.{last_item}
+use Rattle.clif_simulation.proofs.Targets
 use Rattle.clif_simulation.proofs.Placing.{at_second, map_at, placed_item}
 use Rattle.clif_simulation.proofs.Matching.{script_still, function_still, observation, remaining, first_is, rest_is, item_here, rest_behind, same_bits, matched_by_one, matched_by_none, matched_by_more, SameEnd, same_ending, IsPlain, outcome_plain}
 
@@ -62,14 +60,6 @@ use Rattle.clif_simulation.proofs.Matching.{script_still, function_still, observ
 pub nothing_assigned : {Place : Type 0} (same : Place → Place → Bool) (places : List Place) (old : Place → ℕ) → assigned same places [] old ≡ old
 nothing_assigned same [] old = refl
 nothing_assigned same (place ∷ places) old = refl
-
--- no operation is a call so far
-each_edge : {Block Operand : Type 0} (type_of_operand : Operand → «Type») (parameters : Block → List «Type») (operation : Operation) (edges : List (Edge Block Operand))
-    → EachEdgeMatches type_of_operand parameters (call_shape operation) edges → AllByRecursion (EdgeMatches type_of_operand parameters [] []) edges
-each_edge type_of_operand parameters (Compute arithmetic) edges matches = matches
-each_edge type_of_operand parameters Jump edges matches = matches
-each_edge type_of_operand parameters Brif edges matches = matches
-each_edge type_of_operand parameters Return edges matches = matches
 
 module _ (calls : List AnsweredCall) (f : Body) (ssa : SsaState) (consistent : IsConsistent f) (carries : Carries calls f ssa) (finished : IsFinished calls f ssa)
     (width : PointerWidth) (world : World) (signature : SignatureShape) (placed : IsWellPlaced (program_code (program_so_far calls)))
@@ -370,21 +360,10 @@ module _ (calls : List AnsweredCall) (f : Body) (ssa : SsaState) (consistent : I
             (right_next : right_machine.next q ≡ function_machine_of.follow_edge right_run (record q { memory = memory }) given (slice_get (edges_of (inst_at f i).shape) n))
           where
             nothing_passed : edge.arguments ≡ []
-            nothing_passed =
-                let item : IsItemWellTyped (ledger_after (script_of calls)) (program_so_far calls) (types_of signature.returns) (Instruct place instruction results) =
-                all_at (IsItemWellTyped (ledger_after (script_of calls)) (program_so_far calls) (types_of signature.returns)) (items B) k (Instruct place instruction results) (typed.items B) stands in
-                let matches : EdgeMatches (λ name. or_invalid (type_of (ledger_after (script_of calls)) name)) (parameter_types (ledger_after (script_of calls)) (program_so_far calls)) [] [] edge =
-                all_at (EdgeMatches (λ name. or_invalid (type_of (ledger_after (script_of calls)) name)) (parameter_types (ledger_after (script_of calls)) (program_so_far calls)) [] [])
-                instruction.edges n edge
-                (each_edge (λ name. or_invalid (type_of (ledger_after (script_of calls)) name)) (parameter_types (ledger_after (script_of calls)) (program_so_far calls)) instruction.operation instruction.edges item.edges) is_edge in
-                none_mapped (argument_type (λ name. or_invalid (type_of (ledger_after (script_of calls)) name)) [] []) edge.arguments
-                (matches ∙ ap (λ (names : List Name). map (λ ty. Some ty) (map (λ name. or_invalid (type_of (ledger_after (script_of calls)) name)) names)) (no_parameters (script_of calls) edge.target))
+            nothing_passed = Targets.passes_nothing calls B k place instruction results stands n edge is_edge signature typed
 
             filled : IsTrue (is_filled (ledger_after (script_of calls)) edge.target)
-            filled =
-                let item : HasGoodTargets (ledger_after (script_of calls)) (program_so_far calls) (Instruct place instruction results) =
-                all_at (HasGoodTargets (ledger_after (script_of calls)) (program_so_far calls)) (items B) k (Instruct place instruction results) (targets B) stands in
-                (all_at (IsGoodTarget (ledger_after (script_of calls)) (program_so_far calls)) instruction.edges n edge item is_edge).filled
+            filled = Targets.target_filled calls B k place instruction results stands n edge is_edge targets
 
             abbrev d : ℕ
             d = answered calls edge.target

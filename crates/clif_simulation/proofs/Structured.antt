@@ -35,7 +35,8 @@ use Rattle.clif_simulation.proofs.Carrying.{all_append, all_mapped}
 use Rattle.clif_simulation.proofs.Entry
 use Rattle.clif_simulation.proofs.Flow
 use Rattle.clif_simulation.proofs.Placing
-use Rattle.clif_simulation.proofs.Placing.{in_two, map_from, map_length, contained_at, contained, all_at, so_many, OfItem, of_item, not_start}
+use Rattle.clif_simulation.proofs.Placing.{in_two, map_from, map_length, contained_at, contained, all_at, so_many, OfItem, of_item}
+use Rattle.clif_simulation.proofs.ItemsAt.{not_start}
 
 -- NO BRANCHES -----------------------------------------------------------------------------------------------------
 

@@ -1,8 +1,8 @@
 -- What holds where no branch leads to any block: a function that carries a list of calls has no branch then.
-use Rattle.std.proofs.Common.{◌≡◌, ℕ, zero, suc, List, [], ◌∷◌, map, Contains, refl, sym, ◌∙◌, ap, ap₂, subst, slice_get, Option, Some, None, inl, inr, ◌⊎◌}
+use Rattle.std.proofs.Common.{◌≡◌, ℕ, zero, suc, List, [], ◌∷◌, ◌++◌, map, Contains, refl, sym, ◌∙◌, ap, ap₂, subst, slice_get, Option, Some, None, inl, inr, ◌⊎◌}
 use Rattle.std.specs.Prelude.{flat_map}
 use Rattle.std.specs.List.{AllByRecursion}
-use Rattle.clif_ir.specs.Body.{Body, inst_at}
+use Rattle.clif_ir.specs.Body.{Body, inst_at, block_at}
 use Rattle.clif_ir.specs.Instruction.{destinations}
 use Rattle.clif_ir.specs.declared.block_call.BlockCall.{BlockCall}
 use Rattle.clif_paths.specs.Blocks.{Blocks}
@@ -189,6 +189,8 @@ module _ (calls : List AnsweredCall) (f : Body) (s : SsaState) where
       own_inserted = carries.own_inserted;
       declared = λ block inst k target there leads.
           absurd (no_target f inst k target (own_plain block (block_name calls block) refl inst (contained_in (carries.own.insts block) inst there)) leads);
+      passes_first = λ target inst k leads to. absurd (none_leads s carries.nothing_leads target inst leads);
+      parameters_first = λ block. ((block_at f block).params, ap (λ (own : List ℕ). own ++ (block_at f block).params) (sym (carries.no_parameters block)));
       no_parameters = carries.no_parameters;
       values_given = carries.values_given;
       entry = carries.entry;

@@ -1,14 +1,14 @@
 -- When a function, with the state of its construction, carries a list of calls: its blocks hold the program's
 -- instructions in order, operands being the answers of the names, with only zeros before them; and the state on paths
 -- is sound. Its edges may pass more than the program's: arguments for variables. Source: own.
-use Rattle.std.specs.Prelude.{◌≡◌, ◌≢◌, ◌<◌, ◌≤◌, ◌⊎◌, ℕ, suc, List, [], ◌∷◌, length, map, flat_map, Some, None, IsTrue, Contains, false}
+use Rattle.std.specs.Prelude.{◌≡◌, ◌≢◌, ◌<◌, ◌≤◌, ◌⊎◌, ℕ, suc, List, [], ◌∷◌, ◌++◌, length, map, flat_map, slice_get, Some, None, IsTrue, Contains, false}
 use Rattle.std.specs.List.{AllByRecursion}
 use Rattle.clif_ir.specs.declared.block_call.BlockArg.{BlockArg}
-use Rattle.clif_ir.specs.Body.{Body, inst_at, value_at}
+use Rattle.clif_ir.specs.Body.{Body, inst_at, value_at, block_at}
 use Rattle.clif_ir.specs.Reading.{stands_in}
 use Rattle.clif_ssa.specs.Own.{Own}
 use Rattle.clif_ssa.specs.Ssa.{SsaState, predecessors_of}
-use Rattle.clif_ssa.specs.Sound.{Describes, CountsArguments, entry_of, edge_target}
+use Rattle.clif_ssa.specs.Sound.{Describes, CountsArguments, entry_of, args_of, edges_at, edge_target}
 use Rattle.clif_ssa.specs.Structure.{NothingStray}
 use Rattle.clif_paths.specs.Places.{start}
 use Rattle.clif_paths.specs.Blocks.{Blocks}
@@ -118,6 +118,16 @@ abbrev pub AreDeclared : Body → SsaState → (ℕ → List ℕ) → Type 0
 AreDeclared f s own =
     (block inst k target : ℕ) → Contains (own block) inst → edge_target f inst k ≡ Some target → Contains (predecessors_of s target) inst
 
+-- each edge of a branch that leads to a block passes what the caller passed, and then more
+abbrev pub PassesOwnFirst : Own → Body → SsaState → Type 0
+PassesOwnFirst own f s =
+    (target inst k : ℕ) → Contains (predecessors_of s target) inst → edge_target f inst k ≡ Some target
+    → (more : List BlockArg) × (args_of (slice_get (edges_at f inst) k) ≡ own.passed inst k ++ more)
+
+-- a block's parameters are the caller's, and then others
+abbrev pub HasOwnFirst : Own → Body → Type 0
+HasOwnFirst own f = (block : ℕ) → (others : List ℕ) × ((block_at f block).params ≡ own.params block ++ others)
+
 -- what the ledger of the calls has as a value is given by an item
 abbrev pub ValuesGiven : List AnsweredCall → Blocks → Type 0
 ValuesGiven calls blocks = (name : Name) → IsTrue (has_value (ledger_after (script_of calls)) name) → (blocks.naming (code name)).home ≢ start
@@ -138,6 +148,8 @@ pub record Carries (calls : List AnsweredCall) (f : Body) (s : SsaState) : Type 
   pub own_named : OwnNamed calls own.insts
   pub own_inserted : OwnInserted f own.insts
   pub declared : AreDeclared f s own.insts
+  pub passes_first : PassesOwnFirst own f s
+  pub parameters_first : HasOwnFirst own f
   -- so far no call makes a parameter of the caller's
   pub no_parameters : (block : ℕ) → own.params block ≡ []
   pub values_given : ValuesGiven calls tables

@@ -1,4 +1,4 @@
-//! What holds of a finished function that carries a list of calls, beside what it means.
+//! What holds of a finished function that carries a list of calls, beside what it means: so far, of one without branches.
 
 ghost use Rattle.clif_simulation.specs.Structure.{CarryingIsWellPlaced, CarryingLeavesNoParameters, CarryingMatchesEdges, RecordsAreWellPlaced};
 

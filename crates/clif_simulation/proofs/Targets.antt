@@ -1,0 +1,50 @@
+-- What the premises say of an edge of the program: its target has its terminator, and it passes nothing so far.
+use Rattle.std.proofs.Common.{◌≡◌, ℕ, List, [], map, slice_get, Some, ◌∙◌, ap}
+use Rattle.std.specs.Prelude.{IsTrue}
+use Rattle.std.specs.List.{AllByRecursion}
+use Rattle.clif_types.specs.Signature.{SignatureShape}
+use Rattle.clif_types.specs.declared.types.«Type».{«Type»}
+use Rattle.clif_meaning.specs.Event.{types_of}
+use Rattle.clif_meaning.specs.Name.{Name}
+use Rattle.clif_meaning.specs.Request.{AnsweredCall, script_of}
+use Rattle.clif_meaning.specs.Ledger.{Ledger, ledger_after, is_filled, or_invalid, type_of}
+use Rattle.clif_meaning.specs.Instruction.{Operation, Compute, Jump, Brif, Return, Edge, Instruction}
+use Rattle.clif_meaning.specs.Program.{Instruct}
+use Rattle.clif_meaning.specs.Premises.{EachItem, HasGoodTargets, IsGoodTarget, IsItemWellTyped, WellTyped, parameter_types}
+use Rattle.clif_meaning.specs.Typing.{EdgeMatches, EachEdgeMatches, argument_type, call_shape}
+use Rattle.clif_simulation.specs.Tables.{program_so_far}
+use Rattle.clif_simulation.proofs.Listed.{all_at, no_parameters, none_mapped}
+
+-- no operation is a call so far
+each_edge : {Block Operand : Type 0} (type_of_operand : Operand → «Type») (parameters : Block → List «Type») (operation : Operation) (edges : List (Edge Block Operand))
+    → EachEdgeMatches type_of_operand parameters (call_shape operation) edges → AllByRecursion (EdgeMatches type_of_operand parameters [] []) edges
+each_edge type_of_operand parameters (Compute arithmetic) edges matches = matches
+each_edge type_of_operand parameters Jump edges matches = matches
+each_edge type_of_operand parameters Brif edges matches = matches
+each_edge type_of_operand parameters Return edges matches = matches
+
+module _ (calls : List AnsweredCall) (B : Name) (k place : ℕ) (instruction : Instruction Name Name) (results : List Name)
+    (stands : slice_get ((program_so_far calls).items B) k ≡ Some (Instruct place instruction results)) (n : ℕ) (edge : Edge Name Name) (is_edge : slice_get instruction.edges n ≡ Some edge)
+  where
+    abbrev ledger : Ledger
+    ledger = ledger_after (script_of calls)
+
+    abbrev name_type : Name → «Type»
+    name_type name = or_invalid (type_of ledger name)
+
+    -- blocks have no parameters, so an edge that is well typed passes nothing
+    pub passes_nothing : (signature : SignatureShape) → WellTyped ledger (program_so_far calls) signature → edge.arguments ≡ []
+    passes_nothing signature typed =
+        let item : IsItemWellTyped ledger (program_so_far calls) (types_of signature.returns) (Instruct place instruction results) =
+        all_at (IsItemWellTyped ledger (program_so_far calls) (types_of signature.returns)) ((program_so_far calls).items B) k (Instruct place instruction results) (typed.items B) stands in
+        let matches : EdgeMatches name_type (parameter_types ledger (program_so_far calls)) [] [] edge =
+        all_at (EdgeMatches name_type (parameter_types ledger (program_so_far calls)) [] []) instruction.edges n edge
+        (each_edge name_type (parameter_types ledger (program_so_far calls)) instruction.operation instruction.edges item.edges) is_edge in
+        none_mapped (argument_type name_type [] []) edge.arguments
+        (matches ∙ ap (λ (names : List Name). map (λ ty. Some ty) (map name_type names)) (no_parameters (script_of calls) edge.target))
+
+    pub target_filled : EachItem (HasGoodTargets ledger (program_so_far calls)) (program_so_far calls) → IsTrue (is_filled ledger edge.target)
+    target_filled targets =
+        let item : HasGoodTargets ledger (program_so_far calls) (Instruct place instruction results) =
+        all_at (HasGoodTargets ledger (program_so_far calls)) ((program_so_far calls).items B) k (Instruct place instruction results) (targets B) stands in
+        (all_at (IsGoodTarget ledger (program_so_far calls)) instruction.edges n edge item is_edge).filled
