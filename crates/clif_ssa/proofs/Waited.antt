@@ -1,5 +1,5 @@
 -- Parameters that waited in a block are completed, and the block is sealed.
-use Rattle.std.proofs.Common.{◌≡◌, ◌≢◌, ℕ, suc, ◌<◌, ◌+◌, ◌==◌, Bool, true, false, List, [], ◌∷◌, ◌++◌, length, drop, get_or, refl, ap, arith, sym, ◌∙◌, subst, ◌⊎◌, inl, inr, append-nil}
+use Rattle.std.proofs.Common.{◌≡◌, ◌≢◌, ℕ, suc, ◌<◌, ◌≤◌, ◌+◌, ◌==◌, Bool, true, false, List, [], ◌∷◌, ◌++◌, length, drop, get_or, refl, ap, arith, sym, ◌∙◌, subst, ◌⊎◌, inl, inr, append-nil}
 use Rattle.std.specs.Prelude.{Contains, Result, Ok, Err, OnOk, OnErr, IfOk, if◌then◌else◌}
 use Rattle.std.proofs.lemmas.Grind.{common_steps}
 use Rattle.std.proofs.Math.Seq.{drop-cons}
@@ -15,7 +15,7 @@ use Rattle.clif_ssa.specs.declared.tables.SsaBlock.{SsaBlock}
 use Rattle.clif_ssa.specs.declared.tables.Sealed.{Sealed}
 use Rattle.clif_ssa.specs.declared.tables.Sealed.TheVariants.{Yes}
 use Rattle.clif_ssa.specs.Tables.{is_yes, pending_of, sealed_at, predecessors_at}
-use Rattle.clif_ssa.specs.Ssa.{SsaState, sealed_of, predecessors_of, lookups_of, completed, completing_blocks, counted_for, NamesExist, Named, Seals, SealedStays, SamePredecessors, SameRecords, SameLookups, CountsLookup, CountsEach}
+use Rattle.clif_ssa.specs.Ssa.{SsaState, sealed_of, predecessors_of, lookups_of, completed, completing_blocks, counted_for, KnowsNoMore, NamesExist, Named, Seals, SealedStays, SamePredecessors, SameRecords, SameLookups, CountsLookup, CountsEach}
 use Rattle.clif_ssa.specs.LookUp.{LookUpState, Stage, calls_for, CompletesParameter}
 use Rattle.clif_ssa.specs.Running.{stage, Balances, CallExists, CallsFit, CompletesAll, MakesAll}
 use Rattle.clif_ssa.specs.Sealing.{SealsOne, SealsLocally}
@@ -154,6 +154,24 @@ still-sealed s t b (inr seals) c is = seals c ∙ by (c == b)
 pub other-same : (s t : SsaState) (b : ℕ) → SealedStays s t ⊎ SealsOne s t b → (c : ℕ) → c ≢ b → is_yes (sealed_of t c) ≡ is_yes (sealed_of s c)
 other-same s t b (inl stays) c apart = stays c
 other-same s t b (inr seals) c apart = seals c ∙ grind (arith, common_steps, apart)
+
+-- no more blocks are known
+pub no_more-self : (s : SsaState) (n : ℕ) → KnowsNoMore s s n
+no_more-self s n = inl (omega arith)
+
+pub no_more-then : (s t u : SsaState) (n m : ℕ) → m ≡ n → KnowsNoMore s t n → KnowsNoMore t u m → KnowsNoMore s u n
+no_more-then s t u n m same (inl before) (inl after) = inl (omega (arith, before, after))
+no_more-then s t u n m same (inr before) (inl after) = inr (omega (arith, before, after))
+no_more-then s t u n m same (inl before) (inr after) = inr (omega (arith, same, after))
+no_more-then s t u n m same (inr before) (inr after) = inr (omega (arith, same, after))
+
+no_more-within : (s t : SsaState) (n m : ℕ) → m ≡ n → length s.blocks ≤ n → KnowsNoMore s t m → length t.blocks ≤ n
+no_more-within s t n m same before (inl after) = omega (arith, before, after)
+no_more-within s t n m same before (inr after) = omega (arith, same, after)
+
+-- nor as one of the known ones is sealed
+pub no_more-sealed : (s t : SsaState) (n m b count : ℕ) → b < count → count ≤ n → m ≡ n → length s.blocks ≤ n → (b < m → KnowsNoMore s t m) → length t.blocks ≤ n
+no_more-sealed s t n m b count inside fits same before seals = no_more-within s t n m same before (seals (omega (arith, inside, fits, same)))
 
 -- a look-up is counted for the first of these parameters
 pub counted-next : (s t : SsaState) (block : ℕ) (p : Pending) (rest waiting : List Pending) → waiting ≡ p ∷ rest → CountsLookup s t p.variable block → (v b : ℕ)

@@ -1,6 +1,6 @@
 -- The state of the construction, and what its calls make of a function.
 -- Source: Braun et al. 2013, and the crate's documentation of its SSA builder.
-use Rattle.std.specs.Prelude.{◌≡◌, ℕ, ◌-◌, ◌^◌, ◌<◌, ◌≤◌, List, [], ◌∷◌, ◌++◌, Option, Some, None, pos, length, ◌==◌, ◌&&◌, if◌then◌else◌, Contains, true}
+use Rattle.std.specs.Prelude.{◌≡◌, ℕ, ◌-◌, ◌^◌, ◌<◌, ◌≤◌, List, [], ◌∷◌, ◌++◌, Option, Some, None, pos, length, ◌==◌, ◌&&◌, if◌then◌else◌, ◌⊎◌, Contains, true}
 use Rattle.clif_types.specs.declared.types.«Type».{«Type»}
 use Rattle.clif_ir.specs.Body.{Body, value_at}
 use Rattle.clif_ir.specs.Changes.{inserted_in, with_param, with_inst, with_alias}
@@ -80,6 +80,10 @@ SamePredecessors old new = (b : ℕ) → predecessors_of new b ≡ predecessors_
 abbrev pub Declares : SsaState → SsaState → ℕ → ℕ → Type 0
 Declares old new block branch =
     (b : ℕ) → predecessors_of new b ≡ (if b == block then predecessors_of old b ++ branch ∷ [] else predecessors_of old b)
+
+-- as many blocks are known as before at most, or no more than `bound`
+abbrev pub KnowsNoMore : SsaState → SsaState → ℕ → Type 0
+KnowsNoMore old new bound = (length new.blocks ≤ length old.blocks) ⊎ (length new.blocks ≤ bound)
 
 -- one branch doesn't lead to a block any more
 abbrev pub Removes : SsaState → SsaState → ℕ → ℕ → Type 0

@@ -16,7 +16,7 @@ ghost use Rattle.clif_ssa.specs.Structured.{HasType, Structured, VariableTypes};
 ghost use Rattle.clif_ssa.specs.LookUp.{branch_block, no_look_up, LooksUp, MakesCall, UsesVariable, CompletesParameter};
 ghost use Rattle.clif_ssa.specs.Running.{stage, found, with_call, CallsFit, CompletesAll, CountsOnce, MakesAll, ToComplete};
 ghost use Rattle.clif_ssa.specs.Sealing.{SealsBelow, SealsOne, SealsLocally, SealsByLookUp};
-ghost use Rattle.clif_ssa.specs.Ssa.{no_state, record_of, sealed_of, predecessors_of, lookups_of, completed, completing_blocks, CountsEach, CountsLookup, Declares, HasMore, IsLocal, Named, NamesExist, Records, RecordsStay, Removes, SamePredecessors, SameBlocks, SameLookups, SameRecords, SealedStays, Seals, Waits, Zeroes};
+ghost use Rattle.clif_ssa.specs.Ssa.{no_state, record_of, sealed_of, predecessors_of, lookups_of, completed, completing_blocks, CountsEach, CountsLookup, Declares, HasMore, IsLocal, Named, NamesExist, Records, KnowsNoMore, RecordsStay, Removes, SamePredecessors, SameBlocks, SameLookups, SameRecords, SealedStays, Seals, Waits, Zeroes};
 
 use crate::ending::finish_look_up;
 use crate::look_up::{Call, LookUp};
@@ -87,6 +87,7 @@ impl SSABuilder {
         ensures looks_once { LooksOnce self.old → LooksOnce self.new }
         ensures structured { (types : VariableTypes) (own : Own) (f : Body) → Structured types own f self.old [] → Structured types own f self.new [] }
         ensures known { OnOk result (block < length self.new.blocks) }
+        ensures no_more { KnowsNoMore self.old self.new (block + 1) }
         ensures only_memory { OnErr result (result ≡ Err BuildError.Memory) }
     {
         self.tables.declare_block(block)
@@ -103,6 +104,7 @@ impl SSABuilder {
         ensures described { (own : Own) (f : Body) (tables : Blocks) → inst < length f.insts → has_entry f.layout ≡ true → entry_of f ≢ Some block → ((j : ℕ) → Contains (predecessors_of self.old block) j → branch_block f j ≢ branch_block f inst) → PassesOwn own f block inst → DescribesSoundly own f self.old tables → OnOk result (DescribesSoundly own f self.new tables) }
         ensures looks_once { LooksOnce self.old → LooksOnce self.new }
         ensures structured { (types : VariableTypes) (own : Own) (f : Body) → inst < length f.insts → ((j : ℕ) → Contains (predecessors_of self.old block) j → j ≢ inst) → ((k : ℕ) → edge_target f inst k ≡ Some block → args_of (slice_get (edges_at f inst) k) ≡ own.passed inst k) → Structured types own f self.old [] → OnOk result (Structured types own f self.new []) }
+        ensures no_more { KnowsNoMore self.old self.new (block + 1) }
         ensures only_memory { OnErr result (result ≡ Err BuildError.Memory) }
     {
         self.tables.declare_predecessor(block, inst)
@@ -119,6 +121,7 @@ impl SSABuilder {
         ensures described { (own : Own) (f : Body) (tables : Blocks) → DescribesSoundly own f self.old tables → DescribesSoundly own f self.new tables }
         ensures looks_once { LooksOnce self.old → LooksOnce self.new }
         ensures structured { (types : VariableTypes) (own : Own) (f : Body) → Structured types own f self.old [] → Structured types own f self.new [] }
+        ensures no_more { length self.new.blocks ≤ length self.old.blocks }
     {
         self.tables.remove_predecessor(block, inst);
     }
@@ -198,6 +201,7 @@ impl SSABuilder {
         ensures predecessors { SamePredecessors self.old self.new }
         ensures stay { RecordsStay self.old self.new }
         ensures flags { SealedStays self.old self.new }
+        ensures no_more { KnowsNoMore self.old self.new (length func.old.blocks) }
         ensures more { HasMore func.old func.new }
         ensures constructs { OnlyConstructs func.old func.new }
         ensures tells { IfOk result (λ r. TellsZeros func.old func.new r.1.instructions_added_to_blocks.items) }
@@ -245,6 +249,7 @@ impl SSABuilder {
         ensures predecessors { SamePredecessors self.old self.new }
         ensures stay { RecordsStay self.old self.new }
         ensures flags { SealedStays self.old self.new }
+        ensures no_more { KnowsNoMore self.old self.new (length func.old.blocks) }
         ensures more { HasMore func.old func.new }
         ensures constructs { OnlyConstructs func.old func.new }
         ensures tells { IfOk result (λ r. TellsZeros func.old func.new r.1.instructions_added_to_blocks.items) }
@@ -281,6 +286,7 @@ impl SSABuilder {
         ensures predecessors { SamePredecessors self.old self.new }
         ensures stay { RecordsStay self.old self.new }
         ensures flags { SealedStays self.old self.new }
+        ensures no_more { KnowsNoMore self.old self.new (length func.old.blocks) }
         ensures more { HasMore func.old func.new }
         ensures constructs { OnlyConstructs func.old func.new }
         ensures tells { OnOk result (TellsMore func.old func.new look_up.old.zeros look_up.new.zeros) }
@@ -311,6 +317,7 @@ impl SSABuilder {
         ensures predecessors { SamePredecessors self.old self.new }
         ensures stay { RecordsStay self.old self.new }
         ensures flags { SealedStays self.old self.new }
+        ensures no_more { KnowsNoMore self.old self.new (length func.old.blocks) }
         ensures more { HasMore func.old func.new }
         ensures constructs { OnlyConstructs func.old func.new }
         ensures tells { OnOk result (TellsMore func.old func.new look_up.old.zeros look_up.new.zeros) }
@@ -342,6 +349,7 @@ impl SSABuilder {
         ensures predecessors { SamePredecessors self.old self.new }
         ensures stay { RecordsStay self.old self.new }
         ensures flags { SealedStays self.old self.new }
+        ensures no_more { KnowsNoMore self.old self.new (length func.old.blocks) }
         ensures more { HasMore func.old func.new }
         ensures constructs { OnlyConstructs func.old func.new }
         ensures tells { OnOk result (TellsMore func.old func.new look_up.old.zeros look_up.new.zeros) }
@@ -381,6 +389,7 @@ impl SSABuilder {
         ensures predecessors { SamePredecessors self.old self.new }
         ensures stay { RecordsStay self.old self.new }
         ensures flags { SealedStays self.old self.new }
+        ensures no_more { KnowsNoMore self.old self.new (length func.old.blocks) }
         ensures more { HasMore func.old func.new }
         ensures constructs { OnlyConstructs func.old func.new }
         ensures tells { OnOk result (TellsMore func.old func.new look_up.old.zeros look_up.new.zeros) }
@@ -411,6 +420,7 @@ impl SSABuilder {
         ensures predecessors { SamePredecessors self.old self.new }
         ensures stay { RecordsStay self.old self.new }
         ensures flags { SealedStays self.old self.new }
+        ensures no_more { KnowsNoMore self.old self.new (length func.old.blocks) }
         ensures more { HasMore func.old func.new }
         ensures constructs { OnlyConstructs func.old func.new }
         ensures tells { OnOk result (TellsMore func.old func.new look_up.old.zeros look_up.new.zeros) }
@@ -468,6 +478,7 @@ impl SSABuilder {
         ensures looks_once { LooksOnce self.old → LooksOnce self.new }
         ensures predecessors { SamePredecessors self.old self.new }
         ensures stay { RecordsStay self.old self.new }
+        ensures no_more { block < length func.old.blocks → KnowsNoMore self.old self.new (length func.old.blocks) }
         ensures more { HasMore func.old func.new }
         ensures constructs { OnlyConstructs func.old func.new }
         ensures tells { IfOk result (λ r. TellsZeros func.old func.new r.instructions_added_to_blocks.items) }
@@ -509,6 +520,7 @@ impl SSABuilder {
         ensures looks_once { LooksOnce self.old → LooksOnce self.new }
         ensures predecessors { SamePredecessors self.old self.new }
         ensures stay { RecordsStay self.old self.new }
+        ensures no_more { block < length func.old.blocks → KnowsNoMore self.old self.new (length func.old.blocks) }
         ensures more { HasMore func.old func.new }
         ensures constructs { OnlyConstructs func.old func.new }
         ensures tells { IfOk result (λ r. TellsZeros func.old func.new r.instructions_added_to_blocks.items) }
@@ -536,6 +548,7 @@ impl SSABuilder {
         ensures structured { (types : VariableTypes) (own : Own) → Structured types own func.old self.old [] → OnOk result (Structured types own func.new self.new []) }
         ensures predecessors { SamePredecessors self.old self.new }
         ensures stay { RecordsStay self.old self.new }
+        ensures no_more { length self.old.blocks ≤ length func.old.blocks → length self.new.blocks ≤ length func.old.blocks }
         ensures more { HasMore func.old func.new }
         ensures constructs { OnlyConstructs func.old func.new }
         ensures tells { IfOk result (λ r. TellsZeros func.old func.new r.instructions_added_to_blocks.items) }

@@ -1,5 +1,5 @@
 //! What the construction knows, and the changes that a look-up makes of it.
-ghost use Rattle.std.specs.Prelude.{◌≡◌, ◌≢◌, ◌<◌, ◌↔◌, ◌++◌, ◌∷◌, ◌==◌, ◌&&◌, ◌⊎◌, [], ℕ, IsTrue, length, Some, None, true, false, ◌^◌, OnOk, OnErr, IfOk, IfSome, if◌then◌else◌};
+ghost use Rattle.std.specs.Prelude.{◌≡◌, ◌≢◌, ◌<◌, ◌≤◌, ◌+◌, ◌↔◌, ◌++◌, ◌∷◌, ◌==◌, ◌&&◌, ◌⊎◌, [], ℕ, IsTrue, length, Some, None, true, false, ◌^◌, OnOk, OnErr, IfOk, IfSome, if◌then◌else◌};
 ghost use Rattle.clif_ir.specs.Changes.{with_param};
 ghost use Rattle.clif_ir.specs.Consistent.{Stands};
 ghost use Rattle.clif_ir.specs.Reading.{stands_in};
@@ -7,7 +7,7 @@ ghost use Rattle.clif_ssa.specs.Constructs.{OnlyConstructs, TellsMore};
 ghost use Rattle.clif_ssa.specs.Limits.{IsFull};
 ghost use Rattle.clif_ssa.specs.Tables.{is_yes, pending_of};
 ghost use Rattle.clif_ssa.specs.declared.tables.Sealed.{Sealed};
-ghost use Rattle.clif_ssa.specs.Ssa.{no_state, Declares, Removes, Seals, record_of, sealed_of, predecessors_of, lookups_of, Named, NamesExist, HasMore, SealedStays, Records, RecordsStay, SameRecords, SameBlocks, SamePredecessors, SameLookups, CountsLookup};
+ghost use Rattle.clif_ssa.specs.Ssa.{no_state, Declares, Removes, Seals, record_of, sealed_of, predecessors_of, lookups_of, Named, NamesExist, HasMore, SealedStays, Records, RecordsStay, KnowsNoMore, SameRecords, SameBlocks, SamePredecessors, SameLookups, CountsLookup};
 ghost use Rattle.clif_ssa.specs.Running.{stage, CountsOnce, Got};
 ghost use Rattle.clif_ssa.specs.LookUp.{single_predecessor, WalksTo, before_first, Copies, calls_for};
 
@@ -67,6 +67,7 @@ impl SsaTables {
         ensures blocks { (b : ℕ) → sealed_of self.new b ≡ sealed_of self.old b }
         ensures predecessors { SamePredecessors self.old self.new }
         ensures known { OnOk result (block < length self.new.blocks) }
+        ensures no_more { KnowsNoMore self.old self.new (block + 1) }
         ensures only_memory { OnErr result (result ≡ Err BuildError.Memory) }
     {
         self.blocks.declare(block)
@@ -82,6 +83,7 @@ impl SsaTables {
         ensures err { OnErr result (SamePredecessors self.old self.new) }
         ensures records { self.new.records ≡ self.old.records }
         ensures blocks { SameBlocks self.old self.new }
+        ensures no_more { KnowsNoMore self.old self.new (block + 1) }
         ensures only_memory { OnErr result (result ≡ Err BuildError.Memory) }
     {
         self.blocks.declare_predecessor(block, branch)
@@ -93,6 +95,7 @@ impl SsaTables {
         ensures removed { Removes self.old self.new block branch }
         ensures records { self.new.records ≡ self.old.records }
         ensures blocks { SameBlocks self.old self.new }
+        ensures no_more { length self.new.blocks ≤ length self.old.blocks }
     {
         self.blocks.remove_predecessor(block, branch);
     }
@@ -191,6 +194,7 @@ impl SsaTables {
         ensures err { OnErr result (SameBlocks self.old self.new) }
         ensures records { self.new.records ≡ self.old.records }
         ensures predecessors { SamePredecessors self.old self.new }
+        ensures no_more { KnowsNoMore self.old self.new (block + 1) }
         ensures only_memory { OnErr result (result ≡ Err BuildError.Memory) }
     {
         self.blocks.wait(block, variable, param)
@@ -203,6 +207,7 @@ impl SsaTables {
         ensures err { OnErr result (SameBlocks self.old self.new) }
         ensures records { self.new.records ≡ self.old.records }
         ensures predecessors { SamePredecessors self.old self.new }
+        ensures no_more { KnowsNoMore self.old self.new (block + 1) }
         ensures only_memory { OnErr result (result ≡ Err BuildError.Memory) }
     {
         self.blocks.seal(block)
@@ -325,6 +330,7 @@ impl SsaTables {
         ensures begins { is_yes (sealed_of self.old block) ≡ true → OnOk result (SameBlocks self.old self.new × CountsLookup self.old self.new variable block × (look_up.new ≡ record look_up.old { calls = calls_for (predecessors_of self.old block) (length func.old.values) block ++ look_up.old.calls })) }
         ensures stay { RecordsStay self.old self.new }
         ensures flags { SealedStays self.old self.new }
+        ensures no_more { KnowsNoMore self.old self.new (length func.old.blocks) }
         ensures more { HasMore func.old func.new }
         ensures constructs { OnlyConstructs func.old func.new }
         ensures tells { OnOk result (TellsMore func.old func.new look_up.old.zeros look_up.new.zeros) }
@@ -358,6 +364,7 @@ impl SsaTables {
         ensures predecessors { SamePredecessors self.old self.new }
         ensures stay { RecordsStay self.old self.new }
         ensures flags { SealedStays self.old self.new }
+        ensures no_more { KnowsNoMore self.old self.new (length func.old.blocks) }
         ensures more { HasMore func.old func.new }
         ensures constructs { OnlyConstructs func.old func.new }
         ensures tells { OnOk result (TellsMore func.old func.new look_up.old.zeros look_up.new.zeros) }

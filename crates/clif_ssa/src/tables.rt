@@ -1,6 +1,6 @@
 //! Tables of the construction: the records of a variable, the branches that lead to a block, and the
 //! parameters that wait in it.
-ghost use Rattle.std.specs.Prelude.{◌≡◌, ◌==◌, ◌&&◌, ◌↔◌, IsTrue, false, ℕ, [], ◌∷◌, ◌++◌, ◌<◌, ◌^◌, length, OnOk, OnErr, IfOk, Some, None, if◌then◌else◌, slice_index_or};
+ghost use Rattle.std.specs.Prelude.{◌≡◌, ◌==◌, ◌&&◌, ◌↔◌, IsTrue, false, ℕ, [], ◌∷◌, ◌++◌, ◌<◌, ◌≤◌, ◌+◌, ◌⊎◌, ◌^◌, length, OnOk, OnErr, IfOk, Some, None, if◌then◌else◌, slice_index_or};
 ghost use Rattle.clif_ir.specs.Consistent.{Stands};
 ghost use Rattle.clif_ir.specs.Reading.{place_of, without};
 ghost use Rattle.clif_ssa.specs.Tables.{no_cell, cell_at, record_at, lookups_at, one_more, known_at, sealed_at, predecessors_at, is_yes, pending_of};
@@ -403,6 +403,7 @@ impl BlockTable {
     pub(crate) fn declare(&mut self, block: Block) -> Result<(), BuildError>
         ensures same { (b : ℕ) → known_at self.new b ≡ known_at self.old b }
         ensures ok { OnOk result (block < length self.new) }
+        ensures no_more { (length self.new ≤ length self.old) ⊎ (length self.new ≤ block + 1) }
         ensures only_memory { OnErr result (result ≡ Err BuildError.Memory) }
     {
         let alloc = *self.blocks.allocator();
@@ -427,6 +428,7 @@ impl BlockTable {
         ensures sealed { (b : ℕ) → sealed_at self.new b ≡ sealed_at self.old b }
         ensures ok { OnOk result ((b : ℕ) → predecessors_at self.new b ≡ (if b == block then predecessors_at self.old b ++ branch ∷ [] else predecessors_at self.old b)) }
         ensures err { OnErr result ((b : ℕ) → predecessors_at self.new b ≡ predecessors_at self.old b) }
+        ensures no_more { (length self.new ≤ length self.old) ⊎ (length self.new ≤ block + 1) }
         ensures only_memory { OnErr result (result ≡ Err BuildError.Memory) }
     {
         self.declare(block)?;
@@ -438,6 +440,7 @@ impl BlockTable {
         requires { Stands branch (predecessors_at self.old block) }
         ensures sealed { (b : ℕ) → sealed_at self.new b ≡ sealed_at self.old b }
         ensures ok { (b : ℕ) → predecessors_at self.new b ≡ (if b == block then without branch (predecessors_at self.old b) else predecessors_at self.old b) }
+        ensures no_more { length self.new ≤ length self.old }
     {
         if let Some(known) = self.blocks.get_mut(block.index()) {
             known.predecessors.remove(branch);
@@ -455,6 +458,7 @@ impl BlockTable {
         ensures ok { OnOk result ((b : ℕ) → sealed_at self.new b ≡ (if b == block then Sealed.No (pending_of (sealed_at self.old b) ++ record { variable = variable; param = param } ∷ []) else sealed_at self.old b)) }
         ensures err { OnErr result ((b : ℕ) → sealed_at self.new b ≡ sealed_at self.old b) }
         ensures predecessors { (b : ℕ) → predecessors_at self.new b ≡ predecessors_at self.old b }
+        ensures no_more { (length self.new ≤ length self.old) ⊎ (length self.new ≤ block + 1) }
         ensures only_memory { OnErr result (result ≡ Err BuildError.Memory) }
     {
         self.declare(block)?;
@@ -471,6 +475,7 @@ impl BlockTable {
         ensures known { OnOk result (block < length self.new) }
         ensures err { OnErr result ((b : ℕ) → sealed_at self.new b ≡ sealed_at self.old b) }
         ensures predecessors { (b : ℕ) → predecessors_at self.new b ≡ predecessors_at self.old b }
+        ensures no_more { (length self.new ≤ length self.old) ⊎ (length self.new ≤ block + 1) }
         ensures only_memory { OnErr result (result ≡ Err BuildError.Memory) }
     {
         self.declare(block)?;

@@ -5,7 +5,7 @@ use Rattle.clif_ssa.specs.Running.{stage}
 use Rattle.clif_ssa.proofs.CountedOnce.{once_same}
 use Rattle.clif_ssa.proofs.Naming.{more-then, has_more}
 use Rattle.clif_ssa.proofs.Constructing.{constructs_none, constructs_then, tells_more_none, tells_more_then}
-use Rattle.clif_ssa.proofs.Waited.{drop-item, all-further}
+use Rattle.clif_ssa.proofs.Waited.{no_more-self, no_more-then, drop-item, all-further}
 use Rattle.clif_ssa.proofs.ssa.SSABuilder.complete_all.Goals as goal
 
 pub complete_parameter-requires-clause-param_exists : goal.complete_parameter-requires-clause-param_exists
@@ -25,6 +25,7 @@ loop-pending-init c = record {
   stay = λ x b v is. is;
   flags = λ b. refl;
   more = has_more c.args.func.now;
+  no_more = no_more-self c.args.self.now (length c.args.func.now.blocks);
   constructs = constructs_none c.args.func.now;
   tells = tells_more_none c.args.func.now c.args.look_up.now.zeros;
   once = λ before. before;
@@ -49,6 +50,7 @@ loop-pending-preserved c =
           c.complete_parameter.ensures.looks_once (drop (c.loop-pending.pending-index + 1) c.args.waiting.now)
           (once_same c.loop-pending.self c.args.block (drop c.loop-pending.pending-index c.args.waiting.now) (c.pending-item.result ∷ drop (c.loop-pending.pending-index + 1) c.args.waiting.now)
           (drop-item c.args.waiting.now c.loop-pending.pending-index c.pending-item.result inside c.pending-item.is) (c.loop-pending.invariant.once before));
+      no_more = no_more-then c.args.self.now c.loop-pending.self c.complete_parameter.new.self (length c.args.func.now.blocks) (length c.loop-pending.func.blocks) c.loop-pending.invariant.more.blocks c.loop-pending.invariant.no_more c.complete_parameter.ensures.no_more;
       constructs = constructs_then c.args.func.now c.loop-pending.func c.complete_parameter.new.func c.loop-pending.invariant.constructs c.complete_parameter.ensures.constructs;
       tells =
           tells_more_then c.args.func.now c.loop-pending.func c.complete_parameter.new.func c.args.look_up.now.zeros c.loop-pending.look_up.zeros c.complete_parameter.new.look_up.zeros
@@ -71,6 +73,13 @@ pub returns-in_err-complete_parameter-clause-constructs :
     goal.returns-in_err-complete_parameter-clause-constructs
 returns-in_err-complete_parameter-clause-constructs c =
     constructs_then c.args.func.now c.loop-pending.func c.complete_parameter.new.func c.loop-pending.invariant.constructs c.complete_parameter.ensures.constructs
+
+pub returns-in_err-complete_parameter-clause-no_more : goal.returns-in_err-complete_parameter-clause-no_more
+returns-in_err-complete_parameter-clause-no_more c =
+    no_more-then c.args.self.now c.loop-pending.self c.complete_parameter.new.self (length c.args.func.now.blocks) (length c.loop-pending.func.blocks) c.loop-pending.invariant.more.blocks c.loop-pending.invariant.no_more c.complete_parameter.ensures.no_more
+
+pub returns-clause-no_more : goal.returns-clause-no_more
+returns-clause-no_more c = c.loop-pending.invariant.no_more
 
 pub returns-clause-constructs : goal.returns-clause-constructs
 returns-clause-constructs c = c.loop-pending.invariant.constructs

@@ -1,6 +1,6 @@
-use Rattle.std.proofs.Common.{◌≡◌, [], drop}
+use Rattle.std.proofs.Common.{◌≡◌, [], length, drop}
 use Rattle.clif_ssa.specs.Constructs.{OnlyConstructs, TellsMore}
-use Rattle.clif_ssa.specs.Ssa.{SamePredecessors, RecordsStay, SealedStays, HasMore, NamesExist}
+use Rattle.clif_ssa.specs.Ssa.{KnowsNoMore, SamePredecessors, RecordsStay, SealedStays, HasMore, NamesExist}
 use Rattle.clif_ssa.specs.LookUp.{Stage}
 use Rattle.clif_ssa.specs.Running.{stage, CompletesAll, ToComplete}
 use Rattle.clif_ssa.proofs.ssa.SSABuilder.complete_all.Given as goal
@@ -16,6 +16,7 @@ invariant-loop-pending l = record {
   flags : SealedStays l.initial.self l.self;
   more : HasMore l.initial.func l.func;
   once : ToComplete l.initial.self l.block l.waiting → ToComplete l.self l.block (drop l.pending-index l.waiting);
+  no_more : KnowsNoMore l.initial.self l.self (length l.initial.func.blocks);
   constructs : OnlyConstructs l.initial.func l.func;
   tells : TellsMore l.initial.func l.func l.initial.look_up.zeros l.look_up.zeros;
 }

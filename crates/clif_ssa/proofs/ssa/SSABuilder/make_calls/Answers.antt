@@ -1,4 +1,4 @@
-use Rattle.std.proofs.Common.{◌≡◌, ℕ, List, ◌∙◌, ap, sym, subst, refl}
+use Rattle.std.proofs.Common.{◌≡◌, ℕ, List, length, ◌∙◌, ap, sym, subst, refl}
 use Rattle.clif_ssa.specs.Constructs.{TellsMore}
 use Rattle.clif_ssa.specs.LookUp.{LookUpState, MakesCall}
 use Rattle.clif_ssa.specs.LookUp.MakesCalls.{none_made, made}
@@ -7,6 +7,7 @@ use Rattle.clif_ssa.proofs.Naming.{has_more, more-then}
 use Rattle.clif_ssa.proofs.Calling.{call-less, popped_is}
 use Rattle.clif_ssa.proofs.CountedOnce.{counts_self, counts_then}
 use Rattle.clif_ssa.proofs.Constructing.{constructs_none, constructs_then, tells_more_none, tells_more_then}
+use Rattle.clif_ssa.proofs.Waited.{no_more-self, no_more-then}
 use Rattle.clif_ssa.proofs.ssa.SSABuilder.make_calls.Goals as goal
 
 pub make_call-requires-clause-calls_fit : goal.make_call-requires-clause-calls_fit
@@ -24,6 +25,7 @@ loop-call-init c = record {
   flags = λ b. refl;
   more = has_more c.args.func.now;
   once = counts_self c.args.self.now;
+  no_more = no_more-self c.args.self.now (length c.args.func.now.blocks);
   constructs = constructs_none c.args.func.now;
   tells = tells_more_none c.args.func.now c.args.look_up.now.zeros;
 }
@@ -48,6 +50,7 @@ loop-call-preserved c =
       flags = λ b. c.make_call.ensures.flags b ∙ c.loop-call.invariant.flags b;
       more = more-then c.args.func.now c.loop-call.func c.make_call.new.func c.loop-call.invariant.more c.make_call.ensures.more;
       once = counts_then c.args.self.now c.loop-call.self c.make_call.new.self c.loop-call.invariant.once c.make_call.ensures.once;
+      no_more = no_more-then c.args.self.now c.loop-call.self c.make_call.new.self (length c.args.func.now.blocks) (length c.loop-call.func.blocks) c.loop-call.invariant.more.blocks c.loop-call.invariant.no_more c.make_call.ensures.no_more;
       constructs = constructs_then c.args.func.now c.loop-call.func c.make_call.new.func c.loop-call.invariant.constructs c.make_call.ensures.constructs;
       tells =
           tells_more_then c.args.func.now c.loop-call.func c.make_call.new.func c.args.look_up.now.zeros c.loop-call.look_up.zeros c.make_call.new.look_up.zeros
@@ -67,6 +70,13 @@ returns-clause-once c = c.loop-call.invariant.once
 pub returns-in_err-make_call-clause-constructs : goal.returns-in_err-make_call-clause-constructs
 returns-in_err-make_call-clause-constructs c =
     constructs_then c.args.func.now c.loop-call.func c.make_call.new.func c.loop-call.invariant.constructs c.make_call.ensures.constructs
+
+pub returns-in_err-make_call-clause-no_more : goal.returns-in_err-make_call-clause-no_more
+returns-in_err-make_call-clause-no_more c =
+    no_more-then c.args.self.now c.loop-call.self c.make_call.new.self (length c.args.func.now.blocks) (length c.loop-call.func.blocks) c.loop-call.invariant.more.blocks c.loop-call.invariant.no_more c.make_call.ensures.no_more
+
+pub returns-clause-no_more : goal.returns-clause-no_more
+returns-clause-no_more c = c.loop-call.invariant.no_more
 
 pub returns-clause-constructs : goal.returns-clause-constructs
 returns-clause-constructs c = c.loop-call.invariant.constructs

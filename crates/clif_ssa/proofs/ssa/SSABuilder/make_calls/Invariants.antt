@@ -1,5 +1,6 @@
+use Rattle.std.proofs.Common.{length}
 use Rattle.clif_ssa.specs.Constructs.{OnlyConstructs, TellsMore}
-use Rattle.clif_ssa.specs.Ssa.{SamePredecessors, RecordsStay, SealedStays, HasMore, NamesExist}
+use Rattle.clif_ssa.specs.Ssa.{KnowsNoMore, SamePredecessors, RecordsStay, SealedStays, HasMore, NamesExist}
 use Rattle.clif_ssa.specs.LookUp.{MakesCalls}
 use Rattle.clif_ssa.specs.Running.{stage, CallsFit, CountsOnce, work_of}
 use Rattle.clif_ssa.proofs.ssa.SSABuilder.make_calls.Given as goal
@@ -14,6 +15,7 @@ invariant-loop-call l = record {
   flags : SealedStays l.initial.self l.self;
   more : HasMore l.initial.func l.func;
   once : CountsOnce l.initial.self l.self;
+  no_more : KnowsNoMore l.initial.self l.self (length l.initial.func.blocks);
   constructs : OnlyConstructs l.initial.func l.func;
   tells : TellsMore l.initial.func l.func l.initial.look_up.zeros l.look_up.zeros;
 }

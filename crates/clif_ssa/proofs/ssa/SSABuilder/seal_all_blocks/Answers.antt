@@ -7,7 +7,7 @@ use Rattle.clif_ssa.proofs.Naming.{has_more, more-then}
 use Rattle.clif_ssa.proofs.Alongside.{seal_remembers, remembers_then}
 use Rattle.clif_ssa.proofs.Losing.{same_remembers}
 use Rattle.clif_ssa.proofs.Public.{seal_keeps, keeps_then, keeps_itself}
-use Rattle.clif_ssa.proofs.Waited.{named-kept, other-same, sealed-below, still-sealed}
+use Rattle.clif_ssa.proofs.Waited.{named-kept, no_more-sealed, other-same, sealed-below, still-sealed}
 use Rattle.clif_ssa.proofs.StructuredPublic.{seal_structured}
 use Rattle.clif_ssa.proofs.ssa.SSABuilder.seal_all_blocks.Goals as goal
 
@@ -29,6 +29,7 @@ loop-number-init c = record {
   same = λ b. refl;
   stay = λ x b v is. is;
   more = has_more c.args.func.now;
+  no_more = λ fits. fits;
   constructs = constructs_none c.args.func.now;
   tells = tells_more_none c.args.func.now c.new-side_effects.result.instructions_added_to_blocks.items;
   keeps = λ own tables both. keeps_itself own tables c.args.func.now c.args.self.now both;
@@ -63,6 +64,9 @@ loop-number-preserved c =
       same = λ b. c.seal_one_block.ensures.predecessors b ∙ c.loop-number.invariant.same b;
       stay = λ x b v is. c.seal_one_block.ensures.stay x b v (c.loop-number.invariant.stay x b v is);
       more = more-then c.args.func.now c.loop-number.func c.seal_one_block.new.func c.loop-number.invariant.more c.seal_one_block.ensures.more;
+      no_more = λ fits.
+          no_more-sealed c.loop-number.self c.seal_one_block.new.self (length c.args.func.now.blocks) (length c.loop-number.func.blocks) c.new-block.result (length c.args.self.now.blocks)
+          (omega (arith, number, inside)) fits c.loop-number.invariant.more.blocks (c.loop-number.invariant.no_more fits) c.seal_one_block.ensures.no_more;
       constructs = constructs_then c.args.func.now c.loop-number.func c.seal_one_block.new.func c.loop-number.invariant.constructs c.seal_one_block.ensures.constructs;
       tells =
           tells_more_then c.args.func.now c.loop-number.func c.seal_one_block.new.func _ _ _ c.seal_one_block.ensures.constructs c.loop-number.invariant.tells
@@ -105,6 +109,25 @@ returns-in_err-append-clause-others c = λ b above.
 
 pub returns-clause-others : goal.returns-clause-others
 returns-clause-others c = c.loop-number.invariant.others
+
+pub returns-in_err-told-clause-no_more : goal.returns-in_err-told-clause-no_more
+returns-in_err-told-clause-no_more c =
+    let number : c.new-block.result ≡ c.loop-number.number = first_of (search rules, grind (arith, common_steps)) in
+    let inside : c.loop-number.number < length c.args.self.now.blocks = first_of (search rules, grind (arith, common_steps)) in
+    λ fits.
+    no_more-sealed c.loop-number.self c.seal_one_block.new.self (length c.args.func.now.blocks) (length c.loop-number.func.blocks) c.new-block.result (length c.args.self.now.blocks)
+    (omega (arith, number, inside)) fits c.loop-number.invariant.more.blocks (c.loop-number.invariant.no_more fits) c.seal_one_block.ensures.no_more
+
+pub returns-in_err-append-clause-no_more : goal.returns-in_err-append-clause-no_more
+returns-in_err-append-clause-no_more c =
+    let number : c.new-block.result ≡ c.loop-number.number = first_of (search rules, grind (arith, common_steps)) in
+    let inside : c.loop-number.number < length c.args.self.now.blocks = first_of (search rules, grind (arith, common_steps)) in
+    λ fits.
+    no_more-sealed c.loop-number.self c.seal_one_block.new.self (length c.args.func.now.blocks) (length c.loop-number.func.blocks) c.new-block.result (length c.args.self.now.blocks)
+    (omega (arith, number, inside)) fits c.loop-number.invariant.more.blocks (c.loop-number.invariant.no_more fits) c.seal_one_block.ensures.no_more
+
+pub returns-clause-no_more : goal.returns-clause-no_more
+returns-clause-no_more c = c.loop-number.invariant.no_more
 
 pub returns-clause-sealed_stays : goal.returns-clause-sealed_stays
 returns-clause-sealed_stays c = c.loop-number.invariant.sealed_stays

@@ -24,6 +24,7 @@ invariant-loop-number l = record {
   stay : RecordsStay l.initial.self l.self;
   more : HasMore l.initial.func l.func;
   keeps : (own : Own) (tables : Blocks) → DescribesSoundly own l.initial.func l.initial.self tables → Keeps own tables l.func l.self;
+  no_more : length l.initial.self.blocks ≤ length l.initial.func.blocks → length l.self.blocks ≤ length l.initial.func.blocks;
   constructs : OnlyConstructs l.initial.func l.func;
   tells : TellsMore l.initial.func l.func l.initial.side_effects.instructions_added_to_blocks.items l.side_effects.instructions_added_to_blocks.items;
   remembers : (x b : ℕ) → Remembers x b l.initial.func l.initial.self l.func l.self;
