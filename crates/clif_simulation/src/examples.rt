@@ -1,9 +1,16 @@
 //! Worked examples of the definitions.
 
+ghost use Rattle.clif_simulation.specs.CarryingExamples.{CarryingExamples};
 ghost use Rattle.clif_simulation.specs.ReadingExamples.{ReadingExamples};
 
 /// The row `first`, half built, reads right on bits; with another constant, another record, or a parameter that doesn't
 /// wait, it doesn't.
 pub fn half_built_reads_right()
     ensures { ReadingExamples }
+{}
+
+/// The row `both_arms`, a loop with both arms of one branch, is carried and finished; with another constant, with
+/// swapped arms, or with one argument left out, it isn't carried.
+pub fn loop_is_carried()
+    ensures { CarryingExamples }
 {}
