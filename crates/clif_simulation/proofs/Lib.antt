@@ -50,4 +50,5 @@ mod LoopTables
 mod LoopProgram
 mod LoopDescribed
 mod LoopWrong
+mod LoopArgument
 mod LoopRow

@@ -55,7 +55,7 @@ each_edge_of_row P a b c d e (suc (suc (suc (suc (suc zero))))) (suc (suc k)) t 
 each_edge_of_row P a b c d e (suc (suc (suc (suc (suc (suc zero)))))) k t h = no_number t h
 each_edge_of_row P a b c d e (suc (suc (suc (suc (suc (suc (suc i))))))) k t h = no_number t h
 
-first_of_two : Contains {X = ℕ} (1 ∷ 5 ∷ []) 1
+pub first_of_two : Contains {X = ℕ} (1 ∷ 5 ∷ []) 1
 first_of_two = (0, omega arith, refl)
 
 second_of_two : Contains {X = ℕ} (1 ∷ 5 ∷ []) 5

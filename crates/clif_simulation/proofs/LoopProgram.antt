@@ -211,7 +211,7 @@ given_only =
 
 -- Assignments ---------------------------------------------------------------------------------------------------------------
 
-none_for : (x n : ℕ) → (if suc x == 0 then Some n else None) ≡ None
+pub none_for : (x n : ℕ) → (if suc x == 0 then Some n else None) ≡ None
 none_for x n = rw (later x) refl
   where
     later : (x : ℕ) → (suc x == 0) ≡ false

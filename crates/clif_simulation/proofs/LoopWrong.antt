@@ -15,7 +15,7 @@ use Rattle.clif_simulation.specs.Carries.{Carries, own_placed}
 use Rattle.clif_simulation.specs.Laws.{IsFinished}
 use Rattle.clif_simulation.specs.CarryingExamples.{loop_calls, loop_body, loop_body_with, loop_state, loop_state_with, edge_to, to_two_or_three, back_with_sum}
 
-head_of : {X : Type 0} (x y : X) (xs ys : List X) → x ∷ xs ≡ y ∷ ys → x ≡ y
+pub head_of : {X : Type 0} (x y : X) (xs ys : List X) → x ∷ xs ≡ y ∷ ys → x ≡ y
 head_of x y xs ys e = cc
 
 tail_of : {X : Type 0} (x y : X) (xs ys : List X) → x ∷ xs ≡ y ∷ ys → xs ≡ ys
@@ -25,6 +25,10 @@ tail_of x y xs ys e = cc
 from_first : {X Y : Type 0} (g : X → Y) (xs : List X) (y : Y) (ys : List Y) → map g xs ≡ y ∷ ys → (x : X) × (g x ≡ y)
 from_first g [] y ys e = absurd cc
 from_first g (x ∷ xs) y ys e = (x, head_of (g x) y (map g xs) ys e)
+
+pub from_second : {X Y : Type 0} (g : X → Y) (xs : List X) (a y : Y) (ys : List Y) → map g xs ≡ a ∷ y ∷ ys → (x : X) × (g x ≡ y)
+from_second g [] a y ys e = absurd cc
+from_second g (x ∷ xs) a y ys e = from_first g xs y ys (tail_of (g x) a (map g xs) (y ∷ ys) e)
 
 from_third : {X Y : Type 0} (g : X → Y) (xs : List X) (a b y : Y) (ys : List Y) → map g xs ≡ a ∷ b ∷ y ∷ ys → (x : X) × (g x ≡ y)
 from_third g [] a b y ys e = absurd cc
@@ -41,7 +45,7 @@ abbrev number_of_placed : Placed → ℕ
 number_of_placed placed = number_in placed.instruction.operation
 
 abbrev six_body : Body
-six_body = loop_body_with (pos 6) to_two_or_three back_with_sum
+six_body = loop_body_with (pos 6) 0 to_two_or_three back_with_sum
 
 pub other_constant : Carries loop_calls six_body loop_state → ⊥
 other_constant carries =
@@ -69,7 +73,7 @@ abbrev target_of_placed : Placed → ℕ
 target_of_placed placed = first_target placed.instruction.edges
 
 abbrev swapped_body : Body
-swapped_body = loop_body_with (pos 5) (edge_to 3 [] ∷ edge_to 2 [] ∷ []) back_with_sum
+swapped_body = loop_body_with (pos 5) 0 (edge_to 3 [] ∷ edge_to 2 [] ∷ []) back_with_sum
 
 pub swapped_arms : Carries loop_calls swapped_body loop_state → ⊥
 swapped_arms carries =
@@ -89,7 +93,7 @@ swapped_arms carries =
 -- The argument --------------------------------------------------------------------------------------------------------------
 
 abbrev one_body : Body
-one_body = loop_body_with (pos 5) to_two_or_three (edge_to 1 (Value 3 ∷ []) ∷ edge_to 1 [] ∷ [])
+one_body = loop_body_with (pos 5) 0 to_two_or_three (edge_to 1 (Value 3 ∷ []) ∷ edge_to 1 [] ∷ [])
 
 -- a branch by the sum, and how many arguments its edges pass
 abbrev first_operand : Operation → List ℕ → ℕ
@@ -99,10 +103,10 @@ first_operand _ _ = 0
 abbrev condition_of : Placed → ℕ
 condition_of placed = first_operand placed.instruction.operation placed.instruction.operands
 
-abbrev lengths_of : Placed → List ℕ
+abbrev pub lengths_of : Placed → List ℕ
 lengths_of placed = map (λ edge. length edge.arguments) placed.instruction.edges
 
-none_mapped : (args : List BlockArg) → length (map argument_of args) ≡ 0 → length args ≡ 0
+pub none_mapped : (args : List BlockArg) → length (map argument_of args) ≡ 0 → length args ≡ 0
 none_mapped [] e = refl
 none_mapped (a ∷ args) e = absurd cc
 

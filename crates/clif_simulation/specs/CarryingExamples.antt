@@ -58,7 +58,8 @@ loop_calls =
 abbrev pub edge_to : ℕ → List BlockArg → BlockCall
 edge_to target args = record { block = target; args = args }
 
--- the function, with `number` for the 5, these edges for the arms of block1, and these for the arms of block2:
+-- the function, with `number` for the 5, this value as the argument of block0's jump, these edges for the arms of
+-- block1, and these for the arms of block2:
 --     block0:
 --         v0 = iconst.i32 5
 --         jump block1(v0)
@@ -70,8 +71,8 @@ edge_to target args = record { block = target; args = args }
 --         brif v3, block1(v3), block1(v3)
 --     block3:
 --         return v1
-abbrev pub loop_body_with : ℤ → List BlockCall → List BlockCall → Body
-loop_body_with number first second = record {
+abbrev pub loop_body_with : ℤ → ℕ → List BlockCall → List BlockCall → Body
+loop_body_with number argument first second = record {
   name = Testcase (108 ∷ []);
   signature = both_arms_signature;
   values =
@@ -79,7 +80,7 @@ loop_body_with number first second = record {
       ∷ record { ty = i32; origin = Result 3 0 } ∷ record { ty = i32; origin = Result 4 0 } ∷ [];
   insts =
       record { shape = UnaryImm number; results = 0 ∷ []; block = 0; srcloc = 0 }
-      ∷ record { shape = Jump (edge_to 1 (Value 0 ∷ [])); results = []; block = 0; srcloc = 0 }
+      ∷ record { shape = Jump (edge_to 1 (Value argument ∷ [])); results = []; block = 0; srcloc = 0 }
       ∷ record { shape = Brif 1 first; results = []; block = 1; srcloc = 0 }
       ∷ record { shape = UnaryImm (negsuc 0); results = 2 ∷ []; block = 2; srcloc = 0 }
       ∷ record { shape = Binary binary.Iadd (1 ∷ 2 ∷ []); results = 3 ∷ []; block = 2; srcloc = 0 }
@@ -100,7 +101,7 @@ abbrev pub back_with_sum : List BlockCall
 back_with_sum = edge_to 1 (Value 3 ∷ []) ∷ edge_to 1 (Value 3 ∷ []) ∷ []
 
 abbrev pub loop_body : Body
-loop_body = loop_body_with (pos 5) to_two_or_three back_with_sum
+loop_body = loop_body_with (pos 5) 0 to_two_or_three back_with_sum
 
 -- the state of the construction, where block1 is in this state: which value the variable has at each block's end, and
 -- which branches lead to each block
@@ -134,9 +135,11 @@ pub record CarryingExamples : Type 0 where
   -- the function carries the calls, and is finished
   pub carried : Carries loop_calls loop_body loop_state
   pub finished : IsFinished loop_calls loop_body loop_state
+  -- with the parameter of block1 as the argument of block0's jump, it doesn't: that isn't there yet
+  pub other_argument : Carries loop_calls (loop_body_with (pos 5) 1 to_two_or_three back_with_sum) loop_state → ⊥
   -- with another constant, with swapped arms of block1, or with an argument on one arm of block2 alone, it carries others
-  pub other_constant : Carries loop_calls (loop_body_with (pos 6) to_two_or_three back_with_sum) loop_state → ⊥
-  pub swapped_arms : Carries loop_calls (loop_body_with (pos 5) (edge_to 3 [] ∷ edge_to 2 [] ∷ []) back_with_sum) loop_state → ⊥
-  pub one_argument : Carries loop_calls (loop_body_with (pos 5) to_two_or_three (edge_to 1 (Value 3 ∷ []) ∷ edge_to 1 [] ∷ [])) loop_state → ⊥
+  pub other_constant : Carries loop_calls (loop_body_with (pos 6) 0 to_two_or_three back_with_sum) loop_state → ⊥
+  pub swapped_arms : Carries loop_calls (loop_body_with (pos 5) 0 (edge_to 3 [] ∷ edge_to 2 [] ∷ []) back_with_sum) loop_state → ⊥
+  pub one_argument : Carries loop_calls (loop_body_with (pos 5) 0 to_two_or_three (edge_to 1 (Value 3 ∷ []) ∷ edge_to 1 [] ∷ [])) loop_state → ⊥
   -- while block1 is unsealed, nothing is finished
   pub unsealed : IsFinished loop_calls loop_body (loop_state_with (No [])) → ⊥

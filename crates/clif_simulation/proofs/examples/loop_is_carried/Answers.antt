@@ -1,4 +1,5 @@
 use Rattle.std.proofs.Common.{refl}
+use Rattle.clif_simulation.proofs.LoopArgument
 use Rattle.clif_simulation.proofs.LoopRow
 use Rattle.clif_simulation.proofs.LoopWrong
 use Rattle.clif_simulation.proofs.examples.loop_is_carried.Goals as goal
@@ -9,6 +10,7 @@ returns c = record {
   view = LoopRow.seen_alike;
   carried = LoopRow.row_carried;
   finished = LoopRow.row_finished;
+  other_argument = LoopArgument.refuted;
   other_constant = LoopWrong.other_constant;
   swapped_arms = LoopWrong.swapped_arms;
   one_argument = LoopWrong.one_argument;
