@@ -52,3 +52,4 @@ mod LoopDescribed
 mod LoopWrong
 mod LoopArgument
 mod LoopRow
+mod LoopConsistent

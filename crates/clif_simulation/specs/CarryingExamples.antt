@@ -8,6 +8,7 @@ use Rattle.clif_ir.specs.declared.instructions.BinaryOpcode.TheVariants as binar
 use Rattle.clif_ir.specs.declared.instructions.InstructionData.TheVariants.{UnaryImm, Binary, Jump, Brif, MultiAry}
 use Rattle.clif_ir.specs.declared.function.ValueOrigin.TheVariants.{Result, Param}
 use Rattle.clif_ir.specs.Body.{Body}
+use Rattle.clif_ir.specs.Consistent.{IsConsistent}
 use Rattle.clif_ssa.specs.declared.tables.Sealed.{Sealed}
 use Rattle.clif_ssa.specs.declared.tables.Sealed.TheVariants.{No, Yes}
 use Rattle.clif_ssa.specs.Ssa.{SsaState}
@@ -132,7 +133,8 @@ pub record CarryingExamples : Type 0 where
   -- these are the calls and the function of the row
   pub script : script_of loop_calls ≡ both_arms_script
   pub view : SeenAlike loop_body both_arms_function
-  -- the function carries the calls, and is finished
+  -- the function is consistent, carries the calls, and is finished: the premises of `CarryingMeansTheSame` hold together
+  pub consistent : IsConsistent loop_body
   pub carried : Carries loop_calls loop_body loop_state
   pub finished : IsFinished loop_calls loop_body loop_state
   -- with the parameter of block1 as the argument of block0's jump, it doesn't: that isn't there yet

@@ -9,8 +9,9 @@ pub fn half_built_reads_right()
     ensures { ReadingExamples }
 {}
 
-/// The row `both_arms`, a loop with both arms of one branch, is carried and finished; with another argument or constant,
-/// with swapped arms, or with one argument left out, it isn't carried.
+/// The row `both_arms`, a loop with both arms of one branch, is consistent, carried and finished; with another argument
+/// or constant, with swapped arms, or with one argument left out, it isn't carried, and with an unsealed block it isn't
+/// finished.
 pub fn loop_is_carried()
     ensures { CarryingExamples }
 {}
