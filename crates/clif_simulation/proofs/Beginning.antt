@@ -23,7 +23,7 @@ some_none : {X : Type 0} (x : X) → None ≡ Some x → ⊥
 some_none x h = cc
 
 -- an item leaves the current block
-current-item : (program : Program) (o : Option Name) (item : Item) → (with_item_at program o item).current ≡ program.current
+pub current-item : (program : Program) (o : Option Name) (item : Item) → (with_item_at program o item).current ≡ program.current
 current-item program None item = refl
 current-item program (Some block) item = refl
 

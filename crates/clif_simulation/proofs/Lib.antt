@@ -45,3 +45,11 @@ pub mod Beginning
 pub mod Placing
 pub mod Structured
 pub mod Recorded
+-- The row `both_arms` is carried.
+mod LoopTables
+mod LoopProgram
+mod LoopDescribed
+mod LoopWrong
+mod LoopArgument
+mod LoopRow
+mod LoopConsistent

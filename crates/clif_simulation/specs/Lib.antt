@@ -3,4 +3,5 @@ pub mod Carries
 pub mod Reading
 pub mod ReadingExamples
 pub mod Laws
+pub mod CarryingExamples
 pub mod Structure

@@ -1,9 +1,17 @@
 //! Worked examples of the definitions.
 
+ghost use Rattle.clif_simulation.specs.CarryingExamples.{CarryingExamples};
 ghost use Rattle.clif_simulation.specs.ReadingExamples.{ReadingExamples};
 
 /// The row `first`, half built, reads right on bits; with another constant, another record, or a parameter that doesn't
 /// wait, it doesn't.
 pub fn half_built_reads_right()
     ensures { ReadingExamples }
+{}
+
+/// The row `both_arms`, a loop with both arms of one branch, is consistent, carried and finished; with another argument
+/// or constant, with swapped arms, or with one argument left out, it isn't carried, and with an unsealed block it isn't
+/// finished.
+pub fn loop_is_carried()
+    ensures { CarryingExamples }
 {}
