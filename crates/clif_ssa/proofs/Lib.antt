@@ -57,3 +57,6 @@ pub mod StructuredFinish
 pub mod StructuredLaws
 pub mod StructuredUses
 pub mod StructuredPublic
+pub mod Grown
+pub mod Within
+pub mod WithinUses

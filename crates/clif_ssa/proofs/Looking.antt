@@ -173,7 +173,7 @@ chain_program x v (b ∷ chain) tables =
     record { count = rest.count; assigned = rest.assigned; naming = rest.naming; answer = rest.answer }
 
 -- the single predecessor's branch
-single_stands : (f : Body) (s : SsaState) (block next : ℕ) → single_predecessor f s block ≡ Some next → (i : ℕ) × Contains (predecessors_of s block) i × (branch_block f i ≡ next)
+pub single_stands : (f : Body) (s : SsaState) (block next : ℕ) → single_predecessor f s block ≡ Some next → (i : ℕ) × Contains (predecessors_of s block) i × (branch_block f i ≡ next)
 single_stands f s block next is = by (is_yes (sealed_of s block)) is
   where
     clash : ◌≡◌ {A = Option ℕ} None (Some next) → ⊥

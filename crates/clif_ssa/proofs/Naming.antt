@@ -58,7 +58,7 @@ param-named f g s t x b ty is recorded same blocks named =
     (λ c p here. inl (subst (λ entry. Contains (pending_of entry) p) (blocks c) here))
     named)
 
-contains_last : (ps : List Pending) (q p : Pending) → Contains (ps ++ q ∷ []) p → Contains ps p ⊎ (q ≡ p)
+pub contains_last : (ps : List Pending) (q p : Pending) → Contains (ps ++ q ∷ []) p → Contains ps p ⊎ (q ≡ p)
 contains_last [] q p (zero, inside, at) = inr at
 contains_last [] q p (suc k, inside, at) = absurd (omega (arith, inside))
 contains_last (r ∷ ps) q p (zero, inside, at) = inl (0, omega arith, at)

@@ -14,7 +14,7 @@ use Rattle.clif_ssa.specs.Sound.{InOrder, parameters_of, is_parameter_of, is_som
 pub same_number : (a b : ℕ) → a ≡ b → (a == b) ≡ true
 same_number a b same = grind (arith, common_steps, same)
 
-other_number : (a b : ℕ) → a ≢ b → (a == b) ≡ false
+pub other_number : (a b : ℕ) → a ≢ b → (a == b) ≡ false
 other_number a b other = grind (arith, common_steps, other)
 
 true_false : true ≡ false → ⊥

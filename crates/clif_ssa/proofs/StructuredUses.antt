@@ -142,7 +142,7 @@ waiting_home own f s ps b housed has q here =
     let at : slice_index (block_at f b).params among.0 ≡ q.param = entry_any (block_at f b).params among.0 0 q.param among.1 ∙ among.2 in
     housed.known q.param b (among.0, among.1, at)
 
-pending_waits : (f : Body) (entry : Sealed) (ps : List Pending) (b : ℕ) (q : Pending) → Contains (pending_of entry) q → Contains (waiting_of f entry ps b) q
+pub pending_waits : (f : Body) (entry : Sealed) (ps : List Pending) (b : ℕ) (q : Pending) → Contains (pending_of entry) q → Contains (waiting_of f entry ps b) q
 pending_waits f (No pending) ps b q here = here
 pending_waits f Yes ps b q here = absurd (none_contained q here)
 

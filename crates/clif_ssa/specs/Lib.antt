@@ -12,3 +12,4 @@ pub mod Sound
 pub mod SoundLaws
 pub mod Structure
 pub mod Structured
+pub mod Within

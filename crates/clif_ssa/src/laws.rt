@@ -4,6 +4,7 @@
 ghost use Rattle.clif_ssa.specs.SoundLaws.{FirstDescribes, SameStateKeeps, InsertionKeeps, NewBlockKeeps, ReadItemKeeps, WriteHereKeeps, WriteItemKeeps, OwnInstructionKeeps, OwnResultKeeps, WaitingUseKeeps, ZeroUseKeeps, SealingKeeps, PredecessorDeclared, PredecessorRemoved, NewNameStays};
 ghost use Rattle.clif_ssa.specs.Structure.{UsesAgree};
 ghost use Rattle.clif_ssa.specs.Structured.{FirstStructured, NewBlockStructured, InsertionStructured, InstructionStructured, ParameterStructured};
+ghost use Rattle.clif_ssa.specs.Within.{WaitingHeld};
 
 /// The first tables describe a function without blocks, of which nothing is known.
 pub fn first_describes()
@@ -108,4 +109,9 @@ pub fn instruction_structured()
 /// A parameter of the caller's leaves the structure, in a block that has no parameter of a variable so far.
 pub fn parameter_structured()
     ensures { ParameterStructured }
+{}
+
+/// A set holds what waits in a block as soon as it holds the block, where anything waits.
+pub fn waiting_held()
+    ensures { WaitingHeld }
 {}

@@ -9,6 +9,7 @@ use Rattle.clif_ssa.proofs.Losing.{same_remembers}
 use Rattle.clif_ssa.proofs.Public.{seal_keeps, keeps_then, keeps_itself}
 use Rattle.clif_ssa.proofs.Waited.{named-kept, no_more-sealed, other-same, sealed-below, still-sealed}
 use Rattle.clif_ssa.proofs.StructuredPublic.{seal_structured}
+use Rattle.clif_ssa.proofs.WithinUses.{leads_of, seals_within}
 use Rattle.clif_ssa.proofs.ssa.SSABuilder.seal_all_blocks.Goals as goal
 
 pub returns-in_err-told-clause-stay : goal.returns-in_err-told-clause-stay
@@ -154,3 +155,8 @@ returns-clause-constructs c = c.loop-number.invariant.constructs
 
 pub returns-clause-tells : goal.returns-clause-tells
 returns-clause-tells c = tells_all c.args.func.now c.loop-number.func _ _ c.new-side_effects.ensures c.loop-number.invariant.tells
+
+pub returns-clause-within : goal.returns-clause-within
+returns-clause-within c = λ holds branches waiting.
+    seals_within holds c.args.func.now c.loop-number.func c.args.self.now c.loop-number.self _ _ (leads_of holds c.args.func.now c.args.self.now c.requires.named branches) waiting
+    c.loop-number.invariant.in_turn

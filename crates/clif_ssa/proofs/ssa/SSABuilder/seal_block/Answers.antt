@@ -1,6 +1,7 @@
 use Rattle.clif_ssa.proofs.Alongside.{seal_remembers, seal_leaves, seal_loses}
 use Rattle.clif_ssa.proofs.Public.{seal_keeps}
 use Rattle.clif_ssa.proofs.StructuredPublic.{seal_structured}
+use Rattle.clif_ssa.proofs.WithinUses.{leads_of, seal_within}
 use Rattle.clif_ssa.proofs.ssa.SSABuilder.seal_block.Goals as goal
 
 pub returns-clause-keeps : goal.returns-clause-keeps
@@ -27,3 +28,9 @@ pub returns-clause-structured : goal.returns-clause-structured
 returns-clause-structured c = λ types own before.
     seal_structured types own c.args.func.now c.seal_one_block-told.new.func c.args.self.now c.seal_one_block-told.new.self c.args.block c.seal_one_block-told.result
     c.law_consistent.ensures before c.seal_one_block-told.ensures.predecessors c.seal_one_block-told.ensures.local c.seal_one_block-told.ensures.completes
+
+pub returns-clause-within : goal.returns-clause-within
+returns-clause-within c = λ holds branches waiting.
+    seal_within holds c.args.func.now c.seal_one_block-told.new.func c.args.self.now c.seal_one_block-told.new.self c.args.block c.seal_one_block-told.result
+    (leads_of holds c.args.func.now c.args.self.now c.requires.named branches) waiting
+    c.seal_one_block-told.ensures.predecessors c.seal_one_block-told.ensures.local c.seal_one_block-told.ensures.completes

@@ -1,4 +1,5 @@
-use Rattle.std.proofs.Common.{rules, ◌≡◌, ◌≢◌, Some, None, true, [], refl, sym, subst}
+use Rattle.std.proofs.Common.{rules, ◌≡◌, ◌≢◌, Some, None, true, [], refl, sym, subst, arith}
+use Rattle.std.proofs.lemmas.Grind.{common_steps}
 use Rattle.clif_ssa.specs.Tables.{is_yes}
 use Rattle.clif_ssa.specs.Ssa.{record_of, sealed_of, predecessors_of}
 use Rattle.clif_ssa.specs.Running.{stage}
@@ -12,6 +13,7 @@ use Rattle.clif_ssa.proofs.Losing.{same_remembers}
 use Rattle.clif_ssa.proofs.Using.{on_ok}
 use Rattle.clif_ssa.proofs.Public.{something_leads, popped_nothing, known_use, local_use, machine_use}
 use Rattle.clif_ssa.proofs.StructuredPublic.{local_structured, machine_structured}
+use Rattle.clif_ssa.proofs.WithinUses.{leads_of, same_within, local_within, machine_within}
 use Rattle.clif_ssa.proofs.ssa.SSABuilder.use_var.Goals as goal
 
 pub returns-in-Some-clause-keeps : goal.returns-in-Some-clause-keeps
@@ -152,3 +154,20 @@ returns-clause-structured c = λ types own same before.
     machine_structured types own c.args.func.now c.look_up_in.new.func c.make_calls.new.func c.args.self.now c.look_up_in.new.self c.make_calls.new.self
     c.args.variable c.args.ty c.args.block _ c.look_up_in.new.look_up c.make_calls.new.look_up c.in_ok-value.value c.new-look_up.ensures
     c.law_consistent.ensures same before c.in_ok-look_up_in.ensures.looks c.in_ok-value.ensures.made
+
+-- WHERE ZEROS COME ------------------------------------------------------------------------------------------------
+
+pub returns-in-Some-clause-within : goal.returns-in-Some-clause-within
+returns-in-Some-clause-within c = λ holds branches held. same_within holds c.args.func.now _ (first_of (search rules, grind (arith, common_steps)))
+
+pub returns-then-is_local-clause-within : goal.returns-then-is_local-clause-within
+returns-then-is_local-clause-within c = λ holds branches held.
+    local_within holds c.args.func.now c.use_locally.new.func c.args.self.now c.use_locally.new.self c.args.variable c.args.ty c.args.block c.use_locally.result
+    held c.use_locally.ensures.waits c.use_locally.ensures.zero
+
+pub returns-clause-within : goal.returns-clause-within
+returns-clause-within c = λ holds branches held.
+    let told : c.into_zeros-instructions_added_to_blocks.result.items ≡ c.make_calls.new.look_up.zeros = first_of (search rules, grind (arith, common_steps)) in
+    machine_within holds c.args.func.now c.look_up_in.new.func c.make_calls.new.func c.args.self.now c.look_up_in.new.self c.make_calls.new.self
+    c.args.variable c.args.ty c.args.block _ c.look_up_in.new.look_up c.make_calls.new.look_up c.in_ok-value.value _ c.new-look_up.ensures
+    (leads_of holds c.args.func.now c.args.self.now c.requires.named branches) held c.in_ok-look_up_in.ensures.looks c.in_ok-value.ensures.made told
