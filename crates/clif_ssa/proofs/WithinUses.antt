@@ -34,7 +34,7 @@ pub leads_of : (holds : ℕ → Bool) (f : Body) (s : SsaState) → Named f s �
 leads_of holds f s named branches b i here = ((named (b, i, here)).leading b i here, branches b i here)
 
 stays_within : (holds : ℕ → Bool) (f g : Body) (told : List ℕ) → Grown holds f g → AllHeld holds told → StaysWithin holds f g told
-stays_within holds f g told grown zeros = record { zeros = zeros; layout = grown.layout }
+stays_within holds f g told grown zeros = record { zeros = zeros; parameters = grown.homes; layout = grown.layout }
 
 pub same_within : (holds : ℕ → Bool) (f : Body) (told : List ℕ) → told ≡ [] → StaysWithin holds f f told
 same_within holds f told none = stays_within holds f f told (grown_none holds f) (subst (AllHeld holds) (sym none) tt)

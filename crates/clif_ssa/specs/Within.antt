@@ -21,9 +21,10 @@ abbrev pub HoldsWaiting : Body → SsaState → (ℕ → Bool) → ℕ → Type 
 HoldsWaiting f s holds b =
     (p : Pending) (home : ℕ) → Contains (pending_of (sealed_of s b)) p → param_home f p.param ≡ Some home → holds home ≡ true
 
--- The zeros that are told come into blocks of the set, and no other block enters the layout.
+-- The zeros that are told come into blocks of the set, and no other block gets a parameter or enters the layout.
 pub record StaysWithin (holds : ℕ → Bool) (f g : Body) (told : List ℕ) : Type 0 where
   pub zeros : AllByRecursion (λ b. holds b ≡ true) told
+  pub parameters : (v b : ℕ) → param_home g v ≡ Some b → (param_home f v ≡ Some b) ⊎ (holds b ≡ true)
   pub layout : (b : ℕ) → stands_in b g.layout ≡ true → (stands_in b f.layout ≡ true) ⊎ (holds b ≡ true)
 
 -- LAW -------------------------------------------------------------------------------------------------------------
