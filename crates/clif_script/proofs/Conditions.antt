@@ -31,7 +31,7 @@ use Rattle.clif_ssa.specs.Tables.{is_yes}
 use Rattle.clif_ssa.specs.Ssa.{no_srcloc, sealed_of}
 use Rattle.cranelift_frontend.specs.declared.context.BlockStatus.{BlockStatus}
 use Rattle.cranelift_frontend.specs.declared.context.BlockStatus.TheVariants.{Empty, Partial, Filled}
-use Rattle.cranelift_frontend.specs.declared.frontend.FunctionBuilder.{FunctionBuilder}
+use Rattle.cranelift_frontend.specs.declared.builder.FunctionBuilder.{FunctionBuilder}
 use Rattle.cranelift_frontend.specs.Context.{status_of}
 use Rattle.cranelift_frontend.specs.Builder.{AppendsValue, HasCurrent, is_declarable, is_elsewhere, is_empty_status, is_filled_status, is_free, is_free_at, may_be_left}
 use Rattle.cranelift_frontend.specs.Ledger.{BlockAgrees, block_name, ledger_of}

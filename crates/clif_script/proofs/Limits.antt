@@ -18,7 +18,7 @@ use Rattle.clif_ssa.specs.Tables.{is_yes}
 use Rattle.clif_ssa.specs.Ssa.{no_srcloc, record_of, sealed_of, with_zero, zeroed, zeroed_in, completed}
 use Rattle.clif_ssa.specs.Limits.{IsFull, Takes}
 use Rattle.clif_ssa.proofs.Taking.{Takes-same, Takes-then, Takes-inserted, Takes-with_inst, Takes-completed}
-use Rattle.cranelift_frontend.specs.declared.frontend.FunctionBuilder.{FunctionBuilder}
+use Rattle.cranelift_frontend.specs.declared.builder.FunctionBuilder.{FunctionBuilder}
 use Rattle.cranelift_frontend.specs.Builder.{Appends, HasCurrent, Uses, UsesIn, with_appended}
 use Rattle.cranelift_frontend.specs.Context.{ContextState}
 use Rattle.cranelift_frontend.specs.Growth.{Grows}

@@ -3,7 +3,7 @@ use Rattle.std.specs.Prelude.{◌≡◌, ◌≤◌, ◌⊎◌, ◌+◌, ◌*◌,
 use Rattle.clif_ir.specs.Body.{Body}
 use Rattle.clif_ssa.specs.Limits.{Takes, insts_taken, values_taken}
 use Rattle.cranelift_frontend.specs.Context.{ContextState}
-use Rattle.cranelift_frontend.specs.declared.frontend.FunctionBuilder.{FunctionBuilder}
+use Rattle.cranelift_frontend.specs.declared.builder.FunctionBuilder.{FunctionBuilder}
 
 -- one call takes two values, an instruction, a block and a variable at most, and keeps the function's name
 pub record IsOneCall (old new : FunctionBuilder) : Type 0 where

@@ -7,7 +7,7 @@ use Rattle.clif_ir.specs.declared.block_call.BlockArg.{BlockArg}
 use Rattle.clif_ir.specs.Body.{Body, inst_at, value_at, block_at}
 use Rattle.clif_ir.specs.Reading.{stands_in}
 use Rattle.clif_ssa.specs.Own.{Own}
-use Rattle.clif_ssa.specs.Ssa.{SsaState, predecessors_of}
+use Rattle.clif_ssa.specs.Ssa.{SsaState, predecessors_of, Declares, SameBlocks, SamePredecessors, SameRecords}
 use Rattle.clif_ssa.specs.Sound.{Describes, CountsArguments, entry_of, args_of, edges_at, edge_target}
 use Rattle.clif_ssa.specs.Structure.{NothingStray}
 use Rattle.clif_paths.specs.Places.{start}
@@ -159,6 +159,12 @@ pub record Carries (calls : List AnsweredCall) (f : Body) (s : SsaState) : Type 
   pub counts : CountsArguments own f s tables
   -- so far nothing is said of what a function with branches has that isn't needed
   pub nothing_stray : NothingLeads s → NothingStray own.insts f s
+
+-- one instruction is declared at each of these blocks in turn, once for each, and nothing else changes
+abbrev pub DeclaredAlong : SsaState → ℕ → List ℕ → SsaState → Type 0
+DeclaredAlong s inst [] t = SameRecords s t × SameBlocks s t × SamePredecessors s t
+DeclaredAlong s inst (block ∷ blocks) t =
+    (between : SsaState) × SameRecords s between × SameBlocks s between × Declares s between block inst × DeclaredAlong between inst blocks t
 
 -- A function that goes on: its signature and its instructions stay, and its values keep their types.
 pub record GoesOn (f g : Body) : Type 0 where

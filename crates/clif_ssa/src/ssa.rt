@@ -1,5 +1,5 @@
 //! The builder of SSA form.
-ghost use Rattle.std.specs.Prelude.{◌≡◌, ◌≢◌, ◌<◌, ◌≤◌, ◌==◌, ◌↔◌, ◌++◌, ◌⊎◌, List, [], ◌∷◌, ℕ, Bool, IsTrue, Some, None, true, false, length, OnOk, OnErr, IfOk, IfSome, Contains, ◌+◌, slice_get};
+ghost use Rattle.std.specs.Prelude.{◌≡◌, ◌≢◌, ◌<◌, ◌≤◌, ◌==◌, ◌↔◌, ◌++◌, ◌⊎◌, List, [], ◌∷◌, ℕ, Bool, IsTrue, Some, None, true, false, length, OnOk, OnErr, IfOk, IfSome, Contains, ◌+◌, ◌-◌, slice_get};
 ghost use Rattle.clif_ir.specs.Body.{Body, block_at, value_at};
 ghost use Rattle.clif_ir.specs.Consistent.{Stands};
 ghost use Rattle.clif_ssa.specs.Constructs.{OnlyConstructs, TellsMore, TellsZeros};
@@ -132,6 +132,19 @@ impl SSABuilder {
         ensures { IsTrue result ↔ (predecessors_of self.now block ≢ []) }
     {
         self.tables.has_any_predecessors(block)
+    }
+
+    /// Whether this branch is the one that was declared last at a block.
+    ///
+    /// A new branch with several edges to one block is declared there once, and so is known by this at each
+    /// of its later edges.
+    pub fn is_last_predecessor(&self, block: Block, inst: Inst) -> bool
+        ensures { IsTrue result ↔ (slice_get (predecessors_of self.now block) (length (predecessors_of self.now block) - 1) ≡ Some inst) }
+    {
+        match self.tables.predecessors(block).last() {
+            Some(last) => *last == inst,
+            None => false,
+        }
     }
 
     /// How many look-ups of a variable in the predecessors of a block began.

@@ -34,7 +34,7 @@ use Rattle.cranelift_frontend.specs.declared.error.FinalizeError.{FinalizeError}
 use Rattle.cranelift_frontend.specs.declared.error.FinalizeError.TheVariants.{Unsealed, Unfilled, Failed}
 use Rattle.cranelift_frontend.specs.declared.context.BlockStatus.{BlockStatus}
 use Rattle.cranelift_frontend.specs.declared.context.BlockStatus.TheVariants.{Empty, Partial, Filled}
-use Rattle.cranelift_frontend.specs.declared.frontend.FunctionBuilder.{FunctionBuilder}
+use Rattle.cranelift_frontend.specs.declared.builder.FunctionBuilder.{FunctionBuilder}
 use Rattle.cranelift_frontend.specs.Context.{ContextState, status_of}
 use Rattle.cranelift_frontend.specs.Builder.{answer_of, block_fault, first_fault, or_else, verdict_of, is_empty_status, is_filled_status}
 use Rattle.cranelift_frontend.specs.Ledger.{ledger_of, block_name}

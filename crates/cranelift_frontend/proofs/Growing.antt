@@ -21,7 +21,7 @@ use Rattle.clif_ssa.specs.Ssa.{SsaState, no_srcloc, no_state, record_of, sealed_
 use Rattle.cranelift_frontend.specs.declared.context.BlockStatus.{BlockStatus}
 use Rattle.cranelift_frontend.specs.declared.context.BlockStatus.TheVariants.{Empty, Partial, Filled}
 use Rattle.cranelift_frontend.specs.Context.{ContextState, begun, status_of, SetsStatus, Begins}
-use Rattle.cranelift_frontend.specs.declared.frontend.FunctionBuilder.{FunctionBuilder}
+use Rattle.cranelift_frontend.specs.declared.builder.FunctionBuilder.{FunctionBuilder}
 use Rattle.cranelift_frontend.specs.Builder.{Appends, AppendsIn, AppendsValue, HasCurrent, UsesIn, status_after, with_appended}
 use Rattle.cranelift_frontend.specs.Growth.{Grows, RecordsExist}
 

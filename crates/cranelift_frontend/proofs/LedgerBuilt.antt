@@ -22,7 +22,7 @@ use Rattle.clif_ssa.specs.Tables.{is_yes}
 use Rattle.clif_ssa.specs.Ssa.{SsaState, no_srcloc, record_of, sealed_of}
 use Rattle.cranelift_frontend.specs.declared.context.BlockStatus.{BlockStatus}
 use Rattle.cranelift_frontend.specs.declared.context.BlockStatus.TheVariants.{Filled}
-use Rattle.cranelift_frontend.specs.declared.frontend.FunctionBuilder.{FunctionBuilder}
+use Rattle.cranelift_frontend.specs.declared.builder.FunctionBuilder.{FunctionBuilder}
 use Rattle.cranelift_frontend.specs.Context.{ContextState, status_of, begun, SetsStatus}
 use Rattle.cranelift_frontend.specs.Builder.{Appends, AppendsValue, HasCurrent}
 use Rattle.cranelift_frontend.specs.Ledger.{LedgerAgrees, AgreesWithLedger, NamesValue, block_name, value_type, ledger_of}

@@ -15,7 +15,7 @@ use Rattle.cranelift_frontend.specs.declared.context.BlockStatus.{BlockStatus}
 use Rattle.cranelift_frontend.specs.declared.context.BlockStatus.TheVariants.{Empty, Partial, Filled}
 use Rattle.cranelift_frontend.specs.declared.error.FinalizeError.{FinalizeError}
 use Rattle.cranelift_frontend.specs.declared.error.FinalizeError.TheVariants as error
-use Rattle.cranelift_frontend.specs.declared.frontend.FunctionBuilder.{FunctionBuilder}
+use Rattle.cranelift_frontend.specs.declared.builder.FunctionBuilder.{FunctionBuilder}
 use Rattle.cranelift_frontend.specs.Context.{ContextState, empty_context, status_of}
 use Rattle.cranelift_frontend.specs.Builder.{answer_of, block_fault, first_fault, is_empty_status, is_filled_status, or_else, verdict_of}
 use Rattle.cranelift_frontend.specs.Ledger.{AgreesWithLedger, BlockAgrees, LedgerAgrees, RefusalAgrees, ledger_of}

@@ -9,6 +9,7 @@ pub mod LedgerBuilt
 pub mod LedgerBlocks
 pub mod LedgerVariables
 pub mod LedgerEnds
+mod Declaring
 pub mod Growing
 pub mod Standing
 pub mod StandingResults

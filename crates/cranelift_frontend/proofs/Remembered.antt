@@ -22,7 +22,7 @@ use Rattle.clif_ssa.proofs.Completing.{inserted_firm, inserted_same}
 use Rattle.clif_ssa.proofs.Alike.{alike_same, alike_then, inserted_resolved, zeroed_leaves}
 use Rattle.clif_ssa.proofs.Losing.{records_stay, seal_alike, zeroes_resolved}
 use Rattle.cranelift_frontend.specs.Context.{ContextState}
-use Rattle.cranelift_frontend.specs.declared.frontend.FunctionBuilder.{FunctionBuilder}
+use Rattle.cranelift_frontend.specs.declared.builder.FunctionBuilder.{FunctionBuilder}
 use Rattle.cranelift_frontend.specs.Builder.{UsesIn, AppendsIn, AppendsValue, HasCurrent}
 use Rattle.cranelift_frontend.specs.Growth.{AreCalls, HasRecordIn, RemembersIn, last_builder}
 

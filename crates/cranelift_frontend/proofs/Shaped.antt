@@ -21,7 +21,7 @@ use Rattle.clif_meaning.specs.Request.{AnsweredCall, Build}
 use Rattle.clif_meaning.specs.View.{controlling_of, edge_of, first_type, operation_of}
 use Rattle.clif_simulation.proofs.Building.{SameInstruction, carries_terminator, carries_result}
 use Rattle.cranelift_frontend.specs.declared.context.BlockStatus.TheVariants.{Empty, Filled}
-use Rattle.cranelift_frontend.specs.declared.frontend.FunctionBuilder.{FunctionBuilder}
+use Rattle.cranelift_frontend.specs.declared.builder.FunctionBuilder.{FunctionBuilder}
 use Rattle.cranelift_frontend.specs.Context.{SetsStatus, status_of, begun}
 use Rattle.cranelift_frontend.specs.Builder.{HasCurrent, Appends}
 use Rattle.cranelift_frontend.specs.Ledger.{LedgerAgrees, AgreesWithLedger, HasShape, ledger_of, made_at}

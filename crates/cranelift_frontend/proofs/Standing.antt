@@ -39,7 +39,7 @@ use Rattle.cranelift_frontend.specs.declared.context.BlockStatus.{BlockStatus}
 use Rattle.cranelift_frontend.specs.declared.context.BlockStatus.TheVariants.{Empty, Partial, Filled}
 use Rattle.cranelift_frontend.specs.Context.{ContextState, empty_context, status_of, begun, Begins, SetsStatus}
 use Rattle.cranelift_frontend.specs.Builder.{UsesIn, HasCurrent}
-use Rattle.cranelift_frontend.specs.declared.frontend.FunctionBuilder.{FunctionBuilder}
+use Rattle.cranelift_frontend.specs.declared.builder.FunctionBuilder.{FunctionBuilder}
 use Rattle.cranelift_frontend.specs.Ledger.{LedgerAgrees, NamesValue, ledger_of, block_name}
 use Rattle.cranelift_frontend.specs.StandsFor.{StandsIn}
 use Rattle.cranelift_frontend.proofs.LedgerEnds.{agrees-empty}

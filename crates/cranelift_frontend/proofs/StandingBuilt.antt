@@ -26,7 +26,7 @@ use Rattle.clif_simulation.proofs.Building.{SameInstruction, carries_terminator,
 use Rattle.clif_simulation.proofs.Growing.{goes_on-then, goes_on-inserted, goes_on-with_inst}
 use Rattle.cranelift_frontend.specs.declared.context.BlockStatus.{BlockStatus}
 use Rattle.cranelift_frontend.specs.declared.context.BlockStatus.TheVariants.{Empty, Filled}
-use Rattle.cranelift_frontend.specs.declared.frontend.FunctionBuilder.{FunctionBuilder}
+use Rattle.cranelift_frontend.specs.declared.builder.FunctionBuilder.{FunctionBuilder}
 use Rattle.cranelift_frontend.specs.Context.{ContextState, status_of, begun, SetsStatus}
 use Rattle.cranelift_frontend.specs.Builder.{HasCurrent, Appends, AppendsValue}
 use Rattle.cranelift_frontend.specs.Ledger.{LedgerAgrees, AgreesWithLedger, NamesValue, ledger_of}

@@ -6,15 +6,19 @@ use Rattle.clif_types.specs.declared.types.LaneType.TheVariants.{I8, I16, I32, I
 use Rattle.clif_types.specs.declared.types.«Type».{«Type»}
 use Rattle.clif_types.specs.declared.types.«Type».TheVariants.{Lane}
 use Rattle.clif_ir.specs.Body.{Body}
+use Rattle.clif_ir.specs.Consistent.{EdgeExists}
+use Rattle.clif_ir.specs.declared.block_call.BlockCall.{BlockCall}
 use Rattle.clif_ir.specs.declared.inst_list.BlockEnd.TheVariants.{Back}
 use Rattle.clif_ir.specs.declared.instructions.InstructionData.{InstructionData}
 use Rattle.clif_ir.specs.Instruction.{is_terminator, result_types}
 use Rattle.clif_ir.specs.Changes.{inserted_in, with_inst}
 use Rattle.clif_ssa.specs.Tables.{is_yes}
-use Rattle.clif_ssa.specs.Ssa.{no_srcloc, record_of, sealed_of, Waits, Zeroes}
+use Rattle.clif_ssa.specs.Ssa.{no_srcloc, record_of, sealed_of, predecessors_of, Waits, Zeroes}
+use Rattle.clif_ssa.specs.LookUp.{no_look_up, UsesVariable}
+use Rattle.clif_ssa.specs.Running.{stage, found}
 use Rattle.cranelift_frontend.specs.declared.context.BlockStatus.{BlockStatus}
 use Rattle.cranelift_frontend.specs.declared.context.BlockStatus.TheVariants.{Empty, Partial, Filled}
-use Rattle.cranelift_frontend.specs.declared.frontend.FunctionBuilder.{FunctionBuilder}
+use Rattle.cranelift_frontend.specs.declared.builder.FunctionBuilder.{FunctionBuilder}
 use Rattle.cranelift_frontend.specs.Context.{ContextState, status_of, begun, SetsStatus}
 
 -- both builders hold the same function and the same context
@@ -26,13 +30,17 @@ pub record SameLoans (old new : FunctionBuilder) : Type 0 where
 abbrev pub with_position : FunctionBuilder → ℕ → FunctionBuilder
 with_position b block = record b { position = Some block }
 
--- nothing leads to a block: the layout isn't empty, and the block isn't its first one and is sealed
+abbrev pub is_nothing : List ℕ → Bool
+is_nothing [] = true
+is_nothing (branch ∷ branches) = false
+
+-- nothing leads to a block: the layout isn't empty, and the block isn't its first one, is sealed and has no predecessor
 abbrev pub is_elsewhere : List ℕ → ℕ → Bool
 is_elsewhere [] block = false
 is_elsewhere (entry ∷ layout) block = not (entry == block)
 
 abbrev pub is_unreachable : Body → ContextState → ℕ → Bool
-is_unreachable f c block = is_elsewhere f.layout block && is_yes (sealed_of c.ssa block)
+is_unreachable f c block = is_elsewhere f.layout block && is_yes (sealed_of c.ssa block) && is_nothing (predecessors_of c.ssa block)
 
 -- a block of this status may be left, if something leads to it
 abbrev pub may_be_left : BlockStatus → Bool
@@ -70,21 +78,30 @@ is_filled_status Filled = true
 abbrev pub HasCurrent : FunctionBuilder → Type 0
 HasCurrent b = (block : ℕ) × (b.position ≡ Some block) × (block < length b.func.now.blocks) × (status_of b.ctx.now block ≢ Filled)
 
--- a use of a variable of type `ty` in a block answers `value`: the recorded value, or else a new
--- parameter of the block, or a zero where the block is sealed
+-- A use of a variable of type `ty` in a block answers `value`: the recorded value, or else a new parameter of the block;
+-- where the block is sealed, a zero if nothing leads to it, and what the look-up in its predecessors finds otherwise.
 pub record UsesIn (f : Body) (c : ContextState) (g : Body) (d : ContextState) (variable : ℕ) (ty : «Type») (block value : ℕ) : Type 0 where
   pub known : (v : ℕ) → record_of c.ssa variable block ≡ Some v
       → (g ≡ inserted_in f block) × (d.ssa ≡ c.ssa) × (value ≡ v)
   pub waits : record_of c.ssa variable block ≡ None → is_yes (sealed_of c.ssa block) ≡ false
       → Waits c.ssa d.ssa (inserted_in f block) g variable ty block × (value ≡ length f.values)
-  pub zero : record_of c.ssa variable block ≡ None → is_yes (sealed_of c.ssa block) ≡ true
+  pub zero : record_of c.ssa variable block ≡ None → is_yes (sealed_of c.ssa block) ≡ true → predecessors_of c.ssa block ≡ []
       → Zeroes c.ssa d.ssa (inserted_in f block) g variable ty block × (value ≡ length f.values + 1)
+  pub looks : record_of c.ssa variable block ≡ None → is_yes (sealed_of c.ssa block) ≡ true → predecessors_of c.ssa block ≢ []
+      → (told : List ℕ) × UsesVariable variable ty block (stage (inserted_in f block) c.ssa no_look_up) value (stage g d.ssa (found value told))
 
 -- the same in a builder, for the type of the variable
 abbrev pub Uses : FunctionBuilder → FunctionBuilder → ℕ → ℕ → ℕ → Type 0
 Uses old new variable block value =
     (ty : «Type») → slice_get old.ctx.now.variables variable ≡ Some ty
     → UsesIn old.func.now old.ctx.now new.func.now new.ctx.now variable ty block value
+
+-- an edge may be made: its target exists and isn't sealed, and what it passes exists
+abbrev pub CanLeadIn : Body → ContextState → BlockCall → Type 0
+CanLeadIn f c edge = EdgeExists f edge × (is_yes (sealed_of c.ssa edge.block) ≡ false)
+
+abbrev pub CanLead : FunctionBuilder → BlockCall → Type 0
+CanLead b edge = CanLeadIn b.func.now b.ctx.now edge
 
 -- a function with an instruction at the end of a block, which is in the layout then
 abbrev pub with_appended : Body → ℕ → InstructionData → «Type» → Body

@@ -3,17 +3,13 @@ use Rattle.std.specs.Prelude.{◌≡◌, ◌<◌, ◌≤◌, ℕ, List, [], ◌�
 use Rattle.clif_ir.specs.Body.{Body, resolved}
 use Rattle.clif_ssa.specs.Ssa.{SsaState, record_of}
 use Rattle.clif_ssa.specs.Structure.{HasRecordOf, Remembers}
-use Rattle.cranelift_frontend.specs.declared.frontend.FunctionBuilder.{FunctionBuilder}
+use Rattle.cranelift_frontend.specs.declared.builder.FunctionBuilder.{FunctionBuilder}
 
 -- no table of the function is shorter, and its name and its signature stay
 abbrev pub Grows : Body → Body → Type 0
 Grows f g =
     (length f.values ≤ length g.values) × (length f.insts ≤ length g.insts) × (length f.blocks ≤ length g.blocks)
     × (g.name ≡ f.name) × (g.signature ≡ f.signature)
-
--- each value that is recorded for a variable exists in the function
-pub record RecordsExist (f : Body) (s : SsaState) : Type 0 where
-  pub exist : (variable block value : ℕ) → record_of s variable block ≡ Some value → value < length f.values
 
 -- the block's record of the variable stays, if there is one, and values that stand for one value go on doing so
 abbrev pub RemembersIn : ℕ → ℕ → FunctionBuilder → FunctionBuilder → Type 0

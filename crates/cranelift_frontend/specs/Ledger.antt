@@ -1,15 +1,19 @@
 -- How a builder agrees with the ledger of the calls that were made on it: what the ledger tells of answers, blocks,
 -- layout and variables is what the builder answered and its queries answer. Own.
-use Rattle.std.specs.Prelude.{◌≡◌, ◌≢◌, ℕ, ◌≤◌, List, [], ◌∷◌, length, map, slice_get, Option, Some, None, option_map, if◌then◌else◌, false, true, IsTrue, Result, Ok, Err}
+use Rattle.std.specs.Prelude.{◌≡◌, ◌≢◌, ℕ, ◌≤◌, List, [], ◌∷◌, length, map, slice_get, Option, Some, None, option_map, Contains, false, true, IsTrue, Result, Ok, Err}
 use Rattle.clif_types.specs.declared.types.«Type».{«Type»}
 use Rattle.clif_types.specs.declared.types.«Type».TheVariants.{Invalid}
 use Rattle.clif_ir.specs.declared.instructions.InstructionData.{InstructionData}
-use Rattle.clif_ir.specs.Instruction.{is_branch, has_result, operands}
-use Rattle.clif_meaning.specs.Instruction.{Instruction}
+use Rattle.clif_ir.specs.declared.instructions.InstructionData.TheVariants.{UnaryImm, Binary, Jump, Brif, MultiAry}
+use Rattle.clif_ir.specs.declared.block_call.BlockArg.{BlockArg}
+use Rattle.clif_ir.specs.declared.block_call.BlockArg.TheVariants as arg
+use Rattle.clif_ir.specs.declared.block_call.BlockCall.{BlockCall}
+use Rattle.clif_ir.specs.Instruction.{destinations, operands}
+use Rattle.clif_meaning.specs.Instruction.{Argument, CallPayload, CallResult, Edge, Instruction, Known}
 use Rattle.clif_meaning.specs.View.{operation_of}
 use Rattle.clif_ir.specs.declared.function.ValueNode.{ValueNode}
 use Rattle.clif_ir.specs.declared.function.InstNode.{InstNode}
-use Rattle.clif_ir.specs.Body.{Body}
+use Rattle.clif_ir.specs.Body.{Body, value_at}
 use Rattle.clif_ir.specs.Reading.{param_home, stands_in}
 use Rattle.clif_meaning.specs.Name.{Name, answer_of}
 use Rattle.clif_meaning.specs.Request.{AnsweredCall, script_of, number_of}
@@ -17,11 +21,14 @@ use Rattle.clif_meaning.specs.Ledger.{Answered, ABlock, AVariable, AValue, AnIns
 use Rattle.clif_meaning.specs.Acceptance.{Refusal}
 use Rattle.clif_meaning.specs.Acceptance as refusal
 use Rattle.clif_ssa.specs.Tables.{is_yes}
-use Rattle.clif_ssa.specs.Ssa.{record_of, sealed_of}
-use Rattle.cranelift_frontend.specs.declared.context.BlockStatus.TheVariants.{Empty}
+use Rattle.clif_ssa.specs.Own.{Own}
+use Rattle.clif_ssa.specs.LookUp.{branch_block}
+use Rattle.clif_ssa.specs.Structured.{Structured, VariableTypes}
+use Rattle.clif_ssa.specs.Ssa.{predecessors_of, sealed_of}
+use Rattle.cranelift_frontend.specs.declared.context.BlockStatus.TheVariants.{Empty, Filled}
 use Rattle.cranelift_frontend.specs.declared.error.FinalizeError.{FinalizeError}
 use Rattle.cranelift_frontend.specs.declared.error.FinalizeError.TheVariants as error
-use Rattle.cranelift_frontend.specs.declared.frontend.FunctionBuilder.{FunctionBuilder}
+use Rattle.cranelift_frontend.specs.declared.builder.FunctionBuilder.{FunctionBuilder}
 use Rattle.cranelift_frontend.specs.Context.{ContextState, status_of}
 use Rattle.cranelift_frontend.specs.Builder.{is_empty_status, is_filled_status}
 
@@ -47,28 +54,53 @@ pub record NamesValue (calls : List AnsweredCall) (name : Name) (value : ℕ) : 
   pub number : number_of calls name ≡ Some value
   pub is_value : IsTrue (has_value (ledger_of calls) name)
 
--- the type at which an instruction of this shape is made: the one that is given, where it has a result
-abbrev pub made_at : InstructionData → «Type» → «Type»
-made_at shape ty = if has_result shape then ty else Invalid
+-- the type at which an instruction of this shape is made: the one that is given, where it has a result, and the
+-- condition's type of a `brif`
+abbrev pub made_at : Body → InstructionData → «Type» → «Type»
+made_at f (UnaryImm imm) ty = ty
+made_at f (Binary opcode args) ty = ty
+made_at f (Jump destination) ty = Invalid
+made_at f (Brif arg blocks) ty = (value_at f arg).ty
+made_at f (MultiAry args) ty = Invalid
 
--- the instruction, with the numbers that answered its operands' names, is of this shape and made at this type
-pub record HasShape (calls : List AnsweredCall) (instruction : Instruction Name Name) (shape : InstructionData) (ty : «Type») : Type 0 where
+-- names of what an edge passes, in order
+abbrev pub NamesArgument : List AnsweredCall → Argument Name → BlockArg → Type 0
+NamesArgument calls (Known name) (arg.Value value) = NamesValue calls name value
+NamesArgument calls (CallResult index) (arg.TryCallRet place) = index ≡ place
+NamesArgument calls (CallPayload index) (arg.TryCallExn place) = index ≡ place
+NamesArgument calls _ _ = ⊥
+
+abbrev pub NamesArguments : List AnsweredCall → List (Argument Name) → List BlockArg → Type 0
+NamesArguments calls [] [] = Unit {0}
+NamesArguments calls (argument ∷ arguments) (arg ∷ args) = NamesArgument calls argument arg × NamesArguments calls arguments args
+NamesArguments calls _ _ = ⊥
+
+-- names of an edge: of its target and of what it passes
+pub record NamesEdge (calls : List AnsweredCall) (edge : Edge Name Name) (call : BlockCall) : Type 0 where
+  pub target : NamesBlock calls edge.target call.block
+  pub arguments : NamesArguments calls edge.arguments call.args
+
+abbrev pub NamesEdges : List AnsweredCall → List (Edge Name Name) → List BlockCall → Type 0
+NamesEdges calls [] [] = Unit {0}
+NamesEdges calls (edge ∷ edges) (made ∷ others) = NamesEdge calls edge made × NamesEdges calls edges others
+NamesEdges calls _ _ = ⊥
+
+-- the instruction, with the numbers that answered the names in it, is of this shape and made at this type
+pub record HasShape (calls : List AnsweredCall) (f : Body) (instruction : Instruction Name Name) (shape : InstructionData) (ty : «Type») : Type 0 where
   pub operation : instruction.operation ≡ operation_of shape
-  pub controlling : instruction.controlling ≡ made_at shape ty
+  pub controlling : instruction.controlling ≡ made_at f shape ty
   pub operands_numbered : map (number_of calls) instruction.operands ≡ map Some (operands shape)
-  -- no instruction so far is a branch
-  pub no_branch : is_branch shape ≡ false
-  pub edges : instruction.edges ≡ []
+  pub edges : NamesEdges calls instruction.edges (destinations shape)
 
--- a block of the ledger is the builder's block with number `k`, and is sealed, pristine and filled exactly where
--- that one is; so far no block has a caller's parameter or a predecessor
+-- a block of the ledger is the builder's block with number `k`, is sealed, pristine and filled exactly where that one
+-- is, and has the same predecessors in the same order; so far no block has a caller's parameter
 pub record BlockAgrees (calls : List AnsweredCall) (c : ContextState) (k : ℕ) (state : BlockState) : Type 0 where
   pub number : number_of calls state.block ≡ Some k
   pub is_sealed : state.is_sealed ≡ is_yes (sealed_of c.ssa k)
   pub is_pristine : state.is_pristine ≡ is_empty_status (status_of c k)
   pub is_filled : state.is_filled ≡ is_filled_status (status_of c k)
   pub parameters : state.parameters ≡ []
-  pub predecessors : state.predecessors ≡ []
+  pub predecessors : map (number_of calls) state.predecessors ≡ map Some (predecessors_of c.ssa k)
 
 -- an answer of the ledger with this name is the builder's answer with this number: the block that the ledger has
 -- under the name, the variable, an existing value of the type, an existing instruction
@@ -96,6 +128,19 @@ pub record IsBegun (f : Body) (c : ContextState) (block : ℕ) : Type 0 where
   pub inserted : stands_in block f.layout ≡ true
   pub begun : status_of c block ≢ Empty
 
+-- a block of the layout has its terminator
+pub record IsEnded (f : Body) (c : ContextState) (block : ℕ) : Type 0 where
+  pub inserted : stands_in block f.layout ≡ true
+  pub filled : status_of c block ≡ Filled
+
+-- types of variables: those that were declared have these types
+abbrev pub AreTypesOf : List «Type» → VariableTypes → Type 0
+AreTypesOf variables types = (x : ℕ) (ty : «Type») → slice_get variables x ≡ Some ty → types x ≡ ty
+
+-- what the construction has made is in order, whatever the types of variables that weren't declared: these have no records
+abbrev pub IsStructured : Body → ContextState → Type 0
+IsStructured f c = (own : Own) × ((types : VariableTypes) → AreTypesOf c.variables types → Structured types own f c.ssa [])
+
 -- a ledger of calls agrees with the parts of a builder: its function, its context and its current block
 pub record LedgerAgrees (calls : List AnsweredCall) (ledger : Ledger) (f : Body) (c : ContextState) (position : Option ℕ) : Type 0 where
   -- each call is in the ledger, with its answers
@@ -111,13 +156,14 @@ pub record LedgerAgrees (calls : List AnsweredCall) (ledger : Ledger) (f : Body)
   pub layout : map Some ledger.layout ≡ map (block_name ledger) f.layout
   -- the types of the variables, in order
   pub variables : map (λ variable. variable.ty) ledger.variables ≡ c.variables
-  -- a record is an existing value of the variable's type
-  pub recorded : (variable block value : ℕ) → record_of c.ssa variable block ≡ Some value
-      → (ty : «Type») × (slice_get c.variables variable ≡ Some ty) × (value_type f value ≡ Some ty)
+  -- parameters, edges and records are in order
+  pub structured : IsStructured f c
   -- a parameter of a block was made in it
   pub parameters : (value block : ℕ) → param_home f value ≡ Some block → IsBegun f c block
-  -- a block that doesn't exist yet is neither sealed nor begun
-  pub fresh : (k : ℕ) → length f.blocks ≤ k → (is_yes (sealed_of c.ssa k) ≡ false) × (status_of c k ≡ Empty)
+  -- a branch that leads somewhere ends a block of the layout
+  pub branches : (block branch : ℕ) → Contains (predecessors_of c.ssa block) branch → IsEnded f c (branch_block f branch)
+  -- a block that doesn't exist yet is neither sealed nor begun, and nothing leads to it
+  pub fresh : (k : ℕ) → length f.blocks ≤ k → (is_yes (sealed_of c.ssa k) ≡ false) × (status_of c k ≡ Empty) × (predecessors_of c.ssa k ≡ [])
 
 -- the ledger of the calls that were made on a builder agrees with it
 abbrev pub AgreesWithLedger : List AnsweredCall → FunctionBuilder → Type 0

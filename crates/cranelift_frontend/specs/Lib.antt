@@ -1,6 +1,7 @@
 pub mod Errors
 pub mod Context
 pub mod Builder
+pub mod Construction
 pub mod Ledger
 pub mod Growth
 pub mod StandsFor

@@ -1,9 +1,9 @@
 //! What is kept while a function is built, and used again for the next one.
-ghost use Rattle.std.specs.Prelude.{◌≡◌, ◌==◌, ◌≢◌, ◌↔◌, ◌<◌, ◌-◌, ◌^◌, ◌++◌, [], ◌∷◌, ℕ, IsTrue, length, OnOk, OnErr, IfOk, slice_index_or, slice_get, IfSome, None, true, false, ◌+◌, if◌then◌else◌};
+ghost use Rattle.std.specs.Prelude.{◌≡◌, ◌==◌, ◌≢◌, ◌↔◌, ◌<◌, ◌-◌, ◌^◌, ◌++◌, [], ◌∷◌, ℕ, List, IsTrue, length, OnOk, OnErr, IfOk, slice_index_or, slice_get, IfSome, None, true, false, ◌+◌, if◌then◌else◌, Contains};
 
-use clif_ir::Function;
+use clif_ir::{BlockCall, Function};
 use clif_ssa::{SSABuilder, Variable};
-use clif_types::{Block, BuildError, EntityRef, Type, Value};
+use clif_types::{Block, BuildError, EntityRef, Inst, Type, Value};
 use std::alloc::Global;
 use std::marker::Model;
 
@@ -95,20 +95,24 @@ pub struct FunctionBuilderContext {
 
 impl Model for FunctionBuilderContext {
     ghost use Rattle.std.specs.Prelude.{length, ◌<◌, ◌^◌};
-    ghost use Rattle.clif_simulation.specs.Carries.{NothingLeads};
     ghost use Rattle.cranelift_frontend.specs.Context.{ContextState};
 
     ghost Value = { ContextState };
 
     ghost view = { λ c. record { ssa = c.ssa; status = c.status; variables = c.variables.items } };
 
-    // So far no call makes a branch.
-    ghost invariant = { λ c. (length c.variables.items < 2 ^ 32) × NothingLeads c.ssa };
+    ghost invariant = { λ c. length c.variables.items < 2 ^ 32 };
 }
 
 impl FunctionBuilderContext {
-    ghost use Rattle.cranelift_frontend.specs.Context.{empty_context, status_of, SetsStatus, Begins, zero_blocks};
-    ghost use Rattle.clif_ssa.specs.Ssa.{record_of, sealed_of, completed, completing_blocks, Records, SameBlocks, SamePredecessors, SameRecords, Seals, Waits, Zeroes};
+    ghost use Rattle.cranelift_frontend.specs.Context.{empty_context, status_of, SetsStatus, Begins};
+    ghost use Rattle.cranelift_frontend.specs.Construction.{IsUse, IsSealing, IsDeclared};
+    ghost use Rattle.clif_ir.specs.Body.{Body};
+    ghost use Rattle.clif_ir.specs.Reading.{targets};
+    ghost use Rattle.clif_ssa.specs.LookUp.{no_look_up, UsesVariable};
+    ghost use Rattle.clif_ssa.specs.Running.{stage, found};
+    ghost use Rattle.clif_ssa.specs.Sealing.{SealsByLookUp};
+    ghost use Rattle.clif_ssa.specs.Ssa.{record_of, sealed_of, predecessors_of, completed, HasMore, IsLocal, NamesExist, Records, RecordsStay, SameBlocks, SamePredecessors, SameRecords, Seals, Waits, Zeroes};
     ghost use Rattle.clif_ssa.specs.Limits.{IsFull, Takes};
     ghost use Rattle.clif_ssa.specs.Tables.{is_yes, pending_of};
 
@@ -222,7 +226,7 @@ impl FunctionBuilderContext {
     }
 
     #[tactic(auto, using(crate::proofs::Statuses::status_rules))]
-    /// The value of a variable of type `ty` in a block. A block that gets a zero is begun.
+    /// The value of a variable of type `ty` in a block. Blocks that get a zero are begun.
     pub(crate) fn use_var(
         &mut self,
         func: &mut Function,
@@ -230,15 +234,19 @@ impl FunctionBuilderContext {
         ty: Type,
         block: Block,
     ) -> Result<Value, BuildError>
-        requires { block < length func.old.blocks }
+        requires exists { block < length func.old.blocks }
+        requires named { NamesExist func.old self.old.ssa }
         ensures known { IfSome (record_of self.old.ssa variable block) (λ v. OnOk result ((func.new ≡ func.old) × (self.new.ssa ≡ self.old.ssa)) × IfOk result (λ w. w ≡ v)) }
         ensures waits { record_of self.old.ssa variable block ≡ None → is_yes (sealed_of self.old.ssa block) ≡ false → OnOk result (Waits self.old.ssa self.new.ssa func.old func.new variable ty block) × IfOk result (λ w. w ≡ length func.old.values) }
-        ensures zero { record_of self.old.ssa variable block ≡ None → is_yes (sealed_of self.old.ssa block) ≡ true → OnOk result (Zeroes self.old.ssa self.new.ssa func.old func.new variable ty block) × IfOk result (λ w. w ≡ length func.old.values + 1) }
-        ensures predecessors { SamePredecessors self.old.ssa self.new.ssa }
+        ensures zero { record_of self.old.ssa variable block ≡ None → is_yes (sealed_of self.old.ssa block) ≡ true → predecessors_of self.old.ssa block ≡ [] → OnOk result (Zeroes self.old.ssa self.new.ssa func.old func.new variable ty block) × IfOk result (λ w. w ≡ length func.old.values + 1) }
+        ensures looks { record_of self.old.ssa variable block ≡ None → is_yes (sealed_of self.old.ssa block) ≡ true → predecessors_of self.old.ssa block ≢ [] → IfOk result (λ w. (told : List ℕ) × UsesVariable variable ty block (stage func.old self.old.ssa no_look_up) w (stage func.new self.new.ssa (found w told))) }
+        ensures is_use { IfOk result (λ w. (told : List ℕ) × IsUse func.old self.old.ssa func.new self.new.ssa variable ty block w told × Begins self.old self.new told) }
+        ensures names { NamesExist func.new self.new.ssa }
+        ensures exists { IfOk result (λ w. w < length func.new.values) }
+        ensures more { HasMore func.old func.new }
         ensures variables { self.new.variables ≡ self.old.variables }
-        ensures status { OnOk result (Begins self.old self.new (zero_blocks self.old.ssa variable block)) }
         ensures full { result ≡ Err BuildError.Full → IsFull func.new }
-        ensures takes { result ≢ Err BuildError.Memory → Takes func.old func.new 2 1 }
+        ensures takes { IsLocal self.old.ssa variable block → result ≢ Err BuildError.Memory → Takes func.old func.new 2 1 }
         ensures never_failed { result ≢ Err BuildError.Failed }
     {
         let (value, side_effects) = self.ssa.use_var(func, variable, ty, block)?;
@@ -249,18 +257,51 @@ impl FunctionBuilderContext {
     #[tactic(auto, using(crate::proofs::Statuses::status_rules))]
     /// Seals a block. Blocks that get a zero are begun.
     pub(crate) fn seal_block(&mut self, block: Block, func: &mut Function) -> Result<(), BuildError>
-        ensures sealed { OnOk result (Seals self.old.ssa self.new.ssa block) }
-        ensures records { SameRecords self.old.ssa self.new.ssa }
-        ensures predecessors { SamePredecessors self.old.ssa self.new.ssa }
-        ensures function { OnOk result (func.new ≡ completed func.old (pending_of (sealed_of self.old.ssa block))) }
+        requires named { NamesExist func.old self.old.ssa }
+        ensures sealed { predecessors_of self.old.ssa block ≡ [] → OnOk result (Seals self.old.ssa self.new.ssa block) }
+        ensures records { predecessors_of self.old.ssa block ≡ [] → SameRecords self.old.ssa self.new.ssa }
+        ensures function { predecessors_of self.old.ssa block ≡ [] → OnOk result (func.new ≡ completed func.old (pending_of (sealed_of self.old.ssa block))) }
+        ensures completes { predecessors_of self.old.ssa block ≢ [] → OnOk result ((told : List ℕ) × SealsByLookUp func.old self.old.ssa func.new self.new.ssa block told) }
+        ensures is_sealing { OnOk result ((told : List ℕ) × IsSealing func.old self.old.ssa func.new self.new.ssa block told × Begins self.old self.new told) }
+        ensures names { NamesExist func.new self.new.ssa }
+        ensures more { HasMore func.old func.new }
+        ensures stay { RecordsStay self.old.ssa self.new.ssa }
         ensures variables { self.new.variables ≡ self.old.variables }
-        ensures status { OnOk result (Begins self.old self.new (completing_blocks func.old (pending_of (sealed_of self.old.ssa block)))) }
         ensures full { result ≡ Err BuildError.Full → IsFull func.new }
-        ensures takes { result ≢ Err BuildError.Memory → Takes func.old func.new 0 0 }
+        ensures takes { predecessors_of self.old.ssa block ≡ [] → result ≢ Err BuildError.Memory → Takes func.old func.new 0 0 }
         ensures never_failed { result ≢ Err BuildError.Failed }
     {
         let side_effects = self.ssa.seal_block(block, func)?;
         self.begin_all(side_effects.instructions_added_to_blocks.as_slice())
+    }
+
+    /// Whether any branch leads to a block.
+    pub(crate) fn has_any_predecessors(&self, block: Block) -> bool
+        ensures { IsTrue result ↔ (predecessors_of self.now.ssa block ≢ []) }
+    {
+        self.ssa.has_any_predecessors(block)
+    }
+
+    /// Says that a new branch with these edges leads to the target of each, once.
+    pub(crate) fn declare_successors(
+        &mut self,
+        inst: Inst,
+        edges: &[BlockCall],
+    ) -> Result<(), BuildError>
+        requires unsealed { (b : ℕ) → Contains (targets edges.now) b → is_yes (sealed_of self.old.ssa b) ≡ false }
+        requires new_branch { (b : ℕ) → Contains (predecessors_of self.old.ssa b) inst → ⊥ }
+        ensures ok { OnOk result (IsDeclared self.old.ssa inst (targets edges.now) self.new.ssa) }
+        ensures names { (f : Body) → inst < length f.insts → NamesExist f self.old.ssa → NamesExist f self.new.ssa }
+        ensures status { self.new.status ≡ self.old.status }
+        ensures variables { self.new.variables ≡ self.old.variables }
+        ensures only_memory { OnErr result (result ≡ Err BuildError.Memory) }
+    {
+        for edge in edges.iter() {
+            if !self.ssa.is_last_predecessor(edge.block, inst) {
+                self.ssa.declare_block_predecessor(edge.block, inst)?;
+            }
+        }
+        Ok(())
     }
 
     #[tactic(auto, using(crate::proofs::Statuses::status_rules))]

@@ -16,7 +16,7 @@ ghost use Rattle.cranelift_frontend.specs.Ledger.{AgreesWithLedger, RefusalAgree
 
 use crate::context::{BlockStatus, FunctionBuilderContext};
 use crate::error::FinalizeError;
-use crate::frontend::FunctionBuilder;
+use crate::builder::FunctionBuilder;
 use clif_types::{Block, EntityRef, TargetFrontendConfig};
 
 impl<'a> FunctionBuilder<'a> {
@@ -24,7 +24,7 @@ impl<'a> FunctionBuilder<'a> {
     /// sealed and filled.
     ///
     /// The context is cleared in every case. After an error the function is as it was.
-    pub fn finalize(mut self, config: TargetFrontendConfig) -> Result<(), FinalizeError>
+    pub fn finalize(self, config: TargetFrontendConfig) -> Result<(), FinalizeError>
         ensures answer { result ≡ verdict_of self.entry.failed self.entry.ctx.now (length self.entry.func.now.blocks) }
         ensures ledger { (calls : List AnsweredCall) → AgreesWithLedger calls self.entry → self.entry.failed ≡ false → RefusalAgrees calls (refusal_of (ledger_of calls) Finalize) result }
         ensures same_meaning { (signature : SignatureShape) (calls : List AnsweredCall) → StandsFor signature calls self.entry → OnOk result (MeansTheSame (script_of calls) signature config.pointer_width (view_of self.exit.0.now)) }
@@ -37,7 +37,8 @@ impl<'a> FunctionBuilder<'a> {
     {
         self.func.law_consistent();
         let answer = self.verdict();
-        self.ctx.clear();
+        let ctx = self.ctx;
+        ctx.clear();
         answer
     }
 

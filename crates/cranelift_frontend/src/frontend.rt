@@ -1,11 +1,13 @@
 //! The builder of a function.
 ghost use Rattle.std.specs.Prelude.{◌≡◌, ◌≢◌, ◌<◌, ◌-◌, ◌^◌, ◌+◌, ◌++◌, ◌∷◌, [], ◌==◌, ◌⊎◌, ℕ, List, IsTrue, ◌↔◌, OnOk, OnErr, IfOk, IfSome, IsSome, is_err, Some, None, true, false, length, slice_index, slice_get, EachIndex};
 ghost use Rattle.cranelift_frontend.specs.Context.{empty_context, status_of, begun, Begins, SetsStatus};
-ghost use Rattle.cranelift_frontend.specs.Growth.{Grows, HasRecordIn, RecordsExist, RemembersIn};
+ghost use Rattle.cranelift_frontend.specs.Growth.{Grows, HasRecordIn, RemembersIn};
+ghost use Rattle.cranelift_frontend.specs.Construction.{IsUse, IsSealing};
 ghost use Rattle.cranelift_frontend.specs.Builder.{SameLoans, with_position, is_unreachable, is_free, is_declarable, HasCurrent, Uses, UsesIn};
 ghost use Rattle.clif_ssa.specs.Limits.{IsFull, Takes};
 ghost use Rattle.clif_ssa.specs.Tables.{is_yes, pending_of};
-ghost use Rattle.clif_ssa.specs.Ssa.{record_of, sealed_of, completed, completing_blocks, Records, SameBlocks, SamePredecessors, SameRecords, Seals, Waits, Zeroes};
+ghost use Rattle.clif_ssa.specs.Sealing.{SealsByLookUp};
+ghost use Rattle.clif_ssa.specs.Ssa.{record_of, sealed_of, predecessors_of, completed, IsLocal, NamesExist, Records, RecordsStay, SameBlocks, SamePredecessors, SameRecords, Seals, Waits, Zeroes};
 ghost use Rattle.clif_ir.specs.Body.{empty_body, inst_at, block_at, value_at};
 ghost use Rattle.clif_ir.specs.Changes.{with_block, inserted_in};
 ghost use Rattle.clif_meaning.specs.Name.{Name};
@@ -14,31 +16,20 @@ ghost use Rattle.clif_types.specs.Signature.{SignatureShape};
 ghost use Rattle.cranelift_frontend.specs.StandsFor.{StandsFor};
 ghost use Rattle.cranelift_frontend.specs.Ledger.{AgreesWithLedger, NamesBlock, NamesValue};
 
+use crate::builder::FunctionBuilder;
 use crate::context::{BlockStatus, FunctionBuilderContext};
 use clif_ir::Function;
 use clif_ssa::Variable;
 use clif_types::{Block, BuildError, Inst, Type, Value};
-
-/// Builds one function.
-///
-/// After a call that answers `Memory` or `Full` each later call that may take memory answers `Failed`.
-#[derive(Drop)]
-pub struct FunctionBuilder<'a> {
-    pub(crate) func: &'a mut Function,
-    pub(crate) ctx: &'a mut FunctionBuilderContext,
-    pub(crate) position: Option<Block>,
-    pub(crate) failed: bool,
-}
 
 impl<'a> FunctionBuilder<'a> {
     /// A builder of `func`, which is as its makers leave it, with an empty context.
     pub fn new(func: &'a mut Function, ctx: &'a mut FunctionBuilderContext) -> Self
         requires fresh { func.old ≡ empty_body func.old.name func.old.signature }
         requires empty { ctx.old ≡ empty_context }
-        ensures builder { result ≡ record { func = func.entry; ctx = ctx.entry; position = None; failed = false } }
+        ensures builder { (named : _) × (result ≡ record { func = func.entry; ctx = ctx.entry; position = None; failed = false; named = named }) }
         ensures ledger { AgreesWithLedger [] result }
         ensures stands { StandsFor func.old.signature [] result }
-        ensures recorded { RecordsExist result.func.now result.ctx.now.ssa }
     {
         FunctionBuilder {
             func,
@@ -84,7 +75,7 @@ impl<'a> FunctionBuilder<'a> {
     }
 
     /// Whether nothing leads to the current block: the layout isn't empty, and the current block isn't
-    /// its first one, is sealed, and has no predecessor, as no block has so far.
+    /// its first one, is sealed, and has no predecessor.
     pub fn is_unreachable(&self) -> bool
         requires { IsSome self.now.position }
         ensures { IfSome self.now.position (λ block. result ≡ is_unreachable self.now.func.now self.now.ctx.now block) }
@@ -94,7 +85,9 @@ impl<'a> FunctionBuilder<'a> {
         };
         match self.func.entry_block() {
             None => false,
-            Some(entry) => entry != block && self.is_sealed(block),
+            Some(entry) => {
+                entry != block && self.is_sealed(block) && !self.ctx.has_any_predecessors(block)
+            }
         }
     }
 
@@ -115,7 +108,6 @@ impl<'a> FunctionBuilder<'a> {
         ensures builder { self.new ≡ with_position self.old block }
         ensures ledger { (calls : List AnsweredCall) (name : Name) → AgreesWithLedger calls self.old → NamesBlock calls name block → AgreesWithLedger (calls ++ record { request = SwitchToBlock name; numbers = [] } ∷ []) self.new }
         ensures stands { (signature : SignatureShape) (calls : List AnsweredCall) (name : Name) → StandsFor signature calls self.old → NamesBlock calls name block → StandsFor signature (calls ++ record { request = SwitchToBlock name; numbers = [] } ∷ []) self.new }
-        ensures recorded { RecordsExist self.old.func.now self.old.ctx.now.ssa → RecordsExist self.new.func.now self.new.ctx.now.ssa }
         ensures remembers { (x b : ℕ) → RemembersIn x b self.old self.new }
         ensures current { HasCurrent self.new }
     {
@@ -141,7 +133,6 @@ impl<'a> FunctionBuilder<'a> {
         ensures known { IfOk result (λ b. b < length self.new.ctx.now.ssa.blocks) }
         ensures exists { IfOk result (λ b. b < length self.new.func.now.blocks) }
         ensures grows { OnOk result (Grows self.old.func.now self.new.func.now) }
-        ensures recorded { RecordsExist self.old.func.now self.old.ctx.now.ssa → OnOk result (RecordsExist self.new.func.now self.new.ctx.now.ssa) }
         ensures remembers { (x b : ℕ) → OnOk result (RemembersIn x b self.old self.new) }
         ensures current { HasCurrent self.old → OnOk result (HasCurrent self.new) }
     {
@@ -154,25 +145,30 @@ impl<'a> FunctionBuilder<'a> {
     }
 
     /// Says that all predecessors of a block are known.
+    ///
+    /// Each parameter that waits in it is completed, in the order in which they were made: where no value or
+    /// one comes from the predecessors it becomes another name, and else each edge to the block passes its
+    /// argument.
     pub fn seal_block(&mut self, block: Block) -> Result<(), BuildError>
         requires exists { block < length self.old.func.now.blocks }
         requires unsealed { is_yes (sealed_of self.old.ctx.now.ssa block) ≡ false }
         ensures loans { SameLoans self.old self.new }
-        ensures function { OnOk result (self.new.func.now ≡ completed self.old.func.now (pending_of (sealed_of self.old.ctx.now.ssa block))) }
-        ensures sealed { OnOk result (Seals self.old.ctx.now.ssa self.new.ctx.now.ssa block) }
-        ensures records { SameRecords self.old.ctx.now.ssa self.new.ctx.now.ssa }
-        ensures status { OnOk result (Begins self.old.ctx.now self.new.ctx.now (completing_blocks self.old.func.now (pending_of (sealed_of self.old.ctx.now.ssa block)))) }
+        ensures function { predecessors_of self.old.ctx.now.ssa block ≡ [] → OnOk result (self.new.func.now ≡ completed self.old.func.now (pending_of (sealed_of self.old.ctx.now.ssa block))) }
+        ensures completes { predecessors_of self.old.ctx.now.ssa block ≢ [] → OnOk result ((told : List ℕ) × SealsByLookUp self.old.func.now self.old.ctx.now.ssa self.new.func.now self.new.ctx.now.ssa block told) }
+        ensures is_sealing { OnOk result ((told : List ℕ) × IsSealing self.old.func.now self.old.ctx.now.ssa self.new.func.now self.new.ctx.now.ssa block told × Begins self.old.ctx.now self.new.ctx.now told) }
+        ensures sealed { predecessors_of self.old.ctx.now.ssa block ≡ [] → OnOk result (Seals self.old.ctx.now.ssa self.new.ctx.now.ssa block) }
+        ensures records { predecessors_of self.old.ctx.now.ssa block ≡ [] → SameRecords self.old.ctx.now.ssa self.new.ctx.now.ssa }
+        ensures stay { RecordsStay self.old.ctx.now.ssa self.new.ctx.now.ssa }
         ensures variables { self.new.ctx.now.variables ≡ self.old.ctx.now.variables }
         ensures position { self.new.position ≡ self.old.position }
         ensures full { result ≡ Err BuildError.Full → IsFull self.new.func.now }
-        ensures takes { result ≢ Err BuildError.Memory → Takes self.old.func.now self.new.func.now 0 0 }
+        ensures takes { predecessors_of self.old.ctx.now.ssa block ≡ [] → result ≢ Err BuildError.Memory → Takes self.old.func.now self.new.func.now 0 0 }
         ensures failed { (result ≡ Err BuildError.Failed) ↔ IsTrue self.old.failed }
         ensures unchanged { IsTrue self.old.failed → self.new ≡ self.old }
         ensures fails { self.new.failed ≡ is_err result }
         ensures ledger { (calls : List AnsweredCall) (name : Name) → AgreesWithLedger calls self.old → NamesBlock calls name block → OnOk result (AgreesWithLedger (calls ++ record { request = SealBlock name; numbers = [] } ∷ []) self.new) }
         ensures stands { (signature : SignatureShape) (calls : List AnsweredCall) (name : Name) → StandsFor signature calls self.old → NamesBlock calls name block → OnOk result (StandsFor signature (calls ++ record { request = SealBlock name; numbers = [] } ∷ []) self.new) }
         ensures grows { OnOk result (Grows self.old.func.now self.new.func.now) }
-        ensures recorded { RecordsExist self.old.func.now self.old.ctx.now.ssa → OnOk result (RecordsExist self.new.func.now self.new.ctx.now.ssa) }
         ensures remembers { (x b : ℕ) → OnOk result (RemembersIn x b self.old self.new) }
         ensures current { HasCurrent self.old → OnOk result (HasCurrent self.new) }
     {
@@ -200,7 +196,6 @@ impl<'a> FunctionBuilder<'a> {
         ensures ledger { (calls : List AnsweredCall) → AgreesWithLedger calls self.old → IfOk result (λ variable. AgreesWithLedger (calls ++ record { request = DeclareVar ty; numbers = variable ∷ [] } ∷ []) self.new) }
         ensures stands { (signature : SignatureShape) (calls : List AnsweredCall) → StandsFor signature calls self.old → IfOk result (λ variable. StandsFor signature (calls ++ record { request = DeclareVar ty; numbers = variable ∷ [] } ∷ []) self.new) }
         ensures grows { OnOk result (Grows self.old.func.now self.new.func.now) }
-        ensures recorded { RecordsExist self.old.func.now self.old.ctx.now.ssa → OnOk result (RecordsExist self.new.func.now self.new.ctx.now.ssa) }
         ensures remembers { (x b : ℕ) → OnOk result (RemembersIn x b self.old self.new) }
         ensures current { HasCurrent self.old → OnOk result (HasCurrent self.new) }
     {
@@ -232,7 +227,6 @@ impl<'a> FunctionBuilder<'a> {
         ensures ledger { (calls : List AnsweredCall) (name : Name) → AgreesWithLedger calls self.old → NamesValue calls name value → OnOk result (AgreesWithLedger (calls ++ record { request = DefVar variable name; numbers = [] } ∷ []) self.new) }
         ensures stands { (signature : SignatureShape) (calls : List AnsweredCall) (name : Name) → StandsFor signature calls self.old → NamesValue calls name value → OnOk result (StandsFor signature (calls ++ record { request = DefVar variable name; numbers = [] } ∷ []) self.new) }
         ensures grows { OnOk result (Grows self.old.func.now self.new.func.now) }
-        ensures recorded { RecordsExist self.old.func.now self.old.ctx.now.ssa → OnOk result (RecordsExist self.new.func.now self.new.ctx.now.ssa) }
         ensures remembers { (x b : ℕ) → (x ≡ variable → self.old.position ≡ Some b → ⊥) → OnOk result (RemembersIn x b self.old self.new) }
         ensures current { OnOk result (HasCurrent self.new) }
     {
@@ -248,24 +242,27 @@ impl<'a> FunctionBuilder<'a> {
     }
 
     /// The value of a variable at this point of the current block.
+    ///
+    /// Where the block has no record of it, it is looked up in the predecessors: a parameter of the block is
+    /// made for it, which waits until the block is sealed, or is completed at once.
     pub fn use_var(&mut self, variable: Variable) -> Result<Value, BuildError>
         requires current { HasCurrent self.old }
         requires declared { variable < length self.old.ctx.now.variables }
         ensures loans { SameLoans self.old self.new }
         ensures uses { IfSome self.old.position (λ block. IfOk result (Uses self.old self.new variable block)) }
-        ensures status { IfSome self.old.position (λ block. OnOk result (SetsStatus self.old.ctx.now self.new.ctx.now block (begun (status_of self.old.ctx.now block)))) }
+        ensures is_use { (ty : «Type») → slice_get self.old.ctx.now.variables variable ≡ Some ty → IfSome self.old.position (λ block. IfOk result (λ value. (told : List ℕ) × IsUse (inserted_in self.old.func.now block) self.old.ctx.now.ssa self.new.func.now self.new.ctx.now.ssa variable ty block value told × Begins self.old.ctx.now self.new.ctx.now (block ∷ told))) }
+        ensures status { (calls : List AnsweredCall) → AgreesWithLedger calls self.old → IfSome self.old.position (λ block. OnOk result (SetsStatus self.old.ctx.now self.new.ctx.now block (begun (status_of self.old.ctx.now block)))) }
         ensures variables { self.new.ctx.now.variables ≡ self.old.ctx.now.variables }
         ensures position { self.new.position ≡ self.old.position }
         ensures full { result ≡ Err BuildError.Full → IsFull self.new.func.now }
-        ensures takes { result ≢ Err BuildError.Memory → Takes self.old.func.now self.new.func.now 2 1 }
+        ensures takes { IfSome self.old.position (λ block. IsLocal self.old.ctx.now.ssa variable block) → result ≢ Err BuildError.Memory → Takes self.old.func.now self.new.func.now 2 1 }
         ensures failed { (result ≡ Err BuildError.Failed) ↔ IsTrue self.old.failed }
         ensures unchanged { IsTrue self.old.failed → self.new ≡ self.old }
         ensures fails { self.new.failed ≡ is_err result }
         ensures ledger { (calls : List AnsweredCall) → AgreesWithLedger calls self.old → IfOk result (λ value. AgreesWithLedger (calls ++ record { request = UseVar variable; numbers = value ∷ [] } ∷ []) self.new) }
         ensures stands { (signature : SignatureShape) (calls : List AnsweredCall) → StandsFor signature calls self.old → IfOk result (λ value. StandsFor signature (calls ++ record { request = UseVar variable; numbers = value ∷ [] } ∷ []) self.new) }
-        ensures exists { RecordsExist self.old.func.now self.old.ctx.now.ssa → IfOk result (λ v. v < length self.new.func.now.values) }
+        ensures exists { IfOk result (λ v. v < length self.new.func.now.values) }
         ensures grows { OnOk result (Grows self.old.func.now self.new.func.now) }
-        ensures recorded { RecordsExist self.old.func.now self.old.ctx.now.ssa → OnOk result (RecordsExist self.new.func.now self.new.ctx.now.ssa) }
         ensures remembers { (x b : ℕ) → OnOk result (RemembersIn x b self.old self.new) }
         ensures has_record { IfSome self.old.position (λ block. IfOk result (HasRecordIn self.new variable block)) }
         ensures current { OnOk result (HasCurrent self.new) }
@@ -315,13 +312,15 @@ fn use_variable(
     ty: Type,
     block: Block,
 ) -> Result<Value, BuildError>
-    requires { block < length func.old.blocks }
+    requires exists { block < length func.old.blocks }
+    requires named { NamesExist func.old ctx.old.ssa }
     ensures uses { IfOk result (UsesIn func.old ctx.old func.new ctx.new variable ty block) }
-    ensures predecessors { SamePredecessors ctx.old.ssa ctx.new.ssa }
-    ensures status { OnOk result (SetsStatus ctx.old ctx.new block (begun (status_of ctx.old block))) }
+    ensures is_use { IfOk result (λ value. (told : List ℕ) × IsUse (inserted_in func.old block) ctx.old.ssa func.new ctx.new.ssa variable ty block value told × Begins ctx.old ctx.new (block ∷ told)) }
+    ensures names { NamesExist func.new ctx.new.ssa }
+    ensures exists { IfOk result (λ value. value < length func.new.values) }
     ensures variables { ctx.new.variables ≡ ctx.old.variables }
     ensures full { result ≡ Err BuildError.Full → IsFull func.new }
-    ensures takes { result ≢ Err BuildError.Memory → Takes func.old func.new 2 1 }
+    ensures takes { IsLocal ctx.old.ssa variable block → result ≢ Err BuildError.Memory → Takes func.old func.new 2 1 }
     ensures never_failed { result ≢ Err BuildError.Failed }
 {
     begin_block(func, ctx, block)?;

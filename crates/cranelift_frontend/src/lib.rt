@@ -1,6 +1,7 @@
 //! A front end's way to Cranelift's IR: cranelift-frontend 0.137.1, proved.
 #![tactic(auto)]
 
+pub mod builder;
 pub mod context;
 pub mod error;
 pub mod finalize;
@@ -24,7 +25,7 @@ pub use clif_types::{
 };
 pub use context::FunctionBuilderContext;
 pub use error::FinalizeError;
-pub use frontend::FunctionBuilder;
+pub use builder::FunctionBuilder;
 pub use instructions::{FuncInstBuilder, InstBuilder, InstBuilderBase};
 
 /// The version of the crate whose behaviour this one has.

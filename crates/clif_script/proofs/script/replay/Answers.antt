@@ -9,7 +9,7 @@ use Rattle.clif_meaning.specs.WellPlaced.{WellPlaced}
 use Rattle.clif_script.specs.Requests.{requests_of}
 use Rattle.clif_types.specs.Signature.{SignatureShape}
 use Rattle.clif_ir.specs.Body.{Body}
-use Rattle.cranelift_frontend.specs.declared.frontend.FunctionBuilder.{FunctionBuilder}
+use Rattle.cranelift_frontend.specs.declared.builder.FunctionBuilder.{FunctionBuilder}
 use Rattle.cranelift_frontend.specs.StandsFor.{HasCallersParameters, StandsFor, StandsIn}
 use Rattle.std.specs.Prelude.{Some}
 use Rattle.clif_script.proofs.Verdicts.{verdict-refused, all-replayed, means-replayed}

@@ -2,7 +2,7 @@ use Rattle.std.proofs.Common.{refl, ap, sym, ◌∙◌, Some}
 use Rattle.cranelift_frontend.proofs.Remembered.{remembers_assigned}
 use Rattle.cranelift_frontend.proofs.LedgerVariables.{assigned}
 use Rattle.cranelift_frontend.proofs.StandingResults.{assigned_stands}
-use Rattle.cranelift_frontend.proofs.frontend.FunctionBuilder.def_var.Goals as goal
+use Rattle.cranelift_frontend.proofs.builder.FunctionBuilder.def_var.Goals as goal
 
 pub returns-clause-ledger : goal.returns-clause-ledger
 returns-clause-ledger c = λ calls name agrees names.

@@ -13,7 +13,7 @@ use Rattle.clif_meaning.specs.Typing.{EdgesMatch}
 use Rattle.clif_meaning.specs.WellPlaced.{RecordsWellPlaced, WellPlaced}
 use Rattle.clif_simulation.specs.Structure.{HasCallersParameters}
 use Rattle.cranelift_frontend.proofs.Finishing.{finished_means, finished_parameters, finished_edges, finished_placed, finished_records}
-use Rattle.cranelift_frontend.proofs.frontend.FunctionBuilder.finalize.Goals as goal
+use Rattle.cranelift_frontend.proofs.builder.FunctionBuilder.finalize.Goals as goal
 
 pub returns-clause-ledger : goal.returns-clause-ledger
 returns-clause-ledger c = λ calls agrees sound.

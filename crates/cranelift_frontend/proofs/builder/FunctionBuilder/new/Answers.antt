@@ -1,6 +1,6 @@
 use Rattle.std.proofs.Common.{refl}
 use Rattle.cranelift_frontend.proofs.Standing.{stands_begins}
-use Rattle.cranelift_frontend.proofs.frontend.FunctionBuilder.new.Goals as goal
+use Rattle.cranelift_frontend.proofs.builder.FunctionBuilder.new.Goals as goal
 
 pub returns-clause-stands : goal.returns-clause-stands
 returns-clause-stands c = stands_begins c.args.func.now c.args.ctx.now _ c.requires.fresh c.requires.empty refl

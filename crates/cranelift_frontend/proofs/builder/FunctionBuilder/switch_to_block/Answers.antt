@@ -2,7 +2,7 @@ use Rattle.std.proofs.Common.{refl}
 use Rattle.cranelift_frontend.proofs.Remembered.{remembers_same}
 use Rattle.cranelift_frontend.proofs.LedgerBlocks.{switched}
 use Rattle.cranelift_frontend.proofs.Standing.{stands_switched}
-use Rattle.cranelift_frontend.proofs.frontend.FunctionBuilder.switch_to_block.Goals as goal
+use Rattle.cranelift_frontend.proofs.builder.FunctionBuilder.switch_to_block.Goals as goal
 
 pub returns-clause-ledger : goal.returns-clause-ledger
 returns-clause-ledger c = λ calls name agrees names. switched calls _ _ _ name c.args.block agrees names

@@ -1,7 +1,7 @@
 use Rattle.cranelift_frontend.proofs.Remembered.{remembers_used, has_record_used}
 use Rattle.std.proofs.Common.{sym, ◌∙◌}
 use Rattle.cranelift_frontend.proofs.LedgerUsed.{used}
-use Rattle.cranelift_frontend.proofs.frontend.FunctionBuilder.use_var.Goals as goal
+use Rattle.cranelift_frontend.proofs.builder.FunctionBuilder.use_var.Goals as goal
 use Rattle.cranelift_frontend.proofs.Standing.{current_exists}
 use Rattle.cranelift_frontend.proofs.StandingResults.{used_stands}
 use Rattle.cranelift_frontend.proofs.Growing.{use_recorded}

@@ -1,6 +1,6 @@
 use Rattle.cranelift_frontend.proofs.Remembered.{remembers_sealed}
 use Rattle.cranelift_frontend.proofs.LedgerBlocks.{sealed}
-use Rattle.cranelift_frontend.proofs.frontend.FunctionBuilder.seal_block.Goals as goal
+use Rattle.cranelift_frontend.proofs.builder.FunctionBuilder.seal_block.Goals as goal
 use Rattle.clif_ssa.specs.Tables.{pending_of}
 use Rattle.clif_ssa.specs.Ssa.{sealed_of}
 use Rattle.cranelift_frontend.proofs.StandingResults.{sealed_stands}

@@ -1,7 +1,7 @@
 use Rattle.cranelift_frontend.proofs.Remembered.{remembers_declared}
 use Rattle.cranelift_frontend.proofs.LedgerVariables.{declared}
 use Rattle.cranelift_frontend.proofs.StandingResults.{declared_stands}
-use Rattle.cranelift_frontend.proofs.frontend.FunctionBuilder.declare_var.Goals as goal
+use Rattle.cranelift_frontend.proofs.builder.FunctionBuilder.declare_var.Goals as goal
 
 pub returns-clause-ledger : goal.returns-clause-ledger
 returns-clause-ledger c = λ calls agrees. declared calls _ _ _ _ c.args.ty _ agrees c.declare_var-declared.ensures.ok c.declare_var-declared.ensures.number

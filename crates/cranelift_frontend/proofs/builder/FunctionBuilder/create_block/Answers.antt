@@ -1,7 +1,7 @@
 use Rattle.cranelift_frontend.proofs.Remembered.{remembers_created}
 use Rattle.cranelift_frontend.proofs.LedgerBlocks.{created}
 use Rattle.cranelift_frontend.proofs.StandingResults.{created_stands}
-use Rattle.cranelift_frontend.proofs.frontend.FunctionBuilder.create_block.Goals as goal
+use Rattle.cranelift_frontend.proofs.builder.FunctionBuilder.create_block.Goals as goal
 
 pub returns-clause-ledger : goal.returns-clause-ledger
 returns-clause-ledger c = λ calls agrees.

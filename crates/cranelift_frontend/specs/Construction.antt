@@ -1,0 +1,53 @@
+-- What a use of a variable and a sealing make of a function and of the state of its construction: the contracts of the
+-- crate below, of a call that answers. Source: own, after Braun et al. 2013.
+use Rattle.std.specs.Prelude.{◌≡◌, ◌≢◌, ◌⊎◌, ◌<◌, ℕ, List, [], ◌∷◌, ◌++◌, length, Bool, true, false, Some, None, Contains}
+use Rattle.std.specs.List.{AllByRecursion}
+use Rattle.clif_types.specs.declared.types.«Type».{«Type»}
+use Rattle.clif_ir.specs.Body.{Body}
+use Rattle.clif_ir.specs.Reading.{stands_in}
+use Rattle.clif_paths.specs.Blocks.{Blocks}
+use Rattle.clif_ssa.specs.Own.{Own}
+use Rattle.clif_ssa.specs.Tables.{is_yes, pending_of}
+use Rattle.clif_ssa.specs.Ssa.{SsaState, record_of, sealed_of, predecessors_of, RecordsStay, SamePredecessors, SealedStays}
+use Rattle.clif_ssa.specs.Sound.{Keeps, KeepsAndKnows}
+use Rattle.clif_ssa.specs.SoundLaws.{DescribesSoundly}
+use Rattle.clif_ssa.specs.Structure.{HasRecordOf, Remembers}
+use Rattle.clif_ssa.specs.Structured.{HasType, Structured, VariableTypes}
+use Rattle.clif_ssa.specs.Constructs.{OnlyConstructs, TellsZeros}
+use Rattle.clif_ssa.specs.Within.{HoldsBranches, HoldsWaiting, StaysWithin}
+use Rattle.clif_ssa.specs.Sealing.{SealsOne}
+use Rattle.clif_ir.specs.Consistent.{Once}
+use Rattle.clif_simulation.specs.Carries.{DeclaredAlong}
+
+-- A use of a variable of type `ty` in a block of the layout answers `value`; zeros come into the blocks `told`.
+pub record IsUse (f : Body) (s : SsaState) (g : Body) (t : SsaState) (variable : ℕ) (ty : «Type») (block value : ℕ) (told : List ℕ) : Type 0 where
+  pub constructs : OnlyConstructs f g
+  pub tells : TellsZeros f g told
+  pub within : (holds : ℕ → Bool) → HoldsBranches f s holds → holds block ≡ true → StaysWithin holds f g told
+  pub predecessors : SamePredecessors s t
+  pub flags : SealedStays s t
+  pub stay : RecordsStay s t
+  pub remembers : (x b : ℕ) → Remembers x b f s g t
+  pub recorded : HasRecordOf g t variable block value
+  pub structured : (types : VariableTypes) (own : Own) → ty ≡ types variable → Structured types own f s []
+      → Structured types own g t [] × HasType g value ty
+  pub keeps : (own : Own) (tables : Blocks) → DescribesSoundly own f s tables → KeepsAndKnows own tables g t block variable value
+
+-- A block is sealed; zeros come into the blocks `told`.
+pub record IsSealing (f : Body) (s : SsaState) (g : Body) (t : SsaState) (block : ℕ) (told : List ℕ) : Type 0 where
+  pub constructs : OnlyConstructs f g
+  pub tells : TellsZeros f g told
+  pub within : (holds : ℕ → Bool) → HoldsBranches f s holds → HoldsWaiting f s holds block → StaysWithin holds f g told
+  pub predecessors : SamePredecessors s t
+  pub sealed : SealsOne s t block
+  pub stay : RecordsStay s t
+  pub remembers : (x b : ℕ) → Remembers x b f s g t
+  pub structured : (types : VariableTypes) (own : Own) → Structured types own f s [] → Structured types own g t []
+  pub keeps : (own : Own) (tables : Blocks) → DescribesSoundly own f s tables → Keeps own tables g t
+
+-- A branch is declared at each of these targets, once.
+pub record IsDeclared (s : SsaState) (inst : ℕ) (targets : List ℕ) (t : SsaState) : Type 0 where
+  pub told : List ℕ
+  pub once : Once told
+  pub each : (b : ℕ) → stands_in b told ≡ stands_in b targets
+  pub along : DeclaredAlong s inst told t

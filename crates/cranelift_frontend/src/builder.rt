@@ -1,0 +1,19 @@
+//! What a builder holds.
+ghost use Rattle.clif_ssa.specs.Ssa.{NamesExist};
+
+use crate::context::FunctionBuilderContext;
+use clif_ir::Function;
+use clif_types::Block;
+
+/// Builds one function.
+///
+/// After a call that answers `Memory` or `Full` each later call that may take memory answers `Failed`.
+#[derive(Drop)]
+pub struct FunctionBuilder<'a> {
+    pub(crate) func: &'a mut Function,
+    pub(crate) ctx: &'a mut FunctionBuilderContext,
+    pub(crate) position: Option<Block>,
+    pub(crate) failed: bool,
+    // What the construction names exists.
+    ghost named: { ∥ NamesExist func.now ctx.now.ssa ∥₁ },
+}
