@@ -60,3 +60,5 @@ pub mod StructuredPublic
 pub mod Grown
 pub mod Within
 pub mod WithinUses
+pub mod Records
+pub mod TakingByRecords

@@ -1,5 +1,6 @@
 use Rattle.std.proofs.Common.{◌≡◌, [], length, drop}
 use Rattle.clif_ssa.specs.Constructs.{OnlyConstructs, TellsMore}
+use Rattle.clif_ssa.specs.Limits.{TakesByRecords}
 use Rattle.clif_ssa.specs.Ssa.{KnowsNoMore, SamePredecessors, RecordsStay, SealedStays, HasMore, NamesExist}
 use Rattle.clif_ssa.specs.LookUp.{Stage}
 use Rattle.clif_ssa.specs.Running.{stage, CompletesAll, ToComplete}
@@ -19,4 +20,5 @@ invariant-loop-pending l = record {
   no_more : KnowsNoMore l.initial.self l.self (length l.initial.func.blocks);
   constructs : OnlyConstructs l.initial.func l.func;
   tells : TellsMore l.initial.func l.func l.initial.look_up.zeros l.look_up.zeros;
+  takes : TakesByRecords l.initial.func l.initial.self l.func l.self;
 }
