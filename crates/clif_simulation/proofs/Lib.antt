@@ -45,6 +45,9 @@ pub mod Beginning
 pub mod Placing
 pub mod Structured
 pub mod Recorded
+-- What the construction makes of parameters, in every program.
+pub mod CallersAlone
+pub mod EdgesMatching
 -- The row `both_arms` is carried.
 mod LoopTables
 mod LoopProgram

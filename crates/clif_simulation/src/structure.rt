@@ -1,6 +1,16 @@
 //! What holds of a finished function that carries a list of calls, beside what it means: so far, of one without branches.
 
-ghost use Rattle.clif_simulation.specs.Structure.{CarryingIsWellPlaced, CarryingLeavesNoParameters, CarryingMatchesEdges, RecordsAreWellPlaced};
+ghost use Rattle.clif_simulation.specs.Structure.{CarryingIsWellPlaced, CarryingLeavesNoParameters, CarryingMatchesEdges, ConstructionLeavesFewParameters, ConstructionMatchesEdges, RecordsAreWellPlaced};
+
+/// In every program, a block to which at most one branch leads has no variable's parameter once it is sealed.
+pub fn construction_leaves_few_parameters()
+    ensures { ConstructionLeavesFewParameters }
+{}
+
+/// In every program, edges' arguments match once no parameter waits, where the caller's do.
+pub fn construction_matches_edges()
+    ensures { ConstructionMatchesEdges }
+{}
 
 /// No block of it has a variable's parameter.
 pub fn carrying_leaves_no_parameters()
