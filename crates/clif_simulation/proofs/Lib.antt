@@ -48,6 +48,8 @@ pub mod Recorded
 -- What the construction makes of parameters, in every program.
 pub mod CallersAlone
 pub mod EdgesMatching
+-- A finished function is well placed.
+mod Beside
 -- The row `both_arms` is carried.
 mod LoopTables
 mod LoopProgram

@@ -1,9 +1,9 @@
 -- In a finished function that carries a list of calls, values are defined before they are named, if the program's names
 -- are given before they are.
-use Rattle.std.proofs.Common.{◌≡◌, ℕ, zero, suc, ◌+◌, ◌<◌, ◌≤◌, if◌then◌else◌, Bool, List, [], ◌∷◌, ◌++◌, length, map, flat_map, take, slice_get, Option, Some, None, Contains, ◌⊎◌, inl, inr, refl, sym, ◌∙◌, ap, subst, arith}
+use Rattle.std.proofs.Common.{◌≡◌, ℕ, zero, suc, ◌+◌, ◌<◌, ◌≤◌, if◌then◌else◌, Bool, List, [], ◌∷◌, ◌++◌, length, map, flat_map, take, drop, slice_get, Option, Some, None, Contains, ◌⊎◌, inl, inr, refl, sym, ◌∙◌, ap, subst, arith}
 use Rattle.std.specs.Prelude.{slice_index, slice_index_or}
 use Rattle.std.specs.List.{AllByRecursion}
-use Rattle.std.proofs.lemmas.List.{map-append}
+use Rattle.std.proofs.lemmas.List.{append-nil, map-append}
 use Rattle.clif_ir.specs.Body.{Body, value_at, inst_at, block_at, resolved, alias_of, alias_of_origin}
 use Rattle.clif_ir.specs.Consistent.{IsConsistent, IsOrigin, Stands}
 use Rattle.clif_ir.specs.Reading.{home_of_param}
@@ -166,6 +166,49 @@ module _ (calls : List AnsweredCall) where
       omega (arith, rest)
   fewer (Use variable name ∷ items) (suc j) (suc k) place instruction results stands below = fewer items j k place instruction results stands (omega (arith, below))
   fewer (Assign variable name ∷ items) (suc j) (suc k) place instruction results stands below = fewer items j k place instruction results stands (omega (arith, below))
+
+  -- the instruction of an item stands behind so many
+  pub item_placed : (items : List Item) (j place : ℕ) (instruction : Instruction Name Name) (results : List Name)
+      → slice_get items j ≡ Some (Instruct place instruction results) → slice_get (flat_map (carried calls) items) (so_many j items) ≡ Some (placed_item instruction results)
+  item_placed [] zero place instruction results stands = cc
+  item_placed [] (suc j) place instruction results stands = cc
+  item_placed (item ∷ items) zero place instruction results stands =
+      let same : item ≡ Instruct place instruction results = some_is item stands in
+      ap (λ (i : Item). slice_get (carried calls i ++ flat_map (carried calls) items) 0) same
+    where
+      some_is : (item : Item) → Some item ≡ Some (Instruct place instruction results) → item ≡ Instruct place instruction results
+      some_is item e = cc
+  item_placed (Instruct p i r ∷ items) (suc j) place instruction results stands = item_placed items j place instruction results stands
+  item_placed (Use variable name ∷ items) (suc j) place instruction results stands = item_placed items j place instruction results stands
+  item_placed (Assign variable name ∷ items) (suc j) place instruction results stands = item_placed items j place instruction results stands
+
+  -- the instructions of the first items and of the others
+  pub counted_twice : (items : List Item) (k : ℕ) → length (flat_map (carried calls) items) ≡ so_many k items + length (flat_map (carried calls) (drop k items))
+  counted_twice items zero = omega arith
+  counted_twice [] (suc k) = refl
+  counted_twice (Instruct place instruction results ∷ items) (suc k) =
+      let rest : length (flat_map (carried calls) items) ≡ so_many k items + length (flat_map (carried calls) (drop k items)) = counted_twice items k in
+      omega (arith, rest)
+  counted_twice (Use x n ∷ items) (suc k) = counted_twice items k
+  counted_twice (Assign x n ∷ items) (suc k) = counted_twice items k
+
+  -- an item is so many instructions
+  pub counted_item : (items : List Item) (k : ℕ) (item : Item) → slice_get items k ≡ Some item → so_many (suc k) items ≡ so_many k items + length (carried calls item)
+  counted_item [] zero item is = cc
+  counted_item [] (suc k) item is = cc
+  counted_item (x ∷ items) zero item is =
+      let same : x ≡ item = some_is x item is in
+      let counted : length (carried calls x ++ []) ≡ length (carried calls item) =
+      ap (λ (i : Item). length (carried calls i ++ [])) same ∙ ap length (append-nil (carried calls item)) in
+      omega (arith, counted)
+    where
+      some_is : (x item : Item) → Some x ≡ Some item → x ≡ item
+      some_is x item e = cc
+  counted_item (Instruct p i r ∷ items) (suc k) item is =
+      let rest : so_many (suc k) items ≡ so_many k items + length (carried calls item) = counted_item items k item is in
+      omega (arith, rest)
+  counted_item (Use x n ∷ items) (suc k) item is = counted_item items k item is
+  counted_item (Assign x n ∷ items) (suc k) item is = counted_item items k item is
 
 -- THE ENTRY -------------------------------------------------------------------------------------------------------
 
