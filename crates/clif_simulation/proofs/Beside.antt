@@ -210,7 +210,7 @@ module _ (calls : List AnsweredCall) (f : Body) (s : SsaState) (consistent : IsC
 
     -- A path along the known arms ends behind so many items of the block, where so many zeros are left to do. Each value
     -- that it came to the home of is given, or is one of these zeros.
-    pub record Beside (q : Place ℕ) (path : List (Place ℕ)) (name : Name) (k left : ℕ) : Type 0 where
+    pub record IsBeside (q : Place ℕ) (path : List (Place ℕ)) (name : Name) (k left : ℕ) : Type 0 where
       pub named : block_name calls q.block ≡ Some name
       pub inserted : IsInserted q.block
       pub along : Path
@@ -228,7 +228,7 @@ module _ (calls : List AnsweredCall) (f : Body) (s : SsaState) (consistent : IsC
 
     -- Over items that are no instructions -------------------------------------------------------------------------------------
 
-    follow : (b k : ℕ) (B : Name) (item : Item) (along : Path) → block_name calls b ≡ Some B → slice_get (items B) k ≡ Some item
+    pub follow : (b k : ℕ) (B : Name) (item : Item) (along : Path) → block_name calls b ≡ Some B → slice_get (items B) k ≡ Some item
         → Follows (arms carries.tables) along → end_of along ≡ inside b k → Follows (arms carries.tables) (next_arm b k ∷ along)
     follow b k B item along named stands follows ends =
         let count = carries.program.counts b B named in
@@ -237,7 +237,7 @@ module _ (calls : List AnsweredCall) (f : Body) (s : SsaState) (consistent : IsC
         (rw (there, same_place-refl (inside b k)) refl, sym ends, follows)
 
     pass : (q : Place ℕ) (path : List (Place ℕ)) (name : Name) (k : ℕ) (item : Item) → slice_get (items name) k ≡ Some item → carried calls item ≡ []
-        → ((w : ℕ) → (function w).home ≢ inside q.block (suc k)) → Beside q path name k 0 → Beside q path name (suc k) 0
+        → ((w : ℕ) → (function w).home ≢ inside q.block (suc k)) → IsBeside q path name k 0 → IsBeside q path name (suc k) 0
     pass q path name k item stands nothing none_here b = record {
       named = b.named;
       inserted = b.inserted;
@@ -263,10 +263,10 @@ module _ (calls : List AnsweredCall) (f : Body) (s : SsaState) (consistent : IsC
     -- as far as the next instruction, or the end of the block
     pub record Forward (q : Place ℕ) (path : List (Place ℕ)) (name : Name) : Type 0 where
       pub j : ℕ
-      pub is : Beside q path name j 0
+      pub is : IsBeside q path name j 0
       pub stops : IsInstruct name j ⊎ (drop j (items name) ≡ [])
 
-    pub forward : (q : Place ℕ) (path : List (Place ℕ)) (name : Name) (rest : List Item) (k : ℕ) → drop k (items name) ≡ rest → Beside q path name k 0 → Forward q path name
+    pub forward : (q : Place ℕ) (path : List (Place ℕ)) (name : Name) (rest : List Item) (k : ℕ) → drop k (items name) ≡ rest → IsBeside q path name k 0 → Forward q path name
     forward q path name [] k is b = record { j = k; is = b; stops = inr is }
     forward q path name (Instruct place instruction results ∷ rest) k is b = record {
       j = k;
@@ -301,14 +301,14 @@ module _ (calls : List AnsweredCall) (f : Body) (s : SsaState) (consistent : IsC
     pub record AtInstruct (q : Place ℕ) (path : List (Place ℕ)) (name : Name) : Type 0 where
       pub j : ℕ
       pub item : IsInstruct name j
-      pub is : Beside q path name j 0
+      pub is : IsBeside q path name j 0
       pub t : ℕ
       pub i : ℕ
       pub own : slice_get (carries.own.insts q.block) t ≡ Some i
       pub is_item : own_placed carries.own f i ≡ placed_item calls item.instruction item.results
       pub here : slice_get (items_of f q.block) q.index ≡ Some (placed_inst i)
 
-    at_instruct : (q : Place ℕ) (path : List (Place ℕ)) (name : Name) (j : ℕ) → IsInstruct name j → Beside q path name j 0 → AtInstruct q path name
+    pub at_instruct : (q : Place ℕ) (path : List (Place ℕ)) (name : Name) (j : ℕ) → IsInstruct name j → IsBeside q path name j 0 → AtInstruct q path name
     at_instruct q path name j item b =
         let t : ℕ = so_many calls j (items name) in
         let from = map_from (own_placed carries.own f) (carries.own.insts q.block) t (placed_item calls item.instruction item.results)
@@ -329,14 +329,14 @@ module _ (calls : List AnsweredCall) (f : Body) (s : SsaState) (consistent : IsC
         }
 
     -- behind the last instruction a block has no place
-    pub past_all : (q : Place ℕ) (path : List (Place ℕ)) (name : Name) (j : ℕ) → Beside q path name j 0 → drop j (items name) ≡ [] → q.index ≡ length (items_of f q.block)
+    pub past_all : (q : Place ℕ) (path : List (Place ℕ)) (name : Name) (j : ℕ) → IsBeside q path name j 0 → drop j (items name) ≡ [] → q.index ≡ length (items_of f q.block)
     past_all q path name j b none =
         let all = counted_twice calls (items name) j in
         let rest = ap (λ (left : List Item). length (flat_map (carried calls) left)) none in
         let count = block_count q.block name b.inserted b.named in
         omega (arith, b.counted, all, rest, count)
 
-    pub what_stands : (q : Place ℕ) (path : List (Place ℕ)) (name : Name) (k left : ℕ) → Beside q path name k left → q.index < length (items_of f q.block)
+    pub what_stands : (q : Place ℕ) (path : List (Place ℕ)) (name : Name) (k left : ℕ) → IsBeside q path name k left → q.index < length (items_of f q.block)
         → AtZero q ⊎ AtInstruct q path name
     what_stands q path name k zero b within = by (forward q path name (drop k (items name)) k refl b)
       where
@@ -379,7 +379,7 @@ module _ (calls : List AnsweredCall) (f : Body) (s : SsaState) (consistent : IsC
         (contained (map (answered calls) a.item.results) stands.0 (answered calls there.0) (map_at (answered calls) a.item.results stands.0 there.0 stands.1)) in
         subst (λ (o : Option Placed). Contains (placed_gives o) r) (sym a.here) (subst (Contains (inst_at f a.i).results) (sym there.2) gives)
 
-    over_zero : (p : Place ℕ) (path : List (Place ℕ)) (name : Name) (k left : ℕ) → Beside p path name k (suc left) → Beside (at p.block (suc p.index)) (p ∷ path) name k left
+    over_zero : (p : Place ℕ) (path : List (Place ℕ)) (name : Name) (k left : ℕ) → IsBeside p path name k (suc left) → IsBeside (at p.block (suc p.index)) (p ∷ path) name k left
     over_zero p path name k left b = record {
       named = b.named;
       inserted = b.inserted;
@@ -407,7 +407,7 @@ module _ (calls : List AnsweredCall) (f : Body) (s : SsaState) (consistent : IsC
         by r (inl (inr along)) = inl (inr (inr (inr along)))
         by r (inr a) = ahead r a (order p.index a.m a.from)
 
-    pub over_instruct : (p : Place ℕ) (path : List (Place ℕ)) (name : Name) (a : AtInstruct p path name) → Beside (at p.block (suc p.index)) (p ∷ path) name (suc a.j) 0
+    pub over_instruct : (p : Place ℕ) (path : List (Place ℕ)) (name : Name) (a : AtInstruct p path name) → IsBeside (at p.block (suc p.index)) (p ∷ path) name (suc a.j) 0
     over_instruct p path name a = record {
       named = a.is.named;
       inserted = a.is.inserted;
@@ -484,7 +484,7 @@ module _ (calls : List AnsweredCall) (f : Body) (s : SsaState) (consistent : IsC
         pub follows_behind : Follows (arms carries.tables) behind
         follows_behind = follow p.block a.j name (Instruct a.item.place a.item.instruction a.item.results) a.is.along a.is.named a.item.stands a.is.follows a.is.ends
 
-        along_edge : IsInserted d → Beside (at d 0) (p ∷ path) of_program.0.target 0 (zero_count d)
+        along_edge : IsInserted d → IsBeside (at d 0) (p ∷ path) of_program.0.target 0 (zero_count d)
         along_edge there = record {
           named = target_named;
           inserted = there;
@@ -515,7 +515,7 @@ module _ (calls : List AnsweredCall) (f : Body) (s : SsaState) (consistent : IsC
       pub name : Name
       pub k : ℕ
       pub left : ℕ
-      pub is : Beside q path name k left
+      pub is : IsBeside q path name k left
 
     -- no place is any other
     same_place_of : (q : Place ℕ) (b k : ℕ) → q.block ≡ b → q.index ≡ k → q ≡ at b k
@@ -556,10 +556,10 @@ module _ (calls : List AnsweredCall) (f : Body) (s : SsaState) (consistent : IsC
             given r exists itself (inr none) = absurd none
 
     -- on from a place
-    onward : (p : Place ℕ) (path : List (Place ℕ)) → p.index < length (items_of f p.block) → Standing p path → Standing (at p.block (suc p.index)) (p ∷ path)
+    pub onward : (p : Place ℕ) (path : List (Place ℕ)) → p.index < length (items_of f p.block) → Standing p path → Standing (at p.block (suc p.index)) (p ∷ path)
     onward p path below before = by before.left before.is
       where
-        by : (left : ℕ) → Beside p path before.name before.k left → Standing (at p.block (suc p.index)) (p ∷ path)
+        by : (left : ℕ) → IsBeside p path before.name before.k left → Standing (at p.block (suc p.index)) (p ∷ path)
         by (suc left) b = record { name = before.name; k = before.k; left = left; is = over_zero p path before.name before.k left b }
         by zero b = ahead (forward p path before.name (drop before.k (items before.name)) before.k refl b)
           where

@@ -50,6 +50,7 @@ pub mod CallersAlone
 pub mod EdgesMatching
 -- A finished function is well placed.
 mod Beside
+pub mod Defined
 -- The row `both_arms` is carried.
 mod LoopTables
 mod LoopProgram
