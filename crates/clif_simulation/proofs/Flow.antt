@@ -33,15 +33,7 @@ use Rattle.clif_simulation.proofs.Listed.{no_parameters, place_within}
 use Rattle.clif_simulation.proofs.OwnEdges
 use Rattle.clif_simulation.proofs.OwnEdges.{last_item}
 use Rattle.clif_simulation.proofs.Placing.{map_at, contained, OfItem}
-use Rattle.clif_simulation.proofs.Straight.{arms, same_block}
-
-both_left : (a b : Bool) → (a && b) ≡ true → a ≡ true
-both_left true b both = refl
-both_left false b both = both
-
-both_right : (a b : Bool) → (a && b) ≡ true → b ≡ true
-both_right true b both = both
-both_right false b both = cc
+use Rattle.clif_simulation.proofs.Straight.{arms, both_left, both_right, same_block}
 
 none_some : {X : Type 0} (x : X) → None ≡ Some x → ⊥
 none_some x e = cc

@@ -51,6 +51,7 @@ pub mod EdgesMatching
 -- A finished function is well placed.
 mod Beside
 pub mod Defined
+pub mod RecordsDefined
 -- The row `both_arms` is carried.
 mod LoopTables
 mod LoopProgram
