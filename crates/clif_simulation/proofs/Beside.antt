@@ -1,8 +1,7 @@
 -- Beside each path of a finished function's places there is one along the known arms, and where it ends the places before
 -- have given each value that it came to the home of.
-use Rattle.std.proofs.Common.{◌≡◌, ◌≢◌, ◌⊎◌, ℕ, zero, suc, ◌+◌, ◌<◌, ◌≤◌, ◌==◌, ◌&&◌, nat_lt, if◌then◌else◌, Bool, true, false, List, [], ◌∷◌, ◌++◌, length, map, flat_map, drop, slice_get, Option, Some, None, Contains, inl, inr, refl, sym, ◌∙◌, ap, subst, arith}
+use Rattle.std.proofs.Common.{◌≡◌, ◌≢◌, ◌⊎◌, ℕ, zero, suc, ◌+◌, ◌<◌, ◌≤◌, ◌&&◌, nat_lt, if◌then◌else◌, Bool, true, false, List, [], ◌∷◌, ◌++◌, length, map, flat_map, drop, slice_get, Option, Some, None, Contains, inl, inr, refl, sym, ◌∙◌, ap, subst, arith}
 use Rattle.std.specs.Prelude.{slice_index}
-use Rattle.std.specs.List.{AllByRecursion, list_any}
 use Rattle.std.proofs.lemmas.Bool.Decides.{nat_tests}
 use Rattle.std.proofs.lemmas.List.{map-append, length-append}
 use Rattle.clif_ir.specs.Body.{Body, value_at, inst_at, block_at, resolved, alias_of, alias_of_origin}
@@ -13,14 +12,13 @@ use Rattle.clif_ir.specs.declared.block_call.BlockCall.{BlockCall}
 use Rattle.clif_ir.specs.declared.function.ValueOrigin.{ValueOrigin}
 use Rattle.clif_ir.specs.declared.function.ValueOrigin.TheVariants as origin
 use Rattle.clif_ir.proofs.Aliases.{resolved-no_alias}
-use Rattle.clif_paths.specs.Places as paths
-use Rattle.clif_paths.specs.Places.{start, inside, Arm, Path, Follows, Visits, end_of}
-use Rattle.clif_paths.specs.State.{Naming, Definition, complete}
+use Rattle.clif_paths.specs.Places.{inside, Arm, Path, Follows, Visits, end_of}
+use Rattle.clif_paths.specs.State.{Naming, Definition}
 use Rattle.clif_paths.specs.Blocks.{front, last_place}
 use Rattle.clif_paths.proofs.PathLemmas.{same_place-refl}
 use Rattle.clif_ssa.specs.Ssa.{SsaState, predecessors_of, sealed_of}
 use Rattle.clif_ssa.specs.Tables.{is_yes}
-use Rattle.clif_ssa.specs.Sound.{IsZero, IsEdgeInto, edges_at, edge_target, entry_of, has_entry}
+use Rattle.clif_ssa.specs.Sound.{IsZero, IsEdgeInto, edge_target, entry_of, has_entry}
 use Rattle.clif_ssa.proofs.Bodies.{home_inside}
 use Rattle.clif_ssa.proofs.Losing.{home_stands}
 use Rattle.clif_meaning.specs.Name.{Name}
@@ -33,13 +31,12 @@ use Rattle.clif_meaning.specs.View.{placed_of, items_of, edge_of, edges_of, view
 use Rattle.clif_meaning.specs.Premises.{EachItem, HasGoodTargets}
 use Rattle.clif_meaning.specs.Path.{Place, IsPath, Leads}
 use Rattle.clif_meaning.specs.WellPlaced.{Code, function_code, function_flow, program_code, placed_gives, placed_targets, given_on_entry, IsGivenAlong, IsWellPlaced}
-use Rattle.clif_meaning.proofs.StraightLine.{nothing_contained, none_of}
+use Rattle.clif_meaning.proofs.StraightLine.{none_of}
 use Rattle.clif_simulation.specs.Tables.{code, answered, program_so_far, block_name}
 use Rattle.clif_simulation.specs.Carries.{Carries, carried, own_placed}
 use Rattle.clif_simulation.specs.Laws.{IsFinished}
 use Rattle.clif_simulation.proofs.Entry.{begins}
 use Rattle.clif_simulation.proofs.Edges
-use Rattle.clif_simulation.proofs.Fronts.{any_first}
 use Rattle.clif_simulation.proofs.Giving.{in_contained}
 use Rattle.clif_simulation.proofs.ItemsAt
 use Rattle.clif_simulation.proofs.ItemsAt.{not_start}

@@ -1,6 +1,6 @@
 -- A finished function that carries a list of calls is well placed: names by the theory's conclusion on them, and what the
 -- construction passes by that on the arguments of parameters.
-use Rattle.std.proofs.Common.{◌≡◌, ◌≢◌, ◌⊎◌, ℕ, zero, suc, ◌+◌, ◌<◌, List, [], ◌∷◌, ◌++◌, length, map, flat_map, slice_get, Option, Some, None, Contains, inl, inr, refl, sym, ◌∙◌, ap, subst, arith}
+use Rattle.std.proofs.Common.{◌≡◌, ◌⊎◌, ℕ, zero, suc, ◌+◌, ◌<◌, List, [], ◌∷◌, ◌++◌, length, map, flat_map, slice_get, Option, Some, Contains, inl, inr, refl, sym, ◌∙◌, ap, subst, arith}
 use Rattle.std.specs.Prelude.{slice_index}
 use Rattle.std.proofs.lemmas.Option.{slice_get_within, get_or_from_slice_get}
 use Rattle.clif_ir.specs.Body.{Body, inst_at, block_at, resolved}
@@ -14,13 +14,13 @@ use Rattle.clif_ir.specs.declared.instructions.InstructionData.{InstructionData}
 use Rattle.clif_ir.proofs.Aliases.{follow-inside}
 use Rattle.clif_ir.proofs.Keeps.{leads_inside}
 use Rattle.clif_paths.specs.Places.{inside, Visits, Dominates}
-use Rattle.clif_paths.specs.State.{Definition, Kind, complete, home_of}
+use Rattle.clif_paths.specs.State.{Definition, home_of}
 use Rattle.clif_paths.specs.Blocks.{state_of}
 use Rattle.clif_paths.specs.Sound.{SoundUnder}
 use Rattle.clif_paths.proofs.PathLemmas.{visits_through}
 use Rattle.clif_paths.proofs.Concluding.{arms_allowed}
 use Rattle.clif_ssa.specs.Ssa.{SsaState}
-use Rattle.clif_ssa.specs.Sound.{args_of, edges_at, passed_at}
+use Rattle.clif_ssa.specs.Sound.{args_of, passed_at}
 use Rattle.clif_ssa.proofs.Alike.{unaliased_home}
 use Rattle.clif_ssa.proofs.Housing.{place_at}
 use Rattle.clif_ssa.proofs.Losing.{stands_home}

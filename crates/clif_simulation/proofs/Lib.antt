@@ -44,7 +44,6 @@ pub mod Building
 pub mod Beginning
 pub mod Placing
 pub mod Structured
-pub mod Recorded
 -- What the construction makes of parameters, in every program.
 pub mod CallersAlone
 pub mod EdgesMatching

@@ -1,6 +1,6 @@
 -- What a builder recorded, and what answered uses, is defined before the ends of blocks and before the uses, on each path of
 -- a finished function that carries a list of calls.
-use Rattle.std.proofs.Common.{◌≡◌, ◌⊎◌, ℕ, zero, suc, ◌+◌, ◌<◌, ◌≤◌, ◌==◌, ◌&&◌, cond, nat_lt, Bool, true, List, [], ◌∷◌, length, flat_map, drop, slice_get, Option, Some, None, Contains, inl, inr, refl, sym, ◌∙◌, ap, subst, arith}
+use Rattle.std.proofs.Common.{◌≡◌, ◌⊎◌, ℕ, zero, suc, ◌+◌, ◌<◌, ◌≤◌, ◌==◌, ◌&&◌, cond, nat_lt, Bool, true, List, [], ◌∷◌, length, drop, slice_get, Some, None, inl, inr, refl, sym, ◌∙◌, ap, subst, arith}
 use Rattle.std.proofs.lemmas.Bool.Decides.{nat_tests}
 use Rattle.clif_ir.specs.Body.{Body, block_at, resolved}
 use Rattle.clif_ir.specs.Consistent.{IsConsistent}
@@ -18,8 +18,8 @@ use Rattle.clif_meaning.specs.Premises.{EachItem, HasGoodTargets}
 use Rattle.clif_meaning.specs.Path.{Place, IsPath}
 use Rattle.clif_meaning.specs.WellPlaced.{function_code, function_flow, program_code, IsGivenAlong, IsWellPlaced, Records, RecordsWellPlaced}
 use Rattle.clif_meaning.proofs.StraightLine.{nothing_contained}
-use Rattle.clif_simulation.specs.Tables.{code, answered, program_so_far, block_name}
-use Rattle.clif_simulation.specs.Carries.{Carries, carried}
+use Rattle.clif_simulation.specs.Tables.{code, answered, program_so_far}
+use Rattle.clif_simulation.specs.Carries.{Carries}
 use Rattle.clif_simulation.specs.Laws.{IsFinished}
 use Rattle.clif_simulation.specs.Structure.{IsAnswerAt, AreRecords}
 use Rattle.clif_simulation.proofs.Beside
