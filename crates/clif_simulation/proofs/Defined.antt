@@ -27,7 +27,7 @@ use Rattle.clif_ssa.proofs.Losing.{stands_home}
 use Rattle.clif_meaning.specs.Name.{Name}
 use Rattle.clif_meaning.specs.Request.{AnsweredCall, script_of}
 use Rattle.clif_meaning.specs.Ledger.{ledger_after}
-use Rattle.clif_meaning.specs.Instruction.{Argument, Known, CallResult, CallPayload, Edge}
+use Rattle.clif_meaning.specs.Instruction.{Argument, Known, CallResult, CallPayload, Edge, Instruction}
 use Rattle.clif_meaning.specs.Program.{Item, Instruct}
 use Rattle.clif_meaning.specs.FunctionView.{Placed}
 use Rattle.clif_meaning.specs.View.{argument_of, edge_of, edges_of, items_of, view_of}
@@ -106,6 +106,15 @@ value_is (Value value) v is = cc
 value_is (TryCallRet index) v is = cc
 value_is (TryCallExn index) v is = cc
 
+-- the list of one known argument
+known_there : {v : ℕ} (arguments : List (Argument ℕ)) (one : OfOne known_argument arguments v) → slice_get arguments one.k ≡ Some (Known v)
+known_there {v} arguments one = one.stands ∙ ap (λ (argument : Argument ℕ). Some argument) (known_is one.x v one.has)
+
+-- what an edge passes as the machine sees it is what it passes
+value_passed : (call : BlockCall) (k v : ℕ) → slice_get (edge_of call).arguments k ≡ Some (Known v) → slice_get call.args k ≡ Some (Value v)
+value_passed call k v is =
+    let from = map_from argument_of call.args k (Known v) is in from.1 ∙ ap (λ (b : BlockArg). Some b) (value_is from.0 v from.2)
+
 -- a name that stands for a known argument
 name_is : (calls : List AnsweredCall) (argument : Argument Name) (v : ℕ) → answered_argument calls argument ≡ Known v
     → (name : Name) × (argument ≡ Known name) × (answered calls name ≡ v)
@@ -115,6 +124,23 @@ name_is calls (Known name) v is = (name, refl, known_same (answered calls name) 
     known_same w h = cc
 name_is calls (CallResult index) v is = cc
 name_is calls (CallPayload index) v is = cc
+
+-- what the caller passed is the answer of a name that the program's edge passes
+name_passed : (calls : List AnsweredCall) (edge : Edge Name Name) (passed : List BlockArg) (j v : ℕ) → map argument_of passed ≡ map (answered_argument calls) edge.arguments
+    → slice_get passed j ≡ Some (Value v) → (name : Name) × (slice_get edge.arguments j ≡ Some (Known name)) × (answered calls name ≡ v)
+name_passed calls edge passed j v same is =
+    let argument = map_from (answered_argument calls) edge.arguments j (Known v)
+    (ap (λ (es : List (Argument ℕ)). slice_get es j) (sym same) ∙ map_at argument_of passed j (Value v) is) in
+    let one = name_is calls argument.0 v argument.2 in
+    (one.0, argument.1 ∙ ap (λ (a : Argument Name). Some a) one.1, one.2)
+
+-- a name that an edge of an instruction passes is one that the instruction's edges pass
+edges_pass : (instruction : Instruction Name Name) (n j : ℕ) (edge : Edge Name Name) (name : Name) → slice_get instruction.edges n ≡ Some edge
+    → slice_get edge.arguments j ≡ Some (Known name) → Contains (passed_operands instruction) name
+edges_pass instruction n j edge name is_edge is =
+    in_contained (passed_operands instruction) name
+    (among_all (λ (e : Edge Name Name). flat_map known_argument e.arguments) instruction.edges n edge name is_edge
+    (among_all known_argument edge.arguments j (Known name) name is (inl refl)))
 
 no_item : {X : Type 0} (xs : List X) (k : ℕ) (x : X) → xs ≡ [] → slice_get xs k ≡ Some x → ⊥
 no_item [] zero x none is = cc
@@ -211,15 +237,12 @@ module _ (calls : List AnsweredCall) (f : Body) (s : SsaState) (consistent : IsC
         (contained_in (passed_by i) v there) in
         let call = map_from edge_of (destinations (inst_at f i).shape) edge.k edge.x edge.stands in
         let argument = of_one known_argument edge.x.arguments v edge.has in
-        let known : argument.x ≡ Known v = known_is argument.x v argument.has in
-        let passed = map_from argument_of call.0.args argument.k argument.x
-        (ap (λ (e : Edge ℕ ℕ). slice_get e.arguments argument.k) call.2 ∙ argument.stands) in
         record {
           n = edge.k;
           call = call.0;
           stands = call.1;
           j = argument.k;
-          passes = passed.1 ∙ ap (λ (b : BlockArg). Some b) (value_is passed.0 v (passed.2 ∙ known));
+          passes = value_passed call.0 argument.k v (ap (λ (e : Edge ℕ ℕ). slice_get e.arguments argument.k) call.2 ∙ known_there edge.x.arguments argument);
         }
 
     module _ (q : Place ℕ) (path : List (Place ℕ)) (name : Name) (a : AtOwn q path name) (v : ℕ) (is : IsPassed a.i v) where
@@ -246,13 +269,9 @@ module _ (calls : List AnsweredCall) (f : Body) (s : SsaState) (consistent : IsC
       of_caller passes =
           let edge = Beside.of_program calls f s consistent carries finished placed targets q path name a is.n is.call is.stands in
           let there = OwnEdges.edge_in_function calls f s consistent carries a.i a.item.instruction a.item.results a.is_item is.n edge.0 edge.1 in
-          let argument = map_from (answered_argument calls) edge.0.arguments is.j (Known v)
-          (ap (λ (es : List (Argument ℕ)). slice_get es is.j) (sym there.passed) ∙ map_at argument_of (carries.own.passed a.i is.n) is.j (Value v) passes) in
-          let one = name_is calls argument.0 v argument.2 in
-          let in_argument : In one.0 (known_argument argument.0) = subst (λ (x : Argument Name). In one.0 (known_argument x)) (sym one.1) (inl refl) in
-          let in_edge = among_all known_argument edge.0.arguments is.j argument.0 one.0 argument.1 in_argument in
-          let in_item = among_all (λ (e : Edge Name Name). flat_map known_argument e.arguments) a.item.instruction.edges is.n edge.0 one.0 edge.1 in_edge in
-          let passed : Contains (item_passes (Some (Instruct a.item.place a.item.instruction a.item.results))) one.0 = in_contained (passed_operands a.item.instruction) one.0 in_item in
+          let one = name_passed calls edge.0 (carries.own.passed a.i is.n) is.j v there.passed passes in
+          let passed : Contains (item_passes (Some (Instruct a.item.place a.item.instruction a.item.results))) one.0 =
+          edges_pass a.item.instruction is.n is.j edge.0 one.0 edge.1 one.1 in
           subst (λ (w : ℕ). IsFor q path (resolved f w)) one.2 (answer_given q path name a.j a.is one.0
           (by one.0 (placed.passed (at_index name a.j) one.0 (subst (λ (o : Option Item). Contains (item_passes o) one.0) (sym a.item.stands) passed))))
         where
