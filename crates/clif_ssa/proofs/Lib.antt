@@ -62,3 +62,4 @@ pub mod Within
 pub mod WithinUses
 pub mod Records
 pub mod TakingByRecords
+pub mod Below

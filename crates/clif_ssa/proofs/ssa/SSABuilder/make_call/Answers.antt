@@ -76,3 +76,6 @@ pub returns-in-FinishPredecessorsLookup-clause-takes_by_records :
     goal.returns-in-FinishPredecessorsLookup-clause-takes_by_records
 returns-in-FinishPredecessorsLookup-clause-takes_by_records c = λ not_memory.
     by_records_kept c.args.func.now c.args.self.now c.finish_look_up.new.func c.args.self.now (c.finish_look_up.ensures.takes not_memory) (λ x b none. none)
+
+pub returns-in-FinishPredecessorsLookup-clause-below : goal.returns-in-FinishPredecessorsLookup-clause-below
+returns-in-FinishPredecessorsLookup-clause-below c = λ variables blocks small fits before. before

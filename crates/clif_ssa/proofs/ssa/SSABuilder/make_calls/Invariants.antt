@@ -1,6 +1,6 @@
 use Rattle.std.proofs.Common.{length}
 use Rattle.clif_ssa.specs.Constructs.{OnlyConstructs, TellsMore}
-use Rattle.clif_ssa.specs.Limits.{TakesByRecords}
+use Rattle.clif_ssa.specs.Limits.{StaysBelowFor, TakesByRecords}
 use Rattle.clif_ssa.specs.Ssa.{KnowsNoMore, SamePredecessors, RecordsStay, SealedStays, HasMore, NamesExist}
 use Rattle.clif_ssa.specs.LookUp.{MakesCalls}
 use Rattle.clif_ssa.specs.Running.{stage, CallsFit, CountsOnce, work_of}
@@ -20,6 +20,7 @@ invariant-loop-call l = record {
   constructs : OnlyConstructs l.initial.func l.func;
   tells : TellsMore l.initial.func l.func l.initial.look_up.zeros l.look_up.zeros;
   takes : TakesByRecords l.initial.func l.initial.self l.func l.self;
+  below : StaysBelowFor l.variable l.initial.func l.initial.self l.self;
 }
 
 abbrev pub decreases-loop-call : goal.decreases-loop-call

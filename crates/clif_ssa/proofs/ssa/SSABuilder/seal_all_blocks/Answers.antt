@@ -12,6 +12,7 @@ use Rattle.clif_ssa.proofs.StructuredPublic.{seal_structured}
 use Rattle.clif_ssa.proofs.WithinUses.{leads_of, seals_within}
 use Rattle.std.proofs.lemmas.Result.{err_from_is_err_and}
 use Rattle.clif_ssa.proofs.TakingByRecords.{by_records_none, by_records_then}
+use Rattle.clif_ssa.proofs.Below.{stays_below_then}
 use Rattle.clif_ssa.proofs.ssa.SSABuilder.seal_all_blocks.Goals as goal
 
 pub returns-in_err-told-clause-stay : goal.returns-in_err-told-clause-stay
@@ -39,6 +40,7 @@ loop-number-init c = record {
   remembers = λ x b. same_remembers x b c.args.func.now c.args.self.now c.args.self.now refl;
   structured = λ types own before. before;
   takes = by_records_none c.args.func.now c.args.self.now;
+  below = λ variables blocks fits before. before;
 }
 
 pub loop-number-preserved : goal.loop-number-preserved
@@ -49,6 +51,7 @@ loop-number-preserved c =
     let inside : c.loop-number.number < length c.args.self.now.blocks = first_of (search rules, grind (arith, common_steps)) in
     record {
       sealed = sealed-below c.loop-number.self c.seal_one_block.new.self c.loop-number.number c.loop-number.invariant.sealed seals;
+      below = stays_below_then c.args.func.now c.loop-number.func c.args.self.now c.loop-number.self c.seal_one_block.new.self c.loop-number.invariant.more c.loop-number.invariant.below c.seal_one_block.ensures.below;
       takes = by_records_then c.args.func.now c.args.self.now c.loop-number.func c.loop-number.self c.seal_one_block.new.func c.seal_one_block.new.self c.loop-number.invariant.takes
           (c.in_ok-told.ensures.takes_by_records (λ memory. cc));
       named = named-kept c.loop-number.func c.seal_one_block.new.func c.loop-number.self c.seal_one_block.new.self c.seal_one_block.ensures.predecessors c.seal_one_block.ensures.names
@@ -176,3 +179,20 @@ returns-in_err-told-clause-takes_by_records c = λ not_memory.
 
 pub returns-clause-takes_by_records : goal.returns-clause-takes_by_records
 returns-clause-takes_by_records c = λ not_memory. c.loop-number.invariant.takes
+
+-- WHERE RECORDS ARE -----------------------------------------------------------------------------------------------
+
+pub returns-in_err-told-clause-below :
+    goal.returns-in_err-told-clause-below
+returns-in_err-told-clause-below c =
+    stays_below_then c.args.func.now c.loop-number.func c.args.self.now c.loop-number.self c.seal_one_block.new.self c.loop-number.invariant.more c.loop-number.invariant.below c.seal_one_block.ensures.below
+
+pub returns-in_err-append-clause-below :
+    goal.returns-in_err-append-clause-below
+returns-in_err-append-clause-below c =
+    stays_below_then c.args.func.now c.loop-number.func c.args.self.now c.loop-number.self c.seal_one_block.new.self c.loop-number.invariant.more c.loop-number.invariant.below c.seal_one_block.ensures.below
+
+pub returns-clause-below :
+    goal.returns-clause-below
+returns-clause-below c =
+    c.loop-number.invariant.below

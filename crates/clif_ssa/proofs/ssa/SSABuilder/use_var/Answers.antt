@@ -16,6 +16,7 @@ use Rattle.clif_ssa.proofs.StructuredPublic.{local_structured, machine_structure
 use Rattle.clif_ssa.proofs.WithinUses.{leads_of, same_within, local_within, machine_within}
 use Rattle.std.proofs.lemmas.Result.{err_from_is_err_and}
 use Rattle.clif_ssa.proofs.TakingByRecords.{by_records_none, by_records_then}
+use Rattle.clif_ssa.proofs.Below.{below_then}
 use Rattle.clif_ssa.proofs.ssa.SSABuilder.use_var.Goals as goal
 
 pub returns-in-Some-clause-keeps : goal.returns-in-Some-clause-keeps
@@ -189,3 +190,16 @@ pub returns-clause-takes_by_records : goal.returns-clause-takes_by_records
 returns-clause-takes_by_records c = λ not_memory.
     by_records_then c.args.func.now c.args.self.now c.look_up_in.new.func c.look_up_in.new.self c.make_calls.new.func c.make_calls.new.self
     (c.in_ok-look_up_in.ensures.takes_by_records (λ memory. cc)) (c.in_ok-value.ensures.takes_by_records (λ memory. cc))
+
+-- WHERE RECORDS ARE -----------------------------------------------------------------------------------------------
+
+pub returns-in-Some-clause-below : goal.returns-in-Some-clause-below
+returns-in-Some-clause-below c = λ variables blocks small fits before. before
+
+pub returns-in_err-value-clause-below : goal.returns-in_err-value-clause-below
+returns-in_err-value-clause-below c =
+    below_then c.args.variable c.args.func.now c.look_up_in.new.func c.args.self.now c.look_up_in.new.self c.make_calls.new.self c.look_up_in.ensures.more c.look_up_in.ensures.below c.make_calls.ensures.below
+
+pub returns-clause-below : goal.returns-clause-below
+returns-clause-below c =
+    below_then c.args.variable c.args.func.now c.look_up_in.new.func c.args.self.now c.look_up_in.new.self c.make_calls.new.self c.look_up_in.ensures.more c.look_up_in.ensures.below c.make_calls.ensures.below

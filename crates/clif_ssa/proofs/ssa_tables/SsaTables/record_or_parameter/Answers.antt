@@ -28,3 +28,9 @@ returns-in-Some-clause-constructs c = constructs_none c.args.func.now
 
 pub returns-in-Some-clause-takes_by_records : goal.returns-in-Some-clause-takes_by_records
 returns-in-Some-clause-takes_by_records c = λ not_memory. by_records_none c.args.func.now c.args.self.now
+
+pub returns-in_err-push_result-clause-below : goal.returns-in_err-push_result-clause-below
+returns-in_err-push_result-clause-below c = λ variables blocks small fits before. before
+
+pub returns-in-Some-clause-below : goal.returns-in-Some-clause-below
+returns-in-Some-clause-below c = λ variables blocks small fits before. before
