@@ -3,15 +3,27 @@ use Rattle.std.specs.Prelude.{ℕ, List, Option}
 use Rattle.clif_types.specs.Signature.{SignatureShape}
 use Rattle.clif_ir.specs.Body.{Body}
 use Rattle.clif_ir.specs.Consistent.{IsConsistent}
-use Rattle.clif_meaning.specs.Request.{AnsweredCall}
+use Rattle.clif_meaning.specs.Request.{AnsweredCall, script_of}
+use Rattle.clif_meaning.specs.View.{view_of}
+use Rattle.clif_meaning.specs.Typing.{EdgesMatch}
+use Rattle.clif_meaning.specs.Premises.{CallersEdgesMatch}
+use Rattle.clif_simulation.specs.Carries.{NothingLeads}
+use Rattle.clif_simulation.specs.Structure.{NoneWaits}
 use Rattle.clif_simulation.specs.Reading.{ReadsRight}
 use Rattle.cranelift_frontend.specs.Context.{ContextState}
 use Rattle.cranelift_frontend.specs.StandsFor.{StandsIn}
 
 -- Where the parts of a builder stand for a list of calls, they read right on runs and bits: beside a run of the list's
--- program, a run of the unfinished function has the bits of the names and, at a block's end so far, of the variables.
--- Each function is consistent (`Function::law_consistent`).
+-- program, a run of the unfinished function has the bits of the names and, at a block's end so far, of the variables. So
+-- far this is said where no branch was made. Each function is consistent (`Function::law_consistent`).
 abbrev pub StandingReadsRight : Type 0
 StandingReadsRight =
     (declared : SignatureShape) (calls : List AnsweredCall) (f : Body) (c : ContextState) (position : Option ℕ)
-    → IsConsistent f → StandsIn declared calls f c position → ReadsRight calls declared f c.ssa
+    → IsConsistent f → StandsIn declared calls f c position → NothingLeads c.ssa → ReadsRight calls declared f c.ssa
+
+-- Once no parameter waits, the arguments of every edge and the parameters of its target agree, where the caller's do:
+-- edges that control never takes, and edges to the entry, are no exception.
+abbrev pub StandingMatchesEdges : Type 0
+StandingMatchesEdges =
+    (declared : SignatureShape) (calls : List AnsweredCall) (f : Body) (c : ContextState) (position : Option ℕ)
+    → StandsIn declared calls f c position → NoneWaits c.ssa → CallersEdgesMatch (script_of calls) → EdgesMatch (view_of f)

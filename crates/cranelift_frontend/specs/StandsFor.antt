@@ -5,8 +5,7 @@ use Rattle.clif_types.specs.Signature.{SignatureShape}
 use Rattle.clif_ir.specs.Body.{Body}
 use Rattle.clif_ir.specs.Reading.{stands_in}
 use Rattle.clif_meaning.specs.Request.{AnsweredCall}
-use Rattle.clif_simulation.specs.Carries.{Carries, NothingLeads}
-pub use Rattle.clif_simulation.specs.Structure.{HasCallersParameters}
+use Rattle.clif_simulation.specs.Carries.{Carries}
 use Rattle.cranelift_frontend.specs.declared.context.BlockStatus.TheVariants.{Empty}
 use Rattle.cranelift_frontend.specs.declared.builder.FunctionBuilder.{FunctionBuilder}
 use Rattle.cranelift_frontend.specs.Context.{ContextState, status_of}
@@ -19,10 +18,8 @@ pub record StandsIn (declared : SignatureShape) (calls : List AnsweredCall) (f :
   -- the ledger of the calls agrees with what the queries answer
   pub ledger : LedgerAgrees calls (ledger_of calls) f c position
   -- each block's instructions are the program's, in order, operands being the answers of the names, with only zeros
-  -- before them; and the state on paths is sound
+  -- before them; and where no branch names the entry the state on paths is sound
   pub carries : Carries calls f c.ssa
-  -- so far no call makes a branch
-  pub nothing_leads : NothingLeads c.ssa
   -- in each block of the layout something was made
   pub begun : (block : ℕ) → stands_in block f.layout ≡ true → status_of c block ≢ Empty
 

@@ -9,7 +9,7 @@ ghost use Rattle.clif_meaning.specs.Headline.{MeansTheSame};
 ghost use Rattle.clif_meaning.specs.Premises.{CallersEdgesMatch, PlacementPremises};
 ghost use Rattle.clif_meaning.specs.Typing.{EdgesMatch};
 ghost use Rattle.clif_meaning.specs.WellPlaced.{Records, RecordsWellPlaced, WellPlaced};
-ghost use Rattle.clif_simulation.specs.Structure.{AreRecords, HasCallersParameters};
+ghost use Rattle.clif_simulation.specs.Structure.{AreRecords, LeavesNoParameter};
 ghost use Rattle.cranelift_frontend.specs.StandsFor.{StandsFor};
 ghost use Rattle.clif_meaning.specs.Acceptance.{refusal_of};
 ghost use Rattle.cranelift_frontend.specs.Ledger.{AgreesWithLedger, RefusalAgrees, ledger_of};
@@ -28,7 +28,7 @@ impl<'a> FunctionBuilder<'a> {
         ensures answer { result ≡ verdict_of self.entry.failed self.entry.ctx.now (length self.entry.func.now.blocks) }
         ensures ledger { (calls : List AnsweredCall) → AgreesWithLedger calls self.entry → self.entry.failed ≡ false → RefusalAgrees calls (refusal_of (ledger_of calls) Finalize) result }
         ensures same_meaning { (signature : SignatureShape) (calls : List AnsweredCall) → StandsFor signature calls self.entry → OnOk result (MeansTheSame (script_of calls) signature config.pointer_width (view_of self.exit.0.now)) }
-        ensures parameters { (signature : SignatureShape) (calls : List AnsweredCall) → StandsFor signature calls self.entry → OnOk result (HasCallersParameters calls self.exit.0.now) }
+        ensures parameters { (signature : SignatureShape) (calls : List AnsweredCall) → StandsFor signature calls self.entry → OnOk result (LeavesNoParameter calls self.exit.0.now self.entry.ctx.now.ssa) }
         ensures edges_match { (signature : SignatureShape) (calls : List AnsweredCall) → StandsFor signature calls self.entry → CallersEdgesMatch (script_of calls) → OnOk result (EdgesMatch (view_of self.exit.0.now)) }
         ensures well_placed { (signature : SignatureShape) (calls : List AnsweredCall) → StandsFor signature calls self.entry → PlacementPremises (script_of calls) signature → OnOk result (WellPlaced (view_of self.exit.0.now)) }
         ensures records_well_placed { (signature : SignatureShape) (calls : List AnsweredCall) (records : Records) → StandsFor signature calls self.entry → AreRecords calls self.entry.func.now self.entry.ctx.now.ssa records → PlacementPremises (script_of calls) signature → OnOk result (RecordsWellPlaced (view_of self.exit.0.now) records) }

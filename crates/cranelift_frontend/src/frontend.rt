@@ -11,7 +11,11 @@ ghost use Rattle.clif_ssa.specs.Ssa.{record_of, sealed_of, predecessors_of, comp
 ghost use Rattle.clif_ir.specs.Body.{empty_body, inst_at, block_at, value_at};
 ghost use Rattle.clif_ir.specs.Changes.{with_block, inserted_in};
 ghost use Rattle.clif_meaning.specs.Name.{Name};
-ghost use Rattle.clif_meaning.specs.Request.{AnsweredCall, CreateBlock, SwitchToBlock, SealBlock, DeclareVar, DefVar, UseVar};
+ghost use Rattle.clif_meaning.specs.View.{view_of};
+ghost use Rattle.clif_meaning.specs.Typing.{EdgesMatch};
+ghost use Rattle.clif_meaning.specs.Premises.{CallersEdgesMatch};
+ghost use Rattle.clif_simulation.specs.Structure.{NoneWaits};
+ghost use Rattle.clif_meaning.specs.Request.{AnsweredCall, script_of, CreateBlock, SwitchToBlock, SealBlock, DeclareVar, DefVar, UseVar};
 ghost use Rattle.clif_types.specs.Signature.{SignatureShape};
 ghost use Rattle.cranelift_frontend.specs.StandsFor.{StandsFor};
 ghost use Rattle.cranelift_frontend.specs.Ledger.{AgreesWithLedger, NamesBlock, NamesValue};
@@ -168,6 +172,7 @@ impl<'a> FunctionBuilder<'a> {
         ensures fails { self.new.failed ≡ is_err result }
         ensures ledger { (calls : List AnsweredCall) (name : Name) → AgreesWithLedger calls self.old → NamesBlock calls name block → OnOk result (AgreesWithLedger (calls ++ record { request = SealBlock name; numbers = [] } ∷ []) self.new) }
         ensures stands { (signature : SignatureShape) (calls : List AnsweredCall) (name : Name) → StandsFor signature calls self.old → NamesBlock calls name block → OnOk result (StandsFor signature (calls ++ record { request = SealBlock name; numbers = [] } ∷ []) self.new) }
+        ensures edges_match { (signature : SignatureShape) (calls : List AnsweredCall) → StandsFor signature calls self.new → NoneWaits self.new.ctx.now.ssa → CallersEdgesMatch (script_of calls) → EdgesMatch (view_of self.new.func.now) }
         ensures grows { OnOk result (Grows self.old.func.now self.new.func.now) }
         ensures remembers { (x b : ℕ) → OnOk result (RemembersIn x b self.old self.new) }
         ensures current { HasCurrent self.old → OnOk result (HasCurrent self.new) }
