@@ -2,7 +2,7 @@
 //! are the laws.
 
 ghost use Rattle.cranelift_frontend.specs.Growth.{BuilderUsesAgree};
-ghost use Rattle.cranelift_frontend.specs.Laws.{StandingReadsRight};
+ghost use Rattle.cranelift_frontend.specs.Laws.{StandingMatchesEdges, StandingReadsRight};
 
 /// Two uses of a variable in a block stand for one value, where no call between them assigns it there.
 pub fn uses_agree()
@@ -13,4 +13,10 @@ pub fn uses_agree()
 /// bits of its names and variables.
 pub fn standing_reads_right()
     ensures { StandingReadsRight }
+{}
+
+/// Once no parameter waits, the edges of the function of a builder that stands for a list of calls match, where the
+/// caller's do.
+pub fn standing_matches_edges()
+    ensures { StandingMatchesEdges }
 {}
