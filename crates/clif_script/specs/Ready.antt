@@ -6,6 +6,8 @@ use Rattle.clif_types.specs.declared.types.«Type».{«Type»}
 use Rattle.clif_types.specs.Types.{is_int}
 use Rattle.clif_ir.specs.Body.{Body, inst_at, value_at, resolved}
 use Rattle.clif_ir.specs.Reading.{def_of}
+use Rattle.clif_ir.specs.declared.block_call.BlockArg.{BlockArg}
+use Rattle.clif_ir.specs.declared.block_call.BlockArg.TheVariants.{Value}
 use Rattle.clif_ir.specs.declared.function.ValueDef.{ValueDef}
 use Rattle.clif_ir.specs.declared.function.ValueDef.TheVariants as def
 use Rattle.clif_meaning.specs.SameType.{same_type}
@@ -19,6 +21,7 @@ use Rattle.cranelift_frontend.specs.Builder.{is_filled_status, is_free}
 use Rattle.clif_types.specs.Signature.{SignatureShape}
 use Rattle.cranelift_frontend.specs.Ledger.{ledger_of}
 use Rattle.cranelift_frontend.specs.StandsFor.{StandsFor}
+use Rattle.clif_script.specs.declared.call.Edge.{Edge}
 use Rattle.clif_script.specs.declared.call.Name.{Name}
 use Rattle.clif_script.specs.declared.call.Call.{Call}
 use Rattle.clif_script.specs.declared.call.Call.TheVariants as call
@@ -137,6 +140,23 @@ can_make_constant b ty = is_open b && is_int ty
 abbrev pub all_values : Body → List Answer → List Name → Bool
 all_values f answers names = list_all (λ name. is_some (value_of f answers name)) names
 
+-- a name leads to a block that isn't sealed
+abbrev pub is_target : FunctionBuilder → Option ℕ → Bool
+is_target b None = false
+is_target b (Some block) = can_seal b block
+
+-- an edge may be made: its target isn't sealed, and each other name leads to a value
+abbrev pub may_lead : FunctionBuilder → List Answer → Edge → Bool
+may_lead b answers edge = is_target b (block_of answers edge.block) && all_values b.func.now answers edge.args.items
+
+-- the block and the arguments to which the names of such an edge lead
+pub record IsFound (b : FunctionBuilder) (answers : List Answer) (edge : Edge) (block : ℕ) (args : List BlockArg) : Type 0 where
+  pub values : List ℕ
+  pub target : block_of answers edge.block ≡ Some block
+  pub unsealed : can_seal b block ≡ true
+  pub found : map (value_of b.func.now answers) edge.args.items ≡ map Some values
+  pub passed : args ≡ map Value values
+
 -- the types of the variables after a call that succeeded
 abbrev pub types_after : Call → List «Type» → List «Type»
 types_after (call.DeclareVar ty) types = types ++ ty ∷ []
@@ -147,4 +167,7 @@ types_after (call.DefVar variable value) types = types
 types_after (call.UseVar variable) types = types
 types_after (call.Iconst ty imm) types = types
 types_after (call.Iadd x y) types = types
+types_after (call.Isub x y) types = types
+types_after (call.Jump destination) types = types
+types_after (call.Brif condition block_then block_else) types = types
 types_after (call.Return values) types = types

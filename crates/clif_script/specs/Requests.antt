@@ -2,14 +2,16 @@
 use Rattle.std.specs.Prelude.{◌≡◌, ◌<◌, ℕ, List, [], ◌∷◌, ◌++◌, length, map, take, drop, Option, Some, None, Result, Ok, Err}
 use Rattle.clif_ir.specs.Body.{Body}
 use Rattle.clif_meaning.specs.Name.{Name}
+use Rattle.clif_meaning.specs.Instruction.{Edge, Known}
 use Rattle.clif_meaning.specs.Request.{Request, CreateBlock, SwitchToBlock, SealBlock, DeclareVar, DefVar, UseVar, Finalize, Script, AnsweredCall, script_of}
 use Rattle.clif_meaning.specs.Ledger.{Ledger, empty_ledger, ledger_after, ledger_with}
-use Rattle.clif_meaning.specs.Acceptance.{Verdict, Accepted, Misuse, Refused, iconst, iadd, return_, verdict_from, verdict_on}
+use Rattle.clif_meaning.specs.Acceptance.{Verdict, Accepted, Misuse, Refused, iconst, iadd, isub, jump, brif, return_, verdict_from, verdict_on}
 use Rattle.clif_types.specs.Signature.{SignatureShape}
 use Rattle.clif_types.specs.declared.extname.UserFuncName.{UserFuncName}
 use Rattle.cranelift_frontend.specs.Context.{ContextState}
 use Rattle.cranelift_frontend.specs.StandsFor.{HasCallersParameters, StandsIn}
 use Rattle.clif_script.specs.declared.call.Name as named
+use Rattle.clif_script.specs.declared.call.Edge as script
 use Rattle.clif_script.specs.declared.call.Call.{Call}
 use Rattle.clif_script.specs.declared.call.Call.TheVariants as call
 use Rattle.clif_script.specs.declared.script.ReplayError.{ReplayError}
@@ -20,7 +22,11 @@ use Rattle.clif_script.specs.Limits.{IsNearlyFullIn}
 abbrev pub name_of : named.Name → Name
 name_of name = record { place = name.place; index = name.answer }
 
--- the request of a call. `iadd` is made at the type of its first operand, which the ledger tells.
+-- an edge, and what it passes
+abbrev pub edge_of : script.Edge → Edge Name Name
+edge_of destination = record { target = name_of destination.block; arguments = map (λ name. Known (name_of name)) destination.args.items }
+
+-- the request of a call. `iadd`, `isub` and `brif` are made at the type of their first operand, which the ledger tells.
 abbrev pub request_of : Ledger → Call → Request
 request_of ledger call.CreateBlock = CreateBlock
 request_of ledger (call.SwitchToBlock block) = SwitchToBlock (name_of block)
@@ -30,6 +36,9 @@ request_of ledger (call.DefVar variable value) = DefVar variable (name_of value)
 request_of ledger (call.UseVar variable) = UseVar variable
 request_of ledger (call.Iconst ty imm) = iconst ty imm
 request_of ledger (call.Iadd x y) = iadd ledger (name_of x) (name_of y)
+request_of ledger (call.Isub x y) = isub ledger (name_of x) (name_of y)
+request_of ledger (call.Jump destination) = jump (edge_of destination)
+request_of ledger (call.Brif condition block_then block_else) = brif ledger (name_of condition) (edge_of block_then) (edge_of block_else)
 request_of ledger (call.Return values) = return_ (map name_of values.items)
 
 -- the requests of calls, each at the ledger of the ones before it

@@ -15,6 +15,15 @@ pub struct Name {
     pub answer: usize,
 }
 
+/// An edge of a branch: its target, and the values that are passed to the target's parameters, in order.
+#[derive(Debug, Drop)]
+pub struct Edge {
+    /// The block, which isn't sealed.
+    pub block: Name,
+    /// Values.
+    pub args: Vec<Name>,
+}
+
 /// One call on a builder, with names in place of what earlier calls answered.
 ///
 /// Each variant is the builder's method, or the instruction, of its name, and has its conditions. A
@@ -42,6 +51,17 @@ pub enum Call {
     Iconst { ty: Type, imm: i64 },
     /// `iadd x, y`, an instruction with one result.
     Iadd { x: Name, y: Name },
+    /// `isub x, y`, an instruction with one result.
+    Isub { x: Name, y: Name },
+    /// `jump destination`, an instruction without results, which fills the block.
+    Jump { destination: Edge },
+    /// `brif condition, block_then, block_else`, an instruction without results, which fills the block: control
+    /// goes along the first edge where the condition isn't zero, and else along the second.
+    Brif {
+        condition: Name,
+        block_then: Edge,
+        block_else: Edge,
+    },
     /// `return values`, an instruction without results, which fills the block.
     Return { values: Vec<Name> },
 }

@@ -1,24 +1,26 @@
 //! The calls of a script, each made on a builder if its condition holds.
 ghost use Rattle.std.specs.Prelude.{◌≡◌, ◌≢◌, ◌<◌, ◌++◌, ◌∷◌, [], List, map, OnOk, IfOk, IfSome, length, slice_get, slice_index, slice_index_or, EachIndex, Some, Err, IsTrue, ◌↔◌, false, is_err};
-ghost use Rattle.cranelift_frontend.specs.Builder.{SameLoans, AppendsValue, HasCurrent, is_declarable, is_free};
+ghost use Rattle.cranelift_frontend.specs.Builder.{SameLoans, AppendsValue, CanLead, HasCurrent, is_declarable, is_free};
 ghost use Rattle.clif_types.specs.Signature.{SignatureShape};
-ghost use Rattle.cranelift_frontend.specs.Ledger.{NamesValue, ledger_of};
+ghost use Rattle.cranelift_frontend.specs.Ledger.{NamesEdge, NamesValue, ledger_of};
 ghost use Rattle.cranelift_frontend.specs.StandsFor.{StandsFor};
 ghost use Rattle.clif_types.specs.Types.{is_int};
 ghost use Rattle.clif_ir.specs.Body.{value_at};
 ghost use Rattle.clif_meaning.specs.Name as meaning;
+ghost use Rattle.clif_meaning.specs.Instruction as instruction;
 ghost use Rattle.clif_meaning.specs.Request.{AnsweredCall, number_of, CreateBlock, SwitchToBlock, SealBlock, DeclareVar, DefVar, UseVar};
-ghost use Rattle.clif_meaning.specs.Acceptance.{allows, iconst, iadd, return_};
+ghost use Rattle.clif_meaning.specs.Acceptance.{allows, iconst, iadd, isub, jump, brif, return_};
 ghost use Rattle.clif_script.specs.Limits.{IsOneCall, IsNearlyFull};
-ghost use Rattle.clif_script.specs.Requests.{name_of, request_of};
-ghost use Rattle.clif_script.specs.Ready.{IsReady, IsReadyNow, IsReadyWith, IsReadyAfter, IsJudged, AnswerExists, block_of, value_of, all_values, instruction_answer, is_open, can_switch, can_seal, can_define, can_use, can_make_constant, types_after};
+ghost use Rattle.clif_script.specs.Requests.{edge_of, name_of, request_of};
+ghost use Rattle.clif_script.specs.Ready.{IsReady, IsReadyNow, IsReadyWith, IsReadyAfter, IsFound, IsJudged, AnswerExists, may_lead, block_of, value_of, all_values, instruction_answer, is_open, can_switch, can_seal, can_define, can_use, can_make_constant, types_after};
 
-use crate::call::{Call, Name};
+use crate::call::{Call, Edge, Name};
 use crate::script::{Answer, CallError};
-use clif_ir::{BinaryOpcode, Function, InstructionData, ValueDef};
+use clif_ir::{BinaryOpcode, BlockArg, Function, InstructionData, ValueDef};
 use clif_ssa::Variable;
 use clif_types::{Block, BuildError, Inst, LaneType, Type, Value};
 use cranelift_frontend::{FunctionBuilder, InstBuilder};
+use std::alloc::Global;
 
 // Makes one call, where its conditions hold.
 pub(crate) fn make_call(
@@ -48,6 +50,13 @@ pub(crate) fn make_call(
         Call::UseVar { variable } => use_var(builder, answers, types, *variable),
         Call::Iconst { ty, imm } => iconst(builder, answers, *ty, *imm),
         Call::Iadd { x, y } => iadd(builder, answers, *x, *y),
+        Call::Isub { x, y } => isub(builder, answers, *x, *y),
+        Call::Jump { destination } => jump(builder, answers, destination),
+        Call::Brif {
+            condition,
+            block_then,
+            block_else,
+        } => brif(builder, answers, *condition, block_then, block_else),
         Call::Return { values } => return_(builder, answers, values.as_slice()),
     }
 }
@@ -344,6 +353,68 @@ fn append_iadd(builder: &mut FunctionBuilder<'_>, x: Value, y: Value) -> Result<
 }
 
 // The call itself.
+fn append_isub(builder: &mut FunctionBuilder<'_>, x: Value, y: Value) -> Result<Value, BuildError>
+    requires current { HasCurrent builder.old }
+    requires x_exists { x < length builder.old.func.now.values }
+    requires y_exists { y < length builder.old.func.now.values }
+    ensures loans { SameLoans builder.old builder.new }
+    ensures appends { IfSome builder.old.position (λ block. IfOk result (AppendsValue builder.old builder.new block (InstructionData.Binary BinaryOpcode.Isub (x ∷ y ∷ [])) (value_at builder.old.func.now x).ty)) }
+    ensures stands { (declared : SignatureShape) (calls : List AnsweredCall) (a b : meaning.Name) → StandsFor declared calls builder.old → NamesValue calls a x → NamesValue calls b y → IfOk result (λ value. StandsFor declared (calls ++ record { request = isub (ledger_of calls) a b; numbers = length builder.old.func.now.insts ∷ value ∷ [] } ∷ []) builder.new) }
+    ensures ssa { builder.new.ctx.now.ssa ≡ builder.old.ctx.now.ssa }
+    ensures one_call { OnOk result (IsOneCall builder.old builder.new) }
+    ensures full { result ≡ Err BuildError.Full → IsNearlyFull builder.old }
+    ensures variables { builder.new.ctx.now.variables ≡ builder.old.ctx.now.variables }
+    ensures position { builder.new.position ≡ builder.old.position }
+    ensures failed { (result ≡ Err BuildError.Failed) ↔ IsTrue builder.old.failed }
+    ensures fails { builder.new.failed ≡ is_err result }
+{
+    builder.ins().isub(x, y)
+}
+
+// The call itself.
+fn append_jump(builder: &mut FunctionBuilder<'_>, edge: &FoundEdge) -> Result<Inst, BuildError>
+    requires current { HasCurrent builder.old }
+    requires leads { CanLead builder.old (record { block = edge.now.block; args = edge.now.args.items }) }
+    ensures loans { SameLoans builder.old builder.new }
+    ensures stands { (declared : SignatureShape) (calls : List AnsweredCall) (destination : instruction.Edge meaning.Name meaning.Name) → StandsFor declared calls builder.old → NamesEdge calls destination (record { block = edge.now.block; args = edge.now.args.items }) → IfOk result (λ inst. StandsFor declared (calls ++ record { request = jump destination; numbers = inst ∷ [] } ∷ []) builder.new) }
+    ensures one_call { OnOk result (IsOneCall builder.old builder.new) }
+    ensures full { result ≡ Err BuildError.Full → IsNearlyFull builder.old }
+    ensures variables { builder.new.ctx.now.variables ≡ builder.old.ctx.now.variables }
+    ensures failed { (result ≡ Err BuildError.Failed) ↔ IsTrue builder.old.failed }
+    ensures fails { builder.new.failed ≡ is_err result }
+{
+    builder.ins().jump(edge.block, edge.args.as_slice())
+}
+
+// The call itself.
+fn append_brif(
+    builder: &mut FunctionBuilder<'_>,
+    condition: Value,
+    taken: &FoundEdge,
+    other: &FoundEdge,
+) -> Result<Inst, BuildError>
+    requires current { HasCurrent builder.old }
+    requires exists { condition < length builder.old.func.now.values }
+    requires leads_then { CanLead builder.old (record { block = taken.now.block; args = taken.now.args.items }) }
+    requires leads_else { CanLead builder.old (record { block = other.now.block; args = other.now.args.items }) }
+    ensures loans { SameLoans builder.old builder.new }
+    ensures stands { (declared : SignatureShape) (calls : List AnsweredCall) (c : meaning.Name) (first second : instruction.Edge meaning.Name meaning.Name) → StandsFor declared calls builder.old → NamesValue calls c condition → NamesEdge calls first (record { block = taken.now.block; args = taken.now.args.items }) → NamesEdge calls second (record { block = other.now.block; args = other.now.args.items }) → IfOk result (λ inst. StandsFor declared (calls ++ record { request = brif (ledger_of calls) c first second; numbers = inst ∷ [] } ∷ []) builder.new) }
+    ensures one_call { OnOk result (IsOneCall builder.old builder.new) }
+    ensures full { result ≡ Err BuildError.Full → IsNearlyFull builder.old }
+    ensures variables { builder.new.ctx.now.variables ≡ builder.old.ctx.now.variables }
+    ensures failed { (result ≡ Err BuildError.Failed) ↔ IsTrue builder.old.failed }
+    ensures fails { builder.new.failed ≡ is_err result }
+{
+    builder.ins().brif(
+        condition,
+        taken.block,
+        taken.args.as_slice(),
+        other.block,
+        other.args.as_slice(),
+    )
+}
+
+// The call itself.
 fn append_return(builder: &mut FunctionBuilder<'_>, values: &[Value]) -> Result<Inst, BuildError>
     requires current { HasCurrent builder.old }
     requires values_exist { EachIndex values.now (λ k. slice_index values.now k < length builder.old.func.now.values) }
@@ -423,6 +494,94 @@ fn iadd(
     Ok(answer)
 }
 
+// `isub(x, y)`, in a current unfilled block.
+fn isub(
+    builder: &mut FunctionBuilder<'_>,
+    answers: &[Answer],
+    x: Name,
+    y: Name,
+) -> Result<Answer, CallError>
+    requires ready { IsReadyNow builder.old answers.now }
+    requires sound { builder.old.failed ≡ false }
+    ensures loans { SameLoans builder.old builder.new }
+    ensures ready { (declared : SignatureShape) (calls : List AnsweredCall) → IsReady declared calls builder.old answers.now → IfOk result (IsReadyAfter declared calls (isub (ledger_of calls) (name_of x) (name_of y)) builder.new answers.now) }
+    ensures judged { (calls : List AnsweredCall) → IsReadyWith calls builder.old answers.now → IsJudged (allows (ledger_of calls) (isub (ledger_of calls) (name_of x) (name_of y))) result }
+    ensures sound { OnOk result (builder.new.failed ≡ false) }
+    ensures never_refused { result ≢ Err CallError.Refused }
+    ensures one_call { OnOk result (IsOneCall builder.old builder.new) }
+    ensures full { result ≡ Err CallError.Full → IsNearlyFull builder.old }
+    ensures variables { builder.new.ctx.now.variables ≡ builder.old.ctx.now.variables }
+{
+    let Some(left) = value_named(builder.func(), answers, x) else {
+        return Err(CallError::Misuse);
+    };
+    let Some(right) = value_named(builder.func(), answers, y) else {
+        return Err(CallError::Misuse);
+    };
+    if !has_current(builder) {
+        return Err(CallError::Misuse);
+    }
+    let value = append_isub(builder, left, right)?;
+    let answer = instruction_of(builder.func(), value);
+    Ok(answer)
+}
+
+// `jump(destination)`, in a current unfilled block, to a block that isn't sealed.
+fn jump(
+    builder: &mut FunctionBuilder<'_>,
+    answers: &[Answer],
+    destination: &Edge,
+) -> Result<Answer, CallError>
+    requires ready { IsReadyNow builder.old answers.now }
+    requires sound { builder.old.failed ≡ false }
+    ensures loans { SameLoans builder.old builder.new }
+    ensures ready { (declared : SignatureShape) (calls : List AnsweredCall) → IsReady declared calls builder.old answers.now → IfOk result (IsReadyAfter declared calls (jump (edge_of destination.now)) builder.new answers.now) }
+    ensures judged { (calls : List AnsweredCall) → IsReadyWith calls builder.old answers.now → IsJudged (allows (ledger_of calls) (jump (edge_of destination.now))) result }
+    ensures sound { OnOk result (builder.new.failed ≡ false) }
+    ensures never_refused { result ≢ Err CallError.Refused }
+    ensures one_call { OnOk result (IsOneCall builder.old builder.new) }
+    ensures full { result ≡ Err CallError.Full → IsNearlyFull builder.old }
+    ensures variables { builder.new.ctx.now.variables ≡ builder.old.ctx.now.variables }
+{
+    let edge = edge_named(builder, answers, destination)?;
+    if !has_current(builder) {
+        return Err(CallError::Misuse);
+    }
+    let inst = append_jump(builder, &edge)?;
+    Ok(Answer::Inst(inst))
+}
+
+// `brif(condition, block_then, block_else)`, in a current unfilled block, to blocks that aren't sealed.
+fn brif(
+    builder: &mut FunctionBuilder<'_>,
+    answers: &[Answer],
+    condition: Name,
+    block_then: &Edge,
+    block_else: &Edge,
+) -> Result<Answer, CallError>
+    requires ready { IsReadyNow builder.old answers.now }
+    requires sound { builder.old.failed ≡ false }
+    ensures loans { SameLoans builder.old builder.new }
+    ensures ready { (declared : SignatureShape) (calls : List AnsweredCall) → IsReady declared calls builder.old answers.now → IfOk result (IsReadyAfter declared calls (brif (ledger_of calls) (name_of condition) (edge_of block_then.now) (edge_of block_else.now)) builder.new answers.now) }
+    ensures judged { (calls : List AnsweredCall) → IsReadyWith calls builder.old answers.now → IsJudged (allows (ledger_of calls) (brif (ledger_of calls) (name_of condition) (edge_of block_then.now) (edge_of block_else.now))) result }
+    ensures sound { OnOk result (builder.new.failed ≡ false) }
+    ensures never_refused { result ≢ Err CallError.Refused }
+    ensures one_call { OnOk result (IsOneCall builder.old builder.new) }
+    ensures full { result ≡ Err CallError.Full → IsNearlyFull builder.old }
+    ensures variables { builder.new.ctx.now.variables ≡ builder.old.ctx.now.variables }
+{
+    let Some(condition) = value_named(builder.func(), answers, condition) else {
+        return Err(CallError::Misuse);
+    };
+    let taken = edge_named(builder, answers, block_then)?;
+    let other = edge_named(builder, answers, block_else)?;
+    if !has_current(builder) {
+        return Err(CallError::Misuse);
+    }
+    let inst = append_brif(builder, condition, &taken, &other)?;
+    Ok(Answer::Inst(inst))
+}
+
 // `return_(values)`, in a current unfilled block.
 fn return_(
     builder: &mut FunctionBuilder<'_>,
@@ -477,4 +636,47 @@ fn values_named(
         values.push(value)?;
     }
     Ok(values)
+}
+
+// An edge, with the numbers to which its names lead.
+#[derive(Drop)]
+struct FoundEdge {
+    block: Block,
+    args: Vec<BlockArg>,
+}
+
+// The edge that names lead to, where its target isn't sealed.
+fn edge_named(
+    builder: &FunctionBuilder<'_>,
+    answers: &[Answer],
+    edge: &Edge,
+) -> Result<FoundEdge, CallError>
+    requires { EachIndex answers.now (λ k. AnswerExists builder.now.func.now (slice_index_or answers.now k Answer.Nothing)) }
+    ensures found { IfOk result (λ e. IsFound builder.now answers.now edge.now e.block e.args.items) }
+    ensures misuse { result ≡ Err CallError.Misuse → may_lead builder.now answers.now edge.now ≡ false }
+    ensures never_full { result ≢ Err CallError.Full }
+    ensures never_refused { result ≢ Err CallError.Refused }
+{
+    let Some(block) = block_named(answers, edge.block) else {
+        return Err(CallError::Misuse);
+    };
+    if !may_seal(builder, block) {
+        return Err(CallError::Misuse);
+    }
+    let func = builder.func();
+    let values = values_named(func, answers, edge.args.as_slice())?;
+    let args = arguments_of(func.allocator(), values.as_slice())?;
+    Ok(FoundEdge { block, args })
+}
+
+// What an edge passes: these values.
+fn arguments_of(alloc: Global, values: &[Value]) -> Result<Vec<BlockArg>, CallError>
+    ensures values { IfOk result (λ args. args.items ≡ map BlockArg.Value values.now) }
+    ensures only_memory { OnErr result (result ≡ Err CallError.Memory) }
+{
+    let mut args = Vec::new(alloc);
+    for value in values.iter() {
+        args.push(BlockArg::Value(*value))?;
+    }
+    Ok(args)
 }

@@ -3,7 +3,7 @@
 ghost use Rattle.std.specs.Prelude.{◌≡◌, ◌<◌, ◌↔◌, length, string_bytes, slice_get, IfOk, IfSome, IsSome};
 ghost use Rattle.clif_script.specs.Rows.{IsRowName};
 
-use crate::call::{Call, Name};
+use crate::call::{Call, Edge, Name};
 use crate::script::{ReplayError, replay};
 use clif_ir::Function;
 use clif_ssa::Variable;
@@ -15,7 +15,7 @@ use std::alloc::{AllocError, Global};
 use std::io;
 
 // The names of the rows that are built so far, in order.
-const NAMES: [&str; 2] = ["first", "empty"];
+const NAMES: [&str; 4] = ["first", "reordering", "both_arms", "empty"];
 
 // A function that is built from a list of calls.
 #[derive(Drop)]
@@ -33,6 +33,8 @@ fn make_row(alloc: Global, name: &str) -> Result<Option<Row>, AllocError>
 {
     match name {
         "first" => Ok(Some(first(alloc)?)),
+        "reordering" => Ok(Some(reordering(alloc)?)),
+        "both_arms" => Ok(Some(both_arms(alloc)?)),
         "empty" => Ok(Some(empty(alloc))),
         _ => Ok(None),
     }
@@ -52,30 +54,173 @@ fn answer(place: usize, answer: usize) -> Name {
     Name { place, answer }
 }
 
+// The calls of a row, one after the other. Each answers the name of what it answers: of the result, where it is
+// an instruction that has one.
+impl Row {
+    fn add(&mut self, call: Call) -> Result<usize, AllocError> {
+        let place = self.calls.len();
+        self.calls.push(call)?;
+        Ok(place)
+    }
+
+    fn declare(&mut self, number: usize) -> Result<Variable, AllocError>
+        requires { number < 2 ^ 32 - 1 }
+    {
+        self.add(Call::DeclareVar { ty: I32 })?;
+        Ok(Variable::new(number))
+    }
+
+    fn create_block(&mut self) -> Result<Name, AllocError> {
+        Ok(answer(self.add(Call::CreateBlock)?, 0))
+    }
+
+    fn switch_to(&mut self, block: Name) -> Result<(), AllocError> {
+        self.add(Call::SwitchToBlock { block })?;
+        Ok(())
+    }
+
+    fn seal(&mut self, block: Name) -> Result<(), AllocError> {
+        self.add(Call::SealBlock { block })?;
+        Ok(())
+    }
+
+    fn constant(&mut self, imm: i64) -> Result<Name, AllocError> {
+        Ok(answer(self.add(Call::Iconst { ty: I32, imm })?, 1))
+    }
+
+    fn use_var(&mut self, variable: Variable) -> Result<Name, AllocError> {
+        Ok(answer(self.add(Call::UseVar { variable })?, 0))
+    }
+
+    fn define(&mut self, variable: Variable, value: Name) -> Result<(), AllocError> {
+        self.add(Call::DefVar { variable, value })?;
+        Ok(())
+    }
+
+    fn iadd(&mut self, x: Name, y: Name) -> Result<Name, AllocError> {
+        Ok(answer(self.add(Call::Iadd { x, y })?, 1))
+    }
+
+    fn isub(&mut self, x: Name, y: Name) -> Result<Name, AllocError> {
+        Ok(answer(self.add(Call::Isub { x, y })?, 1))
+    }
+
+    fn jump(&mut self, alloc: Global, block: Name) -> Result<(), AllocError> {
+        let destination = edge(alloc, block);
+        self.add(Call::Jump { destination })?;
+        Ok(())
+    }
+
+    fn brif(
+        &mut self,
+        alloc: Global,
+        condition: Name,
+        block_then: Name,
+        block_else: Name,
+    ) -> Result<(), AllocError> {
+        let block_then = edge(alloc, block_then);
+        let block_else = edge(alloc, block_else);
+        self.add(Call::Brif {
+            condition,
+            block_then,
+            block_else,
+        })?;
+        Ok(())
+    }
+
+    fn return_value(&mut self, alloc: Global, value: Name) -> Result<(), AllocError> {
+        let mut values = Vec::new(alloc);
+        values.push(value)?;
+        self.add(Call::Return { values })?;
+        Ok(())
+    }
+}
+
+// An edge that passes nothing of the caller's.
+fn edge(alloc: Global, block: Name) -> Edge {
+    Edge {
+        block,
+        args: Vec::new(alloc),
+    }
+}
+
 // A use of a variable before its block is sealed, a sum, and its return.
 fn first(alloc: Global) -> Result<Row, AllocError> {
     let mut row = named(alloc, "first")?;
     row.signature.returns.push(AbiParam::new(I32))?;
-    let x = Variable::new(0);
-    row.calls.push(Call::DeclareVar { ty: I32 })?;
-    row.calls.push(Call::CreateBlock)?;
-    let block = answer(1, 0);
-    row.calls.push(Call::SwitchToBlock { block })?;
-    row.calls.push(Call::UseVar { variable: x })?;
-    row.calls.push(Call::Iconst { ty: I32, imm: 7 })?;
-    row.calls.push(Call::Iadd {
-        x: answer(3, 0),
-        y: answer(4, 1),
-    })?;
-    row.calls.push(Call::DefVar {
-        variable: x,
-        value: answer(5, 1),
-    })?;
-    row.calls.push(Call::UseVar { variable: x })?;
-    let mut values = Vec::new(alloc);
-    values.push(answer(7, 0))?;
-    row.calls.push(Call::Return { values })?;
-    row.calls.push(Call::SealBlock { block })?;
+    let x = row.declare(0)?;
+    let block = row.create_block()?;
+    row.switch_to(block)?;
+    let old = row.use_var(x)?;
+    let seven = row.constant(7)?;
+    let sum = row.iadd(old, seven)?;
+    row.define(x, sum)?;
+    let value = row.use_var(x)?;
+    row.return_value(alloc, value)?;
+    row.seal(block)?;
+    Ok(row)
+}
+
+// A loop whose block is sealed after it: a parameter that turns out to be one value is another name of it, and
+// the others keep their order.
+fn reordering(alloc: Global) -> Result<Row, AllocError> {
+    let mut row = named(alloc, "reordering")?;
+    let x = row.declare(0)?;
+    let y = row.declare(1)?;
+    let z = row.declare(2)?;
+    let block0 = row.create_block()?;
+    let block1 = row.create_block()?;
+    row.switch_to(block0)?;
+    row.seal(block0)?;
+    for (variable, imm) in [(x, 0), (y, 1), (z, 2)] {
+        let value = row.constant(imm)?;
+        row.define(variable, value)?;
+    }
+    row.jump(alloc, block1)?;
+    row.switch_to(block1)?;
+    let z_value = row.use_var(z)?;
+    let x_value = row.use_var(x)?;
+    let sum = row.iadd(x_value, z_value)?;
+    row.define(x, sum)?;
+    let x_value = row.use_var(x)?;
+    let y_value = row.use_var(y)?;
+    let difference = row.isub(y_value, x_value)?;
+    row.define(y, difference)?;
+    row.jump(alloc, block1)?;
+    row.seal(block1)?;
+    Ok(row)
+}
+
+// A loop that both arms of one branch lead back to.
+fn both_arms(alloc: Global) -> Result<Row, AllocError> {
+    let mut row = named(alloc, "both_arms")?;
+    row.signature.returns.push(AbiParam::new(I32))?;
+    let x = row.declare(0)?;
+    let block0 = row.create_block()?;
+    let block1 = row.create_block()?;
+    let block2 = row.create_block()?;
+    let block3 = row.create_block()?;
+    row.switch_to(block0)?;
+    let five = row.constant(5)?;
+    row.define(x, five)?;
+    row.jump(alloc, block1)?;
+    row.switch_to(block1)?;
+    let value = row.use_var(x)?;
+    row.brif(alloc, value, block2, block3)?;
+    row.switch_to(block2)?;
+    row.seal(block2)?;
+    let value = row.use_var(x)?;
+    let minus_one = row.constant(-1)?;
+    let sum = row.iadd(value, minus_one)?;
+    row.define(x, sum)?;
+    let value = row.use_var(x)?;
+    row.brif(alloc, value, block1, block1)?;
+    row.seal(block1)?;
+    row.switch_to(block3)?;
+    row.seal(block3)?;
+    let value = row.use_var(x)?;
+    row.return_value(alloc, value)?;
+    row.seal(block0)?;
     Ok(row)
 }
 

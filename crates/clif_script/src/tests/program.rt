@@ -75,6 +75,8 @@ fn run_with(
 
 const MANY: usize = 1_000;
 
+const NAMES: &str = "first\nreordering\nboth_arms\nempty\n";
+
 const FIRST: &str = "\
 function %first() -> i32 system_v {
 block0:
@@ -83,6 +85,41 @@ block0:
     v1 = iconst.i32 7
     v2 = iadd v0, v1  ; v0 = 0, v1 = 7
     return v2
+}
+";
+
+const REORDERING: &str = "\
+function %reordering() system_v {
+block0:
+    v0 = iconst.i32 0
+    v1 = iconst.i32 1
+    v2 = iconst.i32 2
+    v3 -> v2
+    jump block1(v0, v1)  ; v0 = 0, v1 = 1
+
+block1(v4: i32, v6: i32):
+    v5 = iadd v4, v3  ; v3 = 2
+    v7 = isub v6, v5
+    jump block1(v5, v7)
+}
+";
+
+const BOTH_ARMS: &str = "\
+function %both_arms() -> i32 system_v {
+block0:
+    v0 = iconst.i32 5
+    jump block1(v0)  ; v0 = 5
+
+block1(v1: i32):
+    brif v1, block2, block3
+
+block2:
+    v2 = iconst.i32 -1
+    v3 = iadd.i32 v1, v2  ; v2 = -1
+    brif v3, block1(v3), block1(v3)
+
+block3:
+    return v1
 }
 ";
 
@@ -106,8 +143,10 @@ fn gives(
 fn rows(rt: HostRuntime) -> Result<(), Fail> {
     let alloc = rt.alloc();
     gives(&rt, alloc, &["first"], 0, FIRST, "")?;
+    gives(&rt, alloc, &["reordering"], 0, REORDERING, "")?;
+    gives(&rt, alloc, &["both_arms"], 0, BOTH_ARMS, "")?;
     gives(&rt, alloc, &["empty"], 0, "function u0:0() fast {\n}\n", "")?;
-    gives(&rt, alloc, &[], 0, "first\nempty\n", "")
+    gives(&rt, alloc, &[], 0, NAMES, "")
 }
 
 #[test]
@@ -168,7 +207,8 @@ fn stops_at_each_write(
 #[test]
 fn refused_output(rt: HostRuntime) -> Result<(), Fail> {
     let alloc = rt.alloc();
-    stops_at_each_write(&rt, alloc, &[], "first\nempty\n")?;
+    stops_at_each_write(&rt, alloc, &[], NAMES)?;
+    stops_at_each_write(&rt, alloc, &["both_arms"], BOTH_ARMS)?;
     stops_at_each_write(&rt, alloc, &["first"], FIRST)?;
     stops_at_each_write(&rt, alloc, &["empty"], "function u0:0() fast {\n}\n")
 }

@@ -2,7 +2,8 @@
 #![tactic(auto)]
 
 use super::support::Step::{
-    Create, Declare, Def, Iadd, Iconst, Return, ReturnNone, Seal, Switch, Use,
+    Brif, Create, Declare, Def, Iadd, Iconst, Isub, Jump, JumpWith, Return, ReturnNone, Seal, Switch,
+    Use,
 };
 use super::support::{F32, I32, I64, all_refuse};
 use crate::script::ReplayError::{Misuse, Refused};
@@ -125,6 +126,44 @@ fn order_of_calls(rt: HostRuntime) -> Result<(), Fail> {
             // of two faults the first is told, also before one of `finalize`
             (&[Create, Switch(7, 0), Iconst(F32)], Misuse(1)),
             (&[Create, Switch(0, 0), Iconst(I32), Seal(9, 0)], Misuse(3)),
+        ],
+    )
+}
+
+// A branch to a sealed block, from a filled block, or with names that lead to no block or to no value.
+#[test]
+fn branches(rt: HostRuntime) -> Result<(), Fail> {
+    all_refuse(
+        &rt,
+        rt.alloc(),
+        &[
+            (&[Create, Switch(0, 0), Seal(0, 0), Jump(0, 0)], Misuse(3)),
+            (&[Create, Jump(0, 0)], Misuse(1)),
+            (&[Create, Switch(0, 0), Jump(0, 0), Jump(0, 0)], Misuse(3)),
+            (&[Create, Switch(0, 0), Jump(1, 0)], Misuse(2)),
+            (&[Create, Switch(0, 0), JumpWith((0, 0), (0, 0))], Misuse(2)),
+            (
+                &[Create, Switch(0, 0), Iconst(I32), Isub((2, 1), (2, 2))],
+                Misuse(3),
+            ),
+            (
+                &[Create, Switch(0, 0), Brif((0, 0), (0, 0), (0, 0))],
+                Misuse(2),
+            ),
+            // the second arm leads to a sealed block
+            (
+                &[
+                    Create,
+                    Create,
+                    Seal(1, 0),
+                    Switch(0, 0),
+                    Iconst(I32),
+                    Brif((4, 1), (0, 0), (1, 0)),
+                ],
+                Misuse(5),
+            ),
+            // the target is begun by no branch, and the block of the branch isn't sealed
+            (&[Create, Create, Switch(0, 0), Jump(1, 0)], Refused(4)),
         ],
     )
 }

@@ -4,7 +4,7 @@
 ghost use Rattle.std.specs.Prelude.{◌≡◌};
 ghost use Rattle.cranelift_frontend.specs.Context.{empty_context};
 
-use crate::call::{Call, Name};
+use crate::call::{Call, Edge, Name};
 use crate::script::{ReplayError, replay};
 use clif_ir::Function;
 use clif_ssa::Variable;
@@ -33,6 +33,10 @@ pub enum Step {
     Use(u8),
     Iconst(Type),
     Iadd((usize, usize), (usize, usize)),
+    Isub((usize, usize), (usize, usize)),
+    Jump(usize, usize),
+    JumpWith((usize, usize), (usize, usize)),
+    Brif((usize, usize), (usize, usize), (usize, usize)),
     ReturnNone,
     Return(usize, usize),
 }
@@ -68,11 +72,42 @@ pub fn call_of(alloc: Global, step: Step) -> Result<Call, AllocError> {
             x: name(x.0, x.1),
             y: name(y.0, y.1),
         },
+        Step::Isub(x, y) => Call::Isub {
+            x: name(x.0, x.1),
+            y: name(y.0, y.1),
+        },
+        Step::Jump(place, answer) => Call::Jump {
+            destination: edge(alloc, (place, answer)),
+        },
+        Step::JumpWith(block, value) => jump_with(alloc, block, value)?,
+        Step::Brif(condition, block_then, block_else) => Call::Brif {
+            condition: name(condition.0, condition.1),
+            block_then: edge(alloc, block_then),
+            block_else: edge(alloc, block_else),
+        },
         Step::ReturnNone => Call::Return {
             values: Vec::new(alloc),
         },
         Step::Return(place, answer) => return_one(alloc, name(place, answer))?,
     })
+}
+
+// An edge that passes nothing of the caller's.
+fn edge(alloc: Global, block: (usize, usize)) -> Edge {
+    Edge {
+        block: name(block.0, block.1),
+        args: Vec::new(alloc),
+    }
+}
+
+fn jump_with(
+    alloc: Global,
+    block: (usize, usize),
+    value: (usize, usize),
+) -> Result<Call, AllocError> {
+    let mut destination = edge(alloc, block);
+    destination.args.push(name(value.0, value.1))?;
+    Ok(Call::Jump { destination })
 }
 
 fn return_one(alloc: Global, value: Name) -> Result<Call, AllocError> {
