@@ -60,3 +60,6 @@ pub mod StructuredPublic
 pub mod Grown
 pub mod Within
 pub mod WithinUses
+pub mod Records
+pub mod TakingByRecords
+pub mod Below

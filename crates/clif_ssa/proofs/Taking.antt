@@ -79,7 +79,7 @@ Takes-with_inst f b end shape types loc =
     record { values_more = omega (arith, v, n, none, p); insts_more = omega (arith, i, none, p) }
 
 -- a parameter that becomes another name gives an entry back
-params-aliased : (f : Body) (v b original : ℕ) → param_home f v ≡ Some b → param_count (with_alias f v original).values + 1 ≡ param_count f.values
+pub params-aliased : (f : Body) (v b original : ℕ) → param_home f v ≡ Some b → param_count (with_alias f v original).values + 1 ≡ param_count f.values
 params-aliased f v b original is =
     let node : ValueNode = record (value_at f v) { origin = Alias (resolved f original) } in
     let changed : param_count (set f.values v node) + counted (get_or f.values v no_value) ≡ param_count f.values + 0 =

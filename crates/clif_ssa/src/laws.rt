@@ -2,6 +2,7 @@
 //! itself, and stay sound.
 
 ghost use Rattle.clif_ssa.specs.SoundLaws.{FirstDescribes, SameStateKeeps, InsertionKeeps, NewBlockKeeps, ReadItemKeeps, WriteHereKeeps, WriteItemKeeps, OwnInstructionKeeps, OwnResultKeeps, WaitingUseKeeps, ZeroUseKeeps, SealingKeeps, PredecessorDeclared, PredecessorRemoved, NewNameStays};
+ghost use Rattle.clif_ssa.specs.Limits.{FewRecords};
 ghost use Rattle.clif_ssa.specs.Structure.{UsesAgree};
 ghost use Rattle.clif_ssa.specs.Structured.{FirstStructured, NewBlockStructured, InsertionStructured, InstructionStructured, ParameterStructured};
 ghost use Rattle.clif_ssa.specs.Within.{WaitingHeld};
@@ -114,4 +115,9 @@ pub fn parameter_structured()
 /// A set holds what waits in a block as soon as it holds the block, where anything waits.
 pub fn waiting_held()
     ensures { WaitingHeld }
+{}
+
+/// There are no more records than pairs of a variable and a block for which one may be.
+pub fn few_records()
+    ensures { FewRecords }
 {}

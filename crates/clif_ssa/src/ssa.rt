@@ -3,7 +3,7 @@ ghost use Rattle.std.specs.Prelude.{◌≡◌, ◌≢◌, ◌<◌, ◌≤◌, �
 ghost use Rattle.clif_ir.specs.Body.{Body, block_at, value_at};
 ghost use Rattle.clif_ir.specs.Consistent.{Stands};
 ghost use Rattle.clif_ssa.specs.Constructs.{OnlyConstructs, TellsMore, TellsZeros};
-ghost use Rattle.clif_ssa.specs.Limits.{IsFull, Takes};
+ghost use Rattle.clif_ssa.specs.Limits.{record_count, IsFull, RecordsBelow, StaysBelow, StaysBelowFor, Takes, TakesByRecords};
 ghost use Rattle.clif_ssa.specs.Tables.{is_yes, pending_of};
 ghost use Rattle.clif_ssa.specs.declared.tables.Pending.{Pending};
 ghost use Rattle.clif_paths.specs.Places.{start};
@@ -164,6 +164,8 @@ impl SSABuilder {
         ensures nothing_stray { (own : ℕ → List ℕ) (f : Body) → NothingStray own f self.old → NothingStray own f self.new }
         ensures looks_once { LooksOnce self.old → LooksOnce self.new }
         ensures structured { (types : VariableTypes) (own : Own) (f : Body) → HasType f value (types variable) → Structured types own f self.old [] → OnOk result (Structured types own f self.new []) }
+        ensures one_record { record_count self.new ≤ record_count self.old + 1 }
+        ensures below { (variables blocks : ℕ) → variable < variables → block < blocks → RecordsBelow variables blocks self.old → RecordsBelow variables blocks self.new }
         ensures only_memory { OnErr result (result ≡ Err BuildError.Memory) }
     {
         self.tables.record(variable, block, value)
@@ -212,6 +214,8 @@ impl SSABuilder {
         ensures full { result ≡ Err BuildError.Full → IsFull func.new }
         ensures takes { IsLocal self.old variable block → result ≢ Err BuildError.Memory → Takes func.old func.new 2 1 }
         ensures err { IsLocal self.old variable block → OnErr result (SameBlocks self.old self.new) }
+        ensures takes_by_records { result ≢ Err BuildError.Memory → TakesByRecords func.old self.old func.new self.new }
+        ensures below { StaysBelowFor variable func.old self.old self.new }
         ensures never_failed { result ≢ Err BuildError.Failed }
     {
         func.law_consistent();
@@ -259,6 +263,8 @@ impl SSABuilder {
         ensures err { OnErr result (SameBlocks self.old self.new) }
         ensures full { result ≡ Err BuildError.Full → IsFull func.new }
         ensures takes { result ≢ Err BuildError.Memory → Takes func.old func.new 2 1 }
+        ensures takes_by_records { result ≢ Err BuildError.Memory → TakesByRecords func.old self.old func.new self.new }
+        ensures below { StaysBelowFor variable func.old self.old self.new }
         ensures never_failed { result ≢ Err BuildError.Failed }
     {
         let mut side_effects = SideEffects::new(self.alloc);
@@ -295,8 +301,11 @@ impl SSABuilder {
         ensures names { NamesExist func.new self.new }
         ensures once { CountsOnce self.old self.new }
         ensures full { result ≡ Err BuildError.Full → IsFull func.new }
+        ensures takes_by_records { result ≢ Err BuildError.Memory → TakesByRecords func.old self.old func.new self.new }
+        ensures below { StaysBelowFor variable func.old self.old self.new }
         ensures never_failed { result ≢ Err BuildError.Failed }
     {
+        func.law_consistent();
         let reached = self.tables.walk(func, variable, block, &mut self.passed)?;
         let value = self
             .tables
@@ -327,6 +336,8 @@ impl SSABuilder {
         ensures once { CountsOnce self.old self.new }
         ensures exists { IfOk result (λ v. v < length func.new.values) }
         ensures full { result ≡ Err BuildError.Full → IsFull func.new }
+        ensures takes_by_records { result ≢ Err BuildError.Memory → TakesByRecords func.old self.old func.new self.new }
+        ensures below { StaysBelowFor variable func.old self.old self.new }
         ensures never_failed { result ≢ Err BuildError.Failed }
     {
         while let Some(call) = look_up.next_call() {
@@ -358,6 +369,8 @@ impl SSABuilder {
         ensures names { NamesExist func.new self.new }
         ensures once { CountsOnce self.old self.new }
         ensures full { result ≡ Err BuildError.Full → IsFull func.new }
+        ensures takes_by_records { result ≢ Err BuildError.Memory → TakesByRecords func.old self.old func.new self.new }
+        ensures below { StaysBelowFor variable func.old self.old self.new }
         ensures never_failed { result ≢ Err BuildError.Failed }
     {
         match call {
@@ -398,6 +411,8 @@ impl SSABuilder {
         ensures names { NamesExist func.new self.new }
         ensures looks_once { (rest : List Pending) → ToComplete self.old block (waiting ∷ rest) → ToComplete self.new block rest }
         ensures full { result ≡ Err BuildError.Full → IsFull func.new }
+        ensures takes_by_records { result ≢ Err BuildError.Memory → TakesByRecords func.old self.old func.new self.new }
+        ensures below { StaysBelowFor waiting.variable func.old self.old self.new }
         ensures never_failed { result ≢ Err BuildError.Failed }
     {
         let Pending { variable, param } = waiting;
@@ -429,6 +444,8 @@ impl SSABuilder {
         ensures names { NamesExist func.new self.new }
         ensures looks_once { ToComplete self.old block waiting.now → LooksOnce self.new }
         ensures full { result ≡ Err BuildError.Full → IsFull func.new }
+        ensures takes_by_records { result ≢ Err BuildError.Memory → TakesByRecords func.old self.old func.new self.new }
+        ensures below { (variables blocks : ℕ) → length func.old.blocks ≤ blocks → ((p : Pending) → Contains waiting.now p → p.variable < variables) → RecordsBelow variables blocks self.old → RecordsBelow variables blocks self.new }
         ensures never_failed { result ≢ Err BuildError.Failed }
     {
         for pending in waiting.iter() {
@@ -487,6 +504,8 @@ impl SSABuilder {
         ensures names { NamesExist func.old self.old → NamesExist func.new self.new }
         ensures full { result ≡ Err BuildError.Full → IsFull func.new }
         ensures takes { predecessors_of self.old block ≡ [] → result ≢ Err BuildError.Memory → Takes func.old func.new 0 0 }
+        ensures takes_by_records { result ≢ Err BuildError.Memory → TakesByRecords func.old self.old func.new self.new }
+        ensures below { StaysBelow func.old self.old self.new }
         ensures never_failed { result ≢ Err BuildError.Failed }
     {
         let waiting = self.tables.seal(block)?;
@@ -530,6 +549,8 @@ impl SSABuilder {
         ensures names { NamesExist func.old self.old → NamesExist func.new self.new }
         ensures full { result ≡ Err BuildError.Full → IsFull func.new }
         ensures takes { predecessors_of self.old block ≡ [] → result ≢ Err BuildError.Memory → Takes func.old func.new 0 0 }
+        ensures takes_by_records { result ≢ Err BuildError.Memory → TakesByRecords func.old self.old func.new self.new }
+        ensures below { StaysBelow func.old self.old self.new }
         ensures never_failed { result ≢ Err BuildError.Failed }
     {
         func.law_consistent();
@@ -558,6 +579,8 @@ impl SSABuilder {
         ensures within { (holds : ℕ → Bool) → HoldsBranches func.old self.old holds → ((b : ℕ) → HoldsWaiting func.old self.old holds b) → IfOk result (λ r. StaysWithin holds func.old func.new r.instructions_added_to_blocks.items) }
         ensures names { NamesExist func.old self.old → NamesExist func.new self.new }
         ensures full { result ≡ Err BuildError.Full → IsFull func.new }
+        ensures takes_by_records { result ≢ Err BuildError.Memory → TakesByRecords func.old self.old func.new self.new }
+        ensures below { StaysBelow func.old self.old self.new }
         ensures never_failed { result ≢ Err BuildError.Failed }
     {
         let mut side_effects = SideEffects::new(self.alloc);

@@ -4,7 +4,7 @@ ghost use Rattle.clif_ir.specs.Changes.{with_param};
 ghost use Rattle.clif_ir.specs.Consistent.{Stands};
 ghost use Rattle.clif_ir.specs.Reading.{stands_in};
 ghost use Rattle.clif_ssa.specs.Constructs.{OnlyConstructs, TellsMore};
-ghost use Rattle.clif_ssa.specs.Limits.{IsFull};
+ghost use Rattle.clif_ssa.specs.Limits.{IsFull, StaysBelowFor, TakesByRecords};
 ghost use Rattle.clif_ssa.specs.Tables.{is_yes, pending_of};
 ghost use Rattle.clif_ssa.specs.declared.tables.Sealed.{Sealed};
 ghost use Rattle.clif_ssa.specs.Ssa.{no_state, Declares, Removes, Seals, record_of, sealed_of, predecessors_of, lookups_of, Named, NamesExist, HasMore, SealedStays, Records, RecordsStay, KnowsNoMore, SameRecords, SameBlocks, SamePredecessors, SameLookups, CountsLookup};
@@ -337,6 +337,8 @@ impl SsaTables {
         ensures named { NamesExist func.old self.old → NamesExist func.new self.new }
         ensures once { CountsOnce self.old self.new }
         ensures full { result ≡ Err BuildError.Full → IsFull func.new }
+        ensures takes_by_records { result ≢ Err BuildError.Memory → TakesByRecords func.old self.old func.new self.new }
+        ensures below { StaysBelowFor variable func.old self.old self.new }
         ensures never_failed { result ≢ Err BuildError.Failed }
     {
         let param = func.append_block_param(block, ty)?;
@@ -371,6 +373,8 @@ impl SsaTables {
         ensures names { NamesExist func.old self.old → NamesExist func.new self.new }
         ensures once { CountsOnce self.old self.new }
         ensures full { result ≡ Err BuildError.Full → IsFull func.new }
+        ensures takes_by_records { result ≢ Err BuildError.Memory → TakesByRecords func.old self.old func.new self.new }
+        ensures below { StaysBelowFor variable func.old self.old self.new }
         ensures never_failed { result ≢ Err BuildError.Failed }
     {
         if let Some(value) = self.record_at(variable, block) {

@@ -6,6 +6,8 @@ use Rattle.clif_ssa.proofs.CountedOnce.{once_same}
 use Rattle.clif_ssa.proofs.Naming.{more-then, has_more}
 use Rattle.clif_ssa.proofs.Constructing.{constructs_none, constructs_then, tells_more_none, tells_more_then}
 use Rattle.clif_ssa.proofs.Waited.{no_more-self, no_more-then, drop-item, all-further}
+use Rattle.std.proofs.lemmas.Result.{err_from_is_err_and}
+use Rattle.clif_ssa.proofs.TakingByRecords.{by_records_none, by_records_then}
 use Rattle.clif_ssa.proofs.ssa.SSABuilder.complete_all.Goals as goal
 
 pub complete_parameter-requires-clause-param_exists : goal.complete_parameter-requires-clause-param_exists
@@ -28,6 +30,8 @@ loop-pending-init c = record {
   no_more = no_more-self c.args.self.now (length c.args.func.now.blocks);
   constructs = constructs_none c.args.func.now;
   tells = tells_more_none c.args.func.now c.args.look_up.now.zeros;
+  takes = by_records_none c.args.func.now c.args.self.now;
+  below = λ variables blocks fits small before. before;
   once = λ before. before;
 }
 
@@ -51,6 +55,11 @@ loop-pending-preserved c =
           (once_same c.loop-pending.self c.args.block (drop c.loop-pending.pending-index c.args.waiting.now) (c.pending-item.result ∷ drop (c.loop-pending.pending-index + 1) c.args.waiting.now)
           (drop-item c.args.waiting.now c.loop-pending.pending-index c.pending-item.result inside c.pending-item.is) (c.loop-pending.invariant.once before));
       no_more = no_more-then c.args.self.now c.loop-pending.self c.complete_parameter.new.self (length c.args.func.now.blocks) (length c.loop-pending.func.blocks) c.loop-pending.invariant.more.blocks c.loop-pending.invariant.no_more c.complete_parameter.ensures.no_more;
+      below = λ variables blocks fits small before.
+          c.complete_parameter.ensures.below variables blocks (small c.pending-item.result (c.loop-pending.pending-index, inside, sym c.pending-item.is))
+          (omega (arith, c.loop-pending.invariant.more.blocks, fits)) (c.loop-pending.invariant.below variables blocks fits small before);
+      takes = by_records_then c.args.func.now c.args.self.now c.loop-pending.func c.loop-pending.self c.complete_parameter.new.func c.complete_parameter.new.self c.loop-pending.invariant.takes
+          (c.in_ok-complete_parameter.ensures.takes_by_records (λ memory. cc));
       constructs = constructs_then c.args.func.now c.loop-pending.func c.complete_parameter.new.func c.loop-pending.invariant.constructs c.complete_parameter.ensures.constructs;
       tells =
           tells_more_then c.args.func.now c.loop-pending.func c.complete_parameter.new.func c.args.look_up.now.zeros c.loop-pending.look_up.zeros c.complete_parameter.new.look_up.zeros
@@ -86,3 +95,27 @@ returns-clause-constructs c = c.loop-pending.invariant.constructs
 
 pub returns-clause-tells : goal.returns-clause-tells
 returns-clause-tells c = c.loop-pending.invariant.tells
+
+pub returns-in_err-complete_parameter-clause-takes_by_records :
+    goal.returns-in_err-complete_parameter-clause-takes_by_records
+returns-in_err-complete_parameter-clause-takes_by_records c = λ not_memory.
+    let p = err_from_is_err_and c.from_residual.result c.from_residual.ensures.1 in
+    by_records_then c.args.func.now c.args.self.now c.loop-pending.func c.loop-pending.self c.complete_parameter.new.func c.complete_parameter.new.self c.loop-pending.invariant.takes
+    (c.in_err-complete_parameter.ensures.takes_by_records (λ memory. not_memory (cc)))
+
+pub returns-clause-takes_by_records : goal.returns-clause-takes_by_records
+returns-clause-takes_by_records c = λ not_memory. c.loop-pending.invariant.takes
+
+-- WHERE RECORDS ARE -----------------------------------------------------------------------------------------------
+
+pub returns-in_err-complete_parameter-clause-below : goal.returns-in_err-complete_parameter-clause-below
+returns-in_err-complete_parameter-clause-below c =
+    λ variables blocks fits small.
+    let inside : c.loop-pending.pending-index < length c.args.waiting.now = search rules in
+    let here : Contains c.args.waiting.now c.pending-item.result = (c.loop-pending.pending-index, inside, sym c.pending-item.is) in
+    λ before.
+    c.complete_parameter.ensures.below variables blocks (small c.pending-item.result here) (omega (arith, c.loop-pending.invariant.more.blocks, fits))
+    (c.loop-pending.invariant.below variables blocks fits small before)
+
+pub returns-clause-below : goal.returns-clause-below
+returns-clause-below c = c.loop-pending.invariant.below

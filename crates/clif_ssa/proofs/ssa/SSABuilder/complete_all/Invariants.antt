@@ -1,5 +1,8 @@
-use Rattle.std.proofs.Common.{◌≡◌, [], length, drop}
+use Rattle.std.proofs.Common.{◌≡◌, ℕ, ◌<◌, ◌≤◌, [], length, drop}
+use Rattle.std.specs.Prelude.{Contains}
+use Rattle.clif_ssa.specs.declared.tables.Pending.{Pending}
 use Rattle.clif_ssa.specs.Constructs.{OnlyConstructs, TellsMore}
+use Rattle.clif_ssa.specs.Limits.{RecordsBelow, TakesByRecords}
 use Rattle.clif_ssa.specs.Ssa.{KnowsNoMore, SamePredecessors, RecordsStay, SealedStays, HasMore, NamesExist}
 use Rattle.clif_ssa.specs.LookUp.{Stage}
 use Rattle.clif_ssa.specs.Running.{stage, CompletesAll, ToComplete}
@@ -19,4 +22,7 @@ invariant-loop-pending l = record {
   no_more : KnowsNoMore l.initial.self l.self (length l.initial.func.blocks);
   constructs : OnlyConstructs l.initial.func l.func;
   tells : TellsMore l.initial.func l.func l.initial.look_up.zeros l.look_up.zeros;
+  takes : TakesByRecords l.initial.func l.initial.self l.func l.self;
+  below : (variables blocks : ℕ) → length l.initial.func.blocks ≤ blocks → ((p : Pending) → Contains l.waiting p → p.variable < variables)
+      → RecordsBelow variables blocks l.initial.self → RecordsBelow variables blocks l.self;
 }

@@ -1,10 +1,13 @@
-use Rattle.std.proofs.Common.{ap, ◌∙◌}
+use Rattle.std.proofs.Common.{ap, refl, ◌∙◌}
 use Rattle.clif_ssa.specs.Tables.{sealed_at, predecessors_at}
 use Rattle.clif_ssa.proofs.CountedOnce.{once_completes, once_follows}
 use Rattle.clif_ssa.proofs.Naming.{has_more}
 use Rattle.clif_ssa.proofs.Local.{named-same}
 use Rattle.clif_ssa.proofs.Waited.{begun-fits}
 use Rattle.clif_ssa.proofs.Constructing.{constructs_none}
+use Rattle.std.proofs.lemmas.Result.{err_from_is_err_and}
+use Rattle.clif_ssa.proofs.TakingByRecords.{none_lost, by_records_then, by_records_same}
+use Rattle.clif_ssa.proofs.Below.{below_then, below_same}
 use Rattle.clif_ssa.proofs.ssa.SSABuilder.complete_parameter.Goals as goal
 
 pub returns-in_err-begin_look_up-clause-names : goal.returns-in_err-begin_look_up-clause-names
@@ -59,3 +62,38 @@ returns-clause-looks_once c =
 
 pub returns-in_err-begin_look_up-clause-constructs : goal.returns-in_err-begin_look_up-clause-constructs
 returns-in_err-begin_look_up-clause-constructs c = constructs_none c.args.func.now
+
+-- HOW MUCH IS TAKEN -----------------------------------------------------------------------------------------------
+
+pub returns-in_err-_value-clause-takes_by_records : goal.returns-in_err-_value-clause-takes_by_records
+returns-in_err-_value-clause-takes_by_records c = λ not_memory.
+    let p = err_from_is_err_and c.from_residual-in_err-_value.result c.from_residual-in_err-_value.ensures.1 in
+    rw (← c.self.view_is)
+    (by_records_then c.args.func.now c.self.inside.tables c.args.func.now c.begin_look_up.new.self c.make_calls.new.func c.make_calls.new.self
+    (by_records_same c.args.func.now c.args.func.now c.self.inside.tables c.begin_look_up.new.self refl (none_lost c.self.inside.tables c.begin_look_up.new.self c.begin_look_up.ensures.records))
+    (c.in_err-_value.ensures.takes_by_records (λ memory. not_memory (cc))))
+
+pub returns-clause-takes_by_records : goal.returns-clause-takes_by_records
+returns-clause-takes_by_records c = λ not_memory.
+    rw (← c.self.view_is)
+    (by_records_then c.args.func.now c.self.inside.tables c.args.func.now c.begin_look_up.new.self c.make_calls.new.func c.make_calls.new.self
+    (by_records_same c.args.func.now c.args.func.now c.self.inside.tables c.begin_look_up.new.self refl (none_lost c.self.inside.tables c.begin_look_up.new.self c.begin_look_up.ensures.records))
+    (c.in_ok-_value.ensures.takes_by_records (λ memory. cc)))
+
+-- WHERE RECORDS ARE -----------------------------------------------------------------------------------------------
+
+pub returns-in_err-begin_look_up-clause-below : goal.returns-in_err-begin_look_up-clause-below
+returns-in_err-begin_look_up-clause-below c =
+    rw (← c.self.view_is) (below_same c.args.waiting.variable c.args.func.now c.self.inside.tables c.begin_look_up.new.self c.begin_look_up.ensures.records (λ b. ap (λ blocks. sealed_at blocks b) c.begin_look_up.ensures.blocks))
+
+pub returns-in_err-_value-clause-below : goal.returns-in_err-_value-clause-below
+returns-in_err-_value-clause-below c =
+    rw (← c.self.view_is)
+    (below_then c.args.waiting.variable c.args.func.now c.args.func.now c.self.inside.tables c.begin_look_up.new.self c.make_calls.new.self (has_more c.args.func.now)
+    (below_same c.args.waiting.variable c.args.func.now c.self.inside.tables c.begin_look_up.new.self c.begin_look_up.ensures.records (λ b. ap (λ blocks. sealed_at blocks b) c.begin_look_up.ensures.blocks)) c.make_calls.ensures.below)
+
+pub returns-clause-below : goal.returns-clause-below
+returns-clause-below c =
+    rw (← c.self.view_is)
+    (below_then c.args.waiting.variable c.args.func.now c.args.func.now c.self.inside.tables c.begin_look_up.new.self c.make_calls.new.self (has_more c.args.func.now)
+    (below_same c.args.waiting.variable c.args.func.now c.self.inside.tables c.begin_look_up.new.self c.begin_look_up.ensures.records (λ b. ap (λ blocks. sealed_at blocks b) c.begin_look_up.ensures.blocks)) c.make_calls.ensures.below)

@@ -7,6 +7,7 @@ use Rattle.clif_ssa.specs.LookUp.{LooksUp}
 use Rattle.clif_ssa.specs.Running.{stage, CallExists, CallsFit, with_call}
 use Rattle.clif_ssa.proofs.Naming.{named-more}
 use Rattle.clif_ssa.proofs.Calling.{look-fits, finish-fits, popped-look, both_ok, on_ok', same_block, leading-each}
+use Rattle.clif_ssa.proofs.TakingByRecords.{by_records_kept}
 use Rattle.clif_ssa.proofs.ssa.SSABuilder.make_call.Goals as goal
 
 pub inst_block-requires : goal.inst_block-requires
@@ -70,3 +71,11 @@ returns-in-Some-clause-made c =
       looks = subst (λ b. LooksUp c.args.variable c.args.ty b (stage c.args.func.now c.args.self.now c.args.look_up.now) (stage c.look_up_in.new.func c.look_up_in.new.self c.look_up_in.new.look_up)) (sym same) looks;
     }))
     c.look_up_in.ensures.looks
+
+pub returns-in-FinishPredecessorsLookup-clause-takes_by_records :
+    goal.returns-in-FinishPredecessorsLookup-clause-takes_by_records
+returns-in-FinishPredecessorsLookup-clause-takes_by_records c = λ not_memory.
+    by_records_kept c.args.func.now c.args.self.now c.finish_look_up.new.func c.args.self.now (c.finish_look_up.ensures.takes not_memory) (λ x b none. none)
+
+pub returns-in-FinishPredecessorsLookup-clause-below : goal.returns-in-FinishPredecessorsLookup-clause-below
+returns-in-FinishPredecessorsLookup-clause-below c = λ variables blocks small fits before. before

@@ -1,4 +1,5 @@
 use Rattle.std.proofs.Common.{◌≡◌, ℕ, List, length, ◌∙◌, ap, sym, subst, refl}
+use Rattle.std.proofs.lemmas.Result.{err_from_is_err_and}
 use Rattle.clif_ssa.specs.Constructs.{TellsMore}
 use Rattle.clif_ssa.specs.LookUp.{LookUpState, MakesCall}
 use Rattle.clif_ssa.specs.LookUp.MakesCalls.{none_made, made}
@@ -8,6 +9,8 @@ use Rattle.clif_ssa.proofs.Calling.{call-less, popped_is}
 use Rattle.clif_ssa.proofs.CountedOnce.{counts_self, counts_then}
 use Rattle.clif_ssa.proofs.Constructing.{constructs_none, constructs_then, tells_more_none, tells_more_then}
 use Rattle.clif_ssa.proofs.Waited.{no_more-self, no_more-then}
+use Rattle.clif_ssa.proofs.TakingByRecords.{by_records_none, by_records_then}
+use Rattle.clif_ssa.proofs.Below.{below_none, below_then}
 use Rattle.clif_ssa.proofs.ssa.SSABuilder.make_calls.Goals as goal
 
 pub make_call-requires-clause-calls_fit : goal.make_call-requires-clause-calls_fit
@@ -28,6 +31,8 @@ loop-call-init c = record {
   no_more = no_more-self c.args.self.now (length c.args.func.now.blocks);
   constructs = constructs_none c.args.func.now;
   tells = tells_more_none c.args.func.now c.args.look_up.now.zeros;
+  takes = by_records_none c.args.func.now c.args.self.now;
+  below = below_none c.args.variable c.args.func.now c.args.self.now;
 }
 
 pub loop-call-smaller : goal.loop-call-smaller
@@ -51,6 +56,9 @@ loop-call-preserved c =
       more = more-then c.args.func.now c.loop-call.func c.make_call.new.func c.loop-call.invariant.more c.make_call.ensures.more;
       once = counts_then c.args.self.now c.loop-call.self c.make_call.new.self c.loop-call.invariant.once c.make_call.ensures.once;
       no_more = no_more-then c.args.self.now c.loop-call.self c.make_call.new.self (length c.args.func.now.blocks) (length c.loop-call.func.blocks) c.loop-call.invariant.more.blocks c.loop-call.invariant.no_more c.make_call.ensures.no_more;
+      below = below_then c.args.variable c.args.func.now c.loop-call.func c.args.self.now c.loop-call.self c.make_call.new.self c.loop-call.invariant.more c.loop-call.invariant.below c.make_call.ensures.below;
+      takes = by_records_then c.args.func.now c.args.self.now c.loop-call.func c.loop-call.self c.make_call.new.func c.make_call.new.self c.loop-call.invariant.takes
+          (c.in_ok-make_call.ensures.takes_by_records (λ memory. cc));
       constructs = constructs_then c.args.func.now c.loop-call.func c.make_call.new.func c.loop-call.invariant.constructs c.make_call.ensures.constructs;
       tells =
           tells_more_then c.args.func.now c.loop-call.func c.make_call.new.func c.args.look_up.now.zeros c.loop-call.look_up.zeros c.make_call.new.look_up.zeros
@@ -86,3 +94,21 @@ returns-clause-tells c =
     let zeros : LookUpState → List ℕ = λ l. l.zeros in
     let same : c.take_result.new.self.zeros ≡ c.loop-call.look_up.zeros = ap zeros c.take_result.ensures.taken ∙ ap zeros c.in_default.ensures.1 in
     subst (λ told. TellsMore c.args.func.now c.loop-call.func c.args.look_up.now.zeros told) (sym same) c.loop-call.invariant.tells
+
+pub returns-in_err-make_call-clause-takes_by_records : goal.returns-in_err-make_call-clause-takes_by_records
+returns-in_err-make_call-clause-takes_by_records c = λ not_memory.
+    let p = err_from_is_err_and c.from_residual.result c.from_residual.ensures.1 in
+    by_records_then c.args.func.now c.args.self.now c.loop-call.func c.loop-call.self c.make_call.new.func c.make_call.new.self c.loop-call.invariant.takes
+    (c.in_err-make_call.ensures.takes_by_records (λ memory. not_memory (cc)))
+
+pub returns-clause-takes_by_records : goal.returns-clause-takes_by_records
+returns-clause-takes_by_records c = λ not_memory. c.loop-call.invariant.takes
+
+-- WHERE RECORDS ARE -----------------------------------------------------------------------------------------------
+
+pub returns-in_err-make_call-clause-below : goal.returns-in_err-make_call-clause-below
+returns-in_err-make_call-clause-below c =
+    below_then c.args.variable c.args.func.now c.loop-call.func c.args.self.now c.loop-call.self c.make_call.new.self c.loop-call.invariant.more c.loop-call.invariant.below c.make_call.ensures.below
+
+pub returns-clause-below : goal.returns-clause-below
+returns-clause-below c = c.loop-call.invariant.below

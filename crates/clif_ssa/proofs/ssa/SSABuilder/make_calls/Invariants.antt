@@ -1,5 +1,6 @@
 use Rattle.std.proofs.Common.{length}
 use Rattle.clif_ssa.specs.Constructs.{OnlyConstructs, TellsMore}
+use Rattle.clif_ssa.specs.Limits.{StaysBelowFor, TakesByRecords}
 use Rattle.clif_ssa.specs.Ssa.{KnowsNoMore, SamePredecessors, RecordsStay, SealedStays, HasMore, NamesExist}
 use Rattle.clif_ssa.specs.LookUp.{MakesCalls}
 use Rattle.clif_ssa.specs.Running.{stage, CallsFit, CountsOnce, work_of}
@@ -18,6 +19,8 @@ invariant-loop-call l = record {
   no_more : KnowsNoMore l.initial.self l.self (length l.initial.func.blocks);
   constructs : OnlyConstructs l.initial.func l.func;
   tells : TellsMore l.initial.func l.func l.initial.look_up.zeros l.look_up.zeros;
+  takes : TakesByRecords l.initial.func l.initial.self l.func l.self;
+  below : StaysBelowFor l.variable l.initial.func l.initial.self l.self;
 }
 
 abbrev pub decreases-loop-call : goal.decreases-loop-call

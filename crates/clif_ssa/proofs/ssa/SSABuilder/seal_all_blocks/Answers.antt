@@ -10,6 +10,9 @@ use Rattle.clif_ssa.proofs.Public.{seal_keeps, keeps_then, keeps_itself}
 use Rattle.clif_ssa.proofs.Waited.{named-kept, no_more-sealed, other-same, sealed-below, still-sealed}
 use Rattle.clif_ssa.proofs.StructuredPublic.{seal_structured}
 use Rattle.clif_ssa.proofs.WithinUses.{leads_of, seals_within}
+use Rattle.std.proofs.lemmas.Result.{err_from_is_err_and}
+use Rattle.clif_ssa.proofs.TakingByRecords.{by_records_none, by_records_then}
+use Rattle.clif_ssa.proofs.Below.{stays_below_then}
 use Rattle.clif_ssa.proofs.ssa.SSABuilder.seal_all_blocks.Goals as goal
 
 pub returns-in_err-told-clause-stay : goal.returns-in_err-told-clause-stay
@@ -36,6 +39,8 @@ loop-number-init c = record {
   keeps = λ own tables both. keeps_itself own tables c.args.func.now c.args.self.now both;
   remembers = λ x b. same_remembers x b c.args.func.now c.args.self.now c.args.self.now refl;
   structured = λ types own before. before;
+  takes = by_records_none c.args.func.now c.args.self.now;
+  below = λ variables blocks fits before. before;
 }
 
 pub loop-number-preserved : goal.loop-number-preserved
@@ -46,6 +51,9 @@ loop-number-preserved c =
     let inside : c.loop-number.number < length c.args.self.now.blocks = first_of (search rules, grind (arith, common_steps)) in
     record {
       sealed = sealed-below c.loop-number.self c.seal_one_block.new.self c.loop-number.number c.loop-number.invariant.sealed seals;
+      below = stays_below_then c.args.func.now c.loop-number.func c.args.self.now c.loop-number.self c.seal_one_block.new.self c.loop-number.invariant.more c.loop-number.invariant.below c.seal_one_block.ensures.below;
+      takes = by_records_then c.args.func.now c.args.self.now c.loop-number.func c.loop-number.self c.seal_one_block.new.func c.seal_one_block.new.self c.loop-number.invariant.takes
+          (c.in_ok-told.ensures.takes_by_records (λ memory. cc));
       named = named-kept c.loop-number.func c.seal_one_block.new.func c.loop-number.self c.seal_one_block.new.self c.seal_one_block.ensures.predecessors c.seal_one_block.ensures.names
           c.loop-number.invariant.named;
       sealed_stays = λ b is.
@@ -160,3 +168,31 @@ pub returns-clause-within : goal.returns-clause-within
 returns-clause-within c = λ holds branches waiting.
     seals_within holds c.args.func.now c.loop-number.func c.args.self.now c.loop-number.self _ _ (leads_of holds c.args.func.now c.args.self.now c.requires.named branches) waiting
     c.loop-number.invariant.in_turn
+
+-- HOW MUCH IS TAKEN -----------------------------------------------------------------------------------------------
+
+pub returns-in_err-told-clause-takes_by_records : goal.returns-in_err-told-clause-takes_by_records
+returns-in_err-told-clause-takes_by_records c = λ not_memory.
+    let p = err_from_is_err_and c.from_residual.result c.from_residual.ensures.1 in
+    by_records_then c.args.func.now c.args.self.now c.loop-number.func c.loop-number.self c.seal_one_block.new.func c.seal_one_block.new.self c.loop-number.invariant.takes
+    (c.in_err-told.ensures.takes_by_records (λ memory. not_memory (cc)))
+
+pub returns-clause-takes_by_records : goal.returns-clause-takes_by_records
+returns-clause-takes_by_records c = λ not_memory. c.loop-number.invariant.takes
+
+-- WHERE RECORDS ARE -----------------------------------------------------------------------------------------------
+
+pub returns-in_err-told-clause-below :
+    goal.returns-in_err-told-clause-below
+returns-in_err-told-clause-below c =
+    stays_below_then c.args.func.now c.loop-number.func c.args.self.now c.loop-number.self c.seal_one_block.new.self c.loop-number.invariant.more c.loop-number.invariant.below c.seal_one_block.ensures.below
+
+pub returns-in_err-append-clause-below :
+    goal.returns-in_err-append-clause-below
+returns-in_err-append-clause-below c =
+    stays_below_then c.args.func.now c.loop-number.func c.args.self.now c.loop-number.self c.seal_one_block.new.self c.loop-number.invariant.more c.loop-number.invariant.below c.seal_one_block.ensures.below
+
+pub returns-clause-below :
+    goal.returns-clause-below
+returns-clause-below c =
+    c.loop-number.invariant.below

@@ -1,4 +1,4 @@
-use Rattle.std.proofs.Common.{rules, ◌≡◌, ◌≢◌, ◌∙◌, [], ap, arith, subst, sym, inr}
+use Rattle.std.proofs.Common.{rules, ◌≡◌, ◌≢◌, ◌∙◌, [], ap, arith, refl, subst, sym, inr}
 use Rattle.std.specs.Prelude.{Contains}
 use Rattle.std.proofs.lemmas.Grind.{common_steps}
 use Rattle.clif_ssa.specs.Tables.{is_yes, pending_of, record_at, lookups_at, sealed_at, predecessors_at}
@@ -9,6 +9,9 @@ use Rattle.clif_ssa.proofs.Local.{named-same}
 use Rattle.clif_ssa.proofs.Public.{seals_by_look_up}
 use Rattle.clif_ssa.proofs.Waited.{on_any, on_any_err, seals-one, sealed-locally, sealed-named, leading-named}
 use Rattle.clif_ssa.proofs.Constructing.{constructs_none}
+use Rattle.std.proofs.lemmas.Result.{err_from_is_err_and}
+use Rattle.clif_ssa.proofs.TakingByRecords.{none_lost, by_records_then, by_records_kept, by_records_same}
+use Rattle.clif_ssa.proofs.Below.{below_kept, below_sealed, stays_below_then}
 use Rattle.clif_ssa.proofs.ssa.SSABuilder.seal_one_block.Goals as goal
 
 pub returns-in_err-waiting-clause-names : goal.returns-in_err-waiting-clause-names
@@ -129,3 +132,62 @@ returns-clause-looks_once c =
 
 pub returns-in_err-waiting-clause-constructs : goal.returns-in_err-waiting-clause-constructs
 returns-in_err-waiting-clause-constructs c = constructs_none c.args.func.now
+
+-- HOW MUCH IS TAKEN -----------------------------------------------------------------------------------------------
+
+pub returns-then-not-has_any_predecessors-clause-takes_by_records :
+    goal.returns-then-not-has_any_predecessors-clause-takes_by_records
+returns-then-not-has_any_predecessors-clause-takes_by_records c = λ not_memory.
+    rw (← c.self.view_is)
+    (by_records_kept c.args.func.now c.self.inside.tables c.complete_locally.new.func c.complete_locally.new.self (c.complete_locally.ensures.takes not_memory)
+    (none_lost c.self.inside.tables c.complete_locally.new.self (λ x b. c.complete_locally.ensures.records x b ∙ ap (λ rows. record_at rows x b) c.seal.ensures.records)))
+
+pub returns-in_err-complete_all-clause-takes_by_records : goal.returns-in_err-complete_all-clause-takes_by_records
+returns-in_err-complete_all-clause-takes_by_records c = λ not_memory.
+    let p = err_from_is_err_and c.from_residual-in_err-complete_all.result c.from_residual-in_err-complete_all.ensures.1 in
+    rw (← c.self.view_is)
+    (by_records_then c.args.func.now c.self.inside.tables c.args.func.now c.seal.new.self c.complete_all.new.func c.complete_all.new.self
+    (by_records_same c.args.func.now c.args.func.now c.self.inside.tables c.seal.new.self refl
+    (none_lost c.self.inside.tables c.seal.new.self (λ x b. ap (λ rows. record_at rows x b) c.seal.ensures.records)))
+    (c.in_err-complete_all.ensures.takes_by_records (λ memory. not_memory (cc))))
+
+pub returns-clause-takes_by_records : goal.returns-clause-takes_by_records
+returns-clause-takes_by_records c = λ not_memory.
+    rw (← c.self.view_is)
+    (by_records_then c.args.func.now c.self.inside.tables c.args.func.now c.seal.new.self c.complete_all.new.func c.complete_all.new.self
+    (by_records_same c.args.func.now c.args.func.now c.self.inside.tables c.seal.new.self refl
+    (none_lost c.self.inside.tables c.seal.new.self (λ x b. ap (λ rows. record_at rows x b) c.seal.ensures.records)))
+    (c.in_ok-complete_all.ensures.takes_by_records (λ memory. cc)))
+
+-- WHERE RECORDS ARE -----------------------------------------------------------------------------------------------
+
+pub returns-in_err-waiting-clause-below :
+    goal.returns-in_err-waiting-clause-below
+returns-in_err-waiting-clause-below c =
+    rw (← c.self.view_is) (below_kept c.args.func.now c.self.inside.tables c.seal.new.self (λ x b. ap (λ rows. record_at rows x b) c.seal.ensures.records) c.in_err-waiting.ensures.err)
+
+pub returns-then-not-has_any_predecessors-clause-below :
+    goal.returns-then-not-has_any_predecessors-clause-below
+returns-then-not-has_any_predecessors-clause-below c =
+    rw (← c.self.view_is)
+    (stays_below_then c.args.func.now c.args.func.now c.self.inside.tables c.seal.new.self c.complete_locally.new.self (has_more c.args.func.now)
+    (below_sealed c.args.func.now c.self.inside.tables c.seal.new.self c.args.block (λ x b. ap (λ rows. record_at rows x b) c.seal.ensures.records) c.in_ok-waiting.ensures.ok)
+    (below_kept c.args.func.now c.seal.new.self c.complete_locally.new.self c.complete_locally.ensures.records (λ b. ap (λ blocks. sealed_at blocks b) c.complete_locally.ensures.blocks)))
+
+pub returns-in_err-complete_all-clause-below :
+    goal.returns-in_err-complete_all-clause-below
+returns-in_err-complete_all-clause-below c =
+    let same : c.as_slice-2.result.now ≡ pending_of (sealed_of c.self.inside.tables c.args.block) = first_of (search rules, grind (arith, common_steps)) in
+    rw (← c.self.view_is)
+    (λ variables blocks fits before.
+    c.complete_all.ensures.below variables blocks fits (λ p here. before.waiting c.args.block p (subst (λ ps. Contains ps p) same here))
+    (below_sealed c.args.func.now c.self.inside.tables c.seal.new.self c.args.block (λ x b. ap (λ rows. record_at rows x b) c.seal.ensures.records) c.in_ok-waiting.ensures.ok variables blocks fits before))
+
+pub returns-clause-below :
+    goal.returns-clause-below
+returns-clause-below c =
+    let same : c.as_slice-2.result.now ≡ pending_of (sealed_of c.self.inside.tables c.args.block) = first_of (search rules, grind (arith, common_steps)) in
+    rw (← c.self.view_is)
+    (λ variables blocks fits before.
+    c.complete_all.ensures.below variables blocks fits (λ p here. before.waiting c.args.block p (subst (λ ps. Contains ps p) same here))
+    (below_sealed c.args.func.now c.self.inside.tables c.seal.new.self c.args.block (λ x b. ap (λ rows. record_at rows x b) c.seal.ensures.records) c.in_ok-waiting.ensures.ok variables blocks fits before))

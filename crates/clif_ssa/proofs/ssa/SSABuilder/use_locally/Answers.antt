@@ -6,6 +6,8 @@ use Rattle.clif_ssa.proofs.Constructing.{constructs_same, constructs_then}
 use Rattle.clif_ssa.proofs.Constructed.{param_made}
 use Rattle.clif_ssa.proofs.Naming.{param-named, param-named-waits}
 use Rattle.clif_ssa.proofs.Local.{param-named-unrecorded, param-named-then, param-takes-then, param-zeroes, param-zero-answer, param-zero-told}
+use Rattle.clif_ssa.proofs.TakingByRecords.{by_records_then, by_records_same, by_records_param, by_records_kept}
+use Rattle.clif_ssa.proofs.Below.{below_same, below_recorded, below_waits}
 use Rattle.clif_ssa.proofs.ssa.SSABuilder.use_locally.Goals as goal
 
 pub returns-in_err-record-clause-names : goal.returns-in_err-record-clause-names
@@ -93,3 +95,60 @@ pub returns-then-is_sealed-clause-constructs : goal.returns-then-is_sealed-claus
 returns-then-is_sealed-clause-constructs c =
     constructs_then c.args.func.now c.append_block_param.new.self c.replace_by_zero.new.func
     (param_made c.args.func.now c.append_block_param.new.self c.args.block c.args.ty c.in_ok-param.ensures.ok) c.replace_by_zero.ensures.constructs
+
+-- HOW MUCH IS TAKEN -----------------------------------------------------------------------------------------------
+
+pub returns-in_err-param-clause-takes_by_records : goal.returns-in_err-param-clause-takes_by_records
+returns-in_err-param-clause-takes_by_records c = λ not_memory.
+    by_records_same c.args.func.now c.append_block_param.new.self c.args.self.now _ c.in_err-param.ensures.err (λ x b none. none)
+
+pub returns-in_err-zero-clause-takes_by_records : goal.returns-in_err-zero-clause-takes_by_records
+returns-in_err-zero-clause-takes_by_records c = λ not_memory.
+    let p = err_from_is_err_and c.from_residual-in_err-zero.result c.from_residual-in_err-zero.ensures.1 in
+    by_records_then c.args.func.now c.args.self.now c.append_block_param.new.self c.count_lookup.new.self c.replace_by_zero.new.func c.count_lookup.new.self
+    (by_records_param c.args.func.now c.append_block_param.new.self c.args.self.now c.count_lookup.new.self c.args.variable c.args.block (length c.args.func.now.values) c.args.ty
+    c.in_ok-param.ensures.ok (λ y b. search rules) c.requires.unrecorded)
+    (by_records_kept c.append_block_param.new.self c.count_lookup.new.self c.replace_by_zero.new.func c.count_lookup.new.self
+    (c.in_err-zero.ensures.takes (λ memory. not_memory (cc))) (λ x b none. none))
+
+pub returns-then-is_sealed-clause-takes_by_records : goal.returns-then-is_sealed-clause-takes_by_records
+returns-then-is_sealed-clause-takes_by_records c = λ not_memory.
+    by_records_then c.args.func.now c.args.self.now c.append_block_param.new.self c.count_lookup.new.self c.replace_by_zero.new.func c.count_lookup.new.self
+    (by_records_param c.args.func.now c.append_block_param.new.self c.args.self.now c.count_lookup.new.self c.args.variable c.args.block (length c.args.func.now.values) c.args.ty
+    c.in_ok-param.ensures.ok (λ y b. search rules) c.requires.unrecorded)
+    (by_records_kept c.append_block_param.new.self c.count_lookup.new.self c.replace_by_zero.new.func c.count_lookup.new.self
+    (c.in_ok-zero.ensures.takes (λ memory. cc)) (λ x b none. none))
+
+pub returns-clause-takes_by_records : goal.returns-clause-takes_by_records
+returns-clause-takes_by_records c = λ not_memory.
+    by_records_param c.args.func.now c.append_block_param.new.self c.args.self.now _ c.args.variable c.args.block (length c.args.func.now.values) c.args.ty
+    c.in_ok-param.ensures.ok (λ y b. search rules) c.requires.unrecorded
+
+-- WHERE RECORDS ARE -----------------------------------------------------------------------------------------------
+
+pub returns-in_err-param-clause-below : goal.returns-in_err-param-clause-below
+returns-in_err-param-clause-below c = λ variables blocks small fits before. before
+
+pub returns-in_err-record-clause-below : goal.returns-in_err-record-clause-below
+returns-in_err-record-clause-below c =
+    below_same c.args.variable c.args.func.now c.args.self.now _ (λ y b. search rules) (λ b. search rules)
+
+pub returns-in_err-count_lookup-clause-below : goal.returns-in_err-count_lookup-clause-below
+returns-in_err-count_lookup-clause-below c =
+    below_recorded c.args.func.now c.args.self.now _ c.args.variable c.args.block (length c.args.func.now.values) c.requires.exists (λ y b. search rules) (λ b. search rules)
+
+pub returns-in_err-zero-clause-below : goal.returns-in_err-zero-clause-below
+returns-in_err-zero-clause-below c =
+    below_recorded c.args.func.now c.args.self.now _ c.args.variable c.args.block (length c.args.func.now.values) c.requires.exists (λ y b. search rules) (λ b. search rules)
+
+pub returns-then-is_sealed-clause-below : goal.returns-then-is_sealed-clause-below
+returns-then-is_sealed-clause-below c =
+    below_recorded c.args.func.now c.args.self.now _ c.args.variable c.args.block (length c.args.func.now.values) c.requires.exists (λ y b. search rules) (λ b. search rules)
+
+pub returns-in_err-wait-clause-below : goal.returns-in_err-wait-clause-below
+returns-in_err-wait-clause-below c =
+    below_recorded c.args.func.now c.args.self.now _ c.args.variable c.args.block (length c.args.func.now.values) c.requires.exists (λ y b. search rules) (λ b. search rules)
+
+pub returns-clause-below : goal.returns-clause-below
+returns-clause-below c =
+    below_waits c.args.func.now c.args.self.now _ c.args.variable c.args.block (length c.args.func.now.values) c.requires.exists (λ y b. search rules) (λ b. search rules)

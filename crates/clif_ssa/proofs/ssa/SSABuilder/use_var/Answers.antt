@@ -14,6 +14,9 @@ use Rattle.clif_ssa.proofs.Using.{on_ok}
 use Rattle.clif_ssa.proofs.Public.{something_leads, popped_nothing, known_use, local_use, machine_use}
 use Rattle.clif_ssa.proofs.StructuredPublic.{local_structured, machine_structured}
 use Rattle.clif_ssa.proofs.WithinUses.{leads_of, same_within, local_within, machine_within}
+use Rattle.std.proofs.lemmas.Result.{err_from_is_err_and}
+use Rattle.clif_ssa.proofs.TakingByRecords.{by_records_none, by_records_then}
+use Rattle.clif_ssa.proofs.Below.{below_then}
 use Rattle.clif_ssa.proofs.ssa.SSABuilder.use_var.Goals as goal
 
 pub returns-in-Some-clause-keeps : goal.returns-in-Some-clause-keeps
@@ -171,3 +174,32 @@ returns-clause-within c = λ holds branches held.
     machine_within holds c.args.func.now c.look_up_in.new.func c.make_calls.new.func c.args.self.now c.look_up_in.new.self c.make_calls.new.self
     c.args.variable c.args.ty c.args.block _ c.look_up_in.new.look_up c.make_calls.new.look_up c.in_ok-value.value _ c.new-look_up.ensures
     (leads_of holds c.args.func.now c.args.self.now c.requires.named branches) held c.in_ok-look_up_in.ensures.looks c.in_ok-value.ensures.made told
+
+-- HOW MUCH IS TAKEN -----------------------------------------------------------------------------------------------
+
+pub returns-in-Some-clause-takes_by_records : goal.returns-in-Some-clause-takes_by_records
+returns-in-Some-clause-takes_by_records c = λ not_memory. by_records_none c.args.func.now c.args.self.now
+
+pub returns-in_err-value-clause-takes_by_records : goal.returns-in_err-value-clause-takes_by_records
+returns-in_err-value-clause-takes_by_records c = λ not_memory.
+    let p = err_from_is_err_and c.from_residual-in_err-value.result c.from_residual-in_err-value.ensures.1 in
+    by_records_then c.args.func.now c.args.self.now c.look_up_in.new.func c.look_up_in.new.self c.make_calls.new.func c.make_calls.new.self
+    (c.in_ok-look_up_in.ensures.takes_by_records (λ memory. cc)) (c.in_err-value.ensures.takes_by_records (λ memory. not_memory (cc)))
+
+pub returns-clause-takes_by_records : goal.returns-clause-takes_by_records
+returns-clause-takes_by_records c = λ not_memory.
+    by_records_then c.args.func.now c.args.self.now c.look_up_in.new.func c.look_up_in.new.self c.make_calls.new.func c.make_calls.new.self
+    (c.in_ok-look_up_in.ensures.takes_by_records (λ memory. cc)) (c.in_ok-value.ensures.takes_by_records (λ memory. cc))
+
+-- WHERE RECORDS ARE -----------------------------------------------------------------------------------------------
+
+pub returns-in-Some-clause-below : goal.returns-in-Some-clause-below
+returns-in-Some-clause-below c = λ variables blocks small fits before. before
+
+pub returns-in_err-value-clause-below : goal.returns-in_err-value-clause-below
+returns-in_err-value-clause-below c =
+    below_then c.args.variable c.args.func.now c.look_up_in.new.func c.args.self.now c.look_up_in.new.self c.make_calls.new.self c.look_up_in.ensures.more c.look_up_in.ensures.below c.make_calls.ensures.below
+
+pub returns-clause-below : goal.returns-clause-below
+returns-clause-below c =
+    below_then c.args.variable c.args.func.now c.look_up_in.new.func c.args.self.now c.look_up_in.new.self c.make_calls.new.self c.look_up_in.ensures.more c.look_up_in.ensures.below c.make_calls.ensures.below

@@ -5,6 +5,8 @@ use Rattle.clif_ssa.proofs.CountedOnce.{counts_self, once_kept, once_recorded, o
 use Rattle.clif_ssa.proofs.Naming.{param-named, param-named-waits}
 use Rattle.clif_ssa.proofs.Constructing.{constructs_same}
 use Rattle.clif_ssa.proofs.Constructed.{param_made}
+use Rattle.clif_ssa.proofs.TakingByRecords.{by_records_param, by_records_same}
+use Rattle.clif_ssa.proofs.Below.{below_same, below_recorded, below_waits}
 use Rattle.clif_ssa.proofs.ssa_tables.SsaTables.add_parameter.Goals as goal
 
 pub returns-in_err-begin_look_up-clause-named : goal.returns-in_err-begin_look_up-clause-named
@@ -80,3 +82,48 @@ returns-in_err-wait-clause-constructs c = param_made c.args.func.now c.append_bl
 
 pub returns-clause-constructs : goal.returns-clause-constructs
 returns-clause-constructs c = param_made c.args.func.now c.append_block_param.new.self c.args.block c.args.ty c.in_ok-param.ensures.ok
+
+-- HOW MUCH IS TAKEN -----------------------------------------------------------------------------------------------
+
+pub returns-in_err-param-clause-takes_by_records : goal.returns-in_err-param-clause-takes_by_records
+returns-in_err-param-clause-takes_by_records c = λ not_memory.
+    by_records_same c.args.func.now c.append_block_param.new.self c.args.self.now _ c.in_err-param.ensures.err (λ x b none. none)
+
+pub returns-then-is_sealed-clause-takes_by_records : goal.returns-then-is_sealed-clause-takes_by_records
+returns-then-is_sealed-clause-takes_by_records c = λ not_memory.
+    by_records_param c.args.func.now c.append_block_param.new.self c.args.self.now _ c.args.variable c.args.block (length c.args.func.now.values) c.args.ty
+    c.in_ok-param.ensures.ok (λ y b. search rules) c.requires.unrecorded
+
+pub returns-clause-takes_by_records : goal.returns-clause-takes_by_records
+returns-clause-takes_by_records c = λ not_memory.
+    by_records_param c.args.func.now c.append_block_param.new.self c.args.self.now _ c.args.variable c.args.block (length c.args.func.now.values) c.args.ty
+    c.in_ok-param.ensures.ok (λ y b. search rules) c.requires.unrecorded
+
+-- WHERE RECORDS ARE -----------------------------------------------------------------------------------------------
+
+pub returns-in_err-param-clause-below : goal.returns-in_err-param-clause-below
+returns-in_err-param-clause-below c = λ variables blocks small fits before. before
+
+pub returns-in_err-set-clause-below : goal.returns-in_err-set-clause-below
+returns-in_err-set-clause-below c =
+    below_same c.args.variable c.args.func.now c.args.self.now _ (λ y b. search rules) (λ b. search rules)
+
+pub returns-in_err-begin_look_up-clause-below : goal.returns-in_err-begin_look_up-clause-below
+returns-in_err-begin_look_up-clause-below c =
+    below_recorded c.args.func.now c.args.self.now _ c.args.variable c.args.block (length c.args.func.now.values) c.requires.exists (λ y b. search rules) (λ b. search rules)
+
+pub returns-in_err-push_result-clause-below : goal.returns-in_err-push_result-clause-below
+returns-in_err-push_result-clause-below c =
+    below_recorded c.args.func.now c.args.self.now _ c.args.variable c.args.block (length c.args.func.now.values) c.requires.exists (λ y b. search rules) (λ b. search rules)
+
+pub returns-in_err-wait-clause-below : goal.returns-in_err-wait-clause-below
+returns-in_err-wait-clause-below c =
+    below_recorded c.args.func.now c.args.self.now _ c.args.variable c.args.block (length c.args.func.now.values) c.requires.exists (λ y b. search rules) (λ b. search rules)
+
+pub returns-then-is_sealed-clause-below : goal.returns-then-is_sealed-clause-below
+returns-then-is_sealed-clause-below c =
+    below_recorded c.args.func.now c.args.self.now _ c.args.variable c.args.block (length c.args.func.now.values) c.requires.exists (λ y b. search rules) (λ b. search rules)
+
+pub returns-clause-below : goal.returns-clause-below
+returns-clause-below c =
+    below_waits c.args.func.now c.args.self.now _ c.args.variable c.args.block (length c.args.func.now.values) c.requires.exists (λ y b. search rules) (λ b. search rules)

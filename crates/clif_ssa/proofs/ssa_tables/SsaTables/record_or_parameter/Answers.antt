@@ -4,6 +4,7 @@ use Rattle.clif_ssa.specs.Ssa.{record_of}
 use Rattle.clif_ssa.proofs.Calling.{added}
 use Rattle.clif_ssa.proofs.CountedOnce.{counts_self}
 use Rattle.clif_ssa.proofs.Constructing.{constructs_none}
+use Rattle.clif_ssa.proofs.TakingByRecords.{by_records_none}
 use Rattle.clif_ssa.proofs.ssa_tables.SsaTables.record_or_parameter.Goals as goal
 
 pub returns-clause-got : goal.returns-clause-got
@@ -24,3 +25,12 @@ returns-in_err-push_result-clause-constructs c = constructs_none c.args.func.now
 
 pub returns-in-Some-clause-constructs : goal.returns-in-Some-clause-constructs
 returns-in-Some-clause-constructs c = constructs_none c.args.func.now
+
+pub returns-in-Some-clause-takes_by_records : goal.returns-in-Some-clause-takes_by_records
+returns-in-Some-clause-takes_by_records c = λ not_memory. by_records_none c.args.func.now c.args.self.now
+
+pub returns-in_err-push_result-clause-below : goal.returns-in_err-push_result-clause-below
+returns-in_err-push_result-clause-below c = λ variables blocks small fits before. before
+
+pub returns-in-Some-clause-below : goal.returns-in-Some-clause-below
+returns-in-Some-clause-below c = λ variables blocks small fits before. before
