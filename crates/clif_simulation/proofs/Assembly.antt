@@ -17,16 +17,17 @@ use Rattle.clif_meaning.specs.FunctionMachine as function_machine_of
 use Rattle.clif_meaning.specs.FunctionMachine.{FunctionRun, FunctionState, ByMaps, function_machine}
 use Rattle.clif_meaning.specs.View.{view_of}
 use Rattle.clif_meaning.specs.Premises.{Premises}
-use Rattle.clif_meaning.specs.Headline.{script_run, function_run, script_behaviour, function_behaviour, IsWorldOf}
+use Rattle.clif_meaning.specs.Headline.{script_run, function_run, script_behaviour, function_behaviour, IsWorldOf, MeansTheSame}
 use Rattle.clif_meaning.proofs.Endings
 use Rattle.clif_meaning.proofs.Stuttering
 use Rattle.clif_simulation.specs.Tables.{program_so_far}
+use Rattle.clif_simulation.proofs.Whole.{Whole, spared, whole}
 use Rattle.clif_simulation.specs.Carries.{Carries}
 use Rattle.clif_simulation.specs.Laws.{IsFinished}
 use Rattle.clif_simulation.proofs.Stepping
 use Rattle.clif_simulation.proofs.Starting
 
-module _ (calls : List AnsweredCall) (f : Body) (ssa : SsaState) (width : PointerWidth) (consistent : IsConsistent f) (carries : Carries calls f ssa)
+module _ (calls : List AnsweredCall) (f : Body) (ssa : SsaState) (width : PointerWidth) (consistent : IsConsistent f) (carries : Whole calls f ssa)
     (finished : IsFinished calls f ssa) (world : World) (fits : IsWorldOf f.signature (view_of f) width world)
     (premises : Premises (script_of calls) f.signature (pointer_type_of width) (script_run (script_of calls) (view_of f) world))
   where
@@ -67,3 +68,9 @@ module _ (calls : List AnsweredCall) (f : Body) (ssa : SsaState) (width : Pointe
     pub means_the_same :
         SameMeaning (script_behaviour (script_of calls) (view_of f) world) (function_behaviour (script_of calls) (view_of f) width world)
     means_the_same = by_entry (program_so_far calls).entry refl
+
+-- the premises say that no branch names the entry
+pub means : (calls : List AnsweredCall) (f : Body) (ssa : SsaState) (width : PointerWidth) → IsConsistent f → Carries calls f ssa → IsFinished calls f ssa
+    → MeansTheSame (script_of calls) f.signature width (view_of f)
+means calls f ssa width consistent carries finished world fits premises =
+    means_the_same calls f ssa width consistent (whole calls f ssa consistent carries (spared calls premises.targets_filled)) finished world fits premises

@@ -1,5 +1,5 @@
 -- A new function carries the empty list of calls; and the current block of a list is one for program and ledger.
-use Rattle.std.proofs.Common.{◌≡◌, List, [], ◌∷◌, ◌++◌, length, refl, sym, ◌∙◌, Some, None, inl, Bool, true, false}
+use Rattle.std.proofs.Common.{◌≡◌, List, [], ◌∷◌, ◌++◌, length, refl, sym, ◌∙◌, arith, Some, None, inl, Bool, true, false}
 use Rattle.std.specs.Prelude.{Option, fold, if◌then◌else◌}
 use Rattle.clif_types.specs.declared.extname.UserFuncName.{UserFuncName}
 use Rattle.clif_types.specs.Signature.{SignatureShape}
@@ -7,7 +7,7 @@ use Rattle.clif_ir.specs.Body.{empty_body}
 use Rattle.clif_paths.specs.Blocks.{no_blocks}
 use Rattle.clif_ssa.specs.Own.{no_own}
 use Rattle.clif_ssa.specs.Ssa.{no_state}
-use Rattle.clif_ssa.proofs.Straying.{first_stray}
+use Rattle.clif_ssa.proofs.StructuredLaws.{first_structured}
 use Rattle.clif_ssa.proofs.Writing.{first_described}
 use Rattle.clif_meaning.specs.Name.{Name, answer_of}
 use Rattle.clif_meaning.specs.Instruction.{Operation, Edge}
@@ -16,7 +16,6 @@ use Rattle.clif_meaning.specs.Ledger.{Ledger, ledger_after, ledger_with, empty_l
 use Rattle.clif_meaning.specs.Program.{Program, Item, with_call, empty_program, with_item_at, with_inserted}
 use Rattle.clif_simulation.specs.Tables.{program_so_far, IsProgramOf}
 use Rattle.clif_simulation.specs.Carries.{Carries}
-use Rattle.clif_simulation.proofs.Unbranched.{branched}
 use Rattle.clif_simulation.proofs.Values.{false_is}
 
 some_none : {X : Type 0} (x : X) → None ≡ Some x → ⊥
@@ -34,7 +33,7 @@ current-layout ledger block = by (is_inserted ledger block)
     by true = refl
     by false = refl
 
-current-begun : (ledger : Ledger) (o : Option Name) → (with_begun_at ledger o).current ≡ ledger.current
+pub current-begun : (ledger : Ledger) (o : Option Name) → (with_begun_at ledger o).current ≡ ledger.current
 current-begun ledger None = refl
 current-begun ledger (Some block) = current-layout ledger block
 
@@ -91,23 +90,34 @@ nothing_so_far = record {
 
 -- a new function carries the empty list of calls
 pub carries_nothing : (name : UserFuncName) (signature : SignatureShape) → Carries [] (empty_body name signature) no_state
-carries_nothing name signature =
-    let first = first_described name signature in
-    branched [] (empty_body name signature) no_state (record {
-      tables = no_blocks;
-      own = no_own;
-      program = nothing_so_far;
-      items = λ b N named. absurd (some_none N named);
-      earlier = λ N. tt;
-      own_exist = λ b. tt;
-      own_named = λ b none. refl;
-      own_inserted = λ b out. refl;
-      no_parameters = λ b. refl;
-      values_given = λ x is. absurd (false_is is);
-      entry = record { none = λ none. refl; some = λ e is. absurd (some_none e is) };
-      describes = first.0;
-      sound = first.1;
-      counts = first.2;
-      nothing_stray = first_stray name signature;
-      nothing_leads = λ b. refl;
-    })
+carries_nothing name signature = record {
+  own = no_own;
+  holds = record {
+    blocks = record {
+      distinct = λ b c N first second. absurd (some_none N first);
+      earlier = λ b N named. absurd (some_none N named);
+      only = λ N. inl refl;
+    };
+    items = λ b N named. absurd (some_none N named);
+    earlier = λ N. tt;
+    edges_end = λ N. tt;
+    own_exist = λ b. tt;
+    own_named = λ b none. refl;
+    own_inserted = λ b out. refl;
+    declared = λ b inst k target here to. absurd (omega (arith, here.1));
+    leads_own = λ target inst here. absurd (omega (arith, here.1));
+    no_parameters = λ b. refl;
+    entry = record { none = λ none. refl; some = λ e is. absurd (some_none e is) };
+    structured = λ types are. first_structured types name signature;
+  };
+  on_paths = λ spares.
+      let first = first_described name signature in
+      record {
+        tables = no_blocks;
+        program = nothing_so_far;
+        values_given = λ x is. absurd (false_is is);
+        describes = first.0;
+        sound = first.1;
+        counts = first.2;
+      };
+}

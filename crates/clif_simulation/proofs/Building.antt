@@ -1,53 +1,63 @@
--- An instruction that succeeds, and a use, leave a function that carries it.
-use Rattle.std.proofs.Common.{◌≡◌, ◌≢◌, ℕ, zero, suc, ◌<◌, List, [], ◌∷◌, ◌++◌, length, map, get_or, refl, sym, ◌∙◌, ap, subst, arith, Some, None}
-use Rattle.std.specs.Prelude.{slice_get, Contains, IsTrue}
+-- An instruction that succeeds leaves a function that carries it.
+use Rattle.std.proofs.Common.{◌≡◌, ◌≢◌, ℕ, zero, suc, ◌+◌, ◌<◌, List, [], ◌∷◌, ◌++◌, length, map, get_or, refl, sym, ◌∙◌, ap, ap₂, subst, arith, Some, None, ◌⊎◌, inl, inr, true, false}
+use Rattle.std.specs.Prelude.{slice_get, slice_index_or, Contains, IsTrue, Option}
+use Rattle.std.proofs.lemmas.Option.{slice_get_within}
 use Rattle.std.specs.List.{AllByRecursion}
+use Rattle.std.proofs.Math.Decide.{ℕ_discrete}
 use Rattle.std.proofs.lemmas.Grind.{common_steps}
+use Rattle.std.proofs.lemmas.List.Elements.{Contains-append_left, Contains-push, Contains-push_cases}
 use Rattle.clif_types.specs.declared.types.«Type».{«Type»}
+use Rattle.clif_ir.specs.declared.block_call.BlockArg.{BlockArg}
+use Rattle.clif_ir.specs.declared.block_call.BlockCall.{BlockCall}
 use Rattle.clif_ir.specs.declared.inst_list.BlockEnd.TheVariants.{Back}
 use Rattle.clif_ir.specs.declared.instructions.InstructionData.{InstructionData}
 use Rattle.clif_ir.specs.declared.function.InstNode.{InstNode}
 use Rattle.clif_ir.specs.declared.function.ValueNode.{ValueNode}
 use Rattle.clif_ir.specs.declared.function.BlockNode.{BlockNode}
-use Rattle.clif_ir.specs.Instruction.{operands}
+use Rattle.clif_ir.specs.Instruction.{operands, destinations}
+use Rattle.clif_ir.specs.Reading.{targets}
 use Rattle.clif_ir.specs.Body.{Body, no_value, inst_at}
-use Rattle.clif_ir.specs.Consistent.{IsConsistent}
-use Rattle.clif_ir.specs.Changes.{inserted_in, with_inst}
+use Rattle.clif_ir.specs.Consistent.{IsConsistent, Once}
+use Rattle.clif_ir.specs.Changes.{inserted_in, inst_node, with_inst}
 use Rattle.clif_paths.specs.Places.{inside}
 use Rattle.clif_paths.specs.Blocks.{Blocks, last_place, with_item, with_born}
 use Rattle.clif_paths.proofs.Tables.{updated-same, updated-other}
-use Rattle.clif_ssa.specs.Own.{with_one_more}
-use Rattle.clif_ssa.specs.Ssa.{SsaState}
-use Rattle.clif_ssa.specs.Sound.{SameProgram}
-use Rattle.clif_ssa.specs.SoundLaws.{with_entry, with_own, DescribesSoundly, IsOpen}
-use Rattle.clif_ssa.specs.Structure.{NothingStray}
-use Rattle.clif_ssa.proofs.Straying.{own_stray, inserted_stray}
+use Rattle.clif_ssa.specs.Own.{Own}
+use Rattle.clif_ssa.specs.Tables.{is_yes}
+use Rattle.clif_ssa.specs.Ssa.{SsaState, predecessors_of, sealed_of}
+use Rattle.clif_ssa.specs.Sound.{SameProgram, args_of, edge_target, edges_at, entry_of}
+use Rattle.clif_ssa.specs.SoundLaws.{with_entry, with_own, shape_passes, DescribesSoundly, IsOpen}
+use Rattle.clif_ssa.specs.Structured.{Structured, VariableTypes}
 use Rattle.clif_ssa.proofs.Bodies.{Firm, firm_from}
 use Rattle.clif_ssa.proofs.Completing.{SameButLayout, inserted_same, inserted_firm, entry_same}
-use Rattle.clif_ssa.proofs.Entering.{inserted}
+use Rattle.clif_ssa.proofs.Entering.{inserted_entry}
 use Rattle.clif_ssa.proofs.Instructions.{inst_new}
-use Rattle.clif_ssa.proofs.Counting.{inserted_counted}
 use Rattle.clif_ssa.proofs.Owning.{own_described, own_result_described}
+use Rattle.clif_ssa.proofs.StructuredLaws.{inserted_structured, instruction_structured}
 use Rattle.clif_meaning.specs.Name.{Name, answer_of}
 use Rattle.clif_meaning.specs.Instruction.{Operation, Instruction, Edge}
-use Rattle.clif_meaning.specs.Request.{Build, AnsweredCall}
-use Rattle.clif_meaning.specs.Ledger.{AnInstruction, AValue}
-use Rattle.clif_meaning.specs.Program.{Item, Instruct, result_types, answers_from}
+use Rattle.clif_meaning.specs.Request.{Build, AnsweredCall, script_of}
+use Rattle.clif_meaning.specs.Ledger.{AnInstruction, AValue, is_filled, is_terminator, ledger_after}
+use Rattle.clif_meaning.specs.Program.{Item, Instruct, result_types, answers_from, first_block}
 use Rattle.clif_meaning.specs.FunctionView.{Placed}
-use Rattle.clif_meaning.specs.View.{placed_of, operation_of, edges_of, controlling_of, first_type}
-use Rattle.clif_simulation.specs.Tables.{code, answered}
-use Rattle.clif_simulation.specs.Carries.{Carries, NothingLeads, answered_edge, carried, IsEarlier, IsCurrent, GoesOn}
-use Rattle.clif_simulation.proofs.NameLists.{the_one}
-use Rattle.clif_simulation.proofs.Staying.{restated}
-use Rattle.clif_simulation.proofs.Requests
-use Rattle.clif_simulation.proofs.Requests.{entry_begun}
-use Rattle.clif_simulation.proofs.Carrying.{carries_item, numbers_kept, all_mapped, earlier_name}
+use Rattle.clif_meaning.specs.View.{argument_of, edge_of, edges_of, operation_of, controlling_of, first_type}
+use Rattle.clif_simulation.specs.Tables.{code, answered, block_name, program_so_far}
+use Rattle.clif_simulation.specs.Carries.{AreDeclared, AreTypes, Carries, DeclaredAlong, EdgeEarlier, HasEntry, Holds, IsCurrent, IsEarlier, LeadsOwn, SoundOnPaths, SparesBlock, SparesEntry, answered_edge, as_passed, carried, own_placed}
+use Rattle.clif_simulation.proofs.Calls.{inserted_soundly, longer_calls, name_stays, open_kept, opened, plain, structured_so_far, values_same}
+use Rattle.clif_simulation.proofs.Carrying.{all_contained, all_mapped, earlier_name, edge_earlier, edges_kept, holds_item, item_last, leads_kept, numbers_kept, spares_item}
+use Rattle.clif_simulation.proofs.Extending.{extended, one_answer}
+use Rattle.clif_simulation.proofs.Giving.{In, contained_in}
+use Rattle.clif_simulation.proofs.Growing.{GoesOn, KeepsInsts, goes_on-from, goes_on-with_inst, insts_inserted, insts_kept}
 use Rattle.clif_simulation.proofs.ItemCalls.{PutsItem, adds_instruction, adds_result, last-with_item, number_of_answer}
 use Rattle.clif_simulation.proofs.Layouts.{out_before, never_out}
-use Rattle.clif_simulation.proofs.Growing.{placed_kept, goes_on-then, goes_on-inserted, goes_on-with_inst}
+use Rattle.clif_simulation.proofs.Ledgers.{fills, types_before}
+use Rattle.clif_simulation.proofs.NameLists.{the_one}
+use Rattle.clif_simulation.proofs.Requests
+use Rattle.clif_simulation.proofs.Requests.{entry_begun, entry_first}
+use Rattle.clif_simulation.proofs.Staying.{restated}
+use Rattle.clif_simulation.proofs.Telling.{MayLead, along_leads, along_old_or_it, along_soundly, along_stays, along_structured}
+use Rattle.clif_simulation.proofs.Unbranched.{no_target}
 use Rattle.clif_simulation.proofs.Values.{is_value_at, false_is, values_added, next_is_new}
-use Rattle.clif_simulation.proofs.Unbranched.{unbranched, branched, open_everywhere, CarriesUnbranched}
-use Rattle.clif_simulation.proofs.Calls.{values_same, name_stays, longer_calls}
 
 -- an instruction as the machine sees it, by its parts
 abbrev placed_parts : Operation → «Type» → List ℕ → List (Edge ℕ ℕ) → List ℕ → Placed
@@ -60,7 +70,25 @@ placed_same o p c d xs ys es fs rs ss a b e g h =
     ap (λ (q : Operation). placed_parts q c xs es rs) a ∙ ap (λ (t : «Type»). placed_parts p t xs es rs) b ∙ ap (λ (zs : List ℕ). placed_parts p d zs es rs) e
     ∙ ap (λ (gs : List (Edge ℕ ℕ)). placed_parts p d ys gs rs) g ∙ ap (λ (ts : List ℕ). placed_parts p d ys fs ts) h
 
--- what a shape of the function and an instruction of the program have in common, its results aside
+-- edges that pass what these pass are these
+passed_edges : (passed : ℕ → List BlockArg) (n : ℕ) (edges : List BlockCall) → ((k : ℕ) → passed (n + k) ≡ args_of (slice_get edges k)) → as_passed passed n (map edge_of edges) ≡ map edge_of edges
+passed_edges passed n [] same = refl
+passed_edges passed n (edge ∷ edges) same =
+    let first : n ≡ n + 0 = omega arith in
+    ap₂ (λ (args : List BlockArg) (es : List (Edge ℕ ℕ)). record { target = edge.block; arguments = map argument_of args } ∷ es)
+    (ap passed first ∙ same 0)
+    (passed_edges passed (suc n) edges (λ k. let later : suc n + k ≡ n + suc k = omega arith in ap passed later ∙ same (suc k)))
+
+-- What a shape of the function and an instruction of the program have in common, its results aside: the edges pass what
+-- answered.
+pub record SameBranch (calls : List AnsweredCall) (shape : InstructionData) (instruction : Instruction Name Name) : Type 0 where
+  pub operation : operation_of shape ≡ instruction.operation
+  pub arguments : operands shape ≡ map (answered calls) instruction.operands
+  pub edges : edges_of shape ≡ map (answered_edge calls) instruction.edges
+  pub earlier : AllByRecursion (IsEarlier calls) instruction.operands
+  pub edges_earlier : AllByRecursion (EdgeEarlier calls) instruction.edges
+
+-- the same of one without edges
 pub record SameInstruction (calls : List AnsweredCall) (shape : InstructionData) (instruction : Instruction Name Name) : Type 0 where
   pub operation : operation_of shape ≡ instruction.operation
   pub arguments : operands shape ≡ map (answered calls) instruction.operands
@@ -68,15 +96,53 @@ pub record SameInstruction (calls : List AnsweredCall) (shape : InstructionData)
   pub edges : instruction.edges ≡ []
   pub earlier : AllByRecursion (IsEarlier calls) instruction.operands
 
-edges_answered : (calls : List AnsweredCall) (edges : List (Edge Name Name)) → edges ≡ [] → map (answered_edge calls) edges ≡ []
-edges_answered calls edges none = ap (map (answered_edge calls)) none
+same_branch : (calls : List AnsweredCall) (shape : InstructionData) (instruction : Instruction Name Name) → SameInstruction calls shape instruction → SameBranch calls shape instruction
+same_branch calls shape instruction same = record {
+  operation = same.operation;
+  arguments = same.arguments;
+  edges = same.no_edges ∙ sym (ap (map (answered_edge calls)) same.edges);
+  earlier = same.earlier;
+  edges_earlier = subst (AllByRecursion (EdgeEarlier calls)) (sym same.edges) tt;
+}
 
-module _ (calls : List AnsweredCall) (f : Body) (s : SsaState) (c : Carries calls f s) (nothing : NothingLeads s) (consistent : IsConsistent f)
-    (b : ℕ) (B : Name) (current : IsCurrent calls b B) (there : b < length f.blocks)
-    (shape : InstructionData) (instruction : Instruction Name Name) (loc : ℕ) (numbers : List ℕ) (matches : SameInstruction calls shape instruction) where
-  abbrev u : CarriesUnbranched calls f s
-  u = unbranched calls f s c nothing
+-- a target of the shape answered one of the instruction's
+target_of : (calls : List AnsweredCall) (calls' : List BlockCall) (edges : List (Edge Name Name)) (x : ℕ) → map edge_of calls' ≡ map (answered_edge calls) edges → Contains (targets calls') x
+    → (edge : Edge Name Name) × In edge edges × (answered calls edge.target ≡ x)
+target_of calls shaped edges x same here = by shaped edges same (contained_in (targets shaped) x here)
+  where
+    by : (shaped : List BlockCall) (edges : List (Edge Name Name)) → map edge_of shaped ≡ map (answered_edge calls) edges → In x (targets shaped)
+        → (edge : Edge Name Name) × In edge edges × (answered calls edge.target ≡ x)
+    by [] edges same there = absurd there
+    by (e ∷ shaped) [] same there = absurd cc
+    by (e ∷ shaped) (edge ∷ edges) same (inl here) =
+        let first : edge_of e ≡ answered_edge calls edge = head (edge_of e) (answered_edge calls edge) (map edge_of shaped) (map (answered_edge calls) edges) same in
+        (edge, inl refl, ap (λ (f : Edge ℕ ℕ). f.target) (sym first) ∙ sym here)
+      where
+        head : (p q : Edge ℕ ℕ) (ps qs : List (Edge ℕ ℕ)) → p ∷ ps ≡ q ∷ qs → p ≡ q
+        head p q ps qs h = cc
+    by (e ∷ shaped) (edge ∷ edges) same (inr later) =
+        let rest = by shaped edges (tail (edge_of e) (answered_edge calls edge) (map edge_of shaped) (map (answered_edge calls) edges) same) later in
+        (rest.0, inr rest.1, rest.2)
+      where
+        tail : (p q : Edge ℕ ℕ) (ps qs : List (Edge ℕ ℕ)) → p ∷ ps ≡ q ∷ qs → ps ≡ qs
+        tail p q ps qs h = cc
 
+all_in : {X : Type 0} (P : X → Type 0) (xs : List X) (x : X) → AllByRecursion P xs → In x xs → P x
+all_in P [] x all there = absurd there
+all_in P (y ∷ xs) x all (inl same) = subst P (sym same) all.0
+all_in P (y ∷ xs) x all (inr later) = all_in P xs x all.1 later
+
+target_contained : (edges : List BlockCall) (k target : ℕ) → slice_get (targets edges) k ≡ Some target → Contains (targets edges) target
+target_contained edges k target to = (k, slice_get_within (targets edges) k target to, slice_get_or (targets edges) k target to)
+  where
+    slice_get_or : (xs : List ℕ) (k x : ℕ) → slice_get xs k ≡ Some x → slice_index_or xs k x ≡ x
+    slice_get_or [] k x is = refl
+    slice_get_or (y ∷ xs) zero x is = cc
+    slice_get_or (y ∷ xs) (suc k) x is = slice_get_or xs k x is
+
+module _ (calls : List AnsweredCall) (f : Body) (s : SsaState) (c : Carries calls f s) (consistent : IsConsistent f)
+    (b : ℕ) (B : Name) (current : IsCurrent calls b B) (unfilled : is_filled (ledger_after (script_of calls)) B ≡ false) (there : b < length f.blocks)
+    (shape : InstructionData) (instruction : Instruction Name Name) (loc : ℕ) (numbers : List ℕ) where
   abbrev call : AnsweredCall
   call = record { request = Build instruction; numbers = numbers }
 
@@ -86,22 +152,16 @@ module _ (calls : List AnsweredCall) (f : Body) (s : SsaState) (c : Carries call
   abbrev h : Body
   h = inserted_in f b
 
-  abbrev T : Blocks
-  T = with_entry f.layout s b u.tables
+  -- the number of the instruction
+  abbrev i : ℕ
+  i = length h.insts
+
+  -- what the caller made then
+  abbrev mine : Own
+  mine = with_own c.own b i shape
 
   same : SameButLayout f h
   same = inserted_same f b
-
-  same_side : SameProgram u.tables T
-  same_side = (entry_same f.layout s b u.tables).program
-
-  before : DescribesSoundly u.own h s T
-  before =
-      let entered = inserted u.own f s [] u.tables b u.describes u.sound in
-      (entered.0, entered.1, inserted_counted u.own f s u.tables T b (entry_same f.layout s b u.tables).definition u.counts)
-
-  open_block : IsOpen h s b
-  open_block = open_everywhere h s b u.nothing_leads
 
   firm : Firm h
   firm = inserted_firm f b (firm_from f consistent)
@@ -109,51 +169,173 @@ module _ (calls : List AnsweredCall) (f : Body) (s : SsaState) (c : Carries call
   there_still : b < length h.blocks
   there_still = subst (λ (blocks : List BlockNode). b < length blocks) (sym same.blocks) there
 
-  unwritten : (y : ℕ) → T.assigned (inside b (suc (T.count b))) y ≡ None
-  unwritten y = before.0.unwritten b (suc (T.count b)) y (omega arith)
+  as_many : length f.insts ≡ i
+  as_many = ap (λ (is : List InstNode). length is) (sym same.insts)
 
-  operands_after : operands shape ≡ map (answered after) instruction.operands
-  operands_after = matches.arguments ∙ sym (numbers_kept calls call instruction.operands matches.earlier)
+  exist : (d j : ℕ) → Contains (predecessors_of s d) j → j < length f.insts
+  exist = (structured_so_far calls f s c).leading
 
-  earlier_after : AllByRecursion (IsEarlier after) instruction.operands
-  earlier_after = all_mapped (IsEarlier calls) (IsEarlier after) (earlier_name calls call) instruction.operands matches.earlier
+  stays : (d : ℕ) (N : Name) → block_name calls d ≡ Some N → block_name after d ≡ Some N
+  stays = name_stays calls call tt
 
-  edges_same : edges_of shape ≡ map (answered_edge after) instruction.edges
-  edges_same = matches.no_edges ∙ sym (edges_answered after instruction.edges matches.edges)
+  open_in : IsOpen f s b
+  open_in = opened calls f s c consistent b B current unfilled
 
-  own_here : with_one_more u.own.insts b (length h.insts) b ≡ u.own.insts b ++ length h.insts ∷ []
-  own_here = updated-same u.own.insts b (u.own.insts b ++ length h.insts ∷ []) b refl
+  own_here : mine.insts b ≡ c.own.insts b ++ i ∷ []
+  own_here = updated-same c.own.insts b (c.own.insts b ++ i ∷ []) b refl
 
-  own_elsewhere : (d : ℕ) → d ≢ b → with_one_more u.own.insts b (length h.insts) d ≡ u.own.insts d
-  own_elsewhere d other = updated-other u.own.insts b (u.own.insts b ++ length h.insts ∷ []) d other
+  own_elsewhere : (d : ℕ) → d ≢ b → mine.insts d ≡ c.own.insts d
+  own_elsewhere d other = updated-other c.own.insts b (c.own.insts b ++ i ∷ []) d other
 
-  longer_insts : (types : List «Type») → length h.insts < length (with_inst h b Back shape types loc).insts
-  longer_insts types = grind (arith, common_steps)
+  -- what the caller had, it still has
+  own_still : (d j : ℕ) → Contains (c.own.insts d) j → Contains (mine.insts d) j
+  own_still d j here = by (ℕ_discrete d b)
+    where
+      by : Dec (d ≡ b) → Contains (mine.insts d) j
+      by (yes is) =
+          subst (λ (e : ℕ). Contains (mine.insts e) j) (sym is) (subst (λ (js : List ℕ). Contains js j) (sym own_here)
+          (Contains-append_left (c.own.insts b) (i ∷ []) j (subst (λ (e : ℕ). Contains (c.own.insts e) j) is here)))
+      by (no other) = subst (λ (js : List ℕ). Contains js j) (sym (own_elsewhere d other)) here
 
-  -- nothing stays behind that isn't needed
-  stray_after : (types : List «Type») → NothingStray (with_one_more u.own.insts b (length h.insts)) (with_inst h b Back shape types loc) s
-  stray_after types = own_stray u.own.insts h s b shape types loc firm there_still (inserted_stray u.own.insts f s b u.nothing_stray)
+  -- and the instruction
+  own_it : Contains (mine.insts b) i
+  own_it = subst (λ (js : List ℕ). Contains js i) (sym own_here) (Contains-push (c.own.insts b) i)
 
-  -- without results
-  module _ (no_results : result_types instruction.operation instruction.controlling ≡ []) (controlling : (g : Body) → controlling_of g shape [] ≡ instruction.controlling) where
+  old_or_it : (d j : ℕ) → Contains (mine.insts d) j → Contains (c.own.insts d) j ⊎ (j ≡ i)
+  old_or_it d j here = by (ℕ_discrete d b)
+    where
+      pushed : Contains (c.own.insts b) j ⊎ (i ≡ j) → d ≡ b → Contains (c.own.insts d) j ⊎ (j ≡ i)
+      pushed (inl old) is = inl (subst (λ (e : ℕ). Contains (c.own.insts e) j) (sym is) old)
+      pushed (inr new) is = inr (sym new)
+
+      by : Dec (d ≡ b) → Contains (c.own.insts d) j ⊎ (j ≡ i)
+      by (yes is) =
+          pushed (Contains-push_cases (c.own.insts b) i j (subst (λ (js : List ℕ). Contains js j) own_here (subst (λ (e : ℕ). Contains (mine.insts e) j) is here))) is
+      by (no other) = inl (subst (λ (js : List ℕ). Contains js j) (own_elsewhere d other) here)
+
+  -- with results of these types
+  module _ (types : List «Type») where
     abbrev g : Body
-    g = with_inst h b Back shape [] loc
+    g = with_inst h b Back shape types loc
 
-    item : Item
+    on : GoesOn f g
+    on = goes_on-from f h g same.insts same.values (goes_on-with_inst h b Back shape types loc)
+
+    keeps : KeepsInsts f g
+    keeps = insts_kept f g consistent on
+
+    longer_insts : i < length g.insts
+    longer_insts = grind (arith, common_steps)
+
+    node_is : inst_at g i ≡ inst_node h b shape types loc
+    node_is = inst_new h b Back shape types loc
+
+    -- what its edges pass is the caller's
+    passes_made : (k : ℕ) → args_of (slice_get (edges_at g i) k) ≡ mine.passed i k
+    passes_made k =
+        ap (λ (node : InstNode). args_of (slice_get (destinations node.shape) k)) node_is
+        ∙ ap (λ (passes : ℕ → List BlockArg). passes k) (sym (updated-same c.own.passed i (shape_passes shape) i refl))
+
+    kept : (j : ℕ) → j < length f.insts → own_placed mine g j ≡ own_placed c.own f j
+    kept j below =
+        ap (λ (passes : ℕ → List BlockArg). own_placed (record c.own { passed = λ k. passes }) g j)
+        (updated-other c.own.passed i (shape_passes shape) j (λ is. omega (arith, below, is, as_many)))
+        ∙ keeps.placed c.own j below
+
+    own_new : (operation : operation_of shape ≡ instruction.operation) (arguments : operands shape ≡ map (answered after) instruction.operands)
+        (edges : edges_of shape ≡ map (answered_edge after) instruction.edges) (results : List Name)
+        → controlling_of g shape (inst_node h b shape types loc).results ≡ instruction.controlling → (inst_node h b shape types loc).results ≡ map (answered after) results
+        → map (own_placed mine g) (i ∷ []) ≡ carried after (Instruct (length calls) instruction results)
+    own_new operation arguments edges results controlling result_is =
+        ap (λ (p : Placed). p ∷ [])
+        (ap (λ (node : InstNode). placed_parts (operation_of node.shape) (controlling_of g node.shape node.results) (operands node.shape) (as_passed (mine.passed i) 0 (edges_of node.shape)) node.results) node_is
+        ∙ placed_same _ _ _ _ _ _ _ _ _ _ operation controlling arguments
+        (passed_edges (mine.passed i) 0 (destinations shape)
+        (λ k. let plain_k : 0 + k ≡ k = omega arith in
+        ap (mine.passed i) plain_k ∙ ap (λ (passes : ℕ → List BlockArg). passes k) (updated-same c.own.passed i (shape_passes shape) i refl))
+        ∙ edges)
+        result_is)
+
+    -- where it leads, it is declared
+    declared_more : (t : SsaState) → ((d j : ℕ) → Contains (predecessors_of s d) j → Contains (predecessors_of t d) j)
+        → ((k target : ℕ) → edge_target g i k ≡ Some target → Contains (predecessors_of t target) i) → AreDeclared g t mine.insts
+    declared_more t more reaches d j k target here to = by (old_or_it d j here)
+      where
+        by : Contains (c.own.insts d) j ⊎ (j ≡ i) → Contains (predecessors_of t target) j
+        by (inl old) =
+            let below : j < length f.insts = all_contained (λ (e : ℕ). e < length f.insts) (c.own.insts d) j (c.holds.own_exist d) old in
+            more target j (c.holds.declared d j k target old (sym (keeps.targets j k below) ∙ to))
+        by (inr is) = subst (λ (e : ℕ). Contains (predecessors_of t target) e) (sym is) (reaches k target (ap (λ (e : ℕ). edge_target g e k) (sym is) ∙ to))
+
+    -- what it leads to are the targets of the shape
+    target_is : (k target : ℕ) → edge_target g i k ≡ Some target → slice_get (targets (destinations shape)) k ≡ Some target
+    target_is k target to = ap (λ (node : InstNode). slice_get (targets (destinations node.shape)) k) (sym node_is) ∙ to
+
+    structured_before : (declared : VariableTypes) → AreTypes after declared → Structured declared mine g s []
+    structured_before declared are =
+        instruction_structured declared c.own h s b shape types loc firm there_still
+        (inserted_structured declared c.own f s b (c.holds.structured declared (types_before calls call declared are)))
+
+    -- where it has no edges, what leads somewhere stays
+    declared_plain : edges_of shape ≡ [] → AreDeclared g s mine.insts
+    declared_plain none =
+        declared_more s (λ d j here. here)
+        (λ k target to. absurd (no_target g i k target (ap (λ (node : InstNode). edges_of node.shape) node_is ∙ none) to))
+
+    leads_plain : LeadsOwn after mine s
+    leads_plain = leads_kept calls call c.own mine s s stays own_still (λ d. refl) c.holds.leads_own
+
+    entry_on : HasEntry after g
+    entry_on = entry_begun calls after f g b B (Requests.entry_instructed calls call B current.current instruction refl) refl current.named stays c.holds.entry
+
+  -- the tables once the block is in the layout
+  abbrev entered : SoundOnPaths calls c.own f s → Blocks
+  entered p = with_entry f.layout s b p.tables
+
+  described_before : (p : SoundOnPaths calls c.own f s) → DescribesSoundly c.own h s (entered p)
+  described_before p = inserted_soundly c.own f s p.tables b (p.describes, p.sound, p.counts)
+
+  same_side : (p : SoundOnPaths calls c.own f s) → SameProgram p.tables (entered p)
+  same_side p = (entry_same f.layout s b p.tables).program
+
+  unwritten : (p : SoundOnPaths calls c.own f s) (y : ℕ) → (entered p).assigned (inside b (suc ((entered p).count b))) y ≡ None
+  unwritten p y = (described_before p).0.unwritten b (suc ((entered p).count b)) y (omega arith)
+
+  open_here : IsOpen h s b
+  open_here = open_kept f h s s b (insts_inserted f b) (λ d. refl) exist open_in
+
+  entry_is : (program_so_far after).entry ≡ first_block (program_so_far calls).entry (Some B)
+  entry_is = Requests.entry_instructed calls call B current.current instruction refl
+
+  -- WITHOUT RESULTS -----------------------------------------------------------------------------------------------------
+
+  module _ (matches : SameBranch calls shape instruction) (no_results : result_types instruction.operation instruction.controlling ≡ [])
+      (controlling : (k : Body) → controlling_of k shape [] ≡ instruction.controlling) where
+    abbrev m : Body
+    m = with_inst h b Back shape [] loc
+
+    abbrev item : Item
     item = Instruct (length calls) instruction []
 
     puts : PutsItem calls call B (Instruct (length calls) instruction [])
     puts = subst (λ (types : List «Type»). PutsItem calls call B (Instruct (length calls) instruction (answers_from (length calls) 1 types))) no_results
-        (Requests.puts_instruction calls call B current.current instruction refl matches.edges)
+        (Requests.puts_instruction calls call B current.current instruction refl)
 
-    on : GoesOn f g
-    on = goes_on-then f h g (goes_on-inserted f b) (goes_on-with_inst h b Back shape [] loc)
+    operands_after : operands shape ≡ map (answered after) instruction.operands
+    operands_after = matches.arguments ∙ sym (numbers_kept calls call instruction.operands matches.earlier)
 
-    new_is : map (λ inst. placed_of g (inst_at g inst)) (length h.insts ∷ []) ≡ carried after (Instruct (length calls) instruction [])
-    new_is =
-        ap (λ (node : InstNode). placed_of g node ∷ []) (inst_new h b Back shape [] loc)
-        ∙ ap (λ (p : Placed). p ∷ [])
-        (placed_same _ _ _ _ _ _ _ _ _ _ matches.operation (controlling g) operands_after edges_same refl)
+    edges_after : edges_of shape ≡ map (answered_edge after) instruction.edges
+    edges_after = matches.edges ∙ sym (edges_kept calls call instruction.edges matches.edges_earlier)
+
+    holds_branch : (t : SsaState) → AreDeclared m t mine.insts → LeadsOwn after mine t → ((types : VariableTypes) → AreTypes after types → Structured types mine m t []) → Holds after mine m t
+    holds_branch t declared leads structured =
+        holds_item calls call stays c.own mine f m s t c.holds (kept []) (keeps []).more (out_before f b) b B item current.named puts (i ∷ []) own_here own_elsewhere
+        c.holds.no_parameters (λ out. absurd (never_out f b out)) (own_new [] matches.operation operands_after edges_after [] (controlling m) refl) (longer_insts [], tt) (
+          all_mapped (IsEarlier calls) (IsEarlier after) (earlier_name calls call) instruction.operands matches.earlier,
+          tt,
+          all_mapped (EdgeEarlier calls) (EdgeEarlier after) (edge_earlier calls call stays) instruction.edges matches.edges_earlier,
+        )
+        (plain calls f s c consistent b B current unfilled) declared leads (entry_on []) structured
 
     none_given : (index : ℕ) → IsTrue (is_value_at (AnInstruction ∷ map AValue (result_types instruction.operation instruction.controlling)) index) → Contains [] (answer_of (length calls) index)
     none_given index is = absurd (by index (subst (λ (types : List «Type»). IsTrue (is_value_at (AnInstruction ∷ map AValue types) index)) no_results is))
@@ -162,19 +344,99 @@ module _ (calls : List AnsweredCall) (f : Body) (s : SsaState) (c : Carries call
         by zero h = false_is h
         by (suc i) h = false_is h
 
-    pub carries_terminator : Carries after g s
-    carries_terminator =
-        let described = own_described u.own h s T b shape loc firm before open_block there_still in
-        let adds = adds_instruction calls call T b B current.named unwritten instruction puts in
-        branched after g s (carries_item calls call f g s s u (placed_kept f g consistent on) on.more_insts (out_before f b) b B (Instruct (length calls) instruction []) T (with_item T b) adds
-        (restated calls u.tables T same_side u.program)
-        (with_own u.own b (length h.insts) shape) (length h.insts ∷ []) own_here own_elsewhere u.no_parameters (λ out. absurd (never_out f b out)) new_is (longer_insts [], tt) (earlier_after, tt, matches.edges)
-        (values_added calls call T (with_item T b) b B (Instruct (length calls) instruction []) adds none_given (values_same calls u.tables T same_side u.values_given))
-        (entry_begun calls after f g b B (Requests.entry_instructed calls call B current.current instruction refl) refl current.named (name_stays calls f s c nothing call matches.edges) u.entry)
-        described.0 described.1 described.2 (stray_after []) u.nothing_leads)
+    described_branch : (p : SoundOnPaths calls c.own f s) → DescribesSoundly mine m s (with_item (entered p) b)
+    described_branch p = own_described c.own h s (entered p) b shape loc firm (described_before p) open_here there_still
 
-  -- with one result
-  module _ (ty : «Type») (one_result : result_types instruction.operation instruction.controlling ≡ ty ∷ []) (controlling : instruction.controlling ≡ ty)
+    sound_branch : (p : SoundOnPaths calls c.own f s) (t : SsaState) → DescribesSoundly mine m t (with_item (entered p) b) → SoundOnPaths after mine m t
+    sound_branch p t described =
+        let adds = adds_instruction calls call (entered p) b B current.named (unwritten p) instruction puts in
+        record {
+          tables = with_item (entered p) b;
+          program = extended calls after (entered p) (with_item (entered p) b) b B item adds (restated calls p.tables (entered p) (same_side p) p.program);
+          values_given = values_added calls call (entered p) (with_item (entered p) b) b B item adds none_given (values_same calls p.tables (entered p) (same_side p) p.values_given);
+          describes = described.0;
+          sound = described.1;
+          counts = described.2;
+        }
+
+    -- the state after it may be another one
+    carries_made : (t : SsaState) → AreDeclared m t mine.insts → LeadsOwn after mine t → ((types : VariableTypes) → AreTypes after types → Structured types mine m t [])
+        → (SparesEntry after → (T : Blocks) → DescribesSoundly mine m s T → DescribesSoundly mine m t T) → Carries after m t
+    carries_made t declared leads structured sound = record {
+      own = mine;
+      holds = holds_branch t declared leads structured;
+      on_paths = λ spares.
+          let p : SoundOnPaths calls c.own f s = c.on_paths (spares_item calls call B item puts (entry_first calls after B entry_is) spares) in
+          sound_branch p t (sound spares (with_item (entered p) b) (described_branch p));
+    }
+
+    -- it has edges, and is declared at each block that one of them leads to
+    module _ (told : List ℕ) (t : SsaState) (ends : is_terminator instruction.operation ≡ true) (once : Once told)
+        (exactly : (x : ℕ) → (Contains told x → Contains (targets (destinations shape)) x) × (Contains (targets (destinations shape)) x → Contains told x))
+        (unsealed : (x : ℕ) → Contains told x → is_yes (sealed_of s x) ≡ false) (along : DeclaredAlong s i told t) where
+      may : (x : ℕ) → Contains told x → MayLead m s i x
+      may x here = record {
+        unsealed = unsealed x here;
+        apart = λ j leads is. open_kept f m s s b (keeps []) (λ d. refl) exist open_in x j leads (is ∙ ap (λ (node : InstNode). node.block) (node_is []));
+      }
+
+      leads_branch : LeadsOwn after mine t
+      leads_branch target j here = by (along_old_or_it told s t i along target j here)
+        where
+          by : Contains (predecessors_of s target) j ⊎ (j ≡ i)
+              → (block : ℕ) × (name : Name) × Contains (mine.insts block) j × (block_name after block ≡ Some name) × IsTrue (is_filled (ledger_after (script_of after)) name)
+          by (inl old) = leads_plain [] target j old
+          by (inr is) =
+              (b, B, subst (λ (e : ℕ). Contains (mine.insts b) e) (sym is) own_it, stays b B current.named, fills calls call instruction b B refl ends current)
+
+      -- none of the blocks is the entry
+      no_entry : SparesEntry after → (x : ℕ) → Contains told x → entry_of m ≢ Some x
+      no_entry spares x here is_entry = by (program_so_far after).entry refl
+        where
+          some_none : (y : ℕ) → Some y ≡ None → ⊥
+          some_none y e = cc
+
+          edge : (edge : Edge Name Name) × In edge instruction.edges × (answered calls edge.target ≡ x)
+          edge = target_of calls (destinations shape) instruction.edges x matches.edges ((exactly x).0 here)
+
+          named : block_name after x ≡ Some edge.0.target
+          named = ap (block_name after) (sym edge.2) ∙ stays (answered calls edge.0.target) edge.0.target (all_in (EdgeEarlier calls) instruction.edges edge.0 matches.edges_earlier edge.1).leads
+
+          by : (o : Option Name) → (program_so_far after).entry ≡ o → ⊥
+          by None none = some_none x (sym is_entry ∙ (entry_on []).none none)
+          by (Some E) some =
+              let e = (entry_on []).some E some in
+              let at : e.0 ≡ x = one_answer e.0 x (entry_of m) e.1 is_entry in
+              let same_name : edge.0.target ≡ E = one_answer edge.0.target E (block_name after x) named (ap (block_name after) (sym at) ∙ e.2) in
+              all_in (λ (d : Edge Name Name). d.target ≢ E) instruction.edges edge.0 (item_last calls call B item puts (SparesBlock E) (spares E some)) edge.1 same_name
+
+      carries_along : Carries after m t
+      carries_along =
+          carries_made t
+          (declared_more [] t (along_stays told s t i along)
+          (λ k target to. along_leads told s t i along target ((exactly target).1 (target_contained (destinations shape) k target (target_is [] k target to)))))
+          leads_branch
+          (λ types are. along_structured told types mine m s t i (longer_insts []) once may (passes_made []) along (structured_before [] types are))
+          (λ spares T. along_soundly told mine m s t T i (longer_insts []) (inserted_entry f b) once may (no_entry spares) (λ x k to. ap (λ (args : List BlockArg). length args) (passes_made [] k)) along)
+
+  -- An instruction without edges and results.
+  pub carries_terminator : (matches : SameInstruction calls shape instruction) → result_types instruction.operation instruction.controlling ≡ []
+      → ((k : Body) → controlling_of k shape [] ≡ instruction.controlling) → Carries after (with_inst h b Back shape [] loc) s
+  carries_terminator matches no_results controlling =
+      carries_made (same_branch calls shape instruction matches) no_results controlling s (declared_plain [] matches.no_edges) (leads_plain []) (structured_before []) (λ spares T d. d)
+
+  -- A branch: it was declared once at each block to which it leads.
+  pub carries_branch : (matches : SameBranch calls shape instruction) → result_types instruction.operation instruction.controlling ≡ []
+      → ((k : Body) → controlling_of k shape [] ≡ instruction.controlling) → (told : List ℕ) (t : SsaState) → is_terminator instruction.operation ≡ true → Once told
+      → ((x : ℕ) → (Contains told x → Contains (targets (destinations shape)) x) × (Contains (targets (destinations shape)) x → Contains told x))
+      → ((x : ℕ) → Contains told x → is_yes (sealed_of s x) ≡ false) → DeclaredAlong s (length f.insts) told t
+      → Carries after (with_inst h b Back shape [] loc) t
+  carries_branch matches no_results controlling told t ends once exactly unsealed along =
+      carries_along matches no_results controlling told t ends once exactly unsealed (subst (λ (n : ℕ). DeclaredAlong s n told t) as_many along)
+
+  -- WITH ONE RESULT -----------------------------------------------------------------------------------------------------
+
+  module _ (matches : SameInstruction calls shape instruction) (ty : «Type») (one_result : result_types instruction.operation instruction.controlling ≡ ty ∷ []) (controlling : instruction.controlling ≡ ty)
       (by_result : (g : Body) (values : List ℕ) → controlling_of g shape values ≡ first_type g values) (number : slice_get numbers 1 ≡ Some (length h.values)) where
     abbrev k : Body
     k = with_inst h b Back shape (ty ∷ []) loc
@@ -182,43 +444,59 @@ module _ (calls : List AnsweredCall) (f : Body) (s : SsaState) (c : Carries call
     abbrev result : Name
     result = answer_of (length calls) 1
 
+    abbrev giving : Item
+    giving = Instruct (length calls) instruction (result ∷ [])
+
     puts_result : PutsItem calls call B (Instruct (length calls) instruction (result ∷ []))
     puts_result = subst (λ (types : List «Type»). PutsItem calls call B (Instruct (length calls) instruction (answers_from (length calls) 1 types))) one_result
-        (Requests.puts_instruction calls call B current.current instruction refl matches.edges)
-
-    goes : GoesOn f k
-    goes = goes_on-then f h k (goes_on-inserted f b) (goes_on-with_inst h b Back shape (ty ∷ []) loc)
+        (Requests.puts_instruction calls call B current.current instruction refl)
 
     last_type : (values : List ValueNode) (node : ValueNode) → (get_or (values ++ node ∷ []) (length values) no_value) ≡ node
     last_type [] node = refl
     last_type (v ∷ values) node = last_type values node
 
-    result_is : map (λ inst. placed_of k (inst_at k inst)) (length h.insts ∷ []) ≡ carried after (Instruct (length calls) instruction (result ∷ []))
+    result_is : map (own_placed mine k) (i ∷ []) ≡ carried after (Instruct (length calls) instruction (result ∷ []))
     result_is =
-        ap (λ (node : InstNode). placed_of k node ∷ []) (inst_new h b Back shape (ty ∷ []) loc)
-        ∙ ap (λ (p : Placed). p ∷ [])
-        (placed_same _ _ _ _ _ _ _ _ _ _ matches.operation
+        own_new (ty ∷ []) matches.operation (matches.arguments ∙ sym (numbers_kept calls call instruction.operands matches.earlier))
+        (matches.no_edges ∙ sym (ap (map (answered_edge after)) matches.edges)) (result ∷ [])
         (by_result k (length h.values ∷ []) ∙ ap (λ (node : ValueNode). node.ty) (last_type h.values _) ∙ sym controlling)
-        operands_after edges_same
-        (ap (λ (v : ℕ). v ∷ []) (number_of_answer calls call 1 (length h.values) number)))
+        (ap (λ (v : ℕ). v ∷ []) (number_of_answer calls call 1 (length h.values) number))
 
     given_result : (index : ℕ) → IsTrue (is_value_at (AnInstruction ∷ map AValue (result_types instruction.operation instruction.controlling)) index) → Contains (result ∷ []) (answer_of (length calls) index)
     given_result index is = by index (subst (λ (types : List «Type»). IsTrue (is_value_at (AnInstruction ∷ map AValue types) index)) one_result is)
       where
-        by : (i : ℕ) → IsTrue (is_value_at (AnInstruction ∷ AValue ty ∷ []) i) → Contains (result ∷ []) (answer_of (length calls) i)
+        by : (j : ℕ) → IsTrue (is_value_at (AnInstruction ∷ AValue ty ∷ []) j) → Contains (result ∷ []) (answer_of (length calls) j)
         by zero h = absurd (false_is h)
         by (suc zero) h = the_one result
-        by (suc (suc i)) h = absurd (false_is h)
+        by (suc (suc j)) h = absurd (false_is h)
+
+    sound_result : (p : SoundOnPaths calls c.own f s) → SoundOnPaths after mine k s
+    sound_result p =
+        let was = restated calls p.tables (entered p) (same_side p) p.program in
+        let described = own_result_described c.own h s (entered p) b (code result) shape ty loc firm (described_before p) open_here there_still (next_is_new calls (entered p) 1 was) in
+        let T : Blocks = with_born (with_item (entered p) b) (last_place (with_item (entered p) b) b) (code result) (length h.values) in
+        let adds = adds_result calls call (entered p) b B current.named (unwritten p) instruction (length h.values) (last_place (with_item (entered p) b) b) puts_result number (last-with_item (entered p) b) in
+        record {
+          tables = T;
+          program = extended calls after (entered p) T b B giving adds was;
+          values_given = values_added calls call (entered p) T b B giving adds given_result (values_same calls p.tables (entered p) (same_side p) p.values_given);
+          describes = described.0;
+          sound = described.1;
+          counts = described.2;
+        }
 
     pub carries_result : Carries after k s
     carries_result =
-        let described = own_result_described u.own h s T b (code result) shape ty loc firm before open_block there_still (next_is_new calls T 1 (restated calls u.tables T same_side u.program)) in
-        let T' : Blocks = with_born (with_item T b) (last_place (with_item T b) b) (code result) (length h.values) in
-        let adds = adds_result calls call T b B current.named unwritten instruction (length h.values) (last_place (with_item T b) b) puts_result number (last-with_item T b) in
-        branched after k s (carries_item calls call f k s s u (placed_kept f k consistent goes) goes.more_insts (out_before f b) b B (Instruct (length calls) instruction (result ∷ [])) T T' adds
-        (restated calls u.tables T same_side u.program)
-        (with_own u.own b (length h.insts) shape) (length h.insts ∷ []) own_here own_elsewhere u.no_parameters (λ out. absurd (never_out f b out)) result_is (longer_insts (ty ∷ []), tt)
-        (earlier_after, (let l = longer_calls calls f s c nothing call in omega (arith, l), tt), matches.edges)
-        (values_added calls call T T' b B (Instruct (length calls) instruction (result ∷ [])) adds given_result (values_same calls u.tables T same_side u.values_given))
-        (entry_begun calls after f k b B (Requests.entry_instructed calls call B current.current instruction refl) refl current.named (name_stays calls f s c nothing call matches.edges) u.entry)
-        described.0 described.1 described.2 (stray_after (ty ∷ [])) u.nothing_leads)
+        let l = longer_calls calls call in
+        let result_earlier : IsEarlier after result = omega (arith, l) in
+        record {
+          own = mine;
+          holds = holds_item calls call stays c.own mine f k s s c.holds (kept (ty ∷ [])) (keeps (ty ∷ [])).more (out_before f b) b B giving current.named puts_result (i ∷ []) own_here own_elsewhere
+              c.holds.no_parameters (λ out. absurd (never_out f b out)) result_is (longer_insts (ty ∷ []), tt) (
+                all_mapped (IsEarlier calls) (IsEarlier after) (earlier_name calls call) instruction.operands matches.earlier,
+                (result_earlier, tt),
+                subst (AllByRecursion (EdgeEarlier after)) (sym matches.edges) tt,
+              )
+              (plain calls f s c consistent b B current unfilled) (declared_plain (ty ∷ []) matches.no_edges) (leads_plain (ty ∷ [])) (entry_on (ty ∷ [])) (structured_before (ty ∷ []));
+          on_paths = λ spares. sound_result (c.on_paths (spares_item calls call B giving puts_result (entry_first calls after B entry_is) spares));
+        }

@@ -1,8 +1,12 @@
--- Each kind of call that succeeds leaves a function that carries it.
+-- Each kind of call that succeeds, an instruction aside, leaves a function that carries it.
 use Rattle.std.proofs.Common.{◌≡◌, ℕ, zero, suc, ◌<◌, ◌≤◌, List, [], ◌∷◌, ◌++◌, length, refl, sym, ◌∙◌, ap, subst, arith, Some, None, ◌⊎◌, inl, inr, false, length-append}
-use Rattle.std.specs.Prelude.{Contains, IsTrue}
+use Rattle.std.specs.Prelude.{Contains, IsTrue, Option, option_and_then, slice_get}
+use Rattle.std.proofs.lemmas.Option.{slice_get_within}
+use Rattle.std.specs.List.{AllByRecursion}
 use Rattle.std.proofs.lemmas.Grind.{common_steps}
+use Rattle.std.proofs.lemmas.List.{append-nil}
 use Rattle.clif_types.specs.declared.types.«Type».{«Type»}
+use Rattle.clif_ir.specs.declared.function.BlockNode.{BlockNode}
 use Rattle.clif_ir.specs.Body.{Body, empty_block, block_at}
 use Rattle.clif_ir.specs.Consistent.{IsConsistent}
 use Rattle.clif_ir.specs.Changes.{with_block, inserted_in}
@@ -10,36 +14,40 @@ use Rattle.clif_ir.specs.Reading.{stands_in}
 use Rattle.clif_paths.specs.Places.{inside}
 use Rattle.clif_paths.specs.State.{Naming}
 use Rattle.clif_paths.specs.Blocks.{Blocks, with_item, with_read, with_write}
-use Rattle.clif_ssa.specs.Tables.{pending_of}
-use Rattle.clif_ssa.specs.Ssa.{SsaState, sealed_of, completed, Records, SamePredecessors, SameRecords, SameBlocks, Seals}
-use Rattle.clif_ssa.specs.Sound.{SameProgram, KeepsAndKnows, entry_of}
-use Rattle.clif_ssa.specs.SoundLaws.{DescribesSoundly}
-use Rattle.clif_ssa.proofs.Bodies.{firm_from}
-use Rattle.clif_ssa.proofs.Completing.{same_program}
-use Rattle.clif_ssa.proofs.Locally.{seals_locally}
-use Rattle.clif_ssa.specs.Structure.{NothingStray}
-use Rattle.clif_ssa.proofs.Straying.{block_stray, same_stray, seal_stray}
-use Rattle.clif_ssa.proofs.Counting.{block_counted}
+use Rattle.clif_ssa.specs.Constructs.{OnlyConstructs}
+use Rattle.clif_ssa.specs.Own.{Own}
+use Rattle.clif_ssa.specs.Ssa.{SsaState, predecessors_of, Records, SamePredecessors, SameRecords, SameBlocks}
+use Rattle.clif_ssa.specs.Sound.{Keeps, KeepsAndKnows, SameProgram}
+use Rattle.clif_ssa.specs.SoundLaws.{with_entry, DescribesSoundly, IsOpen}
+use Rattle.clif_ssa.specs.Structured.{HasType, Structured, VariableTypes}
+use Rattle.clif_ssa.proofs.Completing.{entry_same, same_program, same_program_then}
+use Rattle.clif_ssa.proofs.Constructed.{inserted_constructs}
+use Rattle.clif_ssa.proofs.Constructing.{constructs_then}
+use Rattle.clif_ssa.proofs.Counting.{block_counted, inserted_counted}
 use Rattle.clif_ssa.proofs.Counts.{counts_kept}
+use Rattle.clif_ssa.proofs.Entering.{inserted}
+use Rattle.clif_ssa.proofs.Structuring.{same_structured}
+use Rattle.clif_ssa.proofs.StructuredLaws.{assigned_structured, block_structured, inserted_structured}
 use Rattle.clif_ssa.proofs.Writing.{same_state, block_described, write_item_described, read_item_described}
 use Rattle.clif_meaning.specs.Name.{Name, answer_of}
 use Rattle.clif_meaning.specs.Request.{Request, CreateBlock, SwitchToBlock, SealBlock, DeclareVar, DefVar, UseVar, AnsweredCall, script_of, number_of}
-use Rattle.clif_meaning.specs.Ledger.{BlockState, ABlock, AVariable, AValue, ledger_after, has_value, or_invalid, variable_type}
+use Rattle.clif_meaning.specs.Ledger.{BlockState, ABlock, AVariable, AValue, answers_to, ledger_after, has_value, is_filled, or_invalid, variable_type}
 use Rattle.clif_meaning.specs.Program.{Use, Assign}
 use Rattle.clif_simulation.specs.Tables.{code, number_or_none, program_so_far, block_name}
-use Rattle.clif_simulation.specs.Carries.{Carries, IsCurrent, NothingLeads, ValuesGiven, GoesOn}
-use Rattle.std.proofs.lemmas.List.{append-nil}
-use Rattle.clif_ir.specs.declared.function.BlockNode.{BlockNode}
-use Rattle.clif_simulation.proofs.NameLists.{the_one, MakesNoBlock, names_stay, names_of}
-use Rattle.clif_simulation.proofs.Staying.{unchanged, created, restated, old_or_new, kept}
-use Rattle.clif_simulation.proofs.Requests
-use Rattle.clif_simulation.proofs.Requests.{entry_stays, entry_begun}
-use Rattle.clif_simulation.proofs.Carrying.{carries_on, carries_item}
-use Rattle.clif_simulation.proofs.Unbranched.{unbranched, branched, open_everywhere, nothing_still, CarriesUnbranched}
+use Rattle.clif_simulation.specs.Carries.{AreTypes, Carries, IsCurrent, NamesBlocks, SoundOnPaths, ValuesGiven}
+use Rattle.clif_simulation.proofs.Carrying.{declared_kept, holds_item, holds_on, leads_kept, spares_before, spares_item}
+use Rattle.clif_simulation.proofs.Growing.{KeepsInsts, goes_on-constructs, insts_kept, insts_same}
 use Rattle.clif_simulation.proofs.ItemCalls.{adds_use, adds_assignment}
-use Rattle.clif_simulation.proofs.Growing.{placed_kept, goes_on-completed}
-use Rattle.clif_simulation.proofs.Layouts.{out_before, still_out-completed}
+use Rattle.clif_simulation.proofs.Layouts.{out_before}
+use Rattle.clif_simulation.proofs.Ledgers.{types_before}
+use Rattle.clif_simulation.proofs.NameLists.{the_one, MakesNoBlock, names_stay, names_of}
+use Rattle.clif_simulation.proofs.Requests
+use Rattle.clif_simulation.proofs.Requests.{entry_stays, entry_begun, entry_first}
+use Rattle.clif_simulation.proofs.Staying.{unchanged, created, restated, old_or_new, kept}
+use Rattle.clif_simulation.proofs.Unfilled.{HasNoEdges, is_open, no_edges}
 use Rattle.clif_simulation.proofs.Values.{is_value_at, false_is, values_kept, values_added, next_is_new, value_answered}
+use Rattle.clif_simulation.proofs.Whole.{are_declared, declared_types}
+use Rattle.clif_simulation.proofs.Extending.{extended}
 
 -- a block that doesn't exist has no instructions
 own_empty : (own : List ℕ) (zeros insts : List ℕ) → insts ≡ zeros ++ own → insts ≡ [] → own ≡ []
@@ -76,137 +84,301 @@ names_count (state ∷ states) = ap suc (names_count states)
 pub values_same : (calls : List AnsweredCall) (T T' : Blocks) → SameProgram T T' → ValuesGiven calls T → ValuesGiven calls T'
 values_same calls T T' same given name is at_start = given name is (sym (ap (λ (n : Naming). n.home) (same.naming (code name))) ∙ at_start)
 
-module _ (calls : List AnsweredCall) (f : Body) (s : SsaState) (c : Carries calls f s) (nothing : NothingLeads s) where
-  abbrev u : CarriesUnbranched calls f s
-  u = unbranched calls f s c nothing
+pub longer_calls : (calls : List AnsweredCall) (call : AnsweredCall) → length (calls ++ call ∷ []) ≡ suc (length calls)
+longer_calls calls call = omega (arith, length-append calls)
 
+-- a name that has a number was answered before
+pub numbered_earlier : (calls : List AnsweredCall) (name : Name) (number : ℕ) → number_of calls name ≡ Some number → name.place < length calls
+numbered_earlier calls name number is = by (slice_get calls name.place) refl is
+  where
+    none_is : None ≡ Some number → ⊥
+    none_is h = cc
+
+    by : (o : Option AnsweredCall) → slice_get calls name.place ≡ o → option_and_then (λ (c : AnsweredCall). slice_get c.numbers name.index) o ≡ Some number → name.place < length calls
+    by None found h = absurd (none_is h)
+    by (Some call) found h = slice_get_within calls name.place call found
+
+-- the names of blocks stay
+pub name_stays : (calls : List AnsweredCall) (call : AnsweredCall) → MakesNoBlock call.request → (b : ℕ) (N : Name) → block_name calls b ≡ Some N → block_name (calls ++ call ∷ []) b ≡ Some N
+name_stays calls call no_block b N is = names_stay calls call no_block b ∙ is
+
+-- the tables after a block is brought into the layout, and its structure
+pub inserted_soundly : (own : Own) (f : Body) (s : SsaState) (tables : Blocks) (b : ℕ) → DescribesSoundly own f s tables → DescribesSoundly own (inserted_in f b) s (with_entry f.layout s b tables)
+inserted_soundly own f s tables b before =
+    let entered = inserted own f s [] tables b before.0 before.1 in
+    (entered.0, entered.1, inserted_counted own f s tables (with_entry f.layout s b tables) b (entry_same f.layout s b tables).definition before.2)
+
+-- a block to which control is open stays so where instructions and branches stay
+pub open_kept : (f g : Body) (s t : SsaState) (b : ℕ) → KeepsInsts f g → SamePredecessors s t → ((c i : ℕ) → Contains (predecessors_of s c) i → i < length f.insts) → IsOpen f s b → IsOpen g t b
+open_kept f g s t b keeps leads exist was c i here same =
+    let old : Contains (predecessors_of s c) i = subst (λ (is : List ℕ). Contains is i) (leads c) here in
+    was c i old (sym (keeps.block i (exist c i old)) ∙ same)
+
+module _ (calls : List AnsweredCall) (f : Body) (s : SsaState) (c : Carries calls f s) where
   abbrev with_answers : Request → List ℕ → List AnsweredCall
   with_answers request numbers = calls ++ record { request = request; numbers = numbers } ∷ []
 
   abbrev the_call : Request → List ℕ → AnsweredCall
   the_call request numbers = record { request = request; numbers = numbers }
 
-  pub longer_calls : (call : AnsweredCall) → length (calls ++ call ∷ []) ≡ suc (length calls)
-  longer_calls call = omega (arith, length-append calls)
+  -- the structure, with the types that the calls declare
+  pub structured_so_far : Structured (declared_types calls) c.own f s []
+  structured_so_far = c.holds.structured (declared_types calls) (are_declared calls)
 
-  -- the names of blocks stay
-  pub name_stays : (call : AnsweredCall) → MakesNoBlock call.request → (b : ℕ) (N : Name) → block_name calls b ≡ Some N → block_name (calls ++ call ∷ []) b ≡ Some N
-  name_stays call no_block b N is = names_stay calls call no_block b ∙ is
+  -- A BLOCK IS MADE -----------------------------------------------------------------------------------------------------
 
-  name_was : (call : AnsweredCall) → MakesNoBlock call.request → (b : ℕ) (N : Name) → block_name (calls ++ call ∷ []) b ≡ Some N
-      → (block_name calls b ≡ Some N) ⊎ ((u.own.insts b ≡ []) × ((program_so_far calls).items N ≡ []))
-  name_was call no_block b N is = inl (sym (names_stay calls call no_block b) ∙ is)
-
-  -- a block is made
   pub carries_created : (t : SsaState) (numbers : List ℕ) → length (ledger_after (script_of calls)).blocks ≡ length f.blocks → SameRecords s t → SameBlocks s t → SamePredecessors s t
       → Carries (with_answers CreateBlock numbers) (with_block f) t
   carries_created t numbers as_many records same leads =
       let call : AnsweredCall = the_call CreateBlock numbers in
-      branched (with_answers CreateBlock numbers) (with_block f) t (carries_on calls call f (with_block f) s t u (λ i below. refl) (omega arith) (λ b out. out) u.tables
-      (created calls call refl u.tables u.tables (same_program u.tables) (Requests.items_created calls call refl) u.program)
-      named (kept calls call refl) (Requests.items_created calls call refl)
-      (values_kept calls call u.tables u.tables (same_program u.tables) one_answer_none u.values_given)
-      (entry_stays calls (calls ++ call ∷ []) f (with_block f) (Requests.entry_created calls call refl) refl (kept calls call refl) u.entry)
-      (same_state u.own (with_block f) s t u.tables records same leads (block_described u.own f s u.tables u.describes))
-      u.sound (counts_kept u.own (with_block f) s t u.tables u.tables (block_counted u.own f s u.tables u.counts) leads (λ v. refl)) (same_stray u.own.insts (with_block f) s t same (block_stray u.own.insts f s u.nothing_stray)) (nothing_still s t leads u.nothing_leads))
+      let items = Requests.items_created calls call refl in
+      record {
+        own = c.own;
+        holds = holds_on calls call (kept calls call refl) c.own c.own f (with_block f) s t c.holds (λ i below. refl) (omega arith) (λ b out. out)
+            (λ b. refl) c.holds.no_parameters blocks named items
+            (declared_kept c.own f (with_block f) s t (insts_same f (with_block f) refl refl) leads c.holds.own_exist c.holds.declared)
+            (leads_kept calls call c.own c.own s t (kept calls call refl) (λ b i h. h) leads c.holds.leads_own)
+            (entry_stays calls (calls ++ call ∷ []) f (with_block f) (Requests.entry_created calls call refl) refl (kept calls call refl) c.holds.entry)
+            (λ types are.
+            same_structured types c.own (with_block f) s t [] records same leads (block_structured types c.own f s (c.holds.structured types (types_before calls call types are))));
+        on_paths = λ spares.
+            let p : SoundOnPaths calls c.own f s = c.on_paths
+            (spares_before calls call (λ e is. Requests.entry_created calls call refl ∙ is) (λ N. ([], items N ∙ sym (append-nil ((program_so_far calls).items N)))) spares) in
+            record {
+              tables = p.tables;
+              program = created calls call refl p.tables p.tables (same_program p.tables) items p.program;
+              values_given = values_kept calls call p.tables p.tables (same_program p.tables) one_answer_none p.values_given;
+              describes = same_state c.own (with_block f) s t p.tables records same leads (block_described c.own f s p.tables p.describes);
+              sound = p.sound;
+              counts = counts_kept c.own (with_block f) s t p.tables p.tables (block_counted c.own f s p.tables p.counts) leads (λ v. refl);
+            };
+      }
     where
-      empty : (b : ℕ) → b ≡ length (names_of (ledger_after (script_of calls)).blocks) → u.own.insts b ≡ []
+      empty : (b : ℕ) → b ≡ length (names_of (ledger_after (script_of calls)).blocks) → c.own.insts b ≡ []
       empty b last =
-          let has = u.describes.instructions b in
+          let has = structured_so_far.zeros b in
           let past : length f.blocks ≤ b = omega (arith, last, as_many, names_count (ledger_after (script_of calls)).blocks) in
-          own_empty (u.own.insts b) has.zeros (block_at f b).insts has.in_order (ap (λ (node : BlockNode). node.insts) (past_block f b past))
+          own_empty (c.own.insts b) has.zeros (block_at f b).insts has.in_order (ap (λ (node : BlockNode). node.insts) (past_block f b past))
 
       no_items : (N : Name) → answer_of (length calls) 0 ≡ N → ((program_so_far calls).items N ≡ []) ⊎ ((b : ℕ) × (block_name calls b ≡ Some N)) → (program_so_far calls).items N ≡ []
       no_items N new (inl none) = none
       no_items N new (inr block) =
-          let earlier : N.place < length calls = u.program.blocks_earlier block.0 N block.1 in
+          let earlier : N.place < length calls = c.holds.blocks.earlier block.0 N block.1 in
           let late : length calls ≡ N.place = ap (λ (M : Name). M.place) new in
           absurd (omega (arith, earlier, late))
 
-      named : (b : ℕ) (N : Name) → block_name (with_answers CreateBlock numbers) b ≡ Some N → (block_name calls b ≡ Some N) ⊎ ((u.own.insts b ≡ []) × ((program_so_far calls).items N ≡ []))
+      named : (b : ℕ) (N : Name) → block_name (with_answers CreateBlock numbers) b ≡ Some N → (block_name calls b ≡ Some N) ⊎ ((c.own.insts b ≡ []) × ((program_so_far calls).items N ≡ []))
       named b N is = by (old_or_new calls (the_call CreateBlock numbers) refl b N is)
         where
           by : (block_name calls b ≡ Some N) ⊎ ((b ≡ length (names_of (ledger_after (script_of calls)).blocks)) × (answer_of (length calls) 0 ≡ N))
-              → (block_name calls b ≡ Some N) ⊎ ((u.own.insts b ≡ []) × ((program_so_far calls).items N ≡ []))
+              → (block_name calls b ≡ Some N) ⊎ ((c.own.insts b ≡ []) × ((program_so_far calls).items N ≡ []))
           by (inl old) = inl old
-          by (inr new) = inr (empty b new.0, no_items N new.1 (u.program.only_blocks N))
+          by (inr new) = inr (empty b new.0, no_items N new.1 (c.holds.blocks.only N))
+
+      blocks : NamesBlocks (with_answers CreateBlock numbers)
+      blocks = record {
+        distinct = λ b d N first second. one b d N (old_or_new calls (the_call CreateBlock numbers) refl b N first) (old_or_new calls (the_call CreateBlock numbers) refl d N second);
+        earlier = λ b N is. early b N (old_or_new calls (the_call CreateBlock numbers) refl b N is);
+        only = λ N. stay N (c.holds.blocks.only N);
+      }
+        where
+          more : length (with_answers CreateBlock numbers) ≡ suc (length calls)
+          more = longer_calls calls (the_call CreateBlock numbers)
+
+          late : (b : ℕ) (N : Name) → block_name calls b ≡ Some N → answer_of (length calls) 0 ≡ N → ⊥
+          late b N old new =
+              let earlier : N.place < length calls = c.holds.blocks.earlier b N old in
+              let place : length calls ≡ N.place = ap (λ (M : Name). M.place) new in
+              omega (arith, earlier, place)
+
+          one : (b d : ℕ) (N : Name) → (block_name calls b ≡ Some N) ⊎ ((b ≡ length (names_of (ledger_after (script_of calls)).blocks)) × (answer_of (length calls) 0 ≡ N))
+              → (block_name calls d ≡ Some N) ⊎ ((d ≡ length (names_of (ledger_after (script_of calls)).blocks)) × (answer_of (length calls) 0 ≡ N)) → b ≡ d
+          one b d N (inl first) (inl second) = c.holds.blocks.distinct b d N first second
+          one b d N (inl first) (inr second) = absurd (late b N first second.1)
+          one b d N (inr first) (inl second) = absurd (late d N second first.1)
+          one b d N (inr first) (inr second) = first.0 ∙ sym second.0
+
+          early : (b : ℕ) (N : Name) → (block_name calls b ≡ Some N) ⊎ ((b ≡ length (names_of (ledger_after (script_of calls)).blocks)) × (answer_of (length calls) 0 ≡ N))
+              → N.place < length (with_answers CreateBlock numbers)
+          early b N (inl old) = let e = c.holds.blocks.earlier b N old in omega (arith, e, more)
+          early b N (inr new) = let place : length calls ≡ N.place = ap (λ (M : Name). M.place) new.1 in omega (arith, place, more)
+
+          stay : (N : Name) → ((program_so_far calls).items N ≡ []) ⊎ ((b : ℕ) × (block_name calls b ≡ Some N))
+              → ((program_so_far (with_answers CreateBlock numbers)).items N ≡ []) ⊎ ((b : ℕ) × (block_name (with_answers CreateBlock numbers) b ≡ Some N))
+          stay N (inl none) = inl (Requests.items_created calls (the_call CreateBlock numbers) refl N ∙ none)
+          stay N (inr block) = inr (block.0, kept calls (the_call CreateBlock numbers) refl block.0 N block.1)
+
+  -- A CALL WITHOUT AN ITEM ----------------------------------------------------------------------------------------------
+
+  -- A call that makes no block and no item, leaves the entry, and answers no value: the construction may go on.
+  pub carries_kept : (call : AnsweredCall) (g : Body) (t : SsaState) → MakesNoBlock call.request
+      → ((N : Name) → (program_so_far (calls ++ call ∷ [])).items N ≡ (program_so_far calls).items N)
+      → (program_so_far (calls ++ call ∷ [])).entry ≡ (program_so_far calls).entry
+      → ((index : ℕ) → is_value_at (answers_to (ledger_after (script_of calls)) call.request) index ≡ false)
+      → KeepsInsts f g → g.layout ≡ f.layout → SamePredecessors s t
+      → ((types : VariableTypes) (own : Own) → Structured types own f s [] → Structured types own g t [])
+      → ((own : Own) (tables : Blocks) → DescribesSoundly own f s tables → Keeps own tables g t)
+      → Carries (calls ++ call ∷ []) g t
+  carries_kept call g t no_block items entry no_value keeps layout leads structured sound = record {
+    own = c.own;
+    holds = holds_on calls call (name_stays calls call no_block) c.own c.own f g s t c.holds (λ i below. keeps.placed c.own i below) keeps.more
+        (λ b out. ap (stands_in b) (sym layout) ∙ out) (λ b. refl) c.holds.no_parameters
+        (record {
+          distinct = λ b d N first second. c.holds.blocks.distinct b d N (was b N first) (was d N second);
+          earlier = λ b N is. let e = c.holds.blocks.earlier b N (was b N is) in let l = longer_calls calls call in omega (arith, e, l);
+          only = λ N. only N (c.holds.blocks.only N);
+        })
+        (λ b N is. inl (was b N is)) items
+        (declared_kept c.own f g s t keeps leads c.holds.own_exist c.holds.declared)
+        (leads_kept calls call c.own c.own s t (name_stays calls call no_block) (λ b i h. h) leads c.holds.leads_own)
+        (entry_stays calls (calls ++ call ∷ []) f g entry (ap (λ (l : List ℕ). slice_get l 0) layout) (name_stays calls call no_block) c.holds.entry)
+        (λ types are. structured types c.own (c.holds.structured types (types_before calls call types are)));
+    on_paths = λ spares.
+        let p : SoundOnPaths calls c.own f s = c.on_paths
+        (spares_before calls call (λ e is. entry ∙ is) (λ N. ([], items N ∙ sym (append-nil ((program_so_far calls).items N)))) spares) in
+        let after : Keeps c.own p.tables g t = sound c.own p.tables (p.describes, p.sound, p.counts) in
+        record {
+          tables = after.tables;
+          program = unchanged calls call p.tables after.tables after.same no_block items p.program;
+          values_given = values_kept calls call p.tables after.tables after.same no_value p.values_given;
+          describes = after.describes;
+          sound = after.sound;
+          counts = after.counts;
+        };
+  }
+    where
+      was : (b : ℕ) (N : Name) → block_name (calls ++ call ∷ []) b ≡ Some N → block_name calls b ≡ Some N
+      was b N is = sym (names_stay calls call no_block b) ∙ is
+
+      only : (N : Name) → ((program_so_far calls).items N ≡ []) ⊎ ((b : ℕ) × (block_name calls b ≡ Some N))
+          → ((program_so_far (calls ++ call ∷ [])).items N ≡ []) ⊎ ((b : ℕ) × (block_name (calls ++ call ∷ []) b ≡ Some N))
+      only N (inl none) = inl (items N ∙ none)
+      only N (inr block) = inr (block.0, name_stays calls call no_block block.0 N block.1)
+
+  -- nothing is constructed
+  still : (own : Own) (tables : Blocks) → DescribesSoundly own f s tables → Keeps own tables f s
+  still own tables before = record { tables = tables; describes = before.0; sound = before.1; same = same_program tables; counts = before.2 }
 
   -- another block is made current
   pub carries_switched : (block : Name) (numbers : List ℕ) → Carries (with_answers (SwitchToBlock block) numbers) f s
   carries_switched block numbers =
       let call : AnsweredCall = the_call (SwitchToBlock block) numbers in
-      branched (calls ++ call ∷ []) f s (carries_on calls call f f s s u (λ i below. refl) (omega arith) (λ b out. out) u.tables
-      (unchanged calls call u.tables u.tables (same_program u.tables) tt (Requests.items_switched calls call block refl) u.program)
-      (name_was call tt) (name_stays call tt) (Requests.items_switched calls call block refl)
-      (values_kept calls call u.tables u.tables (same_program u.tables) (λ index. refl) u.values_given)
-      (entry_stays calls (calls ++ call ∷ []) f f (Requests.entry_switched calls call block refl) refl (name_stays call tt) u.entry)
-      u.describes u.sound u.counts u.nothing_stray u.nothing_leads)
+      carries_kept call f s tt (Requests.items_switched calls call block refl) (Requests.entry_switched calls call block refl) (λ index. refl)
+      (insts_same f f refl refl) refl (λ b. refl) (λ types own h. h) still
 
   -- a variable is declared
   pub carries_declared : (ty : «Type») (numbers : List ℕ) → Carries (with_answers (DeclareVar ty) numbers) f s
   carries_declared ty numbers =
       let call : AnsweredCall = the_call (DeclareVar ty) numbers in
-      branched (calls ++ call ∷ []) f s (carries_on calls call f f s s u (λ i below. refl) (omega arith) (λ b out. out) u.tables
-      (unchanged calls call u.tables u.tables (same_program u.tables) tt (Requests.items_declared calls call ty refl) u.program)
-      (name_was call tt) (name_stays call tt) (Requests.items_declared calls call ty refl)
-      (values_kept calls call u.tables u.tables (same_program u.tables) (one_variable_none (length (ledger_after (script_of calls)).variables)) u.values_given)
-      (entry_stays calls (calls ++ call ∷ []) f f (Requests.entry_declared calls call ty refl) refl (name_stays call tt) u.entry)
-      u.describes u.sound u.counts u.nothing_stray u.nothing_leads)
+      carries_kept call f s tt (Requests.items_declared calls call ty refl) (Requests.entry_declared calls call ty refl)
+      (one_variable_none (length (ledger_after (script_of calls)).variables))
+      (insts_same f f refl refl) refl (λ b. refl) (λ types own h. h) still
 
-  -- a block is sealed, and the entry stays
-  pub carries_sealed : (t : SsaState) (block : Name) (numbers : List ℕ) (b : ℕ) → IsConsistent f → SameRecords s t → Seals s t b → SamePredecessors s t
-      → entry_of (completed f (pending_of (sealed_of s b))) ≡ entry_of f
-      → Carries (with_answers (SealBlock block) numbers) (completed f (pending_of (sealed_of s b))) t
-  carries_sealed t block numbers b consistent records seals leads entry =
+  -- a block is sealed
+  pub carries_sealed : (g : Body) (t : SsaState) (block : Name) (numbers : List ℕ) → IsConsistent f
+      → ((own : Own) (tables : Blocks) → DescribesSoundly own f s tables → Keeps own tables g t)
+      → ((types : VariableTypes) (own : Own) → Structured types own f s [] → Structured types own g t [])
+      → OnlyConstructs f g → g.layout ≡ f.layout → SamePredecessors s t
+      → Carries (with_answers (SealBlock block) numbers) g t
+  carries_sealed g t block numbers consistent keeps structured constructs layout leads =
       let call : AnsweredCall = the_call (SealBlock block) numbers in
-      let g : Body = completed f (pending_of (sealed_of s b)) in
-      let after = seals_locally u.own f s t u.tables b consistent (u.describes, u.sound, u.counts) (u.nothing_leads b) records seals leads in
-      let on = goes_on-completed f (pending_of (sealed_of s b)) in
-      branched (calls ++ call ∷ []) g t (carries_on calls call f g s t u (placed_kept f g consistent on) on.more_insts (still_out-completed f (pending_of (sealed_of s b))) after.tables
-      (unchanged calls call u.tables after.tables after.same tt (Requests.items_sealed calls call block refl) u.program)
-      (name_was call tt) (name_stays call tt) (Requests.items_sealed calls call block refl)
-      (values_kept calls call u.tables after.tables after.same (λ index. refl) u.values_given)
-      (entry_stays calls (calls ++ call ∷ []) f g (Requests.entry_sealed calls call block refl) entry (name_stays call tt) u.entry)
-      after.describes after.sound after.counts (seal_stray u.own.insts f g s t b (firm_from f consistent) seals refl u.nothing_stray) (nothing_still s t leads u.nothing_leads))
+      carries_kept call g t tt (Requests.items_sealed calls call block refl) (Requests.entry_sealed calls call block refl) (λ index. refl)
+      (insts_kept f g consistent (goes_on-constructs f g constructs)) layout leads structured keeps
 
-  -- a value is assigned to a variable in the current block
-  pub carries_assigned : (t : SsaState) (x : ℕ) (n : Name) (value b : ℕ) (B : Name) (numbers : List ℕ) → IsCurrent calls b B
-      → number_of calls n ≡ Some value → IsTrue (has_value (ledger_after (script_of calls)) n) → Records s t x b value → SameBlocks s t → SamePredecessors s t
-      → Carries (with_answers (DefVar x n) numbers) f t
-  carries_assigned t x n value b B numbers current number is_value records same leads =
-      let call : AnsweredCall = the_call (DefVar x n) numbers in
-      let known = value_answered calls u.tables n u.program u.values_given is_value in
-      let written : Records s t x b (u.tables.answer (code n)) = subst (Records s t x b) (sym (known.0 ∙ ap number_or_none number)) records in
-      let before : DescribesSoundly u.own f s u.tables = (u.describes, u.sound, u.counts) in
-      let after = write_item_described u.own f s t u.tables b x (code n) before (open_everywhere f s b u.nothing_leads) known.2 written same leads in
-      let unwritten : (y : ℕ) → u.tables.assigned (inside b (suc (u.tables.count b))) y ≡ None = λ y. u.describes.unwritten b (suc (u.tables.count b)) y (omega arith) in
-      let puts = Requests.puts_assignment calls call B current.current x n refl in
-      let adds = adds_assignment calls call u.tables b B current.named unwritten x n puts known.1 in
-      branched (calls ++ call ∷ []) f t (carries_item calls call f f s t u (λ i below. refl) (omega arith) (λ d out. out) b B (Assign x n) u.tables (with_write (with_item u.tables b) b x (code n)) adds u.program u.own []
-      (sym (append-nil (u.own.insts b))) (λ d other. refl) u.no_parameters (λ out. refl) refl tt (let e = known.1 in let l = longer_calls call in omega (arith, e, l))
-      (values_added calls call u.tables (with_write (with_item u.tables b) b x (code n)) b B (Assign x n) adds (λ index is. absurd (false_is is)) u.values_given)
-      (entry_stays calls (calls ++ call ∷ []) f f (Requests.entry_assigned calls call B current.current x n refl) refl (name_stays call tt) u.entry)
-      after.0 after.1 after.2 (same_stray u.own.insts f s t same u.nothing_stray) (nothing_still s t leads u.nothing_leads))
+  -- IN THE CURRENT BLOCK, WHICH HAS NO TERMINATOR -----------------------------------------------------------------------
 
-  -- a variable is used in the current block
-  pub carries_used : (g : Body) (t : SsaState) (x v b : ℕ) (B : Name) → IsConsistent f → IsCurrent calls b B → KeepsAndKnows u.own u.tables g t b x v → NothingStray u.own.insts g t → SamePredecessors s t → GoesOn f g → v < length g.values
-      → g.layout ≡ (inserted_in f b).layout
-      → Carries (with_answers (UseVar x) (v ∷ [])) g t
-  carries_used g t x v b B consistent current after nothing_stray leads on exists layout =
-      let call : AnsweredCall = the_call (UseVar x) (v ∷ []) in
-      let T : Blocks = after.kept.tables in
-      let was = restated calls u.tables T after.kept.same u.program in
-      let now : NothingLeads t = nothing_still s t leads u.nothing_leads in
-      let read = read_item_described u.own g t T b (code (answer_of (length calls) 0)) x v (after.kept.describes, after.kept.sound, after.kept.counts) (open_everywhere g t b now) (next_is_new calls T 0 was) after.known exists in
-      let unwritten : (y : ℕ) → T.assigned (inside b (suc (T.count b))) y ≡ None = λ y. after.kept.describes.unwritten b (suc (T.count b)) y (omega arith) in
-      let puts = Requests.puts_use calls call B current.current x refl in
-      let adds = adds_use calls call T b B current.named unwritten x v puts refl in
-      let T' : Blocks = with_read (with_item T b) b (code (answer_of (length calls) 0)) x v in
-      branched (calls ++ call ∷ []) g t (carries_item calls call f g s t u (placed_kept f g consistent on) on.more_insts
-      (λ d out. out_before f b d (ap (stands_in d) (sym layout) ∙ out)) b B (Use x (answer_of (length calls) 0)) T T' adds was u.own []
-      (sym (append-nil (u.own.insts b))) (λ d other. refl) u.no_parameters (λ out. refl) refl tt (let l = longer_calls call in omega (arith, l))
-      (values_added calls call T T' b B (Use x (answer_of (length calls) 0)) adds
-      (λ index is. first_value (length calls) (or_invalid (variable_type (ledger_after (script_of calls)) x)) index is)
-      (values_same calls u.tables T after.kept.same u.values_given))
-      (entry_begun calls (calls ++ call ∷ []) f g b B (Requests.entry_used calls call B current.current x refl) layout current.named (name_stays call tt) u.entry)
-      read.0 read.1 read.2 nothing_stray now)
+  module _ (consistent : IsConsistent f) (b : ℕ) (B : Name) (current : IsCurrent calls b B) (unfilled : is_filled (ledger_after (script_of calls)) B ≡ false) where
+    exist : (d i : ℕ) → Contains (predecessors_of s d) i → i < length f.insts
+    exist = structured_so_far.leading
+
+    pub opened : IsOpen f s b
+    opened = is_open calls c.own f s c.holds consistent b B current.named unfilled
+
+    pub plain : AllByRecursion HasNoEdges ((program_so_far calls).items B)
+    plain = no_edges calls c.own f s c.holds consistent b B current.named unfilled
+
+    -- a value is assigned to a variable
+    pub carries_assigned : (t : SsaState) (x : ℕ) (n : Name) (value : ℕ) (ty : «Type») (numbers : List ℕ)
+        → number_of calls n ≡ Some value → IsTrue (has_value (ledger_after (script_of calls)) n) → variable_type (ledger_after (script_of calls)) x ≡ Some ty → HasType f value ty
+        → Records s t x b value → SameBlocks s t → SamePredecessors s t
+        → Carries (with_answers (DefVar x n) numbers) f t
+    carries_assigned t x n value ty numbers number is_value of_type typed records same leads =
+        let earlier : n.place < length calls = numbered_earlier calls n value number in
+        let call : AnsweredCall = the_call (DefVar x n) numbers in
+        let puts = Requests.puts_assignment calls call B current.current x n refl in
+        let entry = Requests.entry_assigned calls call B current.current x n refl in
+        record {
+          own = c.own;
+          holds = holds_item calls call (name_stays calls call tt) c.own c.own f f s t c.holds (λ i below. refl) (omega arith) (λ d out. out) b B (Assign x n) current.named puts []
+              (sym (append-nil (c.own.insts b))) (λ d other. refl) c.holds.no_parameters (λ out. refl) refl tt (let l = longer_calls calls call in omega (arith, earlier, l)) plain
+              (declared_kept c.own f f s t (insts_same f f refl refl) leads c.holds.own_exist c.holds.declared)
+              (leads_kept calls call c.own c.own s t (name_stays calls call tt) (λ d i h. h) leads c.holds.leads_own)
+              (entry_stays calls (calls ++ call ∷ []) f f entry refl (name_stays calls call tt) c.holds.entry)
+              (λ types are.
+              let before : AreTypes calls types = types_before calls call types are in
+              assigned_structured types c.own f s t x b value (subst (HasType f value) (sym (before x ty of_type)) typed) records same leads (c.holds.structured types before));
+          on_paths = λ spares.
+              let p : SoundOnPaths calls c.own f s = c.on_paths (spares_item calls call B (Assign x n) puts (λ e is. entry ∙ is) spares) in
+              let known = value_answered calls p.tables n p.program p.values_given is_value in
+              let written : Records s t x b (p.tables.answer (code n)) = subst (Records s t x b) (sym (known.0 ∙ ap number_or_none number)) records in
+              let T : Blocks = with_write (with_item p.tables b) b x (code n) in
+              let after : DescribesSoundly c.own f t T = write_item_described c.own f s t p.tables b x (code n) (p.describes, p.sound, p.counts) opened known.2 written same leads in
+              let unwritten : (y : ℕ) → p.tables.assigned (inside b (suc (p.tables.count b))) y ≡ None = λ y. p.describes.unwritten b (suc (p.tables.count b)) y (omega arith) in
+              let adds = adds_assignment calls call p.tables b B current.named unwritten x n puts known.1 in
+              record {
+                tables = T;
+                program = extended calls (calls ++ call ∷ []) p.tables T b B (Assign x n) adds p.program;
+                values_given = values_added calls call p.tables T b B (Assign x n) adds (λ index is. absurd (false_is is)) p.values_given;
+                describes = after.0;
+                sound = after.1;
+                counts = after.2;
+              };
+        }
+
+    -- a variable is used
+    pub carries_used : (g : Body) (t : SsaState) (x v : ℕ) (ty : «Type») → variable_type (ledger_after (script_of calls)) x ≡ Some ty
+        → ((own : Own) (tables : Blocks) → DescribesSoundly own (inserted_in f b) s tables → KeepsAndKnows own tables g t b x v)
+        → ((types : VariableTypes) (own : Own) → types x ≡ ty → Structured types own (inserted_in f b) s [] → Structured types own g t [])
+        → OnlyConstructs (inserted_in f b) g → g.layout ≡ (inserted_in f b).layout → SamePredecessors s t → v < length g.values
+        → Carries (with_answers (UseVar x) (v ∷ [])) g t
+    carries_used g t x v ty of_type sound structured constructs layout leads exists =
+        let call : AnsweredCall = the_call (UseVar x) (v ∷ []) in
+        let name : Name = answer_of (length calls) 0 in
+        let h : Body = inserted_in f b in
+        let puts = Requests.puts_use calls call B current.current x refl in
+        let entry = Requests.entry_used calls call B current.current x refl in
+        let keeps : KeepsInsts f g = insts_kept f g consistent (goes_on-constructs f g (constructs_then f h g (inserted_constructs f b) constructs)) in
+        record {
+          own = c.own;
+          holds = holds_item calls call (name_stays calls call tt) c.own c.own f g s t c.holds (λ i below. keeps.placed c.own i below) keeps.more
+              (λ d out. out_before f b d (ap (stands_in d) (sym layout) ∙ out)) b B (Use x name) current.named puts []
+              (sym (append-nil (c.own.insts b))) (λ d other. refl) c.holds.no_parameters (λ out. refl) refl tt (let l = longer_calls calls call in omega (arith, l)) plain
+              (declared_kept c.own f g s t keeps leads c.holds.own_exist c.holds.declared)
+              (leads_kept calls call c.own c.own s t (name_stays calls call tt) (λ d i here. here) leads c.holds.leads_own)
+              (entry_begun calls (calls ++ call ∷ []) f g b B entry layout current.named (name_stays calls call tt) c.holds.entry)
+              (λ types are.
+              let before : AreTypes calls types = types_before calls call types are in
+              structured types c.own (before x ty of_type) (inserted_structured types c.own f s b (c.holds.structured types before)));
+          on_paths = λ spares.
+              let p : SoundOnPaths calls c.own f s = c.on_paths (spares_item calls call B (Use x name) puts (entry_first calls (calls ++ call ∷ []) B entry) spares) in
+              let E : Blocks = with_entry f.layout s b p.tables in
+              let after : KeepsAndKnows c.own E g t b x v = sound c.own E (inserted_soundly c.own f s p.tables b (p.describes, p.sound, p.counts)) in
+              let T : Blocks = after.kept.tables in
+              let same : SameProgram p.tables T = same_program_then p.tables E T (entry_same f.layout s b p.tables).program after.kept.same in
+              let was = restated calls p.tables T same p.program in
+              let T' : Blocks = with_read (with_item T b) b (code name) x v in
+              let read : DescribesSoundly c.own g t T' =
+              read_item_described c.own g t T b (code name) x v (after.kept.describes, after.kept.sound, after.kept.counts) (open_kept f g s t b keeps leads exist opened) (next_is_new calls T 0 was) after.known exists in
+              let unwritten : (y : ℕ) → T.assigned (inside b (suc (T.count b))) y ≡ None = λ y. after.kept.describes.unwritten b (suc (T.count b)) y (omega arith) in
+              let adds = adds_use calls call T b B current.named unwritten x v puts refl in
+              record {
+                tables = T';
+                program = extended calls (calls ++ call ∷ []) T T' b B (Use x name) adds was;
+                values_given = values_added calls call T T' b B (Use x name) adds
+                    (λ index is. first_value (length calls) (or_invalid (variable_type (ledger_after (script_of calls)) x)) index is)
+                    (values_same calls p.tables T same p.values_given);
+                describes = read.0;
+                sound = read.1;
+                counts = read.2;
+              };
+        }

@@ -1,29 +1,32 @@
--- A function carries one more call: with an item, or without.
-use Rattle.std.proofs.Common.{◌≡◌, ◌≢◌, ℕ, suc, ◌<◌, ◌≤◌, List, [], ◌∷◌, ◌++◌, length, map, refl, sym, ◌∙◌, ap, subst, arith, Option, Some, None, ◌⊎◌, inl, inr, false}
+-- What a function holds of a list of calls it holds of the list with one more: with an item, or without.
+use Rattle.std.proofs.Common.{◌≡◌, ◌≢◌, ℕ, suc, ◌<◌, ◌≤◌, List, [], ◌∷◌, ◌++◌, length, map, refl, sym, ◌∙◌, ap, ap₂, subst, arith, Option, Some, None, ◌⊎◌, inl, inr, false}
 use Rattle.std.proofs.Math.Decide.{ℕ_discrete}
-use Rattle.std.specs.Prelude.{flat_map}
+use Rattle.std.specs.Prelude.{Contains, flat_map}
 use Rattle.std.specs.List.{AllByRecursion}
 use Rattle.std.proofs.lemmas.List.{append-nil, map-append}
 use Rattle.std.proofs.lemmas.Grind.{flat_map-append}
-use Rattle.clif_ir.specs.Body.{Body, inst_at}
+use Rattle.clif_ir.specs.Body.{Body}
 use Rattle.clif_ir.specs.Reading.{stands_in}
-use Rattle.clif_paths.specs.Blocks.{Blocks}
-use Rattle.clif_paths.specs.BlockLaws.{BlocksSound}
 use Rattle.clif_ssa.specs.Own.{Own}
-use Rattle.clif_ssa.specs.Ssa.{SsaState}
-use Rattle.clif_ssa.specs.Sound.{CountsArguments, Describes}
-use Rattle.clif_ssa.specs.Structure.{NothingStray}
+use Rattle.clif_ssa.specs.Ssa.{SsaState, SamePredecessors}
+use Rattle.clif_ssa.specs.Structured.{Structured, VariableTypes}
+use Rattle.clif_ssa.proofs.Ordering.{contains_cons}
 use Rattle.clif_meaning.specs.Name.{Name}
-use Rattle.clif_meaning.specs.Instruction.{Edge}
+use Rattle.clif_meaning.specs.Instruction.{Argument, Known, CallResult, CallPayload, Edge}
 use Rattle.clif_meaning.specs.Request.{AnsweredCall}
 use Rattle.clif_meaning.specs.Program.{Item, Instruct, Use, Assign}
 use Rattle.clif_meaning.specs.FunctionView.{Placed}
-use Rattle.clif_meaning.specs.View.{placed_of}
-use Rattle.clif_simulation.specs.Tables.{answered, program_so_far, block_name, IsProgramOf}
-use Rattle.clif_simulation.specs.Carries.{answered_edge, answered_instruction, carried, HasEntry, IsEarlier, NothingLeads, OwnExist, ValuesGiven}
-use Rattle.clif_simulation.proofs.Unbranched.{CarriesUnbranched, PlainlyEarlier, PlainlyHasItems}
+use Rattle.clif_simulation.specs.Tables.{answered, program_so_far, block_name}
+use Rattle.clif_simulation.specs.Carries.{AreDeclared, AreTypes, EdgeEarlier, EdgesEnd, HasEntry, HasItems, Holds, IsEarlier, LeadsOwn, NamesBlocks, NamesEarlier, OwnExist, PassesEarlier, SparesBlock, SparesEntry, answered_argument, answered_edge, answered_instruction, carried, own_placed}
+use Rattle.clif_simulation.proofs.Extending.{one_answer}
+use Rattle.clif_simulation.proofs.Growing.{KeepsInsts}
+use Rattle.clif_simulation.proofs.ItemCalls.{PutsItem, items-here, items-elsewhere, same_or_other}
+use Rattle.clif_simulation.proofs.Ledgers.{filled_stays}
+use Rattle.clif_simulation.proofs.NameLists.{names_stay}
 use Rattle.clif_simulation.proofs.Numbers.{answered_stays}
-use Rattle.clif_simulation.proofs.Extending.{AddsItem, extended, one_answer}
+use Rattle.clif_simulation.proofs.Unfilled.{HasNoEdges, one_more_ends}
+
+-- LISTS -----------------------------------------------------------------------------------------------------------------
 
 -- what holds of each element, applied to each
 pub all_mapped : {X : Type 0} (P Q : X → Type 0) → ((x : X) → P x → Q x) → (xs : List X) → AllByRecursion P xs → AllByRecursion Q xs
@@ -34,6 +37,22 @@ pub all_append : {X : Type 0} (P : X → Type 0) (xs ys : List X) → AllByRecur
 all_append P [] ys first second = second
 all_append P (x ∷ xs) ys first second = (first.0, all_append P xs ys first.1 second)
 
+pub all_first : {X : Type 0} (P : X → Type 0) (xs ys : List X) → AllByRecursion P (xs ++ ys) → AllByRecursion P xs
+all_first P [] ys all = tt
+all_first P (x ∷ xs) ys all = (all.0, all_first P xs ys all.1)
+
+pub all_last : {X : Type 0} (P : X → Type 0) (xs : List X) (x : X) → AllByRecursion P (xs ++ x ∷ []) → P x
+all_last P [] x all = all.0
+all_last P (y ∷ xs) x all = all_last P xs x all.1
+
+pub all_contained : (P : ℕ → Type 0) (xs : List ℕ) (x : ℕ) → AllByRecursion P xs → Contains xs x → P x
+all_contained P [] x all here = absurd (omega (arith, here.1))
+all_contained P (y ∷ xs) x all here =
+    elim (contains_cons y xs x here) [
+      | inl same ↦ subst P same all.0
+      | inr later ↦ all_contained P xs x all.1 later
+    ]
+
 pub map_same : {X Y : Type 0} (f g : X → Y) (P : X → Type 0) → ((x : X) → P x → f x ≡ g x) → (xs : List X) → AllByRecursion P xs → map f xs ≡ map g xs
 map_same f g P same [] all = refl
 map_same f g P same (x ∷ xs) all = ap (λ y. y ∷ map f xs) (same x all.0) ∙ ap (λ ys. g x ∷ ys) (map_same f g P same xs all.1)
@@ -41,33 +60,48 @@ map_same f g P same (x ∷ xs) all = ap (λ y. y ∷ map f xs) (same x all.0) �
 none_some : (name : Name) → None ≡ Some name → ⊥
 none_some name same = cc
 
+-- what is declared, and what leads somewhere, where the branches that lead to blocks stay
+pub declared_kept : (own : Own) (f g : Body) (s t : SsaState) → KeepsInsts f g → SamePredecessors s t → OwnExist f own.insts → AreDeclared f s own.insts → AreDeclared g t own.insts
+declared_kept own f g s t keeps leads exist declared block inst k target here to =
+    let below : inst < length f.insts = all_contained (λ (i : ℕ). i < length f.insts) (own.insts block) inst (exist block) here in
+    subst (λ (is : List ℕ). Contains is inst) (sym (leads target)) (declared block inst k target here (sym (keeps.targets inst k below) ∙ to))
+
 module _ (calls : List AnsweredCall) (call : AnsweredCall) where
   abbrev after : List AnsweredCall
   after = calls ++ call ∷ []
 
+  -- NAMES ---------------------------------------------------------------------------------------------------------------
+
   pub numbers_kept : (names : List Name) → AllByRecursion (IsEarlier calls) names → map (answered after) names ≡ map (answered calls) names
   numbers_kept = map_same (answered after) (answered calls) (IsEarlier calls) (λ name earlier. answered_stays calls call name earlier)
 
+  argument_kept : (argument : Argument Name) → PassesEarlier calls argument → answered_argument after argument ≡ answered_argument calls argument
+  argument_kept (Known name) earlier = ap Known (answered_stays calls call name earlier)
+  argument_kept (CallResult index) earlier = refl
+  argument_kept (CallPayload index) earlier = refl
+
+  edge_kept : (edge : Edge Name Name) → EdgeEarlier calls edge → answered_edge after edge ≡ answered_edge calls edge
+  edge_kept edge earlier =
+      ap₂ (λ (target : ℕ) (arguments : List (Argument ℕ)). record { target = target; arguments = arguments })
+      (answered_stays calls call edge.target earlier.target)
+      (map_same (answered_argument after) (answered_argument calls) (PassesEarlier calls) argument_kept edge.arguments earlier.passes)
+
+  pub edges_kept : (edges : List (Edge Name Name)) → AllByRecursion (EdgeEarlier calls) edges → map (answered_edge after) edges ≡ map (answered_edge calls) edges
+  edges_kept = map_same (answered_edge after) (answered_edge calls) (EdgeEarlier calls) edge_kept
+
   -- what an item is in the function stays
-  pub carried_stays : (item : Item) → PlainlyEarlier calls item → carried after item ≡ carried calls item
+  pub carried_stays : (item : Item) → NamesEarlier calls item → carried after item ≡ carried calls item
   carried_stays (Instruct place instruction results) earlier =
       ap (λ (operands : List ℕ). record { instruction = record (answered_instruction after instruction) { operands = operands }; results = map (answered after) results; stack_map = [] } ∷ [])
       (numbers_kept instruction.operands earlier.0)
       ∙ ap (λ (results : List ℕ). record { instruction = record (answered_instruction after instruction) { operands = map (answered calls) instruction.operands }; results = results; stack_map = [] } ∷ [])
       (numbers_kept results earlier.1)
       ∙ ap (λ (edges : List (Edge ℕ ℕ)). record { instruction = record (answered_instruction calls instruction) { edges = edges }; results = map (answered calls) results; stack_map = [] } ∷ [])
-      (no_edges instruction.edges earlier.2)
-    where
-      no_edges : (edges : List (Edge Name Name)) → edges ≡ [] → map (answered_edge after) edges ≡ map (answered_edge calls) edges
-      no_edges [] none = refl
-      no_edges (edge ∷ edges) none = absurd (some edge edges none)
-        where
-          some : (e : Edge Name Name) (es : List (Edge Name Name)) → (e ∷ es) ≡ [] → ⊥
-          some e es h = cc
+      (edges_kept instruction.edges earlier.2)
   carried_stays (Use variable name) earlier = refl
   carried_stays (Assign variable name) earlier = refl
 
-  pub all_carried : (items : List Item) → AllByRecursion (PlainlyEarlier calls) items → flat_map (carried after) items ≡ flat_map (carried calls) items
+  pub all_carried : (items : List Item) → AllByRecursion (NamesEarlier calls) items → flat_map (carried after) items ≡ flat_map (carried calls) items
   all_carried [] all = refl
   all_carried (item ∷ items) all =
       ap (λ (first : List Placed). first ++ flat_map (carried after) items) (carried_stays item all.0)
@@ -87,142 +121,202 @@ module _ (calls : List AnsweredCall) (call : AnsweredCall) where
               more [] = refl
               more (d ∷ ds) = ap suc (more ds)
 
-  pub earlier_stays : (item : Item) → PlainlyEarlier calls item → PlainlyEarlier after item
-  earlier_stays (Instruct place instruction results) earlier =
-      (all_mapped (IsEarlier calls) (IsEarlier after) earlier_name instruction.operands earlier.0, all_mapped (IsEarlier calls) (IsEarlier after) earlier_name results earlier.1, earlier.2)
-  earlier_stays (Use variable name) earlier = earlier_name name earlier
-  earlier_stays (Assign variable name) earlier = earlier_name name earlier
+  passes_earlier : (argument : Argument Name) → PassesEarlier calls argument → PassesEarlier after argument
+  passes_earlier (Known name) earlier = earlier_name name earlier
+  passes_earlier (CallResult index) earlier = tt
+  passes_earlier (CallPayload index) earlier = tt
 
-  -- the new function keeps the instructions, as the machine sees them
-  module _ (f g : Body) (s t : SsaState) (c : CarriesUnbranched calls f s)
-      (kept : (i : ℕ) → i < length f.insts → placed_of g (inst_at g i) ≡ placed_of f (inst_at f i)) (more : length f.insts ≤ length g.insts)
-      (inserted : (b : ℕ) → stands_in b g.layout ≡ false → stands_in b f.layout ≡ false) where
-    own_kept : (insts : List ℕ) → AllByRecursion (λ (i : ℕ). i < length f.insts) insts → map (λ inst. placed_of g (inst_at g inst)) insts ≡ map (λ inst. placed_of f (inst_at f inst)) insts
-    own_kept = map_same (λ inst. placed_of g (inst_at g inst)) (λ inst. placed_of f (inst_at f inst)) (λ (i : ℕ). i < length f.insts) kept
+  -- the branches that lead to blocks stay the caller's
+  pub leads_kept : (own own' : Own) (s t : SsaState) → ((block : ℕ) (name : Name) → block_name calls block ≡ Some name → block_name after block ≡ Some name)
+      → ((block inst : ℕ) → Contains (own.insts block) inst → Contains (own'.insts block) inst)
+      → SamePredecessors s t → LeadsOwn calls own s → LeadsOwn after own' t
+  leads_kept own own' s t stays still leads was target inst here =
+      let old = was target inst (subst (λ (is : List ℕ). Contains is inst) (leads target) here) in
+      (old.0, old.1, still old.0 inst old.2, stays old.0 old.1 old.3, filled_stays calls call old.1 old.4)
 
-    own_exists : (insts : List ℕ) → AllByRecursion (λ (i : ℕ). i < length f.insts) insts → AllByRecursion (λ (i : ℕ). i < length g.insts) insts
-    own_exists = all_mapped (λ (i : ℕ). i < length f.insts) (λ (i : ℕ). i < length g.insts) (λ i below. omega (arith, below, more))
+  -- THE ENTRY -----------------------------------------------------------------------------------------------------------
 
-    -- the items of a block are carried on
-    items_kept : (block : ℕ) (name : Name) → block_name calls block ≡ Some name
-        → map (λ inst. placed_of g (inst_at g inst)) (c.own.insts block) ≡ flat_map (carried after) ((program_so_far calls).items name)
-    items_kept block name named =
-        own_kept (c.own.insts block) (c.own_exist block) ∙ c.items block name named ∙ sym (all_carried ((program_so_far calls).items name) (c.earlier name))
+  -- what spares the entry of the longer list spares that of the shorter one
+  pub spares_before : ((entry : Name) → (program_so_far calls).entry ≡ Some entry → (program_so_far after).entry ≡ Some entry)
+      → ((block : Name) → (more : List Item) × ((program_so_far after).items block ≡ (program_so_far calls).items block ++ more))
+      → SparesEntry after → SparesEntry calls
+  spares_before entry_stays items spares entry is block =
+      all_first (SparesBlock entry) ((program_so_far calls).items block) (items block).0
+      (subst (AllByRecursion (SparesBlock entry)) (items block).1 (spares entry (entry_stays entry is) block))
 
-    -- a call without an item
-    pub carries_on : (T : Blocks) → IsProgramOf after T
-        → ((block : ℕ) (name : Name) → block_name after block ≡ Some name → (block_name calls block ≡ Some name) ⊎ ((c.own.insts block ≡ []) × ((program_so_far calls).items name ≡ [])))
-        → ((block : ℕ) (name : Name) → block_name calls block ≡ Some name → block_name after block ≡ Some name)
-        → ((name : Name) → (program_so_far after).items name ≡ (program_so_far calls).items name)
-        → ValuesGiven after T → HasEntry after g → Describes c.own g t [] T → BlocksSound T → CountsArguments c.own g t T → NothingStray c.own.insts g t → NothingLeads t → CarriesUnbranched after g t
-    carries_on T program named stays items values entry describes sound counts nothing_stray nothing_leads = record {
-      tables = T;
-      own = c.own;
-      program = program;
-      items = λ block name here. by block name (named block name here);
-      earlier = λ name. subst (AllByRecursion (PlainlyEarlier after)) (sym (items name)) (all_mapped (PlainlyEarlier calls) (PlainlyEarlier after) earlier_stays ((program_so_far calls).items name) (c.earlier name));
-      own_exist = λ block. own_exists (c.own.insts block) (c.own_exist block);
-      own_named = λ block none. c.own_named block (unnamed block none (block_name calls block) refl);
-      own_inserted = λ block out. c.own_inserted block (inserted block out);
-      no_parameters = c.no_parameters;
-      values_given = values;
-      entry = entry;
-      describes = describes;
-      sound = sound;
-      counts = counts;
-      nothing_stray = nothing_stray;
-      nothing_leads = nothing_leads;
-    }
+  -- the items of the program, where one more is put behind those of block B
+  module _ (B : Name) (item : Item) (puts : PutsItem calls call B item) where
+    items_here : (program_so_far after).items B ≡ (program_so_far calls).items B ++ item ∷ []
+    items_here = puts.items B ∙ items-here (program_so_far calls) B item
+
+    items_others : (name : Name) → name ≢ B → (program_so_far after).items name ≡ (program_so_far calls).items name
+    items_others name other = puts.items name ∙ items-elsewhere (program_so_far calls) B item name other
+
+    pub spares_item : ((entry : Name) → (program_so_far calls).entry ≡ Some entry → (program_so_far after).entry ≡ Some entry) → SparesEntry after → SparesEntry calls
+    spares_item entry = spares_before entry (λ name. by name (same_or_other B name))
       where
-        unnamed : (block : ℕ) → block_name after block ≡ None → (o : Option Name) → block_name calls block ≡ o → block_name calls block ≡ None
-        unnamed block none None is = is
-        unnamed block none (Some name) is = absurd (none_some name (sym none ∙ stays block name is))
+        by : (name : Name) → (name ≡ B) ⊎ (name ≢ B) → (more : List Item) × ((program_so_far after).items name ≡ (program_so_far calls).items name ++ more)
+        by name (inl same) =
+            (item ∷ [], ap (λ (n : Name). (program_so_far after).items n) same ∙ items_here ∙ ap (λ (n : Name). (program_so_far calls).items n ++ item ∷ []) (sym same))
+        by name (inr other) = ([], items_others name other ∙ sym (append-nil ((program_so_far calls).items name)))
 
-        by : (block : ℕ) (name : Name) → (block_name calls block ≡ Some name) ⊎ ((c.own.insts block ≡ []) × ((program_so_far calls).items name ≡ []))
-            → map (λ inst. placed_of g (inst_at g inst)) (c.own.insts block) ≡ flat_map (carried after) ((program_so_far after).items name)
-        by block name (inl old) = items_kept block name old ∙ ap (flat_map (carried after)) (sym (items name))
-        by block name (inr new) = ap (map (λ inst. placed_of g (inst_at g inst))) new.0 ∙ ap (flat_map (carried after)) (sym (items name ∙ new.1))
+    pub item_last : (P : Item → Type 0) → ((name : Name) → AllByRecursion P ((program_so_far after).items name)) → P item
+    item_last P all = all_last P ((program_so_far calls).items B) item (subst (AllByRecursion P) items_here (all B))
 
-    -- a call with an item
-    module _ (b : ℕ) (B : Name) (item : Item) (T1 T : Blocks) (adds : AddsItem calls after T1 T b B item) (was : IsProgramOf calls T1) (own : Own) (new : List ℕ)
-        (own_here : own.insts b ≡ c.own.insts b ++ new) (own_elsewhere : (d : ℕ) → d ≢ b → own.insts d ≡ c.own.insts d)
-        (no_parameters : (d : ℕ) → own.params d ≡ []) (new_inserted : stands_in b g.layout ≡ false → new ≡ [])
-        (new_is : map (λ inst. placed_of g (inst_at g inst)) new ≡ carried after item)
-        (new_exist : AllByRecursion (λ (i : ℕ). i < length g.insts) new) (item_earlier : PlainlyEarlier after item) where
-      one_more : flat_map (carried after) (item ∷ []) ≡ carried after item
-      one_more = append-nil (carried after item)
+  module _ (stays : (block : ℕ) (name : Name) → block_name calls block ≡ Some name → block_name after block ≡ Some name) where
+    pub edge_earlier : (edge : Edge Name Name) → EdgeEarlier calls edge → EdgeEarlier after edge
+    edge_earlier edge earlier = record {
+      target = earlier_name edge.target earlier.target;
+      leads = ap (block_name after) (answered_stays calls call edge.target earlier.target) ∙ stays (answered calls edge.target) edge.target earlier.leads;
+      passes = all_mapped (PassesEarlier calls) (PassesEarlier after) passes_earlier edge.arguments earlier.passes;
+    }
 
-      items_here : map (λ inst. placed_of g (inst_at g inst)) (own.insts b) ≡ flat_map (carried after) ((program_so_far after).items B)
-      items_here =
-          ap (map (λ inst. placed_of g (inst_at g inst))) own_here
-          ∙ map-append (λ inst. placed_of g (inst_at g inst)) (c.own.insts b) new
-          ∙ ap (λ (rest : List Placed). map (λ inst. placed_of g (inst_at g inst)) (c.own.insts b) ++ rest) (new_is ∙ sym one_more)
-          ∙ ap (λ (front : List Placed). front ++ flat_map (carried after) (item ∷ [])) (items_kept b B adds.named)
-          ∙ sym (flat_map-append (carried after) ((program_so_far calls).items B) (item ∷ []))
-          ∙ ap (flat_map (carried after)) (sym adds.items_here)
+    pub earlier_stays : (item : Item) → NamesEarlier calls item → NamesEarlier after item
+    earlier_stays (Instruct place instruction results) earlier = (
+      all_mapped (IsEarlier calls) (IsEarlier after) earlier_name instruction.operands earlier.0,
+      all_mapped (IsEarlier calls) (IsEarlier after) earlier_name results earlier.1,
+      all_mapped (EdgeEarlier calls) (EdgeEarlier after) edge_earlier instruction.edges earlier.2,
+    )
+    earlier_stays (Use variable name) earlier = earlier_name name earlier
+    earlier_stays (Assign variable name) earlier = earlier_name name earlier
 
-      items_of : PlainlyHasItems after g own.insts
-      items_of block name named = by (ℕ_discrete block b)
-        where
-          old : block_name calls block ≡ Some name
-          old = sym (adds.names block) ∙ named
+    -- the new function keeps the caller's instructions, as the machine sees them
+    module _ (own own' : Own) (f g : Body) (s t : SsaState) (c : Holds calls own f s)
+        (kept : (i : ℕ) → i < length f.insts → own_placed own' g i ≡ own_placed own f i) (more : length f.insts ≤ length g.insts)
+        (inserted : (b : ℕ) → stands_in b g.layout ≡ false → stands_in b f.layout ≡ false) where
+      own_exists : (insts : List ℕ) → AllByRecursion (λ (i : ℕ). i < length f.insts) insts → AllByRecursion (λ (i : ℕ). i < length g.insts) insts
+      own_exists = all_mapped (λ (i : ℕ). i < length f.insts) (λ (i : ℕ). i < length g.insts) (λ i below. omega (arith, below, more))
 
-          by : Dec (block ≡ b) → map (λ inst. placed_of g (inst_at g inst)) (own.insts block) ≡ flat_map (carried after) ((program_so_far after).items name)
-          by (yes same) =
-              let is_B : name ≡ B = one_answer name B (block_name calls block) old (ap (block_name calls) same ∙ adds.named) in
-              ap (λ (d : ℕ). map (λ inst. placed_of g (inst_at g inst)) (own.insts d)) same ∙ items_here
-              ∙ ap (λ (n : Name). flat_map (carried after) ((program_so_far after).items n)) (sym is_B)
-          by (no other) =
-              ap (map (λ inst. placed_of g (inst_at g inst))) (own_elsewhere block other) ∙ items_kept block name old
-              ∙ ap (flat_map (carried after)) (sym (adds.items_elsewhere name (λ is_B. other (was.distinct block b B (old ∙ ap (λ (n : Name). Some n) is_B) adds.named))))
+      -- the items of a block are carried on
+      items_kept : (block : ℕ) (name : Name) → block_name calls block ≡ Some name
+          → map (own_placed own' g) (own.insts block) ≡ flat_map (carried after) ((program_so_far calls).items name)
+      items_kept block name named =
+          map_same (own_placed own' g) (own_placed own f) (λ (i : ℕ). i < length f.insts) kept (own.insts block) (c.own_exist block)
+          ∙ c.items block name named ∙ sym (all_carried ((program_so_far calls).items name) (c.earlier name))
 
-      all_earlier : (name : Name) → AllByRecursion (PlainlyEarlier after) ((program_so_far after).items name)
-      all_earlier name = by (adds.same_or_other name)
-        where
-          old : (n : Name) → AllByRecursion (PlainlyEarlier after) ((program_so_far calls).items n)
-          old n = all_mapped (PlainlyEarlier calls) (PlainlyEarlier after) earlier_stays ((program_so_far calls).items n) (c.earlier n)
+      -- A call without an item ------------------------------------------------------------------------------------------
 
-          by : (name ≡ B) ⊎ (name ≢ B) → AllByRecursion (PlainlyEarlier after) ((program_so_far after).items name)
-          by (inl same) =
-              subst (λ (n : Name). AllByRecursion (PlainlyEarlier after) ((program_so_far after).items n)) (sym same)
-              (subst (AllByRecursion (PlainlyEarlier after)) (sym adds.items_here) (all_append (PlainlyEarlier after) ((program_so_far calls).items B) (item ∷ []) (old B) (item_earlier, tt)))
-          by (inr other) = subst (AllByRecursion (PlainlyEarlier after)) (sym (adds.items_elsewhere name other)) (old name)
-
-      own_all : OwnExist g own.insts
-      own_all block = by (ℕ_discrete block b)
-        where
-          by : Dec (block ≡ b) → AllByRecursion (λ (i : ℕ). i < length g.insts) (own.insts block)
-          by (yes same) =
-              subst (λ (d : ℕ). AllByRecursion (λ (i : ℕ). i < length g.insts) (own.insts d)) (sym same)
-              (subst (AllByRecursion (λ (i : ℕ). i < length g.insts)) (sym own_here) (all_append (λ (i : ℕ). i < length g.insts) (c.own.insts b) new (own_exists (c.own.insts b) (c.own_exist b)) new_exist))
-          by (no other) = subst (AllByRecursion (λ (i : ℕ). i < length g.insts)) (sym (own_elsewhere block other)) (own_exists (c.own.insts block) (c.own_exist block))
-
-      own_unnamed : (block : ℕ) → block_name after block ≡ None → Dec (block ≡ b) → own.insts block ≡ []
-      own_unnamed block none (yes same) = absurd (none_some B (sym none ∙ adds.names block ∙ ap (block_name calls) same ∙ adds.named))
-      own_unnamed block none (no other) = own_elsewhere block other ∙ c.own_named block (sym (adds.names block) ∙ none)
-
-      own_outside : (block : ℕ) → stands_in block g.layout ≡ false → Dec (block ≡ b) → own.insts block ≡ []
-      own_outside block out (no other) = own_elsewhere block other ∙ c.own_inserted block (inserted block out)
-      own_outside block out (yes same) =
-          let out_here : stands_in b g.layout ≡ false = subst (λ (d : ℕ). stands_in d g.layout ≡ false) same out in
-          ap own.insts same ∙ own_here ∙ ap (λ (is : List ℕ). is ++ new) (c.own_inserted b (inserted b out_here)) ∙ new_inserted out_here
-
-      pub carries_item : ValuesGiven after T → HasEntry after g → Describes own g t [] T → BlocksSound T → CountsArguments own g t T → NothingStray own.insts g t → NothingLeads t → CarriesUnbranched after g t
-      carries_item values entry describes sound counts nothing_stray nothing_leads = record {
-        tables = T;
-        own = own;
-        program = extended calls after T1 T b B item adds was;
-        items = items_of;
-        earlier = all_earlier;
-        own_exist = own_all;
-        own_named = λ block none. own_unnamed block none (ℕ_discrete block b);
-        own_inserted = λ block out. own_outside block out (ℕ_discrete block b);
+      pub holds_on : ((block : ℕ) → own'.insts block ≡ own.insts block) → ((block : ℕ) → own'.params block ≡ []) → NamesBlocks after
+          → ((block : ℕ) (name : Name) → block_name after block ≡ Some name → (block_name calls block ≡ Some name) ⊎ ((own.insts block ≡ []) × ((program_so_far calls).items name ≡ [])))
+          → ((name : Name) → (program_so_far after).items name ≡ (program_so_far calls).items name)
+          → AreDeclared g t own'.insts → LeadsOwn after own' t → HasEntry after g
+          → ((types : VariableTypes) → AreTypes after types → Structured types own' g t []) → Holds after own' g t
+      holds_on same no_parameters blocks named items declared leads entry structured = record {
+        blocks = blocks;
+        items = λ block name here. ap (map (own_placed own' g)) (same block) ∙ by block name (named block name here);
+        earlier = λ name. subst (AllByRecursion (NamesEarlier after)) (sym (items name)) (all_mapped (NamesEarlier calls) (NamesEarlier after) earlier_stays ((program_so_far calls).items name) (c.earlier name));
+        edges_end = λ name. subst EdgesEnd (sym (items name)) (c.edges_end name);
+        own_exist = λ block. subst (AllByRecursion (λ (i : ℕ). i < length g.insts)) (sym (same block)) (own_exists (own.insts block) (c.own_exist block));
+        own_named = λ block none. same block ∙ c.own_named block (unnamed block none (block_name calls block) refl);
+        own_inserted = λ block out. same block ∙ c.own_inserted block (inserted block out);
+        declared = declared;
+        leads_own = leads;
         no_parameters = no_parameters;
-        values_given = values;
         entry = entry;
-        describes = describes;
-        sound = sound;
-        counts = counts;
-        nothing_stray = nothing_stray;
-        nothing_leads = nothing_leads;
+        structured = structured;
       }
+        where
+          unnamed : (block : ℕ) → block_name after block ≡ None → (o : Option Name) → block_name calls block ≡ o → block_name calls block ≡ None
+          unnamed block none None is = is
+          unnamed block none (Some name) is = absurd (none_some name (sym none ∙ stays block name is))
+
+          by : (block : ℕ) (name : Name) → (block_name calls block ≡ Some name) ⊎ ((own.insts block ≡ []) × ((program_so_far calls).items name ≡ []))
+              → map (own_placed own' g) (own.insts block) ≡ flat_map (carried after) ((program_so_far after).items name)
+          by block name (inl old) = items_kept block name old ∙ ap (flat_map (carried after)) (sym (items name))
+          by block name (inr new) = ap (map (own_placed own' g)) new.0 ∙ ap (flat_map (carried after)) (sym (items name ∙ new.1))
+
+      -- A call with an item ---------------------------------------------------------------------------------------------
+
+      module _ (b : ℕ) (B : Name) (item : Item) (named : block_name calls b ≡ Some B) (puts : PutsItem calls call B item) (new : List ℕ)
+          (own_here : own'.insts b ≡ own.insts b ++ new) (own_elsewhere : (d : ℕ) → d ≢ b → own'.insts d ≡ own.insts d)
+          (no_parameters : (d : ℕ) → own'.params d ≡ []) (new_inserted : stands_in b g.layout ≡ false → new ≡ [])
+          (new_is : map (own_placed own' g) new ≡ carried after item)
+          (new_exist : AllByRecursion (λ (i : ℕ). i < length g.insts) new) (item_earlier : NamesEarlier after item)
+          (no_edges : AllByRecursion HasNoEdges ((program_so_far calls).items B)) where
+        names : (d : ℕ) → block_name after d ≡ block_name calls d
+        names d = names_stay calls call puts.no_block d
+
+        one_more : flat_map (carried after) (item ∷ []) ≡ carried after item
+        one_more = append-nil (carried after item)
+
+        items_at : map (own_placed own' g) (own'.insts b) ≡ flat_map (carried after) ((program_so_far after).items B)
+        items_at =
+            ap (map (own_placed own' g)) own_here
+            ∙ map-append (own_placed own' g) (own.insts b) new
+            ∙ ap (λ (rest : List Placed). map (own_placed own' g) (own.insts b) ++ rest) (new_is ∙ sym one_more)
+            ∙ ap (λ (front : List Placed). front ++ flat_map (carried after) (item ∷ [])) (items_kept b B named)
+            ∙ sym (flat_map-append (carried after) ((program_so_far calls).items B) (item ∷ []))
+            ∙ ap (flat_map (carried after)) (sym (items_here B item puts))
+
+        items_of : HasItems after g own'
+        items_of block name named_after = by (ℕ_discrete block b)
+          where
+            old : block_name calls block ≡ Some name
+            old = sym (names block) ∙ named_after
+
+            by : Dec (block ≡ b) → map (own_placed own' g) (own'.insts block) ≡ flat_map (carried after) ((program_so_far after).items name)
+            by (yes same) =
+                let is_B : name ≡ B = one_answer name B (block_name calls block) old (ap (block_name calls) same ∙ named) in
+                ap (λ (d : ℕ). map (own_placed own' g) (own'.insts d)) same ∙ items_at
+                ∙ ap (λ (n : Name). flat_map (carried after) ((program_so_far after).items n)) (sym is_B)
+            by (no other) =
+                ap (map (own_placed own' g)) (own_elsewhere block other) ∙ items_kept block name old
+                ∙ ap (flat_map (carried after)) (sym (items_others B item puts name (λ is_B. other (c.blocks.distinct block b B (old ∙ ap (λ (n : Name). Some n) is_B) named))))
+
+        -- what holds of each old item and of the new one
+        each_item : (P : List Item → Type 0) → P ((program_so_far calls).items B ++ item ∷ []) → ((name : Name) → P ((program_so_far calls).items name))
+            → (name : Name) → P ((program_so_far after).items name)
+        each_item P new_one old name = by (same_or_other B name)
+          where
+            by : (name ≡ B) ⊎ (name ≢ B) → P ((program_so_far after).items name)
+            by (inl same) = subst (λ (n : Name). P ((program_so_far after).items n)) (sym same) (subst P (sym (items_here B item puts)) new_one)
+            by (inr other) = subst P (sym (items_others B item puts name other)) (old name)
+
+        old_earlier : (name : Name) → AllByRecursion (NamesEarlier after) ((program_so_far calls).items name)
+        old_earlier name = all_mapped (NamesEarlier calls) (NamesEarlier after) earlier_stays ((program_so_far calls).items name) (c.earlier name)
+
+        own_all : OwnExist g own'.insts
+        own_all block = by (ℕ_discrete block b)
+          where
+            by : Dec (block ≡ b) → AllByRecursion (λ (i : ℕ). i < length g.insts) (own'.insts block)
+            by (yes same) =
+                subst (λ (d : ℕ). AllByRecursion (λ (i : ℕ). i < length g.insts) (own'.insts d)) (sym same)
+                (subst (AllByRecursion (λ (i : ℕ). i < length g.insts)) (sym own_here) (all_append (λ (i : ℕ). i < length g.insts) (own.insts b) new (own_exists (own.insts b) (c.own_exist b)) new_exist))
+            by (no other) = subst (AllByRecursion (λ (i : ℕ). i < length g.insts)) (sym (own_elsewhere block other)) (own_exists (own.insts block) (c.own_exist block))
+
+        own_unnamed : (block : ℕ) → block_name after block ≡ None → Dec (block ≡ b) → own'.insts block ≡ []
+        own_unnamed block none (yes same) = absurd (none_some B (sym none ∙ names block ∙ ap (block_name calls) same ∙ named))
+        own_unnamed block none (no other) = own_elsewhere block other ∙ c.own_named block (sym (names block) ∙ none)
+
+        own_outside : (block : ℕ) → stands_in block g.layout ≡ false → Dec (block ≡ b) → own'.insts block ≡ []
+        own_outside block out (no other) = own_elsewhere block other ∙ c.own_inserted block (inserted block out)
+        own_outside block out (yes same) =
+            let out_here : stands_in b g.layout ≡ false = subst (λ (d : ℕ). stands_in d g.layout ≡ false) same out in
+            ap own'.insts same ∙ own_here ∙ ap (λ (is : List ℕ). is ++ new) (c.own_inserted b (inserted b out_here)) ∙ new_inserted out_here
+
+        only : (name : Name) → (name ≡ B) ⊎ (name ≢ B) → ((program_so_far calls).items name ≡ []) ⊎ ((block : ℕ) × (block_name calls block ≡ Some name))
+            → ((program_so_far after).items name ≡ []) ⊎ ((block : ℕ) × (block_name after block ≡ Some name))
+        only name (inl same) old = inr (b, names b ∙ named ∙ ap (λ (n : Name). Some n) (sym same))
+        only name (inr other) (inl none) = inl (items_others B item puts name other ∙ none)
+        only name (inr other) (inr block) = inr (block.0, names block.0 ∙ block.1)
+
+        pub holds_item : AreDeclared g t own'.insts → LeadsOwn after own' t → HasEntry after g
+            → ((types : VariableTypes) → AreTypes after types → Structured types own' g t []) → Holds after own' g t
+        holds_item declared leads entry structured = record {
+          blocks = record {
+            distinct = λ d e name first second. c.blocks.distinct d e name (sym (names d) ∙ first) (sym (names e) ∙ second);
+            earlier = λ d name is. earlier_name name (c.blocks.earlier d name (sym (names d) ∙ is));
+            only = λ name. only name (same_or_other B name) (c.blocks.only name);
+          };
+          items = items_of;
+          earlier = each_item (AllByRecursion (NamesEarlier after)) (all_append (NamesEarlier after) ((program_so_far calls).items B) (item ∷ []) (old_earlier B) (item_earlier, tt)) old_earlier;
+          edges_end = each_item EdgesEnd (one_more_ends ((program_so_far calls).items B) item no_edges) c.edges_end;
+          own_exist = own_all;
+          own_named = λ block none. own_unnamed block none (ℕ_discrete block b);
+          own_inserted = λ block out. own_outside block out (ℕ_discrete block b);
+          declared = declared;
+          leads_own = leads;
+          no_parameters = no_parameters;
+          entry = entry;
+          structured = structured;
+        }

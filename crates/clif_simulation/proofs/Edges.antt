@@ -33,7 +33,8 @@ use Rattle.clif_meaning.specs.View.{argument_of}
 use Rattle.clif_meaning.specs.WellPlaced.{program_code, IsWellPlaced}
 use Rattle.clif_meaning.proofs.StraightLine.{nothing_contained, none_of}
 use Rattle.clif_simulation.specs.Tables.{answered, program_so_far, block_name}
-use Rattle.clif_simulation.specs.Carries.{Carries, answered_argument, own_placed}
+use Rattle.clif_simulation.proofs.Whole.{Whole}
+use Rattle.clif_simulation.specs.Carries.{answered_argument, own_placed}
 use Rattle.clif_simulation.specs.Laws.{IsFinished}
 use Rattle.clif_simulation.proofs.Agreement.{ComesAlong, EntersThere}
 use Rattle.clif_simulation.proofs.Entry.{resolved_twice}
@@ -87,7 +88,7 @@ assigned_elsewhere (p ∷ places) (b ∷ bits) old v other =
     let no : same_value v p ≡ false = grind (arith, nat_tests) in
     rw no (assigned_elsewhere places bits old v (λ there. other (suc there.0, omega (arith, there.1), there.2)))
 
-module _ (calls : List AnsweredCall) (f : Body) (s : SsaState) (consistent : IsConsistent f) (carries : Carries calls f s) (finished : IsFinished calls f s)
+module _ (calls : List AnsweredCall) (f : Body) (s : SsaState) (consistent : IsConsistent f) (carries : Whole calls f s) (finished : IsFinished calls f s)
     (placed : IsWellPlaced (program_code (program_so_far calls)))
   where
     abbrev pub program : Program

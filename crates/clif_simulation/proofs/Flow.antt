@@ -24,7 +24,8 @@ use Rattle.clif_meaning.specs.Path.{Place, IsPath}
 use Rattle.clif_meaning.specs.WellPlaced.{edge_targets, item_gives, item_names, item_targets, program_code, program_flow, IsWellPlaced, IsGivenAlong, given_on_entry}
 use Rattle.clif_meaning.proofs.StraightLine.{nothing_contained, none_of}
 use Rattle.clif_simulation.specs.Tables.{code, answered, program_so_far, block_name, item_at, assigned_by}
-use Rattle.clif_simulation.specs.Carries.{Carries, own_placed}
+use Rattle.clif_simulation.proofs.Whole.{Whole}
+use Rattle.clif_simulation.specs.Carries.{own_placed}
 use Rattle.clif_simulation.specs.Laws.{IsFinished}
 use Rattle.clif_simulation.proofs.Entry.{resolved_twice}
 use Rattle.clif_simulation.proofs.Giving.{In}
@@ -52,7 +53,7 @@ some_is x y e = cc
 abbrev pub at_index : Name → ℕ → Place Name
 at_index block index = record { block = block; index = index }
 
-module _ (calls : List AnsweredCall) (f : Body) (s : SsaState) (consistent : IsConsistent f) (carries : Carries calls f s) where
+module _ (calls : List AnsweredCall) (f : Body) (s : SsaState) (consistent : IsConsistent f) (carries : Whole calls f s) where
   abbrev program : Program
   program = program_so_far calls
 

@@ -1,93 +1,175 @@
--- A function that goes on keeps its instructions and the types of its values.
-use Rattle.std.proofs.Common.{◌≡◌, ℕ, zero, suc, ◌<◌, List, [], ◌∷◌, length, get_or, set, refl, sym, ◌∙◌, ap, subst, arith, Some, None, Bool, true, false}
-use Rattle.std.specs.Prelude.{pos, Option, if◌then◌else◌, slice_index}
+-- A function that goes on keeps the caller's instructions, as the machine sees them, though their edges may pass more.
+use Rattle.std.proofs.Common.{◌≡◌, ℕ, suc, ◌<◌, ◌≤◌, ◌==◌, List, [], ◌∷◌, ◌++◌, length, map, refl, sym, ◌∙◌, ap, ap₂, subst, arith, Bool, true, false, inl, inr}
+use Rattle.std.specs.Prelude.{slice_get, slice_index, if◌then◌else◌}
 use Rattle.std.proofs.Math.ListN.{get_or-append}
 use Rattle.std.proofs.lemmas.Grind.{common_steps}
 use Rattle.clif_types.specs.declared.types.«Type».{«Type»}
+use Rattle.clif_ir.specs.declared.block_call.BlockArg.{BlockArg}
+use Rattle.clif_ir.specs.declared.block_call.BlockArg.TheVariants.{Value}
+use Rattle.clif_ir.specs.declared.block_call.BlockCall.{BlockCall}
+use Rattle.clif_ir.specs.declared.function.InstNode.{InstNode}
 use Rattle.clif_ir.specs.declared.function.ValueNode.{ValueNode}
 use Rattle.clif_ir.specs.declared.inst_list.BlockEnd.{BlockEnd}
-use Rattle.clif_ir.specs.declared.inst_list.BlockEnd.TheVariants.{Front}
+use Rattle.clif_ir.specs.declared.instructions.BinaryOpcode.TheVariants.{Iadd, Isub}
 use Rattle.clif_ir.specs.declared.instructions.InstructionData.{InstructionData}
 use Rattle.clif_ir.specs.declared.instructions.InstructionData.TheVariants.{UnaryImm, Binary, Jump, Brif, MultiAry}
-use Rattle.clif_ir.specs.Instruction.{operands}
-use Rattle.clif_ir.specs.Body.{Body, no_value, inst_at}
+use Rattle.clif_ir.specs.Edges.{with_argument_to}
+use Rattle.clif_ir.specs.Instruction.{operands, destinations, with_argument}
+use Rattle.clif_ir.specs.Reading.{targets}
+use Rattle.clif_ir.specs.Body.{Body, no_value, inst_at, value_at}
 use Rattle.clif_ir.specs.Consistent.{IsConsistent}
-use Rattle.clif_ir.specs.Changes.{inserted_in, with_layout, with_param, with_inst, with_alias}
-use Rattle.clif_ir.specs.Reading.{stands_in, param_home}
-use Rattle.clif_ssa.specs.declared.tables.Pending.{Pending}
-use Rattle.clif_ssa.specs.Ssa.{no_srcloc, with_zero, zeroed, zeroed_in, completed}
-use Rattle.clif_meaning.specs.View.{placed_of, first_type, controlling_of}
-use Rattle.clif_simulation.specs.Carries.{GoesOn}
+use Rattle.clif_ir.specs.Changes.{inserted_in, with_inst}
+use Rattle.clif_ssa.specs.Own.{Own}
+use Rattle.clif_ssa.specs.Constructs.{MayPassMore, OnlyConstructs, StaysOrNames, with_passed}
+use Rattle.clif_ssa.specs.LookUp.{branch_block}
+use Rattle.clif_ssa.specs.Sound.{edge_target}
+use Rattle.clif_ssa.proofs.Completing.{inserted_same}
+use Rattle.clif_ssa.proofs.Constructing.{more_none}
+use Rattle.clif_meaning.specs.Instruction.{Operation, Edge}
+use Rattle.clif_meaning.specs.FunctionView.{Placed}
+use Rattle.clif_meaning.specs.View.{argument_of, edge_of, edges_of, first_type, controlling_of, operation_of}
+use Rattle.clif_simulation.specs.Carries.{as_passed, own_placed}
 
-pub goes_on-same : (f g : Body) → g ≡ f → GoesOn f g
-goes_on-same f g same = subst (GoesOn f) (sym same) (record { signature = refl; insts = λ i h. refl; types = λ v h. refl; more_insts = omega arith; more_values = omega arith })
+-- A function that goes on: its instructions stay, but that their edges may pass more, and its values keep their types.
+pub record GoesOn (f g : Body) : Type 0 where
+  pub insts : (i : ℕ) → i < length f.insts → MayPassMore (inst_at f i) (inst_at g i)
+  pub types : (v : ℕ) → v < length f.values → (value_at g v).ty ≡ (value_at f v).ty
+  pub more_insts : length f.insts ≤ length g.insts
 
-pub goes_on-then : (f g h : Body) → GoesOn f g → GoesOn g h → GoesOn f h
-goes_on-then f g h first next = record {
-  signature = next.signature ∙ first.signature;
-  insts = λ i below. next.insts i (let m = first.more_insts in omega (arith, m, below)) ∙ first.insts i below;
-  types = λ v below. next.types v (let m = first.more_values in omega (arith, m, below)) ∙ first.types v below;
-  more_insts = let a = first.more_insts in let b = next.more_insts in omega (arith, a, b);
-  more_values = let a = first.more_values in let b = next.more_values in omega (arith, a, b);
+pub goes_on-constructs : (f g : Body) → OnlyConstructs f g → GoesOn f g
+goes_on-constructs f g constructs = record {
+  insts = constructs.same_insts;
+  types = λ v below. of (value_at f v) (value_at g v) (constructs.same_values v below);
+  more_insts = constructs.insts;
 }
-
-pub goes_on-inserted : (f : Body) (b : ℕ) → GoesOn f (inserted_in f b)
-goes_on-inserted f b = by (stands_in b f.layout)
   where
-    by : (c : Bool) → GoesOn f (if c then f else with_layout f b)
-    by true = goes_on-same f f refl
-    by false = record { signature = refl; insts = λ i h. refl; types = λ v h. refl; more_insts = omega arith; more_values = omega arith }
-
-pub goes_on-with_param : (f : Body) (b : ℕ) (ty : «Type») → GoesOn f (with_param f b ty)
-goes_on-with_param f b ty = record {
-  signature = refl;
-  insts = λ i h. refl;
-  types = λ v below. ap (λ (n : ValueNode). n.ty) (get_or-append f.values _ no_value v below);
-  more_insts = omega arith;
-  more_values = grind (arith, common_steps);
-}
+    of : (old new : ValueNode) → StaysOrNames old new → new.ty ≡ old.ty
+    of old new (inl same) = ap (λ (n : ValueNode). n.ty) same
+    of old new (inr names) = ap (λ (n : ValueNode). n.ty) names.3
 
 pub goes_on-with_inst : (f : Body) (b : ℕ) (end : BlockEnd) (shape : InstructionData) (types : List «Type») (loc : ℕ) → GoesOn f (with_inst f b end shape types loc)
 goes_on-with_inst f b end shape types loc = record {
-  signature = refl;
-  insts = λ i below. get_or-append f.insts _ _ i below;
+  insts = λ i below.
+      subst (λ (node : InstNode). MayPassMore (inst_at f i) node) (sym (get_or-append f.insts _ _ i below)) (more_none (inst_at f i));
   types = λ v below. ap (λ (n : ValueNode). n.ty) (get_or-append f.values _ no_value v below);
   more_insts = grind (arith, common_steps);
-  more_values = grind (arith, common_steps);
 }
 
--- an entry of a list in which one was replaced by another of the same type
-type_set : (values : List ValueNode) (v : ℕ) (node : ValueNode) (w : ℕ) → node.ty ≡ (get_or values v no_value).ty → w < length values → (get_or (set values v node) w no_value).ty ≡ (get_or values w no_value).ty
-type_set [] v node w same below = absurd (omega arith)
-type_set (x ∷ values) zero node zero same below = same
-type_set (x ∷ values) zero node (suc w) same below = refl
-type_set (x ∷ values) (suc v) node zero same below = refl
-type_set (x ∷ values) (suc v) node (suc w) same below = type_set values v node w same (omega arith)
-
-pub goes_on-with_alias : (f : Body) (v original : ℕ) → GoesOn f (with_alias f v original)
-goes_on-with_alias f v original = record {
-  signature = refl;
-  insts = λ i h. refl;
-  types = λ w below. type_set f.values v _ w refl below;
-  more_insts = omega arith;
-  more_values = grind (arith, common_steps);
+-- the same from a function with the same instructions and values
+pub goes_on-from : (f h g : Body) → h.insts ≡ f.insts → h.values ≡ f.values → GoesOn h g → GoesOn f g
+goes_on-from f h g insts values on = record {
+  insts = λ i below.
+      subst (λ (is : List InstNode). MayPassMore (inst_at (record f { insts = is }) i) (inst_at g i)) insts (on.insts i (subst (λ (is : List InstNode). i < length is) (sym insts) below));
+  types = λ v below.
+      subst (λ (vs : List ValueNode). (value_at g v).ty ≡ (value_at (record f { values = vs }) v).ty) values (on.types v (subst (λ (vs : List ValueNode). v < length vs) (sym values) below));
+  more_insts = subst (λ (is : List InstNode). length is ≤ length g.insts) insts on.more_insts;
 }
 
-pub goes_on-with_zero : (f : Body) (b : ℕ) (ty : «Type») → GoesOn f (with_zero f b ty)
-goes_on-with_zero f b ty = goes_on-then _ _ _ (goes_on-inserted f b) (goes_on-with_inst (inserted_in f b) b Front (UnaryImm (pos 0)) (ty ∷ []) no_srcloc)
+-- THE CALLER'S INSTRUCTIONS ----------------------------------------------------------------------------------------------
 
-pub goes_on-zeroed : (f : Body) (b v : ℕ) → GoesOn f (zeroed f b v)
-goes_on-zeroed f b v = goes_on-then _ _ _ (goes_on-with_zero f b _) (goes_on-with_alias _ v _)
+-- The second function has the instructions of the first, and maybe more; as the machine sees them they are the caller's.
+pub record KeepsInsts (f g : Body) : Type 0 where
+  pub placed : (own : Own) (i : ℕ) → i < length f.insts → own_placed own g i ≡ own_placed own f i
+  pub targets : (i k : ℕ) → i < length f.insts → edge_target g i k ≡ edge_target f i k
+  pub block : (i : ℕ) → i < length f.insts → branch_block g i ≡ branch_block f i
+  pub more : length f.insts ≤ length g.insts
 
-pub goes_on-zeroed_in : (o : Option ℕ) (f : Body) (v : ℕ) → GoesOn f (zeroed_in o f v)
-goes_on-zeroed_in None f v = goes_on-same f f refl
-goes_on-zeroed_in (Some b) f v = goes_on-zeroed f b v
+-- instructions and values stay
+pub insts_same : (f g : Body) → g.insts ≡ f.insts → g.values ≡ f.values → KeepsInsts f g
+insts_same f g insts values = record {
+  placed = λ own i below.
+      ap (λ (is : List InstNode). own_placed own (record g { insts = is }) i) insts
+      ∙ ap (λ (vs : List ValueNode). own_placed own (record g { insts = f.insts; values = vs }) i) values;
+  targets = λ i k below. ap (λ (is : List InstNode). edge_target (record f { insts = is }) i k) insts;
+  block = λ i below. ap (λ (is : List InstNode). branch_block (record f { insts = is }) i) insts;
+  more = omega (arith, ap (λ (is : List InstNode). length is) insts);
+}
 
-pub goes_on-completed : (f : Body) (pending : List Pending) → GoesOn f (completed f pending)
-goes_on-completed f [] = goes_on-same f f refl
-goes_on-completed f (p ∷ pending) =
-    goes_on-then _ _ _ (goes_on-zeroed_in (param_home f p.param) f p.param) (goes_on-completed (zeroed_in (param_home f p.param) f p.param) pending)
+pub insts_then : (f g h : Body) → KeepsInsts f g → KeepsInsts g h → KeepsInsts f h
+insts_then f g h first next = record {
+  placed = λ own i below. next.placed own i (let m = first.more in omega (arith, m, below)) ∙ first.placed own i below;
+  targets = λ i k below. next.targets i k (let m = first.more in omega (arith, m, below)) ∙ first.targets i k below;
+  block = λ i below. next.block i (let m = first.more in omega (arith, m, below)) ∙ first.block i below;
+  more = let a = first.more in let b = next.more in omega (arith, a, b);
+}
 
+pub insts_inserted : (f : Body) (b : ℕ) → KeepsInsts f (inserted_in f b)
+insts_inserted f b = insts_same f (inserted_in f b) (inserted_same f b).insts (inserted_same f b).values
+
+-- what an argument more leaves of an instruction
+targets_appended : (b v : ℕ) (edges : List BlockCall) → targets (with_argument_to b v edges) ≡ targets edges
+targets_appended b v [] = refl
+targets_appended b v (edge ∷ edges) = ap₂ (λ (t : ℕ) (ts : List ℕ). t ∷ ts) (by (edge.block == b)) (targets_appended b v edges)
+  where
+    by : (test : Bool) → (if test then record edge { args = edge.args ++ Value v ∷ [] } else edge).block ≡ edge.block
+    by true = refl
+    by false = refl
+
+targets_with : (b v : ℕ) (shape : InstructionData) → targets (destinations (with_argument b v shape)) ≡ targets (destinations shape)
+targets_with b v (UnaryImm imm) = refl
+targets_with b v (Binary opcode args) = refl
+targets_with b v (Jump destination) = targets_appended b v (destination ∷ [])
+targets_with b v (Brif arg blocks) = targets_appended b v blocks
+targets_with b v (MultiAry args) = refl
+
+operation_with : (b v : ℕ) (shape : InstructionData) → operation_of (with_argument b v shape) ≡ operation_of shape
+operation_with b v (UnaryImm imm) = refl
+operation_with b v (Binary Iadd args) = refl
+operation_with b v (Binary Isub args) = refl
+operation_with b v (Jump destination) = refl
+operation_with b v (Brif arg blocks) = refl
+operation_with b v (MultiAry args) = refl
+
+operands_with : (b v : ℕ) (shape : InstructionData) → operands (with_argument b v shape) ≡ operands shape
+operands_with b v (UnaryImm imm) = refl
+operands_with b v (Binary opcode args) = refl
+operands_with b v (Jump destination) = refl
+operands_with b v (Brif arg blocks) = refl
+operands_with b v (MultiAry args) = refl
+
+controlling_with : (g : Body) (b v : ℕ) (shape : InstructionData) (values : List ℕ) → controlling_of g (with_argument b v shape) values ≡ controlling_of g shape values
+controlling_with g b v (UnaryImm imm) values = refl
+controlling_with g b v (Binary opcode args) values = refl
+controlling_with g b v (Jump destination) values = refl
+controlling_with g b v (Brif arg blocks) values = refl
+controlling_with g b v (MultiAry args) values = refl
+
+-- the same for more arguments
+record SameButArguments (g : Body) (old new : InstructionData) : Type 0 where
+  pub targets_same : targets (destinations new) ≡ targets (destinations old)
+  pub operation : operation_of new ≡ operation_of old
+  pub operands_same : operands new ≡ operands old
+  pub controlling : (values : List ℕ) → controlling_of g new values ≡ controlling_of g old values
+
+same_with : (g : Body) (more : List (ℕ × ℕ)) (shape : InstructionData) → SameButArguments g shape (with_passed more shape)
+same_with g [] shape = record { targets_same = refl; operation = refl; operands_same = refl; controlling = λ values. refl }
+same_with g (more ∷ others) shape =
+    let rest = same_with g others (with_argument more.0 more.1 shape) in
+    record {
+      targets_same = rest.targets_same ∙ targets_with more.0 more.1 shape;
+      operation = rest.operation ∙ operation_with more.0 more.1 shape;
+      operands_same = rest.operands_same ∙ operands_with more.0 more.1 shape;
+      controlling = λ values. rest.controlling values ∙ controlling_with g more.0 more.1 shape values;
+    }
+
+-- edges to the same targets are the same, but for what they pass
+edges_passed : (passed : ℕ → List BlockArg) (k : ℕ) (first second : List BlockCall) → targets first ≡ targets second
+    → as_passed passed k (map edge_of first) ≡ as_passed passed k (map edge_of second)
+edges_passed passed k [] [] same = refl
+edges_passed passed k [] (e ∷ second) same = absurd cc
+edges_passed passed k (e ∷ first) [] same = absurd cc
+edges_passed passed k (d ∷ first) (e ∷ second) same =
+    ap₂ (λ (t : ℕ) (es : List (Edge ℕ ℕ)). record { target = t; arguments = map argument_of (passed k) } ∷ es)
+    (head d.block e.block (targets first) (targets second) same)
+    (edges_passed passed (suc k) first second (tail d.block e.block (targets first) (targets second) same))
+  where
+    head : (x y : ℕ) (xs ys : List ℕ) → x ∷ xs ≡ y ∷ ys → x ≡ y
+    head x y xs ys h = cc
+
+    tail : (x y : ℕ) (xs ys : List ℕ) → x ∷ xs ≡ y ∷ ys → xs ≡ ys
+    tail x y xs ys h = cc
+
+-- the types of what is named stay
 first_kept : (f g : Body) → GoesOn f g → (values : List ℕ) → ((k : ℕ) → k < length values → slice_index values k < length f.values) → first_type g values ≡ first_type f values
 first_kept f g on [] exist = refl
 first_kept f g on (v ∷ values) exist = on.types v (exist 0 (omega arith))
@@ -101,9 +183,32 @@ controlling_kept f g on (Jump destination) values exist operands_exist = refl
 controlling_kept f g on (Brif arg blocks) values exist operands_exist = on.types arg (operands_exist 0 (omega arith))
 controlling_kept f g on (MultiAry args) values exist operands_exist = refl
 
--- what the machine sees of an instruction stays
-pub placed_kept : (f g : Body) → IsConsistent f → GoesOn f g → (i : ℕ) → i < length f.insts → placed_of g (inst_at g i) ≡ placed_of f (inst_at f i)
-placed_kept f g consistent on i below =
-    ap (placed_of g) (on.insts i below)
-    ∙ ap (λ (controlling : «Type»). record (placed_of f (inst_at f i)) { instruction = record (placed_of f (inst_at f i)).instruction { controlling = controlling } })
-    (controlling_kept f g on (inst_at f i).shape (inst_at f i).results (λ k h. (consistent.results_known i k h).0) (consistent.operands_exist i))
+-- an instruction by its parts
+abbrev parts : Operation → «Type» → List ℕ → List (Edge ℕ ℕ) → List ℕ → Placed
+parts operation controlling arguments edges results =
+    record { instruction = record { operation = operation; controlling = controlling; operands = arguments; edges = edges }; results = results; stack_map = [] }
+
+pub insts_kept : (f g : Body) → IsConsistent f → GoesOn f g → KeepsInsts f g
+insts_kept f g consistent on = record {
+  placed = λ own i below.
+      let more = on.insts i below in
+      let same = same_with g more.0 (inst_at f i).shape in
+      ap (λ (node : InstNode). parts (operation_of node.shape) (controlling_of g node.shape node.results) (operands node.shape) (as_passed (own.passed i) 0 (edges_of node.shape)) node.results) more.1
+      ∙ parts_same (inst_at f i).results same.operation
+      (same.controlling (inst_at f i).results
+      ∙ controlling_kept f g on (inst_at f i).shape (inst_at f i).results (λ k h. (consistent.results_known i k h).0) (consistent.operands_exist i))
+      same.operands_same
+      (edges_passed (own.passed i) 0 (destinations (with_passed more.0 (inst_at f i).shape)) (destinations (inst_at f i).shape) same.targets_same);
+  targets = λ i k below.
+      let more = on.insts i below in
+      ap (λ (node : InstNode). slice_get (targets (destinations node.shape)) k) more.1
+      ∙ ap (λ (ts : List ℕ). slice_get ts k) (same_with g more.0 (inst_at f i).shape).targets_same;
+  block = λ i below. ap (λ (node : InstNode). node.block) (on.insts i below).1;
+  more = on.more_insts;
+}
+  where
+    parts_same : {o p : Operation} {c d : «Type»} {xs ys : List ℕ} {es fs : List (Edge ℕ ℕ)} (rs : List ℕ) → o ≡ p → c ≡ d → xs ≡ ys → es ≡ fs
+        → parts o c xs es rs ≡ parts p d ys fs rs
+    parts_same {o} {p} {c} {d} {xs} {ys} {es} {fs} rs a b e g =
+        ap (λ (q : Operation). parts q c xs es rs) a ∙ ap (λ (t : «Type»). parts p t xs es rs) b ∙ ap (λ (zs : List ℕ). parts p d zs es rs) e
+        ∙ ap (λ (gs : List (Edge ℕ ℕ)). parts p d ys gs rs) g

@@ -18,14 +18,14 @@ use Rattle.clif_simulation.proofs.Extending.{AddsItem}
 
 -- a program with an item behind those of the current block
 module _ (program : Program) (B : Name) (item : Item) where
-  items-here : (with_item_at program (Some B) item).items B ≡ program.items B ++ item ∷ []
+  pub items-here : (with_item_at program (Some B) item).items B ≡ program.items B ++ item ∷ []
   items-here = by (same_name B B) (same_name-equal B B refl)
     where
       by : (c : Bool) → c ≡ true → (if c then program.items B ++ item ∷ [] else program.items B) ≡ program.items B ++ item ∷ []
       by true is = refl
       by false is = cc
 
-  items-elsewhere : (N : Name) → N ≢ B → (with_item_at program (Some B) item).items N ≡ program.items N
+  pub items-elsewhere : (N : Name) → N ≢ B → (with_item_at program (Some B) item).items N ≡ program.items N
   items-elsewhere N other = by (same_name_cases N B)
     where
       test : (c : Bool) → c ≡ false → (if c then program.items N ++ item ∷ [] else program.items N) ≡ program.items N
@@ -41,7 +41,7 @@ pub record PutsItem (calls : List AnsweredCall) (call : AnsweredCall) (B : Name)
   pub items : (N : Name) → (program_so_far (calls ++ call ∷ [])).items N ≡ (with_item_at (program_so_far calls) (Some B) item).items N
   pub no_block : MakesNoBlock call.request
 
-same_or_other : (B N : Name) → (N ≡ B) ⊎ (N ≢ B)
+pub same_or_other : (B N : Name) → (N ≡ B) ⊎ (N ≢ B)
 same_or_other B N = by (same_name_cases N B)
   where
     by : (N ≡ B) ⊎ ((N ≢ B) × (same_name N B ≡ false)) → (N ≡ B) ⊎ (N ≢ B)

@@ -1,5 +1,7 @@
 -- Names and their numbers.
 pub mod Codes
+-- All that a function holds which carries calls.
+pub mod Whole
 -- No branch leads to any block.
 pub mod Unbranched
 -- A finished function that carries calls means what their program means.
@@ -39,6 +41,9 @@ pub mod Carrying
 pub mod Staying
 pub mod Requests
 pub mod Values
+pub mod Ledgers
+pub mod Unfilled
+pub mod Telling
 pub mod Calls
 pub mod Building
 pub mod Beginning
@@ -49,6 +54,7 @@ pub mod Recorded
 mod LoopTables
 mod LoopProgram
 mod LoopDescribed
+mod LoopStructured
 mod LoopWrong
 mod LoopArgument
 mod LoopRow

@@ -20,7 +20,8 @@ use Rattle.clif_meaning.specs.BranchExamples.{block}
 use Rattle.clif_meaning.proofs.FirstRow.{first_of_one}
 use Rattle.clif_meaning.proofs.StraightLine.{nothing_contained, none_of}
 use Rattle.clif_simulation.specs.Tables.{IsProgramOf, block_name, item_at, assigned_by}
-use Rattle.clif_simulation.specs.Carries.{Carries, own_placed}
+use Rattle.clif_simulation.specs.Carries.{Carries, SoundOnPaths, own_placed}
+use Rattle.clif_simulation.proofs.LoopStructured.{spares_entry}
 use Rattle.clif_simulation.specs.CarryingExamples.{loop_calls, loop_body_with, loop_state, to_two_or_three, back_with_sum}
 use Rattle.clif_simulation.proofs.LoopProgram.{each_block_of_row, none_for}
 use Rattle.clif_simulation.proofs.LoopDescribed.{first_of_two, none_waits}
@@ -130,13 +131,16 @@ abbrev is_jump : Placed → ℕ
 is_jump placed = jump_of placed.instruction.operation
 
 module _ (carries : Carries loop_calls early_body loop_state) where
+  abbrev paths : SoundOnPaths loop_calls carries.own early_body loop_state
+  paths = carries.on_paths spares_entry
+
   abbrev T : Blocks
-  T = carries.tables
+  T = paths.tables
 
   -- the jump passes nothing of the caller's
   passes_none : length (carries.own.passed 1 0) ≡ 0
   passes_none =
-      let found = from_second (own_placed carries.own early_body) (carries.own.insts 0) _ _ _ (carries.items 0 (block 0) refl) in
+      let found = from_second (own_placed carries.own early_body) (carries.own.insts 0) _ _ _ (carries.holds.items 0 (block 0) refl) in
       let one : found.0 ≡ 1 = by found.0 (ap is_jump found.1) in
       let same : lengths_of (own_placed carries.own early_body 1) ≡ 0 ∷ [] =
       ap (λ (inst : ℕ). lengths_of (own_placed carries.own early_body inst)) (sym one) ∙ ap lengths_of found.1 in
@@ -155,26 +159,26 @@ module _ (carries : Carries loop_calls early_body loop_state) where
   -- the parameter is complete, at the front of block1
   waits_not : (x : ℕ) → (T.function.definition 1).kind ≡ pending x → ⊥
   unfolding follow
-  waits_not x e = by (carries.describes.pends 1 x refl e)
+  waits_not x e = by (paths.describes.pends 1 x refl e)
     where
       by : ((b : ℕ) × Contains (pending_of (sealed_of loop_state b)) (record { variable = x; param = 1 })) ⊎ Contains {X = Pending} [] (record { variable = x; param = 1 }) → ⊥
       by (inl found) = none_of (pending_of (sealed_of loop_state found.0)) (record { variable = x; param = 1 }) (none_waits found.0) found.1
       by (inr there) = nothing_contained (record { variable = x; param = 1 }) there
 
   is_complete : (T.function.definition 1).kind ≡ complete
-  is_complete = by (T.function.definition 1).kind refl (carries.counts.behind 1 1 refl)
+  is_complete = by (T.function.definition 1).kind refl (paths.counts.behind 1 1 refl)
     where
       by : (kind : Kind) → (T.function.definition 1).kind ≡ kind → IsBehind kind 0 (length (carries.own.params 1)) → kind ≡ complete
       by unborn e behind = absurd behind
       by (born n) e behind =
-          let none : length (carries.own.params 1) ≡ 0 = ap (λ (params : List ℕ). length params) (carries.no_parameters 1) in
+          let none : length (carries.own.params 1) ≡ 0 = ap (λ (params : List ℕ). length params) (carries.holds.no_parameters 1) in
           absurd (omega (arith, none, behind))
       by (pending x) e behind = absurd (waits_not x e)
       by complete e behind = refl
       by (zero_of x) e behind = absurd behind
 
   defined : T.function.definition 1 ≡ record { home = front 1; kind = complete }
-  defined = by (subst (HomeFits T 1) is_complete (carries.describes.homes 1))
+  defined = by (subst (HomeFits T 1) is_complete (paths.describes.homes 1))
     where
       one_is : (b : ℕ) → Some 1 ≡ Some b → b ≡ 1
       one_is b e = cc
@@ -182,44 +186,44 @@ module _ (carries : Carries loop_calls early_body loop_state) where
       by : HomeFits T 1 complete → T.function.definition 1 ≡ record { home = front 1; kind = complete }
       by fits =
           let there : T.function.definition 1 ≡ record { home = front fits.0; kind = complete } = λ i. record { home = fits.1 i; kind = is_complete i } in
-          subst (λ (b : ℕ). T.function.definition 1 ≡ record { home = front b; kind = complete }) (one_is fits.0 (carries.describes.complete_there fits.0 1 there)) there
+          subst (λ (b : ℕ). T.function.definition 1 ≡ record { home = front b; kind = complete }) (one_is fits.0 (paths.describes.complete_there fits.0 1 there)) there
 
   three : T.count 0 ≡ 3
-  three = carries.program.counts 0 (block 0) refl
+  three = paths.program.counts 0 (block 0) refl
 
   the_edge : IsEdgeInto early_body loop_state T 1 (jump 0 3 0 1)
   the_edge = record { branch = 1; leads = first_of_two; from = ap (λ (k : ℕ). inside 0 k) (sym three); to = refl }
 
   joined : T.joins (jump 0 3 0 1) ≡ true
-  joined = carries.describes.led 1 (jump 0 3 0 1) refl refl the_edge
+  joined = paths.describes.led 1 (jump 0 3 0 1) refl refl the_edge
 
   gets_itself : T.function.argument 1 (jump 0 3 0 1) ≡ 1
   unfolding the_edge
-  gets_itself = is (T.function.argument 1 (jump 0 3 0 1)) (carries.describes.passes 1 1 (jump 0 3 0 1) the_edge defined refl 0 belongs)
+  gets_itself = is (T.function.argument 1 (jump 0 3 0 1)) (paths.describes.passes 1 1 (jump 0 3 0 1) the_edge defined refl 0 belongs)
     where
       is : (v : ℕ) → Some (Value 1) ≡ Some (Value v) → v ≡ 1
       is v e = cc
 
       belongs : 0 + length (carries.own.params 1) ≡ 0 + length (carries.own.passed 1 0)
       belongs =
-          let none : length (carries.own.params 1) ≡ 0 = ap (λ (params : List ℕ). length params) (carries.no_parameters 1) in
+          let none : length (carries.own.params 1) ≡ 0 = ap (λ (params : List ℕ). length params) (carries.holds.no_parameters 1) in
           let nothing = passes_none in
           omega (arith, none, nothing)
 
   resolves : T.function.resolve 1 ≡ 1
   unfolding follow
-  resolves = carries.describes.resolves 1
+  resolves = paths.describes.resolves 1
 
   at_front : (T.function.definition (T.function.resolve 1)).home ≡ front 1
   at_front = ap (λ (v : ℕ). (T.function.definition v).home) resolves ∙ ap (λ (d : Definition). d.home) defined
 
   known : arms T (jump 0 3 0 1) ≡ true
-  known = rw (carries.describes.sealed 1, joined) refl
+  known = rw (paths.describes.sealed 1, joined) refl
 
   on_every_path : Dominates (arms T) (front 1) (inside 0 3)
   on_every_path =
-      let sound = carries.sound.sound in
-      let under = sound.under (arms T) (allowed T carries.program sound.rooted) in
+      let sound = paths.sound.sound in
+      let under = sound.under (arms T) (allowed T paths.program sound.rooted) in
       subst (λ (p : Place). Dominates (arms T) p (inside 0 3))
       (ap (λ (v : ℕ). (T.function.definition (T.function.resolve (T.function.argument v (jump 0 3 0 1)))).home) resolves
       ∙ (ap (λ (v : ℕ). (T.function.definition (T.function.resolve v)).home) gets_itself ∙ at_front))
@@ -238,7 +242,7 @@ module _ (carries : Carries loop_calls early_body loop_state) where
       (
         rw three refl,
         refl,
-        (rw (carries.describes.sealed 0, carries.describes.entered 0 refl (carries.describes.sealed 0)) refl, refl, tt),
+        (rw (paths.describes.sealed 0, paths.describes.entered 0 refl (paths.describes.sealed 0)) refl, refl, tt),
       ),
     ),
   )

@@ -1,5 +1,5 @@
 -- The row `both_arms` is carried, and finished.
-use Rattle.std.proofs.Common.{◌≡◌, ◌≢◌, ℕ, zero, suc, ◌<◌, true, false, List, [], ◌∷◌, inl, inr, Some, None, refl, ap, arith, IsTrue, map, flat_map, Bool, if◌then◌else◌}
+use Rattle.std.proofs.Common.{◌≡◌, ◌≢◌, ℕ, zero, suc, ◌<◌, true, false, List, [], inl, inr, Some, None, refl, ap, arith, IsTrue, map, flat_map, Bool, if◌then◌else◌}
 use Rattle.std.specs.List.{AllByRecursion}
 use Rattle.clif_ir.specs.Body.{follow, resolved}
 use Rattle.clif_ir.specs.Reading.{stands_in}
@@ -21,6 +21,7 @@ use Rattle.clif_simulation.specs.CarryingExamples.{loop_calls, loop_body, loop_s
 use Rattle.clif_simulation.proofs.Values.{false_is}
 use Rattle.clif_simulation.proofs.LoopTables.{loop_tables, computing_row, row_sound}
 use Rattle.clif_simulation.proofs.LoopProgram.{each_block_of_row, each_items_of_row, other_block, row_program}
+use Rattle.clif_simulation.proofs.LoopStructured.{leads_own, row_structured}
 use Rattle.clif_simulation.proofs.LoopDescribed.{row_own, leads, none_waits, row_described, row_counted, not_start}
 
 -- The view ------------------------------------------------------------------------------------------------------------------
@@ -179,29 +180,30 @@ has_entry = record { none = λ e. absurd (other e); some = λ name e. (0, refl, 
 
 pub row_carried : Carries loop_calls loop_body loop_state
 row_carried = record {
-  tables = loop_tables;
   own = row_own;
-  program = row_program;
-  items = items;
-  earlier = earlier;
-  edges_end = edges_end;
-  own_exist = own_exist;
-  own_named = other_block (λ b. row_own.insts b ≡ []) (λ b. refl);
-  own_inserted = own_inserted;
-  declared = λ b inst k target there to. leads inst k target to;
-  passes_first = λ target inst k there to. (_, refl);
-  parameters_first = λ b. (_, refl);
-  no_parameters = λ b. refl;
-  values_given = values_given;
-  entry = has_entry;
-  describes = row_described;
-  sound = row_sound;
-  counts = row_counted;
-  nothing_stray = λ nothing. absurd (led_to (nothing 1));
+  holds = record {
+    blocks = record { distinct = row_program.distinct; earlier = row_program.blocks_earlier; only = row_program.only_blocks };
+    items = items;
+    earlier = earlier;
+    edges_end = edges_end;
+    own_exist = own_exist;
+    own_named = other_block (λ b. row_own.insts b ≡ []) (λ b. refl);
+    own_inserted = own_inserted;
+    declared = λ b inst k target there to. leads inst k target to;
+    leads_own = leads_own;
+    no_parameters = λ b. refl;
+    entry = has_entry;
+    structured = row_structured seen_alike.resolved;
+  };
+  on_paths = λ spares. record {
+    tables = loop_tables;
+    program = row_program;
+    values_given = values_given;
+    describes = row_described;
+    sound = row_sound;
+    counts = row_counted;
+  };
 }
-  where
-    led_to : ◌≡◌ {A = List ℕ} (1 ∷ 5 ∷ []) [] → ⊥
-    led_to e = cc
 
 pub row_finished : IsFinished loop_calls loop_body loop_state
 row_finished = record { none_waits = none_waits; entry_sealed = entry_sealed; filled_sealed = λ number name named filled. all_sealed number name named }

@@ -14,6 +14,7 @@ use Rattle.clif_meaning.specs.BranchExamples.{block}
 use Rattle.clif_simulation.specs.Carries.{Carries, own_placed}
 use Rattle.clif_simulation.specs.Laws.{IsFinished}
 use Rattle.clif_simulation.specs.CarryingExamples.{loop_calls, loop_body, loop_body_with, loop_state, loop_state_with, edge_to, to_two_or_three, back_with_sum}
+use Rattle.clif_simulation.proofs.LoopStructured.{spares_entry}
 
 pub head_of : {X : Type 0} (x y : X) (xs ys : List X) → x ∷ xs ≡ y ∷ ys → x ≡ y
 head_of x y xs ys e = cc
@@ -49,7 +50,7 @@ six_body = loop_body_with (pos 6) 0 to_two_or_three back_with_sum
 
 pub other_constant : Carries loop_calls six_body loop_state → ⊥
 other_constant carries =
-    let found = from_first (own_placed carries.own six_body) (carries.own.insts 0) _ _ (carries.items 0 (block 0) refl) in
+    let found = from_first (own_placed carries.own six_body) (carries.own.insts 0) _ _ (carries.holds.items 0 (block 0) refl) in
     by found.0 (ap number_of_placed found.1)
   where
     by : (inst : ℕ) → number_of_placed (own_placed carries.own six_body inst) ≡ 5 → ⊥
@@ -77,7 +78,7 @@ swapped_body = loop_body_with (pos 5) 0 (edge_to 3 [] ∷ edge_to 2 [] ∷ []) b
 
 pub swapped_arms : Carries loop_calls swapped_body loop_state → ⊥
 swapped_arms carries =
-    let found = from_first (own_placed carries.own swapped_body) (carries.own.insts 1) _ _ (carries.items 1 (block 1) refl) in
+    let found = from_first (own_placed carries.own swapped_body) (carries.own.insts 1) _ _ (carries.holds.items 1 (block 1) refl) in
     by found.0 (ap target_of_placed found.1)
   where
     by : (inst : ℕ) → target_of_placed (own_placed carries.own swapped_body inst) ≡ 2 → ⊥
@@ -121,17 +122,17 @@ no_kind (zero_of x) callers given other c g o behind first second = absurd behin
 
 pub one_argument : Carries loop_calls one_body loop_state → ⊥
 one_argument carries =
-    let found = from_third (own_placed carries.own one_body) (carries.own.insts 2) _ _ _ _ (carries.items 2 (block 2) refl) in
+    let found = from_third (own_placed carries.own one_body) (carries.own.insts 2) _ _ _ _ (carries.holds.items 2 (block 2) refl) in
     let five : found.0 ≡ 5 = by found.0 (ap condition_of found.1) in
     let same : lengths_of (own_placed carries.own one_body 5) ≡ 0 ∷ 0 ∷ [] =
     ap (λ (inst : ℕ). lengths_of (own_placed carries.own one_body inst)) (sym five) ∙ ap lengths_of found.1 in
-    no_kind (carries.tables.function.definition 1).kind (length (carries.own.params 1)) (length (carries.own.passed 5 0)) (length (carries.own.passed 5 1))
-    (ap (λ (params : List ℕ). length params) (carries.no_parameters 1))
+    no_kind ((carries.on_paths spares_entry).tables.function.definition 1).kind (length (carries.own.params 1)) (length (carries.own.passed 5 0)) (length (carries.own.passed 5 1))
+    (ap (λ (params : List ℕ). length params) (carries.holds.no_parameters 1))
     (none_mapped (carries.own.passed 5 0) (head_of _ _ _ _ same))
     (none_mapped (carries.own.passed 5 1) (head_of _ _ _ _ (tail_of _ _ _ _ same)))
-    (carries.counts.behind 1 1 refl)
-    (carries.counts.counted 1 5 0 1 leads refl refl)
-    (carries.counts.counted 1 5 1 1 leads refl refl)
+    ((carries.on_paths spares_entry).counts.behind 1 1 refl)
+    ((carries.on_paths spares_entry).counts.counted 1 5 0 1 leads refl refl)
+    ((carries.on_paths spares_entry).counts.counted 1 5 1 1 leads refl refl)
   where
     leads : Contains {X = ℕ} (1 ∷ 5 ∷ []) 5
     leads = (1, omega arith, refl)

@@ -1,6 +1,7 @@
 -- Names, and the names of blocks after one more call.
 use Rattle.std.proofs.Common.{◌≡◌, ◌≢◌, ℕ, zero, suc, ◌==◌, Bool, true, false, List, [], ◌∷◌, ◌++◌, length, map, refl, ◌∙◌, ap, arith, Some, None, ◌⊎◌, inl, inr}
 use Rattle.std.specs.Prelude.{slice_get, Option, fold, Contains, if◌then◌else◌, slice_index_or, ◌<◌}
+use Rattle.std.specs.List.{list_any}
 use Rattle.std.proofs.lemmas.Bool.Decides.{nat_tests}
 use Rattle.clif_paths.proofs.Tables.{number_equal}
 use Rattle.clif_meaning.specs.Name.{Name, answer_of, same_name}
@@ -69,7 +70,7 @@ names-with_layout ledger block = by (is_inserted ledger block)
     by true = refl
     by false = refl
 
-names-with_begun_at : (ledger : Ledger) (o : Option Name) → names_of (with_begun_at ledger o).blocks ≡ names_of ledger.blocks
+pub names-with_begun_at : (ledger : Ledger) (o : Option Name) → names_of (with_begun_at ledger o).blocks ≡ names_of ledger.blocks
 names-with_begun_at ledger None = refl
 names-with_begun_at ledger (Some block) =
     names-with_state block (λ state. record state { is_pristine = false }) (λ state. refl) (with_layout ledger block) ∙ names-with_layout ledger block
@@ -85,7 +86,18 @@ names-with_terminator ledger operation = by (is_terminator operation)
     by true = names-with_filled_at ledger ledger.current
     by false = refl
 
--- the call makes no block; an instruction has no edges so far
+names-with_edges : (branch : Name) (ledger : Ledger) (edges : List (Edge Name Name)) → names_of (fold (with_predecessor branch) ledger edges).blocks ≡ names_of ledger.blocks
+names-with_edges branch ledger [] = refl
+names-with_edges branch ledger (edge ∷ edges) =
+    names-with_edges branch (with_predecessor branch ledger edge) edges
+    ∙ names-with_state edge.target (λ state. if list_any (same_name branch) state.predecessors then state else record state { predecessors = state.predecessors ++ branch ∷ [] })
+    (λ state. name_of state (list_any (same_name branch) state.predecessors)) ledger
+  where
+    name_of : (state : BlockState) (test : Bool) → (if test then state else record state { predecessors = state.predecessors ++ branch ∷ [] }).block ≡ state.block
+    name_of state true = refl
+    name_of state false = refl
+
+-- the call makes no block
 abbrev pub MakesNoBlock : Request → Type 0
 MakesNoBlock CreateBlock = ⊥
 MakesNoBlock (SwitchToBlock block) = Unit {0}
@@ -93,7 +105,7 @@ MakesNoBlock (SealBlock block) = Unit {0}
 MakesNoBlock (DeclareVar ty) = Unit {0}
 MakesNoBlock (DefVar variable value) = Unit {0}
 MakesNoBlock (UseVar variable) = Unit {0}
-MakesNoBlock (Build instruction) = instruction.edges ≡ []
+MakesNoBlock (Build instruction) = Unit {0}
 MakesNoBlock Finalize = Unit {0}
 
 names_after : (ledger : Ledger) (request : Request) → MakesNoBlock request → names_of (ledger_with ledger request).blocks ≡ names_of ledger.blocks
@@ -104,7 +116,7 @@ names_after ledger (DeclareVar ty) made = refl
 names_after ledger (DefVar variable value) made = refl
 names_after ledger (UseVar variable) made = names-with_begun_at ledger ledger.current
 names_after ledger (Build instruction) made =
-    ap (λ (edges : List (Edge Name Name)). names_of (fold (with_predecessor (answer_of (length ledger.answers) 0)) (with_terminator (with_begun ledger) instruction.operation) edges).blocks) made
+    names-with_edges (answer_of (length ledger.answers) 0) (with_terminator (with_begun ledger) instruction.operation) instruction.edges
     ∙ names-with_terminator (with_begun ledger) instruction.operation ∙ names-with_begun_at ledger ledger.current
 names_after ledger Finalize made = refl
 

@@ -17,7 +17,8 @@ use Rattle.clif_meaning.specs.Program.{Item, Instruct, Use, Assign}
 use Rattle.clif_meaning.specs.FunctionView.{Placed}
 use Rattle.clif_meaning.specs.View.{argument_of, edge_of, edges_of}
 use Rattle.clif_simulation.specs.Tables.{answered, program_so_far, block_name}
-use Rattle.clif_simulation.specs.Carries.{Carries, answered_argument, answered_edge, as_passed, own_placed, EdgeEarlier, EdgesEnd, NamesEarlier}
+use Rattle.clif_simulation.proofs.Whole.{Whole}
+use Rattle.clif_simulation.specs.Carries.{answered_argument, answered_edge, as_passed, own_placed, EdgeEarlier, EdgesEnd, NamesEarlier}
 use Rattle.clif_simulation.proofs.Listed.{all_at, place_within}
 use Rattle.clif_simulation.proofs.Placing.{at_second, in_two, map_at, map_from, stands_at, placed_item, OfItem, of_item}
 
@@ -105,7 +106,7 @@ last_item (Instruct p i r ∷ items) zero place instruction results k edge ends 
     by (inl none) = absurd (no_edge instruction.edges k edge (sym (ap (λ (x : Instruction Name Name). x.edges) same) ∙ none) there)
     by (inr none) = ap (λ (xs : List Item). suc (length xs)) (sym none)
 
-module _ (calls : List AnsweredCall) (f : Body) (s : SsaState) (consistent : IsConsistent f) (carries : Carries calls f s) where
+module _ (calls : List AnsweredCall) (f : Body) (s : SsaState) (consistent : IsConsistent f) (carries : Whole calls f s) where
   -- Where own instructions stand ------------------------------------------------------------------------------------------
 
   -- an own instruction stands in its block

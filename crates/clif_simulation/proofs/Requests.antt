@@ -81,14 +81,14 @@ module _ (calls : List AnsweredCall) (call : AnsweredCall) where
     entry_assigned x n is =
         ap (λ (p : Program). p.entry) (program_with (DefVar x n) is) ∙ ap (λ (o : Option Name). (with_item_at before o (Assign x n)).entry) current
 
-    pub puts_instruction : (instruction : Instruction Name Name) → call.request ≡ Build instruction → instruction.edges ≡ []
+    pub puts_instruction : (instruction : Instruction Name Name) → call.request ≡ Build instruction
         → PutsItem calls call B (Instruct (length calls) instruction (result_names (length calls) instruction))
-    puts_instruction instruction is no_edges = record {
+    puts_instruction instruction is = record {
       items = λ N.
           ap (λ (p : Program). p.items N) (program_with (Build instruction) is)
           ∙ ap (λ (o : Option Name). (with_item_at (with_inserted before) o (Instruct before.place instruction (result_names before.place instruction))).items N) current
           ∙ ap (λ (place : ℕ). (with_item_at before (Some B) (Instruct place instruction (result_names place instruction))).items N) (place_so_far calls);
-      no_block = subst MakesNoBlock (sym is) no_edges;
+      no_block = subst MakesNoBlock (sym is) tt;
     }
 
     pub entry_instructed : (instruction : Instruction Name Name) → call.request ≡ Build instruction → longer.entry ≡ first_block before.entry (Some B)
@@ -159,3 +159,8 @@ entry_begun calls calls' f g b B program layout named names has = by (program_so
           none = λ none. absurd (some_differs E (program_so_far calls').entry now none);
           some = λ entry some. (e.0, same ∙ first.1 e.0 e.1, names e.0 E e.2 ∙ ap (λ (N : Name). Some N) (one E entry (program_so_far calls').entry now some));
         }
+
+-- the entry is the first of two blocks
+pub entry_first : (calls calls' : List AnsweredCall) (B : Name) → (program_so_far calls').entry ≡ first_block (program_so_far calls).entry (Some B)
+    → (entry : Name) → (program_so_far calls).entry ≡ Some entry → (program_so_far calls').entry ≡ Some entry
+entry_first calls calls' B program entry is = program ∙ ap (λ (o : Option Name). first_block o (Some B)) is

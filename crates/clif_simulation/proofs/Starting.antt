@@ -28,7 +28,7 @@ use Rattle.clif_meaning.specs.Premises.{EachItem, EntryTakes, HasGoodTargets, We
 use Rattle.clif_meaning.specs.WellPlaced.{program_code, IsWellPlaced}
 use Rattle.clif_meaning.proofs.Stuttering.{Simulates, steps_from}
 use Rattle.clif_simulation.specs.Tables.{block_name, program_so_far}
-use Rattle.clif_simulation.specs.Carries.{Carries}
+use Rattle.clif_simulation.proofs.Whole.{Whole}
 use Rattle.clif_simulation.specs.Laws.{IsFinished}
 use Rattle.clif_simulation.proofs.Agreement.{zeros_agree}
 use Rattle.clif_simulation.proofs.Entry.{begins}
@@ -67,7 +67,7 @@ from_start : {State : Type 0} (machine : Machine State Observation) (j : â„•) â†
 from_start machine zero = refl
 from_start machine (suc j) = ap machine.next (from_start machine j)
 
-module _ (calls : List AnsweredCall) (f : Body) (ssa : SsaState) (consistent : IsConsistent f) (carries : Carries calls f ssa) (finished : IsFinished calls f ssa)
+module _ (calls : List AnsweredCall) (f : Body) (ssa : SsaState) (consistent : IsConsistent f) (carries : Whole calls f ssa) (finished : IsFinished calls f ssa)
     (width : PointerWidth) (world : World) (signature : SignatureShape) (placed : IsWellPlaced (program_code (program_so_far calls)))
     (targets : EachItem (HasGoodTargets (ledger_after (script_of calls)) (program_so_far calls)) (program_so_far calls))
     (typed : WellTyped (ledger_after (script_of calls)) (program_so_far calls) signature)

@@ -38,7 +38,8 @@ use Rattle.clif_meaning.specs.Premises.{EachItem, HasGoodTargets, WellTyped}
 use Rattle.clif_meaning.specs.WellPlaced.{item_names, program_code, IsWellPlaced}
 use Rattle.clif_meaning.proofs.Stuttering.{Matched, steps_from}
 use Rattle.clif_simulation.specs.Tables.{code, answered, program_so_far, block_name}
-use Rattle.clif_simulation.specs.Carries.{Carries, carried, own_placed}
+use Rattle.clif_simulation.proofs.Whole.{Whole}
+use Rattle.clif_simulation.specs.Carries.{carried, own_placed}
 use Rattle.clif_simulation.specs.Laws.{IsFinished}
 use Rattle.clif_simulation.proofs.Giving.{in_contained}
 use Rattle.clif_simulation.proofs.Agreement.{Agrees, GivesThere, EntersThere, ZerosAreZero, given_agrees, used_agrees, assigned_agrees, entered_agrees, given_zeros, used_zeros, assigned_zeros, entered_zeros, agrees_still, zeros_still}
@@ -61,7 +62,7 @@ pub nothing_assigned : {Place : Type 0} (same : Place → Place → Bool) (place
 nothing_assigned same [] old = refl
 nothing_assigned same (place ∷ places) old = refl
 
-module _ (calls : List AnsweredCall) (f : Body) (ssa : SsaState) (consistent : IsConsistent f) (carries : Carries calls f ssa) (finished : IsFinished calls f ssa)
+module _ (calls : List AnsweredCall) (f : Body) (ssa : SsaState) (consistent : IsConsistent f) (carries : Whole calls f ssa) (finished : IsFinished calls f ssa)
     (width : PointerWidth) (world : World) (signature : SignatureShape) (placed : IsWellPlaced (program_code (program_so_far calls)))
     (targets : EachItem (HasGoodTargets (ledger_after (script_of calls)) (program_so_far calls)) (program_so_far calls))
     (typed : WellTyped (ledger_after (script_of calls)) (program_so_far calls) signature)

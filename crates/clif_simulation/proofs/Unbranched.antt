@@ -12,6 +12,7 @@ use Rattle.clif_ssa.specs.Ssa.{SsaState, predecessors_of, SamePredecessors}
 use Rattle.clif_ssa.specs.Sound.{Describes, CountsArguments, edge_target}
 use Rattle.clif_ssa.specs.SoundLaws.{IsOpen}
 use Rattle.clif_ssa.specs.Structure.{NothingStray}
+use Rattle.clif_ssa.specs.Structured.{Structured, VariableTypes}
 use Rattle.clif_meaning.specs.Instruction.{Edge}
 use Rattle.clif_meaning.specs.Name.{Name}
 use Rattle.clif_meaning.specs.Request.{AnsweredCall}
@@ -20,7 +21,8 @@ use Rattle.clif_meaning.specs.FunctionView.{Placed}
 use Rattle.clif_meaning.specs.View.{placed_of, edge_of, edges_of}
 use Rattle.clif_meaning.proofs.StraightLine.{none_of}
 use Rattle.clif_simulation.specs.Tables.{program_so_far, block_name, IsProgramOf}
-use Rattle.clif_simulation.specs.Carries.{Carries, NothingLeads, HasEntry, IsEarlier, NamesEarlier, EdgeEarlier, EdgesEnd, OwnExist, OwnNamed, OwnInserted, ValuesGiven, carried, answered_edge, as_passed, own_placed}
+use Rattle.clif_simulation.specs.Carries.{AreTypes, NothingLeads, HasEntry, IsEarlier, NamesEarlier, EdgeEarlier, EdgesEnd, OwnExist, OwnNamed, OwnInserted, ValuesGiven, carried, answered_edge, as_passed, own_placed}
+use Rattle.clif_simulation.proofs.Whole.{Whole}
 use Rattle.clif_simulation.proofs.Giving.{In, contained_in, in_contained}
 use Rattle.clif_simulation.proofs.Listed.{none_mapped}
 
@@ -62,6 +64,7 @@ pub record CarriesUnbranched (calls : List AnsweredCall) (f : Body) (s : SsaStat
   pub describes : Describes own f s [] tables
   pub sound : BlocksSound tables
   pub counts : CountsArguments own f s tables
+  pub structured : (types : VariableTypes) → AreTypes calls types → Structured types own f s []
   pub nothing_stray : NothingStray own.insts f s
   pub nothing_leads : NothingLeads s
 
@@ -128,7 +131,7 @@ no_target f inst k target none leads = by (destinations (inst_at f inst).shape) 
 -- Both ways ---------------------------------------------------------------------------------------------------------------
 
 module _ (calls : List AnsweredCall) (f : Body) (s : SsaState) where
-  module _ (carries : Carries calls f s) (nothing : NothingLeads s) where
+  module _ (carries : Whole calls f s) (nothing : NothingLeads s) where
     own_without : (block inst : ℕ) → In inst (carries.own.insts block) → edges_of (inst_at f inst).shape ≡ []
     own_without block inst there = by (destinations (inst_at f inst).shape) refl
       where
@@ -164,6 +167,7 @@ module _ (calls : List AnsweredCall) (f : Body) (s : SsaState) where
       describes = carries.describes;
       sound = carries.sound;
       counts = carries.counts;
+      structured = carries.structured;
       nothing_stray = carries.nothing_stray nothing;
       nothing_leads = nothing;
     }
@@ -175,7 +179,7 @@ module _ (calls : List AnsweredCall) (f : Body) (s : SsaState) where
         without_at f (carries.own.insts block)
         (subst (AllByRecursion HasNoEdges) (sym (carries.items block name named)) (items_without calls ((program_so_far calls).items name) (carries.earlier name))) inst there
 
-    abbrev pub branched : Carries calls f s
+    abbrev pub branched : Whole calls f s
     branched = record {
       tables = carries.tables;
       own = carries.own;
@@ -189,6 +193,7 @@ module _ (calls : List AnsweredCall) (f : Body) (s : SsaState) where
       own_inserted = carries.own_inserted;
       declared = λ block inst k target there leads.
           absurd (no_target f inst k target (own_plain block (block_name calls block) refl inst (contained_in (carries.own.insts block) inst there)) leads);
+      leads_own = λ target inst leads. absurd (none_leads s carries.nothing_leads target inst leads);
       passes_first = λ target inst k leads to. absurd (none_leads s carries.nothing_leads target inst leads);
       parameters_first = λ block. ((block_at f block).params, ap (λ (own : List ℕ). own ++ (block_at f block).params) (sym (carries.no_parameters block)));
       no_parameters = carries.no_parameters;
@@ -197,5 +202,6 @@ module _ (calls : List AnsweredCall) (f : Body) (s : SsaState) where
       describes = carries.describes;
       sound = carries.sound;
       counts = carries.counts;
+      structured = carries.structured;
       nothing_stray = λ nothing. carries.nothing_stray;
     }

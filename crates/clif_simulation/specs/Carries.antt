@@ -1,21 +1,23 @@
 -- When a function, with the state of its construction, carries a list of calls: its blocks hold the program's
--- instructions in order, operands being the answers of the names, with only zeros before them; and the state on paths
--- is sound. Its edges may pass more than the program's: arguments for variables. Source: own.
-use Rattle.std.specs.Prelude.{◌≡◌, ◌≢◌, ◌<◌, ◌≤◌, ◌⊎◌, ℕ, suc, List, [], ◌∷◌, ◌++◌, length, map, flat_map, slice_get, Some, None, IsTrue, Contains, false}
+-- instructions in order, operands being the answers of the names, with only zeros before them, whatever the program is;
+-- and the state on paths is sound where no branch names the entry. Its edges may pass more than the program's: arguments
+-- for variables. Source: own.
+use Rattle.std.specs.Prelude.{◌≡◌, ◌≢◌, ◌<◌, ◌⊎◌, ℕ, suc, List, [], ◌∷◌, length, map, flat_map, Some, None, IsTrue, Contains, false}
 use Rattle.std.specs.List.{AllByRecursion}
+use Rattle.clif_types.specs.declared.types.«Type».{«Type»}
 use Rattle.clif_ir.specs.declared.block_call.BlockArg.{BlockArg}
-use Rattle.clif_ir.specs.Body.{Body, inst_at, value_at, block_at}
+use Rattle.clif_ir.specs.Body.{Body, inst_at}
 use Rattle.clif_ir.specs.Reading.{stands_in}
 use Rattle.clif_ssa.specs.Own.{Own}
-use Rattle.clif_ssa.specs.Ssa.{SsaState, predecessors_of}
-use Rattle.clif_ssa.specs.Sound.{Describes, CountsArguments, entry_of, args_of, edges_at, edge_target}
-use Rattle.clif_ssa.specs.Structure.{NothingStray}
+use Rattle.clif_ssa.specs.Ssa.{SsaState, predecessors_of, Declares, SameBlocks, SamePredecessors, SameRecords}
+use Rattle.clif_ssa.specs.Sound.{Describes, CountsArguments, entry_of, edge_target}
+use Rattle.clif_ssa.specs.Structured.{Structured, VariableTypes}
 use Rattle.clif_paths.specs.Places.{start}
 use Rattle.clif_paths.specs.Blocks.{Blocks}
 use Rattle.clif_paths.specs.BlockLaws.{BlocksSound}
 use Rattle.clif_meaning.specs.Name.{Name}
 use Rattle.clif_meaning.specs.Request.{AnsweredCall, script_of}
-use Rattle.clif_meaning.specs.Ledger.{ledger_after, has_value}
+use Rattle.clif_meaning.specs.Ledger.{ledger_after, has_value, is_filled, variable_type}
 use Rattle.clif_meaning.specs.Instruction.{Instruction, Argument, Known, CallResult, CallPayload, Edge}
 use Rattle.clif_meaning.specs.Program.{Item, Instruct, Use, Assign}
 use Rattle.clif_meaning.specs.FunctionView.{Placed}
@@ -118,16 +120,6 @@ abbrev pub AreDeclared : Body → SsaState → (ℕ → List ℕ) → Type 0
 AreDeclared f s own =
     (block inst k target : ℕ) → Contains (own block) inst → edge_target f inst k ≡ Some target → Contains (predecessors_of s target) inst
 
--- each edge of a branch that leads to a block passes what the caller passed, and then more
-abbrev pub PassesOwnFirst : Own → Body → SsaState → Type 0
-PassesOwnFirst own f s =
-    (target inst k : ℕ) → Contains (predecessors_of s target) inst → edge_target f inst k ≡ Some target
-    → (more : List BlockArg) × (args_of (slice_get (edges_at f inst) k) ≡ own.passed inst k ++ more)
-
--- a block's parameters are the caller's, and then others
-abbrev pub HasOwnFirst : Own → Body → Type 0
-HasOwnFirst own f = (block : ℕ) → (others : List ℕ) × ((block_at f block).params ≡ own.params block ++ others)
-
 -- what the ledger of the calls has as a value is given by an item
 abbrev pub ValuesGiven : List AnsweredCall → Blocks → Type 0
 ValuesGiven calls blocks = (name : Name) → IsTrue (has_value (ledger_after (script_of calls)) name) → (blocks.naming (code name)).home ≢ start
@@ -136,11 +128,26 @@ ValuesGiven calls blocks = (name : Name) → IsTrue (has_value (ledger_after (sc
 abbrev pub NothingLeads : SsaState → Type 0
 NothingLeads s = (block : ℕ) → predecessors_of s block ≡ []
 
-pub record Carries (calls : List AnsweredCall) (f : Body) (s : SsaState) : Type 0 where
-  pub tables : Blocks
-  -- what the caller made
-  pub own : Own
-  pub program : IsProgramOf calls tables
+-- Blocks have different names, which were answered before, and only blocks have items.
+pub record NamesBlocks (calls : List AnsweredCall) : Type 0 where
+  pub distinct : (b c : ℕ) (name : Name) → block_name calls b ≡ Some name → block_name calls c ≡ Some name → b ≡ c
+  pub earlier : (block : ℕ) (name : Name) → block_name calls block ≡ Some name → name.place < length calls
+  pub only : (name : Name) → ((program_so_far calls).items name ≡ []) ⊎ ((block : ℕ) × (block_name calls block ≡ Some name))
+
+-- Each branch that leads to a block is one of the caller's, in a block that has its terminator.
+abbrev pub LeadsOwn : List AnsweredCall → Own → SsaState → Type 0
+LeadsOwn calls own s =
+    (target inst : ℕ) → Contains (predecessors_of s target) inst
+    → (block : ℕ) × (name : Name) × Contains (own.insts block) inst × (block_name calls block ≡ Some name)
+    × IsTrue (is_filled (ledger_after (script_of calls)) name)
+
+-- the variables that the calls declare have these types
+abbrev pub AreTypes : List AnsweredCall → VariableTypes → Type 0
+AreTypes calls types = (x : ℕ) (ty : «Type») → variable_type (ledger_after (script_of calls)) x ≡ Some ty → types x ≡ ty
+
+-- What the function holds of the calls, in every program. `own` is what the caller made.
+pub record Holds (calls : List AnsweredCall) (own : Own) (f : Body) (s : SsaState) : Type 0 where
+  pub blocks : NamesBlocks calls
   pub items : HasItems calls f own
   pub earlier : (name : Name) → AllByRecursion (NamesEarlier calls) ((program_so_far calls).items name)
   pub edges_end : (name : Name) → EdgesEnd ((program_so_far calls).items name)
@@ -148,25 +155,46 @@ pub record Carries (calls : List AnsweredCall) (f : Body) (s : SsaState) : Type 
   pub own_named : OwnNamed calls own.insts
   pub own_inserted : OwnInserted f own.insts
   pub declared : AreDeclared f s own.insts
-  pub passes_first : PassesOwnFirst own f s
-  pub parameters_first : HasOwnFirst own f
+  pub leads_own : LeadsOwn calls own s
   -- so far no call makes a parameter of the caller's
   pub no_parameters : (block : ℕ) → own.params block ≡ []
-  pub values_given : ValuesGiven calls tables
   pub entry : HasEntry calls f
+  pub structured : (types : VariableTypes) → AreTypes calls types → Structured types own f s []
+
+-- The state on paths is sound.
+pub record SoundOnPaths (calls : List AnsweredCall) (own : Own) (f : Body) (s : SsaState) : Type 0 where
+  pub tables : Blocks
+  pub program : IsProgramOf calls tables
+  pub values_given : ValuesGiven calls tables
   pub describes : Describes own f s [] tables
   pub sound : BlocksSound tables
   pub counts : CountsArguments own f s tables
-  -- so far nothing is said of what a function with branches has that isn't needed
-  pub nothing_stray : NothingLeads s → NothingStray own.insts f s
 
--- A function that goes on: its signature and its instructions stay, and its values keep their types.
-pub record GoesOn (f g : Body) : Type 0 where
-  pub signature : g.signature ≡ f.signature
-  pub insts : (i : ℕ) → i < length f.insts → inst_at g i ≡ inst_at f i
-  pub types : (v : ℕ) → v < length f.values → (value_at g v).ty ≡ (value_at f v).ty
-  pub more_insts : length f.insts ≤ length g.insts
-  pub more_values : length f.values ≤ length g.values
+-- no edge of an item leads to this block
+abbrev pub SparesBlock : Name → Item → Type 0
+SparesBlock block (Instruct place instruction results) = AllByRecursion (λ (edge : Edge Name Name). edge.target ≢ block) instruction.edges
+SparesBlock block (Use variable name) = Unit {0}
+SparesBlock block (Assign variable name) = Unit {0}
+
+-- no branch of the calls names their entry
+abbrev pub SparesEntry : List AnsweredCall → Type 0
+SparesEntry calls =
+    (entry : Name) → (program_so_far calls).entry ≡ Some entry
+    → (block : Name) → AllByRecursion (SparesBlock entry) ((program_so_far calls).items block)
+
+-- The function carries the calls: it holds what they say, in every program; and the state on paths is sound where no
+-- branch names the entry.
+pub record Carries (calls : List AnsweredCall) (f : Body) (s : SsaState) : Type 0 where
+  -- what the caller made
+  pub own : Own
+  pub holds : Holds calls own f s
+  pub on_paths : SparesEntry calls → SoundOnPaths calls own f s
+
+-- one instruction is declared at each of these blocks in turn, once for each, and nothing else changes
+abbrev pub DeclaredAlong : SsaState → ℕ → List ℕ → SsaState → Type 0
+DeclaredAlong s inst [] t = SameRecords s t × SameBlocks s t × SamePredecessors s t
+DeclaredAlong s inst (block ∷ blocks) t =
+    (between : SsaState) × SameRecords s between × SameBlocks s between × Declares s between block inst × DeclaredAlong between inst blocks t
 
 -- the current block, by its number and its name
 pub record IsCurrent (calls : List AnsweredCall) (block : ℕ) (name : Name) : Type 0 where

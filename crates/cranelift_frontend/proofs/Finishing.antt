@@ -8,12 +8,15 @@ use Rattle.clif_types.specs.Signature.{SignatureShape}
 use Rattle.clif_types.specs.declared.target.PointerWidth.{PointerWidth}
 use Rattle.clif_ir.specs.Body.{Body}
 use Rattle.clif_ir.specs.Consistent.{IsConsistent}
-use Rattle.clif_ir.specs.Reading.{stands_in}
+use Rattle.clif_ir.specs.Reading.{param_home, stands_in}
 use Rattle.clif_ssa.specs.declared.tables.Pending.{Pending}
 use Rattle.clif_ssa.specs.declared.tables.Sealed.{Sealed}
 use Rattle.clif_ssa.specs.declared.tables.Sealed.TheVariants.{No, Yes}
 use Rattle.clif_ssa.specs.Tables.{is_yes, pending_of}
 use Rattle.clif_ssa.specs.Ssa.{sealed_of}
+use Rattle.clif_ssa.specs.Structured.{waiting_in}
+use Rattle.clif_ssa.proofs.Housing.{housed_from}
+use Rattle.clif_ssa.proofs.StructuredUses.{waiting_home}
 use Rattle.clif_meaning.specs.Name.{Name}
 use Rattle.clif_meaning.specs.Ledger.{BlockState, is_filled, state_has}
 use Rattle.clif_meaning.specs.Request.{AnsweredCall, script_of}
@@ -25,11 +28,14 @@ use Rattle.clif_meaning.specs.WellPlaced.{Records, RecordsWellPlaced, WellPlaced
 use Rattle.clif_simulation.specs.Tables as simulation
 use Rattle.clif_simulation.specs.Laws.{IsFinished}
 use Rattle.clif_simulation.specs.Structure.{AreRecords, HasCallersParameters}
+use Rattle.clif_simulation.proofs.Calls.{structured_so_far}
 use Rattle.clif_simulation.proofs.Values.{false_is}
-use Rattle.clif_simulation.proofs.Unbranched.{CarriesUnbranched, unbranched}
+use Rattle.clif_simulation.proofs.Whole.{waiting_pending}
+use Rattle.clif_simulation.proofs.Unbranched.{CarriesUnbranched}
+use Rattle.clif_simulation.proofs.Unfilled as unfilled
 use Rattle.clif_simulation.proofs.Structured.{callers_only, edges_match, well_placed}
 use Rattle.clif_simulation.proofs.Recorded.{records_well_placed}
-use Rattle.clif_simulation.proofs.Assembly.{means_the_same}
+use Rattle.clif_simulation.proofs.Assembly.{means}
 use Rattle.cranelift_frontend.specs.declared.error.FinalizeError.{FinalizeError}
 use Rattle.cranelift_frontend.specs.declared.error.FinalizeError.TheVariants.{Unsealed, Unfilled, Failed}
 use Rattle.cranelift_frontend.specs.declared.context.BlockStatus.{BlockStatus}
@@ -95,7 +101,7 @@ entry_stands (b ∷ layout) e is = rw (equal b e (same_Some b e is)) refl
     equal x y h = grind (arith, common_steps)
 
 module _ (declared : SignatureShape) (calls : List AnsweredCall) (f : Body) (c : ContextState) (p : Option ℕ) (stands : StandsIn declared calls f c p)
-    (none : first_fault c 0 (length f.blocks) ≡ None) where
+    (consistent : IsConsistent f) (none : first_fault c 0 (length f.blocks) ≡ None) where
   -- a block in which something was made is sealed
   begun_sealed : (b : ℕ) → status_of c b ≢ Empty → is_yes (sealed_of c.ssa b) ≡ true
   begun_sealed b made = by (order (length f.blocks) b)
@@ -119,8 +125,10 @@ module _ (declared : SignatureShape) (calls : List AnsweredCall) (f : Body) (c :
       by (q ∷ ps) is =
           let first : Contains (q ∷ ps) q = (0, omega arith, refl) in
           let here : Contains (pending_of (sealed_of c.ssa b)) q = subst (λ (qs : List Pending). Contains qs q) (sym is) first in
-          let waits = stands.carries.describes.waiting b q here in
-          none_in_sealed (sealed_of c.ssa b) (begun_sealed b (stands.ledger.parameters q.param b waits.parameter).begun)
+          let has = (structured_so_far calls f c.ssa stands.carries).parameters b in
+          let waits : Contains (waiting_in f c.ssa [] b) q = subst (λ (qs : List Pending). Contains qs q) (sym (waiting_pending f (sealed_of c.ssa b) b)) here in
+          let home : param_home f q.param ≡ Some b = waiting_home stands.carries.own f c.ssa [] b (housed_from f consistent) has q waits in
+          none_in_sealed (sealed_of c.ssa b) (begun_sealed b (stands.ledger.parameters q.param b home).begun)
 
   filled_not_empty : (status : BlockStatus) → IsTrue (is_filled_status status) → status ≢ Empty
   filled_not_empty Empty filled = absurd (false_is filled)
@@ -146,17 +154,17 @@ module _ (declared : SignatureShape) (calls : List AnsweredCall) (f : Body) (c :
   }
 
 -- so far a builder's function has no branch
-plainly : (declared : SignatureShape) (calls : List AnsweredCall) (b : FunctionBuilder) → StandsFor declared calls b → CarriesUnbranched calls b.func.now b.ctx.now.ssa
-plainly declared calls b stands = unbranched calls b.func.now b.ctx.now.ssa stands.carries stands.nothing_leads
+plainly : (declared : SignatureShape) (calls : List AnsweredCall) (b : FunctionBuilder) → StandsFor declared calls b → IsConsistent b.func.now → CarriesUnbranched calls b.func.now b.ctx.now.ssa
+plainly declared calls b stands consistent = unfilled.plainly calls b.func.now b.ctx.now.ssa consistent stands.carries stands.nothing_leads
 
 -- what holds of a finished function holds where `finalize` succeeds
-pub on_finished : (declared : SignatureShape) (calls : List AnsweredCall) (b : FunctionBuilder) → StandsFor declared calls b
+pub on_finished : (declared : SignatureShape) (calls : List AnsweredCall) (b : FunctionBuilder) → StandsFor declared calls b → IsConsistent b.func.now
     → (P : Type 0) → (IsFinished calls b.func.now b.ctx.now.ssa → P) → OnOk (verdict_of b.failed b.ctx.now (length b.func.now.blocks)) P
-on_finished declared calls b stands P holds = by b.failed
+on_finished declared calls b stands consistent P holds = by b.failed
   where
     of_fault : (o : Option FinalizeError) → first_fault b.ctx.now 0 (length b.func.now.blocks) ≡ o → OnOk (answer_of o) P
     of_fault (Some fault) is = tt
-    of_fault None is = holds (is_finished declared calls b.func.now b.ctx.now b.position stands is)
+    of_fault None is = holds (is_finished declared calls b.func.now b.ctx.now b.position stands consistent is)
 
     by : (failed : Bool) → OnOk (if failed then Err Failed else answer_of (first_fault b.ctx.now 0 (length b.func.now.blocks))) P
     by true = tt
@@ -166,28 +174,28 @@ on_finished declared calls b stands P holds = by b.failed
 pub finished_means : (declared : SignatureShape) (calls : List AnsweredCall) (b : FunctionBuilder) (width : PointerWidth) → StandsFor declared calls b → IsConsistent b.func.now
     → OnOk (verdict_of b.failed b.ctx.now (length b.func.now.blocks)) (MeansTheSame (script_of calls) declared width (view_of b.func.now))
 finished_means declared calls b width stands consistent =
-    on_finished declared calls b stands (MeansTheSame (script_of calls) declared width (view_of b.func.now)) (λ finished.
+    on_finished declared calls b stands consistent (MeansTheSame (script_of calls) declared width (view_of b.func.now)) (λ finished.
     subst (λ (s : SignatureShape). MeansTheSame (script_of calls) s width (view_of b.func.now)) stands.signature
-    (λ world. means_the_same calls b.func.now b.ctx.now.ssa width consistent stands.carries finished world))
+    (means calls b.func.now b.ctx.now.ssa width consistent stands.carries finished))
 
 pub finished_parameters : (declared : SignatureShape) (calls : List AnsweredCall) (b : FunctionBuilder) → StandsFor declared calls b → IsConsistent b.func.now
     → OnOk (verdict_of b.failed b.ctx.now (length b.func.now.blocks)) (HasCallersParameters calls b.func.now)
 finished_parameters declared calls b stands consistent =
-    on_finished declared calls b stands (HasCallersParameters calls b.func.now) (λ finished. callers_only calls b.func.now b.ctx.now.ssa consistent (plainly declared calls b stands) finished)
+    on_finished declared calls b stands consistent (HasCallersParameters calls b.func.now) (λ finished. callers_only calls b.func.now b.ctx.now.ssa consistent (plainly declared calls b stands consistent) finished)
 
-pub finished_edges : (declared : SignatureShape) (calls : List AnsweredCall) (b : FunctionBuilder) → StandsFor declared calls b
+pub finished_edges : (declared : SignatureShape) (calls : List AnsweredCall) (b : FunctionBuilder) → StandsFor declared calls b → IsConsistent b.func.now
     → OnOk (verdict_of b.failed b.ctx.now (length b.func.now.blocks)) (EdgesMatch (view_of b.func.now))
-finished_edges declared calls b stands = on_finished declared calls b stands (EdgesMatch (view_of b.func.now)) (λ finished. edges_match calls b.func.now b.ctx.now.ssa (plainly declared calls b stands))
+finished_edges declared calls b stands consistent = on_finished declared calls b stands consistent (EdgesMatch (view_of b.func.now)) (λ finished. edges_match calls b.func.now b.ctx.now.ssa (plainly declared calls b stands consistent))
 
 pub finished_placed : (declared : SignatureShape) (calls : List AnsweredCall) (b : FunctionBuilder) → StandsFor declared calls b → IsConsistent b.func.now
     → PlacementPremises (script_of calls) declared → OnOk (verdict_of b.failed b.ctx.now (length b.func.now.blocks)) (WellPlaced (view_of b.func.now))
 finished_placed declared calls b stands consistent premises =
-    on_finished declared calls b stands (WellPlaced (view_of b.func.now)) (λ finished.
-    well_placed calls b.func.now b.ctx.now.ssa consistent (plainly declared calls b stands) finished premises.given_before)
+    on_finished declared calls b stands consistent (WellPlaced (view_of b.func.now)) (λ finished.
+    well_placed calls b.func.now b.ctx.now.ssa consistent (plainly declared calls b stands consistent) finished premises.given_before)
 
 pub finished_records : (declared : SignatureShape) (calls : List AnsweredCall) (records : Records) (b : FunctionBuilder) → StandsFor declared calls b → IsConsistent b.func.now
     → AreRecords calls b.func.now b.ctx.now.ssa records → PlacementPremises (script_of calls) declared
     → OnOk (verdict_of b.failed b.ctx.now (length b.func.now.blocks)) (RecordsWellPlaced (view_of b.func.now) records)
 finished_records declared calls records b stands consistent are premises =
-    on_finished declared calls b stands (RecordsWellPlaced (view_of b.func.now) records) (λ finished.
-    records_well_placed calls b.func.now b.ctx.now.ssa consistent (plainly declared calls b stands) finished premises.given_before records are)
+    on_finished declared calls b stands consistent (RecordsWellPlaced (view_of b.func.now) records) (λ finished.
+    records_well_placed calls b.func.now b.ctx.now.ssa consistent (plainly declared calls b stands consistent) finished premises.given_before records are)

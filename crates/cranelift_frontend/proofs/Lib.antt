@@ -10,6 +10,7 @@ pub mod LedgerBlocks
 pub mod LedgerVariables
 pub mod LedgerEnds
 pub mod Growing
+pub mod StandingLocal
 pub mod Standing
 pub mod StandingResults
 pub mod Finishing

@@ -29,7 +29,7 @@ use Rattle.cranelift_frontend.specs.StandsFor.{StandsIn, StandsFor}
 use Rattle.cranelift_frontend.proofs.LedgerKept.{concluded, inserted-values}
 use Rattle.cranelift_frontend.proofs.LedgerBuilt.{agrees-computed, agrees-returned}
 use Rattle.cranelift_frontend.proofs.Growing.{appended_no_results, current_results}
-use Rattle.cranelift_frontend.proofs.Standing.{current_name, begun_not_empty}
+use Rattle.cranelift_frontend.proofs.Standing.{current_name, current_unfilled, begun_not_empty}
 use Rattle.cranelift_frontend.proofs.StandingBuilt.{all_named, stands_built}
 
 no_branch_is_none : true ≡ false → ⊥
@@ -113,7 +113,7 @@ module _ (calls : List AnsweredCall) (old new : FunctionBuilder) (instruction : 
         let name = current_name declared calls f old.ctx.now old.position stands block current.1 in
         let one_result : program.result_types instruction.operation instruction.controlling ≡ ty ∷ [] =
         ap (λ (o : Operation). program.result_types o instruction.controlling) (has.operation ∙ computes) ∙ types_of arithmetic instruction.controlling ∙ ap (λ (t : «Type»). t ∷ []) (has.controlling ∙ typed) in
-        let carries = carries_result calls f old.ctx.now.ssa stands.carries stands.nothing_leads consistent block name.0 name.1 current.2 shape instruction no_srcloc (inst ∷ (inst_at g inst).results) matches
+        let carries = carries_result calls f old.ctx.now.ssa stands.carries consistent block name.0 name.1 (current_unfilled declared calls f old.ctx.now old.position stands block name.0 name.1 current.3) current.2 shape instruction no_srcloc (inst ∷ (inst_at g inst).results) matches
         ty one_result (has.controlling ∙ typed) by_result
         (ap (λ (rs : List ℕ). slice_get (inst ∷ rs) 1) results ∙ ap (λ (v : ℕ). Some v) (sym (inserted-values f block))) in
         subst (λ (o : Option ℕ). StandsIn declared (calls ++ call ∷ []) g new.ctx.now o) (sym position)
@@ -154,7 +154,7 @@ module _ (calls : List AnsweredCall) (old new : FunctionBuilder) (instruction : 
         let name = current_name declared calls f old.ctx.now old.position stands block current.1 in
         let no_types : program.result_types instruction.operation instruction.controlling ≡ [] =
         ap (λ (o : Operation). program.result_types o instruction.controlling) (has.operation ∙ returns) in
-        let carries = carries_terminator calls f old.ctx.now.ssa stands.carries stands.nothing_leads consistent block name.0 name.1 current.2 shape instruction no_srcloc (inst ∷ (inst_at g inst).results) matches
+        let carries = carries_terminator calls f old.ctx.now.ssa stands.carries consistent block name.0 name.1 (current_unfilled declared calls f old.ctx.now old.position stands block name.0 name.1 current.3) current.2 shape instruction no_srcloc (inst ∷ (inst_at g inst).results) matches
         no_types (λ h. by_shape h ∙ sym (has.controlling ∙ typed)) in
         subst (λ (o : Option ℕ). StandsIn declared (calls ++ call ∷ []) g new.ctx.now o) (sym position)
         (stands_built declared calls f g old.ctx.now new.ctx.now old.position stands consistent block current.1 current.2 ssa Filled fills filled

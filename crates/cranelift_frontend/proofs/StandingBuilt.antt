@@ -23,7 +23,7 @@ use Rattle.clif_meaning.specs.Acceptance as acceptance
 use Rattle.clif_simulation.specs.Tables.{answered, number_or_none}
 use Rattle.clif_simulation.specs.Carries.{Carries, NothingLeads, IsEarlier}
 use Rattle.clif_simulation.proofs.Building.{SameInstruction, carries_terminator, carries_result}
-use Rattle.clif_simulation.proofs.Growing.{goes_on-then, goes_on-inserted, goes_on-with_inst}
+use Rattle.clif_ssa.proofs.Constructed.{inserted_constructs}
 use Rattle.cranelift_frontend.specs.declared.context.BlockStatus.{BlockStatus}
 use Rattle.cranelift_frontend.specs.declared.context.BlockStatus.TheVariants.{Empty, Filled}
 use Rattle.cranelift_frontend.specs.declared.frontend.FunctionBuilder.{FunctionBuilder}
@@ -34,7 +34,7 @@ use Rattle.cranelift_frontend.specs.StandsFor.{StandsIn, StandsFor}
 use Rattle.cranelift_frontend.proofs.LedgerKept.{inserted-values, named-value}
 use Rattle.cranelift_frontend.proofs.LedgerLists.{map-some}
 use Rattle.cranelift_frontend.proofs.LedgerBuilt.{built-iconst, built-iadd, built-return}
-use Rattle.cranelift_frontend.proofs.Standing.{current_name, not_empty, begun_not_empty, inserted_cases}
+use Rattle.cranelift_frontend.proofs.Standing.{current_name, current_unfilled, not_empty, begun_not_empty, inserted_cases}
 
 -- a name that has a number was answered before
 pub named_earlier : (calls : List AnsweredCall) (name : Name) (number : ℕ) → number_of calls name ≡ Some number → IsEarlier calls name
@@ -80,7 +80,7 @@ module _ (declared : SignatureShape) (calls : List AnsweredCall) (f g : Body) (c
   pub stands_built : (call : AnsweredCall) → LedgerAgrees (calls ++ call ∷ []) (ledger_of (calls ++ call ∷ [])) g d p
       → Carries (calls ++ call ∷ []) (with_inst (inserted_in f block) block Back shape types no_srcloc) c.ssa → StandsIn declared (calls ++ call ∷ []) g d p
   stands_built call ledger carries = record {
-    signature = ap (λ (h : Body). h.signature) function ∙ (goes_on-then f (inserted_in f block) _ (goes_on-inserted f block) (goes_on-with_inst (inserted_in f block) block Back shape types no_srcloc)).signature ∙ stands.signature;
+    signature = ap (λ (h : Body). h.signature) function ∙ ap (λ (h : Body). h.signature) (inserted_constructs f block).same ∙ stands.signature;
     ledger = ledger;
     carries = subst (λ (h : Body). Carries (calls ++ call ∷ []) h d.ssa) (sym function) (subst (Carries (calls ++ call ∷ []) (with_inst (inserted_in f block) block Back shape types no_srcloc)) (sym ssa) carries);
     nothing_leads = subst NothingLeads (sym ssa) stands.nothing_leads;
@@ -98,7 +98,7 @@ stands_iconst declared calls old new ty imm value stands consistent current appe
     let name = current_name declared calls old.func.now old.ctx.now old.position stands block current.1 in
     let ledger = built-iconst calls old new ty imm value stands.ledger current appends ssa variables position in
     let matches : SameInstruction calls (UnaryImm imm) _ = record { operation = refl; arguments = refl; no_edges = refl; edges = refl; earlier = tt } in
-    let carries = carries_result calls old.func.now old.ctx.now.ssa stands.carries stands.nothing_leads consistent block name.0 name.1 current.2 (UnaryImm imm) _ no_srcloc (length old.func.now.insts ∷ value ∷ []) matches
+    let carries = carries_result calls old.func.now old.ctx.now.ssa stands.carries consistent block name.0 name.1 (current_unfilled declared calls old.func.now old.ctx.now old.position stands block name.0 name.1 current.3) current.2 (UnaryImm imm) _ no_srcloc (length old.func.now.insts ∷ value ∷ []) matches
     ty refl refl (λ g values. refl) (ap (λ (v : ℕ). Some v) (here.1 ∙ sym (inserted-values old.func.now block))) in
     subst (λ (o : Option ℕ). StandsIn declared (calls ++ call ∷ []) new.func.now new.ctx.now o) (sym position)
     (stands_built declared calls old.func.now new.func.now old.ctx.now new.ctx.now old.position stands consistent block current.1 current.2 ssa (begun (status_of old.ctx.now block)) here.0.status
@@ -129,7 +129,7 @@ stands_iadd declared calls old new a b x y value stands consistent first second 
       edges = refl;
       earlier = (named_earlier calls a x first.number, (named_earlier calls b y second.number, tt));
     } in
-    let carries = carries_result calls old.func.now old.ctx.now.ssa stands.carries stands.nothing_leads consistent block name.0 name.1 current.2 shape _ no_srcloc (length old.func.now.insts ∷ value ∷ []) matches
+    let carries = carries_result calls old.func.now old.ctx.now.ssa stands.carries consistent block name.0 name.1 (current_unfilled declared calls old.func.now old.ctx.now old.position stands block name.0 name.1 current.3) current.2 shape _ no_srcloc (length old.func.now.insts ∷ value ∷ []) matches
     ty (ap (λ (t : «Type»). t ∷ []) controls) controls (λ g values. refl) (ap (λ (v : ℕ). Some v) (here.1 ∙ sym (inserted-values old.func.now block))) in
     subst (λ (o : Option ℕ). StandsIn declared (calls ++ call ∷ []) new.func.now new.ctx.now o) (sym position)
     (stands_built declared calls old.func.now new.func.now old.ctx.now new.ctx.now old.position stands consistent block current.1 current.2 ssa (begun (status_of old.ctx.now block)) here.0.status
@@ -149,7 +149,7 @@ stands_return declared calls old new names values inst stands consistent named c
     let ledger = built-return calls old new names values inst stands.ledger current appends ssa variables position in
     let all = all_named calls names values named in
     let matches : SameInstruction calls (MultiAry values) _ = record { operation = refl; arguments = all.0; no_edges = refl; edges = refl; earlier = all.1 } in
-    let carries = carries_terminator calls old.func.now old.ctx.now.ssa stands.carries stands.nothing_leads consistent block name.0 name.1 current.2 (MultiAry values) _ no_srcloc (inst ∷ []) matches refl (λ g. refl) in
+    let carries = carries_terminator calls old.func.now old.ctx.now.ssa stands.carries consistent block name.0 name.1 (current_unfilled declared calls old.func.now old.ctx.now old.position stands block name.0 name.1 current.3) current.2 (MultiAry values) _ no_srcloc (inst ∷ []) matches refl (λ g. refl) in
     subst (λ (o : Option ℕ). StandsIn declared (calls ++ call ∷ []) new.func.now new.ctx.now o) (sym position)
     (stands_built declared calls old.func.now new.func.now old.ctx.now new.ctx.now old.position stands consistent block current.1 current.2 ssa Filled here.status filled
     (MultiAry values) [] here.function call

@@ -1,15 +1,16 @@
 -- The same for calls that answer a result: where it is no error.
-use Rattle.std.proofs.Common.{◌≡◌, ◌<◌, ℕ, List, [], ◌∷◌, ◌++◌, length, ap}
-use Rattle.std.specs.Prelude.{Option, Some, IfOk, OnOk, Result, Ok, Err}
+use Rattle.std.proofs.Common.{◌≡◌, ◌≢◌, ◌<◌, ℕ, List, [], ◌∷◌, ◌++◌, length, ap}
+use Rattle.std.specs.Prelude.{slice_get, Option, Some, IfOk, OnOk, Result, Ok, Err}
 use Rattle.clif_types.specs.Signature.{SignatureShape}
 use Rattle.clif_types.specs.declared.types.«Type».{«Type»}
-use Rattle.clif_ir.specs.Body.{Body}
+use Rattle.clif_ir.specs.Body.{Body, value_at}
 use Rattle.clif_ir.specs.Consistent.{IsConsistent}
 use Rattle.clif_ir.specs.Changes.{with_block}
 use Rattle.clif_ssa.specs.Tables.{pending_of}
 use Rattle.clif_ssa.specs.Ssa.{sealed_of, completed, completing_blocks, Records, SameBlocks, SamePredecessors, SameRecords, Seals}
 use Rattle.clif_meaning.specs.Name.{Name}
 use Rattle.clif_meaning.specs.Request.{AnsweredCall, CreateBlock, SealBlock, DeclareVar, DefVar, UseVar}
+use Rattle.cranelift_frontend.specs.declared.context.BlockStatus.TheVariants.{Filled}
 use Rattle.cranelift_frontend.specs.Context.{ContextState, status_of, begun, Begins, SetsStatus}
 use Rattle.cranelift_frontend.specs.Builder.{UsesIn}
 use Rattle.cranelift_frontend.specs.Ledger.{LedgerAgrees, NamesValue, ledger_of}
@@ -43,17 +44,18 @@ module _ {E : Type 0} (declared : SignatureShape) (calls : List AnsweredCall) wh
       stands_sealed declared calls f c p stands g d name block consistent function records seals leads begins ledger
 
   pub assigned_stands : (f : Body) (c d : ContextState) (p : Option ℕ) (variable value block : ℕ) (name : Name) (r : Result (Unit {0}) E) → StandsIn declared calls f c p
-      → p ≡ Some block → NamesValue calls name value → OnOk r (Records c.ssa d.ssa variable block value) → d.ssa.blocks ≡ c.ssa.blocks → d.status ≡ c.status
+      → p ≡ Some block → IsConsistent f → status_of c block ≢ Filled → value < length f.values → slice_get c.variables variable ≡ Some (value_at f value).ty
+      → NamesValue calls name value → OnOk r (Records c.ssa d.ssa variable block value) → d.ssa.blocks ≡ c.ssa.blocks → d.status ≡ c.status
       → OnOk r (LedgerAgrees (calls ++ record { request = DefVar variable name; numbers = [] } ∷ []) (ledger_of (calls ++ record { request = DefVar variable name; numbers = [] } ∷ [])) f d p)
       → OnOk r (StandsIn declared (calls ++ record { request = DefVar variable name; numbers = [] } ∷ []) f d p)
-  assigned_stands f c d p variable value block name (Err e) stands at names records blocks status ledger = tt
-  assigned_stands f c d p variable value block name (Ok u) stands at names records blocks status ledger =
-      stands_assigned declared calls f c p stands d variable value block name at names records blocks status ledger
+  assigned_stands f c d p variable value block name (Err e) stands at consistent open_block exists typed names records blocks status ledger = tt
+  assigned_stands f c d p variable value block name (Ok u) stands at consistent open_block exists typed names records blocks status ledger =
+      stands_assigned declared calls f c p stands d variable value block name at consistent open_block exists typed names records blocks status ledger
 
   pub used_stands : (f g : Body) (c d : ContextState) (p : Option ℕ) (variable : ℕ) (ty : «Type») (block : ℕ) (r : Result ℕ E) → StandsIn declared calls f c p → IsConsistent f
-      → p ≡ Some block → block < length f.blocks → IfOk r (λ value. UsesIn f c g d variable ty block value) → SamePredecessors c.ssa d.ssa → OnOk r (SetsStatus c d block (begun (status_of c block)))
+      → p ≡ Some block → block < length f.blocks → status_of c block ≢ Filled → slice_get c.variables variable ≡ Some ty → IfOk r (λ value. UsesIn f c g d variable ty block value) → SamePredecessors c.ssa d.ssa → OnOk r (SetsStatus c d block (begun (status_of c block)))
       → IfOk r (λ value. LedgerAgrees (calls ++ record { request = UseVar variable; numbers = value ∷ [] } ∷ []) (ledger_of (calls ++ record { request = UseVar variable; numbers = value ∷ [] } ∷ [])) g d p)
       → IfOk r (λ value. StandsIn declared (calls ++ record { request = UseVar variable; numbers = value ∷ [] } ∷ []) g d p)
-  used_stands f g c d p variable ty block (Err e) stands consistent at there uses leads sets ledger = tt
-  used_stands f g c d p variable ty block (Ok value) stands consistent at there uses leads sets ledger =
-      stands_used declared calls f c p stands g d variable ty block value consistent there uses leads at sets ledger
+  used_stands f g c d p variable ty block (Err e) stands consistent at there open_block of_type uses leads sets ledger = tt
+  used_stands f g c d p variable ty block (Ok value) stands consistent at there open_block of_type uses leads sets ledger =
+      stands_used declared calls f c p stands g d variable ty block value consistent there uses leads at open_block of_type sets ledger

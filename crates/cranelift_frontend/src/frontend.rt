@@ -242,6 +242,7 @@ impl<'a> FunctionBuilder<'a> {
         let Some(block) = self.position else {
             unreachable!();
         };
+        self.func.law_consistent();
         let recorded = self.ctx.def_var(variable, value, block);
         self.failed = recorded.is_err();
         recorded

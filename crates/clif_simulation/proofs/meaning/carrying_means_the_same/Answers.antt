@@ -2,4 +2,4 @@ use Rattle.clif_simulation.proofs.Assembly
 use Rattle.clif_simulation.proofs.meaning.carrying_means_the_same.Goals as goal
 
 pub returns : goal.returns
-returns c = λ calls f s width consistent carries finished world. Assembly.means_the_same calls f s width consistent carries finished world
+returns c = Assembly.means

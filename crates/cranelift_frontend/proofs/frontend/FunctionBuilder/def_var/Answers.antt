@@ -1,6 +1,7 @@
 use Rattle.std.proofs.Common.{refl, ap, sym, ◌∙◌, Some}
 use Rattle.cranelift_frontend.proofs.Remembered.{remembers_assigned}
 use Rattle.cranelift_frontend.proofs.LedgerVariables.{assigned}
+use Rattle.cranelift_frontend.proofs.Standing.{current_open}
 use Rattle.cranelift_frontend.proofs.StandingResults.{assigned_stands}
 use Rattle.cranelift_frontend.proofs.frontend.FunctionBuilder.def_var.Goals as goal
 
@@ -12,7 +13,8 @@ returns-clause-ledger c = λ calls name agrees names.
 pub returns-clause-stands : goal.returns-clause-stands
 returns-clause-stands c = λ signature calls name stands names.
     let done = c.def_var-recorded.ensures in
-    assigned_stands signature calls _ _ _ _ c.args.variable c.args.value c.in-Some.block name _ stands c.in-Some.is names done.ok done.blocks done.status
+    assigned_stands signature calls _ _ _ _ c.args.variable c.args.value c.in-Some.block name _ stands c.in-Some.is c.law_consistent.ensures
+    (current_open c.args.self.now c.requires.current c.in-Some.block c.in-Some.is) c.requires.value_exists c.requires.same_type names done.ok done.blocks done.status
     (returns-clause-ledger c calls name stands.ledger names)
 
 pub returns-clause-remembers : goal.returns-clause-remembers

@@ -32,7 +32,7 @@ returns-clause-parameters c = λ signature calls stands.
 pub returns-clause-edges_match : goal.returns-clause-edges_match
 returns-clause-edges_match c = λ signature calls stands typed.
     subst (λ (r : Result (Unit {0}) FinalizeError). OnOk r (EdgesMatch (view_of c.args.self.func.now))) (sym c.verdict-answer.ensures)
-    (finished_edges signature calls c.args.self stands)
+    (finished_edges signature calls c.args.self stands c.law_consistent.ensures)
 
 pub returns-clause-well_placed : goal.returns-clause-well_placed
 returns-clause-well_placed c = λ signature calls stands premises.

@@ -1,0 +1,177 @@
+-- All that a function holds which carries a list of calls, where no branch names their entry.
+use Rattle.std.proofs.Common.{◌≡◌, ◌≢◌, ℕ, zero, suc, ◌<◌, ◌≤◌, List, [], ◌∷◌, ◌++◌, length, map, refl, sym, ◌∙◌, ap, subst, arith, Some}
+use Rattle.std.specs.Prelude.{Contains, slice_get, slice_index_or}
+use Rattle.std.specs.List.{AllByRecursion}
+use Rattle.clif_ir.specs.Body.{Body, block_at}
+use Rattle.clif_ir.specs.Consistent.{IsConsistent, IsOrigin}
+use Rattle.clif_ir.specs.Reading.{param_home}
+use Rattle.clif_ir.specs.declared.block_call.BlockArg.{BlockArg}
+use Rattle.clif_ir.specs.declared.block_call.BlockArg.TheVariants.{Value}
+use Rattle.clif_paths.specs.Blocks.{Blocks}
+use Rattle.clif_paths.specs.BlockLaws.{BlocksSound}
+use Rattle.clif_ssa.specs.declared.tables.Pending.{Pending}
+use Rattle.clif_ssa.specs.declared.tables.Sealed.{Sealed}
+use Rattle.clif_ssa.specs.declared.tables.Sealed.TheVariants.{No, Yes}
+use Rattle.clif_ssa.specs.Own.{Own}
+use Rattle.clif_ssa.specs.Tables.{pending_of}
+use Rattle.clif_ssa.specs.Ssa.{SsaState, sealed_of, predecessors_of}
+use Rattle.clif_ssa.specs.Sound.{Describes, CountsArguments, args_of, edges_at, edge_target}
+use Rattle.clif_ssa.specs.Structure.{NothingStray}
+use Rattle.clif_ssa.specs.Structured.{HasParameters, Structured, VariableTypes, waiting_of}
+use Rattle.clif_ssa.proofs.Bodies.{param_exists, param_origin}
+use Rattle.clif_ssa.proofs.Ordering.{entry_any}
+use Rattle.clif_meaning.specs.Name.{Name}
+use Rattle.clif_meaning.specs.Request.{AnsweredCall, script_of}
+use Rattle.clif_meaning.specs.Ledger.{ledger_after, or_invalid, variable_type}
+use Rattle.clif_meaning.specs.Instruction.{Edge}
+use Rattle.clif_meaning.specs.Premises.{EachItem, HasGoodTargets, IsGoodTarget}
+use Rattle.clif_meaning.specs.Program.{Item, Instruct, Use, Assign}
+use Rattle.clif_simulation.specs.Tables.{program_so_far, IsProgramOf}
+use Rattle.clif_simulation.specs.Carries.{AreDeclared, AreTypes, Carries, EdgesEnd, HasEntry, HasItems, Holds, LeadsOwn, NamesEarlier, NothingLeads, OwnExist, OwnInserted, OwnNamed, SoundOnPaths, SparesBlock, SparesEntry, ValuesGiven}
+
+-- each edge of a branch that leads to a block passes what the caller passed, and then more
+abbrev pub PassesOwnFirst : Own → Body → SsaState → Type 0
+PassesOwnFirst own f s =
+    (target inst k : ℕ) → Contains (predecessors_of s target) inst → edge_target f inst k ≡ Some target
+    → (more : List BlockArg) × (args_of (slice_get (edges_at f inst) k) ≡ own.passed inst k ++ more)
+
+-- a block's parameters are the caller's, and then others
+abbrev pub HasOwnFirst : Own → Body → Type 0
+HasOwnFirst own f = (block : ℕ) → (others : List ℕ) × ((block_at f block).params ≡ own.params block ++ others)
+
+-- All in one record.
+pub record Whole (calls : List AnsweredCall) (f : Body) (s : SsaState) : Type 0 where
+  pub tables : Blocks
+  pub own : Own
+  pub program : IsProgramOf calls tables
+  pub items : HasItems calls f own
+  pub earlier : (name : Name) → AllByRecursion (NamesEarlier calls) ((program_so_far calls).items name)
+  pub edges_end : (name : Name) → EdgesEnd ((program_so_far calls).items name)
+  pub own_exist : OwnExist f own.insts
+  pub own_named : OwnNamed calls own.insts
+  pub own_inserted : OwnInserted f own.insts
+  pub declared : AreDeclared f s own.insts
+  pub leads_own : LeadsOwn calls own s
+  pub passes_first : PassesOwnFirst own f s
+  pub parameters_first : HasOwnFirst own f
+  pub no_parameters : (block : ℕ) → own.params block ≡ []
+  pub values_given : ValuesGiven calls tables
+  pub entry : HasEntry calls f
+  pub describes : Describes own f s [] tables
+  pub sound : BlocksSound tables
+  pub counts : CountsArguments own f s tables
+  pub structured : (types : VariableTypes) → AreTypes calls types → Structured types own f s []
+  pub nothing_stray : NothingLeads s → NothingStray own.insts f s
+
+-- types that the calls declare
+abbrev pub declared_types : List AnsweredCall → VariableTypes
+declared_types calls x = or_invalid (variable_type (ledger_after (script_of calls)) x)
+
+pub are_declared : (calls : List AnsweredCall) → AreTypes calls (declared_types calls)
+are_declared calls x ty is = ap or_invalid is
+
+-- Where no branch leads anywhere, nothing stays behind that isn't needed ------------------------------------------------------
+
+two_in_none : (xs : List ℕ) → xs ≡ [] → 2 ≤ length xs → ⊥
+two_in_none xs none two = absurd (omega (arith, ap (λ (ys : List ℕ). length ys) none, two))
+
+none_complete : (xs : List ℕ) → (xs ≢ [] → ⊥) → xs ≡ []
+none_complete [] some = refl
+none_complete (x ∷ xs) some = absurd (some (λ none. cc))
+
+-- what stands among the parameters of those that wait
+waiting_at : (ps : List Pending) (v : ℕ) → Contains (map (λ (p : Pending). p.param) ps) v → (x : ℕ) × Contains ps (record { variable = x; param = v })
+waiting_at ps v here = by ps here.0 here.1 here.2
+  where
+    by : (ps : List Pending) (k : ℕ) → k < length (map (λ (p : Pending). p.param) ps) → slice_index_or (map (λ (p : Pending). p.param) ps) k v ≡ v
+        → (x : ℕ) × Contains ps (record { variable = x; param = v })
+    by [] k below is = absurd (omega (arith, below))
+    by (p ∷ ps) zero below is = (p.variable, (zero, omega arith, ap (λ (n : ℕ). record { variable = p.variable; param = n }) is))
+    by (p ∷ ps) (suc k) below is =
+        let found = by ps k (omega (arith, below)) is in
+        (found.0, (suc found.1.0, (let b = found.1.1 in omega (arith, b)), found.1.2))
+
+-- a parameter of a block stands among those of the block
+home_contains : (f : Body) (v b : ℕ) → IsConsistent f → param_home f v ≡ Some b → Contains (block_at f b).params v
+home_contains f v b consistent home =
+    let stands = (subst (IsOrigin f v) (param_origin f v b home) (consistent.origins v (param_exists f v b home))).1 in
+    (stands.0, stands.1, entry_any (block_at f b).params stands.0 v 0 stands.1 ∙ stands.2)
+
+-- the parameters that wait in a block, where none is being completed
+pub waiting_pending : (f : Body) (entry : Sealed) (b : ℕ) → waiting_of f entry [] b ≡ pending_of entry
+waiting_pending f (No pending) b = refl
+waiting_pending f Yes b = refl
+
+stray_nowhere : (types : VariableTypes) (own : Own) (f : Body) (s : SsaState) → IsConsistent f → ((block : ℕ) → own.params block ≡ [])
+    → Structured types own f s [] → NothingLeads s → NothingStray own.insts f s
+stray_nowhere types own f s consistent none structured nothing = record {
+  parameters = λ v b home.
+      let has : HasParameters own f s [] b = structured.parameters b in
+      let alone : has.complete ≡ [] = none_complete has.complete (λ some. two_in_none (predecessors_of s b) (nothing b) (has.several some).1) in
+      let params : (block_at f b).params ≡ map (λ (p : Pending). p.param) (pending_of (sealed_of s b)) =
+      has.in_order
+      ∙ ap (λ (xs : List ℕ). xs ++ (has.complete ++ map (λ (p : Pending). p.param) (waiting_of f (sealed_of s b) [] b))) (none b)
+      ∙ ap (λ (xs : List ℕ). xs ++ map (λ (p : Pending). p.param) (waiting_of f (sealed_of s b) [] b)) alone
+      ∙ ap (map (λ (p : Pending). p.param)) (waiting_pending f (sealed_of s b) b) in
+      waiting_at (pending_of (sealed_of s b)) v (subst (λ (xs : List ℕ). Contains xs v) params (home_contains f v b consistent home));
+  alias_types = structured.alias_types;
+  zeros = structured.zeros;
+}
+
+-- The whole record --------------------------------------------------------------------------------------------------------------
+
+pub passes_first : (own : Own) (f : Body) (s : SsaState) (types : VariableTypes) → Structured types own f s [] → PassesOwnFirst own f s
+passes_first own f s types structured target inst k leads to =
+    let edge = (structured.parameters target).edges inst k leads to in
+    (map Value edge.values, edge.in_order)
+
+pub parameters_first : (own : Own) (f : Body) (s : SsaState) (types : VariableTypes) → Structured types own f s [] → HasOwnFirst own f
+parameters_first own f s types structured block =
+    let has : HasParameters own f s [] block = structured.parameters block in
+    (has.complete ++ map (λ (p : Pending). p.param) (waiting_of f (sealed_of s block) [] block), has.in_order)
+
+pub whole : (calls : List AnsweredCall) (f : Body) (s : SsaState) → IsConsistent f → Carries calls f s → SparesEntry calls → Whole calls f s
+whole calls f s consistent carries spares =
+    let paths : SoundOnPaths calls carries.own f s = carries.on_paths spares in
+    let holds : Holds calls carries.own f s = carries.holds in
+    let structured : Structured (declared_types calls) carries.own f s [] = holds.structured (declared_types calls) (are_declared calls) in
+    record {
+      tables = paths.tables;
+      own = carries.own;
+      program = paths.program;
+      items = holds.items;
+      earlier = holds.earlier;
+      edges_end = holds.edges_end;
+      own_exist = holds.own_exist;
+      own_named = holds.own_named;
+      own_inserted = holds.own_inserted;
+      declared = holds.declared;
+      leads_own = holds.leads_own;
+      passes_first = passes_first carries.own f s (declared_types calls) structured;
+      parameters_first = parameters_first carries.own f s (declared_types calls) structured;
+      no_parameters = holds.no_parameters;
+      values_given = paths.values_given;
+      entry = holds.entry;
+      describes = paths.describes;
+      sound = paths.sound;
+      counts = paths.counts;
+      structured = holds.structured;
+      nothing_stray = stray_nowhere (declared_types calls) carries.own f s consistent holds.no_parameters structured;
+    }
+
+-- Where no target of a branch is the entry, none names the entry -------------------------------------------------------------------
+
+module _ (calls : List AnsweredCall) (entry : Name) (is_entry : (program_so_far calls).entry ≡ Some entry) where
+  edges_spare : (edges : List (Edge Name Name)) → AllByRecursion (IsGoodTarget (ledger_after (script_of calls)) (program_so_far calls)) edges
+      → AllByRecursion (λ (edge : Edge Name Name). edge.target ≢ entry) edges
+  edges_spare [] good = tt
+  edges_spare (edge ∷ edges) good = (λ same. good.0.no_entry (is_entry ∙ ap (λ (n : Name). Some n) (sym same)), edges_spare edges good.1)
+
+  items_spare : (items : List Item) → AllByRecursion (HasGoodTargets (ledger_after (script_of calls)) (program_so_far calls)) items → AllByRecursion (SparesBlock entry) items
+  items_spare [] good = tt
+  items_spare (Instruct place instruction results ∷ items) good = (edges_spare instruction.edges good.0, items_spare items good.1)
+  items_spare (Use variable name ∷ items) good = (tt, items_spare items good.1)
+  items_spare (Assign variable name ∷ items) good = (tt, items_spare items good.1)
+
+pub spared : (calls : List AnsweredCall) → EachItem (HasGoodTargets (ledger_after (script_of calls)) (program_so_far calls)) (program_so_far calls) → SparesEntry calls
+spared calls good entry is block = items_spare calls entry is ((program_so_far calls).items block) (good block)
