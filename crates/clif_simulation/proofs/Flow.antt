@@ -21,7 +21,7 @@ use Rattle.clif_meaning.specs.Request.{AnsweredCall, script_of}
 use Rattle.clif_meaning.specs.Instruction.{Edge}
 use Rattle.clif_meaning.specs.Program.{Program, Item, Instruct, Use, Assign}
 use Rattle.clif_meaning.specs.Path.{Place, IsPath}
-use Rattle.clif_meaning.specs.WellPlaced.{edge_targets, item_gives, item_names, item_targets, program_code, program_flow, IsWellPlaced, IsGivenAlong, given_on_entry}
+use Rattle.clif_meaning.specs.WellPlaced.{edge_targets, item_gives, item_names, item_targets, program_code, program_flow, IsWellPlaced, IsGivenAlong, IsGivenBefore, given_on_entry}
 use Rattle.clif_meaning.proofs.StraightLine.{nothing_contained, none_of}
 use Rattle.clif_simulation.specs.Tables.{code, answered, program_so_far, block_name, item_at, assigned_by}
 use Rattle.clif_simulation.proofs.Whole.{Whole}
@@ -34,15 +34,7 @@ use Rattle.clif_simulation.proofs.Listed.{no_parameters, place_within}
 use Rattle.clif_simulation.proofs.OwnEdges
 use Rattle.clif_simulation.proofs.OwnEdges.{last_item}
 use Rattle.clif_simulation.proofs.Placing.{map_at, contained, OfItem}
-use Rattle.clif_simulation.proofs.Straight.{arms, same_block}
-
-both_left : (a b : Bool) → (a && b) ≡ true → a ≡ true
-both_left true b both = refl
-both_left false b both = both
-
-both_right : (a b : Bool) → (a && b) ≡ true → b ≡ true
-both_right true b both = both
-both_right false b both = cc
+use Rattle.clif_simulation.proofs.Straight.{arms, both_left, both_right, same_block}
 
 none_some : {X : Type 0} (x : X) → None ≡ Some x → ⊥
 none_some x e = cc
@@ -223,22 +215,29 @@ module _ (calls : List AnsweredCall) (f : Body) (s : SsaState) (consistent : IsC
   given_along_walk path x (p ∷ walk) visited (inr (inl entering)) = absurd (none_entering p.block p.index x entering)
   given_along_walk path x (p ∷ walk) visited (inr (inr along)) = given_along_walk path x walk (λ q there. visited q (inr there)) along
 
-  -- what the item at this place names is given on each path to it
-  pub named_before : IsWellPlaced (program_code program) → (path : Path) (b k : ℕ) (B : Name) → Follows (arms carries.tables) path → end_of path ≡ inside b k
-      → block_name calls b ≡ Some B → (item : Item) → slice_get (program.items B) k ≡ Some item → (x : Name) → Contains (item_names (Some item)) x → IsGivenOn path x
-  named_before placed path b k B follows ends named item stands x names = by (walk_of path b k follows ends)
+  -- what is given before a place of the program is given on each path to it
+  pub given_before : (path : Path) (b k : ℕ) (B : Name) → Follows (arms carries.tables) path → end_of path ≡ inside b k
+      → block_name calls b ≡ Some B → k < length (program.items B) → (x : Name) → IsGivenBefore (program_code program) x (at_index B k) → IsGivenOn path x
+  given_before path b k B follows ends named within x before = by (walk_of path b k follows ends)
     where
+      or_along : (w : Walk path b k) → Contains (given_on_entry (program_code program) B k) x ⊎ IsGivenAlong (program_code program) x w.walk → IsGivenOn path x
+      or_along w (inl entering) = absurd (none_entering B k x entering)
+      or_along w (inr along) = given_along_walk path x w.walk w.visited along
+
       by : Walk path b k → IsGivenOn path x
       by w =
           let same : w.name ≡ B = some_is w.name B (sym w.named ∙ named) in
           let comes : IsPath (program_flow program) (at_index B k ∷ w.walk) =
           subst (λ (name : Name). IsPath (program_flow program) (at_index name k ∷ w.walk)) same
-          (w.comes (subst (λ (name : Name). k < length (program.items name)) (sym same) (place_within (program.items B) k item stands))) in
-          or_along w (placed.named (at_index B k) x (subst (λ (o : Option Item). Contains (item_names o) x) (sym stands) names) w.walk comes)
-        where
-          or_along : (w : Walk path b k) → Contains (given_on_entry (program_code program) B k) x ⊎ IsGivenAlong (program_code program) x w.walk → IsGivenOn path x
-          or_along w (inl entering) = absurd (none_entering B k x entering)
-          or_along w (inr along) = given_along_walk path x w.walk w.visited along
+          (w.comes (subst (λ (name : Name). k < length (program.items name)) (sym same) within)) in
+          or_along w (before w.walk comes)
+
+  -- what the item at this place names is given on each path to it
+  pub named_before : IsWellPlaced (program_code program) → (path : Path) (b k : ℕ) (B : Name) → Follows (arms carries.tables) path → end_of path ≡ inside b k
+      → block_name calls b ≡ Some B → (item : Item) → slice_get (program.items B) k ≡ Some item → (x : Name) → Contains (item_names (Some item)) x → IsGivenOn path x
+  named_before placed path b k B follows ends named item stands x names =
+      given_before path b k B follows ends named (place_within (program.items B) k item stands) x
+      (placed.named (at_index B k) x (subst (λ (o : Option Item). Contains (item_names o) x) (sym stands) names))
 
   -- The theory's conclusion -----------------------------------------------------------------------------------------------
 

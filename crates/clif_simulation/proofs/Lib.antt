@@ -49,7 +49,13 @@ pub mod Building
 pub mod Beginning
 pub mod Placing
 pub mod Structured
-pub mod Recorded
+-- What the construction makes of parameters, in every program.
+pub mod CallersAlone
+pub mod EdgesMatching
+-- A finished function is well placed.
+mod Beside
+pub mod Defined
+pub mod RecordsDefined
 -- The row `both_arms` is carried.
 mod LoopTables
 mod LoopProgram

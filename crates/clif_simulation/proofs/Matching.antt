@@ -32,6 +32,12 @@ rest_behind [] (suc k) x rest e = cc
 rest_behind (y ∷ xs) zero x rest e = cc
 rest_behind (y ∷ xs) (suc k) x rest e = rest_behind xs k x rest e
 
+-- where nothing is left, so many items there are
+pub nothing_behind : {X : Type 0} (xs : List X) (k : ℕ) → drop k xs ≡ [] → length xs ≤ k
+nothing_behind [] k none = omega arith
+nothing_behind (x ∷ xs) zero none = cc
+nothing_behind (x ∷ xs) (suc k) none = let below = nothing_behind xs k none in omega (arith, below)
+
 -- the parts of one list that is two
 pub first_is : {X : Type 0} (x y : X) (xs ys : List X) → (x ∷ xs) ≡ (y ∷ ys) → x ≡ y
 first_is x y xs ys same = cc

@@ -35,7 +35,7 @@ none_some x h = cc
 
 -- Edges that pass what the caller passed ----------------------------------------------------------------------------------
 
-passed_there : (passed : ℕ → List BlockArg) (n : ℕ) (edges : List (Edge ℕ ℕ)) (k : ℕ) (edge : Edge ℕ ℕ) → slice_get edges k ≡ Some edge
+pub passed_there : (passed : ℕ → List BlockArg) (n : ℕ) (edges : List (Edge ℕ ℕ)) (k : ℕ) (edge : Edge ℕ ℕ) → slice_get edges k ≡ Some edge
     → slice_get (as_passed passed n edges) k ≡ Some (record edge { arguments = map argument_of (passed (n + k)) })
 passed_there passed n [] zero edge is = cc
 passed_there passed n [] (suc k) edge is = cc

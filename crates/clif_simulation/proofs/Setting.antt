@@ -41,18 +41,12 @@ use Rattle.clif_simulation.proofs.Ended.{defined-end, is-end}
 use Rattle.clif_simulation.proofs.Opened.{Opens}
 use Rattle.clif_simulation.proofs.Opened
 use Rattle.clif_simulation.proofs.Counted.{gives_results, terminator_gives_none}
-use Rattle.clif_simulation.proofs.Matching.{item_here, rest_behind}
+use Rattle.clif_simulation.proofs.Matching.{item_here, nothing_behind, rest_behind}
 use Rattle.clif_simulation.proofs.Listed.{place_within}
 use Rattle.clif_simulation.proofs.Reaching
 use Rattle.clif_simulation.proofs.Fronts.{zero_placed, is_zero_placed, any_first, zero_bits}
 use Rattle.clif_simulation.proofs.Entry
 use Rattle.clif_simulation.proofs.Alongside
-
--- where nothing is left, so many items there are
-nothing_behind : {X : Type 0} (xs : List X) (k : ℕ) → drop k xs ≡ [] → length xs ≤ k
-nothing_behind [] k none = omega arith
-nothing_behind (x ∷ xs) zero none = cc
-nothing_behind (x ∷ xs) (suc k) none = let below = nothing_behind xs k none in omega (arith, below)
 
 module _ (calls : List AnsweredCall) (f : Body) (ssa : SsaState) (consistent : IsConsistent f) (carries : CarriesUnbranched calls f ssa)
     (entry : Name) (is_entry : (program_so_far calls).entry ≡ Some entry) (placed : IsWellPlaced (program_code (program_so_far calls)))

@@ -61,11 +61,11 @@ absent_value program function w [] never = refl
 absent_value program function w (arm ∷ path) never =
     denotes-past program function arm path w (λ here. never (inl here)) ∙ absent_value program function w path (λ there. never (inr there))
 
-both_left : (a b : Bool) → (a && b) ≡ true → a ≡ true
+pub both_left : (a b : Bool) → (a && b) ≡ true → a ≡ true
 both_left true b both = refl
 both_left false b both = both
 
-both_right : (a b : Bool) → (a && b) ≡ true → b ≡ true
+pub both_right : (a b : Bool) → (a && b) ≡ true → b ≡ true
 both_right true b both = both
 both_right false b both = cc
 

@@ -16,12 +16,30 @@ use Rattle.clif_simulation.specs.Tables.{program_so_far}
 use Rattle.clif_simulation.proofs.Listed.{all_at, no_parameters, none_mapped}
 
 -- no operation is a call so far
-each_edge : {Block Operand : Type 0} (type_of_operand : Operand → «Type») (parameters : Block → List «Type») (operation : Operation) (edges : List (Edge Block Operand))
+pub each_edge : {Block Operand : Type 0} (type_of_operand : Operand → «Type») (parameters : Block → List «Type») (operation : Operation) (edges : List (Edge Block Operand))
     → EachEdgeMatches type_of_operand parameters (call_shape operation) edges → AllByRecursion (EdgeMatches type_of_operand parameters [] []) edges
 each_edge type_of_operand parameters (Compute arithmetic) edges matches = matches
 each_edge type_of_operand parameters Jump edges matches = matches
 each_edge type_of_operand parameters Brif edges matches = matches
 each_edge type_of_operand parameters Return edges matches = matches
+
+pub each_matches : {Block Operand : Type 0} (type_of_operand : Operand → «Type») (parameters : Block → List «Type») (operation : Operation) (edges : List (Edge Block Operand))
+    → AllByRecursion (EdgeMatches type_of_operand parameters [] []) edges → EachEdgeMatches type_of_operand parameters (call_shape operation) edges
+each_matches type_of_operand parameters (Compute arithmetic) edges match_all = match_all
+each_matches type_of_operand parameters Jump edges match_all = match_all
+each_matches type_of_operand parameters Brif edges match_all = match_all
+each_matches type_of_operand parameters Return edges match_all = match_all
+
+-- the types of names
+abbrev pub name_types : List AnsweredCall → Name → «Type»
+name_types calls name = or_invalid (type_of (ledger_after (script_of calls)) name)
+
+-- blocks have no parameters, so an edge of the program that matches passes nothing
+pub matching_passes_nothing : (calls : List AnsweredCall) (edge : Edge Name Name)
+    → EdgeMatches (name_types calls) (parameter_types (ledger_after (script_of calls)) (program_so_far calls)) [] [] edge → edge.arguments ≡ []
+matching_passes_nothing calls edge matches =
+    none_mapped (argument_type (name_types calls) [] []) edge.arguments
+    (matches ∙ ap (λ (names : List Name). map (λ ty. Some ty) (map (name_types calls) names)) (no_parameters (script_of calls) edge.target))
 
 module _ (calls : List AnsweredCall) (B : Name) (k place : ℕ) (instruction : Instruction Name Name) (results : List Name)
     (stands : slice_get ((program_so_far calls).items B) k ≡ Some (Instruct place instruction results)) (n : ℕ) (edge : Edge Name Name) (is_edge : slice_get instruction.edges n ≡ Some edge)
@@ -29,19 +47,14 @@ module _ (calls : List AnsweredCall) (B : Name) (k place : ℕ) (instruction : I
     abbrev ledger : Ledger
     ledger = ledger_after (script_of calls)
 
-    abbrev name_type : Name → «Type»
-    name_type name = or_invalid (type_of ledger name)
-
-    -- blocks have no parameters, so an edge that is well typed passes nothing
+    -- an edge that is well typed passes nothing
     pub passes_nothing : (signature : SignatureShape) → WellTyped ledger (program_so_far calls) signature → edge.arguments ≡ []
     passes_nothing signature typed =
         let item : IsItemWellTyped ledger (program_so_far calls) (types_of signature.returns) (Instruct place instruction results) =
         all_at (IsItemWellTyped ledger (program_so_far calls) (types_of signature.returns)) ((program_so_far calls).items B) k (Instruct place instruction results) (typed.items B) stands in
-        let matches : EdgeMatches name_type (parameter_types ledger (program_so_far calls)) [] [] edge =
-        all_at (EdgeMatches name_type (parameter_types ledger (program_so_far calls)) [] []) instruction.edges n edge
-        (each_edge name_type (parameter_types ledger (program_so_far calls)) instruction.operation instruction.edges item.edges) is_edge in
-        none_mapped (argument_type name_type [] []) edge.arguments
-        (matches ∙ ap (λ (names : List Name). map (λ ty. Some ty) (map name_type names)) (no_parameters (script_of calls) edge.target))
+        matching_passes_nothing calls edge
+        (all_at (EdgeMatches (name_types calls) (parameter_types ledger (program_so_far calls)) [] []) instruction.edges n edge
+        (each_edge (name_types calls) (parameter_types ledger (program_so_far calls)) instruction.operation instruction.edges item.edges) is_edge)
 
     pub target_filled : EachItem (HasGoodTargets ledger (program_so_far calls)) (program_so_far calls) → IsTrue (is_filled ledger edge.target)
     target_filled targets =

@@ -1,20 +1,24 @@
 -- What holds of a finished function that carries a list of calls, beside what it means: its values are defined before
--- they are named, the arguments of its edges match, and no block has a parameter of a variable. So far these are laws on
--- functions without branches. Source: own.
-use Rattle.std.specs.Prelude.{◌≡◌, ℕ, ◌+◌, List, [], length, map, flat_map, drop, Option, Some, None, Contains}
+-- they are named, the arguments of its edges match, and a block to which at most one branch leads has no parameter of a
+-- variable. Source: own.
+use Rattle.std.specs.Prelude.{◌≡◌, ℕ, ◌+◌, ◌≤◌, true, List, [], length, map, flat_map, drop, Option, Some, None, Contains}
 use Rattle.clif_ir.specs.Body.{Body, block_at}
 use Rattle.clif_ir.specs.Consistent.{IsConsistent}
-use Rattle.clif_ssa.specs.Ssa.{SsaState, record_of}
+use Rattle.clif_ssa.specs.Ssa.{SsaState, record_of, sealed_of, predecessors_of}
+use Rattle.clif_ssa.specs.Own.{Own}
+use Rattle.clif_ssa.specs.Structured.{VariableTypes, Structured}
+use Rattle.clif_ssa.specs.Tables.{is_yes, pending_of}
 use Rattle.clif_meaning.specs.Name.{Name}
 use Rattle.clif_meaning.specs.Request.{AnsweredCall, script_of}
 use Rattle.clif_meaning.specs.Program.{Use, program_of}
 use Rattle.clif_meaning.specs.Path.{Place}
 use Rattle.clif_meaning.specs.View.{view_of}
 use Rattle.clif_meaning.specs.Typing.{EdgesMatch}
-use Rattle.clif_meaning.specs.Premises.{CallersEdgesMatch}
+use Rattle.clif_meaning.specs.Ledger.{ledger_after}
+use Rattle.clif_meaning.specs.Premises.{CallersEdgesMatch, EachItem, HasGoodTargets}
 use Rattle.clif_meaning.specs.WellPlaced.{program_code, IsWellPlaced, WellPlaced, Records, RecordsWellPlaced}
 use Rattle.clif_simulation.specs.Tables.{answered, program_so_far, block_name, item_at}
-use Rattle.clif_simulation.specs.Carries.{Carries, NothingLeads, carried}
+use Rattle.clif_simulation.specs.Carries.{Carries, NothingLeads, HasItems, OwnNamed, AreDeclared, carried}
 use Rattle.clif_simulation.specs.Laws.{IsFinished}
 
 -- the parameters of a block that the caller made, by the block's name
@@ -22,16 +26,55 @@ abbrev pub callers_parameters : List AnsweredCall → Option Name → List Name
 callers_parameters calls None = []
 callers_parameters calls (Some block) = (program_so_far calls).parameters block
 
--- Each block's parameters are those that the caller made, in order: none is a variable's.
+-- this block's parameters are those that the caller made, in order: none is a variable's
+abbrev pub HasCallersAlone : List AnsweredCall → Body → ℕ → Type 0
+HasCallersAlone calls f block = (block_at f block).params ≡ map (answered calls) (callers_parameters calls (block_name calls block))
+
+-- each block's are
 abbrev pub HasCallersParameters : List AnsweredCall → Body → Type 0
-HasCallersParameters calls f =
-    (block : ℕ) → (block_at f block).params ≡ map (answered calls) (callers_parameters calls (block_name calls block))
+HasCallersParameters calls f = (block : ℕ) → HasCallersAlone calls f block
+
+-- those of each sealed block are to which at most one branch leads: a variable has the same value there as at the end of the
+-- one block before it
+abbrev pub KeepsNoParameter : List AnsweredCall → Body → SsaState → Type 0
+KeepsNoParameter calls f s =
+    (block : ℕ) → is_yes (sealed_of s block) ≡ true → length (predecessors_of s block) ≤ 1 → HasCallersAlone calls f block
+
+-- where no parameter waits, those of each block are to which at most one branch leads
+abbrev pub LeavesNoParameter : List AnsweredCall → Body → SsaState → Type 0
+LeavesNoParameter calls f s = (block : ℕ) → length (predecessors_of s block) ≤ 1 → HasCallersAlone calls f block
+
+-- no parameter waits
+abbrev pub NoneWaits : SsaState → Type 0
+NoneWaits s = (block : ℕ) → pending_of (sealed_of s block) ≡ []
+
+-- In every program, branches to the entry and blocks that control never reaches included: so far the caller makes no
+-- parameters.
+pub record LeavesFewParameters (calls : List AnsweredCall) (f : Body) (s : SsaState) : Type 0 where
+  pub keeps : KeepsNoParameter calls f s
+  pub leaves : NoneWaits s → LeavesNoParameter calls f s
+  pub without_branches : NoneWaits s → NothingLeads s → HasCallersParameters calls f
+
+abbrev pub ConstructionLeavesFewParameters : Type 0
+ConstructionLeavesFewParameters =
+    (calls : List AnsweredCall) (types : VariableTypes) (own : Own) (f : Body) (s : SsaState)
+    → Structured types own f s [] → ((block : ℕ) → own.params block ≡ [])
+    → LeavesFewParameters calls f s
 
 abbrev pub CarryingLeavesNoParameters : Type 0
 CarryingLeavesNoParameters =
     (calls : List AnsweredCall) (f : Body) (s : SsaState)
     → IsConsistent f → Carries calls f s → NothingLeads s → IsFinished calls f s
     → HasCallersParameters calls f
+
+-- The same of the edges of every program: edges that control never takes, and edges to the entry, are no exception.
+abbrev pub ConstructionMatchesEdges : Type 0
+ConstructionMatchesEdges =
+    (calls : List AnsweredCall) (types : VariableTypes) (own : Own) (f : Body) (s : SsaState)
+    → Structured types own f s [] → ((block : ℕ) → own.params block ≡ [])
+    → HasItems calls f own → OwnNamed calls own.insts → AreDeclared f s own.insts → NoneWaits s
+    → CallersEdgesMatch (script_of calls)
+    → EdgesMatch (view_of f)
 
 -- Where the caller's arguments match the caller's parameters, a finished function's edges match.
 abbrev pub CarryingMatchesEdges : Type 0
@@ -41,12 +84,16 @@ CarryingMatchesEdges =
     → CallersEdgesMatch (script_of calls)
     → EdgesMatch (view_of f)
 
+-- each branch of the program leads to blocks that have their terminator, and none to the entry
+abbrev pub HasFilledTargets : List AnsweredCall → Type 0
+HasFilledTargets calls = EachItem (HasGoodTargets (ledger_after (script_of calls)) (program_so_far calls)) (program_so_far calls)
+
 -- Where the names of the program are given before they are named, a finished function's values are defined before they
--- are.
+-- are: on each path from the entry, with branches, joins and loops, and what the construction passes to parameters too.
 abbrev pub CarryingIsWellPlaced : Type 0
 CarryingIsWellPlaced =
     (calls : List AnsweredCall) (f : Body) (s : SsaState)
-    → IsConsistent f → Carries calls f s → NothingLeads s → IsFinished calls f s
+    → IsConsistent f → Carries calls f s → IsFinished calls f s → HasFilledTargets calls
     → IsWellPlaced (program_code (program_of (script_of calls)))
     → WellPlaced (view_of f)
 
@@ -71,7 +118,7 @@ pub record AreRecords (calls : List AnsweredCall) (f : Body) (s : SsaState) (rec
 abbrev pub RecordsAreWellPlaced : Type 0
 RecordsAreWellPlaced =
     (calls : List AnsweredCall) (f : Body) (s : SsaState) (records : Records)
-    → IsConsistent f → Carries calls f s → NothingLeads s → IsFinished calls f s
+    → IsConsistent f → Carries calls f s → IsFinished calls f s → HasFilledTargets calls
     → IsWellPlaced (program_code (program_of (script_of calls)))
     → AreRecords calls f s records
     → RecordsWellPlaced (view_of f) records

@@ -1,18 +1,29 @@
-//! What holds of a finished function that carries a list of calls, beside what it means: so far, of one without branches.
+//! What holds of a finished function that carries a list of calls, beside what it means.
 
-ghost use Rattle.clif_simulation.specs.Structure.{CarryingIsWellPlaced, CarryingLeavesNoParameters, CarryingMatchesEdges, RecordsAreWellPlaced};
+ghost use Rattle.clif_simulation.specs.Structure.{CarryingIsWellPlaced, CarryingLeavesNoParameters, CarryingMatchesEdges, ConstructionLeavesFewParameters, ConstructionMatchesEdges, RecordsAreWellPlaced};
 
-/// No block of it has a variable's parameter.
+/// In every program, a block to which at most one branch leads has no variable's parameter once it is sealed.
+pub fn construction_leaves_few_parameters()
+    ensures { ConstructionLeavesFewParameters }
+{}
+
+/// In every program, edges' arguments match once no parameter waits, where the caller's do.
+pub fn construction_matches_edges()
+    ensures { ConstructionMatchesEdges }
+{}
+
+/// Without branches, no block of it has a variable's parameter.
 pub fn carrying_leaves_no_parameters()
     ensures { CarryingLeavesNoParameters }
 {}
 
-/// Its edges' arguments match, where the caller's do.
+/// Its edges' arguments match, where the caller's do: so far, of one without branches.
 pub fn carrying_matches_edges()
     ensures { CarryingMatchesEdges }
 {}
 
-/// Its values are defined before they are named, where the program's names are given before.
+/// Its values are defined before they are named, where the program's names are given before: with branches, joins and
+/// loops.
 pub fn carrying_is_well_placed()
     ensures { CarryingIsWellPlaced }
 {}

@@ -33,8 +33,10 @@ use Rattle.clif_simulation.proofs.Values.{false_is}
 use Rattle.clif_simulation.proofs.Whole.{waiting_pending}
 use Rattle.clif_simulation.proofs.Unbranched.{CarriesUnbranched}
 use Rattle.clif_simulation.proofs.Unfilled as unfilled
-use Rattle.clif_simulation.proofs.Structured.{callers_only, edges_match, well_placed}
-use Rattle.clif_simulation.proofs.Recorded.{records_well_placed}
+use Rattle.clif_simulation.proofs.Structured.{callers_only, edges_match}
+use Rattle.clif_simulation.proofs.Defined.{well_placed}
+use Rattle.clif_simulation.proofs.Whole.{spared, whole}
+use Rattle.clif_simulation.proofs.RecordsDefined.{records_well_placed}
 use Rattle.clif_simulation.proofs.Assembly.{means}
 use Rattle.cranelift_frontend.specs.declared.error.FinalizeError.{FinalizeError}
 use Rattle.cranelift_frontend.specs.declared.error.FinalizeError.TheVariants.{Unsealed, Unfilled, Failed}
@@ -191,11 +193,11 @@ pub finished_placed : (declared : SignatureShape) (calls : List AnsweredCall) (b
     → PlacementPremises (script_of calls) declared → OnOk (verdict_of b.failed b.ctx.now (length b.func.now.blocks)) (WellPlaced (view_of b.func.now))
 finished_placed declared calls b stands consistent premises =
     on_finished declared calls b stands consistent (WellPlaced (view_of b.func.now)) (λ finished.
-    well_placed calls b.func.now b.ctx.now.ssa consistent (plainly declared calls b stands consistent) finished premises.given_before)
+    well_placed calls b.func.now b.ctx.now.ssa consistent (whole calls b.func.now b.ctx.now.ssa consistent stands.carries (spared calls premises.targets_filled)) finished premises.given_before premises.targets_filled)
 
 pub finished_records : (declared : SignatureShape) (calls : List AnsweredCall) (records : Records) (b : FunctionBuilder) → StandsFor declared calls b → IsConsistent b.func.now
     → AreRecords calls b.func.now b.ctx.now.ssa records → PlacementPremises (script_of calls) declared
     → OnOk (verdict_of b.failed b.ctx.now (length b.func.now.blocks)) (RecordsWellPlaced (view_of b.func.now) records)
 finished_records declared calls records b stands consistent are premises =
     on_finished declared calls b stands consistent (RecordsWellPlaced (view_of b.func.now) records) (λ finished.
-    records_well_placed calls b.func.now b.ctx.now.ssa consistent (plainly declared calls b stands consistent) finished premises.given_before records are)
+    records_well_placed calls b.func.now b.ctx.now.ssa consistent (whole calls b.func.now b.ctx.now.ssa consistent stands.carries (spared calls premises.targets_filled)) finished premises.given_before premises.targets_filled records are)

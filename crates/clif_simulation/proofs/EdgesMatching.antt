@@ -1,0 +1,169 @@
+-- The edges of a function match once no parameter waits, in every program: each passes what the caller passed, and then
+-- one value to each parameter of a variable.
+use Rattle.std.proofs.Common.{◌≡◌, ℕ, suc, ◌+◌, ◌==◌, if◌then◌else◌, Bool, true, false, List, [], ◌∷◌, ◌++◌, map, slice_get, Option, Some, None, refl, sym, ◌∙◌, ap, ap₂, subst, arith}
+use Rattle.std.proofs.lemmas.List.{map-append}
+use Rattle.std.specs.List.{AllByRecursion, list_any}
+use Rattle.clif_types.specs.declared.types.«Type».{«Type»}
+use Rattle.clif_ir.specs.Body.{Body, inst_at, block_at}
+use Rattle.clif_ir.specs.Instruction.{destinations}
+use Rattle.clif_ir.specs.declared.block_call.BlockArg.{BlockArg}
+use Rattle.clif_ir.specs.declared.block_call.BlockArg.TheVariants.{Value}
+use Rattle.clif_ir.specs.declared.block_call.BlockCall.{BlockCall}
+use Rattle.clif_ssa.specs.Own.{Own}
+use Rattle.clif_ssa.specs.Ssa.{SsaState, sealed_of}
+use Rattle.clif_ssa.specs.Sound.{args_of, edges_at, edge_target}
+use Rattle.clif_ssa.specs.Structure.{IsNeededZero}
+use Rattle.clif_ssa.specs.Structured.{VariableTypes, Structured, AreFor, EdgePasses}
+use Rattle.clif_meaning.specs.Name.{Name}
+use Rattle.clif_meaning.specs.Request.{AnsweredCall, script_of}
+use Rattle.clif_meaning.specs.Ledger.{ledger_after}
+use Rattle.clif_meaning.specs.Instruction.{Edge}
+use Rattle.clif_meaning.specs.Program.{Instruct}
+use Rattle.clif_meaning.specs.Event.{CallShape}
+use Rattle.clif_meaning.specs.FunctionView.{Placed}
+use Rattle.clif_meaning.specs.View.{argument_of, edge_of, edges_of, operation_of, placed_of, view_of}
+use Rattle.clif_meaning.specs.Typing.{EdgesMatch, EachEdgeMatches, EdgeMatches, argument_type, call_shape, value_types_at}
+use Rattle.clif_meaning.specs.Premises.{CallersEdgesMatch, ItemEdgesMatch, parameter_types}
+use Rattle.clif_simulation.specs.Tables.{answered, program_so_far, block_name}
+use Rattle.clif_simulation.specs.Carries.{HasItems, OwnNamed, AreDeclared, answered_argument, answered_edge, own_placed}
+use Rattle.clif_simulation.specs.Structure.{NoneWaits}
+use Rattle.clif_simulation.proofs.CallersAlone
+use Rattle.clif_simulation.proofs.Carrying.{all_append, all_mapped}
+use Rattle.clif_simulation.proofs.Listed.{all_at, none_mapped}
+use Rattle.clif_simulation.proofs.OwnEdges.{passed_there}
+use Rattle.clif_simulation.proofs.Placing.{contained, map_at, map_from, OfItem, of_item}
+use Rattle.clif_simulation.proofs.Targets.{each_edge, each_matches, matching_passes_nothing, name_types}
+
+-- what holds of what stands at each place holds of each entry
+pub all_where : {X : Type 0} (P : X → Type 0) (xs : List X) → ((k : ℕ) (x : X) → slice_get xs k ≡ Some x → P x) → AllByRecursion P xs
+all_where P [] each = tt
+all_where P (x ∷ xs) each = (each 0 x refl, all_where P xs (λ k y there. each (suc k) y there))
+
+-- no edge matches whatever the call at its start gives
+none_match : (f : Body) (call : Option CallShape) → EachEdgeMatches (view_of f).value_type (value_types_at (view_of f)) call []
+none_match f None = tt
+none_match f (Some call) = tt
+
+-- What an instruction's edges pass matches.
+abbrev InstMatches : Body → Placed → Type 0
+InstMatches f placed = EachEdgeMatches (view_of f).value_type (value_types_at (view_of f)) (call_shape placed.instruction.operation) placed.instruction.edges
+
+abbrev placed_at_inst : Body → ℕ → Placed
+placed_at_inst f i = placed_of f (inst_at f i)
+
+-- the types of what is passed
+abbrev passed_types : Body → List BlockArg → List (Option «Type»)
+passed_types f args = map (argument_type (view_of f).value_type [] []) (map argument_of args)
+
+-- the types of parameters
+abbrev wanted_types : Body → List ℕ → List (Option «Type»)
+wanted_types f params = map (λ ty. Some ty) (map (view_of f).value_type params)
+
+-- values that are for parameters have their types
+values_match : (f : Body) (values params : List ℕ) → AreFor f values params → passed_types f (map Value values) ≡ wanted_types f params
+values_match f [] [] all = refl
+values_match f [] (param ∷ params) all = absurd all
+values_match f (value ∷ values) [] all = absurd all
+values_match f (value ∷ values) (param ∷ params) all =
+    ap₂ (λ (ty : «Type») (types : List (Option «Type»)). Some ty ∷ types) all.0.1 (values_match f values params all.1)
+
+-- what is passed in two parts goes to parameters in two parts
+both_match : (f : Body) (first second : List BlockArg) (firsts seconds : List ℕ) → passed_types f first ≡ wanted_types f firsts → passed_types f second ≡ wanted_types f seconds
+    → passed_types f (first ++ second) ≡ wanted_types f (firsts ++ seconds)
+both_match f first second firsts seconds one other =
+    ap (map (argument_type (view_of f).value_type [] [])) (map-append argument_of first second)
+    ∙ map-append (argument_type (view_of f).value_type [] []) (map argument_of first) (map argument_of second)
+    ∙ ap₂ (λ (xs ys : List (Option «Type»)). xs ++ ys) one other
+    ∙ sym (ap (map (λ ty. Some ty)) (map-append (view_of f).value_type firsts seconds)
+    ∙ map-append (λ ty. Some ty) (map (view_of f).value_type firsts) (map (view_of f).value_type seconds))
+
+zero_matches : (f : Body) (i : ℕ) → IsNeededZero f i → InstMatches f (placed_at_inst f i)
+zero_matches f i is_zero =
+    subst (EachEdgeMatches (view_of f).value_type (value_types_at (view_of f)) (call_shape (operation_of (inst_at f i).shape)))
+    (sym (ap edges_of is_zero.shape)) (none_match f (call_shape (operation_of (inst_at f i).shape)))
+
+module _ (calls : List AnsweredCall) (f : Body) (s : SsaState) (own : Own) (types : VariableTypes) (structured : Structured types own f s [])
+    (no_callers : (b : ℕ) → own.params b ≡ []) (items : HasItems calls f own) (named_only : OwnNamed calls own.insts)
+    (declared : AreDeclared f s own.insts) (none_waits : NoneWaits s) (typed : CallersEdgesMatch (script_of calls))
+  where
+    -- An edge of an instruction of the caller's is one of the program, which matches.
+    record IsCallers (i k : ℕ) (call : BlockCall) : Type 0 where
+      edge : Edge Name Name
+      target : answered calls edge.target ≡ call.block
+      passed : map argument_of (own.passed i k) ≡ map (answered_argument calls) edge.arguments
+      matches : EdgeMatches (name_types calls) (parameter_types (ledger_after (script_of calls)) (program_so_far calls)) [] [] edge
+
+    is_callers : (b t i k : ℕ) (B : Name) (call : BlockCall) → block_name calls b ≡ Some B → slice_get (own.insts b) t ≡ Some i
+        → slice_get (destinations (inst_at f i).shape) k ≡ Some call → IsCallers i k call
+    is_callers b t i k B call named there stands =
+        let it : OfItem calls ((program_so_far calls).items B) t (own_placed own f i) = of_item calls ((program_so_far calls).items B) t (own_placed own f i)
+        (ap (λ (ps : List Placed). slice_get ps t) (sym (items b B named)) ∙ map_at (own_placed own f) (own.insts b) t i there) in
+        let edges_are = ap (λ (p : Placed). p.instruction.edges) it.is in
+        let passes = passed_there (own.passed i) 0 (edges_of (inst_at f i).shape) k (edge_of call) (map_at edge_of (destinations (inst_at f i).shape) k call stands) in
+        let edge = map_from (answered_edge calls) it.instruction.edges k (record (edge_of call) { arguments = map argument_of (own.passed i (0 + k)) })
+        (ap (λ (es : List (Edge ℕ ℕ)). slice_get es k) (sym edges_are) ∙ passes) in
+        let same : k ≡ 0 + k = omega arith in
+        let item : ItemEdgesMatch (ledger_after (script_of calls)) (program_so_far calls) (Instruct it.place it.instruction it.results) =
+        all_at (ItemEdgesMatch (ledger_after (script_of calls)) (program_so_far calls)) ((program_so_far calls).items B) it.j (Instruct it.place it.instruction it.results) (typed B) it.stands in
+        record {
+          edge = edge.0;
+          target = ap (λ (e : Edge ℕ ℕ). e.target) edge.2;
+          passed = ap (λ (m : ℕ). map argument_of (own.passed i m)) same ∙ sym (ap (λ (e : Edge ℕ ℕ). e.arguments) edge.2);
+          matches = all_at (EdgeMatches (name_types calls) (parameter_types (ledger_after (script_of calls)) (program_so_far calls)) [] []) it.instruction.edges k edge.0
+              (each_edge (name_types calls) (parameter_types (ledger_after (script_of calls)) (program_so_far calls)) it.instruction.operation it.instruction.edges item) edge.1;
+        }
+
+    -- what the caller passed matches the caller's parameters: so far nothing is passed, and there are none
+    callers_match : (i k : ℕ) (call : BlockCall) → IsCallers i k call → passed_types f (own.passed i k) ≡ wanted_types f (own.params call.block)
+    callers_match i k call is =
+        let none : own.passed i k ≡ [] =
+        none_mapped argument_of (own.passed i k) (is.passed ∙ ap (map (answered_argument calls)) (matching_passes_nothing calls is.edge is.matches)) in
+        ap (passed_types f) none ∙ sym (ap (wanted_types f) (no_callers call.block))
+
+    edge_matches : (b t i k : ℕ) (B : Name) (call : BlockCall) → block_name calls b ≡ Some B → slice_get (own.insts b) t ≡ Some i
+        → slice_get (destinations (inst_at f i).shape) k ≡ Some call → EdgeMatches (view_of f).value_type (value_types_at (view_of f)) [] [] (edge_of call)
+    edge_matches b t i k B call named there stands =
+        let to : edge_target f i k ≡ Some call.block = map_at (λ (edge : BlockCall). edge.block) (destinations (inst_at f i).shape) k call stands in
+        let passes : EdgePasses f (own.passed i k) (structured.parameters call.block).complete (args_of (slice_get (edges_at f i) k)) =
+        (structured.parameters call.block).edges i k (declared b i k call.block (contained (own.insts b) t i there) to) to in
+        let args : call.args ≡ own.passed i k ++ map Value passes.values = ap args_of (sym stands) ∙ passes.in_order in
+        let params : (block_at f call.block).params ≡ own.params call.block ++ (structured.parameters call.block).complete =
+        CallersAlone.callers_first calls f s own types structured no_callers call.block
+        (CallersAlone.none_waiting calls f s own types structured no_callers call.block (sealed_of s call.block) (none_waits call.block)) in
+        ap (passed_types f) args
+        ∙ both_match f (own.passed i k) (map Value passes.values) (own.params call.block) (structured.parameters call.block).complete
+        (callers_match i k call (is_callers b t i k B call named there stands))
+        (values_match f passes.values (structured.parameters call.block).complete passes.are_for)
+        ∙ sym (ap (wanted_types f) params)
+
+    own_matches : (b t i : ℕ) (B : Name) → block_name calls b ≡ Some B → slice_get (own.insts b) t ≡ Some i → InstMatches f (placed_at_inst f i)
+    own_matches b t i B named there =
+        each_matches (view_of f).value_type (value_types_at (view_of f)) (operation_of (inst_at f i).shape) (edges_of (inst_at f i).shape)
+        (all_where (EdgeMatches (view_of f).value_type (value_types_at (view_of f)) [] []) (edges_of (inst_at f i).shape) each)
+      where
+        each : (k : ℕ) (edge : Edge ℕ ℕ) → slice_get (edges_of (inst_at f i).shape) k ≡ Some edge → EdgeMatches (view_of f).value_type (value_types_at (view_of f)) [] [] edge
+        each k edge is =
+            let from = map_from edge_of (destinations (inst_at f i).shape) k edge is in
+            subst (EdgeMatches (view_of f).value_type (value_types_at (view_of f)) [] []) from.2 (edge_matches b t i k B from.0 named there from.1)
+
+    all_own : (b : ℕ) (o : Option Name) → block_name calls b ≡ o → AllByRecursion (λ (i : ℕ). InstMatches f (placed_at_inst f i)) (own.insts b)
+    all_own b None none = subst (AllByRecursion (λ (i : ℕ). InstMatches f (placed_at_inst f i))) (sym (named_only b none)) tt
+    all_own b (Some B) named = all_where (λ (i : ℕ). InstMatches f (placed_at_inst f i)) (own.insts b) (λ t i there. own_matches b t i B named there)
+
+    all_insts : (b : ℕ) → AllByRecursion (λ (i : ℕ). InstMatches f (placed_at_inst f i)) (block_at f b).insts
+    all_insts b =
+        let here = structured.zeros b in
+        subst (AllByRecursion (λ (i : ℕ). InstMatches f (placed_at_inst f i))) (sym here.in_order)
+        (all_append (λ (i : ℕ). InstMatches f (placed_at_inst f i)) here.zeros (own.insts b)
+        (all_mapped (IsNeededZero f) (λ (i : ℕ). InstMatches f (placed_at_inst f i)) (zero_matches f) here.zeros here.needed) (all_own b (block_name calls b) refl))
+
+    of_insts : (insts : List ℕ) → AllByRecursion (λ (i : ℕ). InstMatches f (placed_at_inst f i)) insts → AllByRecursion (InstMatches f) (map (placed_at_inst f) insts)
+    of_insts [] all = tt
+    of_insts (i ∷ insts) all = (all.0, of_insts insts all.1)
+
+    pub edges_match : EdgesMatch (view_of f)
+    edges_match b = by (list_any (λ other. other == b) f.layout)
+      where
+        by : (t : Bool) → AllByRecursion (InstMatches f) (if t then map (placed_at_inst f) (block_at f b).insts else [])
+        by true = of_insts (block_at f b).insts (all_insts b)
+        by false = tt
