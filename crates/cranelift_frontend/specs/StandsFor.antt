@@ -19,7 +19,7 @@ pub record StandsIn (declared : SignatureShape) (calls : List AnsweredCall) (f :
   -- the ledger of the calls agrees with what the queries answer
   pub ledger : LedgerAgrees calls (ledger_of calls) f c position
   -- each block's instructions are the program's, in order, operands being the answers of the names, with only zeros
-  -- before them; and the state on paths is sound
+  -- before them; and the state on paths is sound, where no branch names the entry
   pub carries : Carries calls f c.ssa
   -- so far no call makes a branch
   pub nothing_leads : NothingLeads c.ssa
