@@ -1,5 +1,5 @@
 -- What the construction makes of a function where no branch leads anywhere: a use of a variable, and a sealing.
-use Rattle.std.proofs.Common.{◌≡◌, ◌≢◌, ℕ, ◌+◌, ◌<◌, List, [], ◌∷◌, length, refl, sym, ◌∙◌, ap, subst, arith}
+use Rattle.std.proofs.Common.{◌≡◌, ℕ, ◌+◌, ◌<◌, List, [], ◌∷◌, length, refl, sym, ◌∙◌, ap, subst, arith}
 use Rattle.std.specs.Prelude.{Option, Some, None, Bool, true, false}
 use Rattle.std.proofs.lemmas.Grind.{common_steps}
 use Rattle.clif_types.specs.declared.types.«Type».{«Type»}
@@ -25,9 +25,9 @@ use Rattle.clif_ssa.proofs.Constructing.{constructs_none, constructs_same, const
 use Rattle.clif_ssa.proofs.Counting.{inserted_housed, zero_housed}
 use Rattle.clif_ssa.proofs.Housing.{Housed, housed_from}
 use Rattle.clif_ssa.proofs.Locally.{seals_locally, waits_locally, zeroes_locally}
-use Rattle.clif_ssa.proofs.Parameters.{param_firm, param_home_new}
+use Rattle.clif_ssa.proofs.Parameters.{param_home_new}
 use Rattle.clif_ssa.proofs.StructuredFinish.{zeroed_housed}
-use Rattle.clif_ssa.proofs.StructuredUses.{AllHome, completed_structured, sealed_structured, waits_used, zeroes_used}
+use Rattle.clif_ssa.proofs.StructuredUses.{completed_structured, sealed_structured, waits_used, zeroes_used}
 use Rattle.cranelift_frontend.specs.Builder.{UsesIn}
 use Rattle.cranelift_frontend.specs.Context.{ContextState}
 use Rattle.cranelift_frontend.proofs.LedgerKept.{inserted-values, inserted-twice, stands-inserted}
