@@ -11,7 +11,6 @@ pub mod LedgerVariables
 pub mod LedgerEnds
 mod Declaring
 pub mod Growing
-pub mod StandingLocal
 pub mod Standing
 pub mod StandingResults
 pub mod Finishing
