@@ -297,7 +297,7 @@ appended_node f c g d block shape ty inst appends =
     made ∙ last
 
 -- its result
-appended_results : (f : Body) (c : ContextState) (g : Body) (d : ContextState) (block : ℕ) (shape : InstructionData) (ty : «Type») (inst : ℕ)
+pub appended_results : (f : Body) (c : ContextState) (g : Body) (d : ContextState) (block : ℕ) (shape : InstructionData) (ty : «Type») (inst : ℕ)
     → AppendsIn f c g d block shape ty inst → result_types shape ty ≡ ty ∷ [] → (inst_at g inst).results ≡ length f.values ∷ []
 appended_results f c g d block shape ty inst appends types =
     let at : Body = inserted_in f block in

@@ -15,5 +15,6 @@ pub mod Standing
 pub mod StandingResults
 pub mod Finishing
 pub mod StandingBuilt
+pub mod StandingShaped
 mod Remembered
 pub mod Shaped
