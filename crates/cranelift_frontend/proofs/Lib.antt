@@ -15,6 +15,7 @@ pub mod Standing
 pub mod StandingResults
 pub mod Finishing
 pub mod StandingBuilt
+pub mod Shapes
 pub mod StandingShaped
 mod Remembered
 pub mod Shaped

@@ -1,6 +1,6 @@
 -- An instruction of any shape is built, with edges or without: the builder stands for the list with this call at its end.
 use Rattle.std.proofs.Common.{◌≡◌, ◌≢◌, ℕ, zero, suc, ◌<◌, List, [], ◌∷◌, ◌++◌, length, map, refl, sym, ◌∙◌, ap, subst, arith, inl, inr}
-use Rattle.std.specs.Prelude.{slice_get, slice_index_or, All, Contains, Option, Some, true, false, IfOk, Result, Ok, Err, ◌==◌}
+use Rattle.std.specs.Prelude.{slice_get, slice_index_or, All, Contains, Option, Some, true, false, IfOk, IfSome, Result, Ok, Err, ◌==◌}
 use Rattle.std.proofs.lemmas.Bool.{eq-eqb, eqb-true, or_left, or_right}
 use Rattle.std.proofs.lemmas.List.{append-nil}
 use Rattle.std.proofs.lemmas.Map.Views.{Contains-from_any}
@@ -18,7 +18,7 @@ use Rattle.clif_ir.specs.Consistent.{IsConsistent}
 use Rattle.clif_ir.specs.declared.inst_list.BlockEnd.TheVariants.{Back}
 use Rattle.clif_ir.specs.Instruction.{destinations, is_branch, operands, result_types}
 use Rattle.clif_ir.specs.Reading.{stands_in, targets}
-use Rattle.clif_ssa.specs.Ssa.{no_srcloc, sealed_of, SsaState}
+use Rattle.clif_ssa.specs.Ssa.{no_srcloc, predecessors_of, record_of, sealed_of, SsaState}
 use Rattle.clif_ssa.specs.Tables.{is_yes}
 use Rattle.clif_ssa.proofs.Completing.{inserted_same}
 use Rattle.clif_meaning.specs.Name.{Name}
@@ -30,13 +30,14 @@ use Rattle.clif_meaning.specs.View.{controlling_of, edge_of, first_type, operati
 use Rattle.clif_simulation.specs.Carries.{Carries, DeclaredAlong, IsCurrent}
 use Rattle.clif_simulation.proofs.Building.{SameBranch, SameInstruction, carries_branch, carries_result, carries_terminator}
 use Rattle.cranelift_frontend.specs.declared.context.BlockStatus.TheVariants.{Filled}
+use Rattle.cranelift_frontend.specs.declared.builder.FunctionBuilder.{FunctionBuilder}
 use Rattle.cranelift_frontend.specs.Construction.{IsDeclared}
 use Rattle.cranelift_frontend.specs.Context.{ContextState, status_of}
-use Rattle.cranelift_frontend.specs.Builder.{AppendsIn, CanLeadIn, with_appended}
-use Rattle.cranelift_frontend.specs.Ledger.{HasShape, LedgerAgrees, NamesEdges, ledger_of}
-use Rattle.cranelift_frontend.specs.StandsFor.{StandsIn}
+use Rattle.cranelift_frontend.specs.Builder.{Appends, AppendsIn, AppendsValue, CanLeadIn, HasCurrent}
+use Rattle.cranelift_frontend.specs.Ledger.{AgreesWithLedger, HasShape, LedgerAgrees, NamesEdges, ledger_of}
+use Rattle.cranelift_frontend.specs.StandsFor.{StandsIn, StandsFor}
 use Rattle.cranelift_frontend.proofs.LedgerNames.{name-number}
-use Rattle.cranelift_frontend.proofs.Growing.{appended_results}
+use Rattle.cranelift_frontend.proofs.Growing.{appended_no_results, appended_results}
 use Rattle.cranelift_frontend.proofs.Standing.{current_name, current_unfilled}
 use Rattle.cranelift_frontend.proofs.StandingBuilt.{all_named, edges_named, none_named, stands_built}
 
@@ -60,6 +61,19 @@ target_unsealed f c [] k x all below is = absurd (omega (arith, below))
 target_unsealed f c (edge ∷ edges) zero x all below is = subst (λ (b : ℕ). is_yes (sealed_of c.ssa b) ≡ false) is (all 0 edge (omega arith)).1
 target_unsealed f c (edge ∷ edges) (suc k) x all below is =
     target_unsealed f c edges k x (λ j d inside. all (suc j) d (omega (arith, inside))) (omega (arith, below)) is
+
+-- nothing is declared anywhere
+declared_nowhere : (s t : SsaState) (inst : ℕ) → t ≡ s → IsDeclared s inst [] t
+declared_nowhere s t inst same = record {
+  told = [];
+  once = λ j k before inside. absurd (omega (arith, inside));
+  each = λ b. refl;
+  along = (
+    λ v b. ap (λ (u : SsaState). record_of u v b) same,
+    λ b. ap (λ (u : SsaState). sealed_of u b) same,
+    λ b. ap (λ (u : SsaState). predecessors_of u b) same,
+  );
+}
 
 -- AN INSTRUCTION --------------------------------------------------------------------------------------------------------
 
@@ -181,3 +195,40 @@ pub stands_shaped : {E : Type 0} (declared : SignatureShape) (calls : List Answe
 stands_shaped declared calls f g c d p instruction shape ty (Err e) block stands consistent has at there open_block appends edges declares same kept = tt
 stands_shaped declared calls f g c d p instruction shape ty (Ok inst) block stands consistent has at there open_block appends edges declares same kept =
     shaped_stands declared calls f g c d p instruction shape ty inst block stands consistent has at there open_block appends edges declares same kept
+
+-- CALLS BY NAME ---------------------------------------------------------------------------------------------------------
+
+-- an instruction whose result is a value
+pub value_stands : {E : Type 0} (declared : SignatureShape) (calls : List AnsweredCall) (old new : FunctionBuilder) (instruction : Instruction Name Name) (shape : InstructionData)
+    (ty : «Type») (r : Result ℕ E) → StandsFor declared calls old → IsConsistent old.func.now → HasShape calls old.func.now instruction shape ty → HasCurrent old
+    → IfSome old.position (λ block. IfOk r (AppendsValue old new block shape ty)) → is_branch shape ≡ false → destinations shape ≡ [] → result_types shape ty ≡ ty ∷ []
+    → new.ctx.now.ssa ≡ old.ctx.now.ssa → new.position ≡ old.position
+    → IfOk r (λ value. AgreesWithLedger (calls ++ built instruction (length old.func.now.insts ∷ value ∷ []) ∷ []) new)
+    → IfOk r (λ value. StandsFor declared (calls ++ built instruction (length old.func.now.insts ∷ value ∷ []) ∷ []) new)
+value_stands declared calls old new instruction shape ty (Err e) stands consistent has current appends no_branch none one ssa position kept = tt
+value_stands declared calls old new instruction shape ty (Ok value) stands consistent has current appends no_branch none one ssa position kept =
+    let here : AppendsValue old new current.0 shape ty value = subst (λ (o : Option ℕ). IfSome o (λ b. AppendsValue old new b shape ty value)) current.1 appends in
+    let inst : ℕ = length old.func.now.insts in
+    let results : (inst_at new.func.now inst).results ≡ value ∷ [] =
+    appended_results old.func.now old.ctx.now new.func.now new.ctx.now current.0 shape ty inst here.0 one ∙ ap (λ (v : ℕ). v ∷ []) (sym here.1) in
+    let after : List ℕ → List AnsweredCall = λ rs. calls ++ built instruction (inst ∷ rs) ∷ [] in
+    let ledger : LedgerAgrees (after (inst_at new.func.now inst).results) (ledger_of (after (inst_at new.func.now inst).results)) new.func.now new.ctx.now old.position =
+    subst (λ (rs : List ℕ). LedgerAgrees (after rs) (ledger_of (after rs)) new.func.now new.ctx.now old.position) (sym results)
+    (subst (λ (o : Option ℕ). LedgerAgrees (after (value ∷ [])) (ledger_of (after (value ∷ []))) new.func.now new.ctx.now o) position kept) in
+    subst (λ (o : Option ℕ). StandsIn declared (after (value ∷ [])) new.func.now new.ctx.now o) (sym position)
+    (subst (λ (rs : List ℕ). StandsIn declared (after rs) new.func.now new.ctx.now old.position) results
+    (shaped_stands declared calls old.func.now new.func.now old.ctx.now new.ctx.now old.position instruction shape ty inst current.0 stands consistent has current.1 current.2 current.3 here.0
+    (subst (All (CanLeadIn old.func.now old.ctx.now)) (sym none) (λ k d inside. absurd (omega (arith, inside))))
+    (subst (λ (edges : List BlockCall). IsDeclared old.ctx.now.ssa inst (targets edges) new.ctx.now.ssa) (sym none) (declared_nowhere old.ctx.now.ssa new.ctx.now.ssa inst ssa))
+    (λ is. ssa) ledger))
+
+-- an instruction without results, by what `build` says of it
+pub plain_stands : {E : Type 0} (declared : SignatureShape) (calls : List AnsweredCall) (old new : FunctionBuilder) (instruction : Instruction Name Name) (shape : InstructionData)
+    (ty : «Type») (r : Result ℕ E) → HasCurrent old → IfSome old.position (λ block. IfOk r (Appends old new block shape ty)) → result_types shape ty ≡ []
+    → IfOk r (λ inst. StandsFor declared (calls ++ built instruction (inst ∷ (inst_at new.func.now inst).results) ∷ []) new)
+    → IfOk r (λ inst. StandsFor declared (calls ++ built instruction (inst ∷ []) ∷ []) new)
+plain_stands declared calls old new instruction shape ty (Err e) current appends none stands = tt
+plain_stands declared calls old new instruction shape ty (Ok inst) current appends none stands =
+    let here : Appends old new current.0 shape ty inst = subst (λ (o : Option ℕ). IfSome o (λ b. Appends old new b shape ty inst)) current.1 appends in
+    subst (λ (rs : List ℕ). StandsFor declared (calls ++ built instruction (inst ∷ rs) ∷ []) new)
+    (appended_no_results old.func.now old.ctx.now new.func.now new.ctx.now current.0 shape ty inst here none) stands
