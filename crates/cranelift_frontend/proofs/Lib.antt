@@ -3,6 +3,7 @@ pub mod Faults
 pub mod LedgerLists
 pub mod LedgerNames
 pub mod LedgerKept
+pub mod Placed
 pub mod LedgerMade
 pub mod LedgerUsed
 pub mod LedgerBuilt
