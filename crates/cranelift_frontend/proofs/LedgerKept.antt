@@ -14,7 +14,7 @@ use Rattle.clif_ir.specs.declared.function.ValueOrigin.{ValueOrigin}
 use Rattle.clif_ir.specs.declared.function.ValueOrigin.TheVariants.{Alias}
 use Rattle.clif_ir.specs.declared.function.InstNode.{InstNode}
 use Rattle.clif_ir.specs.Body.{Body, inst_at, value_at, no_inst, no_value, resolved}
-use Rattle.clif_ir.specs.Changes.{inserted_in, with_layout, with_param, with_inst, with_alias, result_nodes}
+use Rattle.clif_ir.specs.Changes.{inserted_in, with_block, with_layout, with_param, with_inst, with_alias, result_nodes}
 use Rattle.clif_ir.specs.Reading.{param_home, home_of_node, stands_in}
 use Rattle.clif_meaning.specs.Name.{Name, answer_of}
 use Rattle.clif_meaning.specs.Request.{AnsweredCall, script_of, number_of}
@@ -59,6 +59,10 @@ keeps-of f g extends = record { values = extends.values; insts = extends.insts }
 
 pub keeps-itself : (f : Body) → Keeps f f
 keeps-itself f = record { values = λ v ty is. is; insts = λ i node is. keeps-node f i node is }
+
+-- a new block changes neither
+pub keeps-block : (f : Body) → Keeps f (with_block f)
+keeps-block f = record { values = λ v ty is. is; insts = λ i node is. keeps-node (with_block f) i node is }
 
 -- a branch that exists stands where it stood
 pub branch-kept : (f g : Body) → Keeps f g → (i : ℕ) → i < length f.insts → branch_block g i ≡ branch_block f i
