@@ -9,7 +9,7 @@ pub mod LedgerBuilt
 pub mod LedgerBlocks
 pub mod LedgerVariables
 pub mod LedgerEnds
-mod Declaring
+pub mod Declaring
 pub mod Growing
 pub mod StandingLocal
 pub mod Standing

@@ -282,6 +282,7 @@ impl FunctionBuilderContext {
         self.ssa.has_any_predecessors(block)
     }
 
+    #[tactic(auto, using(crate::proofs::Declaring::declare_rules))]
     /// Says that a new branch with these edges leads to the target of each, once.
     pub(crate) fn declare_successors(
         &mut self,
