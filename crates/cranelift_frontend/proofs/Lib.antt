@@ -11,6 +11,7 @@ pub mod LedgerVariables
 pub mod LedgerEnds
 pub mod Declaring
 pub mod Growing
+pub mod Named
 pub mod StandingLocal
 pub mod Standing
 pub mod StandingResults
