@@ -10,8 +10,9 @@ pub mod LedgerBuilt
 pub mod LedgerBlocks
 pub mod LedgerVariables
 pub mod LedgerEnds
-mod Declaring
+pub mod Declaring
 pub mod Growing
+pub mod Named
 pub mod Standing
 pub mod StandingResults
 pub mod Finishing

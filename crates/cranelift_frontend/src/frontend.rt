@@ -289,6 +289,7 @@ impl<'a> FunctionBuilder<'a> {
     }
 }
 
+#[tactic(auto, using(crate::proofs::Named::names_rules))]
 // Brings a block into the layout, where something is made in it.
 pub(crate) fn begin_block(
     func: &mut Function,
@@ -299,6 +300,7 @@ pub(crate) fn begin_block(
     ensures function { OnOk result (func.new ≡ inserted_in func.old block) }
     ensures status { OnOk result (SetsStatus ctx.old ctx.new block (begun (status_of ctx.old block))) }
     ensures ssa { ctx.new.ssa ≡ ctx.old.ssa }
+    ensures names { NamesExist func.old ctx.old.ssa → NamesExist func.new ctx.new.ssa }
     ensures variables { ctx.new.variables ≡ ctx.old.variables }
     ensures only_memory { OnErr result (result ≡ Err BuildError.Memory) }
 {
@@ -333,6 +335,7 @@ fn use_variable(
     ctx.use_var(func, variable, ty, block)
 }
 
+#[tactic(auto, using(crate::proofs::Named::names_rules))]
 // Makes a block, and makes it known to the construction of SSA form.
 fn make_block(func: &mut Function, ctx: &mut FunctionBuilderContext) -> Result<Block, BuildError>
     ensures function { OnOk result (func.new ≡ with_block func.old) }
@@ -340,6 +343,7 @@ fn make_block(func: &mut Function, ctx: &mut FunctionBuilderContext) -> Result<B
     ensures records { ctx.new.ssa.records ≡ ctx.old.ssa.records }
     ensures sealed { SameBlocks ctx.old.ssa ctx.new.ssa }
     ensures predecessors { SamePredecessors ctx.old.ssa ctx.new.ssa }
+    ensures names { NamesExist func.old ctx.old.ssa → NamesExist func.new ctx.new.ssa }
     ensures status { ctx.new.status ≡ ctx.old.status }
     ensures variables { ctx.new.variables ≡ ctx.old.variables }
     ensures full { result ≡ Err BuildError.Full → length func.old.blocks ≡ 2 ^ 32 - 1 }
