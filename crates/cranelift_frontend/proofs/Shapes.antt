@@ -1,5 +1,5 @@
 -- The instructions of the calls by name have the shapes that these calls make.
-use Rattle.std.proofs.Common.{◌≡◌, ℕ, List, [], ◌∷◌, map, refl, sym, ◌∙◌, ap, ap₂}
+use Rattle.std.proofs.Common.{◌≡◌, ℕ, List, [], ◌∷◌, map, refl, sym, ◌∙◌, ap, ap₂, subst}
 use Rattle.std.specs.Prelude.{slice_get, Option, Some, ℤ}
 use Rattle.std.proofs.lemmas.Option.{get_or_from_slice_get}
 use Rattle.clif_types.specs.declared.types.«Type».{«Type»}
@@ -15,7 +15,7 @@ use Rattle.clif_meaning.specs.Ledger.{or_invalid, type_of}
 use Rattle.clif_meaning.specs.Request.{AnsweredCall, number_of}
 use Rattle.clif_meaning.specs.View.{operation_of}
 use Rattle.cranelift_frontend.specs.Context.{ContextState}
-use Rattle.cranelift_frontend.specs.Ledger.{HasShape, LedgerAgrees, NamesEdge, NamesValue, ledger_of}
+use Rattle.cranelift_frontend.specs.Ledger.{HasShape, LedgerAgrees, NamesEdge, NamesEdges, NamesValue, ledger_of}
 use Rattle.cranelift_frontend.proofs.LedgerKept.{named-value}
 use Rattle.cranelift_frontend.proofs.LedgerLists.{map-some}
 
@@ -51,12 +51,12 @@ module _ (calls : List AnsweredCall) (f : Body) (c : ContextState) (p : Option �
     edges = tt;
   }
 
-  pub brif_shape : (condition : Name) (value : ℕ) (taken other : Edge Name Name) (call_then call_else : BlockCall) → NamesValue calls condition value
-      → NamesEdge calls taken call_then → NamesEdge calls other call_else
-      → HasShape calls f (parts Brif (or_invalid (type_of (ledger_of calls) condition)) (condition ∷ []) (taken ∷ other ∷ [])) (shape.Brif value (call_then ∷ call_else ∷ [])) type.Invalid
-  brif_shape condition value taken other call_then call_else names first second = record {
+  pub brif_shape : (condition : Name) (value : ℕ) (taken other : Edge Name Name) (call_then call_else : BlockCall) (blocks : List BlockCall) → blocks ≡ call_then ∷ call_else ∷ []
+      → NamesValue calls condition value → NamesEdge calls taken call_then → NamesEdge calls other call_else
+      → HasShape calls f (parts Brif (or_invalid (type_of (ledger_of calls) condition)) (condition ∷ []) (taken ∷ other ∷ [])) (shape.Brif value blocks) type.Invalid
+  brif_shape condition value taken other call_then call_else blocks are names first second = record {
     operation = refl;
     controlling = named_type condition value names;
     operands_numbered = ap (λ (n : Option ℕ). n ∷ []) names.number;
-    edges = (first, (second, tt));
+    edges = subst (NamesEdges calls (taken ∷ other ∷ [])) (sym are) (first, (second, tt));
   }

@@ -18,8 +18,9 @@ use Rattle.clif_ssa.proofs.Constructed.{inserted_constructs}
 use Rattle.clif_ssa.proofs.Constructing.{constructs_then}
 use Rattle.clif_ssa.proofs.StructuredLaws.{inserted_structured}
 use Rattle.clif_meaning.specs.Ledger.{BlockState, VariableState, is_filled, state_has, variable_type}
-use Rattle.clif_simulation.specs.Carries.{Carries, IsCurrent}
+use Rattle.clif_simulation.specs.Carries.{Carries, Holds, IsCurrent}
 use Rattle.clif_simulation.proofs.Whole.{are_declared, declared_types}
+use Rattle.clif_simulation.proofs.EdgesMatching.{edges_match}
 use Rattle.clif_simulation.proofs.Beginning.{carries_nothing, one_current}
 use Rattle.clif_simulation.proofs.Calls.{carries_created, carries_switched, carries_declared, carries_sealed, carries_assigned, carries_used, structured_so_far}
 use Rattle.cranelift_frontend.specs.declared.context.BlockStatus.{BlockStatus}
@@ -29,6 +30,7 @@ use Rattle.cranelift_frontend.specs.Construction.{IsUse, IsSealing}
 use Rattle.cranelift_frontend.specs.Builder.{HasCurrent, is_filled_status}
 use Rattle.cranelift_frontend.specs.declared.builder.FunctionBuilder.{FunctionBuilder}
 use Rattle.cranelift_frontend.specs.Ledger.{LedgerAgrees, NamesValue, ledger_of, block_name}
+use Rattle.cranelift_frontend.specs.Laws.{StandingMatchesEdges}
 use Rattle.cranelift_frontend.specs.StandsFor.{StandsIn}
 use Rattle.cranelift_frontend.proofs.LedgerKept.{inserted-twice, stands-push}
 use Rattle.cranelift_frontend.proofs.LedgerNames.{state-by-name, name-number}
@@ -193,3 +195,10 @@ current_exists b current block at = subst (λ (k : ℕ). k < length b.func.now.b
 -- and has no terminator
 pub current_open : (b : FunctionBuilder) → HasCurrent b → (block : ℕ) → b.position ≡ Some block → status_of b.ctx.now block ≢ Filled
 current_open b current block at = subst (λ (k : ℕ). status_of b.ctx.now k ≢ Filled) (same_Some current.0 block (sym current.1 ∙ at)) current.3
+
+-- once no parameter waits, the edges match where the caller's do
+pub standing_edges : StandingMatchesEdges
+standing_edges declared calls f c p stands none_waits typed =
+    let holds : Holds calls stands.carries.own f c.ssa = stands.carries.holds in
+    edges_match calls f c.ssa stands.carries.own (declared_types calls) (structured_so_far calls f c.ssa stands.carries) holds.no_parameters
+    holds.items holds.own_named holds.declared none_waits typed

@@ -1,5 +1,4 @@
 use Rattle.std.proofs.Common.{◌≡◌, refl, rules, subst, sym}
-use Rattle.clif_ir.specs.declared.block_call.BlockCall.{BlockCall}
 use Rattle.clif_ir.specs.declared.instructions.InstructionData.TheVariants.{Jump}
 use Rattle.clif_types.specs.declared.types.«Type».TheVariants.{Invalid}
 use Rattle.cranelift_frontend.specs.Ledger.{NamesEdge}
