@@ -8,6 +8,7 @@ pub mod LedgerMade
 pub mod LedgerUsed
 pub mod LedgerBuilt
 pub mod LedgerBlocks
+pub mod LedgerLeads
 pub mod LedgerVariables
 pub mod LedgerEnds
 pub mod Declaring
