@@ -3,6 +3,7 @@ use Rattle.cranelift_frontend.proofs.LedgerBlocks.{sealed}
 use Rattle.cranelift_frontend.proofs.builder.FunctionBuilder.seal_block.Goals as goal
 use Rattle.clif_ssa.specs.Tables.{pending_of}
 use Rattle.clif_ssa.specs.Ssa.{sealed_of}
+use Rattle.cranelift_frontend.proofs.Standing.{standing_edges}
 use Rattle.cranelift_frontend.proofs.StandingResults.{sealed_stands}
 use Rattle.cranelift_frontend.proofs.Growing.{seal_current, seal_grows, recorded_on}
 
@@ -26,8 +27,14 @@ returns-clause-current c =
 pub returns-clause-stands : goal.returns-clause-stands
 returns-clause-stands c = λ signature calls name stands names.
     let done = c.seal_block-sealed.ensures in
-    sealed_stands signature calls _ _ _ _ _ name c.args.block _ stands c.law_consistent.ensures done.function done.records done.sealed done.predecessors done.status
+    sealed_stands signature calls _ _ _ _ _ name c.args.block _ stands c.law_consistent.ensures done.is_sealing c.law_consistent-2.ensures
     (returns-clause-ledger c calls name stands.ledger names)
+
+pub returns-then-self-clause-edges_match : goal.returns-then-self-clause-edges_match
+returns-then-self-clause-edges_match c = λ signature calls stands none_waits typed. standing_edges signature calls _ _ _ stands none_waits typed
+
+pub returns-clause-edges_match : goal.returns-clause-edges_match
+returns-clause-edges_match c = λ signature calls stands none_waits typed. standing_edges signature calls _ _ _ stands none_waits typed
 
 pub returns-clause-remembers : goal.returns-clause-remembers
 returns-clause-remembers c = λ x b.

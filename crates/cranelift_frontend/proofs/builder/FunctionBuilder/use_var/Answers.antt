@@ -16,9 +16,9 @@ returns-clause-recorded c = use_recorded c.use_variable-used.result _ _ _ _ _ _ 
 
 pub returns-clause-stands : goal.returns-clause-stands
 returns-clause-stands c = λ signature calls stands.
-    used_stands signature calls _ _ _ _ _ c.args.variable c.in-Some-var_type.ty c.in-Some.block _ stands c.law_consistent.ensures c.in-Some.is (current_exists c.args.self.now c.requires.current c.in-Some.block c.in-Some.is)
+    used_stands signature calls _ _ _ _ _ c.args.variable c.in-Some-var_type.ty c.in-Some.block _ stands c.law_consistent.ensures c.in-Some.is
     (current_open c.args.self.now c.requires.current c.in-Some.block c.in-Some.is) (sym c.var_type.ensures ∙ c.in-Some-var_type.is)
-    c.use_variable-used.ensures.uses c.use_variable-used.ensures.predecessors c.use_variable-used.ensures.status (returns-clause-ledger c calls stands.ledger)
+    c.use_variable-used.ensures.is_use c.law_consistent-2.ensures (returns-clause-ledger c calls stands.ledger)
 
 pub returns-clause-remembers : goal.returns-clause-remembers
 returns-clause-remembers c = λ x b.
