@@ -30,8 +30,8 @@ use Rattle.clif_simulation.specs.Laws.{IsFinished}
 use Rattle.clif_simulation.specs.Structure.{AreRecords, LeavesNoParameter}
 use Rattle.clif_simulation.proofs.Calls.{structured_so_far}
 use Rattle.clif_simulation.proofs.Values.{false_is}
-use Rattle.clif_simulation.proofs.Whole.{declared_types, spared, waiting_pending, whole}
-use Rattle.clif_simulation.proofs.CallersAlone.{leaves_few}
+use Rattle.clif_simulation.proofs.Whole.{spared, waiting_pending, whole}
+use Rattle.clif_simulation.proofs.CarriedStructure.{no_parameters}
 use Rattle.clif_simulation.proofs.Defined.{well_placed}
 use Rattle.clif_simulation.proofs.RecordsDefined.{records_well_placed}
 use Rattle.clif_simulation.proofs.Assembly.{means}
@@ -177,9 +177,7 @@ finished_means declared calls b width stands consistent =
 pub finished_parameters : (declared : SignatureShape) (calls : List AnsweredCall) (b : FunctionBuilder) → StandsFor declared calls b → IsConsistent b.func.now
     → OnOk (verdict_of b.failed b.ctx.now (length b.func.now.blocks)) (LeavesNoParameter calls b.func.now b.ctx.now.ssa)
 finished_parameters declared calls b stands consistent =
-    on_finished declared calls b stands consistent (LeavesNoParameter calls b.func.now b.ctx.now.ssa) (λ finished.
-    (leaves_few calls b.func.now b.ctx.now.ssa stands.carries.own (declared_types calls) (structured_so_far calls b.func.now b.ctx.now.ssa stands.carries) stands.carries.holds.no_parameters).leaves
-    finished.none_waits)
+    on_finished declared calls b stands consistent (LeavesNoParameter calls b.func.now b.ctx.now.ssa) (λ finished. no_parameters calls b.func.now b.ctx.now.ssa stands.carries finished.none_waits)
 
 pub finished_edges : (declared : SignatureShape) (calls : List AnsweredCall) (b : FunctionBuilder) → StandsFor declared calls b → IsConsistent b.func.now
     → CallersEdgesMatch (script_of calls) → OnOk (verdict_of b.failed b.ctx.now (length b.func.now.blocks)) (EdgesMatch (view_of b.func.now))

@@ -18,9 +18,9 @@ use Rattle.clif_ssa.proofs.Constructed.{inserted_constructs}
 use Rattle.clif_ssa.proofs.Constructing.{constructs_then}
 use Rattle.clif_ssa.proofs.StructuredLaws.{inserted_structured}
 use Rattle.clif_meaning.specs.Ledger.{BlockState, VariableState, is_filled, state_has, variable_type}
-use Rattle.clif_simulation.specs.Carries.{Carries, Holds, IsCurrent}
+use Rattle.clif_simulation.specs.Carries.{Carries, IsCurrent}
 use Rattle.clif_simulation.proofs.Whole.{are_declared, declared_types}
-use Rattle.clif_simulation.proofs.EdgesMatching.{edges_match}
+use Rattle.clif_simulation.proofs.CarriedStructure.{matching_edges}
 use Rattle.clif_simulation.proofs.Beginning.{carries_nothing, one_current}
 use Rattle.clif_simulation.proofs.Calls.{carries_created, carries_switched, carries_declared, carries_sealed, carries_assigned, carries_used, structured_so_far}
 use Rattle.cranelift_frontend.specs.declared.context.BlockStatus.{BlockStatus}
@@ -198,7 +198,4 @@ current_open b current block at = subst (λ (k : ℕ). status_of b.ctx.now k ≢
 
 -- once no parameter waits, the edges match where the caller's do
 pub standing_edges : StandingMatchesEdges
-standing_edges declared calls f c p stands none_waits typed =
-    let holds : Holds calls stands.carries.own f c.ssa = stands.carries.holds in
-    edges_match calls f c.ssa stands.carries.own (declared_types calls) (structured_so_far calls f c.ssa stands.carries) holds.no_parameters
-    holds.items holds.own_named holds.declared none_waits typed
+standing_edges declared calls f c p stands none_waits typed = matching_edges calls f c.ssa stands.carries none_waits typed
