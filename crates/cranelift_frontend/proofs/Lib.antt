@@ -9,6 +9,7 @@ pub mod LedgerUsed
 pub mod LedgerBuilt
 pub mod LedgerBlocks
 pub mod LedgerLeads
+pub mod LedgerBranched
 pub mod LedgerVariables
 pub mod LedgerEnds
 mod Declaring
