@@ -6,10 +6,10 @@ pub mod LedgerKept
 pub mod Placed
 pub mod LedgerMade
 pub mod LedgerUsed
-pub mod LedgerBuilt
 pub mod LedgerBlocks
 pub mod LedgerLeads
 pub mod LedgerBranched
+pub mod LedgerBuilt
 pub mod LedgerVariables
 pub mod LedgerEnds
 mod Declaring
