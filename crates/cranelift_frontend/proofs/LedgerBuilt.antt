@@ -89,7 +89,7 @@ appends-make calls ledger f g c d p block shape types status agrees consistent e
     }
 
 -- the node of an appended instruction
-node-there : (f g : Body) (block : ℕ) (shape : InstructionData) (types : List «Type»)
+pub node-there : (f g : Body) (block : ℕ) (shape : InstructionData) (types : List «Type»)
     → g ≡ with_inst (inserted_in f block) block Back shape types no_srcloc
     → slice_get g.insts (length f.insts) ≡ Some (inst_node (inserted_in f block) block shape types no_srcloc)
 node-there f g block shape types function =

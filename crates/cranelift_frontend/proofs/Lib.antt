@@ -10,6 +10,7 @@ pub mod LedgerBlocks
 pub mod LedgerLeads
 pub mod LedgerBranched
 pub mod LedgerBuilt
+pub mod LedgerShaped
 pub mod LedgerVariables
 pub mod LedgerEnds
 mod Declaring
