@@ -352,7 +352,7 @@ results-kept f g extends (AnInstruction ∷ answers) (inst ∷ numbers) follow =
     let node = extends.insts inst follow.0 follow.1 in
     (node.kept, node.there, follow.2 ∙ sym node.results)
 
-answers-kept : (old new : Ledger) (f g : Body) → ((k : ℕ) (name : Name) → block_name old k ≡ Some name → block_name new k ≡ Some name) → Keeps f g
+pub answers-kept : (old new : Ledger) (f g : Body) → ((k : ℕ) (name : Name) → block_name old k ≡ Some name → block_name new k ≡ Some name) → Keeps f g
     → (place : ℕ) (answers : List Answered) (numbers : List ℕ) → AnswersAgree old f place answers numbers → AnswersAgree new g place answers numbers
 answers-kept old new f g names extends place answers numbers agree =
     record {

@@ -6,9 +6,11 @@ pub mod LedgerKept
 pub mod Placed
 pub mod LedgerMade
 pub mod LedgerUsed
-pub mod LedgerBuilt
 pub mod LedgerBlocks
 pub mod LedgerLeads
+pub mod LedgerBranched
+pub mod LedgerBuilt
+pub mod LedgerShaped
 pub mod LedgerVariables
 pub mod LedgerEnds
 pub mod Declaring
