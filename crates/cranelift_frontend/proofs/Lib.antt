@@ -1,4 +1,3 @@
-pub mod Statuses
 pub mod Faults
 pub mod LedgerLists
 pub mod LedgerNames
@@ -12,6 +11,7 @@ pub mod LedgerEnds
 pub mod Declaring
 pub mod Growing
 pub mod Named
+pub mod Statuses
 pub mod StandingLocal
 pub mod Standing
 pub mod StandingResults
