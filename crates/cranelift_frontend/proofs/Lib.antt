@@ -11,6 +11,7 @@ pub mod LedgerEnds
 pub mod Declaring
 pub mod Growing
 pub mod Named
+mod Appending
 pub mod Statuses
 pub mod StandingLocal
 pub mod Standing
