@@ -11,10 +11,18 @@ use Rattle.cranelift_frontend.proofs.Remembered.{remembers_value}
 use Rattle.cranelift_frontend.proofs.instructions.RefMutFunctionBuilderInstBuilder.iadd.Goals as goal
 
 pub returns-clause-ledger : goal.returns-clause-ledger
-returns-clause-ledger c = ?
+returns-clause-ledger c = λ calls a b agrees first second.
+    let done = c.append_value.ensures in
+    let appends : IfSome c.args.self.now.position (λ block. IfOk c.append_value.result (AppendsValue c.args.self.now c.append_value.new.builder block (Binary Iadd (c.args.x ∷ c.args.y ∷ [])) (value_at c.args.self.now.func.now c.args.x).ty)) =
+    first_of (search rules, grind (arith, common_steps)) in
+    iadd_agrees calls c.args.self.now c.append_value.new.builder a b c.args.x c.args.y _ agrees first second c.requires.current appends done.ssa done.variables done.position
 
 pub returns-clause-stands : goal.returns-clause-stands
-returns-clause-stands c = ?
+returns-clause-stands c = λ signature calls a b stands first second.
+    let done = c.append_value.ensures in
+    let appends : IfSome c.args.self.now.position (λ block. IfOk c.append_value.result (AppendsValue c.args.self.now c.append_value.new.builder block (Binary Iadd (c.args.x ∷ c.args.y ∷ [])) (value_at c.args.self.now.func.now c.args.x).ty)) =
+    first_of (search rules, grind (arith, common_steps)) in
+    iadd_stands signature calls c.args.self.now c.append_value.new.builder a b c.args.x c.args.y _ stands c.law_consistent.ensures first second c.requires.current appends done.ssa done.variables done.position
 
 pub returns-clause-remembers : goal.returns-clause-remembers
 returns-clause-remembers c = λ v b.

@@ -9,10 +9,18 @@ use Rattle.cranelift_frontend.proofs.Remembered.{remembers_value}
 use Rattle.cranelift_frontend.proofs.instructions.RefMutFunctionBuilderInstBuilder.iconst.Goals as goal
 
 pub returns-clause-ledger : goal.returns-clause-ledger
-returns-clause-ledger c = ?
+returns-clause-ledger c = λ calls agrees.
+    let done = c.append_value.ensures in
+    let appends : IfSome c.args.self.now.position (λ block. IfOk c.append_value.result (AppendsValue c.args.self.now c.append_value.new.builder block (UnaryImm c.args.imm) c.args.ty)) =
+    first_of (search rules, grind (arith, common_steps)) in
+    iconst_agrees calls c.args.self.now c.append_value.new.builder c.args.ty c.args.imm _ agrees c.requires.current appends done.ssa done.variables done.position
 
 pub returns-clause-stands : goal.returns-clause-stands
-returns-clause-stands c = ?
+returns-clause-stands c = λ signature calls stands.
+    let done = c.append_value.ensures in
+    let appends : IfSome c.args.self.now.position (λ block. IfOk c.append_value.result (AppendsValue c.args.self.now c.append_value.new.builder block (UnaryImm c.args.imm) c.args.ty)) =
+    first_of (search rules, grind (arith, common_steps)) in
+    iconst_stands signature calls c.args.self.now c.append_value.new.builder c.args.ty c.args.imm _ stands c.law_consistent.ensures c.requires.current appends done.ssa done.variables done.position
 
 pub returns-clause-remembers : goal.returns-clause-remembers
 returns-clause-remembers c = λ v b.

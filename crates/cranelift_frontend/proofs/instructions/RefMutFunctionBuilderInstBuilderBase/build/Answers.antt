@@ -13,8 +13,15 @@ returns-clause-remembers c = λ v b.
     c.law_consistent.ensures c.append-built.ensures.appends c.append-built.ensures.declares
 
 pub returns-clause-ledger : goal.returns-clause-ledger
-returns-clause-ledger c = ?
+returns-clause-ledger c = λ calls instruction agrees has.
+    let done = c.append-built.ensures in
+    let b = c.args.self.now in
+    ledger_shaped calls b (record b { func = record b.func { now = c.append-built.new.func }; ctx = record b.ctx { now = c.append-built.new.ctx } }) instruction c.args.shape c.args.ctrl_type c.append-built.result c.in-Some.block
+    agrees has c.requires.current c.in-Some.is done.appends done.ssa done.variables refl
 
 pub returns-clause-stands : goal.returns-clause-stands
-returns-clause-stands c = ?
-
+returns-clause-stands c = λ signature calls instruction stands has.
+    let done = c.append-built.ensures in
+    let b = c.args.self.now in
+    stands_shaped signature calls b (record b { func = record b.func { now = c.append-built.new.func }; ctx = record b.ctx { now = c.append-built.new.ctx } }) instruction c.args.shape c.args.ctrl_type c.append-built.result c.in-Some.block
+    stands c.law_consistent.ensures has c.requires.current c.in-Some.is done.appends done.ssa done.variables refl
