@@ -89,7 +89,7 @@ if_ok_from : {X Y : Type 0} (r : Result X Y) (P Q : X → Type 0) → ((x : X) �
 if_ok_from (Ok x) P Q step known = step x known
 if_ok_from (Err e) P Q step known = tt
 
-on_ok_step : {X Y : Type 0} (r : Result X Y) (P Q : Type 0) → (P → Q) → OnOk r P → OnOk r Q
+pub on_ok_step : {X Y : Type 0} (r : Result X Y) (P Q : Type 0) → (P → Q) → OnOk r P → OnOk r Q
 on_ok_step (Ok x) P Q step known = step known
 on_ok_step (Err e) P Q step known = tt
 

@@ -1,4 +1,3 @@
-pub mod Statuses
 pub mod Faults
 pub mod LedgerLists
 pub mod LedgerNames
@@ -16,11 +15,12 @@ pub mod LedgerEnds
 pub mod Declaring
 pub mod Growing
 pub mod Named
+mod Appending
+pub mod Statuses
 pub mod Standing
 pub mod StandingResults
 pub mod Finishing
 pub mod StandingBuilt
-pub mod Shapes
 pub mod StandingShaped
 mod Remembered
 pub mod Shaped

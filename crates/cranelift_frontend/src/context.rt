@@ -296,6 +296,7 @@ impl FunctionBuilderContext {
         requires unsealed { (b : ℕ) → Contains (targets edges.now) b → is_yes (sealed_of self.old.ssa b) ≡ false }
         requires new_branch { (b : ℕ) → Contains (predecessors_of self.old.ssa b) inst → ⊥ }
         ensures ok { OnOk result (IsDeclared self.old.ssa inst (targets edges.now) self.new.ssa) }
+        ensures none { edges.now ≡ [] → self.new.ssa ≡ self.old.ssa }
         ensures names { (f : Body) → inst < length f.insts → NamesExist f self.old.ssa → NamesExist f self.new.ssa }
         ensures status { self.new.status ≡ self.old.status }
         ensures variables { self.new.variables ≡ self.old.variables }

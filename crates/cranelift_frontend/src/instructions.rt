@@ -217,7 +217,7 @@ impl<'short, 'long> InstBuilder<'long> for &'short mut FunctionBuilder<'long> {
         requires current { HasCurrent self.old }
         requires leads { CanLead self.old (record { block = block; args = args.now }) }
         ensures loans { SameLoans self.old self.new }
-        ensures appends { IfSome self.old.position (λ block. IfOk result (Appends self.old self.new block (InstructionData.Jump (record { block = block; args = args.now })) Type.Invalid)) }
+        ensures appends { IfSome self.old.position (λ current. IfOk result (Appends self.old self.new current (InstructionData.Jump (record { block = block; args = args.now })) Type.Invalid)) }
         ensures declares { IfOk result (λ inst. IsDeclared self.old.ctx.now.ssa inst (block ∷ []) self.new.ctx.now.ssa) }
         ensures variables { self.new.ctx.now.variables ≡ self.old.ctx.now.variables }
         ensures position { self.new.position ≡ self.old.position }

@@ -1,4 +1,4 @@
-use Rattle.std.proofs.Common.{◌≡◌, take, ◌<◌, length}
+use Rattle.std.proofs.Common.{◌≡◌, take, ◌<◌, [], length}
 use Rattle.clif_ir.specs.Body.{Body}
 use Rattle.clif_ir.specs.Reading.{targets}
 use Rattle.clif_ssa.specs.Ssa.{NamesExist}
@@ -11,3 +11,4 @@ invariant-loop-edge l =
     × ((f : Body) → l.inst < length f.insts → NamesExist f l.initial.self-inside.ssa → NamesExist f l.self-inside.ssa)
     × (l.self-inside.status ≡ l.initial.self-inside.status)
     × (l.self-inside.variables ≡ l.initial.self-inside.variables)
+    × (l.edges ≡ [] → l.self-inside.ssa ≡ l.initial.self-inside.ssa)
