@@ -33,7 +33,6 @@ use Rattle.cranelift_frontend.specs.Context.{ContextState, status_of, begun, Set
 use Rattle.cranelift_frontend.specs.Builder.{AppendsIn, AppendsValue, HasCurrent, status_after, with_appended}
 use Rattle.cranelift_frontend.specs.Ledger.{LedgerAgrees, AgreesWithLedger, NamesArgument, NamesArguments, NamesEdge, NamesEdges, NamesValue, block_name, ledger_of}
 use Rattle.cranelift_frontend.specs.StandsFor.{StandsIn}
-use Rattle.cranelift_frontend.proofs.LedgerBuilt.{built-iconst, built-iadd}
 use Rattle.cranelift_frontend.proofs.LedgerNames.{IsNumbered, named-block}
 use Rattle.cranelift_frontend.proofs.Standing.{begun_not_empty, inserted_cases}
 
@@ -170,19 +169,3 @@ module _ (declared : SignatureShape) (calls : List AnsweredCall) (f g : Body) (c
         not_empty c d block (status_after shape (status_of c block)) appends.status (appended_not_empty shape (status_of c block)) b
         (was b (inserted_cases f block b (ap (stands_in b) (sym (ap (λ (h : Body). h.layout) appends.function)) ∙ stays)));
   }
-
--- the same for calls that answer a result: where it is no error
-pub iconst_agrees : {E : Type 0} (calls : List AnsweredCall) (old new : FunctionBuilder) (ty : «Type») (imm : ℤ) (r : Result ℕ E)
-    → AgreesWithLedger calls old → HasCurrent old → IfSome old.position (λ block. IfOk r (AppendsValue old new block (UnaryImm imm) ty))
-    → new.ctx.now.ssa ≡ old.ctx.now.ssa → new.ctx.now.variables ≡ old.ctx.now.variables → new.position ≡ old.position
-    → IfOk r (λ value. AgreesWithLedger (calls ++ record { request = acceptance.iconst ty imm; numbers = length old.func.now.insts ∷ value ∷ [] } ∷ []) new)
-iconst_agrees calls old new ty imm (Err e) agrees current appends ssa variables position = tt
-iconst_agrees calls old new ty imm (Ok value) agrees current appends ssa variables position = built-iconst calls old new ty imm value agrees current appends ssa variables position
-
-pub iadd_agrees : {E : Type 0} (calls : List AnsweredCall) (old new : FunctionBuilder) (a b : Name) (x y : ℕ) (r : Result ℕ E)
-    → AgreesWithLedger calls old → NamesValue calls a x → NamesValue calls b y → HasCurrent old
-    → IfSome old.position (λ block. IfOk r (AppendsValue old new block (Binary binary.Iadd (x ∷ y ∷ [])) (value_at old.func.now x).ty))
-    → new.ctx.now.ssa ≡ old.ctx.now.ssa → new.ctx.now.variables ≡ old.ctx.now.variables → new.position ≡ old.position
-    → IfOk r (λ value. AgreesWithLedger (calls ++ record { request = acceptance.iadd (ledger_of calls) a b; numbers = length old.func.now.insts ∷ value ∷ [] } ∷ []) new)
-iadd_agrees calls old new a b x y (Err e) agrees first second current appends ssa variables position = tt
-iadd_agrees calls old new a b x y (Ok value) agrees first second current appends ssa variables position = built-iadd calls old new a b x y value agrees first second current appends ssa variables position
