@@ -89,8 +89,7 @@ arguments_named calls [] (p ∷ passed) names = absurd names
 arguments_named calls (argument ∷ arguments) [] names = absurd names
 arguments_named calls (argument ∷ arguments) (p ∷ passed) names =
     let first = argument_named calls argument p names.0 in
-    let rest = arguments_named calls arguments passed names.1 in
-    (
+    let rest = arguments_named calls arguments passed names.1 in (
       ap₂ (λ (x : Argument ℕ) (xs : List (Argument ℕ)). x ∷ xs) first.0 rest.0,
       (first.1, rest.1),
     )
@@ -100,8 +99,7 @@ module _ (calls : List AnsweredCall) (numbered : IsNumbered calls (ledger_of cal
   edge_named edge made names =
       let target : made.block ≡ answered calls edge.target = answer_is calls edge.target made.block names.target.number in
       let passes = arguments_named calls edge.arguments made.args names.arguments in
-      let named : block_name (ledger_of calls) made.block ≡ Some edge.target = named-block calls numbered edge.target made.block names.target in
-      (
+      let named : block_name (ledger_of calls) made.block ≡ Some edge.target = named-block calls numbered edge.target made.block names.target in (
         ap₂ (λ (k : ℕ) (arguments : List (Argument ℕ)). record { target = k; arguments = arguments }) target passes.0,
         record {
           target = named_earlier calls edge.target made.block names.target.number;
@@ -117,8 +115,7 @@ module _ (calls : List AnsweredCall) (numbered : IsNumbered calls (ledger_of cal
   edges_named (edge ∷ edges) [] names = absurd names
   edges_named (edge ∷ edges) (m ∷ made) names =
       let first = edge_named edge m names.0 in
-      let rest = edges_named edges made names.1 in
-      (
+      let rest = edges_named edges made names.1 in (
         ap₂ (λ (x : Edge ℕ ℕ) (xs : List (Edge ℕ ℕ)). x ∷ xs) first.0 rest.0,
         (first.1, rest.1),
       )
