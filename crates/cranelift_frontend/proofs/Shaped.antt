@@ -1,17 +1,14 @@
--- An instruction of any shape is built: the agreement with the ledger is kept, and the builder stands for the list with
--- this call at its end.
+-- An instruction of any shape is built: the agreement with the ledger is kept.
 use Rattle.std.proofs.Common.{◌≡◌, ◌≢◌, ℕ, List, [], ◌∷◌, ◌++◌, length, map, refl, sym, ◌∙◌, ap, subst}
 use Rattle.std.specs.Prelude.{slice_get, Bool, true, false, if◌then◌else◌, Option, Some, IfSome, IfOk, Result, Ok, Err}
 use Rattle.clif_types.specs.declared.types.«Type».{«Type»}
 use Rattle.clif_types.specs.declared.types.«Type».TheVariants as type
-use Rattle.clif_types.specs.Signature.{SignatureShape}
 use Rattle.clif_ir.specs.declared.instructions.BinaryOpcode.TheVariants as binary
 use Rattle.clif_ir.specs.declared.instructions.InstructionData.{InstructionData}
 use Rattle.clif_ir.specs.declared.instructions.InstructionData.TheVariants.{UnaryImm, Binary, Jump, Brif, MultiAry}
 use Rattle.clif_ir.specs.Body.{Body, inst_at}
 use Rattle.clif_ir.specs.Changes.{inserted_in, with_inst}
 use Rattle.clif_ir.specs.declared.inst_list.BlockEnd.TheVariants.{Back}
-use Rattle.clif_ir.specs.Consistent.{IsConsistent}
 use Rattle.clif_ir.specs.Instruction.{destinations, is_branch, is_terminator, operands, result_types}
 use Rattle.clif_ssa.specs.Ssa.{no_srcloc}
 use Rattle.clif_meaning.specs.Name.{Name}
@@ -19,18 +16,14 @@ use Rattle.clif_meaning.specs.Instruction.{Arithmetic, Edge, Instruction, Operat
 use Rattle.clif_meaning.specs.Program as program
 use Rattle.clif_meaning.specs.Request.{AnsweredCall, Build}
 use Rattle.clif_meaning.specs.View.{controlling_of, edge_of, first_type, operation_of}
-use Rattle.clif_simulation.proofs.Building.{SameInstruction, carries_terminator, carries_result}
 use Rattle.cranelift_frontend.specs.declared.context.BlockStatus.TheVariants.{Empty, Filled}
 use Rattle.cranelift_frontend.specs.declared.builder.FunctionBuilder.{FunctionBuilder}
 use Rattle.cranelift_frontend.specs.Context.{SetsStatus, status_of, begun}
 use Rattle.cranelift_frontend.specs.Builder.{HasCurrent, Appends}
 use Rattle.cranelift_frontend.specs.Ledger.{LedgerAgrees, AgreesWithLedger, HasShape, ledger_of, made_at}
-use Rattle.cranelift_frontend.specs.StandsFor.{StandsIn, StandsFor}
 use Rattle.cranelift_frontend.proofs.LedgerKept.{concluded, inserted-values}
 use Rattle.cranelift_frontend.proofs.LedgerBuilt.{agrees-computed, agrees-returned}
 use Rattle.cranelift_frontend.proofs.Growing.{appended_no_results, current_results}
-use Rattle.cranelift_frontend.proofs.Standing.{current_name, current_unfilled, begun_not_empty}
-use Rattle.cranelift_frontend.proofs.StandingBuilt.{all_named, stands_built}
 
 no_branch_is_none : true ≡ false → ⊥
 no_branch_is_none same = cc
@@ -79,11 +72,6 @@ module _ (calls : List AnsweredCall) (old new : FunctionBuilder) (instruction : 
   moved : LedgerAgrees (calls ++ call ∷ []) (ledger_of (calls ++ call ∷ [])) g new.ctx.now old.position → AgreesWithLedger (calls ++ call ∷ []) new
   moved = subst (λ (o : Option ℕ). LedgerAgrees (calls ++ call ∷ []) (ledger_of (calls ++ call ∷ [])) g new.ctx.now o) (sym position)
 
-  matches : SameInstruction calls shape instruction
-  matches =
-      let all = all_named calls instruction.operands (operands shape) has.operands_numbered in
-      record { operation = sym has.operation; arguments = all.0; no_edges = ap (map edge_of) (plain_destinations shape has.no_branch); edges = has.edges; earlier = all.1 }
-
   -- an instruction that computes a value
   module _ (arithmetic : Arithmetic) (computes : operation_of shape ≡ Compute arithmetic) (one : result_types shape ty ≡ ty ∷ []) (goes_on : is_terminator shape ≡ false)
       (typed : made_at shape ty ≡ ty) (by_result : (h : Body) (values : List ℕ) → controlling_of h shape values ≡ first_type h values) where
@@ -106,24 +94,6 @@ module _ (calls : List AnsweredCall) (old new : FunctionBuilder) (instruction : 
 
     ledger_computed : AgreesWithLedger calls old → AgreesWithLedger (calls ++ call ∷ []) new
     ledger_computed agrees = moved (kept agrees)
-
-    stands_computed : (declared : SignatureShape) → StandsFor declared calls old → IsConsistent f → StandsFor declared (calls ++ call ∷ []) new
-    stands_computed declared stands consistent =
-        let block : ℕ = current.0 in
-        let name = current_name declared calls f old.ctx.now old.position stands block current.1 in
-        let one_result : program.result_types instruction.operation instruction.controlling ≡ ty ∷ [] =
-        ap (λ (o : Operation). program.result_types o instruction.controlling) (has.operation ∙ computes) ∙ types_of arithmetic instruction.controlling ∙ ap (λ (t : «Type»). t ∷ []) (has.controlling ∙ typed) in
-        let carries = carries_result calls f old.ctx.now.ssa stands.carries consistent block name.0 name.1 (current_unfilled declared calls f old.ctx.now old.position stands block name.0 name.1 current.3) current.2 shape instruction no_srcloc (inst ∷ (inst_at g inst).results) matches
-        ty one_result (has.controlling ∙ typed) by_result
-        (ap (λ (rs : List ℕ). slice_get (inst ∷ rs) 1) results ∙ ap (λ (v : ℕ). Some v) (sym (inserted-values f block))) in
-        subst (λ (o : Option ℕ). StandsIn declared (calls ++ call ∷ []) g new.ctx.now o) (sym position)
-        (stands_built declared calls f g old.ctx.now new.ctx.now old.position stands consistent block current.1 current.2 ssa (begun (status_of old.ctx.now block)) sets
-        (begun_not_empty (status_of old.ctx.now block)) shape (ty ∷ []) (function_of (ty ∷ []) one) call (kept stands.ledger) carries)
-      where
-        types_of : (a : Arithmetic) (t : «Type») → program.result_types (Compute a) t ≡ t ∷ []
-        types_of (Iconst number) t = refl
-        types_of Iadd t = refl
-        types_of Isub t = refl
 
   -- a return
   module _ (returns : operation_of shape ≡ Return) (none : result_types shape ty ≡ []) (ends : is_terminator shape ≡ true)
@@ -148,21 +118,6 @@ module _ (calls : List AnsweredCall) (old new : FunctionBuilder) (instruction : 
     ledger_returned : AgreesWithLedger calls old → AgreesWithLedger (calls ++ call ∷ []) new
     ledger_returned agrees = moved (ended agrees)
 
-    stands_returned : (declared : SignatureShape) → StandsFor declared calls old → IsConsistent f → StandsFor declared (calls ++ call ∷ []) new
-    stands_returned declared stands consistent =
-        let block : ℕ = current.0 in
-        let name = current_name declared calls f old.ctx.now old.position stands block current.1 in
-        let no_types : program.result_types instruction.operation instruction.controlling ≡ [] =
-        ap (λ (o : Operation). program.result_types o instruction.controlling) (has.operation ∙ returns) in
-        let carries = carries_terminator calls f old.ctx.now.ssa stands.carries consistent block name.0 name.1 (current_unfilled declared calls f old.ctx.now old.position stands block name.0 name.1 current.3) current.2 shape instruction no_srcloc (inst ∷ (inst_at g inst).results) matches
-        no_types (λ h. by_shape h ∙ sym (has.controlling ∙ typed)) in
-        subst (λ (o : Option ℕ). StandsIn declared (calls ++ call ∷ []) g new.ctx.now o) (sym position)
-        (stands_built declared calls f g old.ctx.now new.ctx.now old.position stands consistent block current.1 current.2 ssa Filled fills filled
-        shape [] (function_of [] none) call (ended stands.ledger) carries)
-      where
-        filled : Filled ≢ Empty
-        filled h = cc
-
 pub shaped_ledger : (calls : List AnsweredCall) (old new : FunctionBuilder) (instruction : Instruction Name Name) (shape : InstructionData) (ty : «Type») (inst : ℕ)
     → AgreesWithLedger calls old → HasShape calls instruction shape ty → HasCurrent old → IfSome old.position (λ block. Appends old new block shape ty inst)
     → new.ctx.now.ssa ≡ old.ctx.now.ssa → new.ctx.now.variables ≡ old.ctx.now.variables → new.position ≡ old.position
@@ -178,21 +133,6 @@ shaped_ledger calls old new instruction (Brif arg blocks) ty inst agrees has cur
 shaped_ledger calls old new instruction (MultiAry args) ty inst agrees has current appends ssa variables position =
     ledger_returned calls old new instruction (MultiAry args) ty inst has current appends ssa variables position refl refl refl refl (λ h. refl) agrees
 
-pub shaped_stands : (declared : SignatureShape) (calls : List AnsweredCall) (old new : FunctionBuilder) (instruction : Instruction Name Name) (shape : InstructionData) (ty : «Type») (inst : ℕ)
-    → StandsFor declared calls old → IsConsistent old.func.now → HasShape calls instruction shape ty → HasCurrent old → IfSome old.position (λ block. Appends old new block shape ty inst)
-    → new.ctx.now.ssa ≡ old.ctx.now.ssa → new.ctx.now.variables ≡ old.ctx.now.variables → new.position ≡ old.position
-    → StandsFor declared (calls ++ record { request = Build instruction; numbers = inst ∷ (inst_at new.func.now inst).results } ∷ []) new
-shaped_stands declared calls old new instruction (UnaryImm imm) ty inst stands consistent has current appends ssa variables position =
-    stands_computed calls old new instruction (UnaryImm imm) ty inst has current appends ssa variables position (Iconst imm) refl refl refl refl (λ h values. refl) declared stands consistent
-shaped_stands declared calls old new instruction (Binary binary.Iadd args) ty inst stands consistent has current appends ssa variables position =
-    stands_computed calls old new instruction (Binary binary.Iadd args) ty inst has current appends ssa variables position Iadd refl refl refl refl (λ h values. refl) declared stands consistent
-shaped_stands declared calls old new instruction (Binary binary.Isub args) ty inst stands consistent has current appends ssa variables position =
-    stands_computed calls old new instruction (Binary binary.Isub args) ty inst has current appends ssa variables position Isub refl refl refl refl (λ h values. refl) declared stands consistent
-shaped_stands declared calls old new instruction (Jump destination) ty inst stands consistent has current appends ssa variables position = absurd (no_branch_is_none has.no_branch)
-shaped_stands declared calls old new instruction (Brif arg blocks) ty inst stands consistent has current appends ssa variables position = absurd (no_branch_is_none has.no_branch)
-shaped_stands declared calls old new instruction (MultiAry args) ty inst stands consistent has current appends ssa variables position =
-    stands_returned calls old new instruction (MultiAry args) ty inst has current appends ssa variables position refl refl refl refl (λ h. refl) declared stands consistent
-
 -- where no error is answered, at the current block
 pub ledger_shaped : {E : Type 0} (calls : List AnsweredCall) (old new : FunctionBuilder) (instruction : Instruction Name Name) (shape : InstructionData) (ty : «Type») (r : Result ℕ E) (block : ℕ)
     → AgreesWithLedger calls old → HasShape calls instruction shape ty → HasCurrent old → old.position ≡ Some block → IfOk r (Appends old new block shape ty)
@@ -201,13 +141,4 @@ pub ledger_shaped : {E : Type 0} (calls : List AnsweredCall) (old new : Function
 ledger_shaped calls old new instruction shape ty (Err e) block agrees has current at appends ssa variables position = tt
 ledger_shaped calls old new instruction shape ty (Ok inst) block agrees has current at appends ssa variables position =
     shaped_ledger calls old new instruction shape ty inst agrees has current
-    (subst (λ (o : Option ℕ). IfSome o (λ b. Appends old new b shape ty inst)) (sym at) appends) ssa variables position
-
-pub stands_shaped : {E : Type 0} (declared : SignatureShape) (calls : List AnsweredCall) (old new : FunctionBuilder) (instruction : Instruction Name Name) (shape : InstructionData) (ty : «Type») (r : Result ℕ E) (block : ℕ)
-    → StandsFor declared calls old → IsConsistent old.func.now → HasShape calls instruction shape ty → HasCurrent old → old.position ≡ Some block → IfOk r (Appends old new block shape ty)
-    → new.ctx.now.ssa ≡ old.ctx.now.ssa → new.ctx.now.variables ≡ old.ctx.now.variables → new.position ≡ old.position
-    → IfOk r (λ inst. StandsFor declared (calls ++ record { request = Build instruction; numbers = inst ∷ (inst_at new.func.now inst).results } ∷ []) new)
-stands_shaped declared calls old new instruction shape ty (Err e) block stands consistent has current at appends ssa variables position = tt
-stands_shaped declared calls old new instruction shape ty (Ok inst) block stands consistent has current at appends ssa variables position =
-    shaped_stands declared calls old new instruction shape ty inst stands consistent has current
     (subst (λ (o : Option ℕ). IfSome o (λ b. Appends old new b shape ty inst)) (sym at) appends) ssa variables position

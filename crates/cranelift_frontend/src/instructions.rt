@@ -1,5 +1,5 @@
 //! The instructions that a builder makes: `builder.ins().iadd(x, y)?`.
-ghost use Rattle.std.specs.Prelude.{◌≡◌, ◌≢◌, ◌<◌, ◌-◌, ◌^◌, ◌⊎◌, ◌↔◌, ◌∷◌, [], ◌++◌, List, ℕ, IsTrue, OnOk, OnErr, IfOk, IfSome, is_err, Some, true, false, length, map, slice_index, EachIndex, if◌then◌else◌};
+ghost use Rattle.std.specs.Prelude.{◌≡◌, ◌≢◌, ◌<◌, ◌-◌, ◌^◌, ◌⊎◌, ◌↔◌, ◌∷◌, [], ◌++◌, List, ℕ, IsTrue, OnOk, OnErr, IfOk, IfSome, is_err, Some, true, false, length, map, slice_index, EachIndex, All, if◌then◌else◌};
 ghost use Rattle.clif_types.specs.Types.{is_int};
 ghost use Rattle.clif_ir.specs.Body.{inst_at, value_at};
 ghost use Rattle.clif_ir.specs.Instruction.{operands, destinations, is_branch, is_terminator, has_result, result_types};
@@ -28,6 +28,7 @@ use std::alloc::Global;
 /// What makes an instruction of any shape at the end of the current block.
 pub trait InstBuilderBase<'f>: Sized {
     ghost use Rattle.std.specs.Prelude.{ℕ};
+    ghost use Rattle.clif_ir.specs.declared.block_call.BlockCall.{BlockCall};
 
     // there is a current block, which may get an instruction
     ghost can_build: { Self → Type 0 };
@@ -216,7 +217,7 @@ impl<'short, 'long> InstBuilder<'long> for &'short mut FunctionBuilder<'long> {
         requires current { HasCurrent self.old }
         requires leads { CanLead self.old (record { block = block; args = args.now }) }
         ensures loans { SameLoans self.old self.new }
-        ensures appends { IfSome self.old.position (λ block. IfOk result (Appends self.old self.new block (InstructionData.Jump (record { block = block; args = args.now })) Type.Invalid)) }
+        ensures appends { IfSome self.old.position (λ current. IfOk result (Appends self.old self.new current (InstructionData.Jump (record { block = block; args = args.now })) Type.Invalid)) }
         ensures declares { IfOk result (λ inst. IsDeclared self.old.ctx.now.ssa inst (block ∷ []) self.new.ctx.now.ssa) }
         ensures variables { self.new.ctx.now.variables ≡ self.old.ctx.now.variables }
         ensures position { self.new.position ≡ self.old.position }
