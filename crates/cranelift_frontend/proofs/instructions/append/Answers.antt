@@ -1,19 +1,16 @@
-use Rattle.std.proofs.Common.{◌≡◌, ◌<◌, ◌≤◌, ℕ, Bool, true, false, List, [], length, refl, sym, ap, subst, arith, ◌∙◌}
+use Rattle.std.proofs.Common.{◌≡◌, ℕ, false, List, [], sym, ap, subst, arith, ◌∙◌}
 use Rattle.std.specs.Prelude.{Contains}
-use Rattle.clif_types.specs.declared.types.«Type».{«Type»}
-use Rattle.clif_ir.specs.Body.{Body, inst_at}
-use Rattle.clif_ir.specs.Changes.{with_inst}
-use Rattle.clif_ir.specs.Instruction.{destinations, is_branch, result_types}
+use Rattle.clif_ir.specs.Body.{Body}
+use Rattle.clif_ir.specs.Instruction.{destinations, result_types}
 use Rattle.clif_ir.specs.Reading.{targets}
 use Rattle.clif_ir.specs.declared.block_call.BlockCall.{BlockCall}
 use Rattle.clif_ir.specs.declared.inst_list.BlockEnd.TheVariants.{Back}
 use Rattle.clif_ssa.specs.Tables.{is_yes}
-use Rattle.clif_ssa.specs.Ssa.{SsaState, NamesExist, predecessors_of, sealed_of}
+use Rattle.clif_ssa.specs.Ssa.{SsaState, NamesExist, sealed_of}
 use Rattle.cranelift_frontend.specs.Context.{ContextState}
 use Rattle.cranelift_frontend.specs.Construction.{IsDeclared}
 use Rattle.cranelift_frontend.proofs.Appending.{inserted_node, lead_unsealed, new_leads_nowhere, none_of_inner, none_of_plain}
 use Rattle.cranelift_frontend.proofs.Declaring.{declared_none}
-use Rattle.cranelift_frontend.proofs.Growing.{Grows-inserted}
 use Rattle.cranelift_frontend.proofs.Named.{names_appended}
 use Rattle.cranelift_frontend.proofs.instructions.append.Goals as goal
 use Rattle.cranelift_frontend.proofs.instructions.append.Goals.{then-ends+in_ok-set_status+in_ok-declare_successors, else-ends}

@@ -1,5 +1,5 @@
-use Rattle.std.proofs.Common.{rules, arith, ◌≡◌, ◌<◌, ◌+◌, ◌-◌, ℕ, List, Bool, true, false, IsTrue, Some, [], length, take, get_or, sym, ap, subst, ◌∙◌}
-use Rattle.std.specs.Prelude.{Contains, slice_get, ◌↔◌}
+use Rattle.std.proofs.Common.{rules, arith, ◌≡◌, ◌<◌, ◌+◌, ◌-◌, ℕ, List, Bool, true, false, IsTrue, Some, [], length, take, sym, ap, subst}
+use Rattle.std.specs.Prelude.{Contains, slice_get}
 use Rattle.clif_ir.specs.Body.{Body}
 use Rattle.clif_ir.specs.Reading.{targets}
 use Rattle.clif_ir.specs.declared.block_call.BlockCall.{BlockCall}
