@@ -1,8 +1,7 @@
 -- Each call that succeeds leaves a builder that stands for the list with this call at its end.
-use Rattle.std.proofs.Common.{◌≡◌, ◌≢◌, ℕ, ◌+◌, ◌<◌, List, [], ◌∷◌, ◌++◌, length, refl, sym, ◌∙◌, ap, subst, arith, ◌⊎◌, inl, inr}
+use Rattle.std.proofs.Common.{◌≡◌, ◌≢◌, ℕ, ◌+◌, ◌<◌, List, [], ◌∷◌, ◌++◌, length, refl, sym, ◌∙◌, ap, subst, ◌⊎◌, inl, inr}
 use Rattle.std.specs.Prelude.{slice_get, Option, Some, None, option_map, Bool, true, false, if◌then◌else◌, ◌==◌, ◌||◌}
 use Rattle.std.proofs.lemmas.Option.{same_Some, slice_get-map, none-some}
-use Rattle.std.proofs.lemmas.Grind.{common_steps}
 use Rattle.std.proofs.lemmas.Bool.{eq-eqb, eqb-true, or_left}
 use Rattle.clif_types.specs.declared.types.«Type».{«Type»}
 use Rattle.clif_types.specs.Signature.{SignatureShape}
@@ -25,7 +24,7 @@ use Rattle.clif_simulation.proofs.Beginning.{carries_nothing, one_current}
 use Rattle.clif_simulation.proofs.Calls.{carries_created, carries_switched, carries_declared, carries_sealed, carries_assigned, carries_used, structured_so_far}
 use Rattle.cranelift_frontend.specs.declared.context.BlockStatus.{BlockStatus}
 use Rattle.cranelift_frontend.specs.declared.context.BlockStatus.TheVariants.{Empty, Partial, Filled}
-use Rattle.cranelift_frontend.specs.Context.{ContextState, empty_context, status_of, begun, Begins, SetsStatus}
+use Rattle.cranelift_frontend.specs.Context.{ContextState, empty_context, status_of, begun, Begins}
 use Rattle.cranelift_frontend.specs.Construction.{IsUse, IsSealing}
 use Rattle.cranelift_frontend.specs.Builder.{HasCurrent, is_filled_status}
 use Rattle.cranelift_frontend.specs.declared.builder.FunctionBuilder.{FunctionBuilder}

@@ -1,6 +1,6 @@
 -- Each instruction that succeeds leaves a builder that stands for the list with this call at its end.
 use Rattle.std.proofs.Common.{◌≡◌, ◌≢◌, ℕ, ◌<◌, List, [], ◌∷◌, ◌++◌, length, map, refl, sym, ◌∙◌, ap, ap₂, subst, ◌⊎◌, inl, inr}
-use Rattle.std.specs.Prelude.{slice_get, Option, Some, None, Bool, true, false, if◌then◌else◌, ◌==◌, IfOk, IfSome, Result, Ok, Err, ℤ, option_and_then}
+use Rattle.std.specs.Prelude.{slice_get, Option, Some, None, Bool, true, false, if◌then◌else◌, ◌==◌, option_and_then}
 use Rattle.std.specs.List.{AllByRecursion}
 use Rattle.std.proofs.lemmas.Bool.{eq-eqb}
 use Rattle.std.proofs.lemmas.Option.{slice_get_within, slice_get-map, none-some}
@@ -9,11 +9,8 @@ use Rattle.clif_types.specs.Signature.{SignatureShape}
 use Rattle.clif_ir.specs.declared.block_call.BlockArg.{BlockArg}
 use Rattle.clif_ir.specs.declared.block_call.BlockArg.TheVariants as arg
 use Rattle.clif_ir.specs.declared.block_call.BlockCall.{BlockCall}
-use Rattle.clif_ir.specs.declared.instructions.BinaryOpcode.TheVariants as binary
 use Rattle.clif_ir.specs.declared.instructions.InstructionData.{InstructionData}
-use Rattle.clif_ir.specs.declared.instructions.InstructionData.TheVariants.{UnaryImm, Binary}
-use Rattle.clif_ir.specs.Body.{Body, value_at}
-use Rattle.clif_ir.specs.Changes.{inserted_in}
+use Rattle.clif_ir.specs.Body.{Body}
 use Rattle.clif_ir.specs.Instruction.{is_terminator}
 use Rattle.clif_ir.specs.Reading.{stands_in}
 use Rattle.clif_meaning.specs.Name.{Name}
@@ -21,17 +18,15 @@ use Rattle.clif_meaning.specs.Instruction.{Argument, CallPayload, CallResult, Ed
 use Rattle.clif_meaning.specs.Ledger.{BlockState}
 use Rattle.clif_meaning.specs.Request.{AnsweredCall, number_of}
 use Rattle.clif_meaning.specs.View.{argument_of, edge_of}
-use Rattle.clif_meaning.specs.Acceptance as acceptance
 use Rattle.clif_simulation.specs.Tables as simulation
 use Rattle.clif_simulation.specs.Tables.{answered, number_or_none}
 use Rattle.clif_simulation.specs.Carries.{Carries, EdgeEarlier, IsEarlier, PassesEarlier, answered_argument, answered_edge}
 use Rattle.clif_ssa.proofs.Constructed.{inserted_constructs}
 use Rattle.cranelift_frontend.specs.declared.context.BlockStatus.{BlockStatus}
 use Rattle.cranelift_frontend.specs.declared.context.BlockStatus.TheVariants.{Empty, Filled}
-use Rattle.cranelift_frontend.specs.declared.builder.FunctionBuilder.{FunctionBuilder}
 use Rattle.cranelift_frontend.specs.Context.{ContextState, status_of, begun, SetsStatus}
-use Rattle.cranelift_frontend.specs.Builder.{AppendsIn, AppendsValue, HasCurrent, status_after, with_appended}
-use Rattle.cranelift_frontend.specs.Ledger.{LedgerAgrees, AgreesWithLedger, NamesArgument, NamesArguments, NamesEdge, NamesEdges, NamesValue, block_name, ledger_of}
+use Rattle.cranelift_frontend.specs.Builder.{AppendsIn, status_after, with_appended}
+use Rattle.cranelift_frontend.specs.Ledger.{LedgerAgrees, NamesArgument, NamesArguments, NamesEdge, NamesEdges, block_name, ledger_of}
 use Rattle.cranelift_frontend.specs.StandsFor.{StandsIn}
 use Rattle.cranelift_frontend.proofs.LedgerNames.{IsNumbered, named-block}
 use Rattle.cranelift_frontend.proofs.Standing.{begun_not_empty, inserted_cases}
