@@ -79,9 +79,13 @@ fn last(rt: HostRuntime) -> Result<(), Fail> {
     let second = made.jump(&rt, block1, block2)?;
     assert!(rt; !made.is_last_predecessor(block2, first));
     made.leads(&rt, block2, first)?;
-    assert!(rt; made.is_last_predecessor(block2, first) && !made.is_last_predecessor(block2, second));
+    assert!(rt;
+        made.is_last_predecessor(block2, first) && !made.is_last_predecessor(block2, second)
+    );
     made.leads(&rt, block2, second)?;
-    assert!(rt; !made.is_last_predecessor(block2, first) && made.is_last_predecessor(block2, second));
+    assert!(rt;
+        !made.is_last_predecessor(block2, first) && made.is_last_predecessor(block2, second)
+    );
     assert!(rt; !made.is_last_predecessor(block1, second));
     Ok(())
 }

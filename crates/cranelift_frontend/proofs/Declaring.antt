@@ -25,9 +25,13 @@ use Rattle.cranelift_frontend.specs.Construction.{IsDeclared}
 -- one more block at the end
 along_last : (blocks : List ℕ) (s t u : SsaState) (inst b : ℕ) → DeclaredAlong s inst blocks t → SameRecords t u → SameBlocks t u → Declares t u b inst
     → DeclaredAlong s inst (blocks ++ b ∷ []) u
-along_last [] s t u inst b done records blocks declares =
-    (u, (λ v c. records v c ∙ done.0 v c), (λ c. blocks c ∙ done.1 c),
-    (λ c. declares c ∙ ap (λ (is : List ℕ). if c == b then is ++ inst ∷ [] else is) (done.2 c)), ((λ v c. refl), (λ c. refl), λ c. refl))
+along_last [] s t u inst b done records blocks declares = (
+  u,
+  (λ v c. records v c ∙ done.0 v c),
+  (λ c. blocks c ∙ done.1 c),
+  (λ c. declares c ∙ ap (λ (is : List ℕ). if c == b then is ++ inst ∷ [] else is) (done.2 c)),
+  ((λ v c. refl), (λ c. refl), λ c. refl),
+)
 along_last (x ∷ blocks) s t u inst b done records same declares =
     (done.0, done.1, done.2, done.3, along_last blocks done.0 t u inst b done.4 records same declares)
 

@@ -82,7 +82,7 @@ pub remembers_used : {E : Type 0} (r : Result ℕ E) (y e : ℕ) (f g : Body) (c
 remembers_used (Err error) y e f g c d x ty b used = tt
 remembers_used (Ok value) y e f g c d x ty b used =
     let remembers : Remembers y e (inserted_in f b) c.ssa g d.ssa = used.1.remembers y e in
-    record { recorded = remembers.recorded; alike = alike_then f (inserted_in f b) g (inserted_alike f b) remembers.alike; }
+    record { recorded = remembers.recorded; alike = alike_then f (inserted_in f b) g (inserted_alike f b) remembers.alike }
 
 pub has_record_used : {E : Type 0} (r : Result ℕ E) (f g : Body) (c d : ContextState) (x : ℕ) (ty : «Type») (b : ℕ) (p : Option ℕ) → p ≡ Some b
     → IfOk r (λ value. (told : List ℕ) × IsUse (inserted_in f b) c.ssa g d.ssa x ty b value told × Begins c d (b ∷ told))

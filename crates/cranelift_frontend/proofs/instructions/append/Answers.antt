@@ -61,13 +61,13 @@ returns-clause-declares c =
       | then-ends+in_ok-set_status+in_ok-declare_successors w ↦
           let edges : w.branch_destination.result.now ≡ destinations c.args.shape = w.branch_destination.ensures ∙ ap destinations (w.inst_data.ensures.exact ∙ node.0) in
           subst (λ (d : ContextState). IsDeclared c.args.ctx.now.ssa inst (targets (destinations c.args.shape)) d.ssa) (sym w.ctx-is)
-              (subst (λ (s : SsaState). IsDeclared s inst (targets (destinations c.args.shape)) w.declare_successors.new.self.ssa) (w.set_status.ensures.ssa ∙ c.begin_block.ensures.ssa)
-              (subst (λ (es : List BlockCall). IsDeclared w.set_status.new.self.ssa inst (targets es) w.declare_successors.new.self.ssa) edges w.in_ok-declare_successors.ensures.ok))
+          (subst (λ (s : SsaState). IsDeclared s inst (targets (destinations c.args.shape)) w.declare_successors.new.self.ssa) (w.set_status.ensures.ssa ∙ c.begin_block.ensures.ssa)
+          (subst (λ (es : List BlockCall). IsDeclared w.set_status.new.self.ssa inst (targets es) w.declare_successors.new.self.ssa) edges w.in_ok-declare_successors.ensures.ok))
       | else-ends w ↦
           let none : destinations c.args.shape ≡ [] = none_of_inner c.args.shape (sym c.is_terminator-ends.ensures ∙ w.if-ends.false) in
           subst (λ (d : ContextState). IsDeclared c.args.ctx.now.ssa inst (targets (destinations c.args.shape)) d.ssa) (sym w.ctx-is)
-              (subst (λ (t : SsaState). IsDeclared c.args.ctx.now.ssa inst (targets (destinations c.args.shape)) t) (sym c.begin_block.ensures.ssa)
-              (subst (λ (es : List BlockCall). IsDeclared c.args.ctx.now.ssa inst (targets es) c.args.ctx.now.ssa) (sym none) (declared_none c.args.ctx.now.ssa inst)))
+          (subst (λ (t : SsaState). IsDeclared c.args.ctx.now.ssa inst (targets (destinations c.args.shape)) t) (sym c.begin_block.ensures.ssa)
+          (subst (λ (es : List BlockCall). IsDeclared c.args.ctx.now.ssa inst (targets es) c.args.ctx.now.ssa) (sym none) (declared_none c.args.ctx.now.ssa inst)))
     ]
 
 pub returns-clause-ssa : goal.returns-clause-ssa
@@ -89,6 +89,6 @@ returns-clause-names c =
     elim c.if-ends.branch [
       | then-ends+in_ok-set_status+in_ok-declare_successors w ↦
           subst (λ (d : ContextState). NamesExist c.insert_inst.new.self d.ssa) (sym w.ctx-is)
-              (w.declare_successors.ensures.names c.insert_inst.new.self node.1 (named_still c.begin_block.new.ctx.ssa w.set_status.new.self.ssa c.insert_inst.new.self w.set_status.ensures.ssa named))
+          (w.declare_successors.ensures.names c.insert_inst.new.self node.1 (named_still c.begin_block.new.ctx.ssa w.set_status.new.self.ssa c.insert_inst.new.self w.set_status.ensures.ssa named))
       | else-ends w ↦ subst (λ (d : ContextState). NamesExist c.insert_inst.new.self d.ssa) (sym w.ctx-is) named
     ]
