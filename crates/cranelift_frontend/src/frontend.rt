@@ -182,6 +182,7 @@ impl<'a> FunctionBuilder<'a> {
         }
         self.func.law_consistent();
         let sealed = self.ctx.seal_block(block, self.func);
+        self.func.law_consistent();
         self.failed = sealed.is_err();
         sealed
     }
@@ -284,6 +285,7 @@ impl<'a> FunctionBuilder<'a> {
         };
         self.func.law_consistent();
         let used = use_variable(self.func, self.ctx, variable, ty, block);
+        self.func.law_consistent();
         self.failed = used.is_err();
         used
     }

@@ -1,5 +1,5 @@
 //! The instructions that a builder makes: `builder.ins().iadd(x, y)?`.
-ghost use Rattle.std.specs.Prelude.{◌≡◌, ◌≢◌, ◌<◌, ◌-◌, ◌^◌, ◌⊎◌, ◌↔◌, ◌∷◌, [], ◌++◌, List, ℕ, IsTrue, OnOk, OnErr, IfOk, IfSome, is_err, Some, true, false, length, map, slice_index, EachIndex, if◌then◌else◌};
+ghost use Rattle.std.specs.Prelude.{◌≡◌, ◌≢◌, ◌<◌, ◌-◌, ◌^◌, ◌⊎◌, ◌↔◌, ◌∷◌, [], ◌++◌, List, ℕ, IsTrue, OnOk, OnErr, IfOk, IfSome, is_err, Some, true, false, length, map, slice_index, EachIndex, All, if◌then◌else◌};
 ghost use Rattle.clif_types.specs.Types.{is_int};
 ghost use Rattle.clif_ir.specs.Body.{inst_at, value_at};
 ghost use Rattle.clif_ir.specs.Instruction.{operands, destinations, is_branch, is_terminator, has_result, result_types};

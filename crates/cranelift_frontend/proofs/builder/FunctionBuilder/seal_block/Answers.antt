@@ -1,15 +1,14 @@
 use Rattle.cranelift_frontend.proofs.Remembered.{remembers_sealed}
 use Rattle.cranelift_frontend.proofs.LedgerBlocks.{sealed}
-use Rattle.cranelift_frontend.proofs.builder.FunctionBuilder.seal_block.Goals as goal
 use Rattle.clif_ssa.specs.Tables.{pending_of}
 use Rattle.clif_ssa.specs.Ssa.{sealed_of}
 use Rattle.cranelift_frontend.proofs.StandingResults.{sealed_stands}
 use Rattle.cranelift_frontend.proofs.Growing.{seal_current, seal_grows, recorded_on}
+use Rattle.cranelift_frontend.proofs.builder.FunctionBuilder.seal_block.Goals as goal
 
 pub returns-clause-ledger : goal.returns-clause-ledger
 returns-clause-ledger c = λ calls name agrees names.
-    let done = c.seal_block-sealed.ensures in
-    sealed calls _ _ _ _ _ name c.args.block _ agrees names done.function done.sealed done.records done.status done.variables
+    sealed calls _ _ _ _ _ name c.args.block _ agrees names c.seal_block-sealed.ensures.is_sealing c.law_consistent-2.ensures c.seal_block-sealed.ensures.variables
 
 pub returns-clause-grows : goal.returns-clause-grows
 returns-clause-grows c =

@@ -1,7 +1,8 @@
 use Rattle.cranelift_frontend.proofs.Remembered.{remembers_appended}
 use Rattle.std.proofs.Common.{refl}
 use Rattle.cranelift_frontend.proofs.Growing.{append_grows, recorded_on_same}
-use Rattle.cranelift_frontend.proofs.Shaped.{ledger_shaped, plain_destinations, stands_shaped}
+use Rattle.cranelift_frontend.proofs.Shaped.{plain_destinations, stands_shaped}
+use Rattle.cranelift_frontend.proofs.LedgerShaped.{current-is, ledger-shaped}
 use Rattle.cranelift_frontend.proofs.instructions.RefMutFunctionBuilderInstBuilderBase.build.Goals as goal
 
 pub returns-clause-recorded : goal.returns-clause-recorded
@@ -15,9 +16,8 @@ returns-clause-remembers c = λ v b.
 pub returns-clause-ledger : goal.returns-clause-ledger
 returns-clause-ledger c = λ calls instruction agrees has.
     let done = c.append-built.ensures in
-    let b = c.args.self.now in
-    ledger_shaped calls b (record b { func = record b.func { now = c.append-built.new.func }; ctx = record b.ctx { now = c.append-built.new.ctx } }) instruction c.args.shape c.args.ctrl_type c.append-built.result c.in-Some.block
-    agrees has c.requires.current c.in-Some.is done.appends done.ssa done.variables refl
+    ledger-shaped calls _ _ _ _ _ c.in-Some.block instruction c.args.shape c.args.ctrl_type c.append-built.result agrees c.in-Some.is
+    (current-is c.args.self.now c.requires.current c.in-Some.block c.in-Some.is) c.law_consistent.ensures has c.requires.edges done.appends done.declares done.ssa done.variables
 
 pub returns-clause-stands : goal.returns-clause-stands
 returns-clause-stands c = λ signature calls instruction stands has.
