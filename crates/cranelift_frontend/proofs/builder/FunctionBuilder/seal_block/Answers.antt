@@ -1,11 +1,9 @@
 use Rattle.cranelift_frontend.proofs.Remembered.{remembers_sealed}
 use Rattle.cranelift_frontend.proofs.LedgerBlocks.{sealed}
 use Rattle.cranelift_frontend.proofs.builder.FunctionBuilder.seal_block.Goals as goal
-use Rattle.clif_ssa.specs.Tables.{pending_of}
-use Rattle.clif_ssa.specs.Ssa.{sealed_of}
 use Rattle.cranelift_frontend.proofs.Standing.{standing_edges}
 use Rattle.cranelift_frontend.proofs.StandingResults.{sealed_stands}
-use Rattle.cranelift_frontend.proofs.Growing.{sealed_current, sealed_grows, seal_current, seal_grows, recorded_on}
+use Rattle.cranelift_frontend.proofs.Growing.{sealed_current, sealed_grows}
 use Rattle.cranelift_frontend.proofs.Named.{opened}
 
 pub returns-clause-ledger : goal.returns-clause-ledger
@@ -30,9 +28,6 @@ returns-clause-edges_match c = λ signature calls stands none_waits typed. stand
 pub returns-clause-remembers : goal.returns-clause-remembers
 returns-clause-remembers c = λ x b.
     remembers_sealed c.seal_block-sealed.result x b c.args.self.now.func.now c.seal_block-sealed.new.func c.args.self.now.ctx.now c.seal_block-sealed.new.self c.args.block c.seal_block-sealed.ensures.is_sealing
-
-pub returns-clause-recorded : goal.returns-clause-recorded
-returns-clause-recorded c = recorded_on c.seal_block-sealed.result _ _ _ _ (returns-clause-grows c) c.seal_block-sealed.ensures.records
 
 pub returns-clause-stands : goal.returns-clause-stands
 returns-clause-stands c = λ signature calls name stands names.

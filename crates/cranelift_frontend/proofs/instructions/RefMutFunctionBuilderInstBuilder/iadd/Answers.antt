@@ -5,7 +5,6 @@ use Rattle.clif_ir.specs.Body.{value_at}
 use Rattle.clif_ir.specs.declared.instructions.BinaryOpcode.TheVariants.{Iadd}
 use Rattle.clif_ir.specs.declared.instructions.InstructionData.TheVariants.{Binary}
 use Rattle.cranelift_frontend.specs.Builder.{AppendsValue}
-use Rattle.cranelift_frontend.proofs.StandingBuilt.{iadd_agrees, iadd_stands}
 use Rattle.cranelift_frontend.proofs.StandingShaped.{value_stands}
 use Rattle.cranelift_frontend.proofs.LedgerShaped.{binary-shape, ledger-value}
 use Rattle.cranelift_frontend.proofs.Named.{same_builder}

@@ -1,9 +1,8 @@
-use Rattle.std.proofs.Common.{◌∙◌, refl, rules, arith, [], ◌∷◌}
+use Rattle.std.proofs.Common.{◌∙◌, refl, rules, arith}
 use Rattle.std.specs.Prelude.{IfSome, IfOk}
 use Rattle.std.proofs.lemmas.Grind.{common_steps}
 use Rattle.clif_ir.specs.declared.instructions.InstructionData.TheVariants.{UnaryImm}
 use Rattle.cranelift_frontend.specs.Builder.{AppendsValue}
-use Rattle.cranelift_frontend.proofs.StandingBuilt.{iconst_agrees, iconst_stands}
 use Rattle.cranelift_frontend.proofs.StandingShaped.{value_stands}
 use Rattle.cranelift_frontend.proofs.LedgerShaped.{iconst-shape, ledger-value}
 use Rattle.cranelift_frontend.proofs.Named.{same_builder}

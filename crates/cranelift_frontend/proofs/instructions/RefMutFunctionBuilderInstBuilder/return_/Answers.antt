@@ -1,11 +1,9 @@
 use Rattle.std.proofs.Common.{◌≡◌, ℕ, Some, map, refl, rules, ap, sym, ◌∙◌}
-use Rattle.cranelift_frontend.proofs.LedgerBuilt.{returned}
 use Rattle.clif_ir.specs.declared.instructions.InstructionData.TheVariants.{MultiAry}
 use Rattle.clif_types.specs.declared.types.«Type».TheVariants.{Invalid}
 use Rattle.cranelift_frontend.proofs.LedgerShaped.{return-shape, ledger-ended}
 use Rattle.cranelift_frontend.proofs.StandingShaped.{plain_stands}
 use Rattle.cranelift_frontend.proofs.instructions.RefMutFunctionBuilderInstBuilder.return_.Goals as goal
-use Rattle.cranelift_frontend.proofs.StandingBuilt.{return_stands}
 
 pub returns-in-Ok-clause-ledger : goal.returns-in-Ok-clause-ledger
 returns-in-Ok-clause-ledger c = λ calls names agrees named.

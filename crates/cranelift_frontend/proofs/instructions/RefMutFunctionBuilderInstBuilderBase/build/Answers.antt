@@ -1,11 +1,8 @@
 use Rattle.cranelift_frontend.proofs.Remembered.{remembers_appended}
-use Rattle.std.proofs.Common.{refl}
 use Rattle.cranelift_frontend.proofs.Named.{opened}
-use Rattle.cranelift_frontend.proofs.Shaped.{ledger_shaped, plain_destinations, stands_shaped}
 use Rattle.cranelift_frontend.proofs.Standing.{current_exists, current_open}
 use Rattle.cranelift_frontend.proofs.StandingShaped.{stands_shaped}
 use Rattle.cranelift_frontend.proofs.instructions.RefMutFunctionBuilderInstBuilderBase.build.Goals as goal
-use Rattle.cranelift_frontend.proofs.Growing.{append_grows, recorded_on_same}
 use Rattle.cranelift_frontend.proofs.LedgerShaped.{current-is, ledger-shaped}
 
 pub returns-clause-ledger : goal.returns-clause-ledger
@@ -21,13 +18,6 @@ pub returns-clause-remembers : goal.returns-clause-remembers
 returns-clause-remembers c = λ v b.
     remembers_appended c.append-built.result v b c.args.self.now.func.now c.append-built.new.func c.args.self.now.ctx.now c.append-built.new.ctx c.in-Some.block c.args.shape c.args.ctrl_type
     c.law_consistent.ensures c.append-built.ensures.appends c.append-built.ensures.declares
-
-pub returns-clause-recorded : goal.returns-clause-recorded
-returns-clause-recorded c =
-    recorded_on_same c.append-built.result _ _ _ _ (append_grows c.append-built.result _ _ _ _ _ _ _ c.append-built.ensures.appends) c.append-built.ensures.ssa
-
-pub append-built-requires-clause-no_branch : goal.append-built-requires-clause-no_branch
-append-built-requires-clause-no_branch c = plain_destinations c.args.shape c.requires.no_branch
 
 pub returns-clause-stands : goal.returns-clause-stands
 returns-clause-stands c = λ signature calls instruction stands has.
