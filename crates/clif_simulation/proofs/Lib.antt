@@ -28,6 +28,8 @@ mod Reaching
 mod Alongside
 mod Setting
 pub mod RightReading
+-- With branches, beside interrupted runs.
+mod Interrupting
 -- The row `first`, half built.
 mod HalfRow
 -- A function goes on to carry one more call.

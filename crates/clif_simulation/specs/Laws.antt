@@ -15,6 +15,7 @@ use Rattle.clif_meaning.specs.Headline.{MeansTheSame}
 use Rattle.clif_simulation.specs.Tables.{code, block_name}
 use Rattle.clif_simulation.specs.Carries.{Carries, NothingLeads}
 use Rattle.clif_simulation.specs.Reading.{ReadsRight}
+use Rattle.clif_simulation.specs.Interrupted.{ReadsAlong}
 
 -- Different names have different numbers.
 abbrev pub CodesDiffer : Type 0
@@ -41,3 +42,9 @@ abbrev pub CarryingReadsRight : Type 0
 CarryingReadsRight =
     (calls : List AnsweredCall) (signature : SignatureShape) (f : Body) (s : SsaState)
     → IsConsistent f → Carries calls f s → NothingLeads s → ReadsRight calls signature f s
+
+-- With any branches, such a function reads right on runs that are interrupted at unsealed blocks.
+abbrev pub CarryingReadsAlong : Type 0
+CarryingReadsAlong =
+    (calls : List AnsweredCall) (signature : SignatureShape) (f : Body) (s : SsaState)
+    → IsConsistent f → Carries calls f s → ReadsAlong calls signature f s

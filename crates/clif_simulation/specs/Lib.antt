@@ -1,6 +1,7 @@
 pub mod Tables
 pub mod Carries
 pub mod Reading
+pub mod Interrupted
 pub mod ReadingExamples
 pub mod Laws
 pub mod CarryingExamples

@@ -1,6 +1,6 @@
 //! What a function that carries a list of calls means.
 
-ghost use Rattle.clif_simulation.specs.Laws.{CarryingMeansTheSame, CarryingReadsRight};
+ghost use Rattle.clif_simulation.specs.Laws.{CarryingMeansTheSame, CarryingReadsAlong, CarryingReadsRight};
 
 /// A finished function that carries a list of calls, with any branches, joins and loops, means what the list's variable
 /// program means.
@@ -12,4 +12,10 @@ pub fn carrying_means_the_same()
 /// and variables: so far, one without branches.
 pub fn carrying_reads_right()
     ensures { CarryingReadsRight }
+{}
+
+/// With any branches, an unfinished function that carries a list of calls has, beside each run of the list's program that
+/// is interrupted at unsealed blocks, the bits of its names and variables.
+pub fn carrying_reads_along()
+    ensures { CarryingReadsAlong }
 {}

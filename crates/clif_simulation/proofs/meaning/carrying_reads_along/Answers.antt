@@ -1,0 +1,5 @@
+use Rattle.clif_simulation.proofs.Interrupting
+use Rattle.clif_simulation.proofs.meaning.carrying_reads_along.Goals as goal
+
+pub returns : goal.returns
+returns c = ?
