@@ -66,7 +66,7 @@ module _ (calls : List AnsweredCall) (f : Body) (s : SsaState) (consistent : IsC
     pub last : (j : ℕ) → k ≡ suc j → (rest : List (Place Name)) × (walk ≡ at_index name j ∷ rest) × IsPath (program_flow program) walk
     pub visited : (p : Place Name) → In p walk → WasVisited path p
 
-  visited_later : (arm : Arm) (path : Path) (p : Place Name) → WasVisited path p → WasVisited (arm ∷ path) p
+  pub visited_later : (arm : Arm) (path : Path) (p : Place Name) → WasVisited path p → WasVisited (arm ∷ path) p
   visited_later arm path p was = record { block = was.block; named = was.named; visits = inr was.visits }
 
   -- From one item to the next ---------------------------------------------------------------------------------------------
@@ -94,7 +94,7 @@ module _ (calls : List AnsweredCall) (f : Body) (s : SsaState) (consistent : IsC
 
   -- To the front of the entry ---------------------------------------------------------------------------------------------
 
-  entry_named : (b : ℕ) → entry_of f ≡ Some b → (o : Option Name) → program.entry ≡ o → (name : Name) × (program.entry ≡ Some name) × (block_name calls b ≡ Some name)
+  pub entry_named : (b : ℕ) → entry_of f ≡ Some b → (o : Option Name) → program.entry ≡ o → (name : Name) × (program.entry ≡ Some name) × (block_name calls b ≡ Some name)
   entry_named b is None none = absurd (none_some b (sym (carries.entry.none none) ∙ is))
   entry_named b is (Some name) entry =
       let found = carries.entry.some name entry in
@@ -134,7 +134,7 @@ module _ (calls : List AnsweredCall) (f : Body) (s : SsaState) (consistent : IsC
         ∙ OwnEdges.target_named calls f s consistent carries C item.j item.place item.instruction item.results item.stands k edge stands;
   }
 
-  branch_ends : (b : ℕ) (arm : Arm) (edge : IsEdgeInto f s carries.tables b arm) (C : Name) → block_name calls (branch_block f edge.branch) ≡ Some C → EndsWith C b
+  pub branch_ends : (b : ℕ) (arm : Arm) (edge : IsEdgeInto f s carries.tables b arm) (C : Name) → block_name calls (branch_block f edge.branch) ≡ Some C → EndsWith C b
   branch_ends b arm edge C named =
       let own = OwnEdges.is_own calls f s consistent carries b edge.branch arm.edge edge.leads edge.to in
       let item = OwnEdges.item_of calls f s consistent carries (branch_block f edge.branch) C named own.0 edge.branch own.1 in
@@ -204,11 +204,11 @@ module _ (calls : List AnsweredCall) (f : Body) (s : SsaState) (consistent : IsC
         visits = subst (λ (q : paths.Place). Visits q path) (sym home) was.visits;
       }
 
-  none_entering : (B : Name) (k : ℕ) (x : Name) → Contains (given_on_entry (program_code program) B k) x → ⊥
+  pub none_entering : (B : Name) (k : ℕ) (x : Name) → Contains (given_on_entry (program_code program) B k) x → ⊥
   none_entering B zero x there = none_of (program.parameters B) x (no_parameters (script_of calls) B) there
   none_entering B (suc k) x there = nothing_contained x there
 
-  given_along_walk : (path : Path) (x : Name) (walk : List (Place Name)) → ((p : Place Name) → In p walk → WasVisited path p)
+  pub given_along_walk : (path : Path) (x : Name) (walk : List (Place Name)) → ((p : Place Name) → In p walk → WasVisited path p)
       → IsGivenAlong (program_code program) x walk → IsGivenOn path x
   given_along_walk path x [] visited along = absurd along
   given_along_walk path x (p ∷ walk) visited (inl here) = given_at_place path p x (visited p (inl refl)) (item_at calls p.block p.index) refl here

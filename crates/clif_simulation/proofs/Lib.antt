@@ -30,6 +30,8 @@ mod Setting
 pub mod RightReading
 -- With branches, beside interrupted runs.
 mod Interrupting
+mod OpenArms
+mod OpenFlow
 -- The row `first`, half built.
 mod HalfRow
 -- A function goes on to carry one more call.

@@ -25,11 +25,11 @@ in_entry {Block} flow none p (q ∷ path) walk = by walk.0 (in_entry flow none q
     by (inr enters) before = absurd (none_of (flow.targets q) p.block (none q) enters.0)
 
 -- the end of each block is no step of a path's that gives
-given_on_entry-same : {Block Thing : Type 0} (code : Code Block Thing) (block : Block) (index : ℕ) → given_on_entry (with_ends code) block index ≡ given_on_entry code block index
+pub given_on_entry-same : {Block Thing : Type 0} (code : Code Block Thing) (block : Block) (index : ℕ) → given_on_entry (with_ends code) block index ≡ given_on_entry code block index
 given_on_entry-same code block zero = refl
 given_on_entry-same code block (suc index) = refl
 
-along_same : {Block Thing : Type 0} (code : Code Block Thing) (x : Thing) (path : List (Place Block)) → IsGivenAlong (with_ends code) x path → IsGivenAlong code x path
+pub along_same : {Block Thing : Type 0} (code : Code Block Thing) (x : Thing) (path : List (Place Block)) → IsGivenAlong (with_ends code) x path → IsGivenAlong code x path
 along_same code x [] along = along
 along_same {Block} {Thing} code x (p ∷ path) along = by along (along_same code x path)
   where
