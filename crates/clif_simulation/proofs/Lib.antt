@@ -32,6 +32,7 @@ pub mod RightReading
 mod Interrupting
 mod OpenArms
 mod OpenFlow
+mod OpenEdges
 -- The row `first`, half built.
 mod HalfRow
 -- A function goes on to carry one more call.
