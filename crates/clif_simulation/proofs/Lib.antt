@@ -33,6 +33,7 @@ mod Interrupting
 mod OpenArms
 mod OpenFlow
 mod OpenEdges
+mod OpenStanding
 -- The row `first`, half built.
 mod HalfRow
 -- A function goes on to carry one more call.

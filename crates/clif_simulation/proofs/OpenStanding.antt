@@ -1,0 +1,222 @@
+-- Both interrupted runs at a place of an unfinished function, and how they come to a block's first item.
+use Rattle.std.proofs.Common.{◌≡◌, ℕ, zero, suc, ◌+◌, ◌≤◌, Bool, List, [], ◌∷◌, ◌++◌, map, length, drop, flat_map, Option, Some, None, refl, sym, ◌∙◌, ap, subst, arith}
+use Rattle.std.specs.List.{AllByRecursion}
+use Rattle.clif_types.specs.declared.target.PointerWidth.{PointerWidth}
+use Rattle.clif_ir.specs.Body.{Body, inst_at}
+use Rattle.clif_ir.specs.Consistent.{IsConsistent}
+use Rattle.clif_paths.specs.Places.{inside, Path, Follows, end_of}
+use Rattle.clif_paths.specs.State.{zero_of}
+use Rattle.clif_paths.specs.Blocks.{Blocks, front}
+use Rattle.clif_ssa.specs.Ssa.{SsaState, sealed_of}
+use Rattle.clif_ssa.specs.Tables.{is_yes, pending_of}
+use Rattle.clif_ssa.specs.Sound.{IsZero}
+use Rattle.clif_meaning.specs.Name.{Name}
+use Rattle.clif_meaning.specs.Request.{AnsweredCall}
+use Rattle.clif_meaning.specs.Instruction.{Edge}
+use Rattle.clif_meaning.specs.Program.{Item}
+use Rattle.clif_meaning.specs.World.{World}
+use Rattle.clif_meaning.specs.Outcome.{Outcome, Gives, Goes, Returns, Traps, Calls, NoStep, outcome_of}
+use Rattle.clif_meaning.specs.Machine.{Machine, At, Observation}
+use Rattle.clif_meaning.specs.ScriptMachine.{ScriptRun, ScriptState}
+use Rattle.clif_meaning.specs.FunctionMachine as function_machine_of
+use Rattle.clif_meaning.specs.FunctionMachine.{Collector, FunctionRun, FunctionState, function_machine, value_bits}
+use Rattle.clif_meaning.specs.FunctionView.{Placed}
+use Rattle.clif_meaning.specs.View.{placed_of, items_of}
+use Rattle.clif_meaning.specs.Path.{Place}
+use Rattle.clif_meaning.proofs.Stuttering.{steps_from}
+use Rattle.clif_simulation.specs.Tables.{program_so_far, block_name}
+use Rattle.clif_simulation.specs.Carries.{carried, own_placed}
+use Rattle.clif_simulation.specs.Reading.{behind, script_run_so_far, function_run_so_far}
+use Rattle.clif_simulation.specs.Interrupted.{taken_of, Unknowns, ScriptStanding, FunctionStanding, function_edge, function_goes, script_enters, function_enters, variables_entering, values_entering, interrupted_script, interrupted_function}
+use Rattle.clif_simulation.proofs.Agreement.{Agrees, ZerosAreZero, agrees_still, zeros_still}
+use Rattle.clif_simulation.proofs.Fronts
+use Rattle.clif_simulation.proofs.Fronts.{HasFront, has_front, placed_inst, zero_placed, is_zero_placed}
+use Rattle.clif_simulation.proofs.OpenEdges
+use Rattle.clif_simulation.proofs.OpenFlow
+use Rattle.clif_simulation.proofs.Whole.{Whole}
+
+-- without edges none is taken
+pub none_taken : (o : Outcome) → taken_of {Block = ℕ} {Operand = ℕ} [] o ≡ None
+none_taken (Gives results memory) = refl
+none_taken (Goes edge given memory) = by edge
+  where
+    by : (k : ℕ) → taken_of {Block = ℕ} {Operand = ℕ} [] (Goes k given memory) ≡ None
+    by zero = refl
+    by (suc k) = refl
+none_taken (Returns results) = refl
+none_taken (Traps reason) = refl
+none_taken (Calls callee call arguments) = refl
+none_taken NoStep = refl
+
+-- The zeros at a block's front are passed without an edge --------------------------------------------------------------
+
+module _ (s : SsaState) (unknowns : Unknowns) (entry : ℕ) (run : FunctionRun) (f : Body) (blocks : Blocks) (b : ℕ) (rest : List Placed) (c : FunctionStanding)
+    (blank : (w y : ℕ) → (blocks.function.definition w).kind ≡ zero_of y → c.state.values w ≡ 0)
+  where
+    abbrev machine : Machine FunctionState Observation
+    machine = function_machine run
+
+    abbrev standing : FunctionState → FunctionStanding
+    standing state = record { state = state; entries = c.entries }
+
+    abbrev Left : ℕ → FunctionState → Type 0
+    Left = Fronts.ZerosLeft run f blocks b rest c.state blank
+
+    no_edge : (n : ℕ) (state : FunctionState) → Left (suc n) state → function_edge run state state.control ≡ None
+    unfolding zero_placed
+    no_edge n state z = ap (function_edge run state) z.at ∙ by z.left z.count z.all
+      where
+        by : (left : List ℕ) → length left ≡ suc n → AllByRecursion (IsZero f blocks b) left → function_edge run state (At (map (placed_inst f) left ++ rest)) ≡ None
+        by [] count all = absurd (omega (arith, count))
+        by (inst ∷ left) count all =
+            ap (λ (item : Placed). function_edge run state (At (item ∷ (map (placed_inst f) left ++ rest))))
+            (is_zero_placed f (inst_at f inst) all.0.value all.0.shape all.0.result)
+            ∙ none_taken (outcome_of run.world (zero_placed f all.0.value).instruction.operation (zero_placed f all.0.value).instruction.controlling
+            (map (value_bits run state) (zero_placed f all.0.value).instruction.operands) state.memory)
+
+    pub zeros_pass : (j n m : ℕ) → j + n ≡ m → Left m c.state → steps_from (interrupted_function s unknowns entry run) j c ≡ standing (steps_from machine j c.state)
+    zeros_pass zero n m is z = refl
+    zeros_pass (suc j) n m is z =
+        ap (interrupted_function s unknowns entry run).next (zeros_pass j (suc n) m (omega (arith, is)) z)
+        ∙ ap (λ (o : Option (Edge ℕ ℕ)). function_goes s unknowns (standing (steps_from machine j c.state)) o (machine.next (steps_from machine j c.state)))
+        (no_edge n (steps_from machine j c.state) (Fronts.zeros_left run f blocks b rest c.state blank j (suc n) m (omega (arith, is)) z))
+
+module _ (calls : List AnsweredCall) (f : Body) (ssa : SsaState) (consistent : IsConsistent f) (carries : Whole calls f ssa)
+    (width : PointerWidth) (world : World) (tracked : Name → Bool) (collector : Collector) (unknowns : Unknowns) (entry : ℕ) (entry_name : Name)
+  where
+    abbrev pub left_run : ScriptRun
+    left_run = script_run_so_far calls f world tracked
+
+    abbrev pub right_run : FunctionRun
+    right_run = function_run_so_far calls f width world collector
+
+    abbrev pub left_machine : Machine ScriptStanding Observation
+    left_machine = interrupted_script calls ssa unknowns entry entry_name left_run
+
+    abbrev pub right_machine : Machine FunctionStanding Observation
+    right_machine = interrupted_function ssa unknowns entry right_run
+
+    abbrev pub items : Name → List Item
+    items = (program_so_far calls).items
+
+    -- Both stand before these items of a block, which a path leads to, and agree; so many of the caller's instructions are
+    -- left.
+    pub record IsAt (b : ℕ) (B : Name) (k : ℕ) (rest : List Item) (left : List ℕ) (path : Path) (p : ScriptState) (q : FunctionState) : Type 0 where
+      pub named : block_name calls b ≡ Some B
+      pub follows : Follows (OpenFlow.edges calls f ssa consistent carries) path
+      pub ends : end_of path ≡ inside b k
+      pub rest_is : drop k (items B) ≡ rest
+      pub within : k ≤ length (items B)
+      pub front : List ℕ
+      pub own_is : carries.own.insts b ≡ front ++ left
+      pub left_is : map (own_placed carries.own f) left ≡ flat_map (carried calls) rest
+      pub script_at : p.control ≡ At rest
+      pub function_at : q.control ≡ At (map (placed_inst f) left)
+      pub same_memory : p.memory ≡ q.memory
+      pub same_events : p.events ≡ q.events
+      pub agrees : Agrees (OpenEdges.live calls f ssa consistent carries) (OpenEdges.program calls f ssa consistent carries) (OpenEdges.function calls f ssa consistent carries)
+          path p.variables p.names q.values
+      pub zeros : ZerosAreZero (OpenEdges.program calls f ssa consistent carries) (OpenEdges.function calls f ssa consistent carries) path p.variables p.names q.values
+
+    pub record Running (a : ScriptStanding) (c : FunctionStanding) : Type 0 where
+      pub block : ℕ
+      pub name : Name
+      pub index : ℕ
+      pub rest : List Item
+      pub left : List ℕ
+      pub path : Path
+      pub place : a.place ≡ behind name index
+      pub entries : a.entries ≡ c.entries
+      pub is_at : IsAt block name index rest left path a.state c.state
+
+    -- the function's run comes to such a state
+    abbrev pub Gets : ScriptStanding → FunctionStanding → Type 0
+    Gets a c = (m : ℕ) × Running a (steps_from right_machine m c)
+
+    -- To a block's first item ---------------------------------------------------------------------------------------------
+
+    module _ (b : ℕ) (B : Name) (named : block_name calls b ≡ Some B) (path : Path) (follows : Follows (OpenFlow.edges calls f ssa consistent carries) path)
+        (ends : end_of path ≡ front b) (entries : ℕ) (p : ScriptState) (q : FunctionState) (script_at : p.control ≡ At (items B)) (function_at : q.control ≡ At (items_of f b))
+        (same_memory : p.memory ≡ q.memory) (same_events : p.events ≡ q.events)
+      where
+        abbrev variables : ℕ → ℕ
+        variables = variables_entering (is_yes (sealed_of ssa b)) (unknowns entries) p.variables
+
+        abbrev values : ℕ → ℕ
+        values = values_entering (pending_of (sealed_of ssa b)) (unknowns entries) q.values
+
+        module _
+            (agrees :
+                Agrees (OpenEdges.live calls f ssa consistent carries) (OpenEdges.program calls f ssa consistent carries) (OpenEdges.function calls f ssa consistent carries)
+                path variables p.names values)
+            (zeros :
+                ZerosAreZero (OpenEdges.program calls f ssa consistent carries) (OpenEdges.function calls f ssa consistent carries) path variables p.names values)
+          where
+            abbrev a : ScriptStanding
+            a = script_enters ssa unknowns b B entries p
+
+            abbrev c : FunctionStanding
+            c = function_enters ssa unknowns b entries q
+
+            abbrev has : HasFront f carries.tables b (carries.own.insts b)
+            has = has_front f carries.tables b (carries.own.insts b) (carries.describes.instructions b) (carries.own_inserted b)
+
+            abbrev behind_zeros : List Placed
+            behind_zeros = map (placed_inst f) (carries.own.insts b)
+
+            abbrev IsLeft : ℕ → FunctionState → Type 0
+            IsLeft = Fronts.ZerosLeft right_run f carries.tables b behind_zeros c.state zeros.of_value
+
+            all_left : IsLeft (length has.zeros) c.state
+            all_left = record {
+              left = has.zeros;
+              count = refl;
+              all = has.are_zeros;
+              at = function_at ∙ ap (λ (ps : List Placed). At ps) has.in_order;
+              memory = refl;
+              events = refl;
+              values = λ w. refl;
+            }
+
+            abbrev d : FunctionState
+            d = steps_from (function_machine right_run) (length has.zeros) c.state
+
+            done : IsLeft 0 d
+            done = Fronts.zeros_left right_run f carries.tables b behind_zeros c.state zeros.of_value (length has.zeros) 0 (length has.zeros) (omega arith) all_left
+
+            running : Running a (record { state = d; entries = suc entries })
+            running = record {
+              block = b;
+              name = B;
+              index = 0;
+              rest = items B;
+              left = carries.own.insts b;
+              path = path;
+              place = refl;
+              entries = refl;
+              is_at = record {
+                named = named;
+                follows = follows;
+                ends = ends;
+                rest_is = refl;
+                within = omega arith;
+                front = [];
+                own_is = refl;
+                left_is = carries.items b B named;
+                script_at = script_at;
+                function_at = Fronts.at_rest right_run f carries.tables b behind_zeros c.state zeros.of_value d done;
+                same_memory = same_memory ∙ sym done.memory;
+                same_events = same_events ∙ sym done.events;
+                agrees = agrees_still (OpenEdges.live calls f ssa consistent carries) (OpenEdges.program calls f ssa consistent carries)
+                    (OpenEdges.function calls f ssa consistent carries) path variables p.names values d.values done.values agrees;
+                zeros = zeros_still (OpenEdges.program calls f ssa consistent carries) (OpenEdges.function calls f ssa consistent carries) path variables p.names values
+                    d.values done.values zeros;
+              };
+            }
+
+            pub arrives : Gets a c
+            arrives =
+                (length has.zeros,
+                subst (Running a)
+                (sym (zeros_pass ssa unknowns entry right_run f carries.tables b behind_zeros c zeros.of_value (length has.zeros) 0 (length has.zeros) (omega arith) all_left))
+                running)
