@@ -34,6 +34,7 @@ mod OpenArms
 mod OpenFlow
 mod OpenEdges
 mod OpenStanding
+mod OpenStepping
 -- The row `first`, half built.
 mod HalfRow
 -- A function goes on to carry one more call.
