@@ -35,6 +35,7 @@ mod OpenFlow
 mod OpenEdges
 mod OpenStanding
 mod OpenStepping
+pub mod OpenReading
 -- The row `first`, half built.
 mod HalfRow
 -- A function goes on to carry one more call.

@@ -56,7 +56,7 @@ pending_no_zero : (x y : ℕ) → pending x ≡ zero_of y → ⊥
 pending_no_zero x y h = cc
 
 -- in a sealed block nothing waits
-sealed_none : (entry : Sealed) → is_yes entry ≡ true → pending_of entry ≡ []
+pub sealed_none : (entry : Sealed) → is_yes entry ≡ true → pending_of entry ≡ []
 sealed_none (No waiting) is = cc
 sealed_none Yes is = refl
 

@@ -1,0 +1,335 @@
+-- An unfinished function that carries a list of calls reads right beside interrupted runs, with any branches.
+use Rattle.std.proofs.Common.{◌≡◌, ℕ, zero, suc, ◌+◌, ◌≤◌, ◌&&◌, Bool, true, false, List, [], ◌∷◌, ◌++◌, map, length, drop, flat_map, slice_get, Option, Some, None, Contains, ◌⊎◌, inl, inr, refl, sym, ◌∙◌, ap, ap₂, subst, subst₂, append_assoc, arith}
+use Rattle.std.proofs.lemmas.List.{map-append}
+use Rattle.clif_types.specs.Signature.{SignatureShape}
+use Rattle.clif_types.specs.declared.target.PointerWidth.{PointerWidth}
+use Rattle.clif_ir.specs.Body.{Body, block_at, inst_at, resolved}
+use Rattle.clif_ir.specs.Consistent.{IsConsistent}
+use Rattle.clif_ir.specs.declared.block_call.BlockArg.{BlockArg}
+use Rattle.clif_paths.specs.Places as paths
+use Rattle.clif_paths.specs.Places.{inside, Path, Follows}
+use Rattle.clif_paths.specs.State.{Program, Function}
+use Rattle.clif_paths.specs.Denotation.{variable, denotes}
+use Rattle.clif_paths.specs.Blocks.{Blocks, state_of}
+use Rattle.clif_paths.specs.Sound.{Holds}
+use Rattle.clif_paths.proofs.BlockTables.{recorded_at-last}
+use Rattle.clif_ssa.specs.declared.tables.Pending.{Pending}
+use Rattle.clif_ssa.specs.Ssa.{SsaState, record_of, sealed_of}
+use Rattle.clif_ssa.specs.Tables.{is_yes, pending_of}
+use Rattle.clif_ssa.specs.Sound.{entry_of, has_entry}
+use Rattle.clif_meaning.specs.Bits.{Bits}
+use Rattle.clif_meaning.specs.Event.{types_of}
+use Rattle.clif_meaning.specs.Name.{Name, same_name}
+use Rattle.clif_meaning.specs.Request.{AnsweredCall, script_of}
+use Rattle.clif_meaning.specs.Ledger.{ledger_after}
+use Rattle.clif_meaning.specs.Instruction.{Edge, Instruction}
+use Rattle.clif_meaning.specs.Program.{Item, Instruct, Use, Assign}
+use Rattle.clif_meaning.specs.World.{World}
+use Rattle.clif_meaning.specs.Store.{assigned}
+use Rattle.clif_meaning.specs.Machine.{Machine, Control, At, HasReturned, HasTrapped, IsStuck, Observation, state_after}
+use Rattle.clif_meaning.specs.ScriptMachine as script
+use Rattle.clif_meaning.specs.ScriptMachine.{ScriptRun, ScriptState, script_machine}
+use Rattle.clif_meaning.specs.FunctionMachine as function_machine_of
+use Rattle.clif_meaning.specs.FunctionMachine.{Collector, FunctionRun, FunctionState, function_machine, same_value}
+use Rattle.clif_meaning.specs.FunctionView.{Placed}
+use Rattle.clif_meaning.specs.View.{argument_of, items_of, view_of}
+use Rattle.clif_meaning.specs.Path.{Place}
+use Rattle.clif_meaning.specs.WellPlaced.{IsGivenBefore}
+use Rattle.clif_meaning.specs.Headline.{IsWorldOf}
+use Rattle.clif_meaning.proofs.Stuttering.{steps_from, state_after-+}
+use Rattle.clif_simulation.specs.Tables.{code, answered, program_so_far, block_name}
+use Rattle.clif_simulation.specs.Carries.{as_passed, carried, own_placed, Carries}
+use Rattle.clif_simulation.specs.Reading.{behind, code_so_far, IsAtEnd, PremisesSoFar}
+use Rattle.clif_simulation.specs.Interrupted.{Unknowns, ScriptStanding, FunctionStanding, script_edge, script_goes, script_enters, function_enters, variables_entering, values_entering, without_arguments, StandsBefore, StandsBeside, HasBeside, RunsBeside, ReadsAlong}
+use Rattle.clif_simulation.proofs.Agreement.{Agrees, ZerosAreZero, given_agrees, zeros_agree}
+use Rattle.clif_simulation.proofs.Counted.{gives_results, terminator_gives_none}
+use Rattle.clif_simulation.proofs.Entry.{resolved_twice}
+use Rattle.clif_simulation.proofs.Fronts.{HasFront, has_front, placed_inst}
+use Rattle.clif_simulation.proofs.Interrupting.{interrupted_agrees, interrupted_zeros}
+use Rattle.clif_simulation.proofs.Listed.{place_within}
+use Rattle.clif_simulation.proofs.Matching.{item_here, nothing_behind, rest_behind}
+use Rattle.clif_simulation.proofs.OpenArms
+use Rattle.clif_simulation.proofs.OpenEdges
+use Rattle.clif_simulation.proofs.OpenEdges.{sealed_none}
+use Rattle.clif_simulation.proofs.OpenFlow
+use Rattle.clif_simulation.proofs.OpenStanding
+use Rattle.clif_simulation.proofs.OpenStanding.{IsAt, Running, Gets}
+use Rattle.clif_simulation.proofs.OpenStepping
+use Rattle.clif_simulation.proofs.Starting.{no_arguments, none_assigned}
+use Rattle.clif_simulation.proofs.Stepping.{nothing_assigned}
+use Rattle.clif_simulation.proofs.Straight.{first_arm, next_arm}
+use Rattle.clif_simulation.proofs.Whole.{Whole, whole}
+
+-- Instructions, but for what their edges pass ---------------------------------------------------------------------------
+
+abbrev bare : Edge ℕ ℕ → Edge ℕ ℕ
+bare edge = record edge { arguments = [] }
+
+bare_passed : (passed : ℕ → List BlockArg) (n : ℕ) (edges : List (Edge ℕ ℕ)) → map bare (as_passed passed n edges) ≡ map bare edges
+bare_passed passed n [] = refl
+bare_passed passed n (edge ∷ edges) = ap (λ (rest : List (Edge ℕ ℕ)). bare edge ∷ rest) (bare_passed passed (suc n) edges)
+
+module _ (calls : List AnsweredCall) (f : Body) (ssa : SsaState) (consistent : IsConsistent f) (carries : Whole calls f ssa) where
+  own_without : (i : ℕ) → without_arguments (own_placed carries.own f i) ≡ without_arguments (placed_inst f i)
+  own_without i =
+      ap (λ (edges : List (Edge ℕ ℕ)). record (placed_inst f i) { instruction = record (placed_inst f i).instruction { edges = edges } })
+      (bare_passed (carries.own.passed i) 0 (placed_inst f i).instruction.edges)
+
+  all_without : (left : List ℕ) → map without_arguments (map (placed_inst f) left) ≡ map without_arguments (map (own_placed carries.own f) left)
+  all_without [] = refl
+  all_without (i ∷ left) = ap₂ (λ (p : Placed) (ps : List Placed). p ∷ ps) (sym (own_without i)) (all_without left)
+
+  drop_first : (xs ys : List Placed) → drop (length xs) (xs ++ ys) ≡ ys
+  drop_first [] ys = refl
+  drop_first (x ∷ xs) ys = drop_first xs ys
+
+  -- what is left of a block's own instructions is an end of the block
+  module _ (b : ℕ) (front left : List ℕ) (own_is : carries.own.insts b ≡ front ++ left) where
+    abbrev has : HasFront f carries.tables b (carries.own.insts b)
+    has = has_front f carries.tables b (carries.own.insts b) (carries.describes.instructions b) (carries.own_inserted b)
+
+    abbrev before : List Placed
+    before = map (placed_inst f) has.zeros ++ map (placed_inst f) front
+
+    behind_is : drop (length before) (items_of f b) ≡ map (placed_inst f) left
+    behind_is =
+        ap (drop (length before))
+        (has.in_order ∙ ap (λ (own : List ℕ). map (placed_inst f) has.zeros ++ map (placed_inst f) own) own_is
+        ∙ ap (λ (ps : List Placed). map (placed_inst f) has.zeros ++ ps) (map-append (placed_inst f) front left)
+        ∙ sym (append_assoc (map (placed_inst f) has.zeros) (map (placed_inst f) front) (map (placed_inst f) left)))
+        ∙ drop_first before (map (placed_inst f) left)
+
+    pub stands_before : (items : List Item) (control : Control Placed) → map (own_placed carries.own f) left ≡ flat_map (carried calls) items
+        → control ≡ At (map (placed_inst f) left) → StandsBefore calls f b items control
+    stands_before items control left_is at = record {
+      index = length before;
+      at = at ∙ ap (λ (rest : List Placed). At rest) (sym behind_is);
+      instructions = ap (map without_arguments) behind_is ∙ all_without left ∙ ap (map without_arguments) left_is;
+    }
+
+module _ (calls : List AnsweredCall) (signature : SignatureShape) (f : Body) (ssa : SsaState) (consistent : IsConsistent f) (carries : Whole calls f ssa)
+    (width : PointerWidth) (world : World) (tracked : Name → Bool) (collector : Collector)
+    (fits : IsWorldOf signature (view_of f) width world) (premises : PremisesSoFar calls signature)
+    (entry : ℕ) (entry_name : Name) (entry_named : block_name calls entry ≡ Some entry_name) (is_entry : (program_so_far calls).entry ≡ Some entry_name)
+    (unknowns : Unknowns)
+  where
+    abbrev left_run : ScriptRun
+    left_run = OpenStanding.left_run calls f ssa consistent carries width world tracked collector unknowns entry entry_name
+
+    abbrev right_run : FunctionRun
+    right_run = OpenStanding.right_run calls f ssa consistent carries width world tracked collector unknowns entry entry_name
+
+    abbrev left_machine : Machine ScriptStanding Observation
+    left_machine = OpenStanding.left_machine calls f ssa consistent carries width world tracked collector unknowns entry entry_name
+
+    abbrev right_machine : Machine FunctionStanding Observation
+    right_machine = OpenStanding.right_machine calls f ssa consistent carries width world tracked collector unknowns entry entry_name
+
+    abbrev Stands : ℕ → Name → ℕ → List Item → List ℕ → Path → ScriptState → FunctionState → Type 0
+    Stands = IsAt calls f ssa consistent carries width world tracked collector unknowns entry entry_name
+
+    abbrev Runs : ScriptStanding → FunctionStanding → Type 0
+    Runs = Running calls f ssa consistent carries width world tracked collector unknowns entry entry_name
+
+    abbrev Comes : ScriptStanding → FunctionStanding → Type 0
+    Comes = Gets calls f ssa consistent carries width world tracked collector unknowns entry entry_name
+
+    abbrev tables : Blocks
+    tables = carries.tables
+
+    abbrev program : Program
+    program = OpenEdges.program calls f ssa consistent carries
+
+    abbrev function : Function
+    function = OpenEdges.function calls f ssa consistent carries
+
+    abbrev live : ℕ → Type 0
+    live = OpenEdges.live calls f ssa consistent carries
+
+    abbrev items : Name → List Item
+    items = (program_so_far calls).items
+
+    -- What both have in common at a place ---------------------------------------------------------------------------------
+
+    is_live : (v : ℕ) → live (function.resolve v)
+    is_live v =
+        carries.describes.resolves (function.resolve v) ∙ ap (resolved f) (carries.describes.resolves v)
+        ∙ resolved_twice f v consistent ∙ sym (carries.describes.resolves v)
+
+    module _ (b : ℕ) (B : Name) (k : ℕ) (rest : List Item) (left : List ℕ) (path : Path) (p : ScriptState) (q : FunctionState) (r : Stands b B k rest left path p q) where
+      -- a name that was given has its value's bits
+      given_bits : (x : Name) → IsGivenBefore (code_so_far calls) x (behind B k) → p.names x ≡ q.values (resolved f (answered calls x))
+      given_bits x given =
+          let on = OpenFlow.given_before calls f ssa consistent carries path b k B r.follows r.ends r.named x given in
+          let holds = OpenFlow.name_holds calls f ssa consistent carries premises.given_before x (inside b k) on.given
+          (λ way follows ends. OpenFlow.given_before calls f ssa consistent carries way b k B follows ends r.named x given) in
+          let v : ℕ = tables.answer (code x) in
+          r.agrees.of_name x (function.resolve v) (is_live v) (sym (holds.agrees path r.follows r.ends))
+          ∙ ap q.values (carries.describes.resolves v ∙ ap (resolved f) on.answer)
+
+      -- where a path stands at the block's end so far, each record has its variable's bits
+      recorded_bits : (way : Path) (j : ℕ) → Follows (OpenFlow.edges calls f ssa consistent carries) way → paths.end_of way ≡ inside b j → j ≡ length (items B)
+          → Agrees live program function way p.variables p.names q.values
+          → (x v : ℕ) → record_of ssa x b ≡ Some v → p.variables x ≡ q.values (resolved f v)
+      recorded_bits way j follows ends at_end agrees x v is =
+          let last : tables.count b ≡ j = carries.program.counts b B r.named ∙ sym at_end in
+          let holds : Holds (OpenFlow.edges calls f ssa consistent carries) program function v (variable x) (inside b j) =
+          subst (λ (c : ℕ). Holds (OpenFlow.edges calls f ssa consistent carries) program function v (variable x) (inside b c)) last
+          ((OpenFlow.under calls f ssa consistent carries premises.given_before).records (inside b (tables.count b)) x v
+          (recorded_at-last tables.count tables.recorded b x ∙ carries.describes.recorded b x ∙ is)) in
+          agrees.of_variable x (function.resolve v) (is_live v) (sym (holds.agrees way follows ends)) ∙ ap q.values (carries.describes.resolves v)
+
+      -- before the instruction that ends the block, too: it gives nothing and assigns nothing
+      before_end : (place : ℕ) (instruction : Instruction Name Name) (results : List Name) (stands : slice_get (items B) k ≡ Some (Instruct place instruction results)) → results ≡ []
+          → Agrees live program function (next_arm b k ∷ path) p.variables p.names q.values
+      before_end place instruction results stands none =
+          subst₂ (λ (names : Name → ℕ) (values : ℕ → ℕ). Agrees live program function (next_arm b k ∷ path) p.variables names values)
+          (nothing_assigned same_name results p.names) (nothing_assigned same_value (map (answered calls) results) q.values)
+          (given_agrees live program function (next_arm b k) path results (answered calls)
+          (OpenStepping.gives_there calls f ssa consistent carries width world tracked collector unknowns entry entry_name signature premises.given_before premises.well_typed
+          b B r.named k place instruction results stands path)
+          p.variables p.names q.values r.agrees [])
+
+      records_alike : (ahead : List Item) → drop k (items B) ≡ ahead → IsAtEnd ahead → (x v : ℕ) → record_of ssa x b ≡ Some v → p.variables x ≡ q.values (resolved f v)
+      records_alike [] here at_end =
+          let past : length (items B) ≤ k = nothing_behind (items B) k here in
+          let within : k ≤ length (items B) = r.within in
+          recorded_bits path k r.follows r.ends (omega (arith, past, within)) r.agrees
+      records_alike (Instruct place instruction results ∷ ahead) here at_end =
+          let stands : slice_get (items B) k ≡ Some (Instruct place instruction results) = item_here (items B) k (Instruct place instruction results) ahead here in
+          let last : length (items B) ≤ suc k = nothing_behind (items B) (suc k) (rest_behind (items B) k (Instruct place instruction results) ahead here ∙ at_end.1) in
+          let none : results ≡ [] = gives_results (script_of calls) B k (Instruct place instruction results) stands ∙ terminator_gives_none place instruction at_end.0 in
+          recorded_bits (next_arm b k ∷ path) (suc k)
+          (OpenStepping.goes_on calls f ssa consistent carries width world tracked collector unknowns entry entry_name signature premises.given_before premises.well_typed
+          b B r.named k path (Instruct place instruction results) stands r.follows r.ends)
+          refl (omega (arith, last, place_within (items B) k (Instruct place instruction results) stands)) (before_end place instruction results stands none)
+      records_alike (Use y used ∷ ahead) here at_end = absurd at_end
+      records_alike (Assign y from ∷ ahead) here at_end = absurd at_end
+
+      pub stand_beside : StandsBeside calls f ssa b B k p q
+      stand_beside = record {
+        script_at = r.script_at ∙ ap (λ (ahead : List Item). At ahead) (sym r.rest_is);
+        function_at = stands_before calls f ssa consistent carries b r.front left r.own_is (drop k (items B)) q.control
+            (r.left_is ∙ ap (flat_map (carried calls)) (sym r.rest_is)) r.function_at;
+        same_memory = r.same_memory;
+        same_events = r.same_events;
+        names = given_bits;
+        records = records_alike (drop k (items B)) refl;
+      }
+
+    has_beside : (a : ScriptStanding) (steps : ℕ) → Runs a (state_after right_machine steps) → HasBeside calls f ssa a right_machine
+    has_beside a steps r = record {
+      block = r.block;
+      named = r.is_at.named ∙ ap (λ (place : Place Name). Some place.block) (sym r.place);
+      steps = steps;
+      beside = subst (λ (place : Place Name). StandsBeside calls f ssa r.block place.block place.index a.state (state_after right_machine steps).state) (sym r.place)
+          (stand_beside r.block r.name r.index r.rest r.left r.path a.state (state_after right_machine steps).state r.is_at);
+    }
+
+    -- At the entry --------------------------------------------------------------------------------------------------------
+
+    found : entry_of f ≡ Some entry
+    found =
+        let there = carries.entry.some entry_name is_entry in
+        there.1 ∙ ap (λ (c : ℕ). Some c) (carries.program.distinct there.0 entry entry_name there.2 entry_named)
+
+    nothing_passed : world.arguments ≡ []
+    nothing_passed = no_arguments calls entry_name (types_of signature.params) world is_entry premises.well_typed.entry fits.arguments
+
+    abbrev p0 : ScriptState
+    p0 = script.enter_block left_run (script.blank_state left_run) entry_name world.arguments
+
+    abbrev q0 : FunctionState
+    q0 = function_machine_of.enter_block right_run (function_machine_of.blank_state right_run) entry world.arguments
+
+    no_names : (n : Name) → p0.names n ≡ 0
+    no_names n = ap (λ (names : Name → Bits). names n) (none_assigned same_name ((program_so_far calls).parameters entry_name) world.arguments (λ x. 0) nothing_passed)
+
+    no_bits : (w : ℕ) → q0.values w ≡ 0
+    no_bits w = ap (λ (values : ℕ → Bits). values w) (none_assigned same_value (block_at f entry).params world.arguments (λ u. 0) nothing_passed)
+
+    abbrev first : Path
+    first = first_arm entry ∷ []
+
+    abbrev Begins : (ℕ → ℕ) → (ℕ → ℕ) → Type 0
+    Begins variables values = Agrees live program function first variables p0.names values × ZerosAreZero program function first variables p0.names values
+
+    begins : Begins (variables_entering (is_yes (sealed_of ssa entry)) (unknowns 0) p0.variables) (values_entering (pending_of (sealed_of ssa entry)) (unknowns 0) q0.values)
+    begins = by (is_yes (sealed_of ssa entry)) refl
+      where
+        all_zero : (path : Path) → Agrees live program function path (λ x. 0) p0.names (λ w. 0)
+        all_zero path = zeros_agree live program function path (λ x. 0) p0.names (λ w. 0) (λ x. refl) no_names (λ w. refl)
+
+        none_set : (path : Path) → ZerosAreZero program function path (λ x. 0) p0.names (λ w. 0)
+        none_set path = record { of_variable = λ x y is. refl; of_name = λ n y is. no_names n; of_value = λ w y is. refl }
+
+        by : (t : Bool) → is_yes (sealed_of ssa entry) ≡ t
+            → Begins (variables_entering t (unknowns 0) p0.variables) (values_entering (pending_of (sealed_of ssa entry)) (unknowns 0) q0.values)
+        by true is =
+            subst (λ (ps : List Pending). Begins p0.variables (values_entering ps (unknowns 0) q0.values)) (sym (sealed_none (sealed_of ssa entry) is)) (
+              zeros_agree live program function first p0.variables p0.names q0.values (λ x. refl) no_names no_bits,
+              record { of_variable = λ x y is. refl; of_name = λ n y is. no_names n; of_value = λ w y is. no_bits w },
+            )
+        by false is =
+            let unsealed : tables.sealed entry ≡ false = carries.describes.sealed entry ∙ ap (λ (t : Bool). t && has_entry f.layout) is in
+            let opens = OpenEdges.opens_there calls f ssa consistent carries entry unsealed (first_arm entry) refl (unknowns 0) (λ w. 0) q0.values no_bits in (
+              interrupted_agrees live program function (first_arm entry) [] (unknowns 0) (λ w. 0)
+              (values_entering (pending_of (sealed_of ssa entry)) (unknowns 0) q0.values) opens (λ x. 0) p0.names (all_zero []) (none_set []),
+              interrupted_zeros live program function (first_arm entry) [] (unknowns 0) (λ w. 0)
+              (values_entering (pending_of (sealed_of ssa entry)) (unknowns 0) q0.values) opens (λ x. 0) p0.names (all_zero []) (none_set []),
+            )
+
+    starts : Comes left_machine.start right_machine.start
+    starts =
+        subst₂ (λ (p : ScriptState) (q : FunctionState).
+        Comes (script_enters ssa unknowns entry entry_name 0 p) (function_enters ssa unknowns entry 0 q))
+        (sym (ap (script.start_at left_run) is_entry)) (sym (ap (function_machine_of.start_at right_run) found))
+        (OpenStanding.arrives calls f ssa consistent carries width world tracked collector unknowns entry entry_name entry entry_name entry_named first
+        (OpenArms.start_open carries.own f ssa tables carries.describes entry found, refl, tt) refl 0 p0 q0 refl refl refl refl begins.0 begins.1)
+
+    -- After each step -----------------------------------------------------------------------------------------------------
+
+    -- a run that goes on went on before
+    went_on : (a : ScriptStanding) (c : Control Item) → a.state.control ≡ c → (rest : List Item) → (left_machine.next a).state.control ≡ At rest
+        → (before : List Item) × (c ≡ At before)
+    went_on a (At before) is rest on = (before, refl)
+    went_on a (HasReturned bits) is rest on = absurd (other (sym (ap (λ (x : ScriptStanding). x.state.control) (stays is)) ∙ on))
+      where
+        stays : a.state.control ≡ HasReturned bits → left_machine.next a ≡ script_goes calls ssa unknowns a None a.state
+        stays at = ap (λ (c : Control Item). script_goes calls ssa unknowns a (script_edge left_run a.state c) (script.step_at left_run a.state c)) at
+
+        other : a.state.control ≡ At rest → ⊥
+        other at = cc
+    went_on a (HasTrapped reason) is rest on = absurd (other (sym (ap (λ (x : ScriptStanding). x.state.control) (stays is)) ∙ on))
+      where
+        stays : a.state.control ≡ HasTrapped reason → left_machine.next a ≡ script_goes calls ssa unknowns a None a.state
+        stays at = ap (λ (c : Control Item). script_goes calls ssa unknowns a (script_edge left_run a.state c) (script.step_at left_run a.state c)) at
+
+        other : a.state.control ≡ At rest → ⊥
+        other at = cc
+    went_on a IsStuck is rest on = absurd (other (sym (ap (λ (x : ScriptStanding). x.state.control) (stays is)) ∙ on))
+      where
+        stays : a.state.control ≡ IsStuck → left_machine.next a ≡ script_goes calls ssa unknowns a None a.state
+        stays at = ap (λ (c : Control Item). script_goes calls ssa unknowns a (script_edge left_run a.state c) (script.step_at left_run a.state c)) at
+
+        other : a.state.control ≡ At rest → ⊥
+        other at = cc
+
+    abbrev IsMet : ℕ → Type 0
+    IsMet n = (steps : ℕ) × Runs (state_after left_machine n) (state_after right_machine steps)
+
+    met : (n : ℕ) (rest : List Item) → (state_after left_machine n).state.control ≡ At rest → IsMet n
+    met zero rest on = (0 + starts.0, subst (Runs left_machine.start) (state_after-+ right_machine 0 starts.0) starts.1)
+    met (suc n) rest on =
+        let before = went_on (state_after left_machine n) (state_after left_machine n).state.control refl rest on in
+        let now : IsMet n = met n before.0 before.1 in
+        let more = OpenStepping.step calls f ssa consistent carries width world tracked collector unknowns entry entry_name signature premises.given_before premises.well_typed
+        (state_after left_machine n) (state_after right_machine now.0) now.1 rest on in
+        (now.0 + more.0, subst (Runs (state_after left_machine (suc n))) (state_after-+ right_machine now.0 more.0) more.1)
+
+    pub beside : (n : ℕ) (rest : List Item) → (state_after left_machine n).state.control ≡ At rest → HasBeside calls f ssa (state_after left_machine n) right_machine
+    beside n rest on = let now : IsMet n = met n rest on in has_beside (state_after left_machine n) now.0 now.1
+
+pub reads_along : (calls : List AnsweredCall) (signature : SignatureShape) (f : Body) (ssa : SsaState) → IsConsistent f → Carries calls f ssa → ReadsAlong calls signature f ssa
+reads_along calls signature f ssa consistent carries width world tracked collector fits premises spares block name named is_entry unknowns =
+    beside calls signature f ssa consistent (whole calls f ssa consistent carries spares) width world tracked collector fits premises block name named is_entry unknowns
