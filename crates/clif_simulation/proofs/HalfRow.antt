@@ -31,7 +31,7 @@ use Rattle.clif_meaning.proofs.StraightLine.{nothing_contained, none_of, given_a
 use Rattle.clif_meaning.proofs.FirstRow.{one_of, first_of_one}
 use Rattle.clif_meaning.proofs.SampleWorld
 use Rattle.clif_simulation.specs.Tables.{answered, program_so_far, block_name}
-use Rattle.clif_simulation.specs.Reading.{code_so_far, behind, PremisesSoFar, script_run_so_far, function_run_so_far, starting_at, StandAlike, StartAlike, SideBySide, ReadsRight}
+use Rattle.clif_simulation.specs.Reading.{code_so_far, behind, PremisesSoFar, script_run_so_far, function_run_so_far, starting_at, StandAlike, StartAlike, SideBySide, ReadsRightFromAnywhere}
 use Rattle.clif_simulation.specs.ReadingExamples.{half_body_with, half_body, half_state_with, half_state, waiting_parameter, with_nine, first_value, with_bits}
 use Rattle.clif_simulation.proofs.Starting.{no_arguments, none_assigned}
 use Rattle.clif_simulation.proofs.Values.{false_is}
@@ -197,7 +197,7 @@ module _ (width : PointerWidth) (world : World) (tracked : Name → Bool) (colle
         }))
     from_entry empty (suc block) name named = absurd (no_block block name named)
 
-pub reads_right : ReadsRight answered_calls first_signature half_body half_state
+pub reads_right : ReadsRightFromAnywhere answered_calls first_signature half_body half_state
 reads_right width world tracked collector fits premises = record {
   from_entry = λ block name named is_entry.
       from_entry width world tracked collector
@@ -303,7 +303,7 @@ module _ (number bits : ℕ) where
   -- what a right reading says of the start with 9
   module _ (s : SsaState) (unsealed : is_yes (sealed_of s 0) ≡ false)
       (waiting : (parameter : Pending) → Contains (pending_of (sealed_of s 0)) parameter → 9 ≡ first_value bits parameter.param)
-      (right : ReadsRight answered_calls first_signature here s)
+      (right : ReadsRightFromAnywhere answered_calls first_signature here s)
     where
       alike : SideBySide answered_calls here s 0 block0 left_here right_here
       alike =
@@ -319,7 +319,7 @@ abbrev constant_of : Control Placed → ℕ
 constant_of (At (placed ∷ rest)) = of_operation placed.instruction.operation
 constant_of _ = 0
 
-pub other_constant : ReadsRight answered_calls first_signature (half_body_with 8) half_state → ⊥
+pub other_constant : ReadsRightFromAnywhere answered_calls first_signature (half_body_with 8) half_state → ⊥
 other_constant right = by (alike 8 9 half_state refl (waits_alone 9 refl) right 0 items refl)
   where
     by : (steps : ℕ) × StandAlike answered_calls (half_body_with 8) half_state 0 block0 0 (state_after (left_here 8 9) 0) (state_after (right_here 8 9) steps) → ⊥
@@ -328,7 +328,7 @@ other_constant right = by (alike 8 9 half_state refl (waits_alone 9 refl) right 
         let same : 8 ≡ 7 = ap (λ (steps : ℕ). constant_of (state_after (right_here 8 9) steps).control) (sym first) ∙ ap constant_of found.1.function_at in
         absurd (omega (arith, same))
 
-pub other_record : ReadsRight answered_calls first_signature half_body (half_state_with 1 (waiting_parameter ∷ [])) → ⊥
+pub other_record : ReadsRightFromAnywhere answered_calls first_signature half_body (half_state_with 1 (waiting_parameter ∷ [])) → ⊥
 unfolding follow
 other_record right = by (alike 7 9 (half_state_with 1 (waiting_parameter ∷ [])) refl (waits_alone 9 refl) right 2 [] refl)
   where
@@ -338,7 +338,7 @@ other_record right = by (alike 7 9 (half_state_with 1 (waiting_parameter ∷ [])
         let same : 9 ≡ 7 = found.1.records tt 0 1 refl ∙ ap (λ (steps : ℕ). (state_after (right_here 7 9) steps).values (resolved half_body 1)) last in
         absurd (omega (arith, same))
 
-pub none_waiting : ReadsRight answered_calls first_signature half_body (half_state_with 0 []) → ⊥
+pub none_waiting : ReadsRightFromAnywhere answered_calls first_signature half_body (half_state_with 0 []) → ⊥
 unfolding follow
 none_waiting right = by (alike 7 5 (half_state_with 0 []) refl (λ parameter there. absurd (nothing_contained parameter there)) right 1 _ refl)
   where

@@ -40,7 +40,7 @@ use Rattle.clif_meaning.proofs.Stuttering.{steps_from, state_after-+}
 use Rattle.clif_simulation.specs.Tables.{code, answered, program_so_far, block_name}
 use Rattle.clif_simulation.specs.Carries.{as_passed, carried, own_placed, Carries}
 use Rattle.clif_simulation.specs.Reading.{behind, code_so_far, IsAtEnd, PremisesSoFar}
-use Rattle.clif_simulation.specs.Interrupted.{Unknowns, ScriptStanding, FunctionStanding, script_edge, script_goes, script_enters, function_enters, variables_entering, values_entering, without_arguments, StandsBefore, StandsBeside, HasBeside, RunsBeside, ReadsAlong}
+use Rattle.clif_simulation.specs.Interrupted.{Unknowns, ScriptStanding, FunctionStanding, script_edge, script_goes, script_enters, function_enters, variables_entering, values_entering, without_arguments, StandsBefore, StandsBeside, HasBeside, RunsBeside, ReadsRight}
 use Rattle.clif_simulation.proofs.Agreement.{Agrees, ZerosAreZero, given_agrees, zeros_agree}
 use Rattle.clif_simulation.proofs.Counted.{gives_results, terminator_gives_none}
 use Rattle.clif_simulation.proofs.Entry.{resolved_twice}
@@ -318,18 +318,21 @@ module _ (calls : List AnsweredCall) (signature : SignatureShape) (f : Body) (ss
     abbrev IsMet : ℕ → Type 0
     IsMet n = (steps : ℕ) × Runs (state_after left_machine n) (state_after right_machine steps)
 
+    later : (a : ScriptStanding) (steps more : ℕ) → Runs a (steps_from right_machine more (state_after right_machine steps)) → (m : ℕ) × Runs a (state_after right_machine m)
+    later a steps more runs = (steps + more, subst (Runs a) (state_after-+ right_machine steps more) runs)
+
     met : (n : ℕ) (rest : List Item) → (state_after left_machine n).state.control ≡ At rest → IsMet n
-    met zero rest on = (0 + starts.0, subst (Runs left_machine.start) (state_after-+ right_machine 0 starts.0) starts.1)
+    met zero rest on = later left_machine.start 0 starts.0 starts.1
     met (suc n) rest on =
         let before = went_on (state_after left_machine n) (state_after left_machine n).state.control refl rest on in
         let now : IsMet n = met n before.0 before.1 in
         let more = OpenStepping.step calls f ssa consistent carries width world tracked collector unknowns entry entry_name signature premises.given_before premises.well_typed
         (state_after left_machine n) (state_after right_machine now.0) now.1 rest on in
-        (now.0 + more.0, subst (Runs (state_after left_machine (suc n))) (state_after-+ right_machine now.0 more.0) more.1)
+        later (state_after left_machine (suc n)) now.0 more.0 more.1
 
     pub beside : (n : ℕ) (rest : List Item) → (state_after left_machine n).state.control ≡ At rest → HasBeside calls f ssa (state_after left_machine n) right_machine
     beside n rest on = let now : IsMet n = met n rest on in has_beside (state_after left_machine n) now.0 now.1
 
-pub reads_along : (calls : List AnsweredCall) (signature : SignatureShape) (f : Body) (ssa : SsaState) → IsConsistent f → Carries calls f ssa → ReadsAlong calls signature f ssa
-reads_along calls signature f ssa consistent carries width world tracked collector fits premises spares block name named is_entry unknowns =
+pub reads_right : (calls : List AnsweredCall) (signature : SignatureShape) (f : Body) (ssa : SsaState) → IsConsistent f → Carries calls f ssa → ReadsRight calls signature f ssa
+reads_right calls signature f ssa consistent carries width world tracked collector fits premises spares block name named is_entry unknowns =
     beside calls signature f ssa consistent (whole calls f ssa consistent carries spares) width world tracked collector fits premises block name named is_entry unknowns

@@ -164,8 +164,8 @@ RunsBeside calls f s left right block name =
     → HasBeside calls f s (state_after (interrupted_script calls s unknowns block name left) n) (interrupted_function s unknowns block right)
 
 -- In every world, whatever names are tracked and whatever the collector is: no call moves anything yet.
-abbrev pub ReadsAlong : List AnsweredCall → SignatureShape → Body → SsaState → Type 0
-ReadsAlong calls signature f s =
+abbrev pub ReadsRight : List AnsweredCall → SignatureShape → Body → SsaState → Type 0
+ReadsRight calls signature f s =
     (width : PointerWidth) (world : World) (tracked : Name → Bool) (collector : Collector)
     → IsWorldOf signature (view_of f) width world → PremisesSoFar calls signature → SparesEntry calls
     → (block : ℕ) (name : Name) → block_name calls block ≡ Some name → (program_so_far calls).entry ≡ Some name

@@ -14,8 +14,8 @@ use Rattle.clif_meaning.specs.View.{view_of}
 use Rattle.clif_meaning.specs.Headline.{MeansTheSame}
 use Rattle.clif_simulation.specs.Tables.{code, block_name}
 use Rattle.clif_simulation.specs.Carries.{Carries, NothingLeads}
-use Rattle.clif_simulation.specs.Reading.{ReadsRight}
-use Rattle.clif_simulation.specs.Interrupted.{ReadsAlong}
+use Rattle.clif_simulation.specs.Reading.{ReadsRightFromAnywhere}
+use Rattle.clif_simulation.specs.Interrupted.{ReadsRight}
 
 -- Different names have different numbers.
 abbrev pub CodesDiffer : Type 0
@@ -36,15 +36,15 @@ CarryingMeansTheSame =
     → IsConsistent f → Carries calls f s → IsFinished calls f s
     → MeansTheSame (script_of calls) f.signature width (view_of f)
 
--- A function that carries a list of calls reads right on runs and bits, whether it is finished or not: so far, one
--- without branches.
+-- A function that carries a list of calls reads right on runs and bits, whether it is finished or not: with any branches,
+-- beside runs that are interrupted at unsealed blocks.
 abbrev pub CarryingReadsRight : Type 0
 CarryingReadsRight =
     (calls : List AnsweredCall) (signature : SignatureShape) (f : Body) (s : SsaState)
-    → IsConsistent f → Carries calls f s → NothingLeads s → ReadsRight calls signature f s
+    → IsConsistent f → Carries calls f s → ReadsRight calls signature f s
 
--- With any branches, such a function reads right on runs that are interrupted at unsealed blocks.
-abbrev pub CarryingReadsAlong : Type 0
-CarryingReadsAlong =
+-- Where no branch was made, it does so from every pair of states at the front of an unsealed entry.
+abbrev pub CarryingReadsRightFromAnywhere : Type 0
+CarryingReadsRightFromAnywhere =
     (calls : List AnsweredCall) (signature : SignatureShape) (f : Body) (s : SsaState)
-    → IsConsistent f → Carries calls f s → ReadsAlong calls signature f s
+    → IsConsistent f → Carries calls f s → NothingLeads s → ReadsRightFromAnywhere calls signature f s

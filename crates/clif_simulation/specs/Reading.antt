@@ -97,8 +97,8 @@ pub record RunSideBySide (calls : List AnsweredCall) (f : Body) (s : SsaState) (
       → SideBySide calls f s block name (starting_at (script_machine left) p) (starting_at (function_machine right) q)
 
 -- In every world, whatever names are tracked and whatever the collector is: no call moves anything yet.
-abbrev pub ReadsRight : List AnsweredCall → SignatureShape → Body → SsaState → Type 0
-ReadsRight calls signature f s =
+abbrev pub ReadsRightFromAnywhere : List AnsweredCall → SignatureShape → Body → SsaState → Type 0
+ReadsRightFromAnywhere calls signature f s =
     (width : PointerWidth) (world : World) (tracked : Name → Bool) (collector : Collector)
     → IsWorldOf signature (view_of f) width world → PremisesSoFar calls signature
     → RunSideBySide calls f s (script_run_so_far calls f world tracked) (function_run_so_far calls f width world collector)

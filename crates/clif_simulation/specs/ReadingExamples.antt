@@ -16,7 +16,7 @@ use Rattle.clif_meaning.specs.View.{block_of}
 use Rattle.clif_meaning.specs.Examples.{i32, block0, first_signature}
 use Rattle.clif_meaning.specs.ScriptExamples.{answered_calls}
 use Rattle.clif_simulation.specs.Tables.{program_so_far}
-use Rattle.clif_simulation.specs.Reading.{StartAlike, ReadsRight}
+use Rattle.clif_simulation.specs.Reading.{StartAlike, ReadsRightFromAnywhere}
 
 -- the function so far, with `number` for the 7:
 --     block0(v0: i32):
@@ -62,8 +62,8 @@ with_bits bits world f = record { values = first_value bits; memory = world.memo
 pub record ReadingExamples : Type 0 where
   -- a run may start with 9 in the variable, and the half built row reads right from there and from all other starts
   pub starts : (world : World) → StartAlike answered_calls half_body half_state 0 block0 (with_nine world) (with_bits 9 world half_body)
-  pub reads_right : ReadsRight answered_calls first_signature half_body half_state
+  pub reads_right : ReadsRightFromAnywhere answered_calls first_signature half_body half_state
   -- with another constant, with the constant on record for the variable, or where the parameter doesn't wait, it doesn't
-  pub other_constant : ReadsRight answered_calls first_signature (half_body_with 8) half_state → ⊥
-  pub other_record : ReadsRight answered_calls first_signature half_body (half_state_with 1 (waiting_parameter ∷ [])) → ⊥
-  pub none_waiting : ReadsRight answered_calls first_signature half_body (half_state_with 0 []) → ⊥
+  pub other_constant : ReadsRightFromAnywhere answered_calls first_signature (half_body_with 8) half_state → ⊥
+  pub other_record : ReadsRightFromAnywhere answered_calls first_signature half_body (half_state_with 1 (waiting_parameter ∷ [])) → ⊥
+  pub none_waiting : ReadsRightFromAnywhere answered_calls first_signature half_body (half_state_with 0 []) → ⊥

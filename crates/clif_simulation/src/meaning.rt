@@ -1,6 +1,6 @@
 //! What a function that carries a list of calls means.
 
-ghost use Rattle.clif_simulation.specs.Laws.{CarryingMeansTheSame, CarryingReadsAlong, CarryingReadsRight};
+ghost use Rattle.clif_simulation.specs.Laws.{CarryingMeansTheSame, CarryingReadsRight, CarryingReadsRightFromAnywhere};
 
 /// A finished function that carries a list of calls, with any branches, joins and loops, means what the list's variable
 /// program means.
@@ -8,14 +8,13 @@ pub fn carrying_means_the_same()
     ensures { CarryingMeansTheSame }
 {}
 
-/// An unfinished function that carries a list of calls has, side by side with the list's program, the bits of its names
-/// and variables: so far, one without branches.
+/// An unfinished function that carries a list of calls, with any branches, has the bits of the names and variables of the
+/// list's program, beside each run that is interrupted at unsealed blocks.
 pub fn carrying_reads_right()
     ensures { CarryingReadsRight }
 {}
 
-/// With any branches, an unfinished function that carries a list of calls has, beside each run of the list's program that
-/// is interrupted at unsealed blocks, the bits of its names and variables.
-pub fn carrying_reads_along()
-    ensures { CarryingReadsAlong }
+/// Where no branch was made, it has them from every pair of states at the front of an unsealed entry.
+pub fn carrying_reads_right_from_anywhere()
+    ensures { CarryingReadsRightFromAnywhere }
 {}

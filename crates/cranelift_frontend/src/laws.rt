@@ -2,17 +2,22 @@
 //! are the laws.
 
 ghost use Rattle.cranelift_frontend.specs.Growth.{BuilderUsesAgree};
-ghost use Rattle.cranelift_frontend.specs.Laws.{StandingMatchesEdges, StandingReadsRight};
+ghost use Rattle.cranelift_frontend.specs.Laws.{StandingMatchesEdges, StandingReadsRight, StandingReadsRightFromAnywhere};
 
 /// Two uses of a variable in a block stand for one value, where no call between them assigns it there.
 pub fn uses_agree()
     ensures { BuilderUsesAgree }
 {}
 
-/// The unfinished function of a builder that stands for a list of calls has, beside each run of the list's program, the
-/// bits of its names and variables.
+/// The unfinished function of a builder that stands for a list of calls has the bits of the names and variables of the
+/// list's program, with any branches, beside each run that is interrupted at unsealed blocks.
 pub fn standing_reads_right()
     ensures { StandingReadsRight }
+{}
+
+/// Where no branch was made, it has them from every pair of states at the front of an unsealed entry.
+pub fn standing_reads_right_from_anywhere()
+    ensures { StandingReadsRightFromAnywhere }
 {}
 
 /// Once no parameter waits, the edges of the function of a builder that stands for a list of calls match, where the

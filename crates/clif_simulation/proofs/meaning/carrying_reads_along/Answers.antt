@@ -1,5 +1,0 @@
-use Rattle.clif_simulation.proofs.OpenReading
-use Rattle.clif_simulation.proofs.meaning.carrying_reads_along.Goals as goal
-
-pub returns : goal.returns
-returns c = OpenReading.reads_along
