@@ -1,8 +1,8 @@
 -- Into an unsealed block: variables have any bits, parameters that wait have theirs, and what agreed before still does.
-use Rattle.std.proofs.Common.{◌≡◌, ◌≢◌, ◌⊎◌, ℕ, suc, ◌≤◌, Bool, true, false, List, [], ◌∷◌, map, length, None, inl, inr, refl, sym, ◌∙◌, ap, arith}
+use Rattle.std.proofs.Common.{◌≡◌, ◌≢◌, ◌⊎◌, ℕ, ◌≤◌, Bool, true, false, List, [], ◌∷◌, length, None, inl, inr, refl, sym, ◌∙◌, ap, arith}
 use Rattle.std.proofs.lemmas.Bool.Decides.{nat_tests}
 use Rattle.clif_paths.specs.Places.{Arm, Path}
-use Rattle.clif_paths.specs.State.{Program, pending, zero_of, Definition, Function}
+use Rattle.clif_paths.specs.State.{Program, pending, zero_of, Function}
 use Rattle.clif_paths.specs.Denotation.{Instance, zero, unknown, variable, name, instances, defined, denotes}
 use Rattle.clif_paths.specs.Laws.{age}
 use Rattle.clif_paths.proofs.PathLemmas.{dec_place}

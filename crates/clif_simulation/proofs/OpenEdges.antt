@@ -1,6 +1,6 @@
 -- Into a block of an unfinished function: parameters of a sealed block get the bits of what the arm gives them, and those
 -- of an unsealed one, which wait, their variables'.
-use Rattle.std.proofs.Common.{◌≡◌, ◌≢◌, ℕ, zero, suc, ◌+◌, ◌<◌, ◌≤◌, ◌&&◌, Bool, true, false, List, [], ◌∷◌, length, map, slice_get, Option, Some, None, Contains, ◌⊎◌, inl, inr, refl, sym, ◌∙◌, ap, subst, subst₂, arith}
+use Rattle.std.proofs.Common.{◌≡◌, ℕ, ◌&&◌, Bool, true, false, List, [], ◌∷◌, length, map, slice_get, Option, Some, None, Contains, ◌⊎◌, inl, inr, refl, sym, ◌∙◌, ap, subst, arith}
 use Rattle.std.proofs.Math.Decide.{ℕ_discrete}
 use Rattle.clif_ir.specs.Body.{Body, block_at, resolved}
 use Rattle.clif_ir.specs.Consistent.{IsConsistent, Stands}
@@ -18,7 +18,7 @@ use Rattle.clif_ssa.specs.declared.tables.Sealed.{Sealed}
 use Rattle.clif_ssa.specs.declared.tables.Sealed.TheVariants.{No, Yes}
 use Rattle.clif_ssa.specs.Ssa.{SsaState, sealed_of}
 use Rattle.clif_ssa.specs.Tables.{is_yes, pending_of}
-use Rattle.clif_ssa.specs.Sound.{HomeFits, IsBehind, IsCounted, IsEdgeInto, IsWaiting, args_of, edges_at, has_entry, passed_count}
+use Rattle.clif_ssa.specs.Sound.{HomeFits, IsBehind, IsCounted, IsEdgeInto, args_of, edges_at, has_entry, passed_count}
 use Rattle.clif_ssa.proofs.Alike.{unaliased_home}
 use Rattle.clif_ssa.proofs.Ordering.{place_here}
 use Rattle.clif_ssa.proofs.Losing.{stands_home, home_stands}

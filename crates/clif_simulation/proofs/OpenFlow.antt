@@ -1,13 +1,13 @@
 -- Each path along the edges of an unfinished function is one of the code so far: what is given before a place is given on
 -- each path that comes to it. So the theory holds of these edges.
-use Rattle.std.proofs.Common.{◌≡◌, ◌≢◌, ℕ, zero, suc, ◌<◌, ◌≤◌, ◌==◌, ◌&&◌, nat_lt, if◌then◌else◌, Bool, true, false, List, [], ◌∷◌, length, slice_get, Option, Some, None, Contains, ◌⊎◌, inl, inr, refl, sym, ◌∙◌, ap, subst, arith}
+use Rattle.std.proofs.Common.{◌≡◌, ◌≢◌, ℕ, zero, suc, ◌<◌, ◌==◌, ◌&&◌, nat_lt, if◌then◌else◌, Bool, true, false, List, [], ◌∷◌, length, slice_get, Option, Some, None, Contains, ◌⊎◌, inl, inr, refl, sym, ◌∙◌, ap, subst, arith}
 use Rattle.std.proofs.lemmas.Bool.Decides.{nat_tests}
 use Rattle.clif_ir.specs.Body.{Body}
 use Rattle.clif_ir.specs.Consistent.{IsConsistent}
 use Rattle.clif_paths.specs.Places as paths
 use Rattle.clif_paths.specs.Places.{start, inside, same_place, Arm, Edges, Path, Follows, Visits, VisitsBefore, end_of, StrictlyBefore, Dominates}
 use Rattle.clif_paths.specs.Denotation as paths_denotation
-use Rattle.clif_paths.specs.Blocks.{arm_into, state_of}
+use Rattle.clif_paths.specs.Blocks.{state_of}
 use Rattle.clif_paths.specs.Sound.{Allowed, Holds, SoundUnder}
 use Rattle.clif_paths.proofs.PathLemmas.{same_place-true}
 use Rattle.clif_paths.proofs.Concluding.{answer_holds}

@@ -1,16 +1,16 @@
 -- An unfinished function that carries a list of calls reads right beside interrupted runs, with any branches.
-use Rattle.std.proofs.Common.{◌≡◌, ℕ, zero, suc, ◌+◌, ◌≤◌, ◌&&◌, Bool, true, false, List, [], ◌∷◌, ◌++◌, map, length, drop, flat_map, slice_get, Option, Some, None, Contains, ◌⊎◌, inl, inr, refl, sym, ◌∙◌, ap, ap₂, subst, subst₂, append_assoc, arith}
+use Rattle.std.proofs.Common.{◌≡◌, ℕ, zero, suc, ◌+◌, ◌≤◌, ◌&&◌, Bool, true, false, List, [], ◌∷◌, ◌++◌, map, length, drop, flat_map, slice_get, Some, None, refl, sym, ◌∙◌, ap, ap₂, subst, subst₂, append_assoc, arith}
 use Rattle.std.proofs.lemmas.List.{map-append}
 use Rattle.clif_types.specs.Signature.{SignatureShape}
 use Rattle.clif_types.specs.declared.target.PointerWidth.{PointerWidth}
-use Rattle.clif_ir.specs.Body.{Body, block_at, inst_at, resolved}
+use Rattle.clif_ir.specs.Body.{Body, block_at, resolved}
 use Rattle.clif_ir.specs.Consistent.{IsConsistent}
 use Rattle.clif_ir.specs.declared.block_call.BlockArg.{BlockArg}
 use Rattle.clif_paths.specs.Places as paths
 use Rattle.clif_paths.specs.Places.{inside, Path, Follows}
 use Rattle.clif_paths.specs.State.{Program, Function}
-use Rattle.clif_paths.specs.Denotation.{variable, denotes}
-use Rattle.clif_paths.specs.Blocks.{Blocks, state_of}
+use Rattle.clif_paths.specs.Denotation.{variable}
+use Rattle.clif_paths.specs.Blocks.{Blocks}
 use Rattle.clif_paths.specs.Sound.{Holds}
 use Rattle.clif_paths.proofs.BlockTables.{recorded_at-last}
 use Rattle.clif_ssa.specs.declared.tables.Pending.{Pending}
@@ -21,18 +21,16 @@ use Rattle.clif_meaning.specs.Bits.{Bits}
 use Rattle.clif_meaning.specs.Event.{types_of}
 use Rattle.clif_meaning.specs.Name.{Name, same_name}
 use Rattle.clif_meaning.specs.Request.{AnsweredCall, script_of}
-use Rattle.clif_meaning.specs.Ledger.{ledger_after}
 use Rattle.clif_meaning.specs.Instruction.{Edge, Instruction}
 use Rattle.clif_meaning.specs.Program.{Item, Instruct, Use, Assign}
 use Rattle.clif_meaning.specs.World.{World}
-use Rattle.clif_meaning.specs.Store.{assigned}
 use Rattle.clif_meaning.specs.Machine.{Machine, Control, At, HasReturned, HasTrapped, IsStuck, Observation, state_after}
 use Rattle.clif_meaning.specs.ScriptMachine as script
 use Rattle.clif_meaning.specs.ScriptMachine.{ScriptRun, ScriptState, script_machine}
 use Rattle.clif_meaning.specs.FunctionMachine as function_machine_of
 use Rattle.clif_meaning.specs.FunctionMachine.{Collector, FunctionRun, FunctionState, function_machine, same_value}
 use Rattle.clif_meaning.specs.FunctionView.{Placed}
-use Rattle.clif_meaning.specs.View.{argument_of, items_of, view_of}
+use Rattle.clif_meaning.specs.View.{items_of, view_of}
 use Rattle.clif_meaning.specs.Path.{Place}
 use Rattle.clif_meaning.specs.WellPlaced.{IsGivenBefore}
 use Rattle.clif_meaning.specs.Headline.{IsWorldOf}
@@ -40,7 +38,7 @@ use Rattle.clif_meaning.proofs.Stuttering.{steps_from, state_after-+}
 use Rattle.clif_simulation.specs.Tables.{code, answered, program_so_far, block_name}
 use Rattle.clif_simulation.specs.Carries.{as_passed, carried, own_placed, Carries}
 use Rattle.clif_simulation.specs.Reading.{behind, code_so_far, IsAtEnd, PremisesSoFar}
-use Rattle.clif_simulation.specs.Interrupted.{Unknowns, ScriptStanding, FunctionStanding, script_edge, script_goes, script_enters, function_enters, variables_entering, values_entering, without_arguments, StandsBefore, StandsBeside, HasBeside, RunsBeside, ReadsRight}
+use Rattle.clif_simulation.specs.Interrupted.{Unknowns, ScriptStanding, FunctionStanding, script_edge, script_goes, script_enters, function_enters, variables_entering, values_entering, without_arguments, StandsBefore, StandsBeside, HasBeside, ReadsRight}
 use Rattle.clif_simulation.proofs.Agreement.{Agrees, ZerosAreZero, given_agrees, zeros_agree}
 use Rattle.clif_simulation.proofs.Counted.{gives_results, terminator_gives_none}
 use Rattle.clif_simulation.proofs.Entry.{resolved_twice}

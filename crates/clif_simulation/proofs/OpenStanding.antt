@@ -18,11 +18,9 @@ use Rattle.clif_meaning.specs.World.{World}
 use Rattle.clif_meaning.specs.Outcome.{Outcome, Gives, Goes, Returns, Traps, Calls, NoStep, outcome_of}
 use Rattle.clif_meaning.specs.Machine.{Machine, At, Observation}
 use Rattle.clif_meaning.specs.ScriptMachine.{ScriptRun, ScriptState}
-use Rattle.clif_meaning.specs.FunctionMachine as function_machine_of
 use Rattle.clif_meaning.specs.FunctionMachine.{Collector, FunctionRun, FunctionState, function_machine, value_bits}
 use Rattle.clif_meaning.specs.FunctionView.{Placed}
-use Rattle.clif_meaning.specs.View.{placed_of, items_of}
-use Rattle.clif_meaning.specs.Path.{Place}
+use Rattle.clif_meaning.specs.View.{items_of}
 use Rattle.clif_meaning.proofs.Stuttering.{steps_from}
 use Rattle.clif_simulation.specs.Tables.{program_so_far, block_name}
 use Rattle.clif_simulation.specs.Carries.{carried, own_placed}

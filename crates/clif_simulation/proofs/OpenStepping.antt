@@ -1,16 +1,14 @@
 -- One step of the script's interrupted run that goes on is matched by the function's: both stand before the same items of a
 -- block and agree.
-use Rattle.std.proofs.Common.{◌≡◌, ◌≢◌, ℕ, zero, suc, ◌+◌, ◌<◌, ◌≤◌, nat_lt, Bool, true, List, [], ◌∷◌, ◌++◌, map, length, drop, flat_map, slice_get, Option, Some, None, Contains, ◌⊎◌, inl, inr, refl, sym, ◌∙◌, ap, ap₂, subst, subst₂, arith}
+use Rattle.std.proofs.Common.{◌≡◌, ℕ, suc, ◌<◌, ◌≤◌, nat_lt, Bool, true, List, [], ◌∷◌, ◌++◌, map, length, flat_map, slice_get, Option, Some, None, Contains, refl, sym, ◌∙◌, ap, ap₂, subst, subst₂, arith}
 use Rattle.std.proofs.lemmas.Bool.Decides.{nat_tests}
 use Rattle.clif_types.specs.Signature.{SignatureShape}
 use Rattle.clif_types.specs.declared.target.PointerWidth.{PointerWidth}
-use Rattle.clif_ir.specs.Body.{Body, block_at, inst_at, resolved}
+use Rattle.clif_ir.specs.Body.{Body, inst_at, resolved}
 use Rattle.clif_ir.specs.Consistent.{IsConsistent}
-use Rattle.clif_ir.specs.declared.block_call.BlockArg.{BlockArg}
 use Rattle.clif_ir.specs.declared.block_call.BlockCall.{BlockCall}
 use Rattle.clif_paths.specs.Places.{inside, Arm, Path, Follows, end_of}
-use Rattle.clif_paths.specs.State.{Program, Function, Naming}
-use Rattle.clif_paths.specs.Denotation as paths_denotation
+use Rattle.clif_paths.specs.State.{Program, Function}
 use Rattle.clif_paths.specs.Denotation.{denotes}
 use Rattle.clif_paths.specs.Blocks.{Blocks, front, last_place}
 use Rattle.clif_paths.proofs.PathLemmas.{same_place-refl}
@@ -43,7 +41,7 @@ use Rattle.clif_simulation.specs.Carries.{answered_argument, carried, own_placed
 use Rattle.clif_simulation.specs.Reading.{behind}
 use Rattle.clif_simulation.specs.Interrupted.{taken_of, Unknowns, ScriptStanding, FunctionStanding, script_edge, script_goes, script_enters, function_edge, function_goes, function_enters, variables_entering, values_entering}
 use Rattle.clif_simulation.proofs.Whole.{Whole}
-use Rattle.clif_simulation.proofs.Giving.{in_contained, In}
+use Rattle.clif_simulation.proofs.Giving.{in_contained}
 use Rattle.clif_simulation.proofs.Agreement.{Agrees, GivesThere, UsesThere, AssignsThere, ZerosAreZero, given_agrees, used_agrees, assigned_agrees, given_zeros, used_zeros, assigned_zeros}
 use Rattle.clif_simulation.proofs.Entry.{resolved_twice}
 use Rattle.clif_simulation.proofs.Fronts.{placed_inst, steps_behind}

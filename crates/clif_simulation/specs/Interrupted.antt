@@ -1,7 +1,7 @@
 -- Interrupted runs of calls so far, with any branches: each time control enters an unsealed block, whose branches aren't
 -- all known, variables have any bits, and a parameter that waits there has its variable's; names, other values, memory and
 -- events stay. Whatever further calls make of a run at an unsealed block, it is such a run up to there. Own.
-use Rattle.std.specs.Prelude.{◌≡◌, ℕ, suc, Bool, true, false, List, [], ◌∷◌, map, flat_map, drop, Option, Some, None, slice_get, Contains}
+use Rattle.std.specs.Prelude.{◌≡◌, ℕ, suc, Bool, true, false, List, [], ◌∷◌, map, flat_map, drop, Option, Some, None, slice_get}
 use Rattle.clif_types.specs.Signature.{SignatureShape}
 use Rattle.clif_types.specs.declared.target.PointerWidth.{PointerWidth}
 use Rattle.clif_ir.specs.Body.{Body, resolved}
@@ -10,8 +10,8 @@ use Rattle.clif_ssa.specs.Ssa.{SsaState, record_of, sealed_of}
 use Rattle.clif_ssa.specs.Tables.{is_yes, pending_of}
 use Rattle.clif_meaning.specs.Bits.{Bits}
 use Rattle.clif_meaning.specs.Name.{Name}
-use Rattle.clif_meaning.specs.Request.{AnsweredCall, script_of}
-use Rattle.clif_meaning.specs.Instruction.{Edge, Instruction}
+use Rattle.clif_meaning.specs.Request.{AnsweredCall}
+use Rattle.clif_meaning.specs.Instruction.{Edge}
 use Rattle.clif_meaning.specs.Program.{Item, Instruct, Use, Assign}
 use Rattle.clif_meaning.specs.World.{World}
 use Rattle.clif_meaning.specs.Outcome.{Outcome, Gives, Goes, Returns, Traps, Calls, NoStep, outcome_of}
