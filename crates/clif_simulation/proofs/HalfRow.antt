@@ -39,20 +39,20 @@ use Rattle.clif_simulation.proofs.Reaching.{given_behind, leads_nowhere}
 use Rattle.clif_simulation.proofs.Unbranched.{PlainlyEarlier}
 
 -- the program: a use, and a constant
-abbrev items : List Item
+abbrev pub items : List Item
 items = (program_so_far answered_calls).items block0
 
 -- what was given behind so many items
 given_names : (x : Name) (k : ℕ) → k < 3 → IsGivenBefore (code_so_far answered_calls) x (behind block0 k) → (j : ℕ) × (j < k) × Contains (item_gives (slice_get items j)) x
 given_names x k within given = given_behind answered_calls block0 refl x k (omega (arith, within)) given
 
-none_given : (x : Name) → IsGivenBefore (code_so_far answered_calls) x (behind block0 0) → ⊥
+pub none_given : (x : Name) → IsGivenBefore (code_so_far answered_calls) x (behind block0 0) → ⊥
 none_given x given = by (given_names x 0 (omega arith) given)
   where
     by : (j : ℕ) × (j < 0) × Contains (item_gives (slice_get items j)) x → ⊥
     by found = absurd (omega (arith, found.1))
 
-use_given : (x : Name) → IsGivenBefore (code_so_far answered_calls) x (behind block0 1) → answer_of 3 0 ≡ x
+pub use_given : (x : Name) → IsGivenBefore (code_so_far answered_calls) x (behind block0 1) → answer_of 3 0 ≡ x
 use_given x given = by (given_names x 1 (omega arith) given)
   where
     at : (j : ℕ) → j < 1 → Contains (item_gives (slice_get items j)) x → answer_of 3 0 ≡ x
@@ -62,7 +62,7 @@ use_given x given = by (given_names x 1 (omega arith) given)
     by : (j : ℕ) × (j < 1) × Contains (item_gives (slice_get items j)) x → answer_of 3 0 ≡ x
     by found = at found.0 found.1 found.2
 
-both_given : (x : Name) → IsGivenBefore (code_so_far answered_calls) x (behind block0 2) → (answer_of 3 0 ≡ x) ⊎ (answer_of 4 1 ≡ x)
+pub both_given : (x : Name) → IsGivenBefore (code_so_far answered_calls) x (behind block0 2) → (answer_of 3 0 ≡ x) ⊎ (answer_of 4 1 ≡ x)
 both_given x given = by (given_names x 2 (omega arith) given)
   where
     at : (j : ℕ) → j < 2 → Contains (item_gives (slice_get items j)) x → (answer_of 3 0 ≡ x) ⊎ (answer_of 4 1 ≡ x)
@@ -150,10 +150,10 @@ module _ (width : PointerWidth) (world : World) (tracked : Name → Bool) (colle
         other : {X : Type 0} {rest : List X} → IsStuck ≡ At rest → ⊥
         other e = cc
 
-no_block : (block : ℕ) (name : Name) → block_name answered_calls (suc block) ≡ Some name → ⊥
+pub no_block : (block : ℕ) (name : Name) → block_name answered_calls (suc block) ≡ Some name → ⊥
 no_block block name named = cc
 
-the_name : (name : Name) → block_name answered_calls 0 ≡ Some name → block0 ≡ name
+pub the_name : (name : Name) → block_name answered_calls 0 ≡ Some name → block0 ≡ name
 the_name name named = cc
 
 module _ (width : PointerWidth) (world : World) (tracked : Name → Bool) (collector : Collector)
@@ -221,7 +221,7 @@ starts world = nine half_body half_state 9 world (waits_alone 9 refl)
 
 -- The premises --------------------------------------------------------------------------------------------------------------
 
-each_item : (P : Item → Type 0) → AllByRecursion P items → EachItem P (program_so_far answered_calls)
+pub each_item : (P : Item → Type 0) → AllByRecursion P items → EachItem P (program_so_far answered_calls)
 each_item P each block = by (same_name block block0) refl
   where
     by : (c : Bool) → same_name block block0 ≡ c → AllByRecursion P ((program_so_far answered_calls).items block)
@@ -240,7 +240,7 @@ nothing_of of none all p x there =
     none_of (of (slice_get ((program_so_far answered_calls).items p.block) p.index)) x
     (nothing_at of none ((program_so_far answered_calls).items p.block) p.index (each_item (λ item. of (Some item) ≡ []) all p.block)) there
 
-premises : PremisesSoFar answered_calls first_signature
+pub premises : PremisesSoFar answered_calls first_signature
 premises = record {
   well_typed = record { items = each_item _ (tt, (record { made_at = refl; operands = refl; edges = tt }, tt)); entry = refl };
   given_before = record {
@@ -249,16 +249,16 @@ premises = record {
   };
 }
 
-fits : (f : Body) → IsWorldOf first_signature (view_of f) U64 SampleWorld.sample_world
+pub fits : (f : Body) → IsWorldOf first_signature (view_of f) U64 SampleWorld.sample_world
 fits f = record { arguments = tt; slots = record { aligned = λ s slot h. cc; accessible = λ s slot k h below. cc; within = λ s slot h. cc; apart = λ s t slot other k l h. cc } }
 
 -- the use's name is given behind the use
-leads_nowhere_here : (p : Place Name) → (code_so_far answered_calls).flow.targets p ≡ []
+pub leads_nowhere_here : (p : Place Name) → (code_so_far answered_calls).flow.targets p ≡ []
 leads_nowhere_here p =
     leads_nowhere answered_calls ((program_so_far answered_calls).items p.block) p.index
     (each_item (PlainlyEarlier answered_calls) (omega arith, ((tt, (omega arith, tt), refl), tt)) p.block)
 
-use_is_given : IsGivenBefore (code_so_far answered_calls) (answer_of 3 0) (behind block0 1)
+pub use_is_given : IsGivenBefore (code_so_far answered_calls) (answer_of 3 0) (behind block0 1)
 use_is_given path walk =
     inr (given_along (code_so_far answered_calls) leads_nowhere_here path (behind block0 1) 0 (answer_of 3 0) walk (omega arith) (first_of_one (answer_of 3 0) (answer_of 3 0) refl))
 
@@ -310,7 +310,7 @@ module _ (number bits : ℕ) where
           (right U64 SampleWorld.sample_world (λ x. false) ByMaps (fits here) premises).from_unsealed 0 block0 refl ([], (refl, (refl, omega arith))) unsealed
           (with_nine SampleWorld.sample_world) (with_bits bits SampleWorld.sample_world here) (nine here s bits SampleWorld.sample_world waiting)
 
-abbrev of_operation : Operation → ℕ
+abbrev pub of_operation : Operation → ℕ
 of_operation (Compute (Iconst (pos number))) = number
 of_operation _ = 0
 

@@ -38,6 +38,7 @@ mod OpenStepping
 pub mod OpenReading
 -- The row `first`, half built.
 mod HalfRow
+mod HalfRowAlong
 -- A function goes on to carry one more call.
 pub mod Numbers
 pub mod NameLists

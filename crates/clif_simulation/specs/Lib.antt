@@ -5,4 +5,5 @@ pub mod Interrupted
 pub mod ReadingExamples
 pub mod Laws
 pub mod CarryingExamples
+pub mod InterruptedExamples
 pub mod Structure

@@ -1,12 +1,19 @@
 //! Worked examples of the definitions.
 
 ghost use Rattle.clif_simulation.specs.CarryingExamples.{CarryingExamples};
+ghost use Rattle.clif_simulation.specs.InterruptedExamples.{InterruptedExamples};
 ghost use Rattle.clif_simulation.specs.ReadingExamples.{ReadingExamples};
 
-/// The row `first`, half built, reads right on bits; with another constant, another record, or a parameter that doesn't
+/// The row `first`, half built, reads right on bits from every start; with another constant, another record, or a parameter that doesn't
 /// wait, it doesn't.
 pub fn half_built_reads_right()
     ensures { ReadingExamples }
+{}
+
+/// The same beside interrupted runs; and so does the row `both_arms`, whose loop has both arms of one branch: with another
+/// record it doesn't.
+pub fn interrupted_reads_right()
+    ensures { InterruptedExamples }
 {}
 
 /// The row `both_arms`, a loop with both arms of one branch, is consistent, carried and finished; with another argument

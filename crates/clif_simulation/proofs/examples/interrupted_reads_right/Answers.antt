@@ -1,0 +1,17 @@
+use Rattle.clif_simulation.proofs.HalfRowAlong
+use Rattle.clif_simulation.proofs.LoopConsistent
+use Rattle.clif_simulation.proofs.LoopRow
+use Rattle.clif_simulation.proofs.OpenReading
+use Rattle.clif_meaning.specs.BranchExamples.{both_arms_signature}
+use Rattle.clif_simulation.specs.CarryingExamples.{loop_calls, loop_body, loop_state}
+use Rattle.clif_simulation.proofs.examples.interrupted_reads_right.Goals as goal
+
+pub returns : goal.returns
+returns c = record {
+  reads_right = HalfRowAlong.reads_right;
+  other_constant = HalfRowAlong.other_constant;
+  other_record = HalfRowAlong.other_record;
+  none_waiting = HalfRowAlong.none_waiting;
+  loop_reads_right = OpenReading.reads_right loop_calls both_arms_signature loop_body loop_state LoopConsistent.row_consistent LoopRow.row_carried;
+  loop_other_record = ?;
+}
