@@ -74,3 +74,4 @@ mod LoopWrong
 mod LoopArgument
 mod LoopRow
 mod LoopConsistent
+mod LoopAlong

@@ -1,4 +1,5 @@
 use Rattle.clif_simulation.proofs.HalfRowAlong
+use Rattle.clif_simulation.proofs.LoopAlong
 use Rattle.clif_simulation.proofs.LoopConsistent
 use Rattle.clif_simulation.proofs.LoopRow
 use Rattle.clif_simulation.proofs.OpenReading
@@ -13,5 +14,5 @@ returns c = record {
   other_record = HalfRowAlong.other_record;
   none_waiting = HalfRowAlong.none_waiting;
   loop_reads_right = OpenReading.reads_right loop_calls both_arms_signature loop_body loop_state LoopConsistent.row_consistent LoopRow.row_carried;
-  loop_other_record = ?;
+  loop_other_record = LoopAlong.other_record;
 }
