@@ -95,9 +95,9 @@ module _ (width : PointerWidth) (world : World) (tracked : Name → Bool) (colle
       ∙ stuck n
 
   runs : (n : ℕ) (rest : List Item) → (state_after left n).state.control ≡ At rest → HasBeside answered_calls half_body half_state (state_after left n) right
-  runs zero rest on = record { block = 0; named = refl; steps = 0; beside = at_front }
-  runs (suc zero) rest on = record { block = 0; named = refl; steps = 0; beside = used }
-  runs (suc (suc zero)) rest on = record { block = 0; named = refl; steps = 1; beside = at_end }
+  runs zero rest on = record { block = 0; named = refl; steps = 0; entries = refl; beside = at_front }
+  runs (suc zero) rest on = record { block = 0; named = refl; steps = 0; entries = refl; beside = used }
+  runs (suc (suc zero)) rest on = record { block = 0; named = refl; steps = 1; entries = refl; beside = at_end }
   runs (suc (suc (suc n))) rest on = absurd (stuck_there (sym (stuck n) ∙ on))
 
 pub reads_right : ReadsRight answered_calls first_signature half_body half_state

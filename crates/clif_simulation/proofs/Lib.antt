@@ -75,3 +75,4 @@ mod LoopArgument
 mod LoopRow
 mod LoopConsistent
 mod LoopAlong
+mod LoopWaiting

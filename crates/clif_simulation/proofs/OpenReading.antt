@@ -220,6 +220,7 @@ module _ (calls : List AnsweredCall) (signature : SignatureShape) (f : Body) (ss
       block = r.block;
       named = r.is_at.named ∙ ap (λ (place : Place Name). Some place.block) (sym r.place);
       steps = steps;
+      entries = r.entries;
       beside = subst (λ (place : Place Name). StandsBeside calls f ssa r.block place.block place.index a.state (state_after right_machine steps).state) (sym r.place)
           (stand_beside r.block r.name r.index r.rest r.left r.path a.state (state_after right_machine steps).state r.is_at);
     }

@@ -151,11 +151,12 @@ pub record StandsBeside (calls : List AnsweredCall) (f : Body) (s : SsaState) (b
       → (variable value : ℕ) → record_of s variable block ≡ Some value → p.variables variable ≡ q.values (resolved f value)
 
 -- Beside an interrupted run of the script that goes on, the function's with the same bits at unsealed blocks comes to a
--- state in which both stand alike.
+-- state in which both stand alike, and entered as many blocks.
 pub record HasBeside (calls : List AnsweredCall) (f : Body) (s : SsaState) (a : ScriptStanding) (right : Machine FunctionStanding Observation) : Type 0 where
   pub block : ℕ
   pub named : block_name calls block ≡ Some a.place.block
   pub steps : ℕ
+  pub entries : a.entries ≡ (state_after right steps).entries
   pub beside : StandsBeside calls f s block a.place.block a.place.index a.state (state_after right steps).state
 
 abbrev pub RunsBeside : List AnsweredCall → Body → SsaState → ScriptRun → FunctionRun → ℕ → Name → Type 0

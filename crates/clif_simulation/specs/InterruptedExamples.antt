@@ -1,13 +1,20 @@
--- Worked examples of the reading beside interrupted runs: the row `first`, half built, and the row `both_arms`, whose loop
--- has both arms of one branch. Own.
-use Rattle.std.specs.Prelude.{ℕ, List, [], ◌∷◌, Some}
-use Rattle.clif_ssa.specs.declared.tables.Sealed.TheVariants.{Yes}
+-- Worked examples of the reading beside interrupted runs: the row `first`, half built; the row `both_arms`, whose loop has
+-- both arms of one branch; and a loop before its block is sealed. Own.
+use Rattle.std.specs.Prelude.{ℕ, false, List, [], ◌∷◌, Some, None}
+use Rattle.clif_types.specs.declared.extname.UserFuncName.TheVariants.{Testcase}
+use Rattle.clif_ir.specs.declared.instructions.InstructionData.TheVariants.{Jump}
+use Rattle.clif_ir.specs.declared.function.ValueOrigin.TheVariants.{Param}
+use Rattle.clif_ir.specs.Body.{Body}
+use Rattle.clif_ssa.specs.declared.tables.Pending.{Pending}
+use Rattle.clif_ssa.specs.declared.tables.Sealed.TheVariants.{No, Yes}
 use Rattle.clif_ssa.specs.Ssa.{SsaState}
-use Rattle.clif_meaning.specs.Examples.{first_signature}
-use Rattle.clif_meaning.specs.BranchExamples.{both_arms_signature}
+use Rattle.clif_meaning.specs.Request.{CreateBlock, SwitchToBlock, SealBlock, DeclareVar, UseVar, AnsweredCall}
+use Rattle.clif_meaning.specs.Acceptance.{jump}
+use Rattle.clif_meaning.specs.Examples.{i32, first_signature}
+use Rattle.clif_meaning.specs.BranchExamples.{block, plain, both_arms_signature}
 use Rattle.clif_meaning.specs.ScriptExamples.{answered_calls}
 use Rattle.clif_simulation.specs.Interrupted.{ReadsRight}
-use Rattle.clif_simulation.specs.CarryingExamples.{loop_calls, loop_body, loop_state}
+use Rattle.clif_simulation.specs.CarryingExamples.{edge_to, loop_calls, loop_body, loop_state}
 use Rattle.clif_simulation.specs.ReadingExamples.{half_body_with, half_body, half_state_with, half_state, waiting_parameter}
 
 -- the row's construction, where this value is recorded for the variable at the end of block2, behind the sum
@@ -17,6 +24,43 @@ loop_state_recording value = record loop_state {
       (record { value = Some 0; lookups = 0 } ∷ record { value = Some 1; lookups = 1 }
       ∷ record { value = Some value; lookups = 0 } ∷ record { value = Some 1; lookups = 0 } ∷ [])
       ∷ [];
+}
+
+-- a loop that uses a variable before it was assigned, while its block is unsealed
+abbrev pub waiting_loop_calls : List AnsweredCall
+waiting_loop_calls =
+    record { request = CreateBlock; numbers = 0 ∷ [] }
+    ∷ record { request = CreateBlock; numbers = 1 ∷ [] }
+    ∷ record { request = DeclareVar i32; numbers = 0 ∷ [] }
+    ∷ record { request = SwitchToBlock (block 0); numbers = [] }
+    ∷ record { request = SealBlock (block 0); numbers = [] }
+    ∷ record { request = jump (plain (block 1)); numbers = 0 ∷ [] }
+    ∷ record { request = SwitchToBlock (block 1); numbers = [] }
+    ∷ record { request = UseVar 0; numbers = 0 ∷ [] }
+    ∷ record { request = jump (plain (block 1)); numbers = 1 ∷ [] } ∷ []
+
+-- the function so far:
+--     block0:
+--         jump block1
+--     block1(v0: i32):
+--         jump block1
+abbrev pub waiting_loop_body : Body
+waiting_loop_body = record {
+  name = Testcase (119 ∷ []);
+  signature = both_arms_signature;
+  values = record { ty = i32; origin = Param 1 } ∷ [];
+  insts =
+      record { shape = Jump (edge_to 1 []); results = []; block = 0; srcloc = 0 }
+      ∷ record { shape = Jump (edge_to 1 []); results = []; block = 1; srcloc = 0 } ∷ [];
+  blocks = record { params = []; insts = 0 ∷ []; is_cold = false } ∷ record { params = 0 ∷ []; insts = 1 ∷ []; is_cold = false } ∷ [];
+  layout = 0 ∷ 1 ∷ [];
+}
+
+-- the construction so far, where these parameters wait in block1
+abbrev pub waiting_loop_state : List Pending → SsaState
+waiting_loop_state waiting = record {
+  records = (record { value = None; lookups = 0 } ∷ record { value = Some 0; lookups = 0 } ∷ []) ∷ [];
+  blocks = record { predecessors = []; sealed = Yes } ∷ record { predecessors = 0 ∷ 1 ∷ []; sealed = No waiting } ∷ [];
 }
 
 pub record InterruptedExamples : Type 0 where
@@ -29,3 +73,6 @@ pub record InterruptedExamples : Type 0 where
   -- so does the loop; with the parameter on record for the variable behind the sum, it doesn't
   pub loop_reads_right : ReadsRight loop_calls both_arms_signature loop_body loop_state
   pub loop_other_record : ReadsRight loop_calls both_arms_signature loop_body (loop_state_recording 1) → ⊥
+  -- so does the loop whose block is unsealed; where its parameter doesn't wait, it doesn't
+  pub waiting_loop_reads_right : ReadsRight waiting_loop_calls both_arms_signature waiting_loop_body (waiting_loop_state (waiting_parameter ∷ []))
+  pub waiting_loop_none_waiting : ReadsRight waiting_loop_calls both_arms_signature waiting_loop_body (waiting_loop_state []) → ⊥

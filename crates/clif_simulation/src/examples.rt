@@ -10,8 +10,8 @@ pub fn half_built_reads_right()
     ensures { ReadingExamples }
 {}
 
-/// The same beside interrupted runs; and so does the row `both_arms`, whose loop has both arms of one branch: with another
-/// record it doesn't.
+/// Beside interrupted runs the half built row reads right, and so do the row `both_arms`, a loop, and a loop whose block
+/// is unsealed; with another constant, another record, or a parameter that doesn't wait, they don't.
 pub fn interrupted_reads_right()
     ensures { InterruptedExamples }
 {}

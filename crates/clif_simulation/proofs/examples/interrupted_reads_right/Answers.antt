@@ -2,6 +2,7 @@ use Rattle.clif_simulation.proofs.HalfRowAlong
 use Rattle.clif_simulation.proofs.LoopAlong
 use Rattle.clif_simulation.proofs.LoopConsistent
 use Rattle.clif_simulation.proofs.LoopRow
+use Rattle.clif_simulation.proofs.LoopWaiting
 use Rattle.clif_simulation.proofs.OpenReading
 use Rattle.clif_meaning.specs.BranchExamples.{both_arms_signature}
 use Rattle.clif_simulation.specs.CarryingExamples.{loop_calls, loop_body, loop_state}
@@ -15,4 +16,6 @@ returns c = record {
   none_waiting = HalfRowAlong.none_waiting;
   loop_reads_right = OpenReading.reads_right loop_calls both_arms_signature loop_body loop_state LoopConsistent.row_consistent LoopRow.row_carried;
   loop_other_record = LoopAlong.other_record;
+  waiting_loop_reads_right = LoopWaiting.reads_right;
+  waiting_loop_none_waiting = LoopWaiting.none_waiting;
 }
