@@ -1,5 +1,5 @@
 -- The row `first` up to its constant, read beside interrupted runs.
-use Rattle.std.proofs.Common.{◌≡◌, ℕ, zero, suc, ◌<◌, Bool, false, List, [], ◌∷◌, map, flat_map, drop, Some, Contains, ◌⊎◌, inl, inr, refl, sym, ◌∙◌, ap, subst, arith}
+use Rattle.std.proofs.Common.{◌≡◌, ℕ, zero, suc, Bool, false, List, [], ◌∷◌, map, flat_map, drop, Some, ◌⊎◌, inl, inr, refl, sym, ◌∙◌, ap, subst, arith}
 use Rattle.clif_types.specs.declared.target.PointerWidth.{PointerWidth}
 use Rattle.clif_types.specs.declared.target.PointerWidth.TheVariants.{U64}
 use Rattle.clif_ir.specs.Body.{Body, follow, resolved}
@@ -19,10 +19,10 @@ use Rattle.clif_meaning.specs.ScriptExamples.{answered_calls}
 use Rattle.clif_meaning.proofs.StraightLine.{given_along}
 use Rattle.clif_meaning.proofs.FirstRow.{first_of_one}
 use Rattle.clif_meaning.proofs.SampleWorld
-use Rattle.clif_simulation.specs.Tables.{answered, block_name, program_so_far}
+use Rattle.clif_simulation.specs.Tables.{answered, block_name}
 use Rattle.clif_simulation.specs.Carries.{carried, SparesBlock, SparesEntry}
 use Rattle.clif_simulation.specs.Reading.{code_so_far, behind, script_run_so_far, function_run_so_far}
-use Rattle.clif_simulation.specs.Interrupted.{Unknowns, ScriptStanding, FunctionStanding, interrupted_script, interrupted_function, script_edge, script_goes, function_edge, function_goes, without_arguments, StandsBefore, StandsBeside, HasBeside, RunsBeside, ReadsRight}
+use Rattle.clif_simulation.specs.Interrupted.{Unknowns, ScriptStanding, FunctionStanding, interrupted_script, interrupted_function, script_edge, script_goes, function_edge, function_goes, without_arguments, StandsBeside, HasBeside, RunsBeside, ReadsRight}
 use Rattle.clif_simulation.specs.ReadingExamples.{half_body_with, half_body, half_state_with, half_state, waiting_parameter}
 use Rattle.clif_simulation.proofs.HalfRow.{items, none_given, use_given, both_given, no_block, the_name, each_item, premises, fits, use_is_given, leads_nowhere_here, of_operation}
 

@@ -1,5 +1,5 @@
 -- The row `both_arms`, read beside interrupted runs with another record.
-use Rattle.std.proofs.Common.{◌≡◌, ℕ, zero, suc, ◌+◌, ◌<◌, Bool, false, List, [], ◌∷◌, slice_get, Option, Some, None, Contains, ◌⊎◌, inl, inr, refl, sym, ◌∙◌, ap, subst, arith}
+use Rattle.std.proofs.Common.{◌≡◌, ℕ, zero, suc, ◌+◌, ◌<◌, false, List, [], ◌∷◌, slice_get, Some, Contains, ◌⊎◌, inl, inr, refl, sym, ◌∙◌, subst, arith}
 use Rattle.std.specs.List.{AllByRecursion}
 use Rattle.clif_types.specs.declared.target.PointerWidth.TheVariants.{U64}
 use Rattle.clif_ir.specs.Body.{follow}
@@ -123,8 +123,7 @@ well_typed : WellTyped (ledger_after (script_of loop_calls)) (program_so_far loo
 well_typed = record {
   items = each_items_of_row (AllByRecursion (IsItemWellTyped (ledger_after (script_of loop_calls)) (program_so_far loop_calls) (types_of both_arms_signature.returns))) tt
       (record { made_at = refl; operands = refl; edges = tt }, (refl, (record { made_at = refl; operands = refl; edges = (refl, tt) }, tt)))
-      (tt, (record { made_at = refl; operands = refl; edges = (refl, (refl, tt)) }, tt))
-      (
+      (tt, (record { made_at = refl; operands = refl; edges = (refl, (refl, tt)) }, tt)) (
         tt,
         (
           record { made_at = refl; operands = refl; edges = tt },

@@ -267,7 +267,7 @@ module _ (calls : List AnsweredCall) (f : Body) (s : SsaState) (consistent : IsC
                 function.resolve u,
                 carries.describes.resolves (function.resolve u) ∙ ap (resolved f) (carries.describes.resolves u) ∙ resolved_twice f u consistent ∙ sym (carries.describes.resolves u),
                 (function_steps program function arm path).complete_here w
-                (parameter_complete w home ∙ ap (λ (p : Place). record { home = p; kind = complete }) (sym target)),
+                    (parameter_complete w home ∙ ap (λ (p : Place). record { home = p; kind = complete }) (sym target)),
                 parameter_gets w home ∙ ap old (sym (carries.describes.resolves u)),
               )
 
@@ -284,7 +284,7 @@ module _ (calls : List AnsweredCall) (f : Body) (s : SsaState) (consistent : IsC
               inr (
                 x,
                 (function_steps program function arm path).zero_here w x
-                (ap (λ (k : Kind). record { home = (function.definition w).home; kind = k }) kind ∙ ap (λ (p : Place). record { home = p; kind = zero_of x }) (at ∙ sym target)),
+                    (ap (λ (k : Kind). record { home = (function.definition w).home; kind = k }) kind ∙ ap (λ (p : Place). record { home = p; kind = zero_of x }) (at ∙ sym target)),
                 other_keeps w other ∙ zeros.of_value w x kind,
               )
 

@@ -273,9 +273,9 @@ module _ (calls : List AnsweredCall) (signature : SignatureShape) (f : Body) (ss
             let unsealed : tables.sealed entry ≡ false = carries.describes.sealed entry ∙ ap (λ (t : Bool). t && has_entry f.layout) is in
             let opens = OpenEdges.opens_there calls f ssa consistent carries entry unsealed (first_arm entry) refl (unknowns 0) (λ w. 0) q0.values no_bits in (
               interrupted_agrees live program function (first_arm entry) [] (unknowns 0) (λ w. 0)
-              (values_entering (pending_of (sealed_of ssa entry)) (unknowns 0) q0.values) opens (λ x. 0) p0.names (all_zero []) (none_set []),
+                  (values_entering (pending_of (sealed_of ssa entry)) (unknowns 0) q0.values) opens (λ x. 0) p0.names (all_zero []) (none_set []),
               interrupted_zeros live program function (first_arm entry) [] (unknowns 0) (λ w. 0)
-              (values_entering (pending_of (sealed_of ssa entry)) (unknowns 0) q0.values) opens (λ x. 0) p0.names (all_zero []) (none_set []),
+                  (values_entering (pending_of (sealed_of ssa entry)) (unknowns 0) q0.values) opens (λ x. 0) p0.names (all_zero []) (none_set []),
             )
 
     starts : Comes left_machine.start right_machine.start

@@ -145,10 +145,10 @@ module _ (calls : List AnsweredCall) (f : Body) (ssa : SsaState) (consistent : I
 
         module _
             (agrees :
-                Agrees (OpenEdges.live calls f ssa consistent carries) (OpenEdges.program calls f ssa consistent carries) (OpenEdges.function calls f ssa consistent carries)
-                path variables p.names values)
+            Agrees (OpenEdges.live calls f ssa consistent carries) (OpenEdges.program calls f ssa consistent carries) (OpenEdges.function calls f ssa consistent carries)
+            path variables p.names values)
             (zeros :
-                ZerosAreZero (OpenEdges.program calls f ssa consistent carries) (OpenEdges.function calls f ssa consistent carries) path variables p.names values)
+            ZerosAreZero (OpenEdges.program calls f ssa consistent carries) (OpenEdges.function calls f ssa consistent carries) path variables p.names values)
           where
             abbrev a : ScriptStanding
             a = script_enters ssa unknowns b B entries p
@@ -213,8 +213,9 @@ module _ (calls : List AnsweredCall) (f : Body) (ssa : SsaState) (consistent : I
             }
 
             pub arrives : Gets a c
-            arrives =
-                (length has.zeros,
-                subst (Running a)
-                (sym (zeros_pass ssa unknowns entry right_run f carries.tables b behind_zeros c zeros.of_value (length has.zeros) 0 (length has.zeros) (omega arith) all_left))
-                running)
+            arrives = (
+              length has.zeros,
+              subst (Running a)
+                  (sym (zeros_pass ssa unknowns entry right_run f carries.tables b behind_zeros c zeros.of_value (length has.zeros) 0 (length has.zeros) (omega arith) all_left))
+                  running,
+            )

@@ -174,32 +174,35 @@ module _ (calls : List AnsweredCall) (f : Body) (ssa : SsaState) (consistent : I
           let uses = uses_there b B r.named k x used stands in
           let is : left_machine.next a ≡ script_goes calls ssa unknowns a None (script.run_item left_run a.state (Use x used) rest) =
           ap (λ (at : Control Item). script_goes calls ssa unknowns a (script_edge left_run a.state at) (script.step_at left_run a.state at)) r.script_at in
-          subst (λ (after : ScriptStanding). Comes after c) (sym is) (0, record {
-            block = b;
-            name = B;
-            index = suc k;
-            rest = rest;
-            left = left;
-            path = next_arm b k ∷ path;
-            place = next_place;
-            entries = entries;
-            is_at = record {
-              named = r.named;
-              follows = goes_on b B r.named k path (Use x used) stands r.follows r.ends;
-              ends = refl;
-              rest_is = rest_behind (items B) k (Use x used) rest r.rest_is;
-              within = within_item B k (Use x used) stands;
-              front = r.front;
-              own_is = r.own_is;
-              left_is = r.left_is;
-              script_at = refl;
-              function_at = r.function_at;
-              same_memory = r.same_memory;
-              same_events = r.same_events;
-              agrees = used_agrees live program function (next_arm b k) path x used uses a.state.variables a.state.names c.state.values r.agrees;
-              zeros = used_zeros live program function (next_arm b k) path x used uses a.state.variables a.state.names c.state.values r.agrees r.zeros;
-            };
-          })
+          subst (λ (after : ScriptStanding). Comes after c) (sym is) (
+            0,
+            record {
+              block = b;
+              name = B;
+              index = suc k;
+              rest = rest;
+              left = left;
+              path = next_arm b k ∷ path;
+              place = next_place;
+              entries = entries;
+              is_at = record {
+                named = r.named;
+                follows = goes_on b B r.named k path (Use x used) stands r.follows r.ends;
+                ends = refl;
+                rest_is = rest_behind (items B) k (Use x used) rest r.rest_is;
+                within = within_item B k (Use x used) stands;
+                front = r.front;
+                own_is = r.own_is;
+                left_is = r.left_is;
+                script_at = refl;
+                function_at = r.function_at;
+                same_memory = r.same_memory;
+                same_events = r.same_events;
+                agrees = used_agrees live program function (next_arm b k) path x used uses a.state.variables a.state.names c.state.values r.agrees;
+                zeros = used_zeros live program function (next_arm b k) path x used uses a.state.variables a.state.names c.state.values r.agrees r.zeros;
+              };
+            },
+          )
 
       assign_step : (x : ℕ) (from : Name) (rest : List Item) (left : List ℕ) → Stands b B k (Assign x from ∷ rest) left path a.state c.state → Comes (left_machine.next a) c
       assign_step x from rest left r =
@@ -207,32 +210,35 @@ module _ (calls : List AnsweredCall) (f : Body) (ssa : SsaState) (consistent : I
           let assigns = assigns_there b B r.named k x from stands in
           let is : left_machine.next a ≡ script_goes calls ssa unknowns a None (script.run_item left_run a.state (Assign x from) rest) =
           ap (λ (at : Control Item). script_goes calls ssa unknowns a (script_edge left_run a.state at) (script.step_at left_run a.state at)) r.script_at in
-          subst (λ (after : ScriptStanding). Comes after c) (sym is) (0, record {
-            block = b;
-            name = B;
-            index = suc k;
-            rest = rest;
-            left = left;
-            path = next_arm b k ∷ path;
-            place = next_place;
-            entries = entries;
-            is_at = record {
-              named = r.named;
-              follows = goes_on b B r.named k path (Assign x from) stands r.follows r.ends;
-              ends = refl;
-              rest_is = rest_behind (items B) k (Assign x from) rest r.rest_is;
-              within = within_item B k (Assign x from) stands;
-              front = r.front;
-              own_is = r.own_is;
-              left_is = r.left_is;
-              script_at = refl;
-              function_at = r.function_at;
-              same_memory = r.same_memory;
-              same_events = r.same_events;
-              agrees = assigned_agrees live program function (next_arm b k) path x from assigns a.state.variables a.state.names c.state.values r.agrees;
-              zeros = assigned_zeros live program function (next_arm b k) path x from assigns a.state.variables a.state.names c.state.values r.agrees r.zeros;
-            };
-          })
+          subst (λ (after : ScriptStanding). Comes after c) (sym is) (
+            0,
+            record {
+              block = b;
+              name = B;
+              index = suc k;
+              rest = rest;
+              left = left;
+              path = next_arm b k ∷ path;
+              place = next_place;
+              entries = entries;
+              is_at = record {
+                named = r.named;
+                follows = goes_on b B r.named k path (Assign x from) stands r.follows r.ends;
+                ends = refl;
+                rest_is = rest_behind (items B) k (Assign x from) rest r.rest_is;
+                within = within_item B k (Assign x from) stands;
+                front = r.front;
+                own_is = r.own_is;
+                left_is = r.left_is;
+                script_at = refl;
+                function_at = r.function_at;
+                same_memory = r.same_memory;
+                same_events = r.same_events;
+                agrees = assigned_agrees live program function (next_arm b k) path x from assigns a.state.variables a.state.names c.state.values r.agrees;
+                zeros = assigned_zeros live program function (next_arm b k) path x from assigns a.state.variables a.state.names c.state.values r.agrees r.zeros;
+              };
+            },
+          )
 
       -- An instruction ----------------------------------------------------------------------------------------------------
 
@@ -308,35 +314,37 @@ module _ (calls : List AnsweredCall) (f : Body) (ssa : SsaState) (consistent : I
               ≡ function_goes ssa unknowns c None
               (function_machine_of.give_results (record c.state { memory = memory }) (placed_inst f i).results (map (placed_inst f) left) bits)
               → Comes (left_machine.next a) c
-          gives_results bits memory left_next right_next =
-              (1, subst₂ (λ (x : ScriptStanding) (y : FunctionStanding). Runs x y) (sym left_next) (sym right_next) (record {
-                block = b;
-                name = B;
-                index = suc k;
-                rest = rest;
-                left = left;
-                path = next_arm b k ∷ path;
-                place = next_place;
-                entries = entries;
-                is_at = record {
-                  named = r.named;
-                  follows = goes_on b B r.named k path (Instruct place instruction results) stands r.follows r.ends;
-                  ends = refl;
-                  rest_is = rest_behind (items B) k (Instruct place instruction results) rest r.rest_is;
-                  within = within_item B k (Instruct place instruction results) stands;
-                  front = r.front ++ i ∷ [];
-                  own_is = r.own_is ∙ one_more r.front;
-                  left_is = left_are;
-                  script_at = refl;
-                  function_at = refl;
-                  same_memory = refl;
-                  same_events = r.same_events;
-                  agrees = subst (λ (values : ℕ → ℕ). Agrees live program function (next_arm b k ∷ path) a.state.variables (assigned same_name results bits a.state.names) values) (sym (same_results bits))
-                      (given_agrees live program function (next_arm b k) path results (answered calls) (gives path) a.state.variables a.state.names c.state.values r.agrees bits);
-                  zeros = subst (λ (values : ℕ → ℕ). ZerosAreZero program function (next_arm b k ∷ path) a.state.variables (assigned same_name results bits a.state.names) values) (sym (same_results bits))
-                      (given_zeros live program function (next_arm b k) path results (answered calls) (gives path) a.state.variables a.state.names c.state.values r.agrees bits r.zeros);
-                };
-              }))
+          gives_results bits memory left_next right_next = (
+            1,
+            subst₂ (λ (x : ScriptStanding) (y : FunctionStanding). Runs x y) (sym left_next) (sym right_next) (record {
+              block = b;
+              name = B;
+              index = suc k;
+              rest = rest;
+              left = left;
+              path = next_arm b k ∷ path;
+              place = next_place;
+              entries = entries;
+              is_at = record {
+                named = r.named;
+                follows = goes_on b B r.named k path (Instruct place instruction results) stands r.follows r.ends;
+                ends = refl;
+                rest_is = rest_behind (items B) k (Instruct place instruction results) rest r.rest_is;
+                within = within_item B k (Instruct place instruction results) stands;
+                front = r.front ++ i ∷ [];
+                own_is = r.own_is ∙ one_more r.front;
+                left_is = left_are;
+                script_at = refl;
+                function_at = refl;
+                same_memory = refl;
+                same_events = r.same_events;
+                agrees = subst (λ (values : ℕ → ℕ). Agrees live program function (next_arm b k ∷ path) a.state.variables (assigned same_name results bits a.state.names) values) (sym (same_results bits))
+                    (given_agrees live program function (next_arm b k) path results (answered calls) (gives path) a.state.variables a.state.names c.state.values r.agrees bits);
+                zeros = subst (λ (values : ℕ → ℕ). ZerosAreZero program function (next_arm b k ∷ path) a.state.variables (assigned same_name results bits a.state.names) values) (sym (same_results bits))
+                    (given_zeros live program function (next_arm b k) path results (answered calls) (gives path) a.state.variables a.state.names c.state.values r.agrees bits r.zeros);
+              };
+            }),
+          )
             where
               one_more : (front : List ℕ) → front ++ i ∷ left ≡ (front ++ i ∷ []) ++ left
               one_more [] = refl
@@ -437,10 +445,11 @@ module _ (calls : List AnsweredCall) (f : Body) (ssa : SsaState) (consistent : I
                 ≡ function_goes ssa unknowns c (slice_get (edges_of (inst_at f i).shape) n)
                 (function_machine_of.follow_edge right_run (record c.state { memory = memory }) given (slice_get (edges_of (inst_at f i).shape) n))
                 → Comes (left_machine.next a) c
-            goes_along left_next right_next =
-                (suc arrived.0,
-                subst₂ (λ (x : ScriptStanding) (y : FunctionStanding). Runs x y) (sym left_next)
-                (sym (steps_behind right_machine arrived.0 c ∙ ap (steps_from right_machine arrived.0) right_is)) arrived.1)
+            goes_along left_next right_next = (
+              suc arrived.0,
+              subst₂ (λ (x : ScriptStanding) (y : FunctionStanding). Runs x y) (sym left_next)
+                  (sym (steps_behind right_machine arrived.0 c ∙ ap (steps_from right_machine arrived.0) right_is)) arrived.1,
+            )
               where
                 right_is : right_machine.next c ≡ function_enters ssa unknowns d a.entries q1
                 right_is =
