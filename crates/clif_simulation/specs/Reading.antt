@@ -1,6 +1,6 @@
 -- An unfinished function, read on runs and bits: from each start both machines of the calls so far run side by side. A
 -- name's value has the name's bits then, and at a block's end so far each record has its variable's bits. It is a law
--- of `Carries`, which speaks of paths. Own.
+-- of `Carries`, which speaks of paths, where no branch was made; with branches, `Interrupted` says it. Own.
 use Rattle.std.specs.Prelude.{◌≡◌, ℕ, suc, false, Bool, List, [], ◌∷◌, drop, flat_map, Some, Contains, IsTrue}
 use Rattle.clif_types.specs.Signature.{SignatureShape}
 use Rattle.clif_types.specs.declared.target.PointerWidth.{PointerWidth}
@@ -96,7 +96,8 @@ pub record RunSideBySide (calls : List AnsweredCall) (f : Body) (s : SsaState) (
       → is_yes (sealed_of s block) ≡ false → (p : ScriptState) (q : FunctionState) → StartAlike calls f s block name p q
       → SideBySide calls f s block name (starting_at (script_machine left) p) (starting_at (function_machine right) q)
 
--- In every world, whatever names are tracked and whatever the collector is: no call moves anything yet.
+-- In every world, whatever names are tracked and whatever the collector is: no call moves anything yet. At an unsealed
+-- entry names, values, memory and events are any ones too.
 abbrev pub ReadsRightFromAnywhere : List AnsweredCall → SignatureShape → Body → SsaState → Type 0
 ReadsRightFromAnywhere calls signature f s =
     (width : PointerWidth) (world : World) (tracked : Name → Bool) (collector : Collector)
