@@ -270,11 +270,11 @@ module _ (calls : List AnsweredCall) (f : Body) (s : SsaState) (consistent : IsC
       j = k;
       is = b;
       stops = inl (record {
-          place = place;
-          instruction = instruction;
-          results = results;
-          stands = item_here (items name) k (Instruct place instruction results) rest is;
-        });
+        place = place;
+        instruction = instruction;
+        results = results;
+        stands = item_here (items name) k (Instruct place instruction results) rest is;
+      });
     }
     forward q path name (Use x used ∷ rest) k is b =
         let stands = item_here (items name) k (Use x used) rest is in

@@ -65,3 +65,4 @@ mod LoopWrong
 mod LoopArgument
 mod LoopRow
 mod LoopConsistent
+mod Further
