@@ -9,7 +9,7 @@ use Rattle.clif_meaning.specs.Acceptance.{Verdict, Accepted, Misuse, Refused, ic
 use Rattle.clif_types.specs.Signature.{SignatureShape}
 use Rattle.clif_types.specs.declared.extname.UserFuncName.{UserFuncName}
 use Rattle.cranelift_frontend.specs.Context.{ContextState}
-use Rattle.cranelift_frontend.specs.StandsFor.{HasCallersParameters, StandsIn}
+use Rattle.cranelift_frontend.specs.StandsFor.{LeavesNoParameter, StandsIn}
 use Rattle.clif_script.specs.declared.call.Name as named
 use Rattle.clif_script.specs.declared.call.Edge as script
 use Rattle.clif_script.specs.declared.call.Call.{Call}
@@ -64,14 +64,15 @@ verdict_of (Err replay.Memory) = None
 verdict_of (Err replay.Full) = None
 
 -- The function was built by these calls, and by no others: a builder of it, with this context and current block, stands
--- for them, on a function of the caller's signature; and no variable's parameter is left.
+-- for them, on a function of the caller's signature; and no variable's parameter is left in a block to which at most one
+-- branch leads.
 pub record IsBuiltBy (calls : List Call) (declared : SignatureShape) (f : Body) : Type 0 where
   pub made : List AnsweredCall
   pub script : script_of made ≡ requests_of calls
   pub context : ContextState
   pub position : Option ℕ
   pub stands : StandsIn declared made f context position
-  pub parameters : HasCallersParameters made f
+  pub parameters : LeavesNoParameter made f context.ssa
 
 -- A full table ends a list of calls: the calls before some place were made, and a builder of a function of this name and
 -- signature, with this context and current block, stands for them; and the call at that place may find a table of it full.

@@ -1,5 +1,5 @@
 //! Scripts are replayed: each call is made on a builder, in order, if its condition holds.
-ghost use Rattle.std.specs.Prelude.{◌≡◌, ◌≢◌, ℕ, ◌<◌, ◌≤◌, ◌*◌, ◌-◌, ◌^◌, List, [], length, false, OnOk, IfOk, Err, Some};
+ghost use Rattle.std.specs.Prelude.{◌≡◌, ◌≢◌, ℕ, ◌<◌, ◌≤◌, ◌+◌, ◌*◌, ◌-◌, ◌^◌, List, [], length, false, OnOk, IfOk, Err, Some};
 ghost use Rattle.clif_meaning.specs.Request.{AnsweredCall};
 ghost use Rattle.clif_meaning.specs.Acceptance as acceptance;
 ghost use Rattle.cranelift_frontend.specs.StandsFor.{StandsFor};
@@ -8,7 +8,7 @@ ghost use Rattle.clif_meaning.specs.Headline.{MeansTheSame};
 ghost use Rattle.clif_meaning.specs.Premises.{CallersEdgesMatch, PlacementPremises};
 ghost use Rattle.clif_meaning.specs.Typing.{EdgesMatch};
 ghost use Rattle.clif_meaning.specs.WellPlaced.{WellPlaced};
-ghost use Rattle.clif_script.specs.Limits.{IsWithin};
+ghost use Rattle.clif_script.specs.Limits.{HasNoBranch, IsWithin};
 ghost use Rattle.clif_script.specs.Requests.{IsBuiltBy, IsReplayed, IsStoppedByTable, requests_of, verdict_of};
 ghost use Rattle.cranelift_frontend.specs.Builder.{SameLoans};
 ghost use Rattle.cranelift_frontend.specs.Context.{empty_context};
@@ -41,7 +41,8 @@ pub enum ReplayError {
     Refused(usize),
     /// Memory was refused. It prints as `no memory`.
     Memory,
-    /// A table holds 2^32 - 1 entries, so there are 2^31 calls or more. It prints as `table full`.
+    /// A table holds 2^32 - 1 entries. So there are 2^16 calls or more, and 2^31 where none is a branch. It
+    /// prints as `table full`.
     Full,
 }
 
@@ -147,7 +148,8 @@ pub fn replay(
     ensures context { ctx.new ≡ empty_context }
     ensures misuse { (i : ℕ) → result ≡ Err (ReplayError.Misuse i) → i < length calls.now }
     ensures refused { (i : ℕ) → result ≡ Err (ReplayError.Refused i) → i ≡ length calls.now }
-    ensures full { result ≡ Err ReplayError.Full → 2 ^ 32 - 1 ≤ 2 * length calls.now }
+    ensures full { result ≡ Err ReplayError.Full → 2 ^ 32 - 1 ≤ length calls.now + length calls.now * length calls.now }
+    ensures full_straight { result ≡ Err ReplayError.Full → HasNoBranch calls.now → 2 ^ 32 - 1 ≤ 2 * length calls.now }
     ensures table_full { result ≡ Err ReplayError.Full → IsStoppedByTable calls.now name signature }
     ensures verdict { result ≢ Err ReplayError.Memory → result ≢ Err ReplayError.Full → verdict_of result ≡ Some (acceptance.verdict_on (requests_of calls.now)) }
 {
@@ -181,7 +183,8 @@ fn make_calls(
     ensures misuse { (i : ℕ) → result ≡ Err (ReplayError.Misuse i) → i < length calls.now }
     ensures judged { (i : ℕ) → result ≡ Err (ReplayError.Misuse i) → acceptance.verdict_on (requests_of calls.now) ≡ acceptance.Misuse i }
     ensures never_refused { (i : ℕ) → result ≢ Err (ReplayError.Refused i) }
-    ensures full { result ≡ Err ReplayError.Full → 2 ^ 32 - 1 ≤ 2 * length calls.now }
+    ensures full { result ≡ Err ReplayError.Full → 2 ^ 32 - 1 ≤ length calls.now + length calls.now * length calls.now }
+    ensures full_straight { result ≡ Err ReplayError.Full → HasNoBranch calls.now → 2 ^ 32 - 1 ≤ 2 * length calls.now }
     ensures table_full { result ≡ Err ReplayError.Full → IsStoppedByTable calls.now builder.old.func.now.name builder.old.func.now.signature }
 {
     let mut answers = Vec::new(alloc);

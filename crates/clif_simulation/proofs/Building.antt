@@ -310,7 +310,7 @@ module _ (calls : List AnsweredCall) (f : Body) (s : SsaState) (c : Carries call
   -- WITHOUT RESULTS -----------------------------------------------------------------------------------------------------
 
   module _ (matches : SameBranch calls shape instruction) (no_results : result_types instruction.operation instruction.controlling ≡ [])
-      (controlling : (k : Body) → controlling_of k shape [] ≡ instruction.controlling) where
+      (controlling : controlling_of (with_inst h b Back shape [] loc) shape [] ≡ instruction.controlling) where
     abbrev m : Body
     m = with_inst h b Back shape [] loc
 
@@ -330,7 +330,7 @@ module _ (calls : List AnsweredCall) (f : Body) (s : SsaState) (c : Carries call
     holds_branch : (t : SsaState) → AreDeclared m t mine.insts → LeadsOwn after mine t → ((types : VariableTypes) → AreTypes after types → Structured types mine m t []) → Holds after mine m t
     holds_branch t declared leads structured =
         holds_item calls call stays c.own mine f m s t c.holds (kept []) (keeps []).more (out_before f b) b B item current.named puts (i ∷ []) own_here own_elsewhere
-        c.holds.no_parameters (λ out. absurd (never_out f b out)) (own_new [] matches.operation operands_after edges_after [] (controlling m) refl) (longer_insts [], tt) (
+        c.holds.no_parameters (λ out. absurd (never_out f b out)) (own_new [] matches.operation operands_after edges_after [] controlling refl) (longer_insts [], tt) (
           all_mapped (IsEarlier calls) (IsEarlier after) (earlier_name calls call) instruction.operands matches.earlier,
           tt,
           all_mapped (EdgeEarlier calls) (EdgeEarlier after) (edge_earlier calls call stays) instruction.edges matches.edges_earlier,
@@ -421,13 +421,13 @@ module _ (calls : List AnsweredCall) (f : Body) (s : SsaState) (c : Carries call
 
   -- An instruction without edges and results.
   pub carries_terminator : (matches : SameInstruction calls shape instruction) → result_types instruction.operation instruction.controlling ≡ []
-      → ((k : Body) → controlling_of k shape [] ≡ instruction.controlling) → Carries after (with_inst h b Back shape [] loc) s
+      → controlling_of (with_inst h b Back shape [] loc) shape [] ≡ instruction.controlling → Carries after (with_inst h b Back shape [] loc) s
   carries_terminator matches no_results controlling =
       carries_made (same_branch calls shape instruction matches) no_results controlling s (declared_plain [] matches.no_edges) (leads_plain []) (structured_before []) (λ spares T d. d)
 
   -- A branch: it was declared once at each block to which it leads.
   pub carries_branch : (matches : SameBranch calls shape instruction) → result_types instruction.operation instruction.controlling ≡ []
-      → ((k : Body) → controlling_of k shape [] ≡ instruction.controlling) → (told : List ℕ) (t : SsaState) → is_terminator instruction.operation ≡ true → Once told
+      → controlling_of (with_inst h b Back shape [] loc) shape [] ≡ instruction.controlling → (told : List ℕ) (t : SsaState) → is_terminator instruction.operation ≡ true → Once told
       → ((x : ℕ) → (Contains told x → Contains (targets (destinations shape)) x) × (Contains (targets (destinations shape)) x → Contains told x))
       → ((x : ℕ) → Contains told x → is_yes (sealed_of s x) ≡ false) → DeclaredAlong s (length f.insts) told t
       → Carries after (with_inst h b Back shape [] loc) t

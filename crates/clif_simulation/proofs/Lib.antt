@@ -48,10 +48,10 @@ pub mod Calls
 pub mod Building
 pub mod Beginning
 pub mod Placing
-pub mod Structured
 -- What the construction makes of parameters, in every program.
 pub mod CallersAlone
 pub mod EdgesMatching
+pub mod CarriedStructure
 -- A finished function is well placed.
 mod Beside
 pub mod Defined

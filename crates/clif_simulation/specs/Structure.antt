@@ -61,11 +61,12 @@ ConstructionLeavesFewParameters =
     → Structured types own f s [] → ((block : ℕ) → own.params block ≡ [])
     → LeavesFewParameters calls f s
 
+-- So does a function that carries a list of calls, once no parameter waits.
 abbrev pub CarryingLeavesNoParameters : Type 0
 CarryingLeavesNoParameters =
     (calls : List AnsweredCall) (f : Body) (s : SsaState)
-    → IsConsistent f → Carries calls f s → NothingLeads s → IsFinished calls f s
-    → HasCallersParameters calls f
+    → Carries calls f s → NoneWaits s
+    → LeavesNoParameter calls f s
 
 -- The same of the edges of every program: edges that control never takes, and edges to the entry, are no exception.
 abbrev pub ConstructionMatchesEdges : Type 0
@@ -76,11 +77,12 @@ ConstructionMatchesEdges =
     → CallersEdgesMatch (script_of calls)
     → EdgesMatch (view_of f)
 
--- Where the caller's arguments match the caller's parameters, a finished function's edges match.
+-- Where the caller's arguments match the caller's parameters, the edges match of a function that carries a list of calls,
+-- once no parameter waits.
 abbrev pub CarryingMatchesEdges : Type 0
 CarryingMatchesEdges =
     (calls : List AnsweredCall) (f : Body) (s : SsaState)
-    → IsConsistent f → Carries calls f s → NothingLeads s → IsFinished calls f s
+    → Carries calls f s → NoneWaits s
     → CallersEdgesMatch (script_of calls)
     → EdgesMatch (view_of f)
 

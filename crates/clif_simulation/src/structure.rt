@@ -12,12 +12,12 @@ pub fn construction_matches_edges()
     ensures { ConstructionMatchesEdges }
 {}
 
-/// Without branches, no block of it has a variable's parameter.
+/// Once no parameter waits, no block of it to which at most one branch leads has a variable's parameter.
 pub fn carrying_leaves_no_parameters()
     ensures { CarryingLeavesNoParameters }
 {}
 
-/// Its edges' arguments match, where the caller's do: so far, of one without branches.
+/// Once no parameter waits, its edges' arguments match, where the caller's do.
 pub fn carrying_matches_edges()
     ensures { CarryingMatchesEdges }
 {}

@@ -22,18 +22,16 @@ use Rattle.clif_meaning.specs.Ledger.{BlockState, is_filled, state_has}
 use Rattle.clif_meaning.specs.Request.{AnsweredCall, script_of}
 use Rattle.clif_meaning.specs.View.{view_of}
 use Rattle.clif_meaning.specs.Headline.{MeansTheSame}
-use Rattle.clif_meaning.specs.Premises.{PlacementPremises}
+use Rattle.clif_meaning.specs.Premises.{CallersEdgesMatch, PlacementPremises}
 use Rattle.clif_meaning.specs.Typing.{EdgesMatch}
 use Rattle.clif_meaning.specs.WellPlaced.{Records, RecordsWellPlaced, WellPlaced}
 use Rattle.clif_simulation.specs.Tables as simulation
 use Rattle.clif_simulation.specs.Laws.{IsFinished}
-use Rattle.clif_simulation.specs.Structure.{AreRecords, HasCallersParameters}
+use Rattle.clif_simulation.specs.Structure.{AreRecords, LeavesNoParameter}
 use Rattle.clif_simulation.proofs.Calls.{structured_so_far}
 use Rattle.clif_simulation.proofs.Values.{false_is}
-use Rattle.clif_simulation.proofs.Whole.{waiting_pending}
-use Rattle.clif_simulation.proofs.Unbranched.{CarriesUnbranched}
-use Rattle.clif_simulation.proofs.Unfilled as unfilled
-use Rattle.clif_simulation.proofs.Structured.{callers_only, edges_match}
+use Rattle.clif_simulation.proofs.Whole.{spared, waiting_pending, whole}
+use Rattle.clif_simulation.proofs.CarriedStructure.{no_parameters}
 use Rattle.clif_simulation.proofs.Defined.{well_placed}
 use Rattle.clif_simulation.proofs.RecordsDefined.{records_well_placed}
 use Rattle.clif_simulation.proofs.Assembly.{means}
@@ -47,6 +45,7 @@ use Rattle.cranelift_frontend.specs.Builder.{answer_of, block_fault, first_fault
 use Rattle.cranelift_frontend.specs.Ledger.{ledger_of, block_name}
 use Rattle.cranelift_frontend.specs.StandsFor.{StandsIn, StandsFor}
 use Rattle.cranelift_frontend.proofs.LedgerNames.{state-by-name, name-number}
+use Rattle.cranelift_frontend.proofs.Standing.{standing_edges}
 
 -- no block is at fault, where none is the first
 no_fault : (c : ContextState) (count from k : ℕ) → first_fault c from count ≡ None → from ≤ k → k < from + count → block_fault c k ≡ None
@@ -154,10 +153,6 @@ module _ (declared : SignatureShape) (calls : List AnsweredCall) (f : Body) (c :
     filled_sealed = filled_sealed;
   }
 
--- so far a builder's function has no branch
-plainly : (declared : SignatureShape) (calls : List AnsweredCall) (b : FunctionBuilder) → StandsFor declared calls b → IsConsistent b.func.now → CarriesUnbranched calls b.func.now b.ctx.now.ssa
-plainly declared calls b stands consistent = unfilled.plainly calls b.func.now b.ctx.now.ssa consistent stands.carries stands.nothing_leads
-
 -- what holds of a finished function holds where `finalize` succeeds
 pub on_finished : (declared : SignatureShape) (calls : List AnsweredCall) (b : FunctionBuilder) → StandsFor declared calls b → IsConsistent b.func.now
     → (P : Type 0) → (IsFinished calls b.func.now b.ctx.now.ssa → P) → OnOk (verdict_of b.failed b.ctx.now (length b.func.now.blocks)) P
@@ -180,23 +175,25 @@ finished_means declared calls b width stands consistent =
     (means calls b.func.now b.ctx.now.ssa width consistent stands.carries finished))
 
 pub finished_parameters : (declared : SignatureShape) (calls : List AnsweredCall) (b : FunctionBuilder) → StandsFor declared calls b → IsConsistent b.func.now
-    → OnOk (verdict_of b.failed b.ctx.now (length b.func.now.blocks)) (HasCallersParameters calls b.func.now)
+    → OnOk (verdict_of b.failed b.ctx.now (length b.func.now.blocks)) (LeavesNoParameter calls b.func.now b.ctx.now.ssa)
 finished_parameters declared calls b stands consistent =
-    on_finished declared calls b stands consistent (HasCallersParameters calls b.func.now) (λ finished. callers_only calls b.func.now b.ctx.now.ssa consistent (plainly declared calls b stands consistent) finished)
+    on_finished declared calls b stands consistent (LeavesNoParameter calls b.func.now b.ctx.now.ssa) (λ finished. no_parameters calls b.func.now b.ctx.now.ssa stands.carries finished.none_waits)
 
 pub finished_edges : (declared : SignatureShape) (calls : List AnsweredCall) (b : FunctionBuilder) → StandsFor declared calls b → IsConsistent b.func.now
-    → OnOk (verdict_of b.failed b.ctx.now (length b.func.now.blocks)) (EdgesMatch (view_of b.func.now))
-finished_edges declared calls b stands consistent = on_finished declared calls b stands consistent (EdgesMatch (view_of b.func.now)) (λ finished. edges_match calls b.func.now b.ctx.now.ssa (plainly declared calls b stands consistent))
+    → CallersEdgesMatch (script_of calls) → OnOk (verdict_of b.failed b.ctx.now (length b.func.now.blocks)) (EdgesMatch (view_of b.func.now))
+finished_edges declared calls b stands consistent typed =
+    on_finished declared calls b stands consistent (EdgesMatch (view_of b.func.now)) (λ finished. standing_edges declared calls b.func.now b.ctx.now b.position stands finished.none_waits typed)
 
 pub finished_placed : (declared : SignatureShape) (calls : List AnsweredCall) (b : FunctionBuilder) → StandsFor declared calls b → IsConsistent b.func.now
     → PlacementPremises (script_of calls) declared → OnOk (verdict_of b.failed b.ctx.now (length b.func.now.blocks)) (WellPlaced (view_of b.func.now))
 finished_placed declared calls b stands consistent premises =
     on_finished declared calls b stands consistent (WellPlaced (view_of b.func.now)) (λ finished.
-    well_placed calls b.func.now b.ctx.now.ssa consistent (plainly declared calls b stands consistent) finished premises.given_before)
+    well_placed calls b.func.now b.ctx.now.ssa consistent (whole calls b.func.now b.ctx.now.ssa consistent stands.carries (spared calls premises.targets_filled)) finished premises.given_before premises.targets_filled)
 
 pub finished_records : (declared : SignatureShape) (calls : List AnsweredCall) (records : Records) (b : FunctionBuilder) → StandsFor declared calls b → IsConsistent b.func.now
     → AreRecords calls b.func.now b.ctx.now.ssa records → PlacementPremises (script_of calls) declared
     → OnOk (verdict_of b.failed b.ctx.now (length b.func.now.blocks)) (RecordsWellPlaced (view_of b.func.now) records)
 finished_records declared calls records b stands consistent are premises =
     on_finished declared calls b stands consistent (RecordsWellPlaced (view_of b.func.now) records) (λ finished.
-    records_well_placed calls b.func.now b.ctx.now.ssa consistent (plainly declared calls b stands consistent) finished premises.given_before records are)
+    records_well_placed calls b.func.now b.ctx.now.ssa consistent (whole calls b.func.now b.ctx.now.ssa consistent stands.carries (spared calls premises.targets_filled)) finished premises.given_before premises.targets_filled
+    records are)

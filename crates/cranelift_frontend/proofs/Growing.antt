@@ -1,29 +1,28 @@
 -- What goes on existing as calls are made.
 use Rattle.std.proofs.Common.{◌≡◌, ◌≢◌, ℕ, ◌+◌, ◌<◌, List, [], ◌∷◌, length, refl, ap, arith, sym, ◌∙◌, subst, inl, inr}
-use Rattle.std.specs.Prelude.{pos, slice_index_or, Option, Some, None, IfSome, unwrap_or, Result, Ok, Err, OnOk, IfOk, Bool, true, false, if◌then◌else◌, ◌==◌, ◌&&◌}
+use Rattle.std.specs.Prelude.{slice_index_or, Option, Some, None, IfSome, Result, Ok, Err, OnOk, IfOk, Bool, true, false, if◌then◌else◌, ◌==◌}
 use Rattle.std.proofs.lemmas.Bool.{cases_eq}
 use Rattle.std.proofs.lemmas.Grind.{common_steps}
 use Rattle.clif_types.specs.declared.error.BuildError.{BuildError}
 use Rattle.clif_types.specs.declared.types.«Type».{«Type»}
 use Rattle.clif_ir.specs.declared.inst_list.BlockEnd.{BlockEnd}
-use Rattle.clif_ir.specs.declared.inst_list.BlockEnd.TheVariants.{Front, Back}
+use Rattle.clif_ir.specs.declared.inst_list.BlockEnd.TheVariants.{Back}
 use Rattle.clif_ir.specs.declared.instructions.InstructionData.{InstructionData}
-use Rattle.clif_ir.specs.declared.instructions.InstructionData.TheVariants.{UnaryImm}
 use Rattle.std.specs.List.{range_with_len}
 use Rattle.clif_ir.specs.declared.function.InstNode.{InstNode}
-use Rattle.clif_ir.specs.Body.{Body, inst_at, value_at}
-use Rattle.clif_ir.specs.Changes.{inserted_in, with_block, with_layout, with_param, with_inst, with_alias, inst_node, result_nodes}
+use Rattle.clif_ir.specs.Body.{Body, inst_at}
+use Rattle.clif_ir.specs.Changes.{inserted_in, with_block, with_layout, with_inst, inst_node}
 use Rattle.clif_ir.specs.Instruction.{is_terminator, result_types}
-use Rattle.clif_ir.specs.Reading.{param_home, stands_in}
-use Rattle.clif_ssa.specs.declared.tables.Pending.{Pending}
-use Rattle.clif_ssa.specs.Tables.{is_yes}
-use Rattle.clif_ssa.specs.Ssa.{SsaState, no_srcloc, no_state, record_of, sealed_of, Records, SameRecords, Waits, Zeroes, with_zero, zeroed, zeroed_in, completed}
+use Rattle.clif_ir.specs.Reading.{stands_in}
+use Rattle.clif_ssa.specs.Ssa.{no_srcloc}
 use Rattle.cranelift_frontend.specs.declared.context.BlockStatus.{BlockStatus}
 use Rattle.cranelift_frontend.specs.declared.context.BlockStatus.TheVariants.{Empty, Partial, Filled}
 use Rattle.cranelift_frontend.specs.Context.{ContextState, begun, status_of, SetsStatus, Begins}
 use Rattle.cranelift_frontend.specs.declared.builder.FunctionBuilder.{FunctionBuilder}
-use Rattle.cranelift_frontend.specs.Builder.{Appends, AppendsIn, AppendsValue, HasCurrent, UsesIn, status_after, with_appended}
-use Rattle.cranelift_frontend.specs.Growth.{Grows, RecordsExist}
+use Rattle.cranelift_frontend.specs.Builder.{Appends, AppendsIn, AppendsValue, HasCurrent, status_after, with_appended}
+use Rattle.cranelift_frontend.specs.Construction.{IsUse, IsSealing}
+use Rattle.cranelift_frontend.specs.Growth.{Grows}
+use Rattle.clif_ssa.specs.Constructs.{OnlyConstructs}
 
 pub Grows-same : (f g : Body) → g ≡ f → Grows f g
 Grows-same f g same = subst (λ h. Grows f h) (sym same) (omega arith, omega arith, omega arith, refl, refl)
@@ -41,32 +40,13 @@ Grows-inserted f b = by_test (stands_in b f.layout)
     by_test true = (omega arith, omega arith, omega arith, refl, refl)
     by_test false = (omega arith, omega arith, omega arith, refl, refl)
 
-pub Grows-with_param : (f : Body) (b : ℕ) (ty : «Type») → Grows f (with_param f b ty)
-Grows-with_param f b ty = (grind (arith, common_steps), omega arith, grind (arith, common_steps), refl, refl)
-
 pub Grows-with_inst : (f : Body) (b : ℕ) (end : BlockEnd) (shape : InstructionData) (types : List «Type») (loc : ℕ) → Grows f (with_inst f b end shape types loc)
 Grows-with_inst f b end shape types loc = (grind (arith, common_steps), grind (arith, common_steps), grind (arith, common_steps), refl, refl)
 
-pub Grows-with_alias : (f : Body) (v original : ℕ) → Grows f (with_alias f v original)
-Grows-with_alias f v original = (grind (arith, common_steps), omega arith, grind (arith, common_steps), refl, refl)
-
-pub Grows-with_zero : (f : Body) (b : ℕ) (ty : «Type») → Grows f (with_zero f b ty)
-Grows-with_zero f b ty = Grows-then f (inserted_in f b) (with_zero f b ty) (Grows-inserted f b) (Grows-with_inst (inserted_in f b) b Front (UnaryImm (pos 0)) (ty ∷ []) no_srcloc)
-
-pub Grows-zeroed : (f : Body) (b v : ℕ) → Grows f (zeroed f b v)
-Grows-zeroed f b v =
-    let zero : Body = with_zero f b (value_at f v).ty in
-    Grows-then f zero (with_alias zero v (length f.values)) (Grows-with_zero f b (value_at f v).ty) (Grows-with_alias zero v (length f.values))
-
-pub Grows-zeroed_in : (o : Option ℕ) (f : Body) (v : ℕ) → Grows f (zeroed_in o f v)
-Grows-zeroed_in None f v = Grows-same f f refl
-Grows-zeroed_in (Some b) f v = Grows-zeroed f b v
-
-pub Grows-completed : (f : Body) (pending : List Pending) → Grows f (completed f pending)
-Grows-completed f [] = Grows-same f f refl
-Grows-completed f (p ∷ pending) =
-    let next : Body = zeroed_in (param_home f p.param) f p.param in
-    Grows-then f next (completed next pending) (Grows-zeroed_in (param_home f p.param) f p.param) (Grows-completed next pending)
+-- what the construction of SSA form makes of a function
+pub Grows-constructs : (f g : Body) → OnlyConstructs f g → Grows f g
+Grows-constructs f g only =
+    (only.values, only.insts, omega (arith, only.block_count), ap (λ (h : Body). h.name) only.same, ap (λ (h : Body). h.signature) only.same)
 
 -- a block that enters the layout changes no value and no instruction
 pub values-inserted : (f : Body) (b : ℕ) → length (inserted_in f b).values ≡ length f.values
@@ -83,15 +63,6 @@ insts-inserted f b = by_test (stands_in b f.layout)
     by_test true = refl
     by_test false = refl
 
--- a zero is one more value
-pub values-zeroed : (f : Body) (b v : ℕ) → length (zeroed f b v).values ≡ length f.values + 1
-values-zeroed f b v =
-    let ty : «Type» = (value_at f v).ty in
-    let nodes : length (result_nodes (length (inserted_in f b).insts) 0 (ty ∷ [])) ≡ 1 = refl in
-    let zero_made : length (with_zero f b ty).values ≡ length f.values + 1 = grind (arith, common_steps, values-inserted f b, nodes) in
-    let kept : length (zeroed f b v).values ≡ length (with_zero f b ty).values = grind (arith, common_steps) in
-    kept ∙ zero_made
-
 -- an instruction was appended: the tables grew, and it exists
 appended_grows : (f : Body) (c : ContextState) (g : Body) (d : ContextState) (block : ℕ) (shape : InstructionData) (ty : «Type») (inst : ℕ)
     → AppendsIn f c g d block shape ty inst → Grows f g
@@ -106,73 +77,6 @@ appended_exists f c g d block shape ty inst appends =
     let new_count : length g.insts ≡ length (with_appended f block shape ty).insts = ap (λ (h : Body). length h.insts) appends.function in
     omega (arith, count, same, new_count, appends.number)
 
--- nothing is recorded at first
-pub none_recorded : (f : Body) → RecordsExist f no_state
-none_recorded f = record { exist = λ v b x is. let no_way : ⊥ = cc in absurd no_way }
-
--- the records are as they were, and the function grew
-pub recorded_still : (f g : Body) (s t : SsaState) → Grows f g → SameRecords s t → RecordsExist f s → RecordsExist g t
-recorded_still f g s t grows same before =
-    record { exist = λ v b x is. let here : x < length f.values = before.exist v b x (sym (same v b) ∙ is) in omega (arith, here, grows.0) }
-
--- a value that exists was recorded
-pub recorded_more : (f g : Body) (s t : SsaState) (variable block value : ℕ) → Grows f g → Records s t variable block value → value < length g.values → RecordsExist f s → RecordsExist g t
-recorded_more f g s t variable block value grows records exists before = record { exist = λ v b x is. by_test v b x is (v == variable && b == block) refl }
-  where
-    some_value : (x y : ℕ) → ◌≡◌ {A = Option ℕ} (Some y) (Some x) → y ≡ x
-    some_value x y same = ap (λ (o : Option ℕ). unwrap_or o 0) same
-
-    by_test : (v b x : ℕ) → record_of t v b ≡ Some x → (c : Bool) → (v == variable && b == block) ≡ c → x < length g.values
-    by_test v b x is true here =
-        let same : value ≡ x = some_value x value (sym (ap (λ c. if c then Some value else record_of s v b) here) ∙ sym (records v b) ∙ is) in
-        omega (arith, exists, same)
-    by_test v b x is false other =
-        let old : x < length f.values = before.exist v b x (sym (ap (λ c. if c then Some value else record_of s v b) other) ∙ sym (records v b) ∙ is) in
-        omega (arith, old, grows.0)
-
--- what a use makes: the function grew, and where each record was of a value that exists, so is each record after it, and so is the answer
-pub record AfterUse (f g : Body) (s t : SsaState) (value : ℕ) : Type 0 where
-  pub grows : Grows f g
-  pub recorded : RecordsExist f s → RecordsExist g t
-  pub exists : RecordsExist f s → value < length g.values
-
-after_use : (f : Body) (c : ContextState) (g : Body) (d : ContextState) (variable : ℕ) (ty : «Type») (block value : ℕ)
-    → UsesIn f c g d variable ty block value → AfterUse f g c.ssa d.ssa value
-after_use f c g d variable ty block value uses = by_record (record_of c.ssa variable block) refl (is_yes (sealed_of c.ssa block)) refl
-  where
-    by_record : (o : Option ℕ) → record_of c.ssa variable block ≡ o → (b : Bool) → is_yes (sealed_of c.ssa block) ≡ b → AfterUse f g c.ssa d.ssa value
-    by_record (Some v) is b sealed =
-        let known : (g ≡ inserted_in f block) × (d.ssa ≡ c.ssa) × (value ≡ v) = uses.known v is in
-        let grows : Grows f g = subst (Grows f) (sym known.0) (Grows-inserted f block) in
-        record {
-          grows = grows;
-          recorded = recorded_still f g c.ssa d.ssa grows (λ v b. ap (λ (s : SsaState). record_of s v b) known.1);
-          exists = λ before. let here : v < length f.values = before.exist variable block v is in omega (arith, here, known.2, grows.0);
-        }
-    by_record None is false sealed =
-        let waits : Waits c.ssa d.ssa (inserted_in f block) g variable ty block × (value ≡ length f.values) = uses.waits is sealed in
-        let grows : Grows f g = subst (Grows f) (sym waits.0.function) (Grows-then f (inserted_in f block) (with_param (inserted_in f block) block ty) (Grows-inserted f block) (Grows-with_param (inserted_in f block) block ty)) in
-        let count : length g.values ≡ length (inserted_in f block).values + 1 = ap (λ (h : Body). length h.values) waits.0.function ∙ grind (arith, common_steps) in
-        record {
-          grows = grows;
-          recorded = recorded_more f g c.ssa d.ssa variable block _ grows waits.0.recorded (omega (arith, count));
-          exists = λ _. omega (arith, count, waits.1, values-inserted f block);
-        }
-    by_record None is true sealed =
-        let zeroes : Zeroes c.ssa d.ssa (inserted_in f block) g variable ty block × (value ≡ length f.values + 1) = uses.zero is sealed in
-        let param : Body = with_param (inserted_in f block) block ty in
-        let grows : Grows f g =
-        subst (Grows f) (sym zeroes.0.function)
-        (Grows-then f (inserted_in f block) (zeroed param block (length (inserted_in f block).values)) (Grows-inserted f block)
-        (Grows-then (inserted_in f block) param (zeroed param block (length (inserted_in f block).values)) (Grows-with_param (inserted_in f block) block ty) (Grows-zeroed param block (length (inserted_in f block).values)))) in
-        let made : length param.values ≡ length (inserted_in f block).values + 1 = grind (arith, common_steps) in
-        let count : length g.values ≡ length param.values + 1 = ap (λ (h : Body). length h.values) zeroes.0.function ∙ values-zeroed param block _ in
-        record {
-          grows = grows;
-          recorded = recorded_more f g c.ssa d.ssa variable block _ grows zeroes.0.recorded (omega (arith, count, made));
-          exists = λ _. omega (arith, count, made, zeroes.1, values-inserted f block);
-        }
-
 -- a fact that follows from what is known of an answer
 on_ok_from : {X Y : Type 0} (r : Result X Y) (P : X → Type 0) (Q : Type 0) → ((x : X) → P x → Q) → IfOk r P → OnOk r Q
 on_ok_from (Ok x) P Q step known = step x known
@@ -182,30 +86,15 @@ if_ok_from : {X Y : Type 0} (r : Result X Y) (P Q : X → Type 0) → ((x : X) �
 if_ok_from (Ok x) P Q step known = step x known
 if_ok_from (Err e) P Q step known = tt
 
-on_ok_step : {X Y : Type 0} (r : Result X Y) (P Q : Type 0) → (P → Q) → OnOk r P → OnOk r Q
+pub on_ok_step : {X Y : Type 0} (r : Result X Y) (P Q : Type 0) → (P → Q) → OnOk r P → OnOk r Q
 on_ok_step (Ok x) P Q step known = step known
 on_ok_step (Err e) P Q step known = tt
 
-on_ok_both : {X Y : Type 0} (r : Result X Y) (P Q S : Type 0) → (P → Q → S) → OnOk r P → OnOk r Q → OnOk r S
-on_ok_both (Ok x) P Q S step first next = step first next
-on_ok_both (Err e) P Q S step first next = tt
-
-on_ok_always : {X Y : Type 0} (r : Result X Y) (P : Type 0) → P → OnOk r P
-on_ok_always (Ok x) P holds = holds
-on_ok_always (Err e) P holds = tt
-
 -- a use answered
-pub use_grows : (r : Result ℕ BuildError) (f : Body) (c : ContextState) (g : Body) (d : ContextState) (variable : ℕ) (ty : «Type») (block : ℕ)
-    → IfOk r (UsesIn f c g d variable ty block) → OnOk r (Grows f g)
-use_grows r f c g d variable ty block = on_ok_from r _ _ (λ value uses. (after_use f c g d variable ty block value uses).grows)
-
-pub use_recorded : (r : Result ℕ BuildError) (f : Body) (c : ContextState) (g : Body) (d : ContextState) (variable : ℕ) (ty : «Type») (block : ℕ)
-    → IfOk r (UsesIn f c g d variable ty block) → RecordsExist f c.ssa → OnOk r (RecordsExist g d.ssa)
-use_recorded r f c g d variable ty block uses before = on_ok_from r _ _ (λ value used. (after_use f c g d variable ty block value used).recorded before) uses
-
-pub use_exists : (r : Result ℕ BuildError) (f : Body) (c : ContextState) (g : Body) (d : ContextState) (variable : ℕ) (ty : «Type») (block : ℕ)
-    → IfOk r (UsesIn f c g d variable ty block) → RecordsExist f c.ssa → IfOk r (λ value. value < length g.values)
-use_exists r f c g d variable ty block uses before = if_ok_from r _ _ (λ value used. (after_use f c g d variable ty block value used).exists before) uses
+pub used_grows : (r : Result ℕ BuildError) (f : Body) (c : ContextState) (g : Body) (d : ContextState) (variable : ℕ) (ty : «Type») (block : ℕ)
+    → IfOk r (λ value. (told : List ℕ) × IsUse (inserted_in f block) c.ssa g d.ssa variable ty block value told × Begins c d (block ∷ told)) → OnOk r (Grows f g)
+used_grows r f c g d variable ty block =
+    on_ok_from r _ _ (λ value used. Grows-then f (inserted_in f block) g (Grows-inserted f block) (Grows-constructs (inserted_in f block) g used.1.constructs))
 
 -- an appending answered
 pub append_grows : (r : Result ℕ BuildError) (f : Body) (c : ContextState) (g : Body) (d : ContextState) (block : ℕ) (shape : InstructionData) (ty : «Type»)
@@ -215,13 +104,6 @@ append_grows r f c g d block shape ty = on_ok_from r _ _ (λ inst appends. appen
 pub append_exists : (r : Result ℕ BuildError) (f : Body) (c : ContextState) (g : Body) (d : ContextState) (block : ℕ) (shape : InstructionData) (ty : «Type»)
     → IfOk r (AppendsIn f c g d block shape ty) → IfOk r (λ inst. inst < length g.insts)
 append_exists r f c g d block shape ty = if_ok_from r _ _ (λ inst appends. appended_exists f c g d block shape ty inst appends)
-
--- the records are as they were, where a call answered
-pub recorded_on : {X Y : Type 0} (r : Result X Y) (f g : Body) (s t : SsaState) → OnOk r (Grows f g) → SameRecords s t → RecordsExist f s → OnOk r (RecordsExist g t)
-recorded_on r f g s t grows same before = on_ok_step r _ _ (λ h. recorded_still f g s t h same before) grows
-
-pub recorded_on_same : {X Y : Type 0} (r : Result X Y) (f g : Body) (s t : SsaState) → OnOk r (Grows f g) → t ≡ s → RecordsExist f s → OnOk r (RecordsExist g t)
-recorded_on_same r f g s t grows same = recorded_on r f g s t grows (λ v b. ap (λ (u : SsaState). record_of u v b) same)
 
 -- what wasn't filled isn't filled by a beginning
 begun_unfilled : (s : BlockStatus) → begun s ≡ Filled → s ≡ Filled
@@ -266,13 +148,6 @@ still_current o p f g c d position grows fills current =
 at_current : (old : FunctionBuilder) (P : ℕ → Type 0) (current : HasCurrent old) → IfSome old.position P → P current.0
 at_current old P current holds = let Q : Option ℕ → Type 0 = λ o. IfSome o P in subst Q current.1 holds
 
--- where its block began
-pub current_begun : {X Y : Type 0} (r : Result X Y) (old new : FunctionBuilder) → HasCurrent old → new.position ≡ old.position → OnOk r (Grows old.func.now new.func.now)
-    → IfSome old.position (λ block. OnOk r (SetsStatus old.ctx.now new.ctx.now block (begun (status_of old.ctx.now block)))) → OnOk r (HasCurrent new)
-current_begun r old new current position grows sets =
-    on_ok_both r _ _ _ (λ h status. still_current old.position new.position old.func.now new.func.now old.ctx.now new.ctx.now position h (fills_none_begun old.ctx.now new.ctx.now current.0 status) current) grows
-    (at_current old (λ block. OnOk r (SetsStatus old.ctx.now new.ctx.now block (begun (status_of old.ctx.now block)))) current sets)
-
 -- where an instruction was appended that doesn't end its block
 status_after_none : (shape : InstructionData) (s : BlockStatus) → is_terminator shape ≡ false → status_after shape s ≡ begun s
 status_after_none shape s none = ap (λ t. if t then Filled else begun s) none
@@ -297,7 +172,7 @@ appended_node f c g d block shape ty inst appends =
     made ∙ last
 
 -- its result
-appended_results : (f : Body) (c : ContextState) (g : Body) (d : ContextState) (block : ℕ) (shape : InstructionData) (ty : «Type») (inst : ℕ)
+pub appended_results : (f : Body) (c : ContextState) (g : Body) (d : ContextState) (block : ℕ) (shape : InstructionData) (ty : «Type») (inst : ℕ)
     → AppendsIn f c g d block shape ty inst → result_types shape ty ≡ ty ∷ [] → (inst_at g inst).results ≡ length f.values ∷ []
 appended_results f c g d block shape ty inst appends types =
     let at : Body = inserted_in f block in
@@ -325,11 +200,21 @@ appends_value old new shape ty inst v appends is = by_position old.position appe
     by_position None holds = tt
     by_position (Some block) holds = (subst (λ (i : ℕ). Appends old new block shape ty i) holds.number holds, is)
 
--- a sealing answered
-pub seal_grows : (r : Result (Unit {0}) BuildError) (f g : Body) (pending : List Pending) → OnOk r (g ≡ completed f pending) → OnOk r (Grows f g)
-seal_grows r f g pending = on_ok_step r _ _ (λ same. subst (Grows f) (sym same) (Grows-completed f pending))
+-- a use answered in the current block
+pub used_current : (r : Result ℕ BuildError) (o : Option ℕ) (f : Body) (c : ContextState) (g : Body) (d : ContextState) (variable : ℕ) (ty : «Type») (block : ℕ)
+    → IfOk r (λ value. (told : List ℕ) × IsUse (inserted_in f block) c.ssa g d.ssa variable ty block value told × Begins c d (block ∷ told))
+    → CurrentIn o f c → OnOk r (CurrentIn o g d)
+used_current r o f c g d variable ty block used current =
+    on_ok_from r _ _ (λ value used_so.
+    still_current o o f g c d refl (Grows-then f (inserted_in f block) g (Grows-inserted f block) (Grows-constructs (inserted_in f block) g used_so.1.constructs))
+    (fills_none_begins c d (block ∷ used_so.0) used_so.2) current) used
 
-pub seal_current : (r : Result (Unit {0}) BuildError) (o : Option ℕ) (f g : Body) (c d : ContextState) (blocks : List ℕ) → OnOk r (Grows f g)
-    → OnOk r (Begins c d blocks) → CurrentIn o f c → OnOk r (CurrentIn o g d)
-seal_current r o f g c d blocks grows begins current =
-    on_ok_both r _ _ _ (λ h status. still_current o o f g c d refl h (fills_none_begins c d blocks status) current) grows begins
+-- a sealing answered
+pub sealed_grows : (r : Result (Unit {0}) BuildError) (f : Body) (c : ContextState) (g : Body) (d : ContextState) (block : ℕ)
+    → OnOk r ((told : List ℕ) × IsSealing f c.ssa g d.ssa block told × Begins c d told) → OnOk r (Grows f g)
+sealed_grows r f c g d block = on_ok_step r _ _ (λ sealing. Grows-constructs f g sealing.1.constructs)
+
+pub sealed_current : (r : Result (Unit {0}) BuildError) (o : Option ℕ) (f : Body) (c : ContextState) (g : Body) (d : ContextState) (block : ℕ)
+    → OnOk r ((told : List ℕ) × IsSealing f c.ssa g d.ssa block told × Begins c d told) → CurrentIn o f c → OnOk r (CurrentIn o g d)
+sealed_current r o f c g d block sealed current =
+    on_ok_step r _ _ (λ sealing. still_current o o f g c d refl (Grows-constructs f g sealing.1.constructs) (fills_none_begins c d sealing.0 sealing.2) current) sealed

@@ -1,65 +1,73 @@
 -- A block is created, made current or sealed: the agreement with the ledger is kept.
 use Rattle.std.proofs.Common.{◌≡◌, ◌≢◌, ◌+◌, ◌<◌, ◌≤◌, ℕ, suc, List, [], ◌∷◌, ◌++◌, length, refl, sym, ◌∙◌, ap, subst, arith, inl, inr, length-append}
-use Rattle.std.specs.Prelude.{map, slice_get, Option, Some, option_map, option_and_then, Bool, true, false, if◌then◌else◌, ◌==◌, Result, Ok, Err, IfOk, OnOk}
+use Rattle.std.specs.Prelude.{map, slice_get, Option, Some, option_map, option_and_then, Bool, true, false, if◌then◌else◌, ◌==◌, Contains, Result, Ok, Err, IfOk, OnOk}
 use Rattle.std.proofs.lemmas.Bool.{ne_eqb}
 use Rattle.clif_types.specs.declared.types.«Type».{«Type»}
 use Rattle.clif_ir.specs.Body.{Body}
 use Rattle.clif_ir.specs.Changes.{with_block}
+use Rattle.clif_ir.specs.Consistent.{IsConsistent}
 use Rattle.clif_ir.specs.Reading.{param_home, stands_in}
 use Rattle.clif_meaning.specs.Name.{Name, answer_of, same_name}
 use Rattle.clif_meaning.specs.Request.{AnsweredCall, CreateBlock, SwitchToBlock, SealBlock, number_of}
 use Rattle.clif_meaning.specs.Ledger.{answer_at, Answered, ABlock, BlockState, Ledger, VariableState, ledger_with, new_block, next_answer}
 use Rattle.clif_meaning.proofs.CallLists as earlier
-use Rattle.clif_ssa.specs.Tables.{is_yes, record_at, pending_of}
+use Rattle.clif_ssa.specs.Own.{Own}
+use Rattle.clif_ssa.specs.Tables.{is_yes, record_at}
 use Rattle.clif_ssa.specs.declared.tables.Cell.{Cell}
-use Rattle.clif_ssa.specs.declared.tables.Sealed.TheVariants.{Yes}
-use Rattle.clif_ssa.specs.Ssa.{record_of, sealed_of, SameBlocks, SameRecords, Seals, completed, completing_blocks}
+use Rattle.clif_ssa.specs.LookUp.{branch_block}
+use Rattle.clif_ssa.specs.Ssa.{predecessors_of, sealed_of, SameBlocks, SamePredecessors}
+use Rattle.clif_ssa.specs.Structured.{Structured}
+use Rattle.clif_ssa.proofs.Structuring.{same_structured}
+use Rattle.clif_ssa.proofs.StructuredLaws.{block_structured}
 use Rattle.cranelift_frontend.specs.declared.context.BlockStatus.{BlockStatus}
-use Rattle.cranelift_frontend.specs.declared.context.BlockStatus.TheVariants.{Empty, Partial, Filled}
-use Rattle.cranelift_frontend.specs.Context.{ContextState, status_of, begun, Begins}
+use Rattle.cranelift_frontend.specs.declared.context.BlockStatus.TheVariants.{Empty}
+use Rattle.cranelift_frontend.specs.Context.{Begins, ContextState, SameStatus, status_of}
 use Rattle.cranelift_frontend.specs.Builder.{is_empty_status, is_filled_status}
-use Rattle.cranelift_frontend.specs.Ledger.{AnswersAgree, BlockAgrees, IsBegun, LedgerAgrees, NamesBlock, block_name, value_type, ledger_of}
+use Rattle.cranelift_frontend.specs.Construction.{IsSealing}
+use Rattle.cranelift_frontend.specs.Ledger.{AnswersAgree, AreTypesOf, BlockAgrees, IsBegun, IsEnded, IsStructured, LedgerAgrees, NamesBlock, block_name, ledger_of}
 use Rattle.cranelift_frontend.proofs.LedgerLists.{get-front, get-last, get-push, if-yes, if-no, named-more, one-named-more, map-some}
 use Rattle.cranelift_frontend.proofs.LedgerNames.{name-number, named-block, state-entries}
-use Rattle.cranelift_frontend.proofs.LedgerKept.{answer-still, Keeps, Continues, keeps-of, Continues-completed, completing-homes, answers-after, places-after, answers-none, answers-one, concluded}
-use Rattle.cranelift_frontend.proofs.LedgerMade.{changed-names, block-exists}
+use Rattle.cranelift_frontend.proofs.LedgerKept.{answer-still, Extends, Keeps, extends-constructs, keeps-block, keeps-itself, keeps-of, answers-after, places-after, answers-none, answers-one, concluded}
+use Rattle.cranelift_frontend.proofs.LedgerMade.{block-exists, changed-names, numbers-kept}
+use Rattle.cranelift_frontend.proofs.Placed.{sealed_branches, sealed_layout, sealed_parameters, sealed_status}
 
 -- a block of the ledger, one more call on, where sealing and status are as before
 pub block-kept : (calls : List AnsweredCall) (call : AnsweredCall) (c d : ContextState) (k : ℕ) (s : BlockState)
-    → BlockAgrees calls c k s → is_yes (sealed_of d.ssa k) ≡ is_yes (sealed_of c.ssa k) → status_of d k ≡ status_of c k → BlockAgrees (calls ++ call ∷ []) d k s
-block-kept calls call c d k s was sealed status =
+    → BlockAgrees calls c k s → is_yes (sealed_of d.ssa k) ≡ is_yes (sealed_of c.ssa k) → predecessors_of d.ssa k ≡ predecessors_of c.ssa k → status_of d k ≡ status_of c k
+    → BlockAgrees (calls ++ call ∷ []) d k s
+block-kept calls call c d k s was sealed leads status =
     record {
       number = earlier.kept calls call s.block k was.number;
       is_sealed = was.is_sealed ∙ sym sealed;
       is_pristine = was.is_pristine ∙ ap is_empty_status (sym status);
       is_filled = was.is_filled ∙ ap is_filled_status (sym status);
       parameters = was.parameters;
-      predecessors = was.predecessors;
+      predecessors = numbers-kept calls call s.predecessors (predecessors_of c.ssa k) was.predecessors ∙ ap (map Some) (sym leads);
     }
 
 -- a call that changes neither function nor blocks
 pub agrees-kept : (calls : List AnsweredCall) (call : AnsweredCall) (old new : Ledger) (f : Body) (c d : ContextState) (p q : Option ℕ) (answered : List Answered)
     → LedgerAgrees calls old f c p → new.answers ≡ old.answers ++ answered ∷ [] → new.blocks ≡ old.blocks → new.layout ≡ old.layout
     → option_map Some new.current ≡ option_map (block_name old) q → map (λ (v : VariableState). v.ty) new.variables ≡ d.variables
-    → ((b : ℕ) → is_yes (sealed_of d.ssa b) ≡ is_yes (sealed_of c.ssa b)) → ((b : ℕ) → status_of d b ≡ status_of c b)
-    → ((v b x : ℕ) → record_of d.ssa v b ≡ Some x → (ty : «Type») × (slice_get d.variables v ≡ Some ty) × (value_type f x ≡ Some ty))
+    → ((b : ℕ) → is_yes (sealed_of d.ssa b) ≡ is_yes (sealed_of c.ssa b)) → SamePredecessors c.ssa d.ssa → SameStatus c d → IsStructured f d
     → AnswersAgree new f (length calls) answered call.numbers → LedgerAgrees (calls ++ call ∷ []) new f d q
-agrees-kept calls call old new f c d p q answered agrees answers blocks layout current variables sealed status recorded fresh =
+agrees-kept calls call old new f c d p q answered agrees answers blocks layout current variables sealed leads status structured fresh =
     record {
       places = places-after calls call old new answered agrees.places answers;
-      answers = answers-after calls call old new f f c p answered agrees answers names (record { values = λ v ty is. is; insts = λ i node is. is }) fresh;
+      answers = answers-after calls call old new f f c p answered agrees answers names (keeps-itself f) fresh;
       block_count = ap (λ (states : List BlockState). length states) blocks ∙ agrees.block_count;
       blocks = λ k s there.
-          block-kept calls call c d k s (agrees.blocks k s (ap (λ (states : List BlockState). slice_get states k) (sym blocks) ∙ there)) (sealed_at k) (status_at k);
+          block-kept calls call c d k s (agrees.blocks k s (ap (λ (states : List BlockState). slice_get states k) (sym blocks) ∙ there)) (sealed_at k) (leads k) (status_at k);
       block_answers = λ k x is.
           answer-still old new answered x ABlock answers
           (agrees.block_answers k x (ap (λ (states : List BlockState). option_map (λ (s : BlockState). s.block) (slice_get states k)) (sym blocks) ∙ is));
       current = current ∙ ap (λ (states : List BlockState). option_map (λ (k : ℕ). option_map (λ (s : BlockState). s.block) (slice_get states k)) q) (sym blocks);
       layout = ap (map Some) layout ∙ named-more (block_name old) (block_name new) old.layout f.layout names agrees.layout;
       variables = variables;
-      recorded = recorded;
+      structured = structured;
       parameters = λ v h is. begun_still h (agrees.parameters v h is);
-      fresh = λ k above. (sealed_at k ∙ (agrees.fresh k above).0, status_at k ∙ (agrees.fresh k above).1);
+      branches = λ b i here. ended_still (branch_block f i) (agrees.branches b i (subst (λ (is : List ℕ). Contains is i) (leads b) here));
+      fresh = λ k above. (sealed_at k ∙ (agrees.fresh k above).0, status_at k ∙ (agrees.fresh k above).1, leads k ∙ (agrees.fresh k above).2);
     }
   where
     names : (k : ℕ) (x : Name) → block_name old k ≡ Some x → block_name new k ≡ Some x
@@ -74,6 +82,9 @@ agrees-kept calls call old new f c d p q answered agrees answers blocks layout c
     begun_still : (h : ℕ) → IsBegun f c h → IsBegun f d h
     begun_still h was = record { inserted = was.inserted; begun = λ empty. was.begun (sym (status_at h) ∙ empty) }
 
+    ended_still : (h : ℕ) → IsEnded f c h → IsEnded f d h
+    ended_still h was = record { inserted = was.inserted; filled = status_at h ∙ was.filled }
+
 -- another current block
 pub agrees-switched : (calls : List AnsweredCall) (ledger : Ledger) (f : Body) (c : ContextState) (p : Option ℕ) (name : Name) (block : ℕ)
     → LedgerAgrees calls ledger f c p → block_name ledger block ≡ Some name
@@ -81,7 +92,7 @@ pub agrees-switched : (calls : List AnsweredCall) (ledger : Ledger) (f : Body) (
 agrees-switched calls ledger f c p name block agrees named =
     let call : AnsweredCall = record { request = SwitchToBlock name; numbers = [] } in
     let new : Ledger = ledger_with ledger (SwitchToBlock name) in
-    agrees-kept calls call ledger new f c c p (Some block) [] agrees refl refl refl (ap Some (sym named)) agrees.variables (λ b. refl) (λ b. refl) agrees.recorded
+    agrees-kept calls call ledger new f c c p (Some block) [] agrees refl refl refl (ap Some (sym named)) agrees.variables (λ b. refl) (λ b. refl) (λ b. refl) agrees.structured
     (answers-none new f (length calls))
 
 pub switched : (calls : List AnsweredCall) (f : Body) (c : ContextState) (p : Option ℕ) (name : Name) (block : ℕ)
@@ -94,9 +105,9 @@ switched calls f c p name block agrees names =
 -- a new block
 pub agrees-created : (calls : List AnsweredCall) (ledger : Ledger) (f g : Body) (c d : ContextState) (p : Option ℕ) (block : ℕ)
     → LedgerAgrees calls ledger f c p → g ≡ with_block f → block ≡ length f.blocks
-    → d.ssa.records ≡ c.ssa.records → SameBlocks c.ssa d.ssa → d.status ≡ c.status → d.variables ≡ c.variables
+    → d.ssa.records ≡ c.ssa.records → SameBlocks c.ssa d.ssa → SamePredecessors c.ssa d.ssa → d.status ≡ c.status → d.variables ≡ c.variables
     → LedgerAgrees (calls ++ record { request = CreateBlock; numbers = block ∷ [] } ∷ []) (ledger_with ledger CreateBlock) g d p
-agrees-created calls ledger f g c d p block agrees function number records sealed status variables =
+agrees-created calls ledger f g c d p block agrees function number records sealed leads status variables =
     record {
       places = places-after calls (record { request = CreateBlock; numbers = block ∷ [] }) ledger (ledger_with ledger CreateBlock) (ABlock ∷ []) agrees.places refl;
       answers = answers-after calls (record { request = CreateBlock; numbers = block ∷ [] }) ledger (ledger_with ledger CreateBlock) f g c p (ABlock ∷ []) agrees refl names keeps
@@ -108,14 +119,22 @@ agrees-created calls ledger f g c d p block agrees function number records seale
       layout = named-more (block_name ledger) (block_name (ledger_with ledger CreateBlock)) ledger.layout f.layout names agrees.layout
           ∙ ap (λ (h : Body). map (block_name (ledger_with ledger CreateBlock)) h.layout) (sym function);
       variables = agrees.variables ∙ sym variables;
-      recorded = λ v b x is.
-          let there = agrees.recorded v b x (ap (λ (rows : List (List Cell)). record_at rows v b) (sym records) ∙ is) in
-          (there.0, ap (λ (types : List «Type»). slice_get types v) variables ∙ there.1, keeps_values x there.0 there.2);
+      structured = (
+        agrees.structured.0,
+        λ types are.
+            let own : Own = agrees.structured.0 in
+            let before : Structured types own f c.ssa [] = agrees.structured.1 types (subst (λ (xs : List «Type»). AreTypesOf xs types) variables are) in
+            let made : Structured types own g c.ssa [] = subst (λ (h : Body). Structured types own h c.ssa []) (sym function) (block_structured types own f c.ssa before) in
+            same_structured types own g c.ssa d.ssa [] (λ x b. ap (λ (rows : List (List Cell)). record_at rows x b) records) sealed leads made,
+      );
       parameters = λ v h is. begun_still h (agrees.parameters v h (ap (λ (b : Body). param_home b v) (sym function) ∙ is));
+      branches = λ b i here.
+          subst (IsEnded g d) (ap (λ (h : Body). branch_block h i) (sym function))
+          (ended_still (branch_block f i) (agrees.branches b i (subst (λ (is : List ℕ). Contains is i) (leads b) here)));
       fresh = λ k above.
           let more : length g.blocks ≡ length f.blocks + 1 = ap (λ (h : Body). length h.blocks) function ∙ length-append f.blocks _ in
           let past : length f.blocks ≤ k = omega (arith, above, more) in
-          (sealed_at k ∙ (agrees.fresh k past).0, status_at k ∙ (agrees.fresh k past).1);
+          (sealed_at k ∙ (agrees.fresh k past).0, status_at k ∙ (agrees.fresh k past).1, leads k ∙ (agrees.fresh k past).2);
     }
   where
     names : (k : ℕ) (x : Name) → block_name ledger k ≡ Some x → block_name (ledger_with ledger CreateBlock) k ≡ Some x
@@ -124,14 +143,7 @@ agrees-created calls ledger f g c d p block agrees function number records seale
         ap (option_map (λ (s : BlockState). s.block)) (get-front ledger.blocks _ k state.0 state.1) ∙ ap Some state.2
 
     keeps : Keeps f g
-    keeps =
-        record {
-          values = λ v ty is. ap (λ (h : Body). value_type h v) function ∙ is;
-          insts = λ i node is. ap (λ (h : Body). slice_get h.insts i) function ∙ is;
-        }
-
-    keeps_values : (v : ℕ) (ty : «Type») → value_type f v ≡ Some ty → value_type g v ≡ Some ty
-    keeps_values v ty is = keeps.values v ty is
+    keeps = subst (Keeps f) (sym function) (keeps-block f)
 
     name_is : next_answer ledger ≡ answer_of (length calls) 0
     name_is = ap (λ (n : ℕ). answer_of n 0) agrees.places
@@ -154,6 +166,9 @@ agrees-created calls ledger f g c d p block agrees function number records seale
           begun = λ empty. was.begun (sym (status_at h) ∙ empty);
         }
 
+    ended_still : (h : ℕ) → IsEnded f c h → IsEnded g d h
+    ended_still h was = record { inserted = ap (λ (b : Body). stands_in h b.layout) function ∙ was.inserted; filled = status_at h ∙ was.filled }
+
     answers_agree : (k : ℕ) (x : Name) → block_name (ledger_with ledger CreateBlock) k ≡ Some x → answer_at (ledger_with ledger CreateBlock) x ≡ Some ABlock
     answers_agree k x is =
         let state = map-some (λ (s : BlockState). s.block) (slice_get (ledger_with ledger CreateBlock).blocks k) x is in
@@ -170,7 +185,7 @@ agrees-created calls ledger f g c d p block agrees function number records seale
     blocks_agree : (k : ℕ) (s : BlockState) → slice_get (ledger_with ledger CreateBlock).blocks k ≡ Some s → BlockAgrees (calls ++ record { request = CreateBlock; numbers = block ∷ [] } ∷ []) d k s
     blocks_agree k s there =
         elim (get-push ledger.blocks (new_block (next_answer ledger)) k s there) [
-          | inl old ↦ block-kept calls (record { request = CreateBlock; numbers = block ∷ [] }) c d k s (agrees.blocks k s old) (sealed_at k) (status_at k)
+          | inl old ↦ block-kept calls (record { request = CreateBlock; numbers = block ∷ [] }) c d k s (agrees.blocks k s old) (sealed_at k) (leads k) (status_at k)
           | inr last ↦
               let past : length f.blocks ≤ k = omega (arith, last.0, agrees.block_count) in
               let same : block ≡ k = omega (arith, number, last.0, agrees.block_count) in
@@ -182,111 +197,106 @@ agrees-created calls ledger f g c d p block agrees function number records seale
                 is_pristine = ap is_empty_status (sym none);
                 is_filled = ap is_filled_status (sym none);
                 parameters = refl;
-                predecessors = refl;
+                predecessors = sym (ap (map Some) (leads k ∙ (agrees.fresh k past).2));
               })
         ]
 
 -- what comes of a creation
 pub created : {E : Type 0} (calls : List AnsweredCall) (f g : Body) (c d : ContextState) (p : Option ℕ) (r : Result ℕ E)
     → LedgerAgrees calls (ledger_of calls) f c p → OnOk r (g ≡ with_block f) → IfOk r (λ block. block ≡ length f.blocks)
-    → d.ssa.records ≡ c.ssa.records → SameBlocks c.ssa d.ssa → d.status ≡ c.status → d.variables ≡ c.variables
+    → d.ssa.records ≡ c.ssa.records → SameBlocks c.ssa d.ssa → SamePredecessors c.ssa d.ssa → d.status ≡ c.status → d.variables ≡ c.variables
     → IfOk r (λ block. LedgerAgrees (calls ++ record { request = CreateBlock; numbers = block ∷ [] } ∷ []) (ledger_of (calls ++ record { request = CreateBlock; numbers = block ∷ [] } ∷ [])) g d p)
-created calls f g c d p (Err e) agrees function number records sealed status variables = tt
-created calls f g c d p (Ok block) agrees function number records sealed status variables =
+created calls f g c d p (Err e) agrees function number records sealed leads status variables = tt
+created calls f g c d p (Ok block) agrees function number records sealed leads status variables =
     concluded calls (record { request = CreateBlock; numbers = block ∷ [] }) g d p
-    (agrees-created calls (ledger_of calls) f g c d p block agrees function number records sealed status variables)
+    (agrees-created calls (ledger_of calls) f g c d p block agrees function number records sealed leads status variables)
 
 -- a sealed block
-pub agrees-sealed : (calls : List AnsweredCall) (ledger : Ledger) (f g : Body) (c d : ContextState) (p : Option ℕ) (name : Name) (block : ℕ)
-    → LedgerAgrees calls ledger f c p → block_name ledger block ≡ Some name → g ≡ completed f (pending_of (sealed_of c.ssa block))
-    → Seals c.ssa d.ssa block → SameRecords c.ssa d.ssa → Begins c d (completing_blocks f (pending_of (sealed_of c.ssa block))) → d.variables ≡ c.variables
-    → LedgerAgrees (calls ++ record { request = SealBlock name; numbers = [] } ∷ []) (ledger_with ledger (SealBlock name)) g d p
-agrees-sealed calls ledger f g c d p name block agrees named function seals records begins variables =
-    record {
-      places = places-after calls (record { request = SealBlock name; numbers = [] }) ledger (ledger_with ledger (SealBlock name)) [] agrees.places refl;
-      answers = answers-after calls (record { request = SealBlock name; numbers = [] }) ledger (ledger_with ledger (SealBlock name)) f g c p [] agrees refl names
-          (keeps-of f g continues.extends) (answers-none (ledger_with ledger (SealBlock name)) g (length calls));
-      block_count = count_blocks ledger.blocks ∙ agrees.block_count ∙ sym continues.extends.block_count;
-      blocks = λ k t there.
-          let entry = state-entries calls ledger (name-number calls ledger f c p agrees) block name (λ (s : BlockState). record s { is_sealed = true }) named k t there in
-          subst (λ (s : BlockState). BlockAgrees (calls ++ record { request = SealBlock name; numbers = [] } ∷ []) d k s) entry.2
-          (by k entry.0 (agrees.blocks k entry.0 entry.1) (k == block) refl);
-      block_answers = λ k x is.
-          answer-still ledger (ledger_with ledger (SealBlock name)) [] x ABlock refl
-          (agrees.block_answers k x (sym (changed-names ledger (ledger_with ledger (SealBlock name)) name (λ (s : BlockState). record s { is_sealed = true }) (λ s. refl) refl k) ∙ is));
-      current = one-named-more (block_name ledger) (block_name (ledger_with ledger (SealBlock name))) ledger.current p names agrees.current;
-      layout = named-more (block_name ledger) (block_name (ledger_with ledger (SealBlock name))) ledger.layout f.layout names agrees.layout
-          ∙ ap (map (block_name (ledger_with ledger (SealBlock name)))) (sym continues.layout);
-      variables = agrees.variables ∙ sym variables;
-      recorded = λ v b x is.
-          let there = agrees.recorded v b x (sym (records v b) ∙ is) in
-          (there.0, ap (λ (types : List «Type»). slice_get types v) variables ∙ there.1, keeps_values x there.0 there.2);
-      parameters = λ v h is. begun_still h (agrees.parameters v h (homes_of v h is));
-      fresh = λ k above.
-          let past : length f.blocks ≤ k = omega (arith, above, continues.extends.block_count) in
-          let exists : block < length f.blocks = block-exists calls ledger f c p agrees block name named in
-          let other : k ≢ block = omega (arith, past, exists) in
-          (ap is_yes (seals k ∙ if-no (k == block) Yes (sealed_of c.ssa k) (ne_eqb k block other)) ∙ (agrees.fresh k past).0, status_at k ∙ (agrees.fresh k past).1);
-    }
-  where
-    continues : Continues f g
-    continues = subst (Continues f) (sym function) (Continues-completed f (pending_of (sealed_of c.ssa block)) (λ v b is. (agrees.parameters v b is).inserted))
+module _ (calls : List AnsweredCall) (ledger : Ledger) (f g : Body) (c d : ContextState) (p : Option ℕ) (name : Name) (block : ℕ) (told : List ℕ)
+    (agrees : LedgerAgrees calls ledger f c p) (named : block_name ledger block ≡ Some name) (sealing : IsSealing f c.ssa g d.ssa block told)
+    (begins : Begins c d told) (consistent : IsConsistent g) (variables : d.variables ≡ c.variables) where
+  abbrev call : AnsweredCall
+  call = record { request = SealBlock name; numbers = [] }
 
-    names : (k : ℕ) (x : Name) → block_name ledger k ≡ Some x → block_name (ledger_with ledger (SealBlock name)) k ≡ Some x
-    names k x is = changed-names ledger (ledger_with ledger (SealBlock name)) name (λ (s : BlockState). record s { is_sealed = true }) (λ s. refl) refl k ∙ is
+  abbrev new : Ledger
+  new = ledger_with ledger (SealBlock name)
 
-    keeps_values : (v : ℕ) (ty : «Type») → value_type f v ≡ Some ty → value_type g v ≡ Some ty
-    keeps_values v ty is = continues.extends.values v ty is
+  abbrev change : BlockState → BlockState
+  change s = record s { is_sealed = true }
 
-    homes_of : (v b : ℕ) → param_home g v ≡ Some b → param_home f v ≡ Some b
-    homes_of v b is = continues.homes v b is
+  extends : Extends f g
+  extends = extends-constructs f g sealing.constructs
 
-    begun_twice : (s : BlockStatus) → s ≢ Empty → begun s ≡ s
-    begun_twice Empty other = absurd (other refl)
-    begun_twice Partial other = refl
-    begun_twice Filled other = refl
+  layout : g.layout ≡ f.layout
+  layout = sealed_layout calls ledger f c p agrees g d block told sealing consistent
 
-    status_at : (k : ℕ) → status_of d k ≡ status_of c k
-    status_at k = begins k ∙ test (stands_in k (completing_blocks f (pending_of (sealed_of c.ssa block)))) refl
-      where
-        test : (there : Bool) → stands_in k (completing_blocks f (pending_of (sealed_of c.ssa block))) ≡ there → (if there then begun (status_of c k) else status_of c k) ≡ status_of c k
-        test true is =
-            begun_twice (status_of c k) (completing-homes (λ (b : ℕ). status_of c b ≢ Empty) f (pending_of (sealed_of c.ssa block))
-            (λ v b home. ((agrees.parameters v b home).inserted, (agrees.parameters v b home).begun)) k is)
-        test false is = refl
+  status_at : SameStatus c d
+  status_at = sealed_status calls ledger f c p agrees g d block told sealing begins
 
-    count_blocks : (states : List BlockState) → length (map (λ (s : BlockState). if same_name s.block name then record s { is_sealed = true } else s) states) ≡ length states
-    count_blocks [] = refl
-    count_blocks (s ∷ states) = ap suc (count_blocks states)
+  names : (k : ℕ) (x : Name) → block_name ledger k ≡ Some x → block_name new k ≡ Some x
+  names k x is = changed-names ledger new name change (λ s. refl) refl k ∙ is
 
-    begun_still : (h : ℕ) → IsBegun f c h → IsBegun g d h
-    begun_still h was =
-        record {
-          inserted = ap (stands_in h) continues.layout ∙ was.inserted;
-          begun = λ empty. was.begun (sym (status_at h) ∙ empty);
-        }
+  count_blocks : (states : List BlockState) → length (map (λ (s : BlockState). if same_name s.block name then record s { is_sealed = true } else s) states) ≡ length states
+  count_blocks [] = refl
+  count_blocks (s ∷ states) = ap suc (count_blocks states)
 
-    by : (k : ℕ) (s : BlockState) → BlockAgrees calls c k s → (test : Bool) → (k == block) ≡ test
-        → BlockAgrees (calls ++ record { request = SealBlock name; numbers = [] } ∷ []) d k (if test then record s { is_sealed = true } else s)
-    by k s was true here =
-        record {
-          number = earlier.kept calls (record { request = SealBlock name; numbers = [] }) s.block k was.number;
-          is_sealed = sym (ap is_yes (seals k ∙ if-yes (k == block) Yes (sealed_of c.ssa k) here));
-          is_pristine = was.is_pristine ∙ ap is_empty_status (sym (status_at k));
-          is_filled = was.is_filled ∙ ap is_filled_status (sym (status_at k));
-          parameters = was.parameters;
-          predecessors = was.predecessors;
-        }
-    by k s was false other =
-        block-kept calls (record { request = SealBlock name; numbers = [] }) c d k s was (ap is_yes (seals k ∙ if-no (k == block) Yes (sealed_of c.ssa k) other)) (status_at k)
+  block_here : (k : ℕ) (s : BlockState) → BlockAgrees calls c k s → (test : Bool) → (k == block) ≡ test → BlockAgrees (calls ++ call ∷ []) d k (if test then change s else s)
+  block_here k s was true here =
+      record {
+        number = earlier.kept calls call s.block k was.number;
+        is_sealed = sym (sealing.sealed k ∙ if-yes (k == block) true (is_yes (sealed_of c.ssa k)) here);
+        is_pristine = was.is_pristine ∙ ap is_empty_status (sym (status_at k));
+        is_filled = was.is_filled ∙ ap is_filled_status (sym (status_at k));
+        parameters = was.parameters;
+        predecessors = numbers-kept calls call s.predecessors (predecessors_of c.ssa k) was.predecessors ∙ ap (map Some) (sym (sealing.predecessors k));
+      }
+  block_here k s was false other =
+      block-kept calls call c d k s was (sealing.sealed k ∙ if-no (k == block) true (is_yes (sealed_of c.ssa k)) other) (sealing.predecessors k) (status_at k)
+
+  pub agrees-sealed : LedgerAgrees (calls ++ call ∷ []) new g d p
+  agrees-sealed =
+      record {
+        places = places-after calls call ledger new [] agrees.places refl;
+        answers = answers-after calls call ledger new f g c p [] agrees refl names (keeps-of f g extends) (answers-none new g (length calls));
+        block_count = count_blocks ledger.blocks ∙ agrees.block_count ∙ sym extends.block_count;
+        blocks = λ k t there.
+            let entry = state-entries calls ledger (name-number calls ledger f c p agrees) block name change named k t there in
+            subst (λ (s : BlockState). BlockAgrees (calls ++ call ∷ []) d k s) entry.2 (block_here k entry.0 (agrees.blocks k entry.0 entry.1) (k == block) refl);
+        block_answers = λ k x is.
+            answer-still ledger new [] x ABlock refl (agrees.block_answers k x (sym (changed-names ledger new name change (λ s. refl) refl k) ∙ is));
+        current = one-named-more (block_name ledger) (block_name new) ledger.current p names agrees.current;
+        layout = named-more (block_name ledger) (block_name new) ledger.layout f.layout names agrees.layout ∙ ap (map (block_name new)) (sym layout);
+        variables = agrees.variables ∙ sym variables;
+        structured = (
+          agrees.structured.0,
+          λ types are.
+              sealing.structured types agrees.structured.0 (agrees.structured.1 types (subst (λ (xs : List «Type»). AreTypesOf xs types) variables are)),
+        );
+        parameters = sealed_parameters calls ledger f c p agrees g d block told sealing consistent begins;
+        branches = sealed_branches calls ledger f c p agrees g d block told sealing consistent begins;
+        fresh = λ k above.
+            let past : length f.blocks ≤ k = omega (arith, above, extends.block_count) in
+            let exists : block < length f.blocks = block-exists calls ledger f c p agrees block name named in
+            let other : k ≢ block = omega (arith, past, exists) in (
+              sealing.sealed k ∙ if-no (k == block) true (is_yes (sealed_of c.ssa k)) (ne_eqb k block other) ∙ (agrees.fresh k past).0,
+              status_at k ∙ (agrees.fresh k past).1,
+              sealing.predecessors k ∙ (agrees.fresh k past).2,
+            );
+      }
 
 -- what comes of sealing
 pub sealed : {E : Type 0} (calls : List AnsweredCall) (f g : Body) (c d : ContextState) (p : Option ℕ) (name : Name) (block : ℕ) (r : Result (Unit {0}) E)
-    → LedgerAgrees calls (ledger_of calls) f c p → NamesBlock calls name block → OnOk r (g ≡ completed f (pending_of (sealed_of c.ssa block)))
-    → OnOk r (Seals c.ssa d.ssa block) → SameRecords c.ssa d.ssa → OnOk r (Begins c d (completing_blocks f (pending_of (sealed_of c.ssa block)))) → d.variables ≡ c.variables
+    → LedgerAgrees calls (ledger_of calls) f c p → NamesBlock calls name block
+    → OnOk r ((told : List ℕ) × IsSealing f c.ssa g d.ssa block told × Begins c d told) → IsConsistent g → d.variables ≡ c.variables
     → OnOk r (LedgerAgrees (calls ++ record { request = SealBlock name; numbers = [] } ∷ []) (ledger_of (calls ++ record { request = SealBlock name; numbers = [] } ∷ [])) g d p)
-sealed calls f g c d p name block (Err e) agrees names function seals records begins variables = tt
-sealed calls f g c d p name block (Ok done) agrees names function seals records begins variables =
+sealed calls f g c d p name block (Err e) agrees names seals consistent variables = tt
+sealed calls f g c d p name block (Ok done) agrees names seals consistent variables =
     let named = named-block calls (name-number calls (ledger_of calls) f c p agrees) name block names in
     concluded calls (record { request = SealBlock name; numbers = [] }) g d p
-    (agrees-sealed calls (ledger_of calls) f g c d p name block agrees named function seals records begins variables)
+    (agrees-sealed calls (ledger_of calls) f g c d p name block seals.0 agrees named seals.1 seals.2 consistent variables)
+
+-- the statuses after sealing
+pub sealed-statuses : {E : Type 0} (calls : List AnsweredCall) (f g : Body) (c d : ContextState) (p : Option ℕ) (block : ℕ) (r : Result (Unit {0}) E)
+    → LedgerAgrees calls (ledger_of calls) f c p → OnOk r ((told : List ℕ) × IsSealing f c.ssa g d.ssa block told × Begins c d told) → OnOk r (SameStatus c d)
+sealed-statuses calls f g c d p block (Err e) agrees seals = tt
+sealed-statuses calls f g c d p block (Ok done) agrees seals = sealed_status calls (ledger_of calls) f c p agrees g d block seals.0 seals.1 seals.2

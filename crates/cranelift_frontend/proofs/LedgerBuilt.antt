@@ -1,53 +1,97 @@
 -- An instruction is built: the agreement with the ledger is kept.
-use Rattle.std.proofs.Common.{◌≡◌, ℕ, List, [], ◌∷◌, ◌++◌, length, refl, sym, ◌∙◌, ap, subst, inl}
-use Rattle.std.specs.Prelude.{map, slice_get, Option, Some, option_map, true, IfSome, IfOk, Result, Ok, Err, ℤ}
+use Rattle.std.proofs.Common.{◌≡◌, ◌≢◌, ◌<◌, ◌+◌, ◌==◌, ℕ, suc, List, [], ◌∷◌, ◌++◌, length, refl, sym, ◌∙◌, ap, subst, arith, inl, inr, length-append}
+use Rattle.std.specs.Prelude.{map, slice_get, Option, Some, option_map, Bool, true, false, if◌then◌else◌, fold, All, Contains}
+use Rattle.std.proofs.lemmas.Bool.{eq-eqb, or_cases, or_left, or_right, eqb-true}
 use Rattle.std.proofs.lemmas.Option.{get_or_from_slice_get}
 use Rattle.clif_types.specs.declared.types.«Type».{«Type»}
-use Rattle.clif_types.specs.declared.types.«Type».TheVariants as type
 use Rattle.clif_ir.specs.declared.inst_list.BlockEnd.TheVariants.{Back}
 use Rattle.clif_ir.specs.declared.instructions.InstructionData.{InstructionData}
 use Rattle.clif_ir.specs.declared.function.ValueNode.{ValueNode}
 use Rattle.clif_ir.specs.declared.function.InstNode.{InstNode}
-use Rattle.clif_ir.specs.Body.{Body, value_at, no_value}
+use Rattle.clif_ir.specs.declared.block_call.BlockCall.{BlockCall}
+use Rattle.clif_ir.specs.Body.{Body, inst_at, no_inst}
 use Rattle.clif_ir.specs.Changes.{inserted_in, with_inst, inst_node}
-use Rattle.clif_ir.specs.declared.instructions.BinaryOpcode.TheVariants as binary
-use Rattle.clif_ir.specs.declared.instructions.InstructionData.TheVariants.{UnaryImm, Binary, MultiAry}
+use Rattle.clif_ir.specs.Consistent.{IsConsistent}
+use Rattle.clif_ir.specs.Instruction.{destinations}
+use Rattle.clif_ir.specs.Reading.{stands_in, targets}
+use Rattle.clif_paths.proofs.Tables.{updated-same}
 use Rattle.clif_meaning.specs.Name.{Name}
-use Rattle.clif_meaning.specs.Instruction.{Arithmetic, Iconst, Iadd, Isub, Compute, Return}
-use Rattle.clif_meaning.specs.Request.{AnsweredCall, Build, Request}
+use Rattle.clif_meaning.specs.Instruction.{Arithmetic, Iconst, Iadd, Isub, Compute, Instruction}
+use Rattle.clif_meaning.specs.Request.{AnsweredCall, Build, Request, number_of}
 use Rattle.clif_meaning.specs.Program as program
-use Rattle.clif_meaning.specs.Ledger.{AValue, AnInstruction, BlockState, Ledger, ledger_with, with_begun, with_filled_at, with_state, or_invalid, type_of}
-use Rattle.clif_meaning.specs.Acceptance as acceptance
+use Rattle.clif_meaning.specs.Ledger.{Answered, AValue, AnInstruction, BlockState, Ledger, is_terminator, ledger_with, next_answer, with_begun, with_filled_at, with_predecessor, with_state}
+use Rattle.clif_meaning.proofs.CallLists as earlier
+use Rattle.clif_ssa.specs.Own.{Own}
 use Rattle.clif_ssa.specs.Tables.{is_yes}
-use Rattle.clif_ssa.specs.Ssa.{SsaState, no_srcloc, record_of, sealed_of}
+use Rattle.clif_ssa.specs.LookUp.{branch_block}
+use Rattle.clif_ssa.specs.Sound.{args_of}
+use Rattle.clif_ssa.specs.SoundLaws.{shape_passes, with_own}
+use Rattle.clif_ssa.specs.Ssa.{SsaState, no_srcloc, predecessors_of, sealed_of}
+use Rattle.clif_ssa.specs.Structured.{Structured, VariableTypes}
+use Rattle.clif_ssa.proofs.Bodies.{firm_from}
+use Rattle.clif_ssa.proofs.Completing.{inserted_firm, inserted_same}
+use Rattle.clif_ssa.proofs.Ordering.{contains_cons, none_contained}
+use Rattle.clif_ssa.proofs.StructuredLaws.{inserted_structured, instruction_structured}
+use Rattle.clif_simulation.proofs.Telling.{MayLead, along_structured}
 use Rattle.cranelift_frontend.specs.declared.context.BlockStatus.{BlockStatus}
-use Rattle.cranelift_frontend.specs.declared.context.BlockStatus.TheVariants.{Filled}
-use Rattle.cranelift_frontend.specs.declared.builder.FunctionBuilder.{FunctionBuilder}
+use Rattle.cranelift_frontend.specs.declared.context.BlockStatus.TheVariants.{Empty, Filled}
 use Rattle.cranelift_frontend.specs.Context.{ContextState, status_of, begun, SetsStatus}
-use Rattle.cranelift_frontend.specs.Builder.{Appends, AppendsValue, HasCurrent}
-use Rattle.cranelift_frontend.specs.Ledger.{LedgerAgrees, AgreesWithLedger, NamesValue, block_name, value_type, ledger_of}
-use Rattle.cranelift_frontend.proofs.LedgerLists.{get-last, name-of-some, map-some}
-use Rattle.cranelift_frontend.proofs.LedgerNames.{state-twice}
-use Rattle.cranelift_frontend.proofs.LedgerKept.{Continues, Extends-then, Extends-inserted, Continues-inst, home-inserted, inserted-values, inserted-insts, answers-one, answers-two, concluded, named-value}
-use Rattle.cranelift_frontend.proofs.LedgerMade.{ChangeAgrees, MadeLedger, Makes, agrees-made, begun-ledger, unpristine}
+use Rattle.cranelift_frontend.specs.Builder.{CanLeadIn}
+use Rattle.cranelift_frontend.specs.Construction.{IsDeclared}
+use Rattle.cranelift_frontend.specs.Ledger.{AreTypesOf, IsEnded, IsStructured, LedgerAgrees, NamesEdges, block_name, value_type, ledger_of}
+use Rattle.cranelift_frontend.proofs.LedgerLists.{get-last, name-of-some}
+use Rattle.cranelift_frontend.proofs.LedgerNames.{name-number, state-twice}
+use Rattle.cranelift_frontend.proofs.LedgerKept.{Continues, Extends, Extends-then, Extends-inserted, Continues-inst, branch-kept, home-inserted, inserted-insts, inserted-values, keeps-of, answers-one, answers-two}
+use Rattle.cranelift_frontend.proofs.LedgerMade.{ChangeAgrees, MadeLedger, Makes, agrees-made, begun-ledger, begun-still, changed-names, ended-here, ended-still, unpristine}
 use Rattle.cranelift_frontend.proofs.LedgerUsed.{begun-agrees, begun-not-empty}
+use Rattle.cranelift_frontend.proofs.LedgerLeads.{LedLedger, lead-still, lead-to, led-ledger}
+use Rattle.cranelift_frontend.proofs.LedgerBranched.{agrees-led}
+use Rattle.cranelift_frontend.proofs.Placed.{branch_exists}
+
+-- what the caller made, with one more instruction
+pub appended-structured : (types : VariableTypes) (own : Own) (f : Body) (s : SsaState) (block : ℕ) (shape : InstructionData) (results : List «Type») → IsConsistent f → block < length f.blocks
+    → Structured types own f s []
+    → Structured types (with_own own block (length (inserted_in f block).insts) shape) (with_inst (inserted_in f block) block Back shape results no_srcloc) s []
+appended-structured types own f s block shape results consistent exists before =
+    let below : block < length (inserted_in f block).blocks = omega (arith, exists, ap length (inserted_same f block).blocks) in
+    instruction_structured types own (inserted_in f block) s block shape results no_srcloc (inserted_firm f block (firm_from f consistent)) below
+    (inserted_structured types own f s block before)
+
+appended-is-structured : (f g : Body) (c d : ContextState) (block : ℕ) (shape : InstructionData) (results : List «Type») → IsConsistent f → block < length f.blocks
+    → g ≡ with_inst (inserted_in f block) block Back shape results no_srcloc → d.ssa ≡ c.ssa → d.variables ≡ c.variables → IsStructured f c → IsStructured g d
+appended-is-structured f g c d block shape results consistent exists function ssa variables before =
+    let own : Own = with_own before.0 block (length (inserted_in f block).insts) shape in (
+      own,
+      λ types are.
+          subst (λ (s : SsaState). Structured types own g s []) (sym ssa)
+          (subst (λ (h : Body). Structured types own h c.ssa []) (sym function)
+          (appended-structured types before.0 f c.ssa block shape results consistent exists (before.1 types (subst (λ (xs : List «Type»). AreTypesOf xs types) variables are)))),
+    )
 
 -- what an appended instruction makes
-pub appends-make : (f g : Body) (c d : ContextState) (block : ℕ) (shape : InstructionData) (types : List «Type»)
-    → g ≡ with_inst (inserted_in f block) block Back shape types no_srcloc → d.ssa ≡ c.ssa → d.variables ≡ c.variables → Makes f c g d block
-appends-make f g c d block shape types function ssa variables =
+pub appends-make : (calls : List AnsweredCall) (ledger : Ledger) (f g : Body) (c d : ContextState) (p : Option ℕ) (block : ℕ) (shape : InstructionData) (types : List «Type») (status : BlockStatus)
+    → LedgerAgrees calls ledger f c p → IsConsistent f → block < length f.blocks
+    → g ≡ with_inst (inserted_in f block) block Back shape types no_srcloc → SetsStatus c d block status → status ≢ Empty → (status_of c block ≡ Filled → status ≡ Filled)
+    → d.ssa ≡ c.ssa → d.variables ≡ c.variables → Makes f c g d block
+appends-make calls ledger f g c d p block shape types status agrees consistent exists function sets some stays ssa variables =
     let made : Continues (inserted_in f block) g = subst (Continues (inserted_in f block)) (sym function) (Continues-inst (inserted_in f block) block Back shape types no_srcloc) in
+    let extends : Extends f g = Extends-then f (inserted_in f block) g (Extends-inserted f block) made.extends in
     record {
-      extends = Extends-then f (inserted_in f block) g (Extends-inserted f block) made.extends;
+      extends = extends;
       layout = made.layout;
-      homes = λ v h is. inl (home-inserted f block v h (made.homes v h is));
       sealed = λ b. ap (λ (s : SsaState). is_yes (sealed_of s b)) ssa;
+      predecessors = λ b. ap (λ (s : SsaState). predecessors_of s b) ssa;
       variables = variables;
-      recorded = λ v b x is. inl (ap (λ (s : SsaState). record_of s v b) (sym ssa) ∙ is);
+      structured = appended-is-structured f g c d block shape types consistent exists function ssa variables agrees.structured;
+      parameters = λ v h is. begun-still f g c d block status made.layout sets some h (agrees.parameters v h (home-inserted f block v h (made.homes v h is)));
+      branches = λ b i leads.
+          let before : Contains (predecessors_of c.ssa b) i = subst (λ (s : SsaState). Contains (predecessors_of s b) i) ssa leads in
+          let same : branch_block g i ≡ branch_block f i = branch-kept f g (keeps-of f g extends) i (branch_exists calls ledger f c p agrees b i before) in
+          subst (IsEnded g d) (sym same) (ended-still f g c d block status made.layout sets stays (branch_block f i) (agrees.branches b i before));
     }
 
 -- the node of an appended instruction
-node-there : (f g : Body) (block : ℕ) (shape : InstructionData) (types : List «Type»)
+pub node-there : (f g : Body) (block : ℕ) (shape : InstructionData) (types : List «Type»)
     → g ≡ with_inst (inserted_in f block) block Back shape types no_srcloc
     → slice_get g.insts (length f.insts) ≡ Some (inst_node (inserted_in f block) block shape types no_srcloc)
 node-there f g block shape types function =
@@ -66,11 +110,11 @@ result-type f g block shape ty function =
 -- an instruction that computes a value
 pub agrees-computed : (calls : List AnsweredCall) (ledger : Ledger) (f g : Body) (c d : ContextState) (p : Option ℕ) (block : ℕ) (shape : InstructionData)
     (arithmetic : Arithmetic) (ty : «Type») (operands : List Name) (inst value : ℕ)
-    → LedgerAgrees calls ledger f c p → p ≡ Some block → g ≡ with_inst (inserted_in f block) block Back shape (ty ∷ []) no_srcloc
+    → LedgerAgrees calls ledger f c p → p ≡ Some block → IsConsistent f → block < length f.blocks → g ≡ with_inst (inserted_in f block) block Back shape (ty ∷ []) no_srcloc
     → SetsStatus c d block (begun (status_of c block)) → d.ssa ≡ c.ssa → d.variables ≡ c.variables → inst ≡ length f.insts → value ≡ length f.values
     → LedgerAgrees (calls ++ record { request = Build (record { operation = Compute arithmetic; controlling = ty; operands = operands; edges = [] }); numbers = inst ∷ value ∷ [] } ∷ [])
     (ledger_with ledger (Build (record { operation = Compute arithmetic; controlling = ty; operands = operands; edges = [] }))) g d p
-agrees-computed calls ledger f g c d p block shape arithmetic ty operands inst value agrees at function sets ssa variables is_inst is_value =
+agrees-computed calls ledger f g c d p block shape arithmetic ty operands inst value agrees at consistent exists function sets ssa variables is_inst is_value =
     let request : Request = Build (record { operation = Compute arithmetic; controlling = ty; operands = operands; edges = [] }) in
     let call : AnsweredCall = record { request = request; numbers = inst ∷ value ∷ [] } in
     let current = name-of-some (block_name ledger) ledger.current block (agrees.current ∙ ap (option_map (block_name ledger)) at) in
@@ -83,7 +127,8 @@ agrees-computed calls ledger f g c d p block shape arithmetic ty operands inst v
     let results : node.results ≡ value ∷ [] = ap (λ (n : ℕ). n ∷ []) (inserted-values f block ∙ sym is_value) in
     agrees-made calls call ledger new f g c d p block current.0 unpristine (begun (status_of c block)) (AnInstruction ∷ AValue ty ∷ []) agrees current.2
     (ap (λ (types : List «Type»). ledger.answers ++ (AnInstruction ∷ map AValue types) ∷ []) (types_of arithmetic)) changed
-    (begun-agrees (status_of c block)) (begun-not-empty (status_of c block)) sets (appends-make f g c d block shape (ty ∷ []) function ssa variables)
+    (begun-agrees (status_of c block)) sets
+    (appends-make calls ledger f g c d p block shape (ty ∷ []) (begun (status_of c block)) agrees consistent exists function sets (begun-not-empty (status_of c block)) (λ filled. ap begun filled) ssa variables)
     (answers-two new g (length calls) inst value node ty there results (ap (value_type g) is_value ∙ result-type f g block shape ty function))
   where
     types_of : (a : Arithmetic) → program.result_types (Compute a) ty ≡ ty ∷ []
@@ -119,84 +164,132 @@ filled-ledger ledger name current =
       variables = begins.variables;
     })
 
--- a return
-pub agrees-returned : (calls : List AnsweredCall) (ledger : Ledger) (f g : Body) (c d : ContextState) (p : Option ℕ) (block : ℕ) (shape : InstructionData)
-    (controlling : «Type») (operands : List Name) (inst : ℕ)
-    → LedgerAgrees calls ledger f c p → p ≡ Some block → g ≡ with_inst (inserted_in f block) block Back shape [] no_srcloc
-    → SetsStatus c d block Filled → d.ssa ≡ c.ssa → d.variables ≡ c.variables → inst ≡ length f.insts
-    → LedgerAgrees (calls ++ record { request = Build (record { operation = Return; controlling = controlling; operands = operands; edges = [] }); numbers = inst ∷ [] } ∷ [])
-    (ledger_with ledger (Build (record { operation = Return; controlling = controlling; operands = operands; edges = [] }))) g d p
-agrees-returned calls ledger f g c d p block shape controlling operands inst agrees at function sets ssa variables is_inst =
-    let request : Request = Build (record { operation = Return; controlling = controlling; operands = operands; edges = [] }) in
-    let call : AnsweredCall = record { request = request; numbers = inst ∷ [] } in
-    let current = name-of-some (block_name ledger) ledger.current block (agrees.current ∙ ap (option_map (block_name ledger)) at) in
-    let new : Ledger = ledger_with ledger request in
-    let fills = filled-ledger ledger current.0 current.1 in
-    let changed : MadeLedger ledger new current.0 (λ (t : BlockState). filled (unpristine t)) =
-    record { blocks = fills.blocks; layout = fills.layout; current = fills.current; variables = fills.variables } in
-    let node : InstNode = inst_node (inserted_in f block) block shape [] no_srcloc in
-    let there : slice_get g.insts inst ≡ Some node = ap (slice_get g.insts) is_inst ∙ node-there f g block shape [] function in
-    agrees-made calls call ledger new f g c d p block current.0 (λ (t : BlockState). filled (unpristine t)) Filled (AnInstruction ∷ []) agrees current.2
-    refl changed (filled-agrees (status_of c block)) (λ same. cc) sets (appends-make f g c d block shape [] function ssa variables)
-    (answers-one new g (length calls) AnInstruction inst (node, there) (node, there, refl))
+-- A TERMINATOR ------------------------------------------------------------------------------------------------------
 
--- what was appended in the current block
-appended-value : (old new : FunctionBuilder) (block : ℕ) (shape : InstructionData) (ty : «Type») (value : ℕ) → old.position ≡ Some block
-    → IfSome old.position (λ block. AppendsValue old new block shape ty value) → AppendsValue old new block shape ty value
-appended-value old new block shape ty value at appends = subst (λ (o : Option ℕ). IfSome o (λ block. AppendsValue old new block shape ty value)) at appends
+contained-stands : (xs : List ℕ) (x : ℕ) → Contains xs x → stands_in x xs ≡ true
+contained-stands [] x here = absurd (none_contained x here)
+contained-stands (y ∷ xs) x here =
+    elim (contains_cons y xs x here) [
+      | inl same ↦ or_left (y == x) (stands_in x xs) (eq-eqb y x same)
+      | inr later ↦ or_right (y == x) (stands_in x xs) (contained-stands xs x later)
+    ]
 
--- `iconst` by a builder
-pub built-iconst : (calls : List AnsweredCall) (old new : FunctionBuilder) (ty : «Type») (imm : ℤ) (value : ℕ)
-    → AgreesWithLedger calls old → HasCurrent old → IfSome old.position (λ block. AppendsValue old new block (UnaryImm imm) ty value)
-    → new.ctx.now.ssa ≡ old.ctx.now.ssa → new.ctx.now.variables ≡ old.ctx.now.variables → new.position ≡ old.position
-    → AgreesWithLedger (calls ++ record { request = acceptance.iconst ty imm; numbers = length old.func.now.insts ∷ value ∷ [] } ∷ []) new
-built-iconst calls old new ty imm value agrees current appends ssa variables position =
-    let call : AnsweredCall = record { request = acceptance.iconst ty imm; numbers = length old.func.now.insts ∷ value ∷ [] } in
-    let here = appended-value old new current.0 (UnaryImm imm) ty value current.1 appends in
-    subst (λ (o : Option ℕ). LedgerAgrees (calls ++ call ∷ []) (ledger_of (calls ++ call ∷ [])) new.func.now new.ctx.now o) (sym position)
-    (concluded calls call new.func.now new.ctx.now old.position
-    (agrees-computed calls (ledger_of calls) old.func.now new.func.now old.ctx.now new.ctx.now old.position current.0 (UnaryImm imm) (Iconst imm) ty [] (length old.func.now.insts) value
-    agrees current.1 here.0.function here.0.status ssa variables refl here.1))
+-- an edge that may be made leads to an unsealed block
+pub unsealed-target : (f : Body) (c : ContextState) (edges : List BlockCall) → All (CanLeadIn f c) edges → (x : ℕ) → stands_in x (targets edges) ≡ true → is_yes (sealed_of c.ssa x) ≡ false
+unsealed-target f c [] may x there = let no_way : ⊥ = cc in absurd no_way
+unsealed-target f c (edge ∷ edges) may x there =
+    elim (or_cases (edge.block == x) (stands_in x (targets edges)) there) [
+      | inl here ↦ subst (λ (n : ℕ). is_yes (sealed_of c.ssa n) ≡ false) (eqb-true edge.block x here) (may 0 edge (omega arith)).1
+      | inr later ↦ unsealed-target f c edges (λ k e below. may (suc k) e (omega (arith, below))) x later
+    ]
 
--- `iadd` by a builder, of any values with these names
-pub built-iadd : (calls : List AnsweredCall) (old new : FunctionBuilder) (a b : Name) (x y value : ℕ)
-    → AgreesWithLedger calls old → NamesValue calls a x → NamesValue calls b y → HasCurrent old
-    → IfSome old.position (λ block. AppendsValue old new block (Binary binary.Iadd (x ∷ y ∷ [])) (value_at old.func.now x).ty value)
-    → new.ctx.now.ssa ≡ old.ctx.now.ssa → new.ctx.now.variables ≡ old.ctx.now.variables → new.position ≡ old.position
-    → AgreesWithLedger (calls ++ record { request = acceptance.iadd (ledger_of calls) a b; numbers = length old.func.now.insts ∷ value ∷ [] } ∷ []) new
-built-iadd calls old new a b x y value agrees first second current appends ssa variables position =
-    let ty : «Type» = (value_at old.func.now x).ty in
-    let shape : InstructionData = Binary binary.Iadd (x ∷ y ∷ []) in
-    let here = appended-value old new current.0 shape ty value current.1 appends in
-    let named = named-value calls (ledger_of calls) old.func.now old.ctx.now old.position agrees a x first.number first.is_value in
-    let node = map-some (λ (n : ValueNode). n.ty) (slice_get old.func.now.values x) named.0 named.2 in
-    let typed : ty ≡ named.0 = ap (λ (n : ValueNode). n.ty) (get_or_from_slice_get old.func.now.values x node.0 no_value node.1) ∙ node.2 in
-    let controls : ty ≡ or_invalid (type_of (ledger_of calls) a) = typed ∙ ap or_invalid (sym named.1) in
-    let after = agrees-computed calls (ledger_of calls) old.func.now new.func.now old.ctx.now new.ctx.now old.position current.0 shape Iadd ty (a ∷ b ∷ []) (length old.func.now.insts) value
-    agrees current.1 here.0.function here.0.status ssa variables refl here.1 in
-    let Call : «Type» → AnsweredCall = λ t. record { request = Build (record { operation = Compute Iadd; controlling = t; operands = a ∷ b ∷ []; edges = [] }); numbers = length old.func.now.insts ∷ value ∷ [] } in
-    subst (λ (t : «Type»). AgreesWithLedger (calls ++ Call t ∷ []) new) controls
-    (subst (λ (o : Option ℕ). LedgerAgrees (calls ++ Call ty ∷ []) (ledger_of (calls ++ Call ty ∷ [])) new.func.now new.ctx.now o) (sym position)
-    (concluded calls (Call ty) new.func.now new.ctx.now old.position after))
+module _ (calls : List AnsweredCall) (f g : Body) (c d : ContextState) (p : Option ℕ) (block : ℕ) (shape : InstructionData) (instruction : Instruction Name Name) (inst : ℕ)
+    (agrees : LedgerAgrees calls (ledger_of calls) f c p) (at : p ≡ Some block) (consistent : IsConsistent f) (exists : block < length f.blocks) (open_in : status_of c block ≢ Filled)
+    (function : g ≡ with_inst (inserted_in f block) block Back shape [] no_srcloc) (sets : SetsStatus c d block Filled) (variables : d.variables ≡ c.variables) (is_inst : inst ≡ length f.insts)
+    (names : NamesEdges calls instruction.edges (destinations shape)) (may : All (CanLeadIn f c) (destinations shape)) (declared : IsDeclared c.ssa inst (targets (destinations shape)) d.ssa) where
+  abbrev ledger : Ledger
+  ledger = ledger_of calls
 
--- `return` by a builder, of any values
-pub built-return : (calls : List AnsweredCall) (old new : FunctionBuilder) (names : List Name) (values : List ℕ) (inst : ℕ)
-    → AgreesWithLedger calls old → HasCurrent old → IfSome old.position (λ block. Appends old new block (MultiAry values) type.Invalid inst)
-    → new.ctx.now.ssa ≡ old.ctx.now.ssa → new.ctx.now.variables ≡ old.ctx.now.variables → new.position ≡ old.position
-    → AgreesWithLedger (calls ++ record { request = acceptance.return_ names; numbers = inst ∷ [] } ∷ []) new
-built-return calls old new names values inst agrees current appends ssa variables position =
-    let call : AnsweredCall = record { request = acceptance.return_ names; numbers = inst ∷ [] } in
-    let here : Appends old new current.0 (MultiAry values) type.Invalid inst =
-    subst (λ (o : Option ℕ). IfSome o (λ block. Appends old new block (MultiAry values) type.Invalid inst)) current.1 appends in
-    subst (λ (o : Option ℕ). LedgerAgrees (calls ++ call ∷ []) (ledger_of (calls ++ call ∷ [])) new.func.now new.ctx.now o) (sym position)
-    (concluded calls call new.func.now new.ctx.now old.position
-    (agrees-returned calls (ledger_of calls) old.func.now new.func.now old.ctx.now new.ctx.now old.position current.0 (MultiAry values) type.Invalid names inst
-    agrees current.1 here.function here.status ssa variables here.number))
+  abbrev call : AnsweredCall
+  call = record { request = Build instruction; numbers = inst ∷ [] }
 
--- what comes of a `return`
-pub returned : {E : Type 0} (calls : List AnsweredCall) (old new : FunctionBuilder) (names : List Name) (values : List ℕ) (r : Result ℕ E)
-    → AgreesWithLedger calls old → HasCurrent old → IfSome old.position (λ block. IfOk r (λ inst. Appends old new block (MultiAry values) type.Invalid inst))
-    → new.ctx.now.ssa ≡ old.ctx.now.ssa → new.ctx.now.variables ≡ old.ctx.now.variables → new.position ≡ old.position
-    → IfOk r (λ inst. AgreesWithLedger (calls ++ record { request = acceptance.return_ names; numbers = inst ∷ [] } ∷ []) new)
-returned calls old new names values (Err e) agrees current appends ssa variables position = tt
-returned calls old new names values (Ok inst) agrees current appends ssa variables position = built-return calls old new names values inst agrees current appends ssa variables position
+  -- the context before the branch is declared
+  abbrev undeclared : ContextState
+  undeclared = record d { ssa = c.ssa }
+
+  -- and the ledger
+  abbrev ended_ledger : Ledger
+  ended_ledger = with_filled_at (with_begun ledger) (with_begun ledger).current
+
+  abbrev answered : List (List Answered)
+  answered = ledger.answers ++ (AnInstruction ∷ []) ∷ []
+
+  abbrev node : InstNode
+  node = inst_node (inserted_in f block) block shape [] no_srcloc
+
+  there : slice_get g.insts inst ≡ Some node
+  there = ap (slice_get g.insts) is_inst ∙ node-there f g block shape [] function
+
+  node_is : inst_at g inst ≡ node
+  node_is = get_or_from_slice_get g.insts inst node no_inst there
+
+  some : Filled ≢ Empty
+  some is = cc
+
+  makes : Makes f c g undeclared block
+  makes = appends-make calls ledger f g c undeclared p block shape [] Filled agrees consistent exists function sets some (λ filled. refl) refl variables
+
+  current : (x : Name) × (ledger.current ≡ Some x) × (block_name ledger block ≡ Some x)
+  current = name-of-some (block_name ledger) ledger.current block (agrees.current ∙ ap (option_map (block_name ledger)) at)
+
+  changed : MadeLedger ledger (record ended_ledger { answers = answered }) current.0 (λ (t : BlockState). filled (unpristine t))
+  changed =
+      let fills = filled-ledger ledger current.0 current.1 in
+      record { blocks = fills.blocks; layout = fills.layout; current = fills.current; variables = fills.variables }
+
+  -- the ledger agrees before the branch is declared
+  ended : LedgerAgrees (calls ++ call ∷ []) (record ended_ledger { answers = answered }) g undeclared p
+  ended =
+      agrees-made calls call ledger (record ended_ledger { answers = answered }) f g c undeclared p block current.0 (λ (t : BlockState). filled (unpristine t)) Filled (AnInstruction ∷ [])
+      agrees current.2 refl changed (filled-agrees (status_of c block)) sets makes
+      (answers-one (record ended_ledger { answers = answered }) g (length calls) AnInstruction inst (node, there) (node, there, refl))
+
+  number : number_of (calls ++ call ∷ []) (next_answer ledger) ≡ Some inst
+  number = ap (λ (n : ℕ). number_of (calls ++ call ∷ []) (record { place = n; index = 0 })) agrees.places ∙ earlier.new calls call 0
+
+  is_new : (b : ℕ) → Contains (predecessors_of c.ssa b) inst → ⊥
+  is_new b here = omega (arith, branch_exists calls ledger f c p agrees b inst here, is_inst)
+
+  -- the branch stands in the block
+  stands : branch_block g inst ≡ block
+  stands = ap (λ (n : InstNode). n.block) node_is
+
+  may_lead : (x : ℕ) → Contains declared.told x → MayLead g c.ssa inst x
+  may_lead x here = record {
+    unsealed = unsealed-target f c (destinations shape) may x (sym (declared.each x) ∙ contained-stands declared.told x here);
+    apart = λ j leads same.
+        let stays : branch_block g j ≡ branch_block f j = branch-kept f g (keeps-of f g makes.extends) j (branch_exists calls ledger f c p agrees x j leads) in
+        let is_block : branch_block f j ≡ block = sym stays ∙ same ∙ stands in
+        open_in (ap (status_of c) (sym is_block) ∙ (agrees.branches x j leads).filled);
+  }
+
+  structured : IsStructured g d
+  structured =
+      let own : Own = with_own agrees.structured.0 block (length (inserted_in f block).insts) shape in
+      let same : inst ≡ length (inserted_in f block).insts = is_inst ∙ sym (inserted-insts f block) in
+      let more : length g.insts ≡ length (inserted_in f block).insts + 1 = ap (λ (h : Body). length h.insts) function ∙ length-append (inserted_in f block).insts (node ∷ []) in (
+        own,
+        λ types are.
+            along_structured declared.told types own g c.ssa d.ssa inst (omega (arith, same, more)) declared.once may_lead
+            (λ k. ap (λ (n : InstNode). args_of (slice_get (destinations n.shape) k)) node_is
+            ∙ ap (λ passes. passes k) (sym (updated-same (agrees.structured.0).passed (length (inserted_in f block).insts) (shape_passes shape) inst same)))
+            declared.along (subst (λ (h : Body). Structured types own h c.ssa []) (sym function)
+            (appended-structured types agrees.structured.0 f c.ssa block shape [] consistent exists
+            (agrees.structured.1 types (subst (λ (xs : List «Type»). AreTypesOf xs types) variables are)))),
+      )
+
+  led : LedLedger (record ended_ledger { answers = answered }) (record (fold (with_predecessor (next_answer ledger)) ended_ledger instruction.edges) { answers = answered })
+      (next_answer ledger) instruction.edges
+  led =
+      let all = led-ledger (next_answer ledger) instruction.edges ended_ledger in
+      record { answers = refl; blocks = all.blocks; layout = all.layout; current = all.current; variables = all.variables }
+
+  declares : LedgerAgrees (calls ++ call ∷ []) (record (fold (with_predecessor (next_answer ledger)) ended_ledger instruction.edges) { answers = answered }) g d p
+  declares =
+      agrees-led (calls ++ call ∷ []) (record ended_ledger { answers = answered }) (record (fold (with_predecessor (next_answer ledger)) ended_ledger instruction.edges) { answers = answered })
+      g undeclared d p (next_answer ledger) inst instruction.edges (destinations shape) ended number is_new led
+      (lead-still ledger (record ended_ledger { answers = answered }) instruction.edges (destinations shape)
+      (λ k x is. changed-names ledger (record ended_ledger { answers = answered }) current.0 (λ (t : BlockState). filled (unpristine t)) (λ s. refl) changed.blocks k ∙ is)
+      (lead-to calls instruction.edges (destinations shape) (name-number calls ledger f c p agrees) names))
+      declared (λ b. refl) refl structured (subst (IsEnded g d) (sym stands) (ended-here f g c d block makes.layout sets))
+
+  -- a terminator, with its edges
+  pub agrees-ended : is_terminator instruction.operation ≡ true → program.result_types instruction.operation instruction.controlling ≡ []
+      → LedgerAgrees (calls ++ call ∷ []) (ledger_with ledger (Build instruction)) g d p
+  agrees-ended ends none =
+      subst (λ (types : List «Type»). LedgerAgrees (calls ++ call ∷ [])
+      (record (fold (with_predecessor (next_answer ledger)) (if is_terminator instruction.operation then ended_ledger else with_begun ledger) instruction.edges) { answers = ledger.answers ++ (AnInstruction ∷ map AValue types) ∷ [] }) g d p)
+      (sym none)
+      (subst (λ (t : Bool). LedgerAgrees (calls ++ call ∷ [])
+      (record (fold (with_predecessor (next_answer ledger)) (if t then ended_ledger else with_begun ledger) instruction.edges) { answers = answered }) g d p)
+      (sym ends) declares)

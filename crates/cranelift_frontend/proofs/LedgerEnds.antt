@@ -11,6 +11,9 @@ use Rattle.clif_meaning.specs.Acceptance.{Refusal, refusal_of, is_unfinished, un
 use Rattle.clif_meaning.specs.Acceptance as refusal
 use Rattle.clif_ssa.specs.Tables.{is_yes}
 use Rattle.clif_ssa.specs.Ssa.{sealed_of}
+use Rattle.clif_ssa.specs.Own.{no_own}
+use Rattle.clif_ssa.proofs.Ordering.{none_contained}
+use Rattle.clif_ssa.proofs.StructuredLaws.{first_structured}
 use Rattle.cranelift_frontend.specs.declared.context.BlockStatus.{BlockStatus}
 use Rattle.cranelift_frontend.specs.declared.context.BlockStatus.TheVariants.{Empty, Partial, Filled}
 use Rattle.cranelift_frontend.specs.declared.error.FinalizeError.{FinalizeError}
@@ -32,16 +35,17 @@ agrees-empty name signature =
       current = refl;
       layout = refl;
       variables = refl;
-      recorded = λ v b x is. absurd (none-some x is);
+      structured = (no_own, λ types are. first_structured types name signature);
       parameters = λ v b is. absurd (none-some b is);
-      fresh = λ k above. (refl, refl);
+      branches = λ b branch leads. absurd (none_contained branch leads);
+      fresh = λ k above. (refl, refl, refl);
     }
 
-pub begins-empty : (b : FunctionBuilder) → b.func.now ≡ empty_body b.func.now.name b.func.now.signature → b.ctx.now ≡ empty_context → b.position ≡ None → AgreesWithLedger [] b
-begins-empty b function context position =
-    subst (λ (f : Body). LedgerAgrees [] empty_ledger f b.ctx.now b.position) (sym function)
-    (subst (λ (c : ContextState). LedgerAgrees [] empty_ledger (empty_body b.func.now.name b.func.now.signature) c b.position) (sym context)
-    (subst (λ (p : Option ℕ). LedgerAgrees [] empty_ledger (empty_body b.func.now.name b.func.now.signature) empty_context p) (sym position) (agrees-empty b.func.now.name b.func.now.signature)))
+pub begins-empty : (f : Body) (c : ContextState) (p : Option ℕ) → f ≡ empty_body f.name f.signature → c ≡ empty_context → p ≡ None → LedgerAgrees [] empty_ledger f c p
+begins-empty f c p function context position =
+    subst (λ (h : Body). LedgerAgrees [] empty_ledger h c p) (sym function)
+    (subst (λ (d : ContextState). LedgerAgrees [] empty_ledger (empty_body f.name f.signature) d p) (sym context)
+    (subst (λ (o : Option ℕ). LedgerAgrees [] empty_ledger (empty_body f.name f.signature) empty_context o) (sym position) (agrees-empty f.name f.signature)))
 
 -- what one block lacks, and then what the next ones do
 one-block : (calls : List AnsweredCall) (state : BlockState) (k : ℕ) (status : BlockStatus) (sealed : Bool) (next : Option BlockState) (rest : Option FinalizeError)

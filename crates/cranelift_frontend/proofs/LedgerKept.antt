@@ -2,7 +2,7 @@
 use Rattle.std.proofs.Common.{◌≡◌, ◌+◌, ◌<◌, ℕ, zero, suc, List, [], ◌∷◌, ◌++◌, length, refl, sym, ◌∙◌, ap, subst, arith, ◌⊎◌, inl, inr, length-append, length-set}
 use Rattle.std.specs.Prelude.{fold, slice_get, slice_index_or, slice_set, Option, Some, None, option_map, option_and_then, Bool, true, false, if◌then◌else◌, ◌==◌, ◌||◌}
 use Rattle.std.specs.Option.{option_to_list}
-use Rattle.std.proofs.lemmas.Option.{slice_get_within, same_Some, none-some}
+use Rattle.std.proofs.lemmas.Option.{get_or_from_slice_get, slice_get-get_or, slice_get_within, same_Some, none-some}
 use Rattle.std.proofs.lemmas.Bool.{eq-eqb, or_left, or_right, or_cases, eqb-true}
 use Rattle.std.proofs.lemmas.List.{map_push}
 use Rattle.clif_types.specs.declared.types.«Type».{«Type»}
@@ -13,13 +13,15 @@ use Rattle.clif_ir.specs.declared.function.ValueNode.{ValueNode}
 use Rattle.clif_ir.specs.declared.function.ValueOrigin.{ValueOrigin}
 use Rattle.clif_ir.specs.declared.function.ValueOrigin.TheVariants.{Alias}
 use Rattle.clif_ir.specs.declared.function.InstNode.{InstNode}
-use Rattle.clif_ir.specs.Body.{Body, value_at, resolved}
-use Rattle.clif_ir.specs.Changes.{inserted_in, with_layout, with_param, with_inst, with_alias, result_nodes}
+use Rattle.clif_ir.specs.Body.{Body, inst_at, value_at, no_inst, no_value, resolved}
+use Rattle.clif_ir.specs.Changes.{inserted_in, with_block, with_layout, with_param, with_inst, with_alias, result_nodes}
 use Rattle.clif_ir.specs.Reading.{param_home, home_of_node, stands_in}
 use Rattle.clif_meaning.specs.Name.{Name, answer_of}
 use Rattle.clif_meaning.specs.Request.{AnsweredCall, script_of, number_of}
 use Rattle.clif_meaning.specs.Ledger.{Answered, ABlock, AVariable, AValue, AnInstruction, Ledger, ledger_with, empty_ledger, answer_at, value_answer_type, type_of, has_value}
 use Rattle.clif_ssa.specs.declared.tables.Pending.{Pending}
+use Rattle.clif_ssa.specs.Constructs.{MayPassMore, OnlyConstructs}
+use Rattle.clif_ssa.specs.LookUp.{branch_block}
 use Rattle.clif_ssa.specs.Ssa.{no_srcloc, with_zero, zeroed, zeroed_in, completed, completing_blocks}
 use Rattle.cranelift_frontend.specs.Ledger.{AnswerAgrees, ResultsFollow, AnswersAgree, LedgerAgrees, block_name, value_type, ledger_of}
 use Rattle.cranelift_frontend.specs.Context.{ContextState}
@@ -31,19 +33,70 @@ ledger-more calls call =
     ap (fold ledger_with empty_ledger) (map_push (λ (c : AnsweredCall). c.request) calls call)
     ∙ fold-push ledger_with empty_ledger (script_of calls) call.request
 
+-- an instruction is there with the results that it had, and stands where it stood
+pub record KeepsInst (g : Body) (i : ℕ) (node : InstNode) : Type 0 where
+  pub kept : InstNode
+  pub there : slice_get g.insts i ≡ Some kept
+  pub results : kept.results ≡ node.results
+  pub block : kept.block ≡ node.block
+
+keeps-node : (g : Body) (i : ℕ) (node : InstNode) → slice_get g.insts i ≡ Some node → KeepsInst g i node
+keeps-node g i node is = record { kept = node; there = is; results = refl; block = refl }
+
 -- a function has the values and the instructions of another one
 pub record Keeps (f g : Body) : Type 0 where
   pub values : (v : ℕ) (ty : «Type») → value_type f v ≡ Some ty → value_type g v ≡ Some ty
-  pub insts : (i : ℕ) (node : InstNode) → slice_get f.insts i ≡ Some node → slice_get g.insts i ≡ Some node
+  pub insts : (i : ℕ) (node : InstNode) → slice_get f.insts i ≡ Some node → KeepsInst g i node
 
 -- it has as many blocks, too
 pub record Extends (f g : Body) : Type 0 where
   pub values : (v : ℕ) (ty : «Type») → value_type f v ≡ Some ty → value_type g v ≡ Some ty
-  pub insts : (i : ℕ) (node : InstNode) → slice_get f.insts i ≡ Some node → slice_get g.insts i ≡ Some node
+  pub insts : (i : ℕ) (node : InstNode) → slice_get f.insts i ≡ Some node → KeepsInst g i node
   pub block_count : length g.blocks ≡ length f.blocks
 
 pub keeps-of : (f g : Body) → Extends f g → Keeps f g
 keeps-of f g extends = record { values = extends.values; insts = extends.insts }
+
+pub keeps-itself : (f : Body) → Keeps f f
+keeps-itself f = record { values = λ v ty is. is; insts = λ i node is. keeps-node f i node is }
+
+-- a new block changes neither
+pub keeps-block : (f : Body) → Keeps f (with_block f)
+keeps-block f = record { values = λ v ty is. is; insts = λ i node is. keeps-node (with_block f) i node is }
+
+-- a branch that exists stands where it stood
+pub branch-kept : (f g : Body) → Keeps f g → (i : ℕ) → i < length f.insts → branch_block g i ≡ branch_block f i
+branch-kept f g keeps i below =
+    let node = keeps.insts i (inst_at f i) (slice_get-get_or f.insts i no_inst below) in
+    ap (λ (n : InstNode). n.block) (get_or_from_slice_get g.insts i node.kept no_inst node.there) ∙ node.block
+
+-- what the construction makes
+pub extends-constructs : (f g : Body) → OnlyConstructs f g → Extends f g
+extends-constructs f g constructs =
+    record {
+      values = λ v ty is.
+          let node = map-some (λ (n : ValueNode). n.ty) (slice_get f.values v) ty is in
+          let below : v < length f.values = slice_get_within f.values v node.0 node.1 in
+          let there : slice_get g.values v ≡ Some (value_at g v) = slice_get-get_or g.values v no_value (omega (arith, below, constructs.values)) in
+          let was : value_at f v ≡ node.0 = get_or_from_slice_get f.values v node.0 no_value node.1 in
+          let same : (value_at g v).ty ≡ (value_at f v).ty =
+          elim (constructs.same_values v below) [
+            | inl stays ↦ ap (λ (n : ValueNode). n.ty) stays
+            | inr names ↦ ap (λ (n : ValueNode). n.ty) names.3
+          ] in
+          ap (option_map (λ (n : ValueNode). n.ty)) there ∙ ap Some (same ∙ ap (λ (n : ValueNode). n.ty) was ∙ node.2);
+      insts = λ i node is.
+          let below : i < length f.insts = slice_get_within f.insts i node is in
+          let was : inst_at f i ≡ node = get_or_from_slice_get f.insts i node no_inst is in
+          let more : MayPassMore (inst_at f i) (inst_at g i) = constructs.same_insts i below in
+          record {
+            kept = inst_at g i;
+            there = slice_get-get_or g.insts i no_inst (omega (arith, below, constructs.insts));
+            results = ap (λ (n : InstNode). n.results) more.1 ∙ ap (λ (n : InstNode). n.results) was;
+            block = ap (λ (n : InstNode). n.block) more.1 ∙ ap (λ (n : InstNode). n.block) was;
+          };
+      block_count = constructs.block_count;
+    }
 
 -- it has also its layout, and no other parameters
 pub record Continues (f g : Body) : Type 0 where
@@ -55,7 +108,7 @@ pub Extends-same : (f g : Body) → g ≡ f → Extends f g
 Extends-same f g same =
     record {
       values = λ v ty is. ap (λ (h : Body). value_type h v) same ∙ is;
-      insts = λ i node is. ap (λ (h : Body). slice_get h.insts i) same ∙ is;
+      insts = λ i node is. keeps-node g i node (ap (λ (h : Body). slice_get h.insts i) same ∙ is);
       block_count = ap (λ (h : Body). length h.blocks) same;
     }
 
@@ -63,7 +116,10 @@ pub Extends-then : (f g h : Body) → Extends f g → Extends g h → Extends f 
 Extends-then f g h first next =
     record {
       values = λ v ty is. next.values v ty (first.values v ty is);
-      insts = λ i node is. next.insts i node (first.insts i node is);
+      insts = λ i node is.
+          let one = first.insts i node is in
+          let two = next.insts i one.kept one.there in
+          record { kept = two.kept; there = two.there; results = two.results ∙ one.results; block = two.block ∙ one.block };
       block_count = next.block_count ∙ first.block_count;
     }
 
@@ -128,7 +184,7 @@ Extends-inserted f b = by (stands_in b f.layout)
   where
     by : (test : Bool) → Extends f (if test then f else with_layout f b)
     by true = Extends-same f f refl
-    by false = record { values = λ v ty is. is; insts = λ i node is. is; block_count = refl }
+    by false = record { values = λ v ty is. is; insts = λ i node is. keeps-node (with_layout f b) i node is; block_count = refl }
 
 pub home-inserted : (f : Body) (b v h : ℕ) → param_home (inserted_in f b) v ≡ Some h → param_home f v ≡ Some h
 home-inserted f b v h = by (stands_in b f.layout)
@@ -173,7 +229,7 @@ pub Extends-param : (f : Body) (b : ℕ) (ty : «Type») → Extends f (with_par
 Extends-param f b ty =
     record {
       values = λ v t is. type-front f.values _ v t is;
-      insts = λ i node is. is;
+      insts = λ i node is. keeps-node (with_param f b ty) i node is;
       block_count = length-set f.blocks b _;
     }
 
@@ -186,7 +242,7 @@ Continues-inst f b end shape types loc =
     record {
       extends = record {
         values = λ v t is. type-front f.values _ v t is;
-        insts = λ i node is. get-front f.insts _ i node is;
+        insts = λ i node is. keeps-node (with_inst f b end shape types loc) i node (get-front f.insts _ i node is);
         block_count = length-set f.blocks b _;
       };
       layout = refl;
@@ -199,7 +255,7 @@ Continues-alias f v original =
     record {
       extends = record {
         values = λ w ty is. type-set f.values v _ (Alias (resolved f original)) w ∙ is;
-        insts = λ i node is. is;
+        insts = λ i node is. keeps-node (with_alias f v original) i node is;
         block_count = length-set f.blocks _ _;
       };
       layout = refl;
@@ -282,7 +338,9 @@ answer-kept : (old new : Ledger) (f g : Body) → ((k : ℕ) (name : Name) → b
 answer-kept old new f g names extends name ABlock number is = names number name is
 answer-kept old new f g names extends name (AVariable variable) number is = is
 answer-kept old new f g names extends name (AValue ty) number is = extends.values number ty is
-answer-kept old new f g names extends name AnInstruction number is = (is.0, extends.insts number is.0 is.1)
+answer-kept old new f g names extends name AnInstruction number is =
+    let node = extends.insts number is.0 is.1 in
+    (node.kept, node.there)
 
 results-kept : (f g : Body) → Keeps f g → (answers : List Answered) (numbers : List ℕ) → ResultsFollow f answers numbers → ResultsFollow g answers numbers
 results-kept f g extends [] numbers follow = tt
@@ -290,9 +348,11 @@ results-kept f g extends (ABlock ∷ answers) numbers follow = tt
 results-kept f g extends (AVariable variable ∷ answers) numbers follow = tt
 results-kept f g extends (AValue ty ∷ answers) numbers follow = tt
 results-kept f g extends (AnInstruction ∷ answers) [] follow = tt
-results-kept f g extends (AnInstruction ∷ answers) (inst ∷ numbers) follow = (follow.0, extends.insts inst follow.0 follow.1, follow.2)
+results-kept f g extends (AnInstruction ∷ answers) (inst ∷ numbers) follow =
+    let node = extends.insts inst follow.0 follow.1 in
+    (node.kept, node.there, follow.2 ∙ sym node.results)
 
-answers-kept : (old new : Ledger) (f g : Body) → ((k : ℕ) (name : Name) → block_name old k ≡ Some name → block_name new k ≡ Some name) → Keeps f g
+pub answers-kept : (old new : Ledger) (f g : Body) → ((k : ℕ) (name : Name) → block_name old k ≡ Some name → block_name new k ≡ Some name) → Keeps f g
     → (place : ℕ) (answers : List Answered) (numbers : List ℕ) → AnswersAgree old f place answers numbers → AnswersAgree new g place answers numbers
 answers-kept old new f g names extends place answers numbers agree =
     record {

@@ -61,6 +61,19 @@ named-more old new (x ∷ names) (k ∷ numbers) more same =
     let others : map Some names ≡ map new numbers = named-more old new names numbers more rest in
     cc
 
+-- numbers of names stay, if the number of each name stays
+pub numbered-more : {X : Type 0} (old new : X → Option ℕ) (names : List X) (numbers : List ℕ)
+    → ((x : X) (k : ℕ) → old x ≡ Some k → new x ≡ Some k) → map old names ≡ map Some numbers → map new names ≡ map Some numbers
+numbered-more old new [] [] more same = refl
+numbered-more old new [] (k ∷ numbers) more same = let no_way : ⊥ = cc in absurd no_way
+numbered-more old new (x ∷ names) [] more same = let no_way : ⊥ = cc in absurd no_way
+numbered-more old new (x ∷ names) (k ∷ numbers) more same =
+    let here : old x ≡ Some k = cc in
+    let rest : map old names ≡ map Some numbers = cc in
+    let first : new x ≡ Some k = more x k here in
+    let others : map new names ≡ map Some numbers = numbered-more old new names numbers more rest in
+    cc
+
 -- the same for the name of at most one number
 pub one-named-more : {X : Type 0} (old new : ℕ → Option X) (name : Option X) (number : Option ℕ)
     → ((k : ℕ) (x : X) → old k ≡ Some x → new k ≡ Some x) → option_map Some name ≡ option_map old number → option_map Some name ≡ option_map new number

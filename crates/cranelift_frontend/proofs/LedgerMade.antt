@@ -1,10 +1,9 @@
 -- Something is made in the current block: the agreement with the ledger is kept.
-use Rattle.std.proofs.Common.{◌≡◌, ◌≢◌, ◌<◌, ◌≤◌, ℕ, suc, List, [], ◌∷◌, ◌++◌, length, refl, sym, ◌∙◌, ap, subst, arith, ◌⊎◌, inl, inr}
-use Rattle.std.specs.Prelude.{map, slice_get, Option, Some, option_map, Bool, true, false, if◌then◌else◌, ◌==◌}
+use Rattle.std.proofs.Common.{◌≡◌, ◌≢◌, ◌<◌, ◌≤◌, ℕ, suc, List, [], ◌∷◌, ◌++◌, length, refl, sym, ◌∙◌, ap, subst, arith, inl, inr}
+use Rattle.std.specs.Prelude.{map, slice_get, Option, Some, option_map, Bool, true, false, if◌then◌else◌, ◌==◌, Contains}
 use Rattle.std.proofs.lemmas.Option.{slice_get_within}
 use Rattle.std.proofs.lemmas.Bool.{cases_eq, eq-eqb, eqb-true, ne_eqb}
 use Rattle.std.proofs.lemmas.List.{map_push}
-use Rattle.clif_types.specs.declared.types.«Type».{«Type»}
 use Rattle.clif_ir.specs.Body.{Body}
 use Rattle.clif_ir.specs.Changes.{inserted_in}
 use Rattle.clif_ir.specs.Changes as body
@@ -14,13 +13,14 @@ use Rattle.clif_meaning.specs.Request.{AnsweredCall, number_of}
 use Rattle.clif_meaning.specs.Ledger.{ABlock, Answered, BlockState, Ledger, VariableState, with_state, with_layout, with_begun, with_begun_at, is_inserted}
 use Rattle.clif_meaning.proofs.CallLists.{kept}
 use Rattle.clif_ssa.specs.Tables.{is_yes}
-use Rattle.clif_ssa.specs.Ssa.{record_of, sealed_of}
+use Rattle.clif_ssa.specs.LookUp.{branch_block}
+use Rattle.clif_ssa.specs.Ssa.{SamePredecessors, predecessors_of, sealed_of}
 use Rattle.cranelift_frontend.specs.declared.context.BlockStatus.{BlockStatus}
-use Rattle.cranelift_frontend.specs.declared.context.BlockStatus.TheVariants.{Empty}
+use Rattle.cranelift_frontend.specs.declared.context.BlockStatus.TheVariants.{Empty, Filled}
 use Rattle.cranelift_frontend.specs.Context.{ContextState, status_of, SetsStatus}
 use Rattle.cranelift_frontend.specs.Builder.{is_empty_status, is_filled_status}
-use Rattle.cranelift_frontend.specs.Ledger.{AnswersAgree, BlockAgrees, IsBegun, LedgerAgrees, block_name, value_type}
-use Rattle.cranelift_frontend.proofs.LedgerLists.{if-yes, if-no, named-more, one-named-more, map-some}
+use Rattle.cranelift_frontend.specs.Ledger.{AnswersAgree, BlockAgrees, IsBegun, IsEnded, IsStructured, LedgerAgrees, block_name}
+use Rattle.cranelift_frontend.proofs.LedgerLists.{if-yes, if-no, named-more, numbered-more, one-named-more, map-some}
 use Rattle.cranelift_frontend.proofs.LedgerNames.{IsNumbered, name-number, block-inserted, state-names, state-entries}
 use Rattle.cranelift_frontend.proofs.LedgerKept.{answer-still, Extends, keeps-of, answers-after, places-after, stands-inserted, stands-still}
 
@@ -44,11 +44,49 @@ pub record MadeLedger (old new : Ledger) (name : Name) (change : BlockState → 
 pub record Makes (f : Body) (c : ContextState) (g : Body) (d : ContextState) (block : ℕ) : Type 0 where
   pub extends : Extends f g
   pub layout : g.layout ≡ (inserted_in f block).layout
-  pub homes : (v h : ℕ) → param_home g v ≡ Some h → (param_home f v ≡ Some h) ⊎ (block ≡ h)
   pub sealed : (b : ℕ) → is_yes (sealed_of d.ssa b) ≡ is_yes (sealed_of c.ssa b)
+  pub predecessors : SamePredecessors c.ssa d.ssa
   pub variables : d.variables ≡ c.variables
-  pub recorded : (v b x : ℕ) → record_of d.ssa v b ≡ Some x
-      → (record_of c.ssa v b ≡ Some x) ⊎ ((ty : «Type») × (slice_get c.variables v ≡ Some ty) × (value_type g x ≡ Some ty))
+  pub structured : IsStructured g d
+  pub parameters : (value h : ℕ) → param_home g value ≡ Some h → IsBegun g d h
+  pub branches : (b branch : ℕ) → Contains (predecessors_of d.ssa b) branch → IsEnded g d (branch_block g branch)
+
+-- what was begun or ended is so when something was made in a block
+pub begun-still : (f g : Body) (c d : ContextState) (block : ℕ) (status : BlockStatus) → g.layout ≡ (inserted_in f block).layout → SetsStatus c d block status → status ≢ Empty
+    → (h : ℕ) → IsBegun f c h → IsBegun g d h
+begun-still f g c d block status layout sets begun h was =
+    record {
+      inserted = ap (stands_in h) layout ∙ stands-still f block h was.inserted;
+      begun = λ empty. elim (cases_eq h block) [
+        | inl same ↦ begun (sym (sets h ∙ if-yes (h == block) status (status_of c h) (eq-eqb h block same)) ∙ empty)
+        | inr other ↦ was.begun (sym (sets h ∙ if-no (h == block) status (status_of c h) (ne_eqb h block other)) ∙ empty)
+      ];
+    }
+
+pub begun-here : (f g : Body) (c d : ContextState) (block : ℕ) (status : BlockStatus) → g.layout ≡ (inserted_in f block).layout → SetsStatus c d block status → status ≢ Empty → IsBegun g d block
+begun-here f g c d block status layout sets begun =
+    record {
+      inserted = ap (stands_in block) layout ∙ stands-inserted f block;
+      begun = λ empty. begun (sym (sets block ∙ if-yes (block == block) status (status_of c block) (eq-eqb block block refl)) ∙ empty);
+    }
+
+pub ended-still : (f g : Body) (c d : ContextState) (block : ℕ) (status : BlockStatus) → g.layout ≡ (inserted_in f block).layout → SetsStatus c d block status
+    → (status_of c block ≡ Filled → status ≡ Filled) → (h : ℕ) → IsEnded f c h → IsEnded g d h
+ended-still f g c d block status layout sets stays h was =
+    record {
+      inserted = ap (stands_in h) layout ∙ stands-still f block h was.inserted;
+      filled = elim (cases_eq h block) [
+        | inl same ↦ sets h ∙ if-yes (h == block) status (status_of c h) (eq-eqb h block same) ∙ stays (ap (status_of c) (sym same) ∙ was.filled)
+        | inr other ↦ sets h ∙ if-no (h == block) status (status_of c h) (ne_eqb h block other) ∙ was.filled
+      ];
+    }
+
+pub ended-here : (f g : Body) (c d : ContextState) (block : ℕ) → g.layout ≡ (inserted_in f block).layout → SetsStatus c d block Filled → IsEnded g d block
+ended-here f g c d block layout sets =
+    record {
+      inserted = ap (stands_in block) layout ∙ stands-inserted f block;
+      filled = sets block ∙ if-yes (block == block) Filled (status_of c block) (eq-eqb block block refl);
+    }
 
 -- a block of the ledger exists
 pub block-exists : (calls : List AnsweredCall) (ledger : Ledger) (f : Body) (c : ContextState) (p : Option ℕ) → LedgerAgrees calls ledger f c p
@@ -57,6 +95,11 @@ block-exists calls ledger f c p agrees block name named =
     let state = map-some (λ (s : BlockState). s.block) (slice_get ledger.blocks block) name named in
     let inside : block < length ledger.blocks = slice_get_within ledger.blocks block state.0 state.1 in
     omega (arith, inside, agrees.block_count)
+
+-- the numbers of names, one more call on
+pub numbers-kept : (calls : List AnsweredCall) (call : AnsweredCall) (names : List Name) (numbers : List ℕ) → map (number_of calls) names ≡ map Some numbers
+    → map (number_of (calls ++ call ∷ [])) names ≡ map Some numbers
+numbers-kept calls call names numbers = numbered-more (number_of calls) (number_of (calls ++ call ∷ [])) names numbers (λ name number is. kept calls call name number is)
 
 -- the names after a change of one block's state
 pub changed-names : (old new : Ledger) (name : Name) (change : BlockState → BlockState) → ((s : BlockState) → (change s).block ≡ s.block)
@@ -67,9 +110,9 @@ changed-names old new name change keeps blocks k =
 -- the blocks after a change of one block's state, and of its status
 pub blocks-after : (calls : List AnsweredCall) (call : AnsweredCall) (old new : Ledger) (f : Body) (c d : ContextState) (p : Option ℕ) (block : ℕ) (name : Name) (change : BlockState → BlockState) (status : BlockStatus)
     → LedgerAgrees calls old f c p → block_name old block ≡ Some name → new.blocks ≡ (with_state old name change).blocks
-    → ChangeAgrees change (status_of c block) status → SetsStatus c d block status → ((b : ℕ) → is_yes (sealed_of d.ssa b) ≡ is_yes (sealed_of c.ssa b))
+    → ChangeAgrees change (status_of c block) status → SetsStatus c d block status → ((b : ℕ) → is_yes (sealed_of d.ssa b) ≡ is_yes (sealed_of c.ssa b)) → SamePredecessors c.ssa d.ssa
     → (k : ℕ) (t : BlockState) → slice_get new.blocks k ≡ Some t → BlockAgrees (calls ++ call ∷ []) d k t
-blocks-after calls call old new f c d p block name change status agrees named blocks changes sets sealed k t found =
+blocks-after calls call old new f c d p block name change status agrees named blocks changes sets sealed leads k t found =
     let at_old : slice_get (with_state old name change).blocks k ≡ Some t = ap (λ (states : List BlockState). slice_get states k) (sym blocks) ∙ found in
     let entry = state-entries calls old (name-number calls old f c p agrees) block name change named k t at_old in
     subst (λ (s : BlockState). BlockAgrees (calls ++ call ∷ []) d k s) entry.2 (by entry.0 (agrees.blocks k entry.0 entry.1) (k == block) refl)
@@ -85,7 +128,7 @@ blocks-after calls call old new f c d p block name change status agrees named bl
           is_pristine = changes.is_pristine s (was.is_pristine ∙ ap is_empty_status before) ∙ ap is_empty_status (sym now);
           is_filled = changes.is_filled s (was.is_filled ∙ ap is_filled_status before) ∙ ap is_filled_status (sym now);
           parameters = changes.parameters s ∙ was.parameters;
-          predecessors = changes.predecessors s ∙ was.predecessors;
+          predecessors = ap (map (number_of (calls ++ call ∷ []))) (changes.predecessors s) ∙ numbers-kept calls call s.predecessors (predecessors_of c.ssa k) was.predecessors ∙ ap (map Some) (sym (leads k));
         }
     by s was false other =
         let same : status_of d k ≡ status_of c k = sets k ∙ if-no (k == block) status (status_of c k) other in
@@ -95,7 +138,7 @@ blocks-after calls call old new f c d p block name change status agrees named bl
           is_pristine = was.is_pristine ∙ ap is_empty_status (sym same);
           is_filled = was.is_filled ∙ ap is_filled_status (sym same);
           parameters = was.parameters;
-          predecessors = was.predecessors;
+          predecessors = numbers-kept calls call s.predecessors (predecessors_of c.ssa k) was.predecessors ∙ ap (map Some) (sym (leads k));
         }
 
 -- the layout with a block, by names and by numbers
@@ -122,34 +165,30 @@ layout-after calls old new f block name numbered same named names =
 pub agrees-made : (calls : List AnsweredCall) (call : AnsweredCall) (old new : Ledger) (f g : Body) (c d : ContextState) (p : Option ℕ) (block : ℕ) (name : Name) (change : BlockState → BlockState) (status : BlockStatus) (answered : List Answered)
     → LedgerAgrees calls old f c p → block_name old block ≡ Some name
     → new.answers ≡ old.answers ++ answered ∷ [] → MadeLedger old new name change
-    → ChangeAgrees change (status_of c block) status → status ≢ Empty → SetsStatus c d block status → Makes f c g d block
+    → ChangeAgrees change (status_of c block) status → SetsStatus c d block status → Makes f c g d block
     → AnswersAgree new g (length calls) answered call.numbers → LedgerAgrees (calls ++ call ∷ []) new g d p
-agrees-made calls call old new f g c d p block name change status answered agrees named answers ledger changes begun sets makes fresh =
+agrees-made calls call old new f g c d p block name change status answered agrees named answers ledger changes sets makes fresh =
     record {
       places = places-after calls call old new answered agrees.places answers;
       answers = answers-after calls call old new f g c p answered agrees answers names (keeps-of f g makes.extends) fresh;
       block_count = count_blocks ∙ agrees.block_count ∙ sym makes.extends.block_count;
-      blocks = blocks-after calls call old new f c d p block name change status agrees named ledger.blocks changes sets makes.sealed;
+      blocks = blocks-after calls call old new f c d p block name change status agrees named ledger.blocks changes sets makes.sealed makes.predecessors;
       block_answers = λ k x is.
           answer-still old new answered x ABlock answers (agrees.block_answers k x (sym (changed-names old new name change changes.block ledger.blocks k) ∙ is));
       current = ap (option_map Some) ledger.current ∙ one-named-more (block_name old) (block_name new) old.current p names agrees.current;
       layout = ap (map Some) ledger.layout ∙ layout-after calls old new f block name numbered agrees.layout named names ∙ ap (map (block_name new)) (sym makes.layout);
       variables = ledger.variables ∙ agrees.variables ∙ sym makes.variables;
-      recorded = λ v b x is. elim (makes.recorded v b x is) [
-        | inl was ↦
-            let there = agrees.recorded v b x was in
-            (there.0, ap (λ (types : List «Type»). slice_get types v) makes.variables ∙ there.1, makes.extends.values x there.0 there.2)
-        | inr now ↦ (now.0, ap (λ (types : List «Type»). slice_get types v) makes.variables ∙ now.1, now.2)
-      ];
-      parameters = λ v h is. elim (makes.homes v h is) [
-        | inl was ↦ begun_still h (agrees.parameters v h was)
-        | inr here ↦ subst (λ (n : ℕ). IsBegun g d n) here begun_here
-      ];
+      structured = makes.structured;
+      parameters = makes.parameters;
+      branches = makes.branches;
       fresh = λ k above.
           let past : length f.blocks ≤ k = omega (arith, above, makes.extends.block_count) in
           let exists : block < length f.blocks = block-exists calls old f c p agrees block name named in
-          let other : k ≢ block = omega (arith, past, exists) in
-          ((sealed_there k) ∙ (agrees.fresh k past).0, sets k ∙ if-no (k == block) status (status_of c k) (ne_eqb k block other) ∙ (agrees.fresh k past).1);
+          let other : k ≢ block = omega (arith, past, exists) in (
+            makes.sealed k ∙ (agrees.fresh k past).0,
+            sets k ∙ if-no (k == block) status (status_of c k) (ne_eqb k block other) ∙ (agrees.fresh k past).1,
+            makes.predecessors k ∙ (agrees.fresh k past).2,
+          );
     }
   where
     numbered : IsNumbered calls old
@@ -158,32 +197,12 @@ agrees-made calls call old new f g c d p block name change status answered agree
     names : (k : ℕ) (x : Name) → block_name old k ≡ Some x → block_name new k ≡ Some x
     names k x is = changed-names old new name change changes.block ledger.blocks k ∙ is
 
-    sealed_there : (k : ℕ) → is_yes (sealed_of d.ssa k) ≡ is_yes (sealed_of c.ssa k)
-    sealed_there k = makes.sealed k
-
     count_blocks : length new.blocks ≡ length old.blocks
     count_blocks = ap (λ (states : List BlockState). length states) ledger.blocks ∙ length_map old.blocks
       where
         length_map : (states : List BlockState) → length (map (λ (s : BlockState). if same_name s.block name then change s else s) states) ≡ length states
         length_map [] = refl
         length_map (s ∷ states) = ap suc (length_map states)
-
-    begun_here : IsBegun g d block
-    begun_here =
-        record {
-          inserted = ap (stands_in block) makes.layout ∙ stands-inserted f block;
-          begun = λ empty. begun (sym (sets block ∙ if-yes (block == block) status (status_of c block) (eq-eqb block block refl)) ∙ empty);
-        }
-
-    begun_still : (h : ℕ) → IsBegun f c h → IsBegun g d h
-    begun_still h was =
-        record {
-          inserted = ap (stands_in h) makes.layout ∙ stands-still f block h was.inserted;
-          begun = λ empty. elim (cases_eq h block) [
-            | inl same ↦ begun (sym (sets h ∙ if-yes (h == block) status (status_of c h) (eq-eqb h block same)) ∙ empty)
-            | inr other ↦ was.begun (sym (sets h ∙ if-no (h == block) status (status_of c h) (ne_eqb h block other)) ∙ empty)
-          ];
-        }
 
 -- the ledger in which something was made in the current block
 abbrev pub unpristine : BlockState → BlockState

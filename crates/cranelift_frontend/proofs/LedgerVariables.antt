@@ -1,24 +1,24 @@
 -- A variable is declared or assigned: the agreement with the ledger is kept.
-use Rattle.std.proofs.Common.{◌≡◌, ◌<◌, ℕ, List, [], ◌∷◌, ◌++◌, length, refl, sym, ◌∙◌, ap, subst, inl, inr}
-use Rattle.std.specs.Prelude.{slice_get, Option, Some, option_map, Result, Ok, Err, IfOk, OnOk}
-use Rattle.std.proofs.lemmas.Option.{slice_get-get_or}
+use Rattle.std.proofs.Common.{◌≡◌, ◌<◌, ℕ, List, [], ◌∷◌, ◌++◌, length, refl, sym, ◌∙◌, ap, subst}
+use Rattle.std.specs.Prelude.{slice_get, Option, Some, Result, Ok, Err, IfOk, OnOk}
 use Rattle.std.proofs.lemmas.List.{map_push, length-map}
 use Rattle.clif_types.specs.declared.types.«Type».{«Type»}
-use Rattle.clif_ir.specs.declared.function.ValueNode.{ValueNode}
-use Rattle.clif_ir.specs.Body.{Body, value_at, no_value}
+use Rattle.clif_ir.specs.Body.{Body, value_at}
 use Rattle.clif_meaning.specs.Name.{Name}
 use Rattle.clif_meaning.specs.Request.{AnsweredCall, DeclareVar, DefVar}
 use Rattle.clif_meaning.specs.Ledger.{AVariable, Ledger, VariableState, ledger_with, new_variable}
 use Rattle.clif_ssa.specs.declared.tables.SsaBlock.{SsaBlock}
-use Rattle.clif_ssa.specs.Tables.{is_yes, sealed_at}
-use Rattle.clif_ssa.specs.Ssa.{Records}
+use Rattle.clif_ssa.specs.Tables.{is_yes, predecessors_at, sealed_at}
+use Rattle.clif_ssa.specs.Ssa.{Records, SamePredecessors}
+use Rattle.clif_ssa.specs.Structured.{HasType}
+use Rattle.clif_ssa.proofs.StructuredLaws.{assigned_structured}
 use Rattle.cranelift_frontend.specs.declared.context.BlockStatus.{BlockStatus}
 use Rattle.cranelift_frontend.specs.Context.{ContextState, status_of}
-use Rattle.cranelift_frontend.specs.Ledger.{LedgerAgrees, value_type, ledger_of}
+use Rattle.cranelift_frontend.specs.Ledger.{AreTypesOf, LedgerAgrees, ledger_of}
 use Rattle.cranelift_frontend.proofs.LedgerLists.{get-front}
 use Rattle.cranelift_frontend.proofs.LedgerKept.{answers-none, answers-one, concluded}
 use Rattle.cranelift_frontend.proofs.LedgerBlocks.{agrees-kept}
-use Rattle.cranelift_frontend.proofs.LedgerUsed.{types-touched, written}
+use Rattle.cranelift_frontend.proofs.LedgerUsed.{types-touched}
 
 -- as many variables
 pub variable-count : (calls : List AnsweredCall) (ledger : Ledger) (f : Body) (c : ContextState) (p : Option ℕ) → LedgerAgrees calls ledger f c p → length ledger.variables ≡ length c.variables
@@ -33,8 +33,8 @@ agrees-declared calls ledger f c p ty variable agrees number =
     let d : ContextState = record c { variables = c.variables ++ ty ∷ [] } in
     agrees-kept calls call ledger new f c d p p (AVariable (length ledger.variables) ∷ []) agrees refl refl refl agrees.current
     (map_push (λ (v : VariableState). v.ty) ledger.variables (new_variable ty) ∙ ap (λ (types : List «Type»). types ++ ty ∷ []) agrees.variables)
-    (λ b. refl) (λ b. refl)
-    (λ v b x is. let there = agrees.recorded v b x is in (there.0, get-front c.variables _ v there.0 there.1, there.2))
+    (λ b. refl) (λ b. refl) (λ b. refl)
+    (agrees.structured.0, λ types are. agrees.structured.1 types (λ x t is. are x t (get-front c.variables _ x t is)))
     (answers-one new f (length calls) (AVariable (length ledger.variables)) variable (number ∙ sym (variable-count calls ledger f c p agrees)) tt)
 
 -- what comes of a declaration
@@ -48,7 +48,7 @@ declared calls f c d p ty (Ok variable) agrees context number =
     (concluded calls call f (record c { variables = c.variables ++ ty ∷ [] }) p (agrees-declared calls (ledger_of calls) f c p ty variable agrees number))
 
 pub agrees-assigned : (calls : List AnsweredCall) (ledger : Ledger) (f : Body) (c d : ContextState) (p : Option ℕ) (variable : ℕ) (name : Name) (block value : ℕ) (ty : «Type»)
-    → LedgerAgrees calls ledger f c p → slice_get c.variables variable ≡ Some ty → value_type f value ≡ Some ty
+    → LedgerAgrees calls ledger f c p → slice_get c.variables variable ≡ Some ty → HasType f value ty
     → Records c.ssa d.ssa variable block value → d.ssa.blocks ≡ c.ssa.blocks → d.status ≡ c.status → d.variables ≡ c.variables
     → LedgerAgrees (calls ++ record { request = DefVar variable name; numbers = [] } ∷ []) (ledger_with ledger (DefVar variable name)) f d p
 agrees-assigned calls ledger f c d p variable name block value ty agrees declared typed records blocks status variables =
@@ -56,13 +56,19 @@ agrees-assigned calls ledger f c d p variable name block value ty agrees declare
     let new : Ledger = ledger_with ledger (DefVar variable name) in
     agrees-kept calls call ledger new f c d p p [] agrees refl refl refl agrees.current
     (types-touched variable ledger.variables ∙ agrees.variables ∙ sym variables)
-    (λ b. ap (λ (xs : List SsaBlock). is_yes (sealed_at xs b)) blocks)
-    (λ b. ap (λ (xs : List BlockStatus). status_of (record c { status = xs }) b) status)
-    (λ v b x is. elim (written c.ssa d.ssa variable block value records v b x is) [
-      | inl was ↦ let there = agrees.recorded v b x was in (there.0, ap (λ (types : List «Type»). slice_get types v) variables ∙ there.1, there.2)
-      | inr now ↦ (ty, ap (λ (types : List «Type»). slice_get types v) variables ∙ ap (slice_get c.variables) now.0 ∙ declared, ap (value_type f) (sym now.1) ∙ typed)
-    ])
+    (λ b. ap (λ (xs : List SsaBlock). is_yes (sealed_at xs b)) blocks) leads
+    (λ b. ap (λ (xs : List BlockStatus). status_of (record c { status = xs }) b) status) (
+      agrees.structured.0,
+      λ types are.
+          let before : AreTypesOf c.variables types = subst (λ (xs : List «Type»). AreTypesOf xs types) variables are in
+          let has : HasType f value (types variable) = subst (HasType f value) (sym (before variable ty declared)) typed in
+          assigned_structured types agrees.structured.0 f c.ssa d.ssa variable block value has records (λ b. ap (λ (xs : List SsaBlock). sealed_at xs b) blocks) leads
+          (agrees.structured.1 types before),
+    )
     (answers-none new f (length calls))
+  where
+    leads : SamePredecessors c.ssa d.ssa
+    leads b = ap (λ (xs : List SsaBlock). predecessors_at xs b) blocks
 
 -- what comes of an assignment
 pub assigned : {E : Type 0} (calls : List AnsweredCall) (f : Body) (c d : ContextState) (p : Option ℕ) (variable : ℕ) (name : Name) (block value : ℕ) (r : Result (Unit {0}) E)
@@ -71,6 +77,5 @@ pub assigned : {E : Type 0} (calls : List AnsweredCall) (f : Body) (c d : Contex
     → OnOk r (LedgerAgrees (calls ++ record { request = DefVar variable name; numbers = [] } ∷ []) (ledger_of (calls ++ record { request = DefVar variable name; numbers = [] } ∷ [])) f d p)
 assigned calls f c d p variable name block value (Err e) agrees exists declared records blocks status variables = tt
 assigned calls f c d p variable name block value (Ok done) agrees exists declared records blocks status variables =
-    let typed : value_type f value ≡ Some (value_at f value).ty = ap (option_map (λ (n : ValueNode). n.ty)) (slice_get-get_or f.values value no_value exists) in
     concluded calls (record { request = DefVar variable name; numbers = [] }) f d p
-    (agrees-assigned calls (ledger_of calls) f c d p variable name block value (value_at f value).ty agrees declared typed records blocks status variables)
+    (agrees-assigned calls (ledger_of calls) f c d p variable name block value (value_at f value).ty agrees declared (exists, refl) records blocks status variables)

@@ -1,20 +1,25 @@
-pub mod Statuses
 pub mod Faults
 pub mod LedgerLists
 pub mod LedgerNames
 pub mod LedgerKept
+pub mod Placed
 pub mod LedgerMade
 pub mod LedgerUsed
-pub mod LedgerBuilt
 pub mod LedgerBlocks
+pub mod LedgerLeads
+pub mod LedgerBranched
+pub mod LedgerBuilt
+pub mod LedgerShaped
 pub mod LedgerVariables
 pub mod LedgerEnds
-mod Declaring
+pub mod Declaring
 pub mod Growing
-pub mod StandingLocal
+pub mod Named
+mod Appending
+pub mod Statuses
 pub mod Standing
 pub mod StandingResults
 pub mod Finishing
 pub mod StandingBuilt
+pub mod StandingShaped
 mod Remembered
-pub mod Shaped

@@ -1,29 +1,27 @@
 -- What each call leaves of records, and of which values stand for one value.
-use Rattle.std.proofs.Common.{◌≡◌, ℕ, ◌+◌, ◌<◌, ◌==◌, ◌&&◌, if◌then◌else◌, Bool, true, false, List, [], ◌∷◌, ◌++◌, length, refl, sym, ◌∙◌, ap, subst, arith}
-use Rattle.std.specs.Prelude.{Option, Some, None, OnOk, IfOk, IfSome, Result, Ok, Err}
+use Rattle.std.proofs.Common.{◌≡◌, ℕ, ◌==◌, ◌&&◌, if◌then◌else◌, Bool, true, false, List, [], ◌∷◌, ◌++◌, length, refl, sym, ◌∙◌, ap, subst, arith}
+use Rattle.std.specs.Prelude.{Option, Some, OnOk, IfOk, IfSome, Result, Ok, Err}
 use Rattle.std.proofs.lemmas.Bool.Decides.{nat_tests}
 use Rattle.clif_types.specs.declared.types.«Type».{«Type»}
 use Rattle.clif_ir.specs.declared.instructions.InstructionData.{InstructionData}
 use Rattle.clif_ir.specs.declared.inst_list.BlockEnd.TheVariants.{Back}
 use Rattle.clif_ir.specs.Body.{Body, resolved}
-use Rattle.clif_ir.specs.Instruction.{result_types}
-use Rattle.clif_ir.specs.Changes.{with_block, with_param, with_inst, inserted_in}
+use Rattle.clif_ir.specs.Instruction.{destinations, result_types}
+use Rattle.clif_ir.specs.Reading.{targets}
+use Rattle.clif_ir.specs.Changes.{with_block, with_inst, inserted_in}
 use Rattle.clif_ir.specs.Consistent.{IsConsistent}
 use Rattle.clif_ssa.specs.declared.tables.Cell.{Cell}
-use Rattle.clif_ssa.specs.declared.tables.Pending.{Pending}
-use Rattle.clif_ssa.specs.Tables.{is_yes}
-use Rattle.clif_ssa.specs.Ssa.{no_srcloc, SsaState, record_of, sealed_of, completed, zeroed, Records, SameRecords}
+use Rattle.clif_ssa.specs.Ssa.{no_srcloc, SsaState, record_of, Records, SameRecords}
 use Rattle.clif_ssa.specs.Structure.{StayAlike, HasRecordOf, Remembers}
-use Rattle.clif_ssa.proofs.Bodies.{Firm, firm_from}
-use Rattle.clif_ssa.proofs.Describing.{recorded_here}
-use Rattle.clif_ssa.proofs.Parameters.{param_firm, param_resolved, param_home_new}
+use Rattle.clif_ssa.proofs.Bodies.{firm_from}
 use Rattle.clif_ssa.proofs.Instructions.{inst_resolved}
-use Rattle.clif_ssa.proofs.Completing.{inserted_firm, inserted_same}
-use Rattle.clif_ssa.proofs.Alike.{alike_same, alike_then, inserted_resolved, zeroed_leaves}
-use Rattle.clif_ssa.proofs.Losing.{records_stay, seal_alike, zeroes_resolved}
-use Rattle.cranelift_frontend.specs.Context.{ContextState}
+use Rattle.clif_ssa.proofs.Completing.{inserted_firm}
+use Rattle.clif_ssa.proofs.Alike.{alike_same, alike_then, inserted_resolved}
+use Rattle.cranelift_frontend.specs.Context.{ContextState, Begins}
+use Rattle.cranelift_frontend.specs.Construction.{IsUse, IsSealing, IsDeclared}
+use Rattle.cranelift_frontend.proofs.Declaring.{declared_same}
 use Rattle.cranelift_frontend.specs.declared.builder.FunctionBuilder.{FunctionBuilder}
-use Rattle.cranelift_frontend.specs.Builder.{UsesIn, AppendsIn, AppendsValue, HasCurrent}
+use Rattle.cranelift_frontend.specs.Builder.{AppendsIn, AppendsValue, HasCurrent}
 use Rattle.cranelift_frontend.specs.Growth.{AreCalls, HasRecordIn, RemembersIn, last_builder}
 
 -- the function and the records stay
@@ -48,16 +46,10 @@ remembers_declared (Err e) x b f c d ty is = tt
 remembers_declared (Ok v) x b f c d ty is = remembers_same x b f f c.ssa d.ssa refl (ap (λ (e : ContextState). e.ssa) is)
 
 -- a block is sealed
-pub remembers_sealed : {T E : Type 0} (r : Result T E) (x b : ℕ) (f g : Body) (s t : SsaState) (waited : List Pending) → IsConsistent f → OnOk r (g ≡ completed f waited) → SameRecords s t
-    → OnOk r (Remembers x b f s g t)
-remembers_sealed (Err e) x b f g s t waited known is same = tt
-remembers_sealed (Ok v) x b f g s t waited known is same = record {
-  recorded = λ v here. same x b ∙ here;
-  alike = seal_alike f g waited known is;
-}
-
-none_some : {x : ℕ} → ◌≡◌ {A = Option ℕ} None (Some x) → ⊥
-none_some same = cc
+pub remembers_sealed : {T E : Type 0} (r : Result T E) (x b : ℕ) (f g : Body) (c d : ContextState) (block : ℕ)
+    → OnOk r ((told : List ℕ) × IsSealing f c.ssa g d.ssa block told × Begins c d told) → OnOk r (Remembers x b f c.ssa g d.ssa)
+remembers_sealed (Err e) x b f g c d block sealed = tt
+remembers_sealed (Ok v) x b f g c d block sealed = sealed.1.remembers x b
 
 -- a variable is assigned in a block, and it isn't this one there
 pub remembers_assigned : {T E : Type 0} (r : Result T E) (x b y c value : ℕ) (f g : Body) (s t : SsaState) → (y ≡ x → c ≡ b → ⊥) → g ≡ f → OnOk r (Records s t x b value)
@@ -82,99 +74,47 @@ appended_alike f b shape types loc known =
     inst_resolved (inserted_in f b) b Back shape types loc (inserted_firm f b (firm_from f known)) v ∙ inserted_resolved f b v)
 
 -- a variable is used
-pub record UsedSo (f g : Body) (s t : SsaState) (x b value : ℕ) : Type 0 where
-  pub remembers : (y c : ℕ) → Remembers y c f s g t
-  pub has_record : HasRecordOf g t x b value
+inserted_alike : (f : Body) (b : ℕ) → StayAlike f (inserted_in f b)
+inserted_alike f b = alike_same f (inserted_in f b) (inserted_resolved f b)
 
-used_so : (f g : Body) (c d : ContextState) (x : ℕ) (ty : «Type») (b value : ℕ) → IsConsistent f → b < length f.blocks → UsesIn f c g d x ty b value
-    → UsedSo f g c.ssa d.ssa x b value
-used_so f g c d x ty b value known there uses = by (record_of c.ssa x b) refl (is_yes (sealed_of c.ssa b)) refl
+pub remembers_used : {E : Type 0} (r : Result ℕ E) (y e : ℕ) (f g : Body) (c d : ContextState) (x : ℕ) (ty : «Type») (b : ℕ)
+    → IfOk r (λ value. (told : List ℕ) × IsUse (inserted_in f b) c.ssa g d.ssa x ty b value told × Begins c d (b ∷ told)) → OnOk r (Remembers y e f c.ssa g d.ssa)
+remembers_used (Err error) y e f g c d x ty b used = tt
+remembers_used (Ok value) y e f g c d x ty b used =
+    let remembers : Remembers y e (inserted_in f b) c.ssa g d.ssa = used.1.remembers y e in
+    record { recorded = remembers.recorded; alike = alike_then f (inserted_in f b) g (inserted_alike f b) remembers.alike }
+
+pub has_record_used : {E : Type 0} (r : Result ℕ E) (f g : Body) (c d : ContextState) (x : ℕ) (ty : «Type») (b : ℕ) (p : Option ℕ) → p ≡ Some b
+    → IfOk r (λ value. (told : List ℕ) × IsUse (inserted_in f b) c.ssa g d.ssa x ty b value told × Begins c d (b ∷ told))
+    → IfSome p (λ block. IfOk r (λ value. HasRecordOf g d.ssa x block value))
+has_record_used {E} r f g c d x ty b p at used = subst (λ (o : Option ℕ). IfSome o (λ block. IfOk r (λ value. HasRecordOf g d.ssa x block value))) (sym at) (by r used)
   where
-    into : StayAlike f (inserted_in f b)
-    into = alike_same f (inserted_in f b) (inserted_resolved f b)
-
-    firm : Firm (inserted_in f b)
-    firm = inserted_firm f b (firm_from f known)
-
-    there_still : b < length (inserted_in f b).blocks
-    there_still = subst (λ (blocks : List _). b < length blocks) (sym (inserted_same f b).blocks) there
-
-    same_count : length (inserted_in f b).values ≡ length f.values
-    same_count = ap (λ (values : List _). length values) (inserted_same f b).values
-
-    by : (o : Option ℕ) → record_of c.ssa x b ≡ o → (t : Bool) → is_yes (sealed_of c.ssa b) ≡ t → UsedSo f g c.ssa d.ssa x b value
-    by (Some v) is t sealed =
-        let case = uses.known v is in
-        record {
-          remembers = λ y e. record {
-            recorded = λ w here. ap (λ r. record_of r y e) case.1 ∙ here;
-            alike = subst (λ h. StayAlike f h) (sym case.0) into;
-          };
-          has_record = (v, ap (λ r. record_of r x b) case.1 ∙ is, ap (resolved g) (sym case.2));
-        }
-    by None is false sealed =
-        let case = uses.waits is sealed in
-        let h : Body = inserted_in f b in
-        let n : ℕ = length h.values in
-        record {
-          remembers = λ y e. record {
-            recorded = records_stay c.ssa d.ssa x b n is case.0.recorded y e;
-            alike = subst (λ k. StayAlike f k) (sym case.0.function) (alike_then f h (with_param h b ty) into (alike_same h (with_param h b ty) (param_resolved h b ty firm)));
-          };
-          has_record = (n, case.0.recorded x b ∙ recorded_here x b n (record_of c.ssa x b), ap (resolved g) (same_count ∙ sym case.1));
-        }
-    by None is true sealed =
-        let case = uses.zero is sealed in
-        let h : Body = inserted_in f b in
-        let n : ℕ = length h.values in
-        let k : Body = with_param h b ty in
-        let done : Body = zeroed k b n in
-        record {
-          remembers = λ y e. record {
-            recorded = records_stay c.ssa d.ssa x b n is case.0.recorded y e;
-            alike = subst (λ m. StayAlike f m) (sym case.0.function)
-                (alike_then f h done into (alike_then h k done (alike_same h k (param_resolved h b ty firm)) (zeroed_leaves k b n (param_firm h b ty firm there_still) (param_home_new h b ty)).alike));
-          };
-          has_record = (
-            n,
-            case.0.recorded x b ∙ recorded_here x b n (record_of c.ssa x b),
-            subst (λ m. resolved m n ≡ resolved m (n + 1)) (sym case.0.function) (zeroes_resolved h b ty firm there_still)
-                ∙ ap (resolved g) (ap (λ m. m + 1) same_count ∙ sym case.1),
-          );
-        }
-
-pub remembers_used : {E : Type 0} (r : Result ℕ E) (y e : ℕ) (f g : Body) (c d : ContextState) (x : ℕ) (ty : «Type») (b : ℕ) → IsConsistent f → b < length f.blocks
-    → IfOk r (λ value. UsesIn f c g d x ty b value) → OnOk r (Remembers y e f c.ssa g d.ssa)
-remembers_used (Err error) y e f g c d x ty b known there uses = tt
-remembers_used (Ok value) y e f g c d x ty b known there uses = (used_so f g c d x ty b value known there uses).remembers y e
-
-pub has_record_used : {E : Type 0} (r : Result ℕ E) (f g : Body) (c d : ContextState) (x : ℕ) (ty : «Type») (b : ℕ) (p : Option ℕ) → p ≡ Some b → IsConsistent f → b < length f.blocks
-    → IfOk r (λ value. UsesIn f c g d x ty b value) → IfSome p (λ block. IfOk r (λ value. HasRecordOf g d.ssa x block value))
-has_record_used {E} r f g c d x ty b p at known there uses = subst (λ (o : Option ℕ). IfSome o (λ block. IfOk r (λ value. HasRecordOf g d.ssa x block value))) (sym at) (by r uses)
-  where
-    by : (r : Result ℕ E) → IfOk r (λ value. UsesIn f c g d x ty b value) → IfOk r (λ value. HasRecordOf g d.ssa x b value)
-    by (Err error) uses = tt
-    by (Ok value) uses = (used_so f g c d x ty b value known there uses).has_record
+    by : (r : Result ℕ E) → IfOk r (λ value. (told : List ℕ) × IsUse (inserted_in f b) c.ssa g d.ssa x ty b value told × Begins c d (b ∷ told))
+        → IfOk r (λ value. HasRecordOf g d.ssa x b value)
+    by (Err error) used = tt
+    by (Ok value) used = used.1.recorded
 
 -- an instruction is appended to the current block
-appended_in : (y e : ℕ) (f g : Body) (c d : ContextState) (b : ℕ) (shape : InstructionData) (ty : «Type») (inst : ℕ) → IsConsistent f → AppendsIn f c g d b shape ty inst → d.ssa ≡ c.ssa
+appended_in : (y e : ℕ) (f g : Body) (c d : ContextState) (b : ℕ) (shape : InstructionData) (ty : «Type») (inst : ℕ) → IsConsistent f → AppendsIn f c g d b shape ty inst → SameRecords c.ssa d.ssa
     → Remembers y e f c.ssa g d.ssa
 appended_in y e f g c d b shape ty inst known appends same = record {
-  recorded = λ v is. ap (λ r. record_of r y e) same ∙ is;
+  recorded = λ v is. same y e ∙ is;
   alike = subst (λ h. StayAlike f h) (sym appends.function) (appended_alike f b shape (result_types shape ty) no_srcloc known);
 }
 
 pub remembers_appended : {E : Type 0} (r : Result ℕ E) (y e : ℕ) (f g : Body) (c d : ContextState) (b : ℕ) (shape : InstructionData) (ty : «Type») → IsConsistent f
-    → IfOk r (λ inst. AppendsIn f c g d b shape ty inst) → d.ssa ≡ c.ssa → OnOk r (Remembers y e f c.ssa g d.ssa)
-remembers_appended (Err error) y e f g c d b shape ty known appends same = tt
-remembers_appended (Ok inst) y e f g c d b shape ty known appends same = appended_in y e f g c d b shape ty inst known appends same
+    → IfOk r (λ inst. AppendsIn f c g d b shape ty inst) → IfOk r (λ inst. IsDeclared c.ssa inst (targets (destinations shape)) d.ssa)
+    → OnOk r (Remembers y e f c.ssa g d.ssa)
+remembers_appended (Err error) y e f g c d b shape ty known appends declares = tt
+remembers_appended (Ok inst) y e f g c d b shape ty known appends declares =
+    appended_in y e f g c d b shape ty inst known appends (declared_same c.ssa inst (targets (destinations shape)) d.ssa declares).0
 
 pub remembers_value : {E : Type 0} (r : Result ℕ E) (y e : ℕ) (old new : FunctionBuilder) (shape : InstructionData) (ty : «Type») → IsConsistent old.func.now → HasCurrent old
     → IfSome old.position (λ block. IfOk r (AppendsValue old new block shape ty)) → new.ctx.now.ssa ≡ old.ctx.now.ssa → OnOk r (RemembersIn y e old new)
 remembers_value (Err error) y e old new shape ty known current appends same = tt
 remembers_value (Ok value) y e old new shape ty known current appends same =
     appended_in y e old.func.now new.func.now old.ctx.now new.ctx.now current.0 shape ty (length old.func.now.insts) known
-    (subst (λ (o : Option ℕ). IfSome o (λ block. AppendsValue old new block shape ty value)) current.1 appends).0 same
+    (subst (λ (o : Option ℕ). IfSome o (λ block. AppendsValue old new block shape ty value)) current.1 appends).0 (λ v c. ap (λ r. record_of r v c) same)
 
 -- THE LAW ---------------------------------------------------------------------------------------------------------
 

@@ -1,9 +1,8 @@
 -- Each call that succeeds leaves a builder that stands for the list with this call at its end.
-use Rattle.std.proofs.Common.{◌≡◌, ◌≢◌, ℕ, ◌<◌, List, [], ◌∷◌, ◌++◌, length, refl, sym, ◌∙◌, ap, subst, arith, ◌⊎◌, inl, inr}
+use Rattle.std.proofs.Common.{◌≡◌, ◌≢◌, ℕ, ◌<◌, List, [], ◌∷◌, ◌++◌, length, refl, sym, ◌∙◌, ap, subst, ◌⊎◌, inl, inr}
 use Rattle.std.specs.Prelude.{slice_get, Option, Some, None, option_map, Bool, true, false, if◌then◌else◌, ◌==◌, ◌||◌}
 use Rattle.std.proofs.lemmas.Option.{same_Some, slice_get-map, none-some}
-use Rattle.std.proofs.lemmas.Grind.{common_steps}
-use Rattle.std.proofs.lemmas.Bool.{eqb-true}
+use Rattle.std.proofs.lemmas.Bool.{eq-eqb, eqb-true, or_left}
 use Rattle.clif_types.specs.declared.types.«Type».{«Type»}
 use Rattle.clif_types.specs.Signature.{SignatureShape}
 use Rattle.clif_ir.specs.Body.{Body, empty_body, value_at}
@@ -11,50 +10,46 @@ use Rattle.clif_ir.specs.Consistent.{IsConsistent}
 use Rattle.clif_ir.specs.Changes.{with_block, inserted_in}
 use Rattle.clif_ir.specs.Reading.{stands_in}
 use Rattle.clif_ssa.specs.declared.tables.Cell.{Cell}
-use Rattle.clif_ssa.specs.declared.tables.Pending.{Pending}
-use Rattle.clif_ssa.specs.Tables.{pending_of}
-use Rattle.clif_ssa.specs.Ssa.{record_of, sealed_of, predecessors_of, completed, completing_blocks, Records, SameBlocks, SamePredecessors, SameRecords, Seals}
+use Rattle.clif_ssa.specs.Ssa.{record_of, sealed_of, predecessors_of, Records, SameBlocks, SamePredecessors}
 use Rattle.clif_meaning.specs.Name.{Name}
 use Rattle.clif_meaning.specs.Request.{AnsweredCall, CreateBlock, SwitchToBlock, SealBlock, DeclareVar, DefVar, UseVar}
 use Rattle.clif_ssa.proofs.Constructed.{inserted_constructs}
 use Rattle.clif_ssa.proofs.Constructing.{constructs_then}
+use Rattle.clif_ssa.proofs.StructuredLaws.{inserted_structured}
 use Rattle.clif_meaning.specs.Ledger.{BlockState, VariableState, is_filled, state_has, variable_type}
-use Rattle.clif_simulation.specs.Carries.{Carries, NothingLeads, IsCurrent}
-use Rattle.clif_simulation.proofs.Unbranched.{nothing_still}
+use Rattle.clif_simulation.specs.Carries.{Carries, IsCurrent}
+use Rattle.clif_simulation.proofs.Whole.{are_declared, declared_types}
+use Rattle.clif_simulation.proofs.CarriedStructure.{matching_edges}
 use Rattle.clif_simulation.proofs.Beginning.{carries_nothing, one_current}
 use Rattle.clif_simulation.proofs.Calls.{carries_created, carries_switched, carries_declared, carries_sealed, carries_assigned, carries_used, structured_so_far}
 use Rattle.cranelift_frontend.specs.declared.context.BlockStatus.{BlockStatus}
 use Rattle.cranelift_frontend.specs.declared.context.BlockStatus.TheVariants.{Empty, Partial, Filled}
-use Rattle.cranelift_frontend.specs.Context.{ContextState, empty_context, status_of, begun, Begins, SetsStatus}
-use Rattle.cranelift_frontend.specs.Builder.{UsesIn, HasCurrent, is_filled_status}
+use Rattle.cranelift_frontend.specs.Context.{ContextState, empty_context, status_of, begun, Begins}
+use Rattle.cranelift_frontend.specs.Construction.{IsUse, IsSealing}
+use Rattle.cranelift_frontend.specs.Builder.{HasCurrent, is_filled_status}
 use Rattle.cranelift_frontend.specs.declared.builder.FunctionBuilder.{FunctionBuilder}
 use Rattle.cranelift_frontend.specs.Ledger.{LedgerAgrees, NamesValue, ledger_of, block_name}
+use Rattle.cranelift_frontend.specs.Laws.{StandingMatchesEdges}
 use Rattle.cranelift_frontend.specs.StandsFor.{StandsIn}
-use Rattle.cranelift_frontend.proofs.LedgerEnds.{agrees-empty}
-use Rattle.cranelift_frontend.proofs.LedgerKept.{Continues-completed, inserted-twice, stands-push}
+use Rattle.cranelift_frontend.proofs.LedgerKept.{inserted-twice, stands-push}
 use Rattle.cranelift_frontend.proofs.LedgerNames.{state-by-name, name-number}
-use Rattle.cranelift_frontend.proofs.StandingLocal.{UsedIn, used_in, sealed_constructs, sealed_keeps, sealed_well}
-
--- one block has another status than empty, if it had one, or is the one in which something was made
-pub not_empty : (c d : ContextState) (block : ℕ) (status : BlockStatus) → SetsStatus c d block status → status ≢ Empty
-    → (b : ℕ) → (status_of c b ≢ Empty) ⊎ (b ≡ block) → status_of d b ≢ Empty
-not_empty c d block status sets made b was empty = by (b == block) refl (sym (sets b) ∙ empty) was
-  where
-    by : (t : Bool) → (b == block) ≡ t → (if t then status else status_of c b) ≡ Empty → (status_of c b ≢ Empty) ⊎ (b ≡ block) → ⊥
-    by true is e w = made e
-    by false is e (inl not) = not e
-    by false is e (inr same) = apart (sym (equal b block same) ∙ is)
-      where
-        equal : (x y : ℕ) → x ≡ y → (x == y) ≡ true
-        equal x y h = grind (arith, common_steps)
-
-        apart : true ≡ false → ⊥
-        apart h = cc
 
 pub begun_not_empty : (s : BlockStatus) → begun s ≢ Empty
 begun_not_empty Empty h = cc
 begun_not_empty Partial h = cc
 begun_not_empty Filled h = cc
+
+-- a block in which something was made is no longer empty, and none is that wasn't before
+pub begins_not_empty : (c d : ContextState) (blocks : List ℕ) → Begins c d blocks → (b : ℕ) → (status_of c b ≢ Empty) ⊎ (stands_in b blocks ≡ true) → status_of d b ≢ Empty
+begins_not_empty c d blocks begins b was empty = by (stands_in b blocks) refl (sym (begins b) ∙ empty) was
+  where
+    apart : true ≡ false → ⊥
+    apart h = cc
+
+    by : (t : Bool) → stands_in b blocks ≡ t → (if t then begun (status_of c b) else status_of c b) ≡ Empty → (status_of c b ≢ Empty) ⊎ (stands_in b blocks ≡ true) → ⊥
+    by true is e w = begun_not_empty (status_of c b) e
+    by false is e (inl not) = not e
+    by false is e (inr there) = apart (sym there ∙ is)
 
 -- a block of the layout into which one was brought was there, or is that one
 pub inserted_cases : (f : Body) (block b : ℕ) → stands_in b (inserted_in f block).layout ≡ true → (stands_in b f.layout ≡ true) ⊎ (b ≡ block)
@@ -97,13 +92,12 @@ module _ (declared : SignatureShape) (calls : List AnsweredCall) (f : Body) (c :
     ledger = ledger;
     carries = subst (λ (h : Body). Carries (calls ++ record { request = CreateBlock; numbers = numbers } ∷ []) h d.ssa) (sym is)
         (carries_created calls f c.ssa stands.carries d.ssa numbers stands.ledger.block_count (λ v b. ap (λ (rows : List (List Cell)). record_of (record c.ssa { records = rows }) v b) records) same leads);
-    nothing_leads = nothing_still c.ssa d.ssa leads stands.nothing_leads;
     begun = λ b there empty. stands.begun b (ap (stands_in b) (ap (λ (h : Body). h.layout) (sym is)) ∙ there) (ap (λ (s : List BlockStatus). status_of (record c { status = s }) b) (sym status) ∙ empty);
   }
 
   pub stands_switched : (q : Option ℕ) (name : Name) → LedgerAgrees (calls ++ record { request = SwitchToBlock name; numbers = [] } ∷ []) (ledger_of (calls ++ record { request = SwitchToBlock name; numbers = [] } ∷ [])) f c q
       → StandsIn declared (calls ++ record { request = SwitchToBlock name; numbers = [] } ∷ []) f c q
-  stands_switched q name ledger = record { signature = stands.signature; ledger = ledger; carries = carries_switched calls f c.ssa stands.carries name []; nothing_leads = stands.nothing_leads; begun = stands.begun }
+  stands_switched q name ledger = record { signature = stands.signature; ledger = ledger; carries = carries_switched calls f c.ssa stands.carries name []; begun = stands.begun }
 
   pub stands_declared : (d : ContextState) (ty : «Type») (numbers : List ℕ) → d.ssa ≡ c.ssa → d.status ≡ c.status
       → LedgerAgrees (calls ++ record { request = DeclareVar ty; numbers = numbers } ∷ []) (ledger_of (calls ++ record { request = DeclareVar ty; numbers = numbers } ∷ [])) f d p
@@ -112,37 +106,18 @@ module _ (declared : SignatureShape) (calls : List AnsweredCall) (f : Body) (c :
     signature = stands.signature;
     ledger = ledger;
     carries = subst (Carries (calls ++ record { request = DeclareVar ty; numbers = numbers } ∷ []) f) (sym ssa) (carries_declared calls f c.ssa stands.carries ty numbers);
-    nothing_leads = subst NothingLeads (sym ssa) stands.nothing_leads;
     begun = λ b there empty. stands.begun b there (ap (λ (s : List BlockStatus). status_of (record c { status = s }) b) (sym status) ∙ empty);
   }
 
-  pub stands_sealed : (g : Body) (d : ContextState) (name : Name) (block : ℕ) → IsConsistent f → g ≡ completed f (pending_of (sealed_of c.ssa block)) → SameRecords c.ssa d.ssa → Seals c.ssa d.ssa block
-      → SamePredecessors c.ssa d.ssa
-      → Begins c d (completing_blocks f (pending_of (sealed_of c.ssa block)))
+  pub stands_sealed : (g : Body) (d : ContextState) (name : Name) (block : ℕ) (told : List ℕ) → IsConsistent f → IsSealing f c.ssa g d.ssa block told → Begins c d told → g.layout ≡ f.layout
       → LedgerAgrees (calls ++ record { request = SealBlock name; numbers = [] } ∷ []) (ledger_of (calls ++ record { request = SealBlock name; numbers = [] } ∷ [])) g d p
       → StandsIn declared (calls ++ record { request = SealBlock name; numbers = [] } ∷ []) g d p
-  stands_sealed g d name block consistent is records seals leads begins ledger = record {
-    signature = ap (λ (h : Body). h.signature) (sealed_constructs f g c.ssa d.ssa block consistent is records seals leads alone).same ∙ stands.signature;
+  stands_sealed g d name block told consistent seals begins layout ledger = record {
+    signature = ap (λ (h : Body). h.signature) seals.constructs.same ∙ stands.signature;
     ledger = ledger;
-    carries = carries_sealed calls f c.ssa stands.carries g d.ssa name [] consistent
-        (sealed_keeps f g c.ssa d.ssa block consistent is records seals leads alone) (sealed_well f g c.ssa d.ssa block consistent is records seals leads alone)
-        (sealed_constructs f g c.ssa d.ssa block consistent is records seals leads alone) (ap (λ (h : Body). h.layout) is ∙ layout) leads;
-    nothing_leads = nothing_still c.ssa d.ssa leads stands.nothing_leads;
-    begun = λ b there empty. still b (stands_in b (completing_blocks f pending)) (sym (begins b) ∙ empty) (stands.begun b (ap (stands_in b) (sym layout ∙ ap (λ (h : Body). h.layout) (sym is)) ∙ there));
+    carries = carries_sealed calls f c.ssa stands.carries g d.ssa name [] consistent seals.keeps seals.structured seals.constructs layout seals.predecessors;
+    begun = λ b there. begins_not_empty c d told begins b (inl (stands.begun b (ap (stands_in b) (sym layout) ∙ there)));
   }
-    where
-      alone : predecessors_of c.ssa block ≡ []
-      alone = stands.nothing_leads block
-
-      pending : List Pending
-      pending = pending_of (sealed_of c.ssa block)
-
-      layout : (completed f (pending_of (sealed_of c.ssa block))).layout ≡ f.layout
-      layout = (Continues-completed f (pending_of (sealed_of c.ssa block)) (λ v b home. (stands.ledger.parameters v b home).inserted)).layout
-
-      still : (b : ℕ) (t : Bool) → (if t then begun (status_of c b) else status_of c b) ≡ Empty → status_of c b ≢ Empty → ⊥
-      still b true is not = begun_not_empty (status_of c b) is
-      still b false is not = not is
 
   -- the current block, which has no terminator, has none in the ledger
   pub current_unfilled : (block : ℕ) (B : Name) → IsCurrent calls block B → status_of c block ≢ Filled → is_filled (ledger_of calls) B ≡ false
@@ -174,45 +149,38 @@ module _ (declared : SignatureShape) (calls : List AnsweredCall) (f : Body) (c :
         carries = carries_assigned calls f c.ssa stands.carries consistent block current.0 current.1 (current_unfilled block current.0 current.1 open_block) d.ssa variable name value (value_at f value).ty []
             names.number names.is_value (ledger_type variable (value_at f value).ty typed) (exists, refl) records
             (λ b. ap (λ bs. sealed_of (record c.ssa { blocks = bs }) b) blocks) (λ b. ap (λ bs. predecessors_of (record c.ssa { blocks = bs }) b) blocks);
-        nothing_leads = nothing_still c.ssa d.ssa (λ b. ap (λ bs. predecessors_of (record c.ssa { blocks = bs }) b) blocks) stands.nothing_leads;
         begun = λ b there empty. stands.begun b there (ap (λ (s : List BlockStatus). status_of (record c { status = s }) b) (sym status) ∙ empty);
       }
 
-  -- what a use of a variable in a block leaves
-  module _ (g : Body) (d : ContextState) (variable : ℕ) (ty : «Type») (block value : ℕ) (consistent : IsConsistent f) (there : block < length f.blocks)
-      (uses : UsesIn f c g d variable ty block value) (leads : SamePredecessors c.ssa d.ssa) where
-    used_here : UsedIn f g c.ssa d.ssa block variable value ty
-    used_here = used_in f g c d variable ty block value consistent there uses leads (stands.nothing_leads block)
-        (λ v is. ((structured_so_far calls f c.ssa stands.carries).recorded variable block v is).0)
-
-    pub stands_used : p ≡ Some block → status_of c block ≢ Filled → slice_get c.variables variable ≡ Some ty → SetsStatus c d block (begun (status_of c block))
-        → LedgerAgrees (calls ++ record { request = UseVar variable; numbers = value ∷ [] } ∷ []) (ledger_of (calls ++ record { request = UseVar variable; numbers = value ∷ [] } ∷ [])) g d p
-        → StandsIn declared (calls ++ record { request = UseVar variable; numbers = value ∷ [] } ∷ []) g d p
-    stands_used at open_block of_type sets ledger =
-        let current = current_name block at in
-        record {
-          signature = ap (λ (h : Body). h.signature) (constructs_then f (inserted_in f block) g (inserted_constructs f block) used_here.constructs).same ∙ stands.signature;
-          ledger = ledger;
-          carries = carries_used calls f c.ssa stands.carries consistent block current.0 current.1 (current_unfilled block current.0 current.1 open_block) g d.ssa variable value ty (ledger_type variable ty of_type)
-              used_here.keeps used_here.structured used_here.constructs used_here.layout leads used_here.exists;
-          nothing_leads = nothing_still c.ssa d.ssa leads stands.nothing_leads;
-          begun = λ b stays. not_empty c d block (begun (status_of c block)) sets (begun_not_empty (status_of c block)) b
-              (was b (inserted_cases f block b (ap (stands_in b) (sym used_here.layout) ∙ stays)));
-        }
-      where
-        was : (b : ℕ) → (stands_in b f.layout ≡ true) ⊎ (b ≡ block) → (status_of c b ≢ Empty) ⊎ (b ≡ block)
-        was b (inl old) = inl (stands.begun b old)
-        was b (inr same_block) = inr same_block
+  -- a use of a variable in the current block
+  pub stands_used : (g : Body) (d : ContextState) (variable : ℕ) (ty : «Type») (block value : ℕ) (told : List ℕ) → IsConsistent f → p ≡ Some block → status_of c block ≢ Filled
+      → slice_get c.variables variable ≡ Some ty → IsUse (inserted_in f block) c.ssa g d.ssa variable ty block value told → Begins c d (block ∷ told)
+      → g.layout ≡ (inserted_in f block).layout
+      → LedgerAgrees (calls ++ record { request = UseVar variable; numbers = value ∷ [] } ∷ []) (ledger_of (calls ++ record { request = UseVar variable; numbers = value ∷ [] } ∷ [])) g d p
+      → StandsIn declared (calls ++ record { request = UseVar variable; numbers = value ∷ [] } ∷ []) g d p
+  stands_used g d variable ty block value told consistent at open_block of_type is_use begins layout ledger =
+      let current = current_name block at in
+      let of_ledger : variable_type (ledger_of calls) variable ≡ Some ty = ledger_type variable ty of_type in
+      let answer = is_use.structured (declared_types calls) stands.carries.own (sym (are_declared calls variable ty of_ledger))
+      (inserted_structured (declared_types calls) stands.carries.own f c.ssa block (structured_so_far calls f c.ssa stands.carries)) in
+      record {
+        signature = ap (λ (h : Body). h.signature) (constructs_then f (inserted_in f block) g (inserted_constructs f block) is_use.constructs).same ∙ stands.signature;
+        ledger = ledger;
+        carries = carries_used calls f c.ssa stands.carries consistent block current.0 current.1 (current_unfilled block current.0 current.1 open_block) g d.ssa variable value ty of_ledger
+            is_use.keeps (λ types own same before. (is_use.structured types own (sym same) before).0) is_use.constructs layout is_use.predecessors answer.1.0;
+        begun = λ b there. begins_not_empty c d (block ∷ told) begins b (was b (inserted_cases f block b (ap (stands_in b) (sym layout) ∙ there)));
+      }
+    where
+      was : (b : ℕ) → (stands_in b f.layout ≡ true) ⊎ (b ≡ block) → (status_of c b ≢ Empty) ⊎ (stands_in b (block ∷ told) ≡ true)
+      was b (inl old) = inl (stands.begun b old)
+      was b (inr same) = inr (or_left (block == b) (stands_in b told) (eq-eqb block b (sym same)))
 
 -- the same for a builder of a fresh function
-pub stands_begins : (f : Body) (c : ContextState) (p : Option ℕ) → f ≡ empty_body f.name f.signature → c ≡ empty_context → p ≡ None → StandsIn f.signature [] f c p
-stands_begins f c p function context position = record {
+pub stands_begins : (f : Body) (c : ContextState) (p : Option ℕ) → f ≡ empty_body f.name f.signature → c ≡ empty_context → LedgerAgrees [] (ledger_of []) f c p → StandsIn f.signature [] f c p
+stands_begins f c p function context ledger = record {
   signature = refl;
-  ledger = subst (λ (g : Body). LedgerAgrees [] (ledger_of []) g c p) (sym function)
-      (subst (λ (d : ContextState). LedgerAgrees [] (ledger_of []) (empty_body f.name f.signature) d p) (sym context)
-      (subst (LedgerAgrees [] (ledger_of []) (empty_body f.name f.signature) empty_context) (sym position) (agrees-empty f.name f.signature)));
+  ledger = ledger;
   carries = subst (λ (g : Body). Carries [] g c.ssa) (sym function) (subst (λ (d : ContextState). Carries [] (empty_body f.name f.signature) d.ssa) (sym context) (carries_nothing f.name f.signature));
-  nothing_leads = subst (λ (d : ContextState). NothingLeads d.ssa) (sym context) (λ b. refl);
   begun = λ b there empty. absurd (nowhere b (sym (ap (λ (g : Body). stands_in b g.layout) function) ∙ there));
 }
   where
@@ -226,3 +194,7 @@ current_exists b current block at = subst (λ (k : ℕ). k < length b.func.now.b
 -- and has no terminator
 pub current_open : (b : FunctionBuilder) → HasCurrent b → (block : ℕ) → b.position ≡ Some block → status_of b.ctx.now block ≢ Filled
 current_open b current block at = subst (λ (k : ℕ). status_of b.ctx.now k ≢ Filled) (same_Some current.0 block (sym current.1 ∙ at)) current.3
+
+-- once no parameter waits, the edges match where the caller's do
+pub standing_edges : StandingMatchesEdges
+standing_edges declared calls f c p stands none_waits typed = matching_edges calls f c.ssa stands.carries none_waits typed

@@ -1,40 +1,35 @@
 -- Each instruction that succeeds leaves a builder that stands for the list with this call at its end.
-use Rattle.std.proofs.Common.{◌≡◌, ◌≢◌, ℕ, ◌<◌, List, [], ◌∷◌, ◌++◌, length, map, refl, sym, ◌∙◌, ap, subst, ◌⊎◌, inl, inr}
-use Rattle.std.specs.Prelude.{slice_get, Option, Some, None, true, IfOk, IfSome, Result, Ok, Err, ℤ, option_and_then}
+use Rattle.std.proofs.Common.{◌≡◌, ◌≢◌, ℕ, ◌<◌, List, [], ◌∷◌, ◌++◌, length, map, refl, sym, ◌∙◌, ap, ap₂, subst, ◌⊎◌, inl, inr}
+use Rattle.std.specs.Prelude.{slice_get, Option, Some, None, Bool, true, false, if◌then◌else◌, ◌==◌, option_and_then}
 use Rattle.std.specs.List.{AllByRecursion}
-use Rattle.std.proofs.lemmas.Option.{slice_get_within, get_or_from_slice_get, none-some}
+use Rattle.std.proofs.lemmas.Bool.{eq-eqb}
+use Rattle.std.proofs.lemmas.Option.{slice_get_within, slice_get-map, none-some}
 use Rattle.clif_types.specs.declared.types.«Type».{«Type»}
-use Rattle.clif_types.specs.declared.types.«Type».TheVariants as type
 use Rattle.clif_types.specs.Signature.{SignatureShape}
-use Rattle.clif_ir.specs.declared.inst_list.BlockEnd.TheVariants.{Back}
-use Rattle.clif_ir.specs.declared.instructions.BinaryOpcode.TheVariants as binary
+use Rattle.clif_ir.specs.declared.block_call.BlockArg.{BlockArg}
+use Rattle.clif_ir.specs.declared.block_call.BlockArg.TheVariants as arg
+use Rattle.clif_ir.specs.declared.block_call.BlockCall.{BlockCall}
 use Rattle.clif_ir.specs.declared.instructions.InstructionData.{InstructionData}
-use Rattle.clif_ir.specs.declared.instructions.InstructionData.TheVariants.{UnaryImm, Binary, MultiAry}
-use Rattle.clif_ir.specs.declared.function.ValueNode.{ValueNode}
-use Rattle.clif_ir.specs.Body.{Body, no_value, value_at}
-use Rattle.clif_ir.specs.Consistent.{IsConsistent}
-use Rattle.clif_ir.specs.Changes.{inserted_in, with_inst}
+use Rattle.clif_ir.specs.Body.{Body}
+use Rattle.clif_ir.specs.Instruction.{is_terminator}
 use Rattle.clif_ir.specs.Reading.{stands_in}
-use Rattle.clif_ssa.specs.Ssa.{no_srcloc}
 use Rattle.clif_meaning.specs.Name.{Name}
+use Rattle.clif_meaning.specs.Instruction.{Argument, CallPayload, CallResult, Edge, Known}
+use Rattle.clif_meaning.specs.Ledger.{BlockState}
 use Rattle.clif_meaning.specs.Request.{AnsweredCall, number_of}
-use Rattle.clif_meaning.specs.Ledger.{or_invalid, type_of}
-use Rattle.clif_meaning.specs.Acceptance as acceptance
+use Rattle.clif_meaning.specs.View.{argument_of, edge_of}
+use Rattle.clif_simulation.specs.Tables as simulation
 use Rattle.clif_simulation.specs.Tables.{answered, number_or_none}
-use Rattle.clif_simulation.specs.Carries.{Carries, NothingLeads, IsEarlier}
-use Rattle.clif_simulation.proofs.Building.{SameInstruction, carries_terminator, carries_result}
+use Rattle.clif_simulation.specs.Carries.{Carries, EdgeEarlier, IsEarlier, PassesEarlier, answered_argument, answered_edge}
 use Rattle.clif_ssa.proofs.Constructed.{inserted_constructs}
 use Rattle.cranelift_frontend.specs.declared.context.BlockStatus.{BlockStatus}
 use Rattle.cranelift_frontend.specs.declared.context.BlockStatus.TheVariants.{Empty, Filled}
-use Rattle.cranelift_frontend.specs.declared.builder.FunctionBuilder.{FunctionBuilder}
 use Rattle.cranelift_frontend.specs.Context.{ContextState, status_of, begun, SetsStatus}
-use Rattle.cranelift_frontend.specs.Builder.{HasCurrent, Appends, AppendsValue}
-use Rattle.cranelift_frontend.specs.Ledger.{LedgerAgrees, AgreesWithLedger, NamesValue, ledger_of}
-use Rattle.cranelift_frontend.specs.StandsFor.{StandsIn, StandsFor}
-use Rattle.cranelift_frontend.proofs.LedgerKept.{inserted-values, named-value}
-use Rattle.cranelift_frontend.proofs.LedgerLists.{map-some}
-use Rattle.cranelift_frontend.proofs.LedgerBuilt.{built-iconst, built-iadd, built-return}
-use Rattle.cranelift_frontend.proofs.Standing.{current_name, current_unfilled, not_empty, begun_not_empty, inserted_cases}
+use Rattle.cranelift_frontend.specs.Builder.{AppendsIn, status_after, with_appended}
+use Rattle.cranelift_frontend.specs.Ledger.{LedgerAgrees, NamesArgument, NamesArguments, NamesEdge, NamesEdges, block_name, ledger_of}
+use Rattle.cranelift_frontend.specs.StandsFor.{StandsIn}
+use Rattle.cranelift_frontend.proofs.LedgerNames.{IsNumbered, named-block}
+use Rattle.cranelift_frontend.proofs.Standing.{begun_not_empty, inserted_cases}
 
 -- a name that has a number was answered before
 pub named_earlier : (calls : List AnsweredCall) (name : Name) (number : ℕ) → number_of calls name ≡ Some number → IsEarlier calls name
@@ -69,132 +64,100 @@ all_named calls (name ∷ names) (v ∷ values) same =
     tail : (number_of calls name ∷ map (number_of calls) names) ≡ (Some v ∷ map Some values) → map (number_of calls) names ≡ map Some values
     tail h = cc
 
-module _ (declared : SignatureShape) (calls : List AnsweredCall) (f g : Body) (c d : ContextState) (p : Option ℕ) (stands : StandsIn declared calls f c p) (consistent : IsConsistent f)
-    (block : ℕ) (at : p ≡ Some block) (there : block < length f.blocks) (ssa : d.ssa ≡ c.ssa) (status : BlockStatus) (sets : SetsStatus c d block status) (made : status ≢ Empty)
-    (shape : InstructionData) (types : List «Type») (function : g ≡ with_inst (inserted_in f block) block Back shape types no_srcloc) where
+-- names of what an edge passes answered it
+argument_named : (calls : List AnsweredCall) (argument : Argument Name) (passed : BlockArg) → NamesArgument calls argument passed
+    → (argument_of passed ≡ answered_argument calls argument) × PassesEarlier calls argument
+argument_named calls (Known name) (arg.Value value) names = (ap (λ (v : ℕ). Known v) (answer_is calls name value names.number), named_earlier calls name value names.number)
+argument_named calls (Known name) (arg.TryCallRet place) names = absurd names
+argument_named calls (Known name) (arg.TryCallExn place) names = absurd names
+argument_named calls (CallResult index) (arg.Value value) names = absurd names
+argument_named calls (CallResult index) (arg.TryCallRet place) names = (ap (λ (k : ℕ). CallResult k) (sym names), tt)
+argument_named calls (CallResult index) (arg.TryCallExn place) names = absurd names
+argument_named calls (CallPayload index) (arg.Value value) names = absurd names
+argument_named calls (CallPayload index) (arg.TryCallRet place) names = absurd names
+argument_named calls (CallPayload index) (arg.TryCallExn place) names = (ap (λ (k : ℕ). CallPayload k) (sym names), tt)
+
+arguments_named : (calls : List AnsweredCall) (arguments : List (Argument Name)) (passed : List BlockArg) → NamesArguments calls arguments passed
+    → (map argument_of passed ≡ map (answered_argument calls) arguments) × AllByRecursion (PassesEarlier calls) arguments
+arguments_named calls [] [] names = (refl, tt)
+arguments_named calls [] (p ∷ passed) names = absurd names
+arguments_named calls (argument ∷ arguments) [] names = absurd names
+arguments_named calls (argument ∷ arguments) (p ∷ passed) names =
+    let first = argument_named calls argument p names.0 in
+    let rest = arguments_named calls arguments passed names.1 in (
+      ap₂ (λ (x : Argument ℕ) (xs : List (Argument ℕ)). x ∷ xs) first.0 rest.0,
+      (first.1, rest.1),
+    )
+
+module _ (calls : List AnsweredCall) (numbered : IsNumbered calls (ledger_of calls)) where
+  edge_named : (edge : Edge Name Name) (made : BlockCall) → NamesEdge calls edge made → (edge_of made ≡ answered_edge calls edge) × EdgeEarlier calls edge
+  edge_named edge made names =
+      let target : made.block ≡ answered calls edge.target = answer_is calls edge.target made.block names.target.number in
+      let passes = arguments_named calls edge.arguments made.args names.arguments in
+      let named : block_name (ledger_of calls) made.block ≡ Some edge.target = named-block calls numbered edge.target made.block names.target in (
+        ap₂ (λ (k : ℕ) (arguments : List (Argument ℕ)). record { target = k; arguments = arguments }) target passes.0,
+        record {
+          target = named_earlier calls edge.target made.block names.target.number;
+          leads = ap (simulation.block_name calls) (sym target) ∙ slice_get-map (λ (state : BlockState). state.block) (ledger_of calls).blocks made.block ∙ named;
+          passes = passes.1;
+        },
+      )
+
+  pub edges_named : (edges : List (Edge Name Name)) (made : List BlockCall) → NamesEdges calls edges made
+      → (map edge_of made ≡ map (answered_edge calls) edges) × AllByRecursion (EdgeEarlier calls) edges
+  edges_named [] [] names = (refl, tt)
+  edges_named [] (m ∷ made) names = absurd names
+  edges_named (edge ∷ edges) [] names = absurd names
+  edges_named (edge ∷ edges) (m ∷ made) names =
+      let first = edge_named edge m names.0 in
+      let rest = edges_named edges made names.1 in (
+        ap₂ (λ (x : Edge ℕ ℕ) (xs : List (Edge ℕ ℕ)). x ∷ xs) first.0 rest.0,
+        (first.1, rest.1),
+      )
+
+-- no edge is named
+pub none_named : (calls : List AnsweredCall) (edges : List (Edge Name Name)) → NamesEdges calls edges [] → edges ≡ []
+none_named calls [] names = refl
+none_named calls (edge ∷ edges) names = absurd names
+
+-- one block has another status than empty, if it had one, or is the one in which something was made
+not_empty : (c d : ContextState) (block : ℕ) (status : BlockStatus) → SetsStatus c d block status → status ≢ Empty
+    → (b : ℕ) → (status_of c b ≢ Empty) ⊎ (b ≡ block) → status_of d b ≢ Empty
+not_empty c d block status sets made b was empty = by (b == block) refl (sym (sets b) ∙ empty) was
+  where
+    apart : true ≡ false → ⊥
+    apart h = cc
+
+    by : (t : Bool) → (b == block) ≡ t → (if t then status else status_of c b) ≡ Empty → (status_of c b ≢ Empty) ⊎ (b ≡ block) → ⊥
+    by true is e w = made e
+    by false is e (inl not) = not e
+    by false is e (inr same) = apart (sym (eq-eqb b block same) ∙ is)
+
+-- a block to which an instruction was appended isn't empty
+appended_not_empty : (shape : InstructionData) (status : BlockStatus) → status_after shape status ≢ Empty
+appended_not_empty shape status = by (is_terminator shape)
+  where
+    filled : Filled ≢ Empty
+    filled h = cc
+
+    by : (t : Bool) → (if t then Filled else begun status) ≢ Empty
+    by true = filled
+    by false = begun_not_empty status
+
+module _ (declared : SignatureShape) (calls : List AnsweredCall) (f g : Body) (c d : ContextState) (p : Option ℕ) (stands : StandsIn declared calls f c p)
+    (block : ℕ) (shape : InstructionData) (ty : «Type») (inst : ℕ) (appends : AppendsIn f c g d block shape ty inst) where
   was : (b : ℕ) → (stands_in b f.layout ≡ true) ⊎ (b ≡ block) → (status_of c b ≢ Empty) ⊎ (b ≡ block)
   was b (inl old) = inl (stands.begun b old)
   was b (inr same) = inr same
 
   -- an instruction was appended, and the function carries the call
   pub stands_built : (call : AnsweredCall) → LedgerAgrees (calls ++ call ∷ []) (ledger_of (calls ++ call ∷ [])) g d p
-      → Carries (calls ++ call ∷ []) (with_inst (inserted_in f block) block Back shape types no_srcloc) c.ssa → StandsIn declared (calls ++ call ∷ []) g d p
+      → Carries (calls ++ call ∷ []) (with_appended f block shape ty) d.ssa → StandsIn declared (calls ++ call ∷ []) g d p
   stands_built call ledger carries = record {
-    signature = ap (λ (h : Body). h.signature) function ∙ ap (λ (h : Body). h.signature) (inserted_constructs f block).same ∙ stands.signature;
+    signature = ap (λ (h : Body). h.signature) appends.function ∙ ap (λ (h : Body). h.signature) (inserted_constructs f block).same ∙ stands.signature;
     ledger = ledger;
-    carries = subst (λ (h : Body). Carries (calls ++ call ∷ []) h d.ssa) (sym function) (subst (Carries (calls ++ call ∷ []) (with_inst (inserted_in f block) block Back shape types no_srcloc)) (sym ssa) carries);
-    nothing_leads = subst NothingLeads (sym ssa) stands.nothing_leads;
-    begun = λ b stays. not_empty c d block status sets made b (was b (inserted_cases f block b (ap (stands_in b) (sym (ap (λ (h : Body). h.layout) function)) ∙ stays)));
+    carries = subst (λ (h : Body). Carries (calls ++ call ∷ []) h d.ssa) (sym appends.function) carries;
+    begun = λ b stays.
+        not_empty c d block (status_after shape (status_of c block)) appends.status (appended_not_empty shape (status_of c block)) b
+        (was b (inserted_cases f block b (ap (stands_in b) (sym (ap (λ (h : Body). h.layout) appends.function)) ∙ stays)));
   }
-
-pub stands_iconst : (declared : SignatureShape) (calls : List AnsweredCall) (old new : FunctionBuilder) (ty : «Type») (imm : ℤ) (value : ℕ)
-    → StandsFor declared calls old → IsConsistent old.func.now → HasCurrent old → IfSome old.position (λ block. AppendsValue old new block (UnaryImm imm) ty value)
-    → new.ctx.now.ssa ≡ old.ctx.now.ssa → new.ctx.now.variables ≡ old.ctx.now.variables → new.position ≡ old.position
-    → StandsFor declared (calls ++ record { request = acceptance.iconst ty imm; numbers = length old.func.now.insts ∷ value ∷ [] } ∷ []) new
-stands_iconst declared calls old new ty imm value stands consistent current appends ssa variables position =
-    let block : ℕ = current.0 in
-    let call : AnsweredCall = record { request = acceptance.iconst ty imm; numbers = length old.func.now.insts ∷ value ∷ [] } in
-    let here : AppendsValue old new block (UnaryImm imm) ty value = subst (λ (o : Option ℕ). IfSome o (λ b. AppendsValue old new b (UnaryImm imm) ty value)) current.1 appends in
-    let name = current_name declared calls old.func.now old.ctx.now old.position stands block current.1 in
-    let ledger = built-iconst calls old new ty imm value stands.ledger current appends ssa variables position in
-    let matches : SameInstruction calls (UnaryImm imm) _ = record { operation = refl; arguments = refl; no_edges = refl; edges = refl; earlier = tt } in
-    let carries = carries_result calls old.func.now old.ctx.now.ssa stands.carries consistent block name.0 name.1 (current_unfilled declared calls old.func.now old.ctx.now old.position stands block name.0 name.1 current.3) current.2 (UnaryImm imm) _ no_srcloc (length old.func.now.insts ∷ value ∷ []) matches
-    ty refl refl (λ g values. refl) (ap (λ (v : ℕ). Some v) (here.1 ∙ sym (inserted-values old.func.now block))) in
-    subst (λ (o : Option ℕ). StandsIn declared (calls ++ call ∷ []) new.func.now new.ctx.now o) (sym position)
-    (stands_built declared calls old.func.now new.func.now old.ctx.now new.ctx.now old.position stands consistent block current.1 current.2 ssa (begun (status_of old.ctx.now block)) here.0.status
-    (begun_not_empty (status_of old.ctx.now block)) (UnaryImm imm) (ty ∷ []) here.0.function call
-    (subst (λ (o : Option ℕ). LedgerAgrees (calls ++ call ∷ []) (ledger_of (calls ++ call ∷ [])) new.func.now new.ctx.now o) position ledger) carries)
-
-pub stands_iadd : (declared : SignatureShape) (calls : List AnsweredCall) (old new : FunctionBuilder) (a b : Name) (x y value : ℕ)
-    → StandsFor declared calls old → IsConsistent old.func.now → NamesValue calls a x → NamesValue calls b y → HasCurrent old
-    → IfSome old.position (λ block. AppendsValue old new block (Binary binary.Iadd (x ∷ y ∷ [])) (value_at old.func.now x).ty value)
-    → new.ctx.now.ssa ≡ old.ctx.now.ssa → new.ctx.now.variables ≡ old.ctx.now.variables → new.position ≡ old.position
-    → StandsFor declared (calls ++ record { request = acceptance.iadd (ledger_of calls) a b; numbers = length old.func.now.insts ∷ value ∷ [] } ∷ []) new
-stands_iadd declared calls old new a b x y value stands consistent first second current appends ssa variables position =
-    let block : ℕ = current.0 in
-    let ty : «Type» = (value_at old.func.now x).ty in
-    let shape : InstructionData = Binary binary.Iadd (x ∷ y ∷ []) in
-    let call : AnsweredCall = record { request = acceptance.iadd (ledger_of calls) a b; numbers = length old.func.now.insts ∷ value ∷ [] } in
-    let here : AppendsValue old new block shape ty value = subst (λ (o : Option ℕ). IfSome o (λ b. AppendsValue old new b shape ty value)) current.1 appends in
-    let name = current_name declared calls old.func.now old.ctx.now old.position stands block current.1 in
-    let ledger = built-iadd calls old new a b x y value stands.ledger first second current appends ssa variables position in
-    let named = named-value calls (ledger_of calls) old.func.now old.ctx.now old.position stands.ledger a x first.number first.is_value in
-    let node = map-some (λ (n : ValueNode). n.ty) (slice_get old.func.now.values x) named.0 named.2 in
-    let typed : ty ≡ named.0 = ap (λ (n : ValueNode). n.ty) (get_or_from_slice_get old.func.now.values x node.0 no_value node.1) ∙ node.2 in
-    let controls : or_invalid (type_of (ledger_of calls) a) ≡ ty = ap or_invalid named.1 ∙ sym typed in
-    let matches : SameInstruction calls shape _ = record {
-      operation = refl;
-      arguments = ap (λ (v : ℕ). v ∷ y ∷ []) (answer_is calls a x first.number) ∙ ap (λ (v : ℕ). answered calls a ∷ v ∷ []) (answer_is calls b y second.number);
-      no_edges = refl;
-      edges = refl;
-      earlier = (named_earlier calls a x first.number, (named_earlier calls b y second.number, tt));
-    } in
-    let carries = carries_result calls old.func.now old.ctx.now.ssa stands.carries consistent block name.0 name.1 (current_unfilled declared calls old.func.now old.ctx.now old.position stands block name.0 name.1 current.3) current.2 shape _ no_srcloc (length old.func.now.insts ∷ value ∷ []) matches
-    ty (ap (λ (t : «Type»). t ∷ []) controls) controls (λ g values. refl) (ap (λ (v : ℕ). Some v) (here.1 ∙ sym (inserted-values old.func.now block))) in
-    subst (λ (o : Option ℕ). StandsIn declared (calls ++ call ∷ []) new.func.now new.ctx.now o) (sym position)
-    (stands_built declared calls old.func.now new.func.now old.ctx.now new.ctx.now old.position stands consistent block current.1 current.2 ssa (begun (status_of old.ctx.now block)) here.0.status
-    (begun_not_empty (status_of old.ctx.now block)) shape (ty ∷ []) here.0.function call
-    (subst (λ (o : Option ℕ). LedgerAgrees (calls ++ call ∷ []) (ledger_of (calls ++ call ∷ [])) new.func.now new.ctx.now o) position ledger) carries)
-
-pub stands_return : (declared : SignatureShape) (calls : List AnsweredCall) (old new : FunctionBuilder) (names : List Name) (values : List ℕ) (inst : ℕ)
-    → StandsFor declared calls old → IsConsistent old.func.now → map (number_of calls) names ≡ map Some values → HasCurrent old
-    → IfSome old.position (λ block. Appends old new block (MultiAry values) type.Invalid inst)
-    → new.ctx.now.ssa ≡ old.ctx.now.ssa → new.ctx.now.variables ≡ old.ctx.now.variables → new.position ≡ old.position
-    → StandsFor declared (calls ++ record { request = acceptance.return_ names; numbers = inst ∷ [] } ∷ []) new
-stands_return declared calls old new names values inst stands consistent named current appends ssa variables position =
-    let block : ℕ = current.0 in
-    let call : AnsweredCall = record { request = acceptance.return_ names; numbers = inst ∷ [] } in
-    let here : Appends old new block (MultiAry values) type.Invalid inst = subst (λ (o : Option ℕ). IfSome o (λ b. Appends old new b (MultiAry values) type.Invalid inst)) current.1 appends in
-    let name = current_name declared calls old.func.now old.ctx.now old.position stands block current.1 in
-    let ledger = built-return calls old new names values inst stands.ledger current appends ssa variables position in
-    let all = all_named calls names values named in
-    let matches : SameInstruction calls (MultiAry values) _ = record { operation = refl; arguments = all.0; no_edges = refl; edges = refl; earlier = all.1 } in
-    let carries = carries_terminator calls old.func.now old.ctx.now.ssa stands.carries consistent block name.0 name.1 (current_unfilled declared calls old.func.now old.ctx.now old.position stands block name.0 name.1 current.3) current.2 (MultiAry values) _ no_srcloc (inst ∷ []) matches refl (λ g. refl) in
-    subst (λ (o : Option ℕ). StandsIn declared (calls ++ call ∷ []) new.func.now new.ctx.now o) (sym position)
-    (stands_built declared calls old.func.now new.func.now old.ctx.now new.ctx.now old.position stands consistent block current.1 current.2 ssa Filled here.status filled
-    (MultiAry values) [] here.function call
-    (subst (λ (o : Option ℕ). LedgerAgrees (calls ++ call ∷ []) (ledger_of (calls ++ call ∷ [])) new.func.now new.ctx.now o) position ledger) carries)
-  where
-    filled : Filled ≢ Empty
-    filled h = cc
-
--- the same for calls that answer a result: where it is no error
-pub iconst_agrees : {E : Type 0} (calls : List AnsweredCall) (old new : FunctionBuilder) (ty : «Type») (imm : ℤ) (r : Result ℕ E)
-    → AgreesWithLedger calls old → HasCurrent old → IfSome old.position (λ block. IfOk r (AppendsValue old new block (UnaryImm imm) ty))
-    → new.ctx.now.ssa ≡ old.ctx.now.ssa → new.ctx.now.variables ≡ old.ctx.now.variables → new.position ≡ old.position
-    → IfOk r (λ value. AgreesWithLedger (calls ++ record { request = acceptance.iconst ty imm; numbers = length old.func.now.insts ∷ value ∷ [] } ∷ []) new)
-iconst_agrees calls old new ty imm (Err e) agrees current appends ssa variables position = tt
-iconst_agrees calls old new ty imm (Ok value) agrees current appends ssa variables position = built-iconst calls old new ty imm value agrees current appends ssa variables position
-
-pub iadd_agrees : {E : Type 0} (calls : List AnsweredCall) (old new : FunctionBuilder) (a b : Name) (x y : ℕ) (r : Result ℕ E)
-    → AgreesWithLedger calls old → NamesValue calls a x → NamesValue calls b y → HasCurrent old
-    → IfSome old.position (λ block. IfOk r (AppendsValue old new block (Binary binary.Iadd (x ∷ y ∷ [])) (value_at old.func.now x).ty))
-    → new.ctx.now.ssa ≡ old.ctx.now.ssa → new.ctx.now.variables ≡ old.ctx.now.variables → new.position ≡ old.position
-    → IfOk r (λ value. AgreesWithLedger (calls ++ record { request = acceptance.iadd (ledger_of calls) a b; numbers = length old.func.now.insts ∷ value ∷ [] } ∷ []) new)
-iadd_agrees calls old new a b x y (Err e) agrees first second current appends ssa variables position = tt
-iadd_agrees calls old new a b x y (Ok value) agrees first second current appends ssa variables position = built-iadd calls old new a b x y value agrees first second current appends ssa variables position
-
-pub iconst_stands : {E : Type 0} (declared : SignatureShape) (calls : List AnsweredCall) (old new : FunctionBuilder) (ty : «Type») (imm : ℤ) (r : Result ℕ E)
-    → StandsFor declared calls old → IsConsistent old.func.now → HasCurrent old → IfSome old.position (λ block. IfOk r (AppendsValue old new block (UnaryImm imm) ty))
-    → new.ctx.now.ssa ≡ old.ctx.now.ssa → new.ctx.now.variables ≡ old.ctx.now.variables → new.position ≡ old.position
-    → IfOk r (λ value. StandsFor declared (calls ++ record { request = acceptance.iconst ty imm; numbers = length old.func.now.insts ∷ value ∷ [] } ∷ []) new)
-iconst_stands declared calls old new ty imm (Err e) stands consistent current appends ssa variables position = tt
-iconst_stands declared calls old new ty imm (Ok value) stands consistent current appends ssa variables position = stands_iconst declared calls old new ty imm value stands consistent current appends ssa variables position
-
-pub iadd_stands : {E : Type 0} (declared : SignatureShape) (calls : List AnsweredCall) (old new : FunctionBuilder) (a b : Name) (x y : ℕ) (r : Result ℕ E)
-    → StandsFor declared calls old → IsConsistent old.func.now → NamesValue calls a x → NamesValue calls b y → HasCurrent old
-    → IfSome old.position (λ block. IfOk r (AppendsValue old new block (Binary binary.Iadd (x ∷ y ∷ [])) (value_at old.func.now x).ty))
-    → new.ctx.now.ssa ≡ old.ctx.now.ssa → new.ctx.now.variables ≡ old.ctx.now.variables → new.position ≡ old.position
-    → IfOk r (λ value. StandsFor declared (calls ++ record { request = acceptance.iadd (ledger_of calls) a b; numbers = length old.func.now.insts ∷ value ∷ [] } ∷ []) new)
-iadd_stands declared calls old new a b x y (Err e) stands consistent first second current appends ssa variables position = tt
-iadd_stands declared calls old new a b x y (Ok value) stands consistent first second current appends ssa variables position =
-    stands_iadd declared calls old new a b x y value stands consistent first second current appends ssa variables position
-
-pub return_stands : {E : Type 0} (declared : SignatureShape) (calls : List AnsweredCall) (old new : FunctionBuilder) (names : List Name) (values : List ℕ) (r : Result ℕ E)
-    → StandsFor declared calls old → IsConsistent old.func.now → map (number_of calls) names ≡ map Some values → HasCurrent old
-    → IfSome old.position (λ block. IfOk r (λ inst. Appends old new block (MultiAry values) type.Invalid inst))
-    → new.ctx.now.ssa ≡ old.ctx.now.ssa → new.ctx.now.variables ≡ old.ctx.now.variables → new.position ≡ old.position
-    → IfOk r (λ inst. StandsFor declared (calls ++ record { request = acceptance.return_ names; numbers = inst ∷ [] } ∷ []) new)
-return_stands declared calls old new names values (Err e) stands consistent named current appends ssa variables position = tt
-return_stands declared calls old new names values (Ok inst) stands consistent named current appends ssa variables position =
-    stands_return declared calls old new names values inst stands consistent named current appends ssa variables position

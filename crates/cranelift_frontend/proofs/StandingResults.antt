@@ -5,16 +5,16 @@ use Rattle.clif_types.specs.Signature.{SignatureShape}
 use Rattle.clif_types.specs.declared.types.«Type».{«Type»}
 use Rattle.clif_ir.specs.Body.{Body, value_at}
 use Rattle.clif_ir.specs.Consistent.{IsConsistent}
-use Rattle.clif_ir.specs.Changes.{with_block}
-use Rattle.clif_ssa.specs.Tables.{pending_of}
-use Rattle.clif_ssa.specs.Ssa.{sealed_of, completed, completing_blocks, Records, SameBlocks, SamePredecessors, SameRecords, Seals}
+use Rattle.clif_ir.specs.Changes.{with_block, inserted_in}
+use Rattle.clif_ssa.specs.Ssa.{Records, SameBlocks, SamePredecessors}
 use Rattle.clif_meaning.specs.Name.{Name}
 use Rattle.clif_meaning.specs.Request.{AnsweredCall, CreateBlock, SealBlock, DeclareVar, DefVar, UseVar}
 use Rattle.cranelift_frontend.specs.declared.context.BlockStatus.TheVariants.{Filled}
-use Rattle.cranelift_frontend.specs.Context.{ContextState, status_of, begun, Begins, SetsStatus}
-use Rattle.cranelift_frontend.specs.Builder.{UsesIn}
+use Rattle.cranelift_frontend.specs.Context.{ContextState, status_of, Begins}
+use Rattle.cranelift_frontend.specs.Construction.{IsUse, IsSealing}
 use Rattle.cranelift_frontend.specs.Ledger.{LedgerAgrees, NamesValue, ledger_of}
 use Rattle.cranelift_frontend.specs.StandsFor.{StandsIn}
+use Rattle.cranelift_frontend.proofs.Placed.{sealed_layout, used_layout}
 use Rattle.cranelift_frontend.proofs.Standing.{stands_created, stands_declared, stands_sealed, stands_assigned, stands_used}
 
 module _ {E : Type 0} (declared : SignatureShape) (calls : List AnsweredCall) where
@@ -35,13 +35,13 @@ module _ {E : Type 0} (declared : SignatureShape) (calls : List AnsweredCall) wh
       (ap (λ (e : ContextState). e.ssa) same) (ap (λ (e : ContextState). e.status) same) ledger
 
   pub sealed_stands : (f g : Body) (c d : ContextState) (p : Option ℕ) (name : Name) (block : ℕ) (r : Result (Unit {0}) E) → StandsIn declared calls f c p → IsConsistent f
-      → OnOk r (g ≡ completed f (pending_of (sealed_of c.ssa block))) → SameRecords c.ssa d.ssa → OnOk r (Seals c.ssa d.ssa block) → SamePredecessors c.ssa d.ssa
-      → OnOk r (Begins c d (completing_blocks f (pending_of (sealed_of c.ssa block))))
+      → OnOk r ((told : List ℕ) × IsSealing f c.ssa g d.ssa block told × Begins c d told) → IsConsistent g
       → OnOk r (LedgerAgrees (calls ++ record { request = SealBlock name; numbers = [] } ∷ []) (ledger_of (calls ++ record { request = SealBlock name; numbers = [] } ∷ [])) g d p)
       → OnOk r (StandsIn declared (calls ++ record { request = SealBlock name; numbers = [] } ∷ []) g d p)
-  sealed_stands f g c d p name block (Err e) stands consistent function records seals leads begins ledger = tt
-  sealed_stands f g c d p name block (Ok u) stands consistent function records seals leads begins ledger =
-      stands_sealed declared calls f c p stands g d name block consistent function records seals leads begins ledger
+  sealed_stands f g c d p name block (Err e) stands consistent seals after ledger = tt
+  sealed_stands f g c d p name block (Ok u) stands consistent seals after ledger =
+      stands_sealed declared calls f c p stands g d name block seals.0 consistent seals.1 seals.2
+      (sealed_layout calls (ledger_of calls) f c p stands.ledger g d block seals.0 seals.1 after) ledger
 
   pub assigned_stands : (f : Body) (c d : ContextState) (p : Option ℕ) (variable value block : ℕ) (name : Name) (r : Result (Unit {0}) E) → StandsIn declared calls f c p
       → p ≡ Some block → IsConsistent f → status_of c block ≢ Filled → value < length f.values → slice_get c.variables variable ≡ Some (value_at f value).ty
@@ -53,9 +53,12 @@ module _ {E : Type 0} (declared : SignatureShape) (calls : List AnsweredCall) wh
       stands_assigned declared calls f c p stands d variable value block name at consistent open_block exists typed names records blocks status ledger
 
   pub used_stands : (f g : Body) (c d : ContextState) (p : Option ℕ) (variable : ℕ) (ty : «Type») (block : ℕ) (r : Result ℕ E) → StandsIn declared calls f c p → IsConsistent f
-      → p ≡ Some block → block < length f.blocks → status_of c block ≢ Filled → slice_get c.variables variable ≡ Some ty → IfOk r (λ value. UsesIn f c g d variable ty block value) → SamePredecessors c.ssa d.ssa → OnOk r (SetsStatus c d block (begun (status_of c block)))
+      → p ≡ Some block → status_of c block ≢ Filled → slice_get c.variables variable ≡ Some ty
+      → IfOk r (λ value. (told : List ℕ) × IsUse (inserted_in f block) c.ssa g d.ssa variable ty block value told × Begins c d (block ∷ told))
+      → IsConsistent g
       → IfOk r (λ value. LedgerAgrees (calls ++ record { request = UseVar variable; numbers = value ∷ [] } ∷ []) (ledger_of (calls ++ record { request = UseVar variable; numbers = value ∷ [] } ∷ [])) g d p)
       → IfOk r (λ value. StandsIn declared (calls ++ record { request = UseVar variable; numbers = value ∷ [] } ∷ []) g d p)
-  used_stands f g c d p variable ty block (Err e) stands consistent at there open_block of_type uses leads sets ledger = tt
-  used_stands f g c d p variable ty block (Ok value) stands consistent at there open_block of_type uses leads sets ledger =
-      stands_used declared calls f c p stands g d variable ty block value consistent there uses leads at open_block of_type sets ledger
+  used_stands f g c d p variable ty block (Err e) stands consistent at open_block of_type is_use after ledger = tt
+  used_stands f g c d p variable ty block (Ok value) stands consistent at open_block of_type is_use after ledger =
+      stands_used declared calls f c p stands g d variable ty block value is_use.0 consistent at open_block of_type is_use.1 is_use.2
+      (used_layout calls (ledger_of calls) f c p stands.ledger g d variable ty block value is_use.0 is_use.1 after) ledger

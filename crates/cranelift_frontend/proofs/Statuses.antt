@@ -1,15 +1,14 @@
 -- Laws of the status of blocks.
-use Rattle.std.proofs.Common.{◌≡◌, ◌≢◌, ℕ, ◌+◌, ◌<◌, List, [], length, take, get_or, refl, ap, arith, sym, ◌∙◌, inl, inr}
-use Rattle.std.specs.Prelude.{Bool, true, false, if◌then◌else◌, ◌==◌, ◌||◌, Option, Some, None, slice_index_or}
+use Rattle.std.proofs.Common.{◌≡◌, ◌≢◌, ℕ, ◌+◌, ◌<◌, List, [], ◌∷◌, length, take, get_or, refl, ap, subst, arith, sym, ◌∙◌, inl, inr}
+use Rattle.std.specs.Prelude.{Bool, true, false, if◌then◌else◌, ◌==◌, ◌||◌, slice_index_or}
 use Rattle.std.proofs.lemmas.Grind.{common_steps}
 use Rattle.std.proofs.lemmas.Bool.{cases_eq}
 use Rattle.std.proofs.lemmas.List.Folds.{list_any_more}
 use Rattle.clif_ir.specs.Reading.{stands_in}
-use Rattle.clif_ssa.specs.declared.tables.Sealed.{Sealed}
-use Rattle.clif_ssa.specs.declared.tables.Sealed.TheVariants.{No, Yes}
+use Rattle.cranelift_frontend.proofs.Named.{names_inserted}
 use Rattle.cranelift_frontend.specs.declared.context.BlockStatus.{BlockStatus}
 use Rattle.cranelift_frontend.specs.declared.context.BlockStatus.TheVariants.{Empty, Partial, Filled}
-use Rattle.cranelift_frontend.specs.Context.{ContextState, status_of, SetsStatus, Begins, begun, zero_block_of}
+use Rattle.cranelift_frontend.specs.Context.{ContextState, status_of, SetsStatus, Begins, begun}
 
 never_empty : (s : BlockStatus) → begun s ≡ Empty → ⊥
 never_empty Empty same = cc
@@ -75,26 +74,40 @@ begin_skipped old mid blocks i x d inside read before begun_before b =
 pub Begins-none : (old new : ContextState) → new.status ≡ old.status → Begins old new []
 Begins-none old new same b = ap (λ (xs : List BlockStatus). slice_index_or xs b Empty) same
 
+-- the same of a context with the same statuses, and of the same blocks
+pub begins_from : (old mid new : ContextState) (blocks told : List ℕ) → mid.status ≡ old.status → blocks ≡ told → Begins mid new blocks → Begins old new told
+begins_from old mid new blocks told same are begins b =
+    subst (λ (xs : List ℕ). status_of new b ≡ (if stands_in b xs then begun (status_of mid b) else status_of mid b)) are (begins b)
+    ∙ ap (λ (xs : List BlockStatus). if stands_in b told then begun (slice_index_or xs b Empty) else slice_index_or xs b Empty) same
+
 -- what is begun stays begun
 begun_begun : (s : BlockStatus) → begun (begun s) ≡ begun s
 begun_begun Empty = refl
 begun_begun Partial = refl
 begun_begun Filled = refl
 
--- one block was begun, and then at most that block again
-pub begun_again : (old mid new : ContextState) (known : Option ℕ) (sealed : Sealed) (block : ℕ) → SetsStatus old mid block (begun (status_of old block)) → Begins mid new (zero_block_of known sealed block)
-    → SetsStatus old new block (begun (status_of old block))
-begun_again old mid new (Some value) sealed block first next b = next b ∙ first b
-begun_again old mid new None (No pending) block first next b = next b ∙ first b
-begun_again old mid new None Yes block first next b =
-    elim (cases_eq b block) [
-      | inl here ↦
-          let was : status_of mid b ≡ begun (status_of old block) = first b ∙ grind (arith, common_steps, here) in
-          let more : status_of new b ≡ begun (status_of mid b) = next b ∙ grind (arith, common_steps, here) in
-          more ∙ ap begun was ∙ begun_begun (status_of old block) ∙ grind (arith, common_steps, here)
-      | inr other ↦ next b ∙ grind (arith, common_steps, other) ∙ first b
-    ]
+-- one block was begun, and then others
+pub begins_cons : (old mid new : ContextState) (block : ℕ) (blocks : List ℕ) → SetsStatus old mid block (begun (status_of old block)) → Begins mid new blocks → Begins old new (block ∷ blocks)
+begins_cons old mid new block blocks first next b = elim (cases_eq block b) [ inl same ↦ here same (stands_in b blocks) (next b) | inr other ↦ away other ]
+  where
+    here : block ≡ b → (t : Bool) → status_of new b ≡ (if t then begun (status_of mid b) else status_of mid b)
+        → status_of new b ≡ (if stands_in b (block ∷ blocks) then begun (status_of old b) else status_of old b)
+    here same t is =
+        let was : status_of mid b ≡ begun (status_of old b) =
+        first b ∙ if_yes _ (begun (status_of old block)) (status_of old b) (grind (arith, common_steps, same)) ∙ ap (λ x. begun (status_of old x)) same in
+        let stands : stands_in b (block ∷ blocks) ≡ true = let here_too : (block == b) ≡ true = grind (arith, common_steps, same) in ap (λ test. test || stands_in b blocks) here_too in
+        is ∙ by t was ∙ sym (if_yes _ (begun (status_of old b)) (status_of old b) stands)
+      where
+        by : (t : Bool) → status_of mid b ≡ begun (status_of old b) → (if t then begun (status_of mid b) else status_of mid b) ≡ begun (status_of old b)
+        by true was = ap begun was ∙ begun_begun (status_of old b)
+        by false was = was
+
+    away : block ≢ b → status_of new b ≡ (if stands_in b (block ∷ blocks) then begun (status_of old b) else status_of old b)
+    away other =
+        let kept : status_of mid b ≡ status_of old b = first b ∙ if_no _ (begun (status_of old block)) (status_of old b) (grind (arith, common_steps, other)) in
+        let same : stands_in b (block ∷ blocks) ≡ stands_in b blocks = let apart : (block == b) ≡ false = grind (arith, common_steps, other) in ap (λ test. test || stands_in b blocks) apart in
+        next b ∙ ap (λ s. if stands_in b blocks then begun s else s) kept ∙ sym (ap (λ test. if test then begun (status_of old b) else status_of old b) same)
 
 pub ruleset status_rules = (begin_more, begin_skipped)
 
-pub ruleset use_rules = (begun_again)
+pub ruleset use_rules = (begins_cons, names_inserted)

@@ -6,6 +6,8 @@ use Rattle.clif_ir.specs.Body.{Body}
 use Rattle.clif_ir.specs.Reading.{stands_in}
 use Rattle.clif_meaning.specs.Request.{AnsweredCall}
 use Rattle.clif_simulation.specs.Carries.{Carries}
+pub use Rattle.clif_simulation.specs.Carries.{NothingLeads}
+pub use Rattle.clif_simulation.specs.Structure.{LeavesNoParameter}
 use Rattle.cranelift_frontend.specs.declared.context.BlockStatus.TheVariants.{Empty}
 use Rattle.cranelift_frontend.specs.declared.builder.FunctionBuilder.{FunctionBuilder}
 use Rattle.cranelift_frontend.specs.Context.{ContextState, status_of}

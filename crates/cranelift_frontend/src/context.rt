@@ -173,11 +173,13 @@ impl FunctionBuilderContext {
         self.status.set(block, status)
     }
 
+    #[tactic(auto, using(crate::proofs::Declaring::declare_rules))]
     /// Makes a block known.
     pub(crate) fn declare_block(&mut self, block: Block) -> Result<(), BuildError>
         ensures records { self.new.ssa.records ≡ self.old.ssa.records }
         ensures blocks { SameBlocks self.old.ssa self.new.ssa }
         ensures predecessors { SamePredecessors self.old.ssa self.new.ssa }
+        ensures names { (f : Body) → NamesExist f self.old.ssa → NamesExist f self.new.ssa }
         ensures status { self.new.status ≡ self.old.status }
         ensures variables { self.new.variables ≡ self.old.variables }
         ensures known { OnOk result (block < length self.new.ssa.blocks) }
@@ -209,6 +211,7 @@ impl FunctionBuilderContext {
         self.variables.get(variable.index()).copied()
     }
 
+    #[tactic(auto, using(crate::proofs::Named::names_rules))]
     /// Records that a variable has a value in a block from here on.
     pub(crate) fn def_var(
         &mut self,
@@ -218,6 +221,7 @@ impl FunctionBuilderContext {
     ) -> Result<(), BuildError>
         ensures ok { OnOk result (Records self.old.ssa self.new.ssa variable block value) }
         ensures blocks { self.new.ssa.blocks ≡ self.old.ssa.blocks }
+        ensures names { (f : Body) → value < length f.values → NamesExist f self.old.ssa → NamesExist f self.new.ssa }
         ensures status { self.new.status ≡ self.old.status }
         ensures variables { self.new.variables ≡ self.old.variables }
         ensures only_memory { OnErr result (result ≡ Err BuildError.Memory) }
@@ -282,6 +286,7 @@ impl FunctionBuilderContext {
         self.ssa.has_any_predecessors(block)
     }
 
+    #[tactic(auto, using(crate::proofs::Declaring::declare_rules))]
     /// Says that a new branch with these edges leads to the target of each, once.
     pub(crate) fn declare_successors(
         &mut self,
@@ -291,6 +296,7 @@ impl FunctionBuilderContext {
         requires unsealed { (b : ℕ) → Contains (targets edges.now) b → is_yes (sealed_of self.old.ssa b) ≡ false }
         requires new_branch { (b : ℕ) → Contains (predecessors_of self.old.ssa b) inst → ⊥ }
         ensures ok { OnOk result (IsDeclared self.old.ssa inst (targets edges.now) self.new.ssa) }
+        ensures none { edges.now ≡ [] → self.new.ssa ≡ self.old.ssa }
         ensures names { (f : Body) → inst < length f.insts → NamesExist f self.old.ssa → NamesExist f self.new.ssa }
         ensures status { self.new.status ≡ self.old.status }
         ensures variables { self.new.variables ≡ self.old.variables }

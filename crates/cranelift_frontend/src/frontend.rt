@@ -182,6 +182,7 @@ impl<'a> FunctionBuilder<'a> {
         }
         self.func.law_consistent();
         let sealed = self.ctx.seal_block(block, self.func);
+        self.func.law_consistent();
         self.failed = sealed.is_err();
         sealed
     }
@@ -284,11 +285,13 @@ impl<'a> FunctionBuilder<'a> {
         };
         self.func.law_consistent();
         let used = use_variable(self.func, self.ctx, variable, ty, block);
+        self.func.law_consistent();
         self.failed = used.is_err();
         used
     }
 }
 
+#[tactic(auto, using(crate::proofs::Named::names_rules))]
 // Brings a block into the layout, where something is made in it.
 pub(crate) fn begin_block(
     func: &mut Function,
@@ -299,6 +302,7 @@ pub(crate) fn begin_block(
     ensures function { OnOk result (func.new ≡ inserted_in func.old block) }
     ensures status { OnOk result (SetsStatus ctx.old ctx.new block (begun (status_of ctx.old block))) }
     ensures ssa { ctx.new.ssa ≡ ctx.old.ssa }
+    ensures names { NamesExist func.old ctx.old.ssa → NamesExist func.new ctx.new.ssa }
     ensures variables { ctx.new.variables ≡ ctx.old.variables }
     ensures only_memory { OnErr result (result ≡ Err BuildError.Memory) }
 {
@@ -333,6 +337,7 @@ fn use_variable(
     ctx.use_var(func, variable, ty, block)
 }
 
+#[tactic(auto, using(crate::proofs::Named::names_rules))]
 // Makes a block, and makes it known to the construction of SSA form.
 fn make_block(func: &mut Function, ctx: &mut FunctionBuilderContext) -> Result<Block, BuildError>
     ensures function { OnOk result (func.new ≡ with_block func.old) }
@@ -340,6 +345,7 @@ fn make_block(func: &mut Function, ctx: &mut FunctionBuilderContext) -> Result<B
     ensures records { ctx.new.ssa.records ≡ ctx.old.ssa.records }
     ensures sealed { SameBlocks ctx.old.ssa ctx.new.ssa }
     ensures predecessors { SamePredecessors ctx.old.ssa ctx.new.ssa }
+    ensures names { NamesExist func.old ctx.old.ssa → NamesExist func.new ctx.new.ssa }
     ensures status { ctx.new.status ≡ ctx.old.status }
     ensures variables { ctx.new.variables ≡ ctx.old.variables }
     ensures full { result ≡ Err BuildError.Full → length func.old.blocks ≡ 2 ^ 32 - 1 }

@@ -1,5 +1,5 @@
 //! The instructions that a builder makes: `builder.ins().iadd(x, y)?`.
-ghost use Rattle.std.specs.Prelude.{◌≡◌, ◌≢◌, ◌<◌, ◌-◌, ◌^◌, ◌⊎◌, ◌↔◌, ◌∷◌, [], ◌++◌, List, ℕ, IsTrue, OnOk, OnErr, IfOk, IfSome, is_err, Some, true, false, length, map, slice_index, EachIndex, if◌then◌else◌};
+ghost use Rattle.std.specs.Prelude.{◌≡◌, ◌≢◌, ◌<◌, ◌-◌, ◌^◌, ◌⊎◌, ◌↔◌, ◌∷◌, [], ◌++◌, List, ℕ, IsTrue, OnOk, OnErr, IfOk, IfSome, is_err, Some, true, false, length, map, slice_index, EachIndex, All, if◌then◌else◌};
 ghost use Rattle.clif_types.specs.Types.{is_int};
 ghost use Rattle.clif_ir.specs.Body.{inst_at, value_at};
 ghost use Rattle.clif_ir.specs.Instruction.{operands, destinations, is_branch, is_terminator, has_result, result_types};
@@ -17,8 +17,8 @@ ghost use Rattle.clif_types.specs.Signature.{SignatureShape};
 ghost use Rattle.cranelift_frontend.specs.StandsFor.{StandsFor};
 ghost use Rattle.cranelift_frontend.specs.Ledger.{AgreesWithLedger, HasShape, NamesEdge, NamesValue, ledger_of};
 
-use crate::context::{BlockStatus, FunctionBuilderContext};
 use crate::builder::FunctionBuilder;
+use crate::context::{BlockStatus, FunctionBuilderContext};
 use crate::frontend::begin_block;
 use clif_ir::inst_list::BlockEnd;
 use clif_ir::{BinaryOpcode, BlockArg, BlockCall, Function, InstructionData, ValueList};
@@ -28,6 +28,7 @@ use std::alloc::Global;
 /// What makes an instruction of any shape at the end of the current block.
 pub trait InstBuilderBase<'f>: Sized {
     ghost use Rattle.std.specs.Prelude.{ℕ};
+    ghost use Rattle.clif_ir.specs.declared.block_call.BlockCall.{BlockCall};
 
     // there is a current block, which may get an instruction
     ghost can_build: { Self → Type 0 };
@@ -216,7 +217,7 @@ impl<'short, 'long> InstBuilder<'long> for &'short mut FunctionBuilder<'long> {
         requires current { HasCurrent self.old }
         requires leads { CanLead self.old (record { block = block; args = args.now }) }
         ensures loans { SameLoans self.old self.new }
-        ensures appends { IfSome self.old.position (λ block. IfOk result (Appends self.old self.new block (InstructionData.Jump (record { block = block; args = args.now })) Type.Invalid)) }
+        ensures appends { IfSome self.old.position (λ current. IfOk result (Appends self.old self.new current (InstructionData.Jump (record { block = block; args = args.now })) Type.Invalid)) }
         ensures declares { IfOk result (λ inst. IsDeclared self.old.ctx.now.ssa inst (block ∷ []) self.new.ctx.now.ssa) }
         ensures variables { self.new.ctx.now.variables ≡ self.old.ctx.now.variables }
         ensures position { self.new.position ≡ self.old.position }
@@ -275,7 +276,13 @@ impl<'short, 'long> InstBuilder<'long> for &'short mut FunctionBuilder<'long> {
         }
         self.func.law_consistent();
         let alloc = self.ctx.allocator();
-        let made = two_edges(alloc, block_then, block_then_args, block_else, block_else_args);
+        let made = two_edges(
+            alloc,
+            block_then,
+            block_then_args,
+            block_else,
+            block_else_args,
+        );
         match made {
             Ok(blocks) => self.build(InstructionData::Brif { arg: c, blocks }, Type::Invalid),
             Err(error) => {

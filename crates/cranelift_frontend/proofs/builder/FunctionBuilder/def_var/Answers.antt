@@ -1,3 +1,4 @@
+use mathlib.Core.Logic.{∥∥₁_map}
 use Rattle.std.proofs.Common.{refl, ap, sym, ◌∙◌, Some}
 use Rattle.cranelift_frontend.proofs.Remembered.{remembers_assigned}
 use Rattle.cranelift_frontend.proofs.LedgerVariables.{assigned}
@@ -21,3 +22,6 @@ pub returns-clause-remembers : goal.returns-clause-remembers
 returns-clause-remembers c = λ x b apart.
     remembers_assigned c.def_var-recorded.result c.args.variable c.in-Some.block x b c.args.value _ _ _ _
     (λ first second. apart first (c.in-Some.is ∙ ap Some (sym second))) refl c.def_var-recorded.ensures.ok
+
+pub invariant_of-self : goal.invariant_of-self
+invariant_of-self c = record { named = ∥∥₁_map c.args.self.now.named (c.def_var-recorded.ensures.names _ c.requires.value_exists) }

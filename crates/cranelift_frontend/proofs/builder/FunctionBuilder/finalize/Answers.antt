@@ -1,17 +1,15 @@
 use Rattle.std.proofs.Common.{sym, subst}
-use Rattle.std.specs.Prelude.{Result}
-use Rattle.clif_meaning.specs.Request.{Finalize}
+use Rattle.std.specs.Prelude.{Result, OnOk}
+use Rattle.clif_meaning.specs.Request.{Finalize, script_of}
 use Rattle.clif_meaning.specs.Acceptance.{refusal_of}
 use Rattle.cranelift_frontend.specs.declared.error.FinalizeError.{FinalizeError}
 use Rattle.cranelift_frontend.specs.Ledger.{RefusalAgrees, ledger_of}
-use Rattle.std.specs.Prelude.{OnOk}
-use Rattle.clif_meaning.specs.Request.{script_of}
 use Rattle.clif_meaning.specs.View.{view_of}
 use Rattle.clif_meaning.specs.Headline.{MeansTheSame}
 use Rattle.cranelift_frontend.proofs.LedgerEnds.{finished}
 use Rattle.clif_meaning.specs.Typing.{EdgesMatch}
 use Rattle.clif_meaning.specs.WellPlaced.{RecordsWellPlaced, WellPlaced}
-use Rattle.clif_simulation.specs.Structure.{HasCallersParameters}
+use Rattle.clif_simulation.specs.Structure.{LeavesNoParameter}
 use Rattle.cranelift_frontend.proofs.Finishing.{finished_means, finished_parameters, finished_edges, finished_placed, finished_records}
 use Rattle.cranelift_frontend.proofs.builder.FunctionBuilder.finalize.Goals as goal
 
@@ -26,13 +24,13 @@ returns-clause-same_meaning c = λ signature calls stands.
 
 pub returns-clause-parameters : goal.returns-clause-parameters
 returns-clause-parameters c = λ signature calls stands.
-    subst (λ (r : Result (Unit {0}) FinalizeError). OnOk r (HasCallersParameters calls c.args.self.func.now)) (sym c.verdict-answer.ensures)
+    subst (λ (r : Result (Unit {0}) FinalizeError). OnOk r (LeavesNoParameter calls c.args.self.func.now c.args.self.ctx.now.ssa)) (sym c.verdict-answer.ensures)
     (finished_parameters signature calls c.args.self stands c.law_consistent.ensures)
 
 pub returns-clause-edges_match : goal.returns-clause-edges_match
 returns-clause-edges_match c = λ signature calls stands typed.
     subst (λ (r : Result (Unit {0}) FinalizeError). OnOk r (EdgesMatch (view_of c.args.self.func.now))) (sym c.verdict-answer.ensures)
-    (finished_edges signature calls c.args.self stands c.law_consistent.ensures)
+    (finished_edges signature calls c.args.self stands c.law_consistent.ensures typed)
 
 pub returns-clause-well_placed : goal.returns-clause-well_placed
 returns-clause-well_placed c = λ signature calls stands premises.

@@ -2,6 +2,8 @@ use Rattle.std.proofs.Common.{refl}
 use Rattle.cranelift_frontend.proofs.Remembered.{remembers_same}
 use Rattle.cranelift_frontend.proofs.LedgerBlocks.{switched}
 use Rattle.cranelift_frontend.proofs.Standing.{stands_switched}
+use Rattle.cranelift_frontend.specs.Builder.{with_position}
+use Rattle.cranelift_frontend.proofs.Named.{same_builder}
 use Rattle.cranelift_frontend.proofs.builder.FunctionBuilder.switch_to_block.Goals as goal
 
 pub returns-clause-ledger : goal.returns-clause-ledger
@@ -13,3 +15,6 @@ returns-clause-stands c = λ signature calls name stands names.
 
 pub returns-clause-remembers : goal.returns-clause-remembers
 returns-clause-remembers c = λ x b. remembers_same x b _ _ _ _ refl refl
+
+pub returns-clause-builder : goal.returns-clause-builder
+returns-clause-builder c = same_builder (with_position c.args.self.now c.args.block) _

@@ -1,31 +1,44 @@
 use Rattle.cranelift_frontend.proofs.Remembered.{remembers_used, has_record_used}
-use Rattle.std.proofs.Common.{sym, ◌∙◌}
-use Rattle.cranelift_frontend.proofs.LedgerUsed.{used}
+use Rattle.std.proofs.Common.{sym, ◌∙◌, ℕ, subst}
+use Rattle.cranelift_frontend.proofs.LedgerUsed.{used, used-statuses}
 use Rattle.cranelift_frontend.proofs.builder.FunctionBuilder.use_var.Goals as goal
-use Rattle.cranelift_frontend.proofs.Standing.{current_exists, current_open}
+use Rattle.cranelift_frontend.proofs.Standing.{current_open}
 use Rattle.cranelift_frontend.proofs.StandingResults.{used_stands}
-use Rattle.cranelift_frontend.proofs.Growing.{use_recorded}
+use Rattle.cranelift_frontend.proofs.Growing.{used_current, used_grows}
+use Rattle.cranelift_frontend.proofs.Named.{opened}
+use Rattle.std.specs.Prelude.{IfSome, OnOk, Option}
+use Rattle.cranelift_frontend.specs.Context.{SetsStatus, begun, status_of}
 
 pub returns-clause-ledger : goal.returns-clause-ledger
 returns-clause-ledger c = λ calls agrees.
     used calls _ _ _ _ _ c.args.variable c.in-Some-var_type.ty c.in-Some.block _ agrees c.in-Some.is (sym c.var_type.ensures ∙ c.in-Some-var_type.is)
-    c.use_variable-used.ensures.uses c.use_variable-used.ensures.status c.use_variable-used.ensures.variables
-
-pub returns-clause-recorded : goal.returns-clause-recorded
-returns-clause-recorded c = use_recorded c.use_variable-used.result _ _ _ _ _ _ _ c.use_variable-used.ensures.uses
-
-pub returns-clause-stands : goal.returns-clause-stands
-returns-clause-stands c = λ signature calls stands.
-    used_stands signature calls _ _ _ _ _ c.args.variable c.in-Some-var_type.ty c.in-Some.block _ stands c.law_consistent.ensures c.in-Some.is (current_exists c.args.self.now c.requires.current c.in-Some.block c.in-Some.is)
-    (current_open c.args.self.now c.requires.current c.in-Some.block c.in-Some.is) (sym c.var_type.ensures ∙ c.in-Some-var_type.is)
-    c.use_variable-used.ensures.uses c.use_variable-used.ensures.predecessors c.use_variable-used.ensures.status (returns-clause-ledger c calls stands.ledger)
+    c.use_variable-used.ensures.is_use c.law_consistent-2.ensures c.use_variable-used.ensures.variables
 
 pub returns-clause-remembers : goal.returns-clause-remembers
 returns-clause-remembers c = λ x b.
-    remembers_used c.use_variable-used.result x b _ _ _ _ c.args.variable c.in-Some-var_type.ty c.in-Some.block c.law_consistent.ensures
-    (current_exists c.args.self.now c.requires.current c.in-Some.block c.in-Some.is) c.use_variable-used.ensures.uses
+    remembers_used c.use_variable-used.result x b c.args.self.now.func.now c.use_variable-used.new.func c.args.self.now.ctx.now c.use_variable-used.new.ctx c.args.variable c.in-Some-var_type.ty c.in-Some.block c.use_variable-used.ensures.is_use
 
 pub returns-clause-has_record : goal.returns-clause-has_record
 returns-clause-has_record c =
-    has_record_used c.use_variable-used.result _ _ _ _ c.args.variable c.in-Some-var_type.ty c.in-Some.block c.args.self.now.position c.in-Some.is c.law_consistent.ensures
-    (current_exists c.args.self.now c.requires.current c.in-Some.block c.in-Some.is) c.use_variable-used.ensures.uses
+    has_record_used c.use_variable-used.result c.args.self.now.func.now c.use_variable-used.new.func c.args.self.now.ctx.now c.use_variable-used.new.ctx c.args.variable c.in-Some-var_type.ty c.in-Some.block c.args.self.now.position c.in-Some.is c.use_variable-used.ensures.is_use
+
+pub returns-clause-grows : goal.returns-clause-grows
+returns-clause-grows c = used_grows c.use_variable-used.result c.args.self.now.func.now c.args.self.now.ctx.now c.use_variable-used.new.func c.use_variable-used.new.ctx c.args.variable c.in-Some-var_type.ty c.in-Some.block c.use_variable-used.ensures.is_use
+
+pub returns-clause-current : goal.returns-clause-current
+returns-clause-current c =
+    used_current c.use_variable-used.result c.args.self.now.position c.args.self.now.func.now c.args.self.now.ctx.now c.use_variable-used.new.func c.use_variable-used.new.ctx c.args.variable c.in-Some-var_type.ty c.in-Some.block c.use_variable-used.ensures.is_use c.requires.current
+
+pub use_variable-used-requires-clause-named : goal.use_variable-used-requires-clause-named
+use_variable-used-requires-clause-named c = opened _ _ c.args.self.now.named
+
+pub returns-clause-status : goal.returns-clause-status
+returns-clause-status c = λ calls agrees.
+    subst (λ (o : Option ℕ). IfSome o (λ block. OnOk c.use_variable-used.result (SetsStatus c.args.self.now.ctx.now c.use_variable-used.new.ctx block (begun (status_of c.args.self.now.ctx.now block))))) (sym c.in-Some.is)
+    (used-statuses calls c.args.self.now.func.now c.use_variable-used.new.func c.args.self.now.ctx.now c.use_variable-used.new.ctx c.args.self.now.position c.args.variable c.in-Some-var_type.ty c.in-Some.block _ agrees c.use_variable-used.ensures.is_use)
+
+pub returns-clause-stands : goal.returns-clause-stands
+returns-clause-stands c = λ signature calls stands.
+    used_stands signature calls _ _ _ _ _ c.args.variable c.in-Some-var_type.ty c.in-Some.block _ stands c.law_consistent.ensures c.in-Some.is
+    (current_open c.args.self.now c.requires.current c.in-Some.block c.in-Some.is) (sym c.var_type.ensures ∙ c.in-Some-var_type.is)
+    c.use_variable-used.ensures.is_use c.law_consistent-2.ensures (returns-clause-ledger c calls stands.ledger)

@@ -1,10 +1,35 @@
-use Rattle.std.proofs.Common.{◌≡◌, List, ℕ, sym, subst}
+use Rattle.std.proofs.Common.{List, ℕ, sym, ap, subst}
 use Rattle.clif_ssa.specs.Ssa.{SsaState, RecordsStay}
+use Rattle.cranelift_frontend.specs.Context.{ContextState}
 use Rattle.cranelift_frontend.specs.Construction.{IsSealing}
+use Rattle.cranelift_frontend.proofs.Growing.{on_ok_step}
+use Rattle.cranelift_frontend.proofs.Statuses.{begins_from}
 use Rattle.cranelift_frontend.proofs.context.FunctionBuilderContext.seal_block.Goals as goal
 
 pub returns-clause-is_sealing : goal.returns-clause-is_sealing
-returns-clause-is_sealing c = ?
+returns-clause-is_sealing c =
+    let done = c.in_ok-side_effects.ensures in
+    let told : List ℕ = c.in_ok-side_effects.side_effects.instructions_added_to_blocks.items in
+    let sealing : IsSealing c.args.func.now c.self.inside.ssa c.seal_block.new.func c.seal_block.new.self c.args.block told = record {
+      constructs = done.constructs;
+      tells = done.tells;
+      within = done.within;
+      predecessors = done.predecessors;
+      sealed = done.sealed;
+      stay = done.stay;
+      remembers = done.remembers;
+      structured = done.structured;
+      keeps = done.keeps;
+    } in
+    on_ok_step c.begin_all.result _ _ (λ begins. (
+      told,
+      subst (λ (v : ContextState). IsSealing c.args.func.now v.ssa c.seal_block.new.func c.begin_all.new.self.ssa c.args.block told) c.self.view_is
+          (subst (λ (t : SsaState). IsSealing c.args.func.now c.self.inside.ssa c.seal_block.new.func t c.args.block told) (sym c.begin_all.ensures.ssa) sealing),
+      begins_from c.args.self.now (record { ssa = c.seal_block.new.self; status = c.self.inside.status; variables = c.self.inside.variables.items }) c.begin_all.new.self c.as_slice.result.now told
+          (ap (λ (v : ContextState). v.status) c.self.view_is) c.as_slice.ensures.value begins,
+    )) c.begin_all.ensures.status
 
 pub returns-clause-stay : goal.returns-clause-stay
-returns-clause-stay c = subst (RecordsStay c.args.self.now.ssa) (sym c.begin_all.ensures.ssa) c.seal_block.ensures.stay
+returns-clause-stay c =
+    subst (λ (v : ContextState). RecordsStay v.ssa c.begin_all.new.self.ssa) c.self.view_is
+    (subst (RecordsStay c.self.inside.ssa) (sym c.begin_all.ensures.ssa) c.seal_block.ensures.stay)

@@ -1,0 +1,71 @@
+-- What the construction names exists: what calls of the builder keep of it.
+use Rattle.std.proofs.Common.{◌≡◌, ℕ, ◌<◌, ◌==◌, ◌&&◌, if◌then◌else◌, Bool, true, false, List, length, sym, ◌∙◌, ap, subst, arith}
+use Rattle.std.specs.Prelude.{Option, Some, Contains, Result, Ok, Err, OnOk, OnErr, unwrap_or}
+use mathlib.Core.Logic.{∥∥₁_elim, ∥∥₁_prop}
+use denote.Struct.Props.{props}
+use Rattle.clif_types.specs.declared.types.«Type».{«Type»}
+use Rattle.clif_ir.specs.Body.{Body}
+use Rattle.clif_ir.specs.Changes.{inserted_in, with_block, with_inst}
+use Rattle.clif_ir.specs.declared.inst_list.BlockEnd.{BlockEnd}
+use Rattle.clif_ir.specs.declared.instructions.InstructionData.{InstructionData}
+use Rattle.clif_ssa.specs.declared.tables.SsaBlock.{SsaBlock}
+use Rattle.clif_ssa.specs.Tables.{predecessors_at, sealed_at, pending_of}
+use Rattle.clif_ssa.specs.Ssa.{SsaState, NamesExist, record_of, Records, SameRecords}
+use Rattle.cranelift_frontend.proofs.Growing.{Grows-inserted, Grows-with_block, Grows-with_inst}
+use Rattle.cranelift_frontend.specs.Growth.{Grows}
+use Rattle.cranelift_frontend.specs.declared.builder.FunctionBuilder.{FunctionBuilder}
+
+-- what a builder keeps
+pub opened : (f : Body) (s : SsaState) → ∥ NamesExist f s ∥₁ → NamesExist f s
+opened f s named = record {
+  recorded = λ x b v is. ∥∥₁_elim named (search props) (λ n. n.recorded x b v is);
+  leading = λ b i here. ∥∥₁_elim named (search props) (λ n. n.leading b i here);
+  waiting = λ b p here. ∥∥₁_elim named (search props) (λ n. n.waiting b p here);
+}
+
+-- the function grows
+pub names_grow : (f g : Body) (s : SsaState) → Grows f g → NamesExist f s → NamesExist g s
+names_grow f g s grows named = record {
+  recorded = λ x b v is. omega (arith, named.recorded x b v is, grows.0);
+  leading = λ b i here. omega (arith, named.leading b i here, grows.1);
+  waiting = λ b p here. omega (arith, named.waiting b p here, grows.0);
+}
+
+pub names_inserted : {X Y : Type 0} (r : Result X Y) (f g : Body) (s : SsaState) (b : ℕ) → OnOk r (g ≡ inserted_in f b) → OnErr r (g ≡ f) → NamesExist f s → NamesExist g s
+names_inserted (Ok x) f g s b is kept named = subst (λ h. NamesExist h s) (sym is) (names_grow f (inserted_in f b) s (Grows-inserted f b) named)
+names_inserted (Err y) f g s b is kept named = subst (λ h. NamesExist h s) (sym kept) named
+
+pub names_made : {X Y : Type 0} (r : Result X Y) (f g : Body) (s : SsaState) → OnOk r (g ≡ with_block f) → OnErr r (g ≡ f) → NamesExist f s → NamesExist g s
+names_made (Ok x) f g s is kept named = subst (λ h. NamesExist h s) (sym is) (names_grow f (with_block f) s (Grows-with_block f) named)
+names_made (Err y) f g s is kept named = subst (λ h. NamesExist h s) (sym kept) named
+
+pub names_appended : {X Y : Type 0} (r : Result X Y) (f g : Body) (s : SsaState) (b : ℕ) (end : BlockEnd) (shape : InstructionData) (types : List «Type») (loc : ℕ)
+    → OnOk r (g ≡ with_inst f b end shape types loc) → OnErr r (g ≡ f) → NamesExist f s → NamesExist g s
+names_appended (Ok x) f g s b end shape types loc is kept named = subst (λ h. NamesExist h s) (sym is) (names_grow f (with_inst f b end shape types loc) s (Grows-with_inst f b end shape types loc) named)
+names_appended (Err y) f g s b end shape types loc is kept named = subst (λ h. NamesExist h s) (sym kept) named
+
+-- a value that exists is recorded, or nothing is
+pub names_recorded : {X Y : Type 0} (r : Result X Y) (f : Body) (s t : SsaState) (variable block value : ℕ) → OnOk r (Records s t variable block value) → OnErr r (SameRecords s t) → t.blocks ≡ s.blocks
+    → value < length f.values → NamesExist f s → NamesExist f t
+names_recorded {X} {Y} r f s t variable block value records kept same exists named = record {
+  recorded = λ x b v is. by r records kept x b v is;
+  leading = λ b i here. named.leading b i (subst (λ (blocks : List SsaBlock). Contains (predecessors_at blocks b) i) same here);
+  waiting = λ b p here. named.waiting b p (subst (λ (blocks : List SsaBlock). Contains (pending_of (sealed_at blocks b)) p) same here);
+}
+  where
+    some_value : (x y : ℕ) → ◌≡◌ {A = Option ℕ} (Some y) (Some x) → y ≡ x
+    some_value x y same = ap (λ (o : Option ℕ). unwrap_or o 0) same
+
+    by_test : (x b v : ℕ) (test : Bool) → (if test then Some value else record_of s x b) ≡ Some v → v < length f.values
+    by_test x b v true is = let here : value ≡ v = some_value v value is in omega (arith, exists, here)
+    by_test x b v false is = named.recorded x b v is
+
+    by : (r : Result X Y) → OnOk r (Records s t variable block value) → OnErr r (SameRecords s t) → (x b v : ℕ) → record_of t x b ≡ Some v → v < length f.values
+    by (Ok u) records kept x b v is = by_test x b v (x == variable && b == block) (sym (records x b) ∙ is)
+    by (Err e) records kept x b v is = named.recorded x b v (sym (kept x b) ∙ is)
+
+pub ruleset names_rules = (names_inserted, names_made, names_recorded)
+
+-- two builders that differ in no part that runs are one
+pub same_builder : (b : FunctionBuilder) (named : ∥ NamesExist b.func.now b.ctx.now.ssa ∥₁) → (record b { named = named }) ≡ b
+same_builder b named = ap (λ (n : ∥ NamesExist b.func.now b.ctx.now.ssa ∥₁). record b { named = n }) (∥∥₁_prop named b.named)
