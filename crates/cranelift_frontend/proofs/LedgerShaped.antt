@@ -230,15 +230,16 @@ pub jump-shape : (calls : List AnsweredCall) (f : Body) (edge : Edge Name Name) 
 jump-shape calls f edge made names = record { operation = refl; controlling = refl; operands_numbered = refl; edges = (names, tt) }
 
 pub brif-shape : (calls : List AnsweredCall) (f : Body) (c : ContextState) (p : Option ℕ) → LedgerAgrees calls (ledger_of calls) f c p
-    → (condition : Name) (value : ℕ) (taken other : Edge Name Name) (block_then block_else : BlockCall) → NamesValue calls condition value → NamesEdge calls taken block_then → NamesEdge calls other block_else
+    → (condition : Name) (value : ℕ) (taken other : Edge Name Name) (block_then block_else : BlockCall) (blocks : List BlockCall) → blocks ≡ block_then ∷ block_else ∷ []
+    → NamesValue calls condition value → NamesEdge calls taken block_then → NamesEdge calls other block_else
     → HasShape calls f (record { operation = operation.Brif; controlling = or_invalid (type_of (ledger_of calls) condition); operands = condition ∷ []; edges = taken ∷ other ∷ [] })
-    (Brif value (block_then ∷ block_else ∷ [])) type.Invalid
-brif-shape calls f c p agrees condition value taken other block_then block_else names first second =
+    (Brif value blocks) type.Invalid
+brif-shape calls f c p agrees condition value taken other block_then block_else blocks same names first second =
     record {
       operation = refl;
       controlling = named-type calls f c p agrees condition value names;
       operands_numbered = ap (λ (o : Option ℕ). o ∷ []) names.number;
-      edges = (first, (second, tt));
+      edges = subst (NamesEdges calls (taken ∷ other ∷ [])) (sym same) (first, (second, tt));
     }
 
 pub return-shape : (calls : List AnsweredCall) (f : Body) (names : List Name) (values : List ℕ) → map (number_of calls) names ≡ map Some values

@@ -23,4 +23,3 @@ pub mod Finishing
 pub mod StandingBuilt
 pub mod StandingShaped
 mod Remembered
-pub mod Shaped

@@ -7,7 +7,7 @@ use Rattle.cranelift_frontend.proofs.builder.FunctionBuilder.create_block.Goals 
 pub returns-clause-ledger : goal.returns-clause-ledger
 returns-clause-ledger c = λ calls agrees.
     let made = c.make_block-made.ensures in
-    created calls _ _ _ _ _ _ agrees made.function made.number made.records made.sealed made.status made.variables
+    created calls _ _ _ _ _ _ agrees made.function made.number made.records made.sealed made.predecessors made.status made.variables
 
 pub returns-clause-stands : goal.returns-clause-stands
 returns-clause-stands c = λ signature calls stands.

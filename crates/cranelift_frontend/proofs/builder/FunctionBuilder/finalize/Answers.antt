@@ -1,11 +1,9 @@
 use Rattle.std.proofs.Common.{sym, subst}
-use Rattle.std.specs.Prelude.{Result}
-use Rattle.clif_meaning.specs.Request.{Finalize}
+use Rattle.std.specs.Prelude.{Result, OnOk}
+use Rattle.clif_meaning.specs.Request.{Finalize, script_of}
 use Rattle.clif_meaning.specs.Acceptance.{refusal_of}
 use Rattle.cranelift_frontend.specs.declared.error.FinalizeError.{FinalizeError}
 use Rattle.cranelift_frontend.specs.Ledger.{RefusalAgrees, ledger_of}
-use Rattle.std.specs.Prelude.{OnOk}
-use Rattle.clif_meaning.specs.Request.{script_of}
 use Rattle.clif_meaning.specs.View.{view_of}
 use Rattle.clif_meaning.specs.Headline.{MeansTheSame}
 use Rattle.cranelift_frontend.proofs.LedgerEnds.{finished}

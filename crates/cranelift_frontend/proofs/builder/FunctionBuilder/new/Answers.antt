@@ -1,7 +1,11 @@
 use Rattle.std.proofs.Common.{refl}
 use Rattle.cranelift_frontend.proofs.LedgerEnds.{begins-empty}
 use Rattle.cranelift_frontend.proofs.Standing.{stands_begins}
+use Rattle.cranelift_frontend.proofs.LedgerEnds.{begins-empty}
 use Rattle.cranelift_frontend.proofs.builder.FunctionBuilder.new.Goals as goal
+
+pub returns-clause-ledger : goal.returns-clause-ledger
+returns-clause-ledger c = begins-empty _ _ _ c.requires.fresh c.requires.empty refl
 
 pub returns-clause-stands : goal.returns-clause-stands
 returns-clause-stands c =

@@ -1,17 +1,14 @@
 use Rattle.cranelift_frontend.proofs.Remembered.{remembers_sealed}
 use Rattle.cranelift_frontend.proofs.LedgerBlocks.{sealed}
-use Rattle.cranelift_frontend.proofs.builder.FunctionBuilder.seal_block.Goals as goal
-use Rattle.clif_ssa.specs.Tables.{pending_of}
-use Rattle.clif_ssa.specs.Ssa.{sealed_of}
 use Rattle.cranelift_frontend.proofs.Standing.{standing_edges}
 use Rattle.cranelift_frontend.proofs.StandingResults.{sealed_stands}
 use Rattle.cranelift_frontend.proofs.Growing.{sealed_current, sealed_grows}
 use Rattle.cranelift_frontend.proofs.Named.{opened}
+use Rattle.cranelift_frontend.proofs.builder.FunctionBuilder.seal_block.Goals as goal
 
 pub returns-clause-ledger : goal.returns-clause-ledger
 returns-clause-ledger c = λ calls name agrees names.
-    let done = c.seal_block-sealed.ensures in
-    sealed calls _ _ _ _ _ name c.args.block _ agrees names done.function done.sealed done.records done.status done.variables
+    sealed calls _ _ _ _ _ name c.args.block _ agrees names c.seal_block-sealed.ensures.is_sealing c.law_consistent-2.ensures c.seal_block-sealed.ensures.variables
 
 pub returns-clause-grows : goal.returns-clause-grows
 returns-clause-grows c = sealed_grows c.seal_block-sealed.result c.args.self.now.func.now c.args.self.now.ctx.now c.seal_block-sealed.new.func c.seal_block-sealed.new.self c.args.block c.seal_block-sealed.ensures.is_sealing

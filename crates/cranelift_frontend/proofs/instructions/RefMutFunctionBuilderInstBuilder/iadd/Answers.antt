@@ -5,11 +5,11 @@ use Rattle.clif_ir.specs.Body.{value_at}
 use Rattle.clif_ir.specs.declared.instructions.BinaryOpcode.TheVariants.{Iadd}
 use Rattle.clif_ir.specs.declared.instructions.InstructionData.TheVariants.{Binary}
 use Rattle.cranelift_frontend.specs.Builder.{AppendsValue}
-use Rattle.cranelift_frontend.proofs.StandingBuilt.{iadd_agrees}
 use Rattle.cranelift_frontend.proofs.StandingShaped.{value_stands}
-use Rattle.cranelift_frontend.proofs.LedgerShaped.{binary-shape}
+use Rattle.cranelift_frontend.proofs.LedgerShaped.{binary-shape, ledger-value}
 use Rattle.cranelift_frontend.proofs.Named.{same_builder}
 use Rattle.cranelift_frontend.proofs.Remembered.{remembers_value}
+use Rattle.clif_meaning.specs.Instruction as operation
 use Rattle.cranelift_frontend.proofs.instructions.RefMutFunctionBuilderInstBuilder.iadd.Goals as goal
 
 pub returns-clause-ledger : goal.returns-clause-ledger
@@ -17,7 +17,8 @@ returns-clause-ledger c = λ calls a b agrees first second.
     let done = c.append_value.ensures in
     let appends : IfSome c.args.self.now.position (λ block. IfOk c.append_value.result (AppendsValue c.args.self.now c.append_value.new.builder block (Binary Iadd (c.args.x ∷ c.args.y ∷ [])) (value_at c.args.self.now.func.now c.args.x).ty)) =
     first_of (search rules, grind (arith, common_steps)) in
-    iadd_agrees calls c.args.self.now c.append_value.new.builder a b c.args.x c.args.y _ agrees first second c.requires.current appends done.ssa done.variables done.position
+    ledger-value calls c.args.self.now c.append_value.new.builder _ (Binary Iadd (c.args.x ∷ c.args.y ∷ [])) (value_at c.args.self.now.func.now c.args.x).ty operation.Iadd _ refl agrees c.law_consistent.ensures
+    (binary-shape calls _ _ _ agrees Iadd a b c.args.x c.args.y first second) c.requires.current appends done.ssa done.variables done.position
 
 pub returns-clause-stands : goal.returns-clause-stands
 returns-clause-stands c = λ signature calls a b stands first second.

@@ -1,10 +1,15 @@
 use Rattle.cranelift_frontend.proofs.Remembered.{remembers_appended}
-use Rattle.std.proofs.Common.{refl}
 use Rattle.cranelift_frontend.proofs.Named.{opened}
-use Rattle.cranelift_frontend.proofs.Shaped.{ledger_shaped}
 use Rattle.cranelift_frontend.proofs.Standing.{current_exists, current_open}
 use Rattle.cranelift_frontend.proofs.StandingShaped.{stands_shaped}
+use Rattle.cranelift_frontend.proofs.LedgerShaped.{current-is, ledger-shaped}
 use Rattle.cranelift_frontend.proofs.instructions.RefMutFunctionBuilderInstBuilderBase.build.Goals as goal
+
+pub returns-clause-ledger : goal.returns-clause-ledger
+returns-clause-ledger c = λ calls instruction agrees has.
+    let done = c.append-built.ensures in
+    ledger-shaped calls _ _ _ _ _ c.in-Some.block instruction c.args.shape c.args.ctrl_type c.append-built.result agrees c.in-Some.is
+    (current-is c.args.self.now c.requires.current c.in-Some.block c.in-Some.is) c.law_consistent.ensures has c.requires.edges done.appends done.declares done.ssa done.variables
 
 pub append-built-requires-clause-named : goal.append-built-requires-clause-named
 append-built-requires-clause-named c = opened _ _ c.args.self.now.named
@@ -13,13 +18,6 @@ pub returns-clause-remembers : goal.returns-clause-remembers
 returns-clause-remembers c = λ v b.
     remembers_appended c.append-built.result v b c.args.self.now.func.now c.append-built.new.func c.args.self.now.ctx.now c.append-built.new.ctx c.in-Some.block c.args.shape c.args.ctrl_type
     c.law_consistent.ensures c.append-built.ensures.appends c.append-built.ensures.declares
-
-pub returns-clause-ledger : goal.returns-clause-ledger
-returns-clause-ledger c = λ calls instruction agrees has.
-    let done = c.append-built.ensures in
-    let b = c.args.self.now in
-    ledger_shaped calls b (record b { func = record b.func { now = c.append-built.new.func }; ctx = record b.ctx { now = c.append-built.new.ctx } }) instruction c.args.shape c.args.ctrl_type c.append-built.result c.in-Some.block
-    agrees has c.requires.current c.in-Some.is done.appends done.ssa done.variables refl
 
 pub returns-clause-stands : goal.returns-clause-stands
 returns-clause-stands c = λ signature calls instruction stands has.
