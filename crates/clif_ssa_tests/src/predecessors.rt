@@ -68,6 +68,28 @@ fn has_any(rt: HostRuntime) -> Result<(), Fail> {
     Ok(())
 }
 
+/// The branch that was declared last at a block is known, as long as no other was declared there.
+#[test]
+fn last(rt: HostRuntime) -> Result<(), Fail> {
+    let mut made = Fixture::new(rt.alloc());
+    let block0 = made.block(&rt)?;
+    let block1 = made.block(&rt)?;
+    let block2 = made.block(&rt)?;
+    let first = made.jump(&rt, block0, block2)?;
+    let second = made.jump(&rt, block1, block2)?;
+    assert!(rt; !made.is_last_predecessor(block2, first));
+    made.leads(&rt, block2, first)?;
+    assert!(rt;
+        made.is_last_predecessor(block2, first) && !made.is_last_predecessor(block2, second)
+    );
+    made.leads(&rt, block2, second)?;
+    assert!(rt;
+        !made.is_last_predecessor(block2, first) && made.is_last_predecessor(block2, second)
+    );
+    assert!(rt; !made.is_last_predecessor(block1, second));
+    Ok(())
+}
+
 /// All blocks are sealed by rising number, but for those that are sealed; the zeros are told in that
 /// order.
 #[test]

@@ -249,6 +249,11 @@ impl Fixture {
         self.ssa.has_any_predecessors(block)
     }
 
+    /// Whether a branch is the one that was declared last at a block.
+    pub fn is_last_predecessor(&self, block: Block, inst: Inst) -> bool {
+        self.ssa.is_last_predecessor(block, inst)
+    }
+
     /// Assigns a value to a variable.
     pub fn define(
         &mut self,

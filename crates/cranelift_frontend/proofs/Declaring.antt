@@ -1,11 +1,11 @@
 -- A new branch is declared at the targets of its edges, at each once.
-use Rattle.std.proofs.Common.{◌≡◌, ◌≢◌, ℕ, zero, suc, ◌+◌, ◌-◌, ◌<◌, ◌==◌, if◌then◌else◌, Bool, true, false, List, [], ◌∷◌, ◌++◌, length, take, get_or, map, refl, sym, ◌∙◌, ap, subst, arith, ◌⊎◌, inl, inr}
-use Rattle.std.specs.Prelude.{Option, Some, None, slice_get, Contains, ◌||◌}
+use Rattle.std.proofs.Common.{◌≡◌, ◌≢◌, ℕ, suc, ◌+◌, ◌-◌, ◌<◌, ◌==◌, if◌then◌else◌, Bool, true, false, List, [], ◌∷◌, ◌++◌, length, take, get_or, refl, sym, ◌∙◌, ap, subst, arith, ◌⊎◌, inl, inr}
+use Rattle.std.specs.Prelude.{Some, slice_get, Contains, ◌||◌}
 use Rattle.std.proofs.lemmas.Bool.{cases_eq, eqb-true}
 use Rattle.std.proofs.lemmas.Grind.{common_steps}
 use Rattle.std.proofs.lemmas.Option.{slice_get_within, get_or_from_slice_get}
 use Rattle.std.proofs.lemmas.List.{take_more, map_push}
-use Rattle.std.proofs.lemmas.List.Elements.{Contains-push, Contains-push_cases}
+use Rattle.std.proofs.lemmas.List.Elements.{Contains-push_cases}
 use Rattle.std.proofs.lemmas.List.Folds.{list_any-append}
 use Rattle.clif_ir.specs.Body.{Body}
 use Rattle.clif_ir.specs.Consistent.{Once, Stands}
@@ -25,9 +25,13 @@ use Rattle.cranelift_frontend.specs.Construction.{IsDeclared}
 -- one more block at the end
 along_last : (blocks : List ℕ) (s t u : SsaState) (inst b : ℕ) → DeclaredAlong s inst blocks t → SameRecords t u → SameBlocks t u → Declares t u b inst
     → DeclaredAlong s inst (blocks ++ b ∷ []) u
-along_last [] s t u inst b done records blocks declares =
-    (u, (λ v c. records v c ∙ done.0 v c), (λ c. blocks c ∙ done.1 c),
-    (λ c. declares c ∙ ap (λ (is : List ℕ). if c == b then is ++ inst ∷ [] else is) (done.2 c)), ((λ v c. refl), (λ c. refl), λ c. refl))
+along_last [] s t u inst b done records blocks declares = (
+  u,
+  (λ v c. records v c ∙ done.0 v c),
+  (λ c. blocks c ∙ done.1 c),
+  (λ c. declares c ∙ ap (λ (is : List ℕ). if c == b then is ++ inst ∷ [] else is) (done.2 c)),
+  ((λ v c. refl), (λ c. refl), λ c. refl),
+)
 along_last (x ∷ blocks) s t u inst b done records same declares =
     (done.0, done.1, done.2, done.3, along_last blocks done.0 t u inst b done.4 records same declares)
 
@@ -43,13 +47,6 @@ head_out : (x : ℕ) (xs : List ℕ) → Once (x ∷ xs) → stands_in x xs ≡ 
 head_out x xs once here =
     let at : Stands x xs = Stands-from_test x xs here in
     once 0 (suc at.0) (omega arith) (omega (arith, at.1)) (sym at.2)
-
-no_both : {t : Bool} → t ≡ true → t ≡ false → ⊥
-no_both holds fails = cc
-
-not_true : (t : Bool) → (t ≡ true → ⊥) → t ≡ false
-not_true true never = absurd (never refl)
-not_true false never = refl
 
 eqb_turned : (x y : ℕ) → (x == y) ≡ (y == x)
 eqb_turned x y = elim (cases_eq x y) [ inl same ↦ grind (arith, common_steps, same) | inr other ↦ grind (arith, common_steps, other) ]

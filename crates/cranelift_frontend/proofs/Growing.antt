@@ -1,28 +1,25 @@
 -- What goes on existing as calls are made.
 use Rattle.std.proofs.Common.{◌≡◌, ◌≢◌, ℕ, ◌+◌, ◌<◌, List, [], ◌∷◌, length, refl, ap, arith, sym, ◌∙◌, subst, inl, inr}
-use Rattle.std.specs.Prelude.{pos, slice_index_or, Option, Some, None, IfSome, unwrap_or, Result, Ok, Err, OnOk, IfOk, Bool, true, false, if◌then◌else◌, ◌==◌, ◌&&◌}
+use Rattle.std.specs.Prelude.{slice_index_or, Option, Some, None, IfSome, Result, Ok, Err, OnOk, IfOk, Bool, true, false, if◌then◌else◌, ◌==◌}
 use Rattle.std.proofs.lemmas.Bool.{cases_eq}
 use Rattle.std.proofs.lemmas.Grind.{common_steps}
 use Rattle.clif_types.specs.declared.error.BuildError.{BuildError}
 use Rattle.clif_types.specs.declared.types.«Type».{«Type»}
 use Rattle.clif_ir.specs.declared.inst_list.BlockEnd.{BlockEnd}
-use Rattle.clif_ir.specs.declared.inst_list.BlockEnd.TheVariants.{Front, Back}
+use Rattle.clif_ir.specs.declared.inst_list.BlockEnd.TheVariants.{Back}
 use Rattle.clif_ir.specs.declared.instructions.InstructionData.{InstructionData}
-use Rattle.clif_ir.specs.declared.instructions.InstructionData.TheVariants.{UnaryImm}
 use Rattle.std.specs.List.{range_with_len}
 use Rattle.clif_ir.specs.declared.function.InstNode.{InstNode}
-use Rattle.clif_ir.specs.Body.{Body, inst_at, value_at}
-use Rattle.clif_ir.specs.Changes.{inserted_in, with_block, with_layout, with_param, with_inst, with_alias, inst_node, result_nodes}
+use Rattle.clif_ir.specs.Body.{Body, inst_at}
+use Rattle.clif_ir.specs.Changes.{inserted_in, with_block, with_layout, with_inst, inst_node}
 use Rattle.clif_ir.specs.Instruction.{is_terminator, result_types}
-use Rattle.clif_ir.specs.Reading.{param_home, stands_in}
-use Rattle.clif_ssa.specs.declared.tables.Pending.{Pending}
-use Rattle.clif_ssa.specs.Tables.{is_yes}
-use Rattle.clif_ssa.specs.Ssa.{SsaState, no_srcloc, no_state, record_of, sealed_of, Records, SameRecords, Waits, Zeroes, with_zero, zeroed, zeroed_in, completed}
+use Rattle.clif_ir.specs.Reading.{stands_in}
+use Rattle.clif_ssa.specs.Ssa.{no_srcloc}
 use Rattle.cranelift_frontend.specs.declared.context.BlockStatus.{BlockStatus}
 use Rattle.cranelift_frontend.specs.declared.context.BlockStatus.TheVariants.{Empty, Partial, Filled}
 use Rattle.cranelift_frontend.specs.Context.{ContextState, begun, status_of, SetsStatus, Begins}
 use Rattle.cranelift_frontend.specs.declared.builder.FunctionBuilder.{FunctionBuilder}
-use Rattle.cranelift_frontend.specs.Builder.{Appends, AppendsIn, AppendsValue, HasCurrent, UsesIn, status_after, with_appended}
+use Rattle.cranelift_frontend.specs.Builder.{Appends, AppendsIn, AppendsValue, HasCurrent, status_after, with_appended}
 use Rattle.cranelift_frontend.specs.Construction.{IsUse, IsSealing}
 use Rattle.cranelift_frontend.specs.Growth.{Grows}
 use Rattle.clif_ssa.specs.Constructs.{OnlyConstructs}
@@ -93,14 +90,6 @@ pub on_ok_step : {X Y : Type 0} (r : Result X Y) (P Q : Type 0) → (P → Q) �
 on_ok_step (Ok x) P Q step known = step known
 on_ok_step (Err e) P Q step known = tt
 
-on_ok_both : {X Y : Type 0} (r : Result X Y) (P Q S : Type 0) → (P → Q → S) → OnOk r P → OnOk r Q → OnOk r S
-on_ok_both (Ok x) P Q S step first next = step first next
-on_ok_both (Err e) P Q S step first next = tt
-
-on_ok_always : {X Y : Type 0} (r : Result X Y) (P : Type 0) → P → OnOk r P
-on_ok_always (Ok x) P holds = holds
-on_ok_always (Err e) P holds = tt
-
 -- a use answered
 pub used_grows : (r : Result ℕ BuildError) (f : Body) (c : ContextState) (g : Body) (d : ContextState) (variable : ℕ) (ty : «Type») (block : ℕ)
     → IfOk r (λ value. (told : List ℕ) × IsUse (inserted_in f block) c.ssa g d.ssa variable ty block value told × Begins c d (block ∷ told)) → OnOk r (Grows f g)
@@ -158,13 +147,6 @@ still_current o p f g c d position grows fills current =
 -- a fact of the current block
 at_current : (old : FunctionBuilder) (P : ℕ → Type 0) (current : HasCurrent old) → IfSome old.position P → P current.0
 at_current old P current holds = let Q : Option ℕ → Type 0 = λ o. IfSome o P in subst Q current.1 holds
-
--- where its block began
-pub current_begun : {X Y : Type 0} (r : Result X Y) (old new : FunctionBuilder) → HasCurrent old → new.position ≡ old.position → OnOk r (Grows old.func.now new.func.now)
-    → IfSome old.position (λ block. OnOk r (SetsStatus old.ctx.now new.ctx.now block (begun (status_of old.ctx.now block)))) → OnOk r (HasCurrent new)
-current_begun r old new current position grows sets =
-    on_ok_both r _ _ _ (λ h status. still_current old.position new.position old.func.now new.func.now old.ctx.now new.ctx.now position h (fills_none_begun old.ctx.now new.ctx.now current.0 status) current) grows
-    (at_current old (λ block. OnOk r (SetsStatus old.ctx.now new.ctx.now block (begun (status_of old.ctx.now block)))) current sets)
 
 -- where an instruction was appended that doesn't end its block
 status_after_none : (shape : InstructionData) (s : BlockStatus) → is_terminator shape ≡ false → status_after shape s ≡ begun s

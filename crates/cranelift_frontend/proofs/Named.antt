@@ -1,7 +1,6 @@
 -- What the construction names exists: what calls of the builder keep of it.
-use Rattle.std.proofs.Common.{◌≡◌, ℕ, ◌+◌, ◌<◌, ◌==◌, ◌&&◌, if◌then◌else◌, Bool, true, false, List, [], ◌∷◌, ◌++◌, length, refl, sym, ◌∙◌, ap, subst, arith, ◌⊎◌, inl, inr}
-use Rattle.std.specs.Prelude.{Option, Some, None, Contains, Result, Ok, Err, OnOk, OnErr, unwrap_or}
-use Rattle.std.proofs.lemmas.Grind.{common_steps}
+use Rattle.std.proofs.Common.{◌≡◌, ℕ, ◌<◌, ◌==◌, ◌&&◌, if◌then◌else◌, Bool, true, false, List, length, sym, ◌∙◌, ap, subst, arith}
+use Rattle.std.specs.Prelude.{Option, Some, Contains, Result, Ok, Err, OnOk, OnErr, unwrap_or}
 use mathlib.Core.Logic.{∥∥₁_elim, ∥∥₁_prop}
 use denote.Struct.Props.{props}
 use Rattle.clif_types.specs.declared.types.«Type».{«Type»}
@@ -9,10 +8,9 @@ use Rattle.clif_ir.specs.Body.{Body}
 use Rattle.clif_ir.specs.Changes.{inserted_in, with_block, with_inst}
 use Rattle.clif_ir.specs.declared.inst_list.BlockEnd.{BlockEnd}
 use Rattle.clif_ir.specs.declared.instructions.InstructionData.{InstructionData}
-use Rattle.clif_ssa.specs.declared.tables.Pending.{Pending}
 use Rattle.clif_ssa.specs.declared.tables.SsaBlock.{SsaBlock}
 use Rattle.clif_ssa.specs.Tables.{predecessors_at, sealed_at, pending_of}
-use Rattle.clif_ssa.specs.Ssa.{SsaState, NamesExist, predecessors_of, record_of, sealed_of, Records, SameRecords}
+use Rattle.clif_ssa.specs.Ssa.{SsaState, NamesExist, record_of, Records, SameRecords}
 use Rattle.cranelift_frontend.proofs.Growing.{Grows-inserted, Grows-with_block, Grows-with_inst}
 use Rattle.cranelift_frontend.specs.Growth.{Grows}
 use Rattle.cranelift_frontend.specs.declared.builder.FunctionBuilder.{FunctionBuilder}

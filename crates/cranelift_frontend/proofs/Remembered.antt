@@ -1,6 +1,6 @@
 -- What each call leaves of records, and of which values stand for one value.
-use Rattle.std.proofs.Common.{◌≡◌, ℕ, ◌+◌, ◌<◌, ◌==◌, ◌&&◌, if◌then◌else◌, Bool, true, false, List, [], ◌∷◌, ◌++◌, length, refl, sym, ◌∙◌, ap, subst, arith}
-use Rattle.std.specs.Prelude.{Option, Some, None, OnOk, IfOk, IfSome, Result, Ok, Err}
+use Rattle.std.proofs.Common.{◌≡◌, ℕ, ◌+◌, ◌==◌, ◌&&◌, if◌then◌else◌, Bool, true, false, List, [], ◌∷◌, ◌++◌, length, refl, sym, ◌∙◌, ap, subst, arith}
+use Rattle.std.specs.Prelude.{Option, Some, OnOk, IfOk, IfSome, Result, Ok, Err}
 use Rattle.std.proofs.lemmas.Bool.Decides.{nat_tests}
 use Rattle.clif_types.specs.declared.types.«Type».{«Type»}
 use Rattle.clif_ir.specs.declared.instructions.InstructionData.{InstructionData}
@@ -8,25 +8,20 @@ use Rattle.clif_ir.specs.declared.inst_list.BlockEnd.TheVariants.{Back}
 use Rattle.clif_ir.specs.Body.{Body, resolved}
 use Rattle.clif_ir.specs.Instruction.{destinations, result_types}
 use Rattle.clif_ir.specs.Reading.{targets}
-use Rattle.clif_ir.specs.Changes.{with_block, with_param, with_inst, inserted_in}
+use Rattle.clif_ir.specs.Changes.{with_block, with_inst, inserted_in}
 use Rattle.clif_ir.specs.Consistent.{IsConsistent}
 use Rattle.clif_ssa.specs.declared.tables.Cell.{Cell}
-use Rattle.clif_ssa.specs.declared.tables.Pending.{Pending}
-use Rattle.clif_ssa.specs.Tables.{is_yes}
-use Rattle.clif_ssa.specs.Ssa.{no_srcloc, SsaState, record_of, sealed_of, completed, zeroed, Records, SameRecords}
+use Rattle.clif_ssa.specs.Ssa.{no_srcloc, SsaState, record_of, Records, SameRecords}
 use Rattle.clif_ssa.specs.Structure.{StayAlike, HasRecordOf, Remembers}
-use Rattle.clif_ssa.proofs.Bodies.{Firm, firm_from}
-use Rattle.clif_ssa.proofs.Describing.{recorded_here}
-use Rattle.clif_ssa.proofs.Parameters.{param_firm, param_resolved, param_home_new}
+use Rattle.clif_ssa.proofs.Bodies.{firm_from}
 use Rattle.clif_ssa.proofs.Instructions.{inst_resolved}
-use Rattle.clif_ssa.proofs.Completing.{inserted_firm, inserted_same}
-use Rattle.clif_ssa.proofs.Alike.{alike_same, alike_then, inserted_resolved, zeroed_leaves}
-use Rattle.clif_ssa.proofs.Losing.{records_stay, seal_alike, zeroes_resolved}
+use Rattle.clif_ssa.proofs.Completing.{inserted_firm}
+use Rattle.clif_ssa.proofs.Alike.{alike_same, alike_then, inserted_resolved}
 use Rattle.cranelift_frontend.specs.Context.{ContextState, Begins}
 use Rattle.cranelift_frontend.specs.Construction.{IsUse, IsSealing, IsDeclared}
 use Rattle.cranelift_frontend.proofs.Declaring.{declared_same}
 use Rattle.cranelift_frontend.specs.declared.builder.FunctionBuilder.{FunctionBuilder}
-use Rattle.cranelift_frontend.specs.Builder.{UsesIn, AppendsIn, AppendsValue, HasCurrent}
+use Rattle.cranelift_frontend.specs.Builder.{AppendsIn, AppendsValue, HasCurrent}
 use Rattle.cranelift_frontend.specs.Growth.{AreCalls, HasRecordIn, RemembersIn, last_builder}
 
 -- the function and the records stay
@@ -87,7 +82,7 @@ pub remembers_used : {E : Type 0} (r : Result ℕ E) (y e : ℕ) (f g : Body) (c
 remembers_used (Err error) y e f g c d x ty b used = tt
 remembers_used (Ok value) y e f g c d x ty b used =
     let remembers : Remembers y e (inserted_in f b) c.ssa g d.ssa = used.1.remembers y e in
-    record { recorded = remembers.recorded; alike = alike_then f (inserted_in f b) g (inserted_alike f b) remembers.alike; }
+    record { recorded = remembers.recorded; alike = alike_then f (inserted_in f b) g (inserted_alike f b) remembers.alike }
 
 pub has_record_used : {E : Type 0} (r : Result ℕ E) (f g : Body) (c d : ContextState) (x : ℕ) (ty : «Type») (b : ℕ) (p : Option ℕ) → p ≡ Some b
     → IfOk r (λ value. (told : List ℕ) × IsUse (inserted_in f b) c.ssa g d.ssa x ty b value told × Begins c d (b ∷ told))

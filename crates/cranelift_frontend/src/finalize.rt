@@ -14,9 +14,9 @@ ghost use Rattle.cranelift_frontend.specs.StandsFor.{StandsFor};
 ghost use Rattle.clif_meaning.specs.Acceptance.{refusal_of};
 ghost use Rattle.cranelift_frontend.specs.Ledger.{AgreesWithLedger, RefusalAgrees, ledger_of};
 
+use crate::builder::FunctionBuilder;
 use crate::context::{BlockStatus, FunctionBuilderContext};
 use crate::error::FinalizeError;
-use crate::builder::FunctionBuilder;
 use clif_types::{Block, EntityRef, TargetFrontendConfig};
 
 impl<'a> FunctionBuilder<'a> {

@@ -17,8 +17,8 @@ ghost use Rattle.clif_types.specs.Signature.{SignatureShape};
 ghost use Rattle.cranelift_frontend.specs.StandsFor.{StandsFor};
 ghost use Rattle.cranelift_frontend.specs.Ledger.{AgreesWithLedger, HasShape, NamesEdge, NamesValue, ledger_of};
 
-use crate::context::{BlockStatus, FunctionBuilderContext};
 use crate::builder::FunctionBuilder;
+use crate::context::{BlockStatus, FunctionBuilderContext};
 use crate::frontend::begin_block;
 use clif_ir::inst_list::BlockEnd;
 use clif_ir::{BinaryOpcode, BlockArg, BlockCall, Function, InstructionData, ValueList};
@@ -276,7 +276,13 @@ impl<'short, 'long> InstBuilder<'long> for &'short mut FunctionBuilder<'long> {
         }
         self.func.law_consistent();
         let alloc = self.ctx.allocator();
-        let made = two_edges(alloc, block_then, block_then_args, block_else, block_else_args);
+        let made = two_edges(
+            alloc,
+            block_then,
+            block_then_args,
+            block_else,
+            block_else_args,
+        );
         match made {
             Ok(blocks) => self.build(InstructionData::Brif { arg: c, blocks }, Type::Invalid),
             Err(error) => {

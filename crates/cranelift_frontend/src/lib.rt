@@ -11,6 +11,7 @@ pub mod laws;
 #[cfg(test)]
 mod tests;
 
+pub use builder::FunctionBuilder;
 pub use clif_ir::{
     BinaryOpcode, BlockArg, BlockArgs, BlockCall, Function, InstructionData, ValueDef, ValueList,
 };
@@ -25,7 +26,6 @@ pub use clif_types::{
 };
 pub use context::FunctionBuilderContext;
 pub use error::FinalizeError;
-pub use builder::FunctionBuilder;
 pub use instructions::{FuncInstBuilder, InstBuilder, InstBuilderBase};
 
 /// The version of the crate whose behaviour this one has.

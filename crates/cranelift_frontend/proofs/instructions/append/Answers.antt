@@ -1,19 +1,16 @@
-use Rattle.std.proofs.Common.{◌≡◌, ◌<◌, ◌≤◌, ℕ, Bool, true, false, List, [], length, refl, sym, ap, subst, arith, ◌∙◌}
+use Rattle.std.proofs.Common.{◌≡◌, ℕ, false, List, [], sym, ap, subst, arith, ◌∙◌}
 use Rattle.std.specs.Prelude.{Contains}
-use Rattle.clif_types.specs.declared.types.«Type».{«Type»}
-use Rattle.clif_ir.specs.Body.{Body, inst_at}
-use Rattle.clif_ir.specs.Changes.{with_inst}
-use Rattle.clif_ir.specs.Instruction.{destinations, is_branch, result_types}
+use Rattle.clif_ir.specs.Body.{Body}
+use Rattle.clif_ir.specs.Instruction.{destinations, result_types}
 use Rattle.clif_ir.specs.Reading.{targets}
 use Rattle.clif_ir.specs.declared.block_call.BlockCall.{BlockCall}
 use Rattle.clif_ir.specs.declared.inst_list.BlockEnd.TheVariants.{Back}
 use Rattle.clif_ssa.specs.Tables.{is_yes}
-use Rattle.clif_ssa.specs.Ssa.{SsaState, NamesExist, predecessors_of, sealed_of}
+use Rattle.clif_ssa.specs.Ssa.{SsaState, NamesExist, sealed_of}
 use Rattle.cranelift_frontend.specs.Context.{ContextState}
 use Rattle.cranelift_frontend.specs.Construction.{IsDeclared}
 use Rattle.cranelift_frontend.proofs.Appending.{inserted_node, lead_unsealed, new_leads_nowhere, none_of_inner, none_of_plain}
 use Rattle.cranelift_frontend.proofs.Declaring.{declared_none}
-use Rattle.cranelift_frontend.proofs.Growing.{Grows-inserted}
 use Rattle.cranelift_frontend.proofs.Named.{names_appended}
 use Rattle.cranelift_frontend.proofs.instructions.append.Goals as goal
 use Rattle.cranelift_frontend.proofs.instructions.append.Goals.{then-ends+in_ok-set_status+in_ok-declare_successors, else-ends}
@@ -64,13 +61,13 @@ returns-clause-declares c =
       | then-ends+in_ok-set_status+in_ok-declare_successors w ↦
           let edges : w.branch_destination.result.now ≡ destinations c.args.shape = w.branch_destination.ensures ∙ ap destinations (w.inst_data.ensures.exact ∙ node.0) in
           subst (λ (d : ContextState). IsDeclared c.args.ctx.now.ssa inst (targets (destinations c.args.shape)) d.ssa) (sym w.ctx-is)
-              (subst (λ (s : SsaState). IsDeclared s inst (targets (destinations c.args.shape)) w.declare_successors.new.self.ssa) (w.set_status.ensures.ssa ∙ c.begin_block.ensures.ssa)
-              (subst (λ (es : List BlockCall). IsDeclared w.set_status.new.self.ssa inst (targets es) w.declare_successors.new.self.ssa) edges w.in_ok-declare_successors.ensures.ok))
+          (subst (λ (s : SsaState). IsDeclared s inst (targets (destinations c.args.shape)) w.declare_successors.new.self.ssa) (w.set_status.ensures.ssa ∙ c.begin_block.ensures.ssa)
+          (subst (λ (es : List BlockCall). IsDeclared w.set_status.new.self.ssa inst (targets es) w.declare_successors.new.self.ssa) edges w.in_ok-declare_successors.ensures.ok))
       | else-ends w ↦
           let none : destinations c.args.shape ≡ [] = none_of_inner c.args.shape (sym c.is_terminator-ends.ensures ∙ w.if-ends.false) in
           subst (λ (d : ContextState). IsDeclared c.args.ctx.now.ssa inst (targets (destinations c.args.shape)) d.ssa) (sym w.ctx-is)
-              (subst (λ (t : SsaState). IsDeclared c.args.ctx.now.ssa inst (targets (destinations c.args.shape)) t) (sym c.begin_block.ensures.ssa)
-              (subst (λ (es : List BlockCall). IsDeclared c.args.ctx.now.ssa inst (targets es) c.args.ctx.now.ssa) (sym none) (declared_none c.args.ctx.now.ssa inst)))
+          (subst (λ (t : SsaState). IsDeclared c.args.ctx.now.ssa inst (targets (destinations c.args.shape)) t) (sym c.begin_block.ensures.ssa)
+          (subst (λ (es : List BlockCall). IsDeclared c.args.ctx.now.ssa inst (targets es) c.args.ctx.now.ssa) (sym none) (declared_none c.args.ctx.now.ssa inst)))
     ]
 
 pub returns-clause-ssa : goal.returns-clause-ssa
@@ -92,6 +89,6 @@ returns-clause-names c =
     elim c.if-ends.branch [
       | then-ends+in_ok-set_status+in_ok-declare_successors w ↦
           subst (λ (d : ContextState). NamesExist c.insert_inst.new.self d.ssa) (sym w.ctx-is)
-              (w.declare_successors.ensures.names c.insert_inst.new.self node.1 (named_still c.begin_block.new.ctx.ssa w.set_status.new.self.ssa c.insert_inst.new.self w.set_status.ensures.ssa named))
+          (w.declare_successors.ensures.names c.insert_inst.new.self node.1 (named_still c.begin_block.new.ctx.ssa w.set_status.new.self.ssa c.insert_inst.new.self w.set_status.ensures.ssa named))
       | else-ends w ↦ subst (λ (d : ContextState). NamesExist c.insert_inst.new.self d.ssa) (sym w.ctx-is) named
     ]

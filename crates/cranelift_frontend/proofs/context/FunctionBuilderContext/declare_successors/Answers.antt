@@ -1,5 +1,5 @@
-use Rattle.std.proofs.Common.{rules, arith, ◌≡◌, ◌<◌, ◌+◌, ◌-◌, ℕ, List, Bool, true, false, IsTrue, Some, [], length, take, get_or, sym, ap, subst, ◌∙◌}
-use Rattle.std.specs.Prelude.{Contains, slice_get, ◌↔◌}
+use Rattle.std.proofs.Common.{rules, arith, ◌≡◌, ◌<◌, ◌+◌, ◌-◌, ℕ, List, Bool, true, false, IsTrue, Some, [], length, take, sym, ap, subst}
+use Rattle.std.specs.Prelude.{Contains, slice_get}
 use Rattle.clif_ir.specs.Body.{Body}
 use Rattle.clif_ir.specs.Reading.{targets}
 use Rattle.clif_ir.specs.declared.block_call.BlockCall.{BlockCall}
@@ -45,11 +45,11 @@ loop-edge-preserved c =
           let not_last : slice_get (predecessors_of t block) (length (predecessors_of t block) - 1) ≡ Some c.args.inst → ⊥ =
           λ last. not_both (c.is_last_predecessor.ensures.1 last) w.if-not-is_last_predecessor.true in
           subst (λ (i : Inside). IsDeclared s c.args.inst (targets (take (c.loop-edge.edge-index + 1) c.args.edges.now)) i.ssa
-              × ((f : Body) → c.args.inst < length f.insts → NamesExist f s → NamesExist f i.ssa) × (i.status ≡ c.self.inside.status) × (i.variables ≡ c.self.inside.variables)
-              × (c.args.edges.now ≡ [] → i.ssa ≡ s))
+          × ((f : Body) → c.args.inst < length f.insts → NamesExist f s → NamesExist f i.ssa) × (i.status ≡ c.self.inside.status) × (i.variables ≡ c.self.inside.variables)
+          × (c.args.edges.now ≡ [] → i.ssa ≡ s))
           (sym w.self-inside-is) (
             declare_more s t w.declare_block_predecessor.new.self c.args.inst c.args.edges.now c.loop-edge.edge-index c.edge-item.result c.edge-item.result inside c.edge-item.is
-            c.loop-edge.invariant.0 not_last done.records done.blocks done.ok,
+                c.loop-edge.invariant.0 not_last done.records done.blocks done.ok,
             (λ f exists before. names_more f t w.declare_block_predecessor.new.self c.args.inst block exists done.records done.blocks done.ok (c.loop-edge.invariant.1 f exists before)),
             c.loop-edge.invariant.2,
             c.loop-edge.invariant.3,
@@ -58,8 +58,8 @@ loop-edge-preserved c =
       | else-not-is_last_predecessor w ↦
           let last : slice_get (predecessors_of t block) (length (predecessors_of t block) - 1) ≡ Some c.args.inst = c.is_last_predecessor.ensures.0 (is_true w.if-not-is_last_predecessor.false) in
           subst (λ (i : Inside). IsDeclared s c.args.inst (targets (take (c.loop-edge.edge-index + 1) c.args.edges.now)) i.ssa
-              × ((f : Body) → c.args.inst < length f.insts → NamesExist f s → NamesExist f i.ssa) × (i.status ≡ c.self.inside.status) × (i.variables ≡ c.self.inside.variables)
-              × (c.args.edges.now ≡ [] → i.ssa ≡ s))
+          × ((f : Body) → c.args.inst < length f.insts → NamesExist f s → NamesExist f i.ssa) × (i.status ≡ c.self.inside.status) × (i.variables ≡ c.self.inside.variables)
+          × (c.args.edges.now ≡ [] → i.ssa ≡ s))
           (sym w.self-inside-is) (
             declare_skipped s t c.args.inst c.args.edges.now c.loop-edge.edge-index c.edge-item.result c.edge-item.result inside c.edge-item.is new c.loop-edge.invariant.0 last,
             c.loop-edge.invariant.1,
