@@ -1,14 +1,12 @@
 -- What a use of a variable and a sealing make of a function and of the state of its construction: the contracts of the
 -- crate below, of a call that answers. Source: own, after Braun et al. 2013.
-use Rattle.std.specs.Prelude.{◌≡◌, ◌≢◌, ◌⊎◌, ◌<◌, ℕ, List, [], ◌∷◌, ◌++◌, length, Bool, true, false, Some, None, Contains}
-use Rattle.std.specs.List.{AllByRecursion}
+use Rattle.std.specs.Prelude.{◌≡◌, ℕ, List, [], Bool, true}
 use Rattle.clif_types.specs.declared.types.«Type».{«Type»}
 use Rattle.clif_ir.specs.Body.{Body}
 use Rattle.clif_ir.specs.Reading.{stands_in}
 use Rattle.clif_paths.specs.Blocks.{Blocks}
 use Rattle.clif_ssa.specs.Own.{Own}
-use Rattle.clif_ssa.specs.Tables.{is_yes, pending_of}
-use Rattle.clif_ssa.specs.Ssa.{SsaState, record_of, sealed_of, predecessors_of, RecordsStay, SamePredecessors, SealedStays}
+use Rattle.clif_ssa.specs.Ssa.{SsaState, RecordsStay, SamePredecessors, SealedStays}
 use Rattle.clif_ssa.specs.Sound.{Keeps, KeepsAndKnows}
 use Rattle.clif_ssa.specs.SoundLaws.{DescribesSoundly}
 use Rattle.clif_ssa.specs.Structure.{HasRecordOf, Remembers}

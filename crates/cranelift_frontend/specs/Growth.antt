@@ -1,7 +1,6 @@
 -- What goes on existing, and goes on standing for one value, as calls are made. Source: own.
-use Rattle.std.specs.Prelude.{◌≡◌, ◌<◌, ◌≤◌, ℕ, List, [], ◌∷◌, length, Some}
+use Rattle.std.specs.Prelude.{◌≡◌, ◌≤◌, ℕ, List, [], ◌∷◌, length}
 use Rattle.clif_ir.specs.Body.{Body, resolved}
-use Rattle.clif_ssa.specs.Ssa.{SsaState, record_of}
 use Rattle.clif_ssa.specs.Structure.{HasRecordOf, Remembers}
 use Rattle.cranelift_frontend.specs.declared.builder.FunctionBuilder.{FunctionBuilder}
 
