@@ -119,11 +119,14 @@ agrees-created calls ledger f g c d p block agrees function number records seale
       layout = named-more (block_name ledger) (block_name (ledger_with ledger CreateBlock)) ledger.layout f.layout names agrees.layout
           ∙ ap (λ (h : Body). map (block_name (ledger_with ledger CreateBlock)) h.layout) (sym function);
       variables = agrees.variables ∙ sym variables;
-      structured = (agrees.structured.0, λ types are.
-          let own : Own = agrees.structured.0 in
-          let before : Structured types own f c.ssa [] = agrees.structured.1 types (subst (λ (xs : List «Type»). AreTypesOf xs types) variables are) in
-          let made : Structured types own g c.ssa [] = subst (λ (h : Body). Structured types own h c.ssa []) (sym function) (block_structured types own f c.ssa before) in
-          same_structured types own g c.ssa d.ssa [] (λ x b. ap (λ (rows : List (List Cell)). record_at rows x b) records) sealed leads made);
+      structured = (
+        agrees.structured.0,
+        λ types are.
+            let own : Own = agrees.structured.0 in
+            let before : Structured types own f c.ssa [] = agrees.structured.1 types (subst (λ (xs : List «Type»). AreTypesOf xs types) variables are) in
+            let made : Structured types own g c.ssa [] = subst (λ (h : Body). Structured types own h c.ssa []) (sym function) (block_structured types own f c.ssa before) in
+            same_structured types own g c.ssa d.ssa [] (λ x b. ap (λ (rows : List (List Cell)). record_at rows x b) records) sealed leads made,
+      );
       parameters = λ v h is. begun_still h (agrees.parameters v h (ap (λ (b : Body). param_home b v) (sym function) ∙ is));
       branches = λ b i here.
           subst (IsEnded g d) (ap (λ (h : Body). branch_block h i) (sym function))
@@ -264,15 +267,17 @@ module _ (calls : List AnsweredCall) (ledger : Ledger) (f g : Body) (c d : Conte
         current = one-named-more (block_name ledger) (block_name new) ledger.current p names agrees.current;
         layout = named-more (block_name ledger) (block_name new) ledger.layout f.layout names agrees.layout ∙ ap (map (block_name new)) (sym layout);
         variables = agrees.variables ∙ sym variables;
-        structured = (agrees.structured.0, λ types are.
-            sealing.structured types agrees.structured.0 (agrees.structured.1 types (subst (λ (xs : List «Type»). AreTypesOf xs types) variables are)));
+        structured = (
+          agrees.structured.0,
+          λ types are.
+              sealing.structured types agrees.structured.0 (agrees.structured.1 types (subst (λ (xs : List «Type»). AreTypesOf xs types) variables are)),
+        );
         parameters = sealed_parameters calls ledger f c p agrees g d block told sealing consistent begins;
         branches = sealed_branches calls ledger f c p agrees g d block told sealing consistent begins;
         fresh = λ k above.
             let past : length f.blocks ≤ k = omega (arith, above, extends.block_count) in
             let exists : block < length f.blocks = block-exists calls ledger f c p agrees block name named in
-            let other : k ≢ block = omega (arith, past, exists) in
-            (
+            let other : k ≢ block = omega (arith, past, exists) in (
               sealing.sealed k ∙ if-no (k == block) true (is_yes (sealed_of c.ssa k)) (ne_eqb k block other) ∙ (agrees.fresh k past).0,
               status_at k ∙ (agrees.fresh k past).1,
               sealing.predecessors k ∙ (agrees.fresh k past).2,

@@ -1,26 +1,25 @@
 -- A branch is declared along its edges: the agreement with the ledger is kept.
-use Rattle.std.proofs.Common.{◌≡◌, ◌≢◌, ◌<◌, ◌≤◌, ◌==◌, ℕ, suc, List, [], ◌∷◌, ◌++◌, length, refl, sym, ◌∙◌, ap, subst, arith, inl, inr}
+use Rattle.std.proofs.Common.{◌≡◌, ◌≢◌, ◌<◌, ◌≤◌, ℕ, List, [], ◌∷◌, ◌++◌, length, refl, sym, ◌∙◌, ap, subst, arith, inl, inr}
 use Rattle.std.specs.Prelude.{Bool, true, false, ◌||◌, if◌then◌else◌, map, slice_get, Option, Some, option_map, Contains}
 use Rattle.std.specs.List.{list_any}
 use Rattle.std.proofs.lemmas.Bool.{ne_eqb}
 use Rattle.std.proofs.lemmas.List.{map_push, length-map}
 use Rattle.std.proofs.lemmas.Option.{slice_get-map}
-use Rattle.clif_types.specs.declared.types.«Type».{«Type»}
 use Rattle.clif_ir.specs.Body.{Body}
 use Rattle.clif_ir.specs.Reading.{stands_in, targets}
 use Rattle.clif_ir.specs.declared.block_call.BlockCall.{BlockCall}
 use Rattle.clif_meaning.specs.Name.{Name, same_name}
 use Rattle.clif_meaning.specs.Instruction.{Edge}
 use Rattle.clif_meaning.specs.Request.{AnsweredCall, number_of}
-use Rattle.clif_meaning.specs.Ledger.{ABlock, Answered, BlockState, Ledger, VariableState, answer_at}
+use Rattle.clif_meaning.specs.Ledger.{Answered, BlockState, Ledger, VariableState, answer_at}
 use Rattle.clif_ssa.specs.Tables.{is_yes}
 use Rattle.clif_ssa.specs.LookUp.{branch_block}
 use Rattle.clif_ssa.specs.Ssa.{predecessors_of, sealed_of}
 use Rattle.clif_simulation.proofs.Telling.{along_old_or_it}
-use Rattle.cranelift_frontend.specs.Context.{ContextState, SameStatus, status_of}
+use Rattle.cranelift_frontend.specs.Context.{ContextState, SameStatus}
 use Rattle.cranelift_frontend.specs.Builder.{is_empty_status, is_filled_status}
 use Rattle.cranelift_frontend.specs.Construction.{IsDeclared}
-use Rattle.cranelift_frontend.specs.Ledger.{AnswersAgree, BlockAgrees, IsBegun, IsEnded, IsStructured, LedgerAgrees, block_name}
+use Rattle.cranelift_frontend.specs.Ledger.{BlockAgrees, IsBegun, IsEnded, IsStructured, LedgerAgrees, block_name}
 use Rattle.cranelift_frontend.proofs.LedgerLists.{if-yes, if-no, map-some, named-more, one-named-more}
 use Rattle.cranelift_frontend.proofs.LedgerNames.{IsNumbered, name-number}
 use Rattle.cranelift_frontend.proofs.LedgerKept.{answers-kept, keeps-itself}
@@ -163,8 +162,8 @@ module _ (calls : List AnsweredCall) (old new : Ledger) (g : Body) (c d : Contex
           | inr it ↦ subst (λ (n : ℕ). IsEnded g d (branch_block g n)) (sym it) ended
         ];
         fresh = λ k above. (
-            sealed k ∙ (agrees.fresh k above).0,
-            same_status k ∙ (agrees.fresh k above).1,
-            leads k ∙ if-no (stands_in k (targets made)) (predecessors_of c.ssa k ++ inst ∷ []) (predecessors_of c.ssa k) (not_led k above edges made lead) ∙ (agrees.fresh k above).2,
-          );
+          sealed k ∙ (agrees.fresh k above).0,
+          same_status k ∙ (agrees.fresh k above).1,
+          leads k ∙ if-no (stands_in k (targets made)) (predecessors_of c.ssa k ++ inst ∷ []) (predecessors_of c.ssa k) (not_led k above edges made lead) ∙ (agrees.fresh k above).2,
+        );
       }

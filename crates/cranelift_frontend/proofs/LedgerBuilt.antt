@@ -1,8 +1,8 @@
 -- An instruction is built: the agreement with the ledger is kept.
 use Rattle.std.proofs.Common.{◌≡◌, ◌≢◌, ◌<◌, ◌+◌, ◌==◌, ℕ, suc, List, [], ◌∷◌, ◌++◌, length, refl, sym, ◌∙◌, ap, subst, arith, inl, inr, length-append}
-use Rattle.std.specs.Prelude.{map, slice_get, Option, Some, option_map, Bool, true, false, ◌||◌, if◌then◌else◌, fold, All, Contains}
+use Rattle.std.specs.Prelude.{map, slice_get, Option, Some, option_map, Bool, true, false, if◌then◌else◌, fold, All, Contains}
 use Rattle.std.proofs.lemmas.Bool.{eq-eqb, or_cases, or_left, or_right, eqb-true}
-use Rattle.std.proofs.lemmas.Option.{get_or_from_slice_get, slice_get-get_or}
+use Rattle.std.proofs.lemmas.Option.{get_or_from_slice_get}
 use Rattle.clif_types.specs.declared.types.«Type».{«Type»}
 use Rattle.clif_ir.specs.declared.inst_list.BlockEnd.TheVariants.{Back}
 use Rattle.clif_ir.specs.declared.instructions.InstructionData.{InstructionData}
@@ -16,7 +16,7 @@ use Rattle.clif_ir.specs.Instruction.{destinations}
 use Rattle.clif_ir.specs.Reading.{stands_in, targets}
 use Rattle.clif_paths.proofs.Tables.{updated-same}
 use Rattle.clif_meaning.specs.Name.{Name}
-use Rattle.clif_meaning.specs.Instruction.{Arithmetic, Iconst, Iadd, Isub, Compute, Edge, Instruction}
+use Rattle.clif_meaning.specs.Instruction.{Arithmetic, Iconst, Iadd, Isub, Compute, Instruction}
 use Rattle.clif_meaning.specs.Request.{AnsweredCall, Build, Request, number_of}
 use Rattle.clif_meaning.specs.Program as program
 use Rattle.clif_meaning.specs.Ledger.{Answered, AValue, AnInstruction, BlockState, Ledger, is_terminator, ledger_with, next_answer, with_begun, with_filled_at, with_predecessor, with_state}
@@ -24,7 +24,7 @@ use Rattle.clif_meaning.proofs.CallLists as earlier
 use Rattle.clif_ssa.specs.Own.{Own}
 use Rattle.clif_ssa.specs.Tables.{is_yes}
 use Rattle.clif_ssa.specs.LookUp.{branch_block}
-use Rattle.clif_ssa.specs.Sound.{args_of, edges_at}
+use Rattle.clif_ssa.specs.Sound.{args_of}
 use Rattle.clif_ssa.specs.SoundLaws.{shape_passes, with_own}
 use Rattle.clif_ssa.specs.Ssa.{SsaState, no_srcloc, predecessors_of, sealed_of}
 use Rattle.clif_ssa.specs.Structured.{Structured, VariableTypes}
@@ -60,11 +60,13 @@ appended-structured types own f s block shape results consistent exists before =
 appended-is-structured : (f g : Body) (c d : ContextState) (block : ℕ) (shape : InstructionData) (results : List «Type») → IsConsistent f → block < length f.blocks
     → g ≡ with_inst (inserted_in f block) block Back shape results no_srcloc → d.ssa ≡ c.ssa → d.variables ≡ c.variables → IsStructured f c → IsStructured g d
 appended-is-structured f g c d block shape results consistent exists function ssa variables before =
-    let own : Own = with_own before.0 block (length (inserted_in f block).insts) shape in
-    (own, λ types are.
-        subst (λ (s : SsaState). Structured types own g s []) (sym ssa)
-        (subst (λ (h : Body). Structured types own h c.ssa []) (sym function)
-        (appended-structured types before.0 f c.ssa block shape results consistent exists (before.1 types (subst (λ (xs : List «Type»). AreTypesOf xs types) variables are)))))
+    let own : Own = with_own before.0 block (length (inserted_in f block).insts) shape in (
+      own,
+      λ types are.
+          subst (λ (s : SsaState). Structured types own g s []) (sym ssa)
+          (subst (λ (h : Body). Structured types own h c.ssa []) (sym function)
+          (appended-structured types before.0 f c.ssa block shape results consistent exists (before.1 types (subst (λ (xs : List «Type»). AreTypesOf xs types) variables are)))),
+    )
 
 -- what an appended instruction makes
 pub appends-make : (calls : List AnsweredCall) (ledger : Ledger) (f g : Body) (c d : ContextState) (p : Option ℕ) (block : ℕ) (shape : InstructionData) (types : List «Type») (status : BlockStatus)
@@ -255,14 +257,16 @@ module _ (calls : List AnsweredCall) (f g : Body) (c d : ContextState) (p : Opti
   structured =
       let own : Own = with_own agrees.structured.0 block (length (inserted_in f block).insts) shape in
       let same : inst ≡ length (inserted_in f block).insts = is_inst ∙ sym (inserted-insts f block) in
-      let more : length g.insts ≡ length (inserted_in f block).insts + 1 = ap (λ (h : Body). length h.insts) function ∙ length-append (inserted_in f block).insts (node ∷ []) in
-      (own, λ types are.
-          along_structured declared.told types own g c.ssa d.ssa inst (omega (arith, same, more)) declared.once may_lead
-          (λ k. ap (λ (n : InstNode). args_of (slice_get (destinations n.shape) k)) node_is
-          ∙ ap (λ passes. passes k) (sym (updated-same (agrees.structured.0).passed (length (inserted_in f block).insts) (shape_passes shape) inst same)))
-          declared.along (subst (λ (h : Body). Structured types own h c.ssa []) (sym function)
-          (appended-structured types agrees.structured.0 f c.ssa block shape [] consistent exists
-          (agrees.structured.1 types (subst (λ (xs : List «Type»). AreTypesOf xs types) variables are)))))
+      let more : length g.insts ≡ length (inserted_in f block).insts + 1 = ap (λ (h : Body). length h.insts) function ∙ length-append (inserted_in f block).insts (node ∷ []) in (
+        own,
+        λ types are.
+            along_structured declared.told types own g c.ssa d.ssa inst (omega (arith, same, more)) declared.once may_lead
+            (λ k. ap (λ (n : InstNode). args_of (slice_get (destinations n.shape) k)) node_is
+            ∙ ap (λ passes. passes k) (sym (updated-same (agrees.structured.0).passed (length (inserted_in f block).insts) (shape_passes shape) inst same)))
+            declared.along (subst (λ (h : Body). Structured types own h c.ssa []) (sym function)
+            (appended-structured types agrees.structured.0 f c.ssa block shape [] consistent exists
+            (agrees.structured.1 types (subst (λ (xs : List «Type»). AreTypesOf xs types) variables are)))),
+      )
 
   led : LedLedger (record ended_ledger { answers = answered }) (record (fold (with_predecessor (next_answer ledger)) ended_ledger instruction.edges) { answers = answered })
       (next_answer ledger) instruction.edges

@@ -1,8 +1,8 @@
 -- A branch becomes a predecessor of its targets: by the ledger, and by the construction.
-use Rattle.std.proofs.Common.{◌≡◌, ◌<◌, ◌==◌, ℕ, zero, suc, List, [], ◌∷◌, ◌++◌, length, refl, sym, ◌∙◌, ap, subst, arith, inl, inr}
-use Rattle.std.specs.Prelude.{Bool, true, false, ◌||◌, if◌then◌else◌, fold, map, Option, Some, Contains}
+use Rattle.std.proofs.Common.{◌≡◌, ◌==◌, ℕ, suc, List, [], ◌∷◌, ◌++◌, refl, sym, ◌∙◌, ap, subst, arith, inl, inr}
+use Rattle.std.specs.Prelude.{Bool, true, false, ◌||◌, if◌then◌else◌, fold, map, Some, Contains}
 use Rattle.std.specs.List.{list_any}
-use Rattle.std.proofs.lemmas.Bool.{cases_eq, eq-eqb, eqb-true, ne_eqb, or_cases, or_left, or_right}
+use Rattle.std.proofs.lemmas.Bool.{cases_eq, eq-eqb, ne_eqb, or_left, or_right}
 use Rattle.std.proofs.lemmas.Option.{same_Some}
 use Rattle.clif_ir.specs.Consistent.{Once, Stands}
 use Rattle.clif_ir.specs.Reading.{stands_in, targets}

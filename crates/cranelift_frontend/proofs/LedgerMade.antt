@@ -4,7 +4,6 @@ use Rattle.std.specs.Prelude.{map, slice_get, Option, Some, option_map, Bool, tr
 use Rattle.std.proofs.lemmas.Option.{slice_get_within}
 use Rattle.std.proofs.lemmas.Bool.{cases_eq, eq-eqb, eqb-true, ne_eqb}
 use Rattle.std.proofs.lemmas.List.{map_push}
-use Rattle.clif_types.specs.declared.types.«Type».{«Type»}
 use Rattle.clif_ir.specs.Body.{Body}
 use Rattle.clif_ir.specs.Changes.{inserted_in}
 use Rattle.clif_ir.specs.Changes as body
@@ -185,8 +184,7 @@ agrees-made calls call old new f g c d p block name change status answered agree
       fresh = λ k above.
           let past : length f.blocks ≤ k = omega (arith, above, makes.extends.block_count) in
           let exists : block < length f.blocks = block-exists calls old f c p agrees block name named in
-          let other : k ≢ block = omega (arith, past, exists) in
-          (
+          let other : k ≢ block = omega (arith, past, exists) in (
             makes.sealed k ∙ (agrees.fresh k past).0,
             sets k ∙ if-no (k == block) status (status_of c k) (ne_eqb k block other) ∙ (agrees.fresh k past).1,
             makes.predecessors k ∙ (agrees.fresh k past).2,

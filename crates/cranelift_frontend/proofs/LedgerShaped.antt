@@ -30,7 +30,7 @@ use Rattle.clif_ssa.specs.Ssa.{no_srcloc}
 use Rattle.cranelift_frontend.specs.declared.context.BlockStatus.TheVariants.{Filled}
 use Rattle.cranelift_frontend.specs.declared.builder.FunctionBuilder.{FunctionBuilder}
 use Rattle.cranelift_frontend.specs.Context.{ContextState, SetsStatus, begun, status_of}
-use Rattle.cranelift_frontend.specs.Builder.{Appends, AppendsIn, AppendsValue, CanLeadIn, HasCurrent, status_after}
+use Rattle.cranelift_frontend.specs.Builder.{Appends, AppendsIn, AppendsValue, CanLeadIn, HasCurrent}
 use Rattle.cranelift_frontend.specs.Construction.{IsDeclared}
 use Rattle.cranelift_frontend.specs.Ledger.{AgreesWithLedger, HasShape, LedgerAgrees, NamesEdge, NamesEdges, NamesValue, ledger_of, made_at}
 use Rattle.cranelift_frontend.proofs.LedgerLists.{map-some}

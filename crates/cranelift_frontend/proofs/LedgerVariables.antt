@@ -57,12 +57,14 @@ agrees-assigned calls ledger f c d p variable name block value ty agrees declare
     agrees-kept calls call ledger new f c d p p [] agrees refl refl refl agrees.current
     (types-touched variable ledger.variables ∙ agrees.variables ∙ sym variables)
     (λ b. ap (λ (xs : List SsaBlock). is_yes (sealed_at xs b)) blocks) leads
-    (λ b. ap (λ (xs : List BlockStatus). status_of (record c { status = xs }) b) status)
-    (agrees.structured.0, λ types are.
-        let before : AreTypesOf c.variables types = subst (λ (xs : List «Type»). AreTypesOf xs types) variables are in
-        let has : HasType f value (types variable) = subst (HasType f value) (sym (before variable ty declared)) typed in
-        assigned_structured types agrees.structured.0 f c.ssa d.ssa variable block value has records (λ b. ap (λ (xs : List SsaBlock). sealed_at xs b) blocks) leads
-        (agrees.structured.1 types before))
+    (λ b. ap (λ (xs : List BlockStatus). status_of (record c { status = xs }) b) status) (
+      agrees.structured.0,
+      λ types are.
+          let before : AreTypesOf c.variables types = subst (λ (xs : List «Type»). AreTypesOf xs types) variables are in
+          let has : HasType f value (types variable) = subst (HasType f value) (sym (before variable ty declared)) typed in
+          assigned_structured types agrees.structured.0 f c.ssa d.ssa variable block value has records (λ b. ap (λ (xs : List SsaBlock). sealed_at xs b) blocks) leads
+          (agrees.structured.1 types before),
+    )
     (answers-none new f (length calls))
   where
     leads : SamePredecessors c.ssa d.ssa

@@ -1,6 +1,6 @@
 -- Where a use of a variable and a sealing put zeros and parameters, beside a ledger that agrees: into blocks of the layout
 -- in which something was made. So no other block enters the layout, and no other block's status changes.
-use Rattle.std.proofs.Common.{◌≡◌, ◌≢◌, ◌<◌, ◌==◌, ℕ, zero, suc, List, [], ◌∷◌, ◌++◌, length, refl, sym, ◌∙◌, ap, subst, arith, ◌⊎◌, inl, inr}
+use Rattle.std.proofs.Common.{◌≡◌, ◌≢◌, ◌<◌, ◌==◌, ℕ, suc, List, [], ◌∷◌, ◌++◌, length, refl, sym, ◌∙◌, ap, subst, arith, inl, inr}
 use Rattle.std.specs.Prelude.{Bool, true, false, not, ◌&&◌, ◌||◌, if◌then◌else◌, slice_get, slice_index, Option, Some, Contains}
 use Rattle.std.specs.List.{AllByRecursion}
 use Rattle.std.proofs.lemmas.Bool.{and_from, and_parts, cases_eq, eq-eqb, eqb-true, ne_eqb, or_cases, or_left, or_right}
@@ -13,13 +13,11 @@ use Rattle.clif_ir.specs.Reading.{param_home, stands_in}
 use Rattle.clif_ir.proofs.Reading.{Once-tail}
 use Rattle.clif_meaning.specs.Request.{AnsweredCall}
 use Rattle.clif_meaning.specs.Ledger.{Ledger, or_invalid}
-use Rattle.clif_ssa.specs.declared.tables.Pending.{Pending}
-use Rattle.clif_ssa.specs.Tables.{pending_of}
-use Rattle.clif_ssa.specs.Ssa.{SsaState, predecessors_of, sealed_of}
+use Rattle.clif_ssa.specs.Ssa.{predecessors_of}
 use Rattle.clif_ssa.specs.LookUp.{branch_block}
 use Rattle.clif_ssa.specs.Structured.{VariableTypes}
 use Rattle.clif_ssa.specs.Constructs.{MayPassMore, OnlyConstructs}
-use Rattle.clif_ssa.specs.Within.{HoldsBranches, HoldsWaiting, StaysWithin}
+use Rattle.clif_ssa.specs.Within.{StaysWithin}
 use Rattle.cranelift_frontend.specs.declared.context.BlockStatus.{BlockStatus}
 use Rattle.cranelift_frontend.specs.declared.context.BlockStatus.TheVariants.{Empty, Partial, Filled}
 use Rattle.cranelift_frontend.specs.Context.{Begins, ContextState, SameStatus, SetsStatus, begun, status_of}
@@ -156,10 +154,10 @@ module _ (calls : List AnsweredCall) (ledger : Ledger) (f : Body) (c : ContextSt
     held =
         used.within holds
         (λ b i leads.
-            let ended : IsEnded f c (branch_block f i) = agrees.branches b i leads in
-            let node : inst_at (inserted_in f block) i ≡ inst_at f i = inserted_inst f block i in
-            ap (λ (n : InstNode). holds n.block) node
-            ∙ holds_some (branch_block f i) (stands-still f block (branch_block f i) ended.inserted) (λ other. (ended-begun f c (branch_block f i) ended).begun))
+        let ended : IsEnded f c (branch_block f i) = agrees.branches b i leads in
+        let node : inst_at (inserted_in f block) i ≡ inst_at f i = inserted_inst f block i in
+        ap (λ (n : InstNode). holds n.block) node
+        ∙ holds_some (branch_block f i) (stands-still f block (branch_block f i) ended.inserted) (λ other. (ended-begun f c (branch_block f i) ended).begun))
         (holds_some block (stands-inserted f block) (λ other. absurd (other refl)))
 
     -- a block that is held
