@@ -60,7 +60,7 @@ out_before b a x (c ∷ layout) out = by (c == a) (out_before b a x layout) out
 -- BLOCKS ------------------------------------------------------------------------------------------------------------------
 
 -- a block that is cold keeps its parameters and instructions
-cold_params : (nodes : List BlockNode) (b x : ℕ)
+pub cold_params : (nodes : List BlockNode) (b x : ℕ)
     → (slice_index_or (slice_set nodes b (record (slice_index_or nodes b empty_block) { is_cold = true })) x empty_block).params ≡ (slice_index_or nodes x empty_block).params
 cold_params [] b x = refl
 cold_params (node ∷ nodes) zero zero = refl
@@ -68,7 +68,7 @@ cold_params (node ∷ nodes) zero (suc x) = refl
 cold_params (node ∷ nodes) (suc b) zero = refl
 cold_params (node ∷ nodes) (suc b) (suc x) = cold_params nodes b x
 
-cold_insts : (nodes : List BlockNode) (b x : ℕ)
+pub cold_insts : (nodes : List BlockNode) (b x : ℕ)
     → (slice_index_or (slice_set nodes b (record (slice_index_or nodes b empty_block) { is_cold = true })) x empty_block).insts ≡ (slice_index_or nodes x empty_block).insts
 cold_insts [] b x = refl
 cold_insts (node ∷ nodes) zero zero = refl

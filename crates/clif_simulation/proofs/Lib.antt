@@ -65,4 +65,4 @@ mod LoopWrong
 mod LoopArgument
 mod LoopRow
 mod LoopConsistent
-mod Further
+pub mod Further

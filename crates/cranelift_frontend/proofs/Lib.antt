@@ -19,6 +19,7 @@ mod Appending
 pub mod Statuses
 pub mod Standing
 pub mod StandingResults
+pub mod Marking
 pub mod Finishing
 pub mod StandingBuilt
 pub mod StandingShaped
