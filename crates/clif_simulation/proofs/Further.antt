@@ -30,7 +30,7 @@ use Rattle.clif_simulation.proofs.Requests.{entry_begun}
 -- LAYOUTS -----------------------------------------------------------------------------------------------------------------
 
 -- the first block stays where another one comes behind one of the layout
-first_stays : (b a : ℕ) (layout : List ℕ) → slice_get (put_behind b a layout) 0 ≡ slice_get layout 0
+pub first_stays : (b a : ℕ) (layout : List ℕ) → slice_get (put_behind b a layout) 0 ≡ slice_get layout 0
 first_stays b a [] = refl
 first_stays b a (c ∷ layout) = by (c == a)
   where
@@ -39,7 +39,7 @@ first_stays b a (c ∷ layout) = by (c == a)
     by false = refl
 
 -- what stood in the layout stands in it
-out_before : (b a x : ℕ) (layout : List ℕ) → stands_in x (put_behind b a layout) ≡ false → stands_in x layout ≡ false
+pub out_before : (b a x : ℕ) (layout : List ℕ) → stands_in x (put_behind b a layout) ≡ false → stands_in x layout ≡ false
 out_before b a x [] out = refl
 out_before b a x (c ∷ layout) out = by (c == a) (out_before b a x layout) out
   where

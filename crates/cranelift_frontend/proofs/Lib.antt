@@ -14,6 +14,7 @@ pub mod LedgerVariables
 pub mod LedgerEnds
 pub mod Declaring
 pub mod Growing
+pub mod Laid
 pub mod Named
 mod Appending
 pub mod Statuses

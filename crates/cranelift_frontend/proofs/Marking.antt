@@ -30,7 +30,7 @@ use Rattle.cranelift_frontend.proofs.LedgerLists.{name-of-some}
 use Rattle.cranelift_frontend.proofs.LedgerMade.{MadeLedger, Makes, agrees-made, begun-ledger, begun-still, ended-still, unpristine}
 use Rattle.cranelift_frontend.proofs.LedgerUsed.{begun-agrees, begun-not-empty}
 use Rattle.cranelift_frontend.proofs.Placed.{branch_exists}
-use Rattle.cranelift_frontend.proofs.Standing.{current_name, inserted_cases}
+use Rattle.cranelift_frontend.proofs.Standing.{current_name, first_cases}
 
 -- COLD BLOCKS -------------------------------------------------------------------------------------------------------------
 
@@ -153,7 +153,7 @@ ensured_stands declared calls f g c d p block (Ok u) stands at is sets ssa ledge
           (subst (λ (h : Body). Carries after h c.ssa) (sym is) (carries_ensured calls f c.ssa stands.carries block current.0 current.1));
       begun = λ b there empty.
           still_begun c d block sets b
-          (old_or_it b (inserted_cases f block b (ap (λ (h : Body). stands_in b h.layout) (sym is) ∙ there))) empty;
+          (old_or_it b (first_cases f block b (ap (λ (h : Body). slice_get h.layout 0) (sym is) ∙ there))) empty;
     }
   where
     inserted_signature : (f : Body) (b : ℕ) → (inserted_in f b).signature ≡ f.signature
@@ -163,6 +163,6 @@ ensured_stands declared calls f g c d p block (Ok u) stands at is sets ssa ledge
         by true = refl
         by false = refl
 
-    old_or_it : (b : ℕ) → (stands_in b f.layout ≡ true) ⊎ (b ≡ block) → (status_of c b ≢ Empty) ⊎ (b ≡ block)
+    old_or_it : (b : ℕ) → (slice_get f.layout 0 ≡ Some b) ⊎ (b ≡ block) → (status_of c b ≢ Empty) ⊎ (b ≡ block)
     old_or_it b (inl old) = inl (stands.begun b old)
     old_or_it b (inr same) = inr same

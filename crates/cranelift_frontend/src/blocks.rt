@@ -4,9 +4,10 @@ ghost use Rattle.cranelift_frontend.specs.Context.{status_of, begun, SetsStatus}
 ghost use Rattle.cranelift_frontend.specs.Growth.{Grows, RemembersIn};
 ghost use Rattle.cranelift_frontend.specs.Builder.{SameLoans, HasCurrent};
 ghost use Rattle.clif_ir.specs.Body.{block_at};
-ghost use Rattle.clif_ir.specs.Changes.{inserted_in, with_cold};
+ghost use Rattle.clif_ir.specs.Changes.{inserted_in, with_cold, with_layout_after};
+ghost use Rattle.clif_ir.specs.Consistent.{Stands};
 ghost use Rattle.clif_meaning.specs.Name.{Name};
-ghost use Rattle.clif_meaning.specs.Request.{AnsweredCall, EnsureInsertedBlock, SetColdBlock};
+ghost use Rattle.clif_meaning.specs.Request.{AnsweredCall, EnsureInsertedBlock, InsertBlockAfter, SetColdBlock};
 ghost use Rattle.clif_types.specs.Signature.{SignatureShape};
 ghost use Rattle.cranelift_frontend.specs.StandsFor.{StandsFor};
 ghost use Rattle.cranelift_frontend.specs.Ledger.{AgreesWithLedger, NamesBlock};
@@ -23,6 +24,25 @@ impl<'a> FunctionBuilder<'a> {
         ensures exist { EachIndex result.now (λ k. slice_index result.now k < length self.now.func.now.values) }
     {
         self.func.block_params(block)
+    }
+
+    /// Puts a block, which isn't in the layout, behind a block that is in it.
+    pub fn insert_block_after(&mut self, block: Block, after: Block)
+        requires exists { block < length self.old.func.now.blocks }
+        requires outside { Stands block self.old.func.now.layout → ⊥ }
+        requires inside { Stands after self.old.func.now.layout }
+        ensures loans { SameLoans self.old self.new }
+        ensures function { self.new.func.now ≡ with_layout_after self.old.func.now block after }
+        ensures context { self.new.ctx.now ≡ self.old.ctx.now }
+        ensures position { self.new.position ≡ self.old.position }
+        ensures failed { self.new.failed ≡ self.old.failed }
+        ensures ledger { (calls : List AnsweredCall) (name behind : Name) → AgreesWithLedger calls self.old → NamesBlock calls name block → NamesBlock calls behind after → AgreesWithLedger (calls ++ record { request = InsertBlockAfter name behind; numbers = [] } ∷ []) self.new }
+        ensures stands { (signature : SignatureShape) (calls : List AnsweredCall) (name behind : Name) → StandsFor signature calls self.old → NamesBlock calls name block → NamesBlock calls behind after → StandsFor signature (calls ++ record { request = InsertBlockAfter name behind; numbers = [] } ∷ []) self.new }
+        ensures grows { Grows self.old.func.now self.new.func.now }
+        ensures remembers { (x b : ℕ) → RemembersIn x b self.old self.new }
+        ensures current { HasCurrent self.old → HasCurrent self.new }
+    {
+        self.func.insert_block_after(block, after);
     }
 
     /// Marks a block as cold: as one that is seldom reached.

@@ -195,3 +195,50 @@ fn differences(rt: HostRuntime) -> Result<(), Fail> {
     );
     Ok(())
 }
+
+// Puts a block behind another one.
+fn place(rt: &impl Abort, builder: &mut FunctionBuilder<'_>, block: Block, after: Block) {
+    assert!(rt; exists(builder, block) && exists(builder, after));
+    assert!(rt; !builder.func().is_block_inserted(block));
+    assert!(rt; builder.func().is_block_inserted(after));
+    builder.insert_block_after(block, after);
+}
+
+// A block that returns a constant.
+fn return_constant(
+    rt: &impl Abort,
+    builder: &mut FunctionBuilder<'_>,
+    block: Block,
+    imm: i64,
+) -> Result<(), BuildError> {
+    enter(rt, builder, block);
+    seal(rt, builder, block)?;
+    let value = builder.ins().iconst(I32, imm)?;
+    builder.ins().return_(&[value])?;
+    Ok(())
+}
+
+/// A block that was put behind the entry stays there, whichever is filled first.
+#[test]
+fn behind(rt: HostRuntime) -> Result<(), Fail> {
+    let alloc = rt.alloc();
+    let mut ctx = FunctionBuilderContext::new(alloc);
+    let mut func = returning_i32(alloc, "behind")?;
+    let mut builder = FunctionBuilder::new(&mut func, &mut ctx);
+    let block0 = builder.create_block()?;
+    let block1 = builder.create_block()?;
+    let block2 = builder.create_block()?;
+    enter(&rt, &mut builder, block0);
+    jump(&rt, &mut builder, block1)?;
+    place(&rt, &mut builder, block2, block0);
+    return_constant(&rt, &mut builder, block1, 1)?;
+    return_constant(&rt, &mut builder, block2, 2)?;
+    seal(&rt, &mut builder, block0)?;
+    builder.finalize(CONFIG)?;
+    let shown = func.display();
+    assert_eq!(rt;
+        format!(in alloc; "{shown}")?.as_str(),
+        "function %behind() -> i32 system_v {\nblock0:\n    jump block1\n\nblock2:\n    v1 = iconst.i32 2\n    return v1  ; v1 = 2\n\nblock1:\n    v0 = iconst.i32 1\n    return v0  ; v0 = 1\n}\n"
+    );
+    Ok(())
+}
