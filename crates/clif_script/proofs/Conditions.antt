@@ -561,6 +561,14 @@ brif-same calls b answers ready condition taken other =
     by true false first second = refl
     by false there first second = refl
 
+pub brif-other : {declared : SignatureShape} (calls : List AnsweredCall) (b : FunctionBuilder) (answers : List Answer) → IsReady declared calls b answers
+    → (condition : Name) (taken other : Edge) → may_lead b answers other ≡ false
+    → allows (ledger_of calls) (brif (ledger_of calls) (name_of condition) (edge_of taken) (edge_of other)) ≡ false
+brif-other calls b answers ready condition taken other none =
+    brif-same calls b answers ready condition taken other
+    ∙ and_right (is_open b) (is_some (value_of b.func.now answers condition) && (may_lead b answers taken && may_lead b answers other))
+    (and_right (is_some (value_of b.func.now answers condition)) (may_lead b answers taken && may_lead b answers other) (and_right (may_lead b answers taken) (may_lead b answers other) none))
+
 -- an edge that was found may be made
 pub found-leads : (b : FunctionBuilder) (answers : List Answer) (edge : Edge) (block : ℕ) (args : List BlockArg) → IsFound b answers edge block args → may_lead b answers edge ≡ true
 found-leads b answers edge block args found =

@@ -102,7 +102,7 @@ alone-filled ledger (Some block) alone = alone-state ledger block (λ (state : B
 
 -- a call that is no branch
 alone-straight : (ledger : Ledger) (c : Call) → is_straight c ≡ true → AreAlone ledger.blocks → AreAlone (ledger_with ledger (request_of ledger c)).blocks
-alone-straight ledger call.CreateBlock straight alone k state at =
+alone-straight ledger call.CreateBlock straight alone = λ k state at.
     elim (get-push ledger.blocks (new_block (next_answer ledger)) k state at) [
       | inl old ↦ alone k state old
       | inr last ↦ ap (λ (s : BlockState). s.predecessors) (sym last.1)
