@@ -1,13 +1,12 @@
 -- Where the calls made no branch, none leads anywhere.
-use Rattle.std.proofs.Common.{◌≡◌, ℕ, zero, suc, ◌<◌, ◌≤◌, List, [], ◌∷◌, ◌++◌, length, refl, ap, arith, sym, ◌∙◌, subst, ◌⊎◌, inl, inr, take}
+use Rattle.std.proofs.Common.{◌≡◌, ℕ, zero, suc, List, [], ◌∷◌, ◌++◌, length, refl, ap, arith, sym, ◌∙◌, subst, inl, inr, take}
 use Rattle.std.specs.Prelude.{fold, map, slice_get, Option, Some, None, Bool, true, false, if◌then◌else◌}
-use Rattle.std.specs.List.{AllByRecursion}
 use Rattle.std.proofs.lemmas.Option.{slice_get-map}
 use Rattle.std.proofs.lemmas.Bool.{cases_lt}
 use Rattle.clif_types.specs.Signature.{SignatureShape}
 use Rattle.clif_ir.specs.Body.{Body}
 use Rattle.clif_meaning.specs.Name.{Name, same_name}
-use Rattle.clif_meaning.specs.Request.{AnsweredCall, Request, CreateBlock, number_of, script_of}
+use Rattle.clif_meaning.specs.Request.{AnsweredCall, Request, CreateBlock, number_of}
 use Rattle.clif_meaning.specs.Ledger.{BlockState, Ledger, empty_ledger, is_inserted, ledger_after, ledger_with, new_block, next_answer, with_begun_at, with_filled_at, with_layout, with_state}
 use Rattle.clif_ssa.specs.Ssa.{predecessors_of}
 use Rattle.cranelift_frontend.specs.declared.builder.FunctionBuilder.{FunctionBuilder}
@@ -19,7 +18,7 @@ use Rattle.cranelift_frontend.proofs.LedgerKept.{ledger-more}
 use Rattle.clif_script.specs.declared.call.Call.{Call}
 use Rattle.clif_script.specs.declared.call.Call.TheVariants as call
 use Rattle.clif_script.specs.Limits.{HasNoBranch, is_straight}
-use Rattle.clif_script.specs.Requests.{IsReplayed, request_of, requests_from, requests_of}
+use Rattle.clif_script.specs.Requests.{IsReplayed, request_of, requests_from}
 
 -- no block of the ledger has a predecessor
 abbrev pub AreAlone : List BlockState → Type 0

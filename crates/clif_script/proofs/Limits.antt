@@ -31,7 +31,7 @@ use Rattle.cranelift_frontend.specs.StandsFor.{NothingLeads}
 use Rattle.clif_script.specs.declared.script.CallError.{CallError}
 use Rattle.clif_script.specs.declared.script.CallError.TheVariants as error
 use Rattle.clif_script.specs.Errors.{call_error_of}
-use Rattle.clif_script.specs.Limits.{HasRecordsBelow, IsOneCall, IsWithin, IsNearlyFull, IsNearlyFullIn}
+use Rattle.clif_script.specs.Limits.{HasRecordsBelow, IsOneCall, IsWithin, IsNearlyFull}
 
 -- BLOCKS ----------------------------------------------------------------------------------------------------------
 

@@ -1,16 +1,10 @@
-use Rattle.std.proofs.Common.{◌≡◌, ℕ, List, [], ◌∷◌, rules, arith, sym, subst, length, ◌⊎◌, ◌-◌, ◌^◌}
+use Rattle.std.proofs.Common.{◌≡◌, rules, arith, sym, subst, length, ◌⊎◌, ◌-◌, ◌^◌}
 use Rattle.std.proofs.lemmas.Grind.{common_steps}
 use Rattle.std.specs.Prelude.{OnOk}
-use Rattle.std.proofs.Common.{w64, to_z, of_z}
-use Rattle.clif_types.specs.declared.types.«Type».TheVariants.{Invalid}
-use Rattle.clif_ir.specs.Body.{value_at}
-use Rattle.clif_ir.specs.declared.instructions.BinaryOpcode.TheVariants.{Iadd, Isub}
-use Rattle.clif_ir.specs.declared.instructions.InstructionData.TheVariants.{UnaryImm, Binary, Jump, Brif, MultiAry}
 use Rattle.cranelift_frontend.specs.declared.builder.FunctionBuilder.{FunctionBuilder}
 use Rattle.cranelift_frontend.specs.Builder.{HasCurrent}
-use Rattle.cranelift_frontend.specs.StandsFor.{StandsFor}
-use Rattle.clif_script.specs.Limits.{IsNearlyFull, IsOneCall}
-use Rattle.clif_script.proofs.Limits.{one-appended, one-branched, one-valued, keeps-same, kept, nearly-full}
+use Rattle.clif_script.specs.Limits.{IsOneCall}
+use Rattle.clif_script.proofs.Limits.{one-branched, nearly-full}
 use Rattle.clif_script.proofs.make.append_brif.Goals as goal
 
 pub returns-clause-one_call : goal.returns-clause-one_call

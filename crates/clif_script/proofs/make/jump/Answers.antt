@@ -1,12 +1,12 @@
-use Rattle.std.proofs.Common.{◌≡◌, List, [], ◌∷◌, rules, arith, sym, ◌∙◌, ap, refl}
-use Rattle.std.specs.Prelude.{Err, is_some, true, false}
+use Rattle.std.proofs.Common.{◌≡◌, [], ◌∷◌, rules, arith, sym, ◌∙◌, ap, refl}
+use Rattle.std.specs.Prelude.{Err, true, false}
 use Rattle.std.proofs.lemmas.Grind.{common_steps}
 use Rattle.std.proofs.lemmas.Bool.{and_from, and_left, and_right}
 use Rattle.std.proofs.lemmas.Result.{err_from_is_err_and}
 use Rattle.clif_script.specs.declared.script.Answer.TheVariants as answer
-use Rattle.clif_script.specs.Requests.{edge_of, name_of}
-use Rattle.clif_script.specs.Ready.{is_open, may_lead, value_of}
-use Rattle.clif_script.proofs.ReadyLaws.{ready-more, answers-exist, value-exists, value-found}
+use Rattle.clif_script.specs.Requests.{edge_of}
+use Rattle.clif_script.specs.Ready.{may_lead}
+use Rattle.clif_script.proofs.ReadyLaws.{ready-more, answers-exist}
 use Rattle.clif_script.proofs.Conditions
 use Rattle.clif_script.proofs.make.jump.Goals as goal
 
