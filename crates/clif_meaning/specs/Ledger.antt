@@ -7,7 +7,7 @@ use Rattle.clif_types.specs.declared.types.«Type».{«Type»}
 use Rattle.clif_types.specs.declared.types.«Type».TheVariants as type
 use Rattle.clif_meaning.specs.Instruction.{Operation, Compute, Jump, Brif, Return, Edge}
 use Rattle.clif_meaning.specs.Name.{Name, answer_of, same_name}
-use Rattle.clif_meaning.specs.Request.{Request, CreateBlock, SwitchToBlock, SealBlock, DeclareVar, DefVar, UseVar, Build, Finalize, Script}
+use Rattle.clif_meaning.specs.Request.{Request, CreateBlock, SwitchToBlock, SealBlock, SealAllBlocks, InsertBlockAfter, SetColdBlock, EnsureInsertedBlock, DeclareVar, DefVar, UseVar, Build, Finalize, Script}
 use Rattle.clif_meaning.specs.Program.{result_types}
 
 -- what an answer is
@@ -181,6 +181,10 @@ abbrev pub answers_to : Ledger → Request → List Answered
 answers_to ledger CreateBlock = ABlock ∷ []
 answers_to ledger (SwitchToBlock block) = []
 answers_to ledger (SealBlock block) = []
+answers_to ledger SealAllBlocks = []
+answers_to ledger (InsertBlockAfter block after) = []
+answers_to ledger (SetColdBlock block) = []
+answers_to ledger EnsureInsertedBlock = []
 answers_to ledger (DeclareVar ty) = AVariable (length ledger.variables) ∷ []
 answers_to ledger (DefVar variable value) = []
 answers_to ledger (UseVar variable) = AValue (or_invalid (variable_type ledger variable)) ∷ []
@@ -198,11 +202,24 @@ new_block block = record { block = block; parameters = []; is_pristine = true; i
 abbrev pub new_variable : «Type» → VariableState
 new_variable ty = record { ty = ty; is_marked = false; is_touched = false }
 
+-- no more branches to the block come
+abbrev pub sealed : BlockState → BlockState
+sealed state = record state { is_sealed = true }
+
+-- a list with a block behind another one
+abbrev pub put_after : Name → Name → List Name → List Name
+put_after block after [] = []
+put_after block after (other ∷ layout) = if same_name other after then other ∷ block ∷ layout else other ∷ put_after block after layout
+
 -- What each kind of call changes, its answers aside.
 abbrev pub changed_by : Ledger → Request → Ledger
 changed_by ledger CreateBlock = record ledger { blocks = ledger.blocks ++ new_block (next_answer ledger) ∷ [] }
 changed_by ledger (SwitchToBlock block) = record ledger { current = Some block }
-changed_by ledger (SealBlock block) = with_state ledger block (λ state. record state { is_sealed = true })
+changed_by ledger (SealBlock block) = with_state ledger block sealed
+changed_by ledger SealAllBlocks = record ledger { blocks = map sealed ledger.blocks }
+changed_by ledger (InsertBlockAfter block after) = record ledger { layout = put_after block after ledger.layout }
+changed_by ledger (SetColdBlock block) = ledger
+changed_by ledger EnsureInsertedBlock = with_begun ledger
 changed_by ledger (DeclareVar ty) = record ledger { variables = ledger.variables ++ new_variable ty ∷ [] }
 changed_by ledger (DefVar variable value) = with_touched ledger variable
 changed_by ledger (UseVar variable) = with_touched (with_begun ledger) variable

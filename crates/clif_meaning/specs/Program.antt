@@ -5,7 +5,7 @@ use Rattle.std.specs.Prelude.{ℕ, suc, if◌then◌else◌, List, [], ◌∷◌
 use Rattle.clif_types.specs.declared.types.«Type».{«Type»}
 use Rattle.clif_meaning.specs.Instruction.{Iconst, Iadd, Isub, Operation, Compute, Jump, Brif, Return, Instruction}
 use Rattle.clif_meaning.specs.Name.{Name, answer_of, same_name}
-use Rattle.clif_meaning.specs.Request.{Request, CreateBlock, SwitchToBlock, SealBlock, DeclareVar, DefVar, UseVar, Build, Finalize, Script}
+use Rattle.clif_meaning.specs.Request.{Request, CreateBlock, SwitchToBlock, SealBlock, SealAllBlocks, InsertBlockAfter, SetColdBlock, EnsureInsertedBlock, DeclareVar, DefVar, UseVar, Build, Finalize, Script}
 
 -- the types of an instruction's results: the table of operations, at the controlling type
 abbrev pub result_types : Operation → «Type» → List «Type»
@@ -71,6 +71,10 @@ abbrev pub extended : Program → Request → Program
 extended program CreateBlock = program
 extended program (SwitchToBlock block) = record program { current = Some block }
 extended program (SealBlock block) = program
+extended program SealAllBlocks = program
+extended program (InsertBlockAfter block after) = program
+extended program (SetColdBlock block) = program
+extended program EnsureInsertedBlock = with_inserted program
 extended program (DeclareVar ty) = program
 extended program (DefVar variable value) = with_item program (Assign variable value)
 extended program (UseVar variable) = with_item (with_inserted program) (Use variable (answer_of program.place 0))

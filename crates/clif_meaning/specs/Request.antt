@@ -9,6 +9,11 @@ pub data Request : Type 0 where
   CreateBlock : Request
   SwitchToBlock : (block : Name) → Request
   SealBlock : (block : Name) → Request
+  SealAllBlocks : Request
+  -- the block comes behind the other one in the layout
+  InsertBlockAfter : (block after : Name) → Request
+  SetColdBlock : (block : Name) → Request
+  EnsureInsertedBlock : Request
   DeclareVar : (ty : «Type») → Request
   DefVar : (variable : ℕ) (value : Name) → Request
   UseVar : (variable : ℕ) → Request

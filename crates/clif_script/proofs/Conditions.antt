@@ -1,9 +1,9 @@
 -- The tests before a call are the condition of its request in the ledger.
 use Rattle.std.proofs.Common.{◌≡◌, ◌≢◌, ℕ, zero, suc, ◌<◌, List, [], ◌∷◌, length, refl, ap, arith, sym, ◌∙◌, subst}
 use Rattle.std.specs.Prelude.{map, slice_get, Option, Some, None, option_map, is_some, IfSome, Bool, true, false, not, ◌&&◌, ◌||◌, if◌then◌else◌, ◌==◌, Err, Result, ℤ, slice_index, ◌↔◌}
-use Rattle.std.specs.List.{list_all}
+use Rattle.std.specs.List.{All, list_all}
 use Rattle.std.proofs.lemmas.Option.{slice_get_within, get_or_from_slice_get}
-use Rattle.std.proofs.lemmas.Bool.{and_from, and_parts, and_right, eq-eqb, eqb-true, false_from_ne_true, false≢true}
+use Rattle.std.proofs.lemmas.Bool.{and_from, and_parts, and_right, not-true, eq-eqb, eqb-true, false_from_ne_true, false≢true}
 use Rattle.clif_types.specs.declared.error.BuildError.{BuildError}
 use Rattle.clif_types.specs.declared.error.BuildError.TheVariants as build
 use Rattle.clif_types.specs.declared.types.LaneType.{LaneType}
@@ -16,39 +16,44 @@ use Rattle.clif_types.specs.declared.types.«Type».TheVariants as type
 use Rattle.clif_types.specs.Types.{is_int, lanes_of}
 use Rattle.clif_ir.specs.declared.function.ValueNode.{ValueNode}
 use Rattle.clif_ir.specs.declared.function.ValueOrigin.TheVariants as origin
+use Rattle.clif_ir.specs.Consistent.{PassedExists}
+use Rattle.clif_ir.specs.declared.block_call.BlockArg.{BlockArg}
+use Rattle.clif_ir.specs.declared.block_call.BlockArg.TheVariants as arg
 use Rattle.clif_ir.specs.declared.inst_list.BlockEnd.TheVariants.{Back}
 use Rattle.clif_ir.specs.declared.instructions.InstructionData.{InstructionData}
 use Rattle.clif_ir.specs.Reading.{def_of}
 use Rattle.clif_ir.specs.Changes.{inserted_in, with_inst}
 use Rattle.clif_ir.specs.Body.{Body, alias_of, alias_of_origin, follow, follow_link, no_value, resolved, value_at}
 use Rattle.clif_meaning.specs.Name as meaning
+use Rattle.clif_meaning.specs.Instruction.{Known}
 use Rattle.clif_meaning.specs.SameType.{lane_number, same_lane, same_type}
 use Rattle.clif_meaning.specs.Request.{AnsweredCall, number_of, SwitchToBlock, SealBlock, DefVar, UseVar}
-use Rattle.clif_meaning.specs.Ledger.{BlockState, Ledger, begins_with, block_state, has_predecessors, has_value, is_empty, is_filled, is_pristine, is_sealed, state_has, type_of, variable_type}
-use Rattle.clif_meaning.specs.Acceptance.{allows, can_assign, can_leave, is_variable_type, iconst, iadd, return_}
+use Rattle.clif_meaning.specs.Ledger.{BlockState, Ledger, begins_with, block_state, has_block, has_predecessors, has_value, is_empty, is_filled, is_pristine, is_sealed, state_has, type_of, variable_type}
+use Rattle.clif_meaning.specs.Acceptance.{allows, can_assign, can_lead, can_leave, has_argument, is_variable_type, iconst, iadd, jump, brif, return_}
 use Rattle.clif_meaning.specs.Acceptance as acceptance
 use Rattle.clif_ssa.specs.Tables.{is_yes}
-use Rattle.clif_ssa.specs.Ssa.{no_srcloc, sealed_of}
+use Rattle.clif_ssa.specs.Ssa.{no_srcloc, predecessors_of, sealed_of}
 use Rattle.cranelift_frontend.specs.declared.context.BlockStatus.{BlockStatus}
 use Rattle.cranelift_frontend.specs.declared.context.BlockStatus.TheVariants.{Empty, Partial, Filled}
 use Rattle.cranelift_frontend.specs.declared.builder.FunctionBuilder.{FunctionBuilder}
 use Rattle.cranelift_frontend.specs.Context.{status_of}
-use Rattle.cranelift_frontend.specs.Builder.{AppendsValue, HasCurrent, is_declarable, is_elsewhere, is_empty_status, is_filled_status, is_free, is_free_at, may_be_left}
-use Rattle.cranelift_frontend.specs.Ledger.{BlockAgrees, block_name, ledger_of}
+use Rattle.cranelift_frontend.specs.Builder.{AppendsValue, CanLead, HasCurrent, is_declarable, is_elsewhere, is_empty_status, is_filled_status, is_free, is_free_at, is_nothing, may_be_left}
+use Rattle.cranelift_frontend.specs.Ledger.{BlockAgrees, NamesArguments, NamesEdge, block_name, ledger_of}
 use Rattle.cranelift_frontend.proofs.LedgerLists.{get-last, map-some, name-of-none, name-of-some, some-is}
 use Rattle.cranelift_frontend.proofs.LedgerNames.{IsNumbered, name-number, named-block, same-block, state-by-name}
 use Rattle.cranelift_frontend.proofs.LedgerKept.{inserted-insts, inserted-values, named-value}
 use Rattle.cranelift_frontend.proofs.LedgerMade.{block-exists}
 use Rattle.cranelift_frontend.proofs.LedgerUsed.{ledger-type}
+use Rattle.clif_script.specs.declared.call.Edge.{Edge}
 use Rattle.clif_script.specs.declared.call.Name.{Name}
 use Rattle.clif_script.specs.declared.script.Answer.{Answer}
 use Rattle.clif_script.specs.declared.script.Answer.TheVariants as answer
 use Rattle.clif_script.specs.declared.script.CallError.{CallError}
 use Rattle.clif_script.specs.declared.script.CallError.TheVariants as error
 use Rattle.clif_script.specs.Errors.{call_error_of}
-use Rattle.clif_script.specs.Requests.{name_of}
-use Rattle.clif_script.specs.Ready.{IsReady, IsJudged, all_values, block_of, can_define, can_seal, can_switch, can_use, instruction_answer, instruction_in, is_open, is_open_at, value_of}
-use Rattle.clif_script.proofs.ReadyLaws.{block-found, block-missing, value-exists, value-found, value-missing}
+use Rattle.clif_script.specs.Requests.{edge_of, name_of}
+use Rattle.clif_script.specs.Ready.{IsReady, IsFound, IsJudged, all_values, block_of, can_define, can_seal, can_switch, can_use, instruction_answer, instruction_in, is_open, is_open_at, is_target, may_lead, value_of}
+use Rattle.clif_script.proofs.ReadyLaws.{block-found, block-missing, block-there, value-exists, value-found, value-missing}
 
 -- a refusal of the builder is no misuse
 pub judged-from : (allowed : Bool) (e : BuildError) → allowed ≡ true → IsJudged allowed (Err (call_error_of e))
@@ -86,12 +91,20 @@ sealed-same calls b answers ready name block named =
     let s = stated calls b answers ready name block named in
     ap (state_has (λ (state : BlockState). state.is_sealed)) s.found ∙ s.agrees.is_sealed
 
-no-predecessors : {declared : SignatureShape} (calls : List AnsweredCall) (b : FunctionBuilder) (answers : List Answer) → IsReady declared calls b answers
-    → (name : meaning.Name) (block : ℕ) → block_name (ledger_of calls) block ≡ Some name → has_predecessors (ledger_of calls) name ≡ false
-no-predecessors calls b answers ready name block named =
+-- names are as many as their numbers
+same-empty : (calls : List AnsweredCall) (names : List meaning.Name) (numbers : List ℕ) → map (number_of calls) names ≡ map Some numbers → is_empty names ≡ is_nothing numbers
+same-empty calls [] [] same = refl
+same-empty calls [] (k ∷ numbers) same = let no_way : ⊥ = cc in absurd no_way
+same-empty calls (name ∷ names) [] same = let no_way : ⊥ = cc in absurd no_way
+same-empty calls (name ∷ names) (k ∷ numbers) same = refl
+
+predecessors-same : {declared : SignatureShape} (calls : List AnsweredCall) (b : FunctionBuilder) (answers : List Answer) → IsReady declared calls b answers
+    → (name : meaning.Name) (block : ℕ) → block_name (ledger_of calls) block ≡ Some name
+    → has_predecessors (ledger_of calls) name ≡ not (is_nothing (predecessors_of b.ctx.now.ssa block))
+predecessors-same calls b answers ready name block named =
     let s = stated calls b answers ready name block named in
     ap (state_has (λ (state : BlockState). not (is_empty state.predecessors))) s.found
-    ∙ ap (λ (names : List meaning.Name). not (is_empty names)) s.agrees.predecessors
+    ∙ ap not (same-empty calls s.state.predecessors (predecessors_of b.ctx.now.ssa block) s.agrees.predecessors)
 
 -- there is a current block that isn't filled
 pub open-same : {declared : SignatureShape} (calls : List AnsweredCall) (b : FunctionBuilder) (answers : List Answer) → IsReady declared calls b answers
@@ -126,16 +139,20 @@ leave-same calls b answers ready = by b.position refl
     numbered : IsNumbered calls (ledger_of calls)
     numbered = name-number calls (ledger_of calls) b.func.now b.ctx.now b.position ready.stands.ledger
 
-    cases : (away sealed : Bool) (s : BlockStatus) → ((((away && sealed) && true) || is_empty_status s) || is_filled_status s) ≡ (may_be_left s || (away && sealed))
-    cases true true Empty = refl
-    cases true true Partial = refl
-    cases true true Filled = refl
-    cases true false Empty = refl
-    cases true false Partial = refl
-    cases true false Filled = refl
-    cases false sealed Empty = refl
-    cases false sealed Partial = refl
-    cases false sealed Filled = refl
+    cases : (away sealed nothing : Bool) (s : BlockStatus)
+        → ((((away && sealed) && not (not nothing)) || is_empty_status s) || is_filled_status s) ≡ (may_be_left s || ((away && sealed) && nothing))
+    cases true true true Empty = refl
+    cases true true true Partial = refl
+    cases true true true Filled = refl
+    cases true true false Empty = refl
+    cases true true false Partial = refl
+    cases true true false Filled = refl
+    cases true false nothing Empty = refl
+    cases true false nothing Partial = refl
+    cases true false nothing Filled = refl
+    cases false sealed nothing Empty = refl
+    cases false sealed nothing Partial = refl
+    cases false sealed nothing Filled = refl
 
     by : (p : Option ℕ) → b.position ≡ p → can_leave (ledger_of calls) (ledger_of calls).current ≡ is_free b
     by None at =
@@ -146,10 +163,10 @@ leave-same calls b answers ready = by b.position refl
         let filled = filled-same calls b answers ready current.0 block current.2 in
         let pristine = pristine-same calls b answers ready current.0 block current.2 in
         let sealed = sealed-same calls b answers ready current.0 block current.2 in
-        let alone = no-predecessors calls b answers ready current.0 block current.2 in
+        let alone = predecessors-same calls b answers ready current.0 block current.2 in
         let away = elsewhere-same calls (ledger_of calls) numbered block current.0 current.2 (ledger_of calls).layout b.func.now.layout ready.stands.ledger.layout in
         ap (can_leave (ledger_of calls)) current.1
-        ∙ rw (filled, pristine, sealed, alone, away) (cases (is_elsewhere b.func.now.layout block) (is_yes (sealed_of b.ctx.now.ssa block)) (status_of b.ctx.now block))
+        ∙ rw (filled, pristine, sealed, alone, away) (cases (is_elsewhere b.func.now.layout block) (is_yes (sealed_of b.ctx.now.ssa block)) (is_nothing (predecessors_of b.ctx.now.ssa block)) (status_of b.ctx.now block))
         ∙ ap (λ (o : Option ℕ). is_free_at o b.func.now b.ctx.now) (sym at)
 
 -- `switch_to_block`
@@ -255,7 +272,7 @@ iconst-same calls b answers ready ty imm = let opens = open-same calls b answers
     by true = refl
     by false = refl
 
--- `iadd`
+-- `iadd`, and `isub`, which asks the same
 pub iadd-first : {declared : SignatureShape} (calls : List AnsweredCall) (b : FunctionBuilder) (answers : List Answer) → IsReady declared calls b answers
     → (x y : Name) → value_of b.func.now answers x ≡ None → allows (ledger_of calls) (iadd (ledger_of calls) (name_of x) (name_of y)) ≡ false
 iadd-first calls b answers ready x y missing =
@@ -483,3 +500,113 @@ same-type-refl (type.Vector l n) = and_from (same_lane l l) (lanes_of n == lanes
 pub same_from_iff : (r : Bool) (a b : «Type») → ((r ≡ true) ↔ (a ≡ b)) → r ≡ same_type a b
 same_from_iff true a b tells = sym (subst (λ (x : «Type»). same_type a x ≡ true) (tells.0 refl) (same-type-refl a))
 same_from_iff false a b tells = sym (false_from_ne_true (same_type a b) (λ same. false≢true (tells.1 (same-type a b same))))
+
+-- EDGES -----------------------------------------------------------------------------------------------------------
+
+arguments-same : (ledger : Ledger) (names : List Name) → list_all (has_argument ledger) (map (λ name. Known (name_of name)) names) ≡ list_all (has_value ledger) (map name_of names)
+arguments-same ledger [] = refl
+arguments-same ledger (name ∷ names) = ap (λ (rest : Bool). has_value ledger (name_of name) && rest) (arguments-same ledger names)
+
+target-same : {declared : SignatureShape} (calls : List AnsweredCall) (b : FunctionBuilder) (answers : List Answer) → IsReady declared calls b answers
+    → (name : Name) → (has_block (ledger_of calls) (name_of name) && not (is_sealed (ledger_of calls) (name_of name))) ≡ is_target b (block_of answers name)
+target-same calls b answers ready name = by (block_of answers name) refl
+  where
+    by : (o : Option ℕ) → block_of answers name ≡ o → (has_block (ledger_of calls) (name_of name) && not (is_sealed (ledger_of calls) (name_of name))) ≡ is_target b (block_of answers name)
+    by None at = seal-none calls b answers ready name at ∙ ap (is_target b) (sym at)
+    by (Some block) at = seal-some calls b answers ready name block at ∙ ap (is_target b) (sym at)
+
+-- an edge may be made in the ledger where it may be made here
+pub lead-same : {declared : SignatureShape} (calls : List AnsweredCall) (b : FunctionBuilder) (answers : List Answer) → IsReady declared calls b answers
+    → (edge : Edge) → can_lead (ledger_of calls) (edge_of edge) ≡ may_lead b answers edge
+lead-same calls b answers ready edge =
+    ap (λ (test : Bool). test && list_all (has_argument (ledger_of calls)) (map (λ name. Known (name_of name)) edge.args.items)) (target-same calls b answers ready edge.block)
+    ∙ ap (λ (all : Bool). is_target b (block_of answers edge.block) && all)
+    (arguments-same (ledger_of calls) edge.args.items ∙ values-same calls b answers ready edge.args.items)
+
+-- `jump`
+pub jump-same : {declared : SignatureShape} (calls : List AnsweredCall) (b : FunctionBuilder) (answers : List Answer) → IsReady declared calls b answers
+    → (edge : Edge) → allows (ledger_of calls) (jump (edge_of edge)) ≡ (is_open b && may_lead b answers edge)
+jump-same calls b answers ready edge =
+    by (acceptance.is_open (ledger_of calls) (ledger_of calls).current) (can_lead (ledger_of calls) (edge_of edge))
+    ∙ ap (λ (test : Bool). test && can_lead (ledger_of calls) (edge_of edge)) (open-same calls b answers ready)
+    ∙ ap (λ (test : Bool). is_open b && test) (lead-same calls b answers ready edge)
+  where
+    by : (test leads : Bool) → (((test && true) && (leads && true)) && true) ≡ (test && leads)
+    by true true = refl
+    by true false = refl
+    by false leads = refl
+
+-- `brif`
+pub brif-same : {declared : SignatureShape} (calls : List AnsweredCall) (b : FunctionBuilder) (answers : List Answer) → IsReady declared calls b answers
+    → (condition : Name) (taken other : Edge) → allows (ledger_of calls) (brif (ledger_of calls) (name_of condition) (edge_of taken) (edge_of other))
+    ≡ (is_open b && (is_some (value_of b.func.now answers condition) && (may_lead b answers taken && may_lead b answers other)))
+brif-same calls b answers ready condition taken other =
+    let values = values-same calls b answers ready (condition ∷ []) in
+    let here : has_value (ledger_of calls) (name_of condition) ≡ is_some (value_of b.func.now answers condition) =
+    sym (always (has_value (ledger_of calls) (name_of condition))) ∙ values ∙ always (is_some (value_of b.func.now answers condition)) in
+    by (acceptance.is_open (ledger_of calls) (ledger_of calls).current) (has_value (ledger_of calls) (name_of condition)) (can_lead (ledger_of calls) (edge_of taken)) (can_lead (ledger_of calls) (edge_of other))
+    ∙ ap (λ (test : Bool). test && (has_value (ledger_of calls) (name_of condition) && (can_lead (ledger_of calls) (edge_of taken) && can_lead (ledger_of calls) (edge_of other)))) (open-same calls b answers ready)
+    ∙ ap (λ (test : Bool). is_open b && (test && (can_lead (ledger_of calls) (edge_of taken) && can_lead (ledger_of calls) (edge_of other)))) here
+    ∙ ap (λ (test : Bool). is_open b && (is_some (value_of b.func.now answers condition) && (test && can_lead (ledger_of calls) (edge_of other)))) (lead-same calls b answers ready taken)
+    ∙ ap (λ (test : Bool). is_open b && (is_some (value_of b.func.now answers condition) && (may_lead b answers taken && test))) (lead-same calls b answers ready other)
+  where
+    always : (test : Bool) → (test && true) ≡ test
+    always true = refl
+    always false = refl
+
+    by : (test there first second : Bool) → (((test && (there && true)) && (first && (second && true))) && true) ≡ (test && (there && (first && second)))
+    by true true true true = refl
+    by true true true false = refl
+    by true true false second = refl
+    by true false first second = refl
+    by false there first second = refl
+
+pub brif-other : {declared : SignatureShape} (calls : List AnsweredCall) (b : FunctionBuilder) (answers : List Answer) → IsReady declared calls b answers
+    → (condition : Name) (taken other : Edge) → may_lead b answers other ≡ false
+    → allows (ledger_of calls) (brif (ledger_of calls) (name_of condition) (edge_of taken) (edge_of other)) ≡ false
+brif-other calls b answers ready condition taken other none =
+    brif-same calls b answers ready condition taken other
+    ∙ and_right (is_open b) (is_some (value_of b.func.now answers condition) && (may_lead b answers taken && may_lead b answers other))
+    (and_right (is_some (value_of b.func.now answers condition)) (may_lead b answers taken && may_lead b answers other) (and_right (may_lead b answers taken) (may_lead b answers other) none))
+
+-- an edge that was found may be made
+pub found-leads : (b : FunctionBuilder) (answers : List Answer) (edge : Edge) (block : ℕ) (args : List BlockArg) → IsFound b answers edge block args → may_lead b answers edge ≡ true
+found-leads b answers edge block args found =
+    and_from (is_target b (block_of answers edge.block)) (all_values b.func.now answers edge.args.items)
+    (ap (is_target b) found.target ∙ found.unsealed) (all-found b.func.now answers edge.args.items found.values found.found)
+
+-- what names lead to is passed
+passed-named : {declared : SignatureShape} (calls : List AnsweredCall) (b : FunctionBuilder) (answers : List Answer) → IsReady declared calls b answers
+    → (names : List Name) (values : List ℕ) → map (value_of b.func.now answers) names ≡ map Some values → NamesArguments calls (map (λ name. Known (name_of name)) names) (map arg.Value values)
+passed-named calls b answers ready [] [] found = tt
+passed-named calls b answers ready [] (value ∷ values) found = let no_way : ⊥ = cc in absurd no_way
+passed-named calls b answers ready (name ∷ names) [] found = let no_way : ⊥ = cc in absurd no_way
+passed-named calls b answers ready (name ∷ names) (value ∷ values) found =
+    let here : value_of b.func.now answers name ≡ Some value = cc in
+    let rest : map (value_of b.func.now answers) names ≡ map Some values = cc in
+    (value-found calls b answers ready name value here, passed-named calls b answers ready names values rest)
+
+pub found-names : {declared : SignatureShape} (calls : List AnsweredCall) (b : FunctionBuilder) (answers : List Answer) → IsReady declared calls b answers
+    → (edge : Edge) (block : ℕ) (args : List BlockArg) → IsFound b answers edge block args → NamesEdge calls (edge_of edge) (record { block = block; args = args })
+found-names calls b answers ready edge block args found = record {
+  target = block-found calls b answers ready edge.block block found.target;
+  arguments = subst (λ (xs : List BlockArg). NamesArguments calls (map (λ name. Known (name_of name)) edge.args.items) xs) (sym found.passed)
+      (passed-named calls b answers ready edge.args.items found.values found.found);
+}
+
+-- and exists
+passed-exist : (f : Body) (values : List ℕ) → ((k : ℕ) → k < length values → slice_index values k < length f.values) → All (PassedExists f) (map arg.Value values)
+passed-exist f [] exist k d inside = absurd (omega (arith, inside))
+passed-exist f (value ∷ values) exist zero d inside = exist zero (omega arith)
+passed-exist f (value ∷ values) exist (suc k) d inside = passed-exist f values (λ j below. exist (suc j) (omega (arith, below))) k d (omega (arith, inside))
+
+pub found-exists : {declared : SignatureShape} (calls : List AnsweredCall) (b : FunctionBuilder) (answers : List Answer) → IsReady declared calls b answers
+    → (edge : Edge) (block : ℕ) (args : List BlockArg) → IsFound b answers edge block args → CanLead b (record { block = block; args = args })
+found-exists calls b answers ready edge block args found =
+    let exist = passed-exist b.func.now found.values (all-exist calls b answers ready edge.args.items found.values found.found) in (
+      (
+        block-there calls b answers ready edge.block block found.target,
+        subst (λ (xs : List BlockArg). All (PassedExists b.func.now) xs) (sym found.passed) exist,
+      ),
+      not-true (is_yes (sealed_of b.ctx.now.ssa block)) found.unsealed,
+    )

@@ -1,28 +1,37 @@
 -- What each call takes of the tables, and how long a script that fills one is.
-use Rattle.std.proofs.Common.{◌≡◌, ℕ, ◌+◌, ◌*◌, ◌-◌, ◌^◌, ◌<◌, ◌≤◌, List, [], ◌∷◌, length, refl, ap, arith, sym, ◌∙◌, subst, ◌⊎◌, inl, inr, get_or}
-use Rattle.std.specs.Prelude.{pos, Option, Some, None, IfSome, Bool, true, false, if◌then◌else◌}
-use Rattle.std.proofs.lemmas.Grind.{common_steps}
+use Rattle.std.proofs.Common.{◌≡◌, ◌≢◌, ℕ, ◌+◌, ◌*◌, ◌-◌, ◌^◌, ◌<◌, ◌≤◌, ◌==◌, List, [], ◌∷◌, ◌++◌, length, refl, ap, arith, sym, ◌∙◌, subst, ◌⊎◌, inl, inr, get_or}
+use Rattle.std.specs.Prelude.{slice_get, Option, Some, None, IfSome, IfOk, OnOk, Result, Ok, Err, Bool, true, false, if◌then◌else◌}
+use Rattle.std.proofs.Math.Nat.{mul-add, add-mul, mul_comm, mul-le-mul}
+use Rattle.std.proofs.Math.Nat.{mul-add, add-mul, mul_comm, mul-le-mul}
 use Rattle.std.proofs.lemmas.Option.{slice_get-get_or}
+use Rattle.std.proofs.lemmas.Grind.{common_steps}
 use Rattle.clif_types.specs.declared.types.«Type».{«Type»}
 use Rattle.clif_types.specs.declared.types.«Type».TheVariants as type
-use Rattle.clif_ir.specs.declared.inst_list.BlockEnd.{BlockEnd}
-use Rattle.clif_ir.specs.declared.inst_list.BlockEnd.TheVariants.{Back, Front}
+use Rattle.clif_types.specs.declared.error.BuildError.{BuildError}
+use Rattle.clif_types.specs.declared.error.BuildError.TheVariants as build
+use Rattle.clif_ir.specs.declared.inst_list.BlockEnd.TheVariants.{Back}
 use Rattle.clif_ir.specs.declared.instructions.InstructionData.{InstructionData}
-use Rattle.clif_ir.specs.declared.instructions.InstructionData.TheVariants.{UnaryImm}
-use Rattle.clif_ir.specs.Body.{Body, value_at}
-use Rattle.clif_ir.specs.Changes.{inserted_in, with_block, with_layout, with_param, with_inst, with_alias}
+use Rattle.clif_ir.specs.Body.{Body}
+use Rattle.clif_ir.specs.Changes.{inserted_in, with_block, with_inst, with_layout}
 use Rattle.clif_ir.specs.Instruction.{has_result, result_types}
-use Rattle.clif_ir.specs.Reading.{param_home, stands_in}
-use Rattle.clif_ssa.specs.declared.tables.Pending.{Pending}
-use Rattle.clif_ssa.specs.Tables.{is_yes}
-use Rattle.clif_ssa.specs.Ssa.{no_srcloc, record_of, sealed_of, with_zero, zeroed, zeroed_in, completed}
-use Rattle.clif_ssa.specs.Limits.{IsFull, Takes}
-use Rattle.clif_ssa.proofs.Taking.{Takes-same, Takes-then, Takes-inserted, Takes-with_inst, Takes-completed}
+use Rattle.clif_ir.specs.Reading.{stands_in}
+use Rattle.clif_ssa.specs.declared.tables.SsaBlock.{SsaBlock}
+use Rattle.clif_ssa.specs.Ssa.{SsaState, no_srcloc, record_of, sealed_of, predecessors_of, Declares, IsLocal, Records, SameBlocks, SamePredecessors, SameRecords}
+use Rattle.clif_ssa.specs.Limits.{IsFull, RecordsBelow, Takes, TakesByRecords, insts_taken, record_count, values_taken}
+use Rattle.clif_ssa.proofs.Below.{below_kept, below_defined}
+use Rattle.clif_ssa.proofs.Records.{records_stay, few_records}
+use Rattle.clif_ssa.proofs.Taking.{Takes-same, Takes-then, Takes-inserted, Takes-with_inst}
+use Rattle.clif_simulation.specs.Carries.{DeclaredAlong}
 use Rattle.cranelift_frontend.specs.declared.builder.FunctionBuilder.{FunctionBuilder}
-use Rattle.cranelift_frontend.specs.Builder.{Appends, HasCurrent, Uses, UsesIn, with_appended}
-use Rattle.cranelift_frontend.specs.Context.{ContextState}
-use Rattle.cranelift_frontend.specs.Growth.{Grows}
-use Rattle.clif_script.specs.Limits.{IsOneCall, IsWithin, IsNearlyFull}
+use Rattle.cranelift_frontend.specs.Builder.{Appends, AppendsValue, HasCurrent, with_appended}
+use Rattle.cranelift_frontend.specs.Construction.{IsDeclared, IsUse}
+use Rattle.cranelift_frontend.specs.Context.{Begins}
+use Rattle.cranelift_frontend.specs.Growth.{Grows, KeepsRecordsBelow}
+use Rattle.cranelift_frontend.specs.StandsFor.{NothingLeads}
+use Rattle.clif_script.specs.declared.script.CallError.{CallError}
+use Rattle.clif_script.specs.declared.script.CallError.TheVariants as error
+use Rattle.clif_script.specs.Errors.{call_error_of}
+use Rattle.clif_script.specs.Limits.{HasRecordsBelow, IsOneCall, IsWithin, IsNearlyFull}
 
 -- BLOCKS ----------------------------------------------------------------------------------------------------------
 
@@ -33,95 +42,183 @@ blocks-inserted f b = by_test (stands_in b f.layout)
     by_test true = refl
     by_test false = refl
 
-blocks-param : (f : Body) (b : ℕ) (ty : «Type») → length (with_param f b ty).blocks ≡ length f.blocks
-blocks-param f b ty = grind (arith, common_steps)
+blocks-inst : (f : Body) (b : ℕ) (shape : InstructionData) (types : List «Type») (loc : ℕ) → length (with_inst f b Back shape types loc).blocks ≡ length f.blocks
+blocks-inst f b shape types loc = grind (arith, common_steps)
 
-blocks-inst : (f : Body) (b : ℕ) (end : BlockEnd) (shape : InstructionData) (types : List «Type») (loc : ℕ) → length (with_inst f b end shape types loc).blocks ≡ length f.blocks
-blocks-inst f b end shape types loc = grind (arith, common_steps)
+-- RECORDS ---------------------------------------------------------------------------------------------------------
 
-blocks-alias : (f : Body) (v original : ℕ) → length (with_alias f v original).blocks ≡ length f.blocks
-blocks-alias f v original = grind (arith, common_steps)
+-- more variables and blocks have room for the same records
+wider : (variables blocks more others : ℕ) (s : SsaState) → variables ≤ more → blocks ≤ others → RecordsBelow variables blocks s → RecordsBelow more others s
+wider variables blocks more others s first second below =
+    record {
+      recorded = λ x b v is. let here = below.recorded x b v is in (omega (arith, first, here.0), omega (arith, second, here.1));
+      waiting = λ b p there. let here = below.waiting b p there in omega (arith, first, here);
+    }
 
-blocks-zeroed : (f : Body) (b v : ℕ) → length (zeroed f b v).blocks ≡ length f.blocks
-blocks-zeroed f b v =
-    blocks-alias (with_zero f b (value_at f v).ty) v (length f.values) ∙ blocks-inst (inserted_in f b) b Front (UnaryImm (pos 0)) ((value_at f v).ty ∷ []) no_srcloc ∙ blocks-inserted f b
+-- the same records are as many
+pub as-many : (s t : SsaState) → SameRecords s t → record_count s ≤ record_count t
+as-many s t same = records_stay s t (λ v d none. sym (same v d) ∙ none)
 
-blocks-zeroed_in : (o : Option ℕ) (f : Body) (v : ℕ) → length (zeroed_in o f v).blocks ≡ length f.blocks
-blocks-zeroed_in None f v = refl
-blocks-zeroed_in (Some b) f v = blocks-zeroed f b v
-
-blocks-completed : (f : Body) (pending : List Pending) → length (completed f pending).blocks ≡ length f.blocks
-blocks-completed f [] = refl
-blocks-completed f (p ∷ pending) =
-    blocks-completed (zeroed_in (param_home f p.param) f p.param) pending ∙ blocks-zeroed_in (param_home f p.param) f p.param
-
-blocks-used : (f : Body) (c : ContextState) (g : Body) (d : ContextState) (variable : ℕ) (ty : «Type») (block value : ℕ)
-    → UsesIn f c g d variable ty block value → length g.blocks ≡ length f.blocks
-blocks-used f c g d variable ty block value uses = by (record_of c.ssa variable block) refl (is_yes (sealed_of c.ssa block)) refl
+-- one record is written
+pub written-more : (s t : SsaState) (x b v : ℕ) → Records s t x b v → record_count s ≤ record_count t
+written-more s t x b v records = records_stay s t (λ y d none. by y d _ (sym (records y d) ∙ none))
   where
-    by : (o : Option ℕ) → record_of c.ssa variable block ≡ o → (t : Bool) → is_yes (sealed_of c.ssa block) ≡ t → length g.blocks ≡ length f.blocks
-    by (Some v) is t sealed = ap (λ (h : Body). length h.blocks) (uses.known v is).0 ∙ blocks-inserted f block
-    by None is false sealed =
-        ap (λ (h : Body). length h.blocks) (uses.waits is sealed).0.function ∙ blocks-param (inserted_in f block) block ty ∙ blocks-inserted f block
-    by None is true sealed =
-        ap (λ (h : Body). length h.blocks) (uses.zero is sealed).0.function ∙ blocks-zeroed (with_param (inserted_in f block) block ty) block (length (inserted_in f block).values)
-        ∙ blocks-param (inserted_in f block) block ty ∙ blocks-inserted f block
+    clash : {w : ℕ} → ◌≡◌ {A = Option ℕ} (Some w) None → ⊥
+    clash same = cc
+
+    by : (y d : ℕ) (test : Bool) → (if test then Some v else record_of s y d) ≡ None → record_of s y d ≡ None
+    by y d true none = absurd (clash none)
+    by y d false none = none
+
+-- Where no branch leads anywhere, none did before.
+abbrev pub LeadsStay : SsaState → SsaState → Type 0
+LeadsStay s t = NothingLeads t → NothingLeads s
+
+pub leads-same : (s t : SsaState) → SamePredecessors s t → LeadsStay s t
+leads-same s t same none b = sym (same b) ∙ none b
+
+-- The records and what waits stay, and so does each branch that leads somewhere.
+abbrev pub KeepsRecords : SsaState → SsaState → Type 0
+KeepsRecords s t = SameRecords s t × SameBlocks s t × LeadsStay s t
+
+pub keeps-same : (s t : SsaState) → t ≡ s → KeepsRecords s t
+keeps-same s t same = subst (λ (u : SsaState). KeepsRecords s u) (sym same) (λ v b. refl, λ b. refl, λ none. none)
+
+-- a branch is declared
+leads-declared : (s t : SsaState) (block branch : ℕ) → Declares s t block branch → LeadsStay s t
+leads-declared s t block branch declares none b = by (b == block) (sym (declares b) ∙ none b)
+  where
+    clash : (xs : List ℕ) → xs ++ branch ∷ [] ≡ [] → ⊥
+    clash [] same = cc
+    clash (x ∷ xs) same = cc
+
+    by : (test : Bool) → (if test then predecessors_of s b ++ branch ∷ [] else predecessors_of s b) ≡ [] → predecessors_of s b ≡ []
+    by true same = absurd (clash (predecessors_of s b) same)
+    by false same = same
+
+pub keeps-declared : (s : SsaState) (inst : ℕ) (told : List ℕ) (t : SsaState) → DeclaredAlong s inst told t → KeepsRecords s t
+keeps-declared s inst [] t along = (along.0, along.1, leads-same s t along.2)
+keeps-declared s inst (block ∷ told) t along =
+    let rest : KeepsRecords along.0 t = keeps-declared along.0 inst told t along.4 in (
+      λ v b. rest.0 v b ∙ along.1 v b,
+      λ b. rest.1 b ∙ along.2 b,
+      λ none. leads-declared s along.0 block inst along.3 (rest.2 none),
+    )
 
 -- CALLS -----------------------------------------------------------------------------------------------------------
 
-takes-less : (f g : Body) (a b c d : ℕ) → a ≤ c → b ≤ d → Takes f g a b → Takes f g c d
+pub takes-less : (f g : Body) (a b c d : ℕ) → a ≤ c → b ≤ d → Takes f g a b → Takes f g c d
 takes-less f g a b c d values insts takes =
     record { values_more = omega (arith, takes.values_more, values); insts_more = omega (arith, takes.insts_more, insts) }
 
--- a call that leaves the function as it is
-pub one-same : (old new : FunctionBuilder) → new.func.now ≡ old.func.now → length new.ctx.now.variables ≤ length old.ctx.now.variables + 1 → IsOneCall old new
-one-same old new function variables =
-    let f : Body = old.func.now in
-    let blocks : length new.func.now.blocks ≡ length f.blocks = ap (λ (g : Body). length g.blocks) function in
+-- a call that makes no record, and no more than a block or a variable
+pub one-plain : (old new : FunctionBuilder) → Takes old.func.now new.func.now 1 1 → KeepsRecords old.ctx.now.ssa new.ctx.now.ssa
+    → length old.func.now.blocks ≤ length new.func.now.blocks → length old.ctx.now.variables ≤ length new.ctx.now.variables
+    → length new.func.now.blocks + length new.ctx.now.variables ≤ length old.func.now.blocks + length old.ctx.now.variables + 1
+    → new.func.now.name ≡ old.func.now.name → IsOneCall old new
+one-plain old new takes keeps blocks variables more name =
+    let stay : record_count old.ctx.now.ssa ≤ record_count new.ctx.now.ssa = as-many old.ctx.now.ssa new.ctx.now.ssa keeps.0 in
     record {
-      takes = subst (λ (g : Body). Takes f g 2 1) (sym function) (takes-less f f 0 0 2 1 (omega arith) (omega arith) (Takes-same f f refl refl));
-      blocks = omega (arith, blocks);
-      variables = variables;
-      name = ap (λ (g : Body). g.name) function;
+      values = omega (arith, takes.values_more, stay);
+      insts = omega (arith, takes.insts_more, stay);
+      records = λ below.
+          below_kept old.func.now old.ctx.now.ssa new.ctx.now.ssa keeps.0 keeps.1 (length new.ctx.now.variables) (length new.func.now.blocks) blocks
+          (wider (length old.ctx.now.variables) (length old.func.now.blocks) (length new.ctx.now.variables) (length new.func.now.blocks) old.ctx.now.ssa variables blocks below);
+      more = more;
+      name = name;
+      straight = λ none. (keeps.2 none, takes-less old.func.now new.func.now 1 1 2 1 (omega arith) (omega arith) takes);
     }
 
-pub one-created : (old new : FunctionBuilder) → new.func.now ≡ with_block old.func.now → new.ctx.now.variables ≡ old.ctx.now.variables → IsOneCall old new
-one-created old new function variables =
+-- the function stays
+takes-none : (f g : Body) → g ≡ f → Takes f g 1 1
+takes-none f g same = subst (λ (h : Body). Takes f h 1 1) (sym same) (takes-less f f 0 0 1 1 (omega arith) (omega arith) (Takes-same f f refl refl))
+
+pub one-same : (old new : FunctionBuilder) → new.func.now ≡ old.func.now → new.ctx.now.ssa ≡ old.ctx.now.ssa
+    → length old.ctx.now.variables ≤ length new.ctx.now.variables → length new.ctx.now.variables ≤ length old.ctx.now.variables + 1 → IsOneCall old new
+one-same old new function same variables more =
+    let blocks : length new.func.now.blocks ≡ length old.func.now.blocks = ap (λ (g : Body). length g.blocks) function in
+    one-plain old new (takes-none old.func.now new.func.now function) (keeps-same old.ctx.now.ssa new.ctx.now.ssa same) (omega (arith, blocks)) variables (omega (arith, blocks, more))
+    (ap (λ (g : Body). g.name) function)
+
+pub one-created : (old new : FunctionBuilder) → new.func.now ≡ with_block old.func.now → SameRecords old.ctx.now.ssa new.ctx.now.ssa → SameBlocks old.ctx.now.ssa new.ctx.now.ssa
+    → LeadsStay old.ctx.now.ssa new.ctx.now.ssa → new.ctx.now.variables ≡ old.ctx.now.variables → IsOneCall old new
+one-created old new function records sealed leads variables =
     let f : Body = old.func.now in
     let more : length (with_block f).blocks ≡ length f.blocks + 1 = grind (arith, common_steps) in
     let blocks : length new.func.now.blocks ≡ length (with_block f).blocks = ap (λ (g : Body). length g.blocks) function in
     let count : length new.ctx.now.variables ≡ length old.ctx.now.variables = ap (λ xs. length xs) variables in
+    let takes : Takes f (with_block f) 1 1 = takes-less f (with_block f) 0 0 1 1 (omega arith) (omega arith) (Takes-same f (with_block f) refl refl) in
+    one-plain old new (subst (λ (g : Body). Takes f g 1 1) (sym function) takes) (records, sealed, leads)
+    (omega (arith, blocks, more)) (omega (arith, count)) (omega (arith, blocks, more, count)) (ap (λ (g : Body). g.name) function)
+
+pub one-defined : (old new : FunctionBuilder) (variable block value : ℕ) → new.func.now ≡ old.func.now → Records old.ctx.now.ssa new.ctx.now.ssa variable block value
+    → SameBlocks old.ctx.now.ssa new.ctx.now.ssa → SamePredecessors old.ctx.now.ssa new.ctx.now.ssa → new.ctx.now.variables ≡ old.ctx.now.variables
+    → variable < length old.ctx.now.variables → block < length old.func.now.blocks → IsOneCall old new
+one-defined old new variable block value function records sealed predecessors variables declared exists =
+    let takes = takes-none old.func.now new.func.now function in
+    let blocks : length new.func.now.blocks ≡ length old.func.now.blocks = ap (λ (g : Body). length g.blocks) function in
+    let count : length new.ctx.now.variables ≡ length old.ctx.now.variables = ap (λ xs. length xs) variables in
+    let stay = written-more old.ctx.now.ssa new.ctx.now.ssa variable block value records in
+    let done : Result (Unit {0}) (Unit {0}) = Ok tt in
     record {
-      takes = subst (λ (g : Body). Takes f g 2 1) (sym function) (takes-less f (with_block f) 0 0 2 1 (omega arith) (omega arith) (Takes-same f (with_block f) refl refl));
-      blocks = omega (arith, blocks, more);
-      variables = omega (arith, count);
+      values = omega (arith, takes.values_more, stay);
+      insts = omega (arith, takes.insts_more, stay);
+      records = λ below.
+          wider (length old.ctx.now.variables) (length old.func.now.blocks) (length new.ctx.now.variables) (length new.func.now.blocks) new.ctx.now.ssa (omega (arith, count)) (omega (arith, blocks))
+          (below_defined old.ctx.now.ssa new.ctx.now.ssa variable block value done records tt sealed (length old.ctx.now.variables) (length old.func.now.blocks) declared exists below);
+      more = omega (arith, blocks, count);
       name = ap (λ (g : Body). g.name) function;
+      straight = λ none. (leads-same old.ctx.now.ssa new.ctx.now.ssa predecessors none, takes-less old.func.now new.func.now 1 1 2 1 (omega arith) (omega arith) takes);
     }
 
-pub one-sealed : (old new : FunctionBuilder) (pending : List Pending) → new.func.now ≡ completed old.func.now pending → Grows old.func.now new.func.now
-    → new.ctx.now.variables ≡ old.ctx.now.variables → IsOneCall old new
-one-sealed old new pending function grows variables =
-    let f : Body = old.func.now in
-    let blocks : length new.func.now.blocks ≡ length f.blocks = ap (λ (g : Body). length g.blocks) function ∙ blocks-completed f pending in
+-- in the current block
+pub one-assigned : (old new : FunctionBuilder) (variable value : ℕ) → HasCurrent old → new.func.now ≡ old.func.now
+    → IfSome old.position (λ block. Records old.ctx.now.ssa new.ctx.now.ssa variable block value) → new.ctx.now.ssa.blocks ≡ old.ctx.now.ssa.blocks
+    → new.ctx.now.variables ≡ old.ctx.now.variables → variable < length old.ctx.now.variables → IsOneCall old new
+one-assigned old new variable value current function records blocks variables declared =
+    let here = subst (λ (o : Option ℕ). IfSome o (λ block. Records old.ctx.now.ssa new.ctx.now.ssa variable block value)) current.1 records in
+    one-defined old new variable current.0 value function here
+    (λ b. ap (λ (xs : List SsaBlock). sealed_of (record { records = []; blocks = xs }) b) blocks)
+    (λ b. ap (λ (xs : List SsaBlock). predecessors_of (record { records = []; blocks = xs }) b) blocks)
+    variables declared current.2
+
+-- a use of a variable, and a sealing: what they take is paid by records, and where nothing leads anywhere it is little
+pub one-constructed : (old new : FunctionBuilder) → TakesByRecords old.func.now old.ctx.now.ssa new.func.now new.ctx.now.ssa → KeepsRecordsBelow old new
+    → length new.func.now.blocks ≡ length old.func.now.blocks → new.ctx.now.variables ≡ old.ctx.now.variables → Grows old.func.now new.func.now
+    → SamePredecessors old.ctx.now.ssa new.ctx.now.ssa → (NothingLeads old.ctx.now.ssa → Takes old.func.now new.func.now 2 1) → IsOneCall old new
+one-constructed old new takes below blocks variables grows predecessors straight =
     let count : length new.ctx.now.variables ≡ length old.ctx.now.variables = ap (λ xs. length xs) variables in
     record {
-      takes = subst (λ (g : Body). Takes f g 2 1) (sym function) (takes-less f (completed f pending) 0 0 2 1 (omega arith) (omega arith) (Takes-completed f pending));
-      blocks = omega (arith, blocks);
-      variables = omega (arith, count);
+      values = omega (arith, takes.values);
+      insts = omega (arith, takes.insts);
+      records = λ before.
+          wider (length old.ctx.now.variables) (length old.func.now.blocks) (length new.ctx.now.variables) (length new.func.now.blocks) new.ctx.now.ssa (omega (arith, count)) (omega (arith, blocks))
+          (below (length old.ctx.now.variables) (length old.func.now.blocks) (omega arith) (omega arith) before);
+      more = omega (arith, blocks, count);
       name = grows.3;
+      straight = λ none. let before = leads-same old.ctx.now.ssa new.ctx.now.ssa predecessors none in (before, straight before);
     }
 
-pub one-used : (old new : FunctionBuilder) (variable value : ℕ) → HasCurrent old → variable < length old.ctx.now.variables
-    → IfSome old.position (λ block. Uses old new variable block value) → Takes old.func.now new.func.now 2 1 → Grows old.func.now new.func.now
-    → new.ctx.now.variables ≡ old.ctx.now.variables → IsOneCall old new
-one-used old new variable value current declared uses takes grows variables =
+-- a use keeps the number of blocks, and what leads to each
+pub used-here : (old new : FunctionBuilder) (variable value : ℕ) → HasCurrent old → variable < length old.ctx.now.variables
+    → ((ty : «Type») → slice_get old.ctx.now.variables variable ≡ Some ty → IfSome old.position (λ block.
+    (told : List ℕ) × IsUse (inserted_in old.func.now block) old.ctx.now.ssa new.func.now new.ctx.now.ssa variable ty block value told × Begins old.ctx.now new.ctx.now (block ∷ told)))
+    → (length new.func.now.blocks ≡ length old.func.now.blocks) × SamePredecessors old.ctx.now.ssa new.ctx.now.ssa
+used-here old new variable value current declared uses =
     let types : List «Type» = old.ctx.now.variables in
-    let here : Uses old new variable current.0 value = subst (λ (o : Option ℕ). IfSome o (λ block. Uses old new variable block value)) current.1 uses in
-    let used = here (get_or types variable type.Invalid) (slice_get-get_or types variable type.Invalid declared) in
-    let blocks : length new.func.now.blocks ≡ length old.func.now.blocks =
-    blocks-used old.func.now old.ctx.now new.func.now new.ctx.now variable (get_or types variable type.Invalid) current.0 value used in
-    let count : length new.ctx.now.variables ≡ length types = ap (λ xs. length xs) variables in
-    record { takes = takes; blocks = omega (arith, blocks); variables = omega (arith, count); name = grows.3 }
+    let ty : «Type» = get_or types variable type.Invalid in
+    let one = subst (λ (o : Option ℕ). IfSome o (λ block.
+    (told : List ℕ) × IsUse (inserted_in old.func.now block) old.ctx.now.ssa new.func.now new.ctx.now.ssa variable ty block value told × Begins old.ctx.now new.ctx.now (block ∷ told)))
+    current.1 (uses ty (slice_get-get_or types variable type.Invalid declared)) in
+    (one.1.constructs.block_count ∙ blocks-inserted old.func.now current.0, one.1.predecessors)
+
+-- where nothing leads anywhere each use is local
+pub local-here : (b : FunctionBuilder) (variable : ℕ) → NothingLeads b.ctx.now.ssa → IfSome b.position (λ block. IsLocal b.ctx.now.ssa variable block)
+local-here b variable none = by b.position
+  where
+    by : (o : Option ℕ) → IfSome o (λ block. IsLocal b.ctx.now.ssa variable block)
+    by None = tt
+    by (Some block) = λ unknown sealed. none block
 
 result-count : (shape : InstructionData) (ty : «Type») → length (result_types shape ty) ≤ 1
 result-count shape ty = by (has_result shape)
@@ -130,57 +227,166 @@ result-count shape ty = by (has_result shape)
     by true = omega arith
     by false = omega arith
 
-pub one-appended : (old new : FunctionBuilder) (shape : InstructionData) (ty : «Type») (inst : ℕ) → HasCurrent old
-    → IfSome old.position (λ block. Appends old new block shape ty inst) → Grows old.func.now new.func.now
-    → new.ctx.now.variables ≡ old.ctx.now.variables → IsOneCall old new
-one-appended old new shape ty inst current appends grows variables =
+-- an instruction was put at the end of some block
+abbrev pub IsMade : FunctionBuilder → FunctionBuilder → InstructionData → «Type» → Type 0
+IsMade old new shape ty = (block : ℕ) × (inst : ℕ) × Appends old new block shape ty inst
+
+made-takes : (old new : FunctionBuilder) (shape : InstructionData) (ty : «Type») → IsMade old new shape ty → Takes old.func.now new.func.now 1 1 × (length new.func.now.blocks ≡ length old.func.now.blocks)
+made-takes old new shape ty made =
     let f : Body = old.func.now in
-    let block : ℕ = current.0 in
-    let at : Body = inserted_in f block in
+    let at : Body = inserted_in f made.0 in
     let types : List «Type» = result_types shape ty in
-    let here : Appends old new block shape ty inst = subst (λ (o : Option ℕ). IfSome o (λ b. Appends old new b shape ty inst)) current.1 appends in
-    let made : Takes f (with_appended f block shape ty) (0 + length types) (0 + 1) =
-    Takes-then f at (with_appended f block shape ty) 0 0 (length types) 1 (Takes-inserted f block) (Takes-with_inst at block Back shape types no_srcloc) in
-    let blocks : length new.func.now.blocks ≡ length f.blocks = ap (λ (g : Body). length g.blocks) here.function ∙ blocks-inst at block Back shape types no_srcloc ∙ blocks-inserted f block in
-    let count : length new.ctx.now.variables ≡ length old.ctx.now.variables = ap (λ xs. length xs) variables in
     let few : length types ≤ 1 = result-count shape ty in
-    record {
-      takes = subst (λ (g : Body). Takes f g 2 1) (sym here.function)
-          (takes-less f (with_appended f block shape ty) (0 + length types) (0 + 1) 2 1 (omega (arith, few)) (omega arith) made);
-      blocks = omega (arith, blocks);
-      variables = omega (arith, count);
-      name = grows.3;
-    }
+    let takes : Takes f (with_appended f made.0 shape ty) (0 + length types) (0 + 1) =
+    Takes-then f at (with_appended f made.0 shape ty) 0 0 (length types) 1 (Takes-inserted f made.0) (Takes-with_inst at made.0 Back shape types no_srcloc) in
+    let function : new.func.now ≡ with_appended f made.0 shape ty = made.2.function in (
+      subst (λ (g : Body). Takes f g 1 1) (sym function) (takes-less f (with_appended f made.0 shape ty) (0 + length types) (0 + 1) 1 1 (omega (arith, few)) (omega arith) takes),
+      ap (λ (g : Body). length g.blocks) function ∙ blocks-inst at made.0 shape types no_srcloc ∙ blocks-inserted f made.0,
+    )
+
+one-made : (old new : FunctionBuilder) (shape : InstructionData) (ty : «Type») → IsMade old new shape ty → Grows old.func.now new.func.now → KeepsRecords old.ctx.now.ssa new.ctx.now.ssa
+    → new.ctx.now.variables ≡ old.ctx.now.variables → IsOneCall old new
+one-made old new shape ty made grows keeps variables =
+    let takes = made-takes old new shape ty made in
+    let count : length new.ctx.now.variables ≡ length old.ctx.now.variables = ap (λ xs. length xs) variables in
+    let blocks = takes.1 in
+    one-plain old new takes.0 keeps (omega (arith, blocks)) (omega (arith, count)) (omega (arith, blocks, count)) grows.3
+
+pub kept : {X : Type 0} (r : Result ℕ X) (s t : SsaState) → KeepsRecords s t → IfOk r (λ inst. KeepsRecords s t)
+kept (Ok inst) s t keeps = keeps
+kept (Err error) s t keeps = tt
+
+-- an instruction call that answered
+pub one-appended : {X : Type 0} (r : Result ℕ X) (old new : FunctionBuilder) (shape : InstructionData) (ty : «Type») → HasCurrent old
+    → IfSome old.position (λ block. IfOk r (Appends old new block shape ty)) → OnOk r (Grows old.func.now new.func.now)
+    → IfOk r (λ inst. KeepsRecords old.ctx.now.ssa new.ctx.now.ssa) → new.ctx.now.variables ≡ old.ctx.now.variables → OnOk r (IsOneCall old new)
+one-appended {X} (Ok inst) old new shape ty current appends grows keeps variables =
+    let here : Appends old new current.0 shape ty inst =
+    subst (λ (o : Option ℕ). IfSome o (λ block. IfOk {T = ℕ} {E = X} (Ok inst) (Appends old new block shape ty))) current.1 appends in
+    one-made old new shape ty (current.0, inst, here) grows keeps variables
+one-appended {X} (Err error) old new shape ty current appends grows keeps variables = tt
+
+-- one with a value, which is no branch
+pub one-valued : {X : Type 0} (r : Result ℕ X) (old new : FunctionBuilder) (shape : InstructionData) (ty : «Type») → HasCurrent old
+    → IfSome old.position (λ block. IfOk r (AppendsValue old new block shape ty)) → OnOk r (Grows old.func.now new.func.now)
+    → new.ctx.now.ssa ≡ old.ctx.now.ssa → new.ctx.now.variables ≡ old.ctx.now.variables → OnOk r (IsOneCall old new)
+one-valued {X} (Ok value) old new shape ty current appends grows same variables =
+    let here : AppendsValue old new current.0 shape ty value =
+    subst (λ (o : Option ℕ). IfSome o (λ block. IfOk {T = ℕ} {E = X} (Ok value) (AppendsValue old new block shape ty))) current.1 appends in
+    one-made old new shape ty (current.0, length old.func.now.insts, here.0) grows (keeps-same old.ctx.now.ssa new.ctx.now.ssa same) variables
+one-valued {X} (Err error) old new shape ty current appends grows same variables = tt
+
+-- a branch
+pub one-branched : {X : Type 0} (r : Result ℕ X) (old new : FunctionBuilder) (shape : InstructionData) (ty : «Type») (targets : List ℕ) → HasCurrent old
+    → IfSome old.position (λ block. IfOk r (Appends old new block shape ty)) → OnOk r (Grows old.func.now new.func.now)
+    → IfOk r (λ inst. IsDeclared old.ctx.now.ssa inst targets new.ctx.now.ssa) → new.ctx.now.variables ≡ old.ctx.now.variables → OnOk r (IsOneCall old new)
+one-branched {X} (Ok inst) old new shape ty targets current appends grows declared variables =
+    one-appended {X = X} (Ok inst) old new shape ty current appends grows (keeps-declared old.ctx.now.ssa inst declared.told new.ctx.now.ssa declared.along) variables
+one-branched {X} (Err error) old new shape ty targets current appends grows declared variables = tt
 
 -- FULL TABLES -----------------------------------------------------------------------------------------------------
 
--- a table is full once the call has taken what it takes
-pub nearly-taken : (old new : FunctionBuilder) → Takes old.func.now new.func.now 2 1 → IsFull new.func.now → IsNearlyFull old
-nearly-taken old new takes (inl values) = inl (omega (arith, takes.values_more, values))
-nearly-taken old new takes (inr insts) = inr (inl (omega (arith, takes.insts_more, insts)))
+few : (b : FunctionBuilder) → HasRecordsBelow b → record_count b.ctx.now.ssa ≤ length b.ctx.now.variables * length b.func.now.blocks
+few b below = few_records b.ctx.now.ssa (length b.ctx.now.variables) (length b.func.now.blocks) below.recorded
 
-pub nearly-sealed : (old new : FunctionBuilder) → Takes old.func.now new.func.now 0 0 → IsFull new.func.now → IsNearlyFull old
-nearly-sealed old new takes = nearly-taken old new (takes-less old.func.now new.func.now 0 0 2 1 (omega arith) (omega arith) takes)
+-- a table is full once the call has taken what it takes
+pub nearly-taken : (old new : FunctionBuilder) → TakesByRecords old.func.now old.ctx.now.ssa new.func.now new.ctx.now.ssa → KeepsRecordsBelow old new
+    → (NothingLeads old.ctx.now.ssa → Takes old.func.now new.func.now 2 1) → IsFull new.func.now → IsNearlyFull old
+nearly-taken old new takes below straight full before = record { with_branches = with_branches full; straight = λ none. without full (straight none) }
+  where
+    less : record_count new.ctx.now.ssa ≤ length old.ctx.now.variables * length old.func.now.blocks
+    less =
+        few_records new.ctx.now.ssa (length old.ctx.now.variables) (length old.func.now.blocks)
+        (below (length old.ctx.now.variables) (length old.func.now.blocks) (omega arith) (omega arith) before).recorded
+
+    with_branches : IsFull new.func.now
+        → (2 ^ 32 - 1 + 2 * record_count old.ctx.now.ssa ≤ values_taken old.func.now + 1 + 2 * (length old.ctx.now.variables * length old.func.now.blocks))
+        ⊎ (2 ^ 32 - 1 + record_count old.ctx.now.ssa ≤ insts_taken old.func.now + 1 + length old.ctx.now.variables * length old.func.now.blocks)
+        ⊎ (2 ^ 32 - 1 ≤ length old.func.now.blocks) ⊎ (2 ^ 32 - 1 ≤ length old.ctx.now.variables)
+    with_branches (inl values) = inl (omega (arith, takes.values, less, values))
+    with_branches (inr insts) = inr (inl (omega (arith, takes.insts, less, insts)))
+
+    without : IsFull new.func.now → Takes old.func.now new.func.now 2 1
+        → (2 ^ 32 - 1 ≤ values_taken old.func.now + 2) ⊎ (2 ^ 32 - 1 ≤ insts_taken old.func.now + 1) ⊎ (2 ^ 32 - 1 ≤ length old.func.now.blocks) ⊎ (2 ^ 32 - 1 ≤ length old.ctx.now.variables)
+    without (inl values) little = inl (omega (arith, little.values_more, values))
+    without (inr insts) little = inr (inl (omega (arith, little.insts_more, insts)))
+
+-- only a full table of the builder's is told as one
+told-full : (e : BuildError) → call_error_of e ≡ error.Full → e ≡ build.Full
+told-full build.Memory same = let no_way : ⊥ = cc in absurd no_way
+told-full build.Full same = refl
+told-full build.Failed same = let no_way : ⊥ = cc in absurd no_way
+
+pub full-told-by : {X Y : Type 0} (r : Result X BuildError) (told : Result Y CallError) (y : CallError) (e : BuildError) → r ≡ Err e → told ≡ Err y → y ≡ call_error_of e → told ≡ Err error.Full
+    → (r ≡ Err build.Full) × (r ≢ Err build.Memory)
+full-told-by {X} {Y} r told y e was is gives full =
+    let same : y ≡ error.Full = same_err y error.Full (sym is ∙ full) in
+    let here : r ≡ Err build.Full = was ∙ ap Err (told-full e (sym gives ∙ same)) in
+    (here, λ memory. clash (sym here ∙ memory))
+  where
+    same_err : (a b : CallError) → ◌≡◌ {A = Result Y CallError} (Err a) (Err b) → a ≡ b
+    same_err a b same = cc
+
+    clash : ◌≡◌ {A = Result X BuildError} (Err build.Full) (Err build.Memory) → ⊥
+    clash same = cc
 
 -- a table was full before
 pub nearly-full : (b : FunctionBuilder) → (length b.func.now.insts ≡ 2 ^ 32 - 1) ⊎ (length b.func.now.values ≡ 2 ^ 32 - 1) → IsNearlyFull b
-nearly-full b (inl insts) = inr (inl (omega (arith, insts)))
-nearly-full b (inr values) = inl (omega (arith, values))
+nearly-full b (inl insts) below =
+    let less = few b below in record { with_branches = inr (inl (omega (arith, less, insts))); straight = λ none. inr (inl (omega (arith, insts))) }
+nearly-full b (inr values) below =
+    let less = few b below in record { with_branches = inl (omega (arith, less, values)); straight = λ none. inl (omega (arith, values)) }
 
 -- SCRIPTS ---------------------------------------------------------------------------------------------------------
 
 pub within-more : (calls : ℕ) (old new : FunctionBuilder) → IsWithin calls old → IsOneCall old new → IsWithin (calls + 1) new
 within-more calls old new within one =
     record {
-      values = omega (arith, within.values, one.takes.values_more);
-      insts = omega (arith, within.insts, one.takes.insts_more);
-      blocks = omega (arith, within.blocks, one.blocks);
-      variables = omega (arith, within.variables, one.variables);
+      values = omega (arith, within.values, one.values);
+      insts = omega (arith, within.insts, one.insts);
+      records = one.records within.records;
+      made = omega (arith, within.made, one.more);
+      straight = λ none.
+          let before = one.straight none in
+          let little = within.straight before.0 in
+          (omega (arith, little.0, before.1.values_more), omega (arith, little.1, before.1.insts_more));
     }
 
+-- twice a product is no more than the square of the sum
+squares : (a b m n : ℕ) → a + b ≤ m → m < n → 2 * (a * b) + m + 1 ≤ n + n * n
+squares a b m n sum less =
+    let whole : (a + b) * (a + b) ≡ (a + b) * a + (a + b) * b = mul-add (a + b) a b in
+    let first : (a + b) * a ≡ a * a + b * a = add-mul a b a in
+    let second : (a + b) * b ≡ a * b + b * b = add-mul a b b in
+    let turned : b * a ≡ a * b = mul_comm b a in
+    let most : a + b ≤ n = omega (arith, sum, less) in
+    let square : (a + b) * (a + b) ≤ n * n = mul-le-mul most most in
+    omega (arith, whole, first, second, turned, square, less)
+
 -- a table is nearly full only where many calls were made
-pub full-late : (made calls : ℕ) (b : FunctionBuilder) → made < calls → IsWithin made b → IsNearlyFull b → 2 ^ 32 - 1 ≤ 2 * calls
-full-late made calls b more within (inl values) = omega (arith, more, within.values, values)
-full-late made calls b more within (inr (inl insts)) = omega (arith, more, within.insts, insts)
-full-late made calls b more within (inr (inr (inl blocks))) = omega (arith, more, within.blocks, blocks)
-full-late made calls b more within (inr (inr (inr variables))) = omega (arith, more, within.variables, variables)
+pub full-late : (made calls : ℕ) (b : FunctionBuilder) → made < calls → IsWithin made b → IsNearlyFull b → 2 ^ 32 - 1 ≤ calls + calls * calls
+full-late made calls b more within nearly = by (nearly within.records).with_branches
+  where
+    room : 2 * (length b.ctx.now.variables * length b.func.now.blocks) + made + 1 ≤ calls + calls * calls
+    room = squares (length b.ctx.now.variables) (length b.func.now.blocks) made calls (omega (arith, within.made)) more
+
+    by : (2 ^ 32 - 1 + 2 * record_count b.ctx.now.ssa ≤ values_taken b.func.now + 1 + 2 * (length b.ctx.now.variables * length b.func.now.blocks))
+        ⊎ (2 ^ 32 - 1 + record_count b.ctx.now.ssa ≤ insts_taken b.func.now + 1 + length b.ctx.now.variables * length b.func.now.blocks)
+        ⊎ (2 ^ 32 - 1 ≤ length b.func.now.blocks) ⊎ (2 ^ 32 - 1 ≤ length b.ctx.now.variables) → 2 ^ 32 - 1 ≤ calls + calls * calls
+    by (inl values) = omega (arith, room, within.values, values)
+    by (inr (inl insts)) = omega (arith, room, within.insts, insts)
+    by (inr (inr (inl blocks))) = omega (arith, more, within.made, blocks)
+    by (inr (inr (inr variables))) = omega (arith, more, within.made, variables)
+
+-- and where no branch leads anywhere, where more were made
+pub full-late-straight : (made calls : ℕ) (b : FunctionBuilder) → made < calls → IsWithin made b → NothingLeads b.ctx.now.ssa → IsNearlyFull b → 2 ^ 32 - 1 ≤ 2 * calls
+full-late-straight made calls b more within none nearly = by ((nearly within.records).straight none)
+  where
+    little : (values_taken b.func.now ≤ 2 * made) × (insts_taken b.func.now ≤ made)
+    little = within.straight none
+
+    by : (2 ^ 32 - 1 ≤ values_taken b.func.now + 2) ⊎ (2 ^ 32 - 1 ≤ insts_taken b.func.now + 1) ⊎ (2 ^ 32 - 1 ≤ length b.func.now.blocks) ⊎ (2 ^ 32 - 1 ≤ length b.ctx.now.variables) → 2 ^ 32 - 1 ≤ 2 * calls
+    by (inl values) = omega (arith, more, little.0, values)
+    by (inr (inl insts)) = omega (arith, more, little.1, insts)
+    by (inr (inr (inl blocks))) = omega (arith, more, within.made, blocks)
+    by (inr (inr (inr variables))) = omega (arith, more, within.made, variables)

@@ -34,6 +34,9 @@ no-refusal ledger (call.DefVar variable value) = refl
 no-refusal ledger (call.UseVar variable) = refl
 no-refusal ledger (call.Iconst ty imm) = refl
 no-refusal ledger (call.Iadd x y) = refl
+no-refusal ledger (call.Isub x y) = refl
+no-refusal ledger (call.Jump destination) = refl
+no-refusal ledger (call.Brif condition block_then block_else) = refl
 no-refusal ledger (call.Return values) = refl
 
 -- the requests of a list with one more call

@@ -38,9 +38,13 @@ pub record IsNearlyFullIn (f : Body) (c : ContextState) : Type 0 where
   pub straight : NothingLeads c.ssa
       → (2 ^ 32 - 1 ≤ values_taken f + 2) ⊎ (2 ^ 32 - 1 ≤ insts_taken f + 1) ⊎ (2 ^ 32 - 1 ≤ length f.blocks) ⊎ (2 ^ 32 - 1 ≤ length c.variables)
 
--- one of a builder's
+-- a builder's records are of variables and blocks that exist
+abbrev pub HasRecordsBelow : FunctionBuilder → Type 0
+HasRecordsBelow b = RecordsBelow (length b.ctx.now.variables) (length b.func.now.blocks) b.ctx.now.ssa
+
+-- a table of a builder's, where its records are such
 abbrev pub IsNearlyFull : FunctionBuilder → Type 0
-IsNearlyFull b = IsNearlyFullIn b.func.now b.ctx.now
+IsNearlyFull b = HasRecordsBelow b → IsNearlyFullIn b.func.now b.ctx.now
 
 -- no call of a script is a branch
 abbrev pub is_straight : Call → Bool

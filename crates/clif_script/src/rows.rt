@@ -1,6 +1,6 @@
 //! The rows of the program `rows`: functions that are built from a fixed list of calls, and the program
 //! itself, over two writers.
-ghost use Rattle.std.specs.Prelude.{◌≡◌, ◌<◌, ◌↔◌, length, string_bytes, slice_get, IfOk, IfSome, IsSome};
+ghost use Rattle.std.specs.Prelude.{◌≡◌, ◌<◌, ◌-◌, ◌^◌, ◌↔◌, length, string_bytes, slice_get, IfOk, IfSome, IsSome};
 ghost use Rattle.clif_script.specs.Rows.{IsRowName};
 
 use crate::call::{Call, Edge, Name};

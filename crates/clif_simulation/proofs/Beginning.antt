@@ -11,7 +11,7 @@ use Rattle.clif_ssa.proofs.StructuredLaws.{first_structured}
 use Rattle.clif_ssa.proofs.Writing.{first_described}
 use Rattle.clif_meaning.specs.Name.{Name, answer_of}
 use Rattle.clif_meaning.specs.Instruction.{Operation, Edge}
-use Rattle.clif_meaning.specs.Request.{Request, CreateBlock, SwitchToBlock, SealBlock, DeclareVar, DefVar, UseVar, Build, Finalize, Script, AnsweredCall, script_of}
+use Rattle.clif_meaning.specs.Request.{Request, CreateBlock, SwitchToBlock, SealBlock, SealAllBlocks, InsertBlockAfter, SetColdBlock, EnsureInsertedBlock, DeclareVar, DefVar, UseVar, Build, Finalize, Script, AnsweredCall, script_of}
 use Rattle.clif_meaning.specs.Ledger.{Ledger, ledger_after, ledger_with, empty_ledger, with_layout, with_begun_at, with_begun, with_filled_at, with_terminator, with_predecessor, is_inserted, is_terminator}
 use Rattle.clif_meaning.specs.Program.{Program, Item, with_call, empty_program, with_item_at, with_inserted}
 use Rattle.clif_simulation.specs.Tables.{program_so_far, IsProgramOf}
@@ -57,6 +57,10 @@ current_next : (program : Program) (ledger : Ledger) (request : Request) → pro
 current_next program ledger CreateBlock same = same
 current_next program ledger (SwitchToBlock block) same = refl
 current_next program ledger (SealBlock block) same = same
+current_next program ledger SealAllBlocks same = same
+current_next program ledger (InsertBlockAfter block after) same = same
+current_next program ledger (SetColdBlock block) same = same
+current_next program ledger EnsureInsertedBlock same = same ∙ sym (current-begun ledger ledger.current)
 current_next program ledger (DeclareVar ty) same = same
 current_next program ledger (DefVar variable value) same = current-item program program.current _ ∙ same
 current_next program ledger (UseVar variable) same = current-item (with_inserted program) program.current _ ∙ same ∙ sym (current-begun ledger ledger.current)

@@ -34,7 +34,7 @@ use Rattle.clif_meaning.specs.Request.{Request, CreateBlock, SwitchToBlock, Seal
 use Rattle.clif_meaning.specs.Ledger.{BlockState, ABlock, AVariable, AValue, answers_to, ledger_after, has_value, is_filled, or_invalid, variable_type}
 use Rattle.clif_meaning.specs.Program.{Use, Assign}
 use Rattle.clif_simulation.specs.Tables.{code, number_or_none, program_so_far, block_name}
-use Rattle.clif_simulation.specs.Carries.{AreTypes, Carries, IsCurrent, NamesBlocks, SoundOnPaths, ValuesGiven}
+use Rattle.clif_simulation.specs.Carries.{AreTypes, Carries, IsCurrent, NamesBlocks, SoundOnPaths, ValuesGiven, HasEntry}
 use Rattle.clif_simulation.proofs.Carrying.{declared_kept, holds_item, holds_on, leads_kept, spares_before, spares_item}
 use Rattle.clif_simulation.proofs.Growing.{KeepsInsts, goes_on-constructs, insts_kept, insts_same}
 use Rattle.clif_simulation.proofs.ItemCalls.{adds_use, adds_assignment}
@@ -210,19 +210,21 @@ module _ (calls : List AnsweredCall) (f : Body) (s : SsaState) (c : Carries call
 
   -- A CALL WITHOUT AN ITEM ----------------------------------------------------------------------------------------------
 
-  -- A call that makes no block and no item, leaves the entry, and answers no value: the construction may go on.
-  pub carries_kept : (call : AnsweredCall) (g : Body) (t : SsaState) → MakesNoBlock call.request
+  -- A call that makes no block and no item, and answers no value: the construction may go on, and blocks may enter the
+  -- layout behind the entry.
+  pub carries_on : (call : AnsweredCall) (g : Body) (t : SsaState) → MakesNoBlock call.request
       → ((N : Name) → (program_so_far (calls ++ call ∷ [])).items N ≡ (program_so_far calls).items N)
-      → (program_so_far (calls ++ call ∷ [])).entry ≡ (program_so_far calls).entry
+      → ((entry : Name) → (program_so_far calls).entry ≡ Some entry → (program_so_far (calls ++ call ∷ [])).entry ≡ Some entry)
+      → HasEntry (calls ++ call ∷ []) g
       → ((index : ℕ) → is_value_at (answers_to (ledger_after (script_of calls)) call.request) index ≡ false)
-      → KeepsInsts f g → g.layout ≡ f.layout → SamePredecessors s t
+      → KeepsInsts f g → ((b : ℕ) → stands_in b g.layout ≡ false → stands_in b f.layout ≡ false) → SamePredecessors s t
       → ((types : VariableTypes) (own : Own) → Structured types own f s [] → Structured types own g t [])
       → ((own : Own) (tables : Blocks) → DescribesSoundly own f s tables → Keeps own tables g t)
       → Carries (calls ++ call ∷ []) g t
-  carries_kept call g t no_block items entry no_value keeps layout leads structured sound = record {
+  carries_on call g t no_block items entry enters no_value keeps layout leads structured sound = record {
     own = c.own;
     holds = holds_on calls call (name_stays calls call no_block) c.own c.own f g s t c.holds (λ i below. keeps.placed c.own i below) keeps.more
-        (λ b out. ap (stands_in b) (sym layout) ∙ out) (λ b. refl) c.holds.no_parameters
+        layout (λ b. refl) c.holds.no_parameters
         (record {
           distinct = λ b d N first second. c.holds.blocks.distinct b d N (was b N first) (was d N second);
           earlier = λ b N is. let e = c.holds.blocks.earlier b N (was b N is) in let l = longer_calls calls call in omega (arith, e, l);
@@ -231,11 +233,11 @@ module _ (calls : List AnsweredCall) (f : Body) (s : SsaState) (c : Carries call
         (λ b N is. inl (was b N is)) items
         (declared_kept c.own f g s t keeps leads c.holds.own_exist c.holds.declared)
         (leads_kept calls call c.own c.own s t (name_stays calls call no_block) (λ b i h. h) leads c.holds.leads_own)
-        (entry_stays calls (calls ++ call ∷ []) f g entry (ap (λ (l : List ℕ). slice_get l 0) layout) (name_stays calls call no_block) c.holds.entry)
+        enters
         (λ types are. structured types c.own (c.holds.structured types (types_before calls call types are)));
     on_paths = λ spares.
         let p : SoundOnPaths calls c.own f s = c.on_paths
-        (spares_before calls call (λ e is. entry ∙ is) (λ N. ([], items N ∙ sym (append-nil ((program_so_far calls).items N)))) spares) in
+        (spares_before calls call entry (λ N. ([], items N ∙ sym (append-nil ((program_so_far calls).items N)))) spares) in
         let after : Keeps c.own p.tables g t = sound c.own p.tables (p.describes, p.sound, p.counts) in
         record {
           tables = after.tables;
@@ -254,6 +256,20 @@ module _ (calls : List AnsweredCall) (f : Body) (s : SsaState) (c : Carries call
           → ((program_so_far (calls ++ call ∷ [])).items N ≡ []) ⊎ ((b : ℕ) × (block_name (calls ++ call ∷ []) b ≡ Some N))
       only N (inl none) = inl (items N ∙ none)
       only N (inr block) = inr (block.0, name_stays calls call no_block block.0 N block.1)
+
+  -- The same where the layout and the entry stay.
+  pub carries_kept : (call : AnsweredCall) (g : Body) (t : SsaState) → MakesNoBlock call.request
+      → ((N : Name) → (program_so_far (calls ++ call ∷ [])).items N ≡ (program_so_far calls).items N)
+      → (program_so_far (calls ++ call ∷ [])).entry ≡ (program_so_far calls).entry
+      → ((index : ℕ) → is_value_at (answers_to (ledger_after (script_of calls)) call.request) index ≡ false)
+      → KeepsInsts f g → g.layout ≡ f.layout → SamePredecessors s t
+      → ((types : VariableTypes) (own : Own) → Structured types own f s [] → Structured types own g t [])
+      → ((own : Own) (tables : Blocks) → DescribesSoundly own f s tables → Keeps own tables g t)
+      → Carries (calls ++ call ∷ []) g t
+  carries_kept call g t no_block items entry no_value keeps layout leads structured sound =
+      carries_on call g t no_block items (λ e is. entry ∙ is)
+      (entry_stays calls (calls ++ call ∷ []) f g entry (ap (λ (l : List ℕ). slice_get l 0) layout) (name_stays calls call no_block) c.holds.entry)
+      no_value keeps (λ b out. ap (stands_in b) (sym layout) ∙ out) leads structured sound
 
   -- nothing is constructed
   still : (own : Own) (tables : Blocks) → DescribesSoundly own f s tables → Keeps own tables f s

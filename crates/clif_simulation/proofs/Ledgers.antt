@@ -6,8 +6,8 @@ use Rattle.std.specs.List.{list_any}
 use Rattle.clif_types.specs.declared.types.«Type».{«Type»}
 use Rattle.clif_meaning.specs.Name.{Name, answer_of, same_name}
 use Rattle.clif_meaning.specs.Instruction.{Operation, Edge, Instruction}
-use Rattle.clif_meaning.specs.Request.{Request, CreateBlock, SwitchToBlock, SealBlock, DeclareVar, DefVar, UseVar, Build, Finalize, AnsweredCall, script_of}
-use Rattle.clif_meaning.specs.Ledger.{BlockState, Ledger, VariableState, ledger_after, ledger_with, with_state, with_layout, with_begun_at, with_begun, with_filled_at, with_terminator, with_predecessor, touched_at, new_variable, is_inserted, is_filled, is_terminator, state_has, variable_type}
+use Rattle.clif_meaning.specs.Request.{Request, CreateBlock, SwitchToBlock, SealBlock, SealAllBlocks, InsertBlockAfter, SetColdBlock, EnsureInsertedBlock, DeclareVar, DefVar, UseVar, Build, Finalize, AnsweredCall, script_of}
+use Rattle.clif_meaning.specs.Ledger.{BlockState, Ledger, VariableState, ledger_after, ledger_with, with_state, with_layout, with_begun_at, with_begun, with_filled_at, with_terminator, with_predecessor, touched_at, new_variable, is_inserted, is_filled, is_terminator, state_has, variable_type, sealed}
 use Rattle.clif_simulation.specs.Carries.{AreTypes}
 use Rattle.clif_simulation.specs.Carries as carries
 use Rattle.clif_ssa.specs.Structured.{VariableTypes}
@@ -111,10 +111,26 @@ module _ (name : Name) where
       filled_of state true is = is
       filled_of state false is = is
 
+  filled_sealed : (states : List BlockState) → IsTrue (state_has (λ (state : BlockState). state.is_filled) (find (λ (state : BlockState). same_name state.block name) states))
+      → IsTrue (state_has (λ (state : BlockState). state.is_filled) (find (λ (state : BlockState). same_name state.block name) (map sealed states)))
+  filled_sealed [] filled = filled
+  filled_sealed (state ∷ states) filled = by (same_name state.block name) (filled_sealed states) filled
+    where
+      by : (test : Bool) → (IsTrue (state_has (λ (s : BlockState). s.is_filled) (find (λ (s : BlockState). same_name s.block name) states))
+          → IsTrue (state_has (λ (s : BlockState). s.is_filled) (find (λ (s : BlockState). same_name s.block name) (map sealed states))))
+          → IsTrue (state_has (λ (s : BlockState). s.is_filled) (if test then Some state else find (λ (s : BlockState). same_name s.block name) states))
+          → IsTrue (state_has (λ (s : BlockState). s.is_filled) (if test then Some (sealed state) else find (λ (s : BlockState). same_name s.block name) (map sealed states)))
+      by true rest is = is
+      by false rest is = rest is
+
   filled_with : (ledger : Ledger) (request : Request) → IsTrue (is_filled ledger name) → IsTrue (is_filled (ledger_with ledger request) name)
   filled_with ledger CreateBlock filled = filled_longer ledger.blocks _ name filled
   filled_with ledger (SwitchToBlock block) filled = filled
   filled_with ledger (SealBlock block) filled = filled-with_state ledger block (λ state. record state { is_sealed = true }) (record { name = λ state. refl; filled = λ state is. is }) filled
+  filled_with ledger SealAllBlocks filled = filled_sealed ledger.blocks filled
+  filled_with ledger (InsertBlockAfter block after) filled = filled
+  filled_with ledger (SetColdBlock block) filled = filled
+  filled_with ledger EnsureInsertedBlock filled = filled-with_begun_at ledger ledger.current filled
   filled_with ledger (DeclareVar ty) filled = filled
   filled_with ledger (DefVar variable value) filled = filled
   filled_with ledger (UseVar variable) filled = filled-with_begun_at ledger ledger.current filled
@@ -221,6 +237,10 @@ type_with : (ledger : Ledger) (request : Request) (x : ℕ) (ty : «Type») → 
 type_with ledger CreateBlock x ty is = is
 type_with ledger (SwitchToBlock block) x ty is = is
 type_with ledger (SealBlock block) x ty is = is
+type_with ledger SealAllBlocks x ty is = is
+type_with ledger (InsertBlockAfter block after) x ty is = is
+type_with ledger (SetColdBlock block) x ty is = is
+type_with ledger EnsureInsertedBlock x ty is = ap (λ (states : List VariableState). type_in states x) (variables-begun ledger ledger.current) ∙ is
 type_with ledger (DeclareVar declared) x ty is = type_longer ledger.variables (new_variable declared ∷ []) x ty is
 type_with ledger (DefVar variable value) x ty is = type_touched ledger.variables variable x ∙ is
 type_with ledger (UseVar variable) x ty is =

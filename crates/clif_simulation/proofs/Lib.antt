@@ -76,3 +76,4 @@ mod LoopRow
 mod LoopConsistent
 mod LoopAlong
 mod LoopWaiting
+pub mod Further

@@ -2,7 +2,7 @@
 use Rattle.std.proofs.Common.{◌≡◌, ℕ, zero, suc, ◌<◌, List, [], ◌∷◌, length, map, fold, slice_get, Option, Some, None, Contains, ◌⊎◌, inl, inr, refl, ◌∙◌, ap, subst, arith}
 use Rattle.std.specs.List.{AllByRecursion}
 use Rattle.clif_meaning.specs.Name.{Name}
-use Rattle.clif_meaning.specs.Request.{Request, CreateBlock, SwitchToBlock, SealBlock, DeclareVar, DefVar, UseVar, Build, Finalize, Script}
+use Rattle.clif_meaning.specs.Request.{Request, CreateBlock, SwitchToBlock, SealBlock, SealAllBlocks, InsertBlockAfter, SetColdBlock, EnsureInsertedBlock, DeclareVar, DefVar, UseVar, Build, Finalize, Script}
 use Rattle.clif_meaning.specs.Program.{Program, Item, with_item_at, with_inserted, extended, with_call, empty_program, program_of}
 use Rattle.clif_meaning.specs.Path.{Place, IsPath}
 use Rattle.clif_meaning.specs.WellPlaced.{item_gives, program_flow, program_code, IsGivenAlong, given_on_entry}
@@ -18,6 +18,10 @@ call_leaves : (program : Program) (request : Request) → (extended program requ
 call_leaves program CreateBlock = refl
 call_leaves program (SwitchToBlock block) = refl
 call_leaves program (SealBlock block) = refl
+call_leaves program SealAllBlocks = refl
+call_leaves program (InsertBlockAfter block after) = refl
+call_leaves program (SetColdBlock block) = refl
+call_leaves program EnsureInsertedBlock = refl
 call_leaves program (DeclareVar ty) = refl
 call_leaves program (DefVar variable value) = item_leaves program program.current _
 call_leaves program (UseVar variable) = item_leaves (with_inserted program) program.current _

@@ -3,7 +3,7 @@ use Rattle.std.proofs.Common.{◌≡◌, ◌≢◌, ℕ, zero, suc, ◌<◌, fal
 use Rattle.std.proofs.lemmas.Bool.Decides.{nat_tests}
 use Rattle.clif_paths.specs.Places.{Place, start, inside}
 use Rattle.clif_meaning.specs.Name.{Name, answer_of, same_name}
-use Rattle.clif_meaning.specs.Request.{CreateBlock, SwitchToBlock, SealBlock, DeclareVar, DefVar, UseVar, Build, Finalize, Script, script_of}
+use Rattle.clif_meaning.specs.Request.{CreateBlock, SwitchToBlock, SealBlock, DeclareVar, DefVar, UseVar, Build, Finalize, Script, script_of, SealAllBlocks, InsertBlockAfter, SetColdBlock, EnsureInsertedBlock}
 use Rattle.clif_meaning.specs.Program.{Program, Item, Instruct, Use, Assign, with_call, with_item_at, with_inserted, result_names, empty_program}
 use Rattle.clif_meaning.specs.BranchExamples.{block}
 use Rattle.clif_meaning.specs.WellPlaced.{item_gives}
@@ -63,6 +63,10 @@ nothing_there name [] program never apart none = none
 nothing_there name (CreateBlock ∷ rest) program never apart none = nothing_there name rest (with_call program CreateBlock) never apart none
 nothing_there name (SwitchToBlock block ∷ rest) program never apart none = nothing_there name rest (with_call program (SwitchToBlock block)) never.1 never.0 none
 nothing_there name (SealBlock block ∷ rest) program never apart none = nothing_there name rest (with_call program (SealBlock block)) never apart none
+nothing_there name (SealAllBlocks ∷ rest) program never apart none = nothing_there name rest (with_call program SealAllBlocks) never apart none
+nothing_there name (InsertBlockAfter block after ∷ rest) program never apart none = nothing_there name rest (with_call program (InsertBlockAfter block after)) never apart none
+nothing_there name (SetColdBlock block ∷ rest) program never apart none = nothing_there name rest (with_call program (SetColdBlock block)) never apart none
+nothing_there name (EnsureInsertedBlock ∷ rest) program never apart none = nothing_there name rest (with_call program EnsureInsertedBlock) never apart none
 nothing_there name (DeclareVar ty ∷ rest) program never apart none = nothing_there name rest (with_call program (DeclareVar ty)) never apart none
 nothing_there name (DefVar variable value ∷ rest) program never apart none =
     nothing_there name rest (with_call program (DefVar variable value)) never

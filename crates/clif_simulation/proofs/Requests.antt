@@ -8,7 +8,7 @@ use Rattle.clif_ssa.specs.Sound.{entry_of}
 use Rattle.clif_types.specs.declared.types.«Type».{«Type»}
 use Rattle.clif_meaning.specs.Name.{Name, answer_of}
 use Rattle.clif_meaning.specs.Instruction.{Instruction}
-use Rattle.clif_meaning.specs.Request.{Request, CreateBlock, SwitchToBlock, SealBlock, DeclareVar, DefVar, UseVar, Build, AnsweredCall}
+use Rattle.clif_meaning.specs.Request.{Request, CreateBlock, SwitchToBlock, SealBlock, SealAllBlocks, InsertBlockAfter, SetColdBlock, EnsureInsertedBlock, DeclareVar, DefVar, UseVar, Build, AnsweredCall}
 use Rattle.clif_meaning.specs.Program.{Program, Instruct, Use, Assign, with_call, with_item_at, with_inserted, first_block, result_names}
 use Rattle.clif_simulation.specs.Tables.{program_so_far, block_name}
 use Rattle.clif_simulation.specs.Carries.{HasEntry}
@@ -37,6 +37,18 @@ module _ (calls : List AnsweredCall) (call : AnsweredCall) where
   pub items_sealed : (block : Name) → call.request ≡ SealBlock block → (N : Name) → longer.items N ≡ before.items N
   items_sealed block is N = ap (λ (p : Program). p.items N) (program_with (SealBlock block) is)
 
+  pub items_sealed_all : call.request ≡ SealAllBlocks → (N : Name) → longer.items N ≡ before.items N
+  items_sealed_all is N = ap (λ (p : Program). p.items N) (program_with SealAllBlocks is)
+
+  pub items_after : (block after : Name) → call.request ≡ InsertBlockAfter block after → (N : Name) → longer.items N ≡ before.items N
+  items_after block after is N = ap (λ (p : Program). p.items N) (program_with (InsertBlockAfter block after) is)
+
+  pub items_cold : (block : Name) → call.request ≡ SetColdBlock block → (N : Name) → longer.items N ≡ before.items N
+  items_cold block is N = ap (λ (p : Program). p.items N) (program_with (SetColdBlock block) is)
+
+  pub items_ensured : call.request ≡ EnsureInsertedBlock → (N : Name) → longer.items N ≡ before.items N
+  items_ensured is N = ap (λ (p : Program). p.items N) (program_with EnsureInsertedBlock is)
+
   pub items_declared : (ty : «Type») → call.request ≡ DeclareVar ty → (N : Name) → longer.items N ≡ before.items N
   items_declared ty is N = ap (λ (p : Program). p.items N) (program_with (DeclareVar ty) is)
 
@@ -48,6 +60,18 @@ module _ (calls : List AnsweredCall) (call : AnsweredCall) where
 
   pub entry_sealed : (block : Name) → call.request ≡ SealBlock block → longer.entry ≡ before.entry
   entry_sealed block is = ap (λ (p : Program). p.entry) (program_with (SealBlock block) is)
+
+  pub entry_sealed_all : call.request ≡ SealAllBlocks → longer.entry ≡ before.entry
+  entry_sealed_all is = ap (λ (p : Program). p.entry) (program_with SealAllBlocks is)
+
+  pub entry_after : (block after : Name) → call.request ≡ InsertBlockAfter block after → longer.entry ≡ before.entry
+  entry_after block after is = ap (λ (p : Program). p.entry) (program_with (InsertBlockAfter block after) is)
+
+  pub entry_cold : (block : Name) → call.request ≡ SetColdBlock block → longer.entry ≡ before.entry
+  entry_cold block is = ap (λ (p : Program). p.entry) (program_with (SetColdBlock block) is)
+
+  pub entry_ensured : (B : Name) → before.current ≡ Some B → call.request ≡ EnsureInsertedBlock → longer.entry ≡ first_block before.entry (Some B)
+  entry_ensured B current is = ap (λ (p : Program). p.entry) (program_with EnsureInsertedBlock is) ∙ ap (first_block before.entry) current
 
   pub entry_declared : (ty : «Type») → call.request ≡ DeclareVar ty → longer.entry ≡ before.entry
   entry_declared ty is = ap (λ (p : Program). p.entry) (program_with (DeclareVar ty) is)

@@ -132,7 +132,7 @@ parameter_with own f s t listed listed' blocks x b ty recorded firm before there
     let edges : SameEdges f g s t blocks after = same_edges f g s t blocks after (arms_of own f s listed blocks before) extends same (λ c i here. refl) in
     let arms : Arms g t after =
     arms_kept f g s t blocks after
-    (record { edges = edges; insts_more = omega arith; layout = refl; same_yes = waits.same_yes; sealed = λ c. refl; joins = λ arm. refl })
+    (record { edges = edges; insts_more = omega arith; entry = refl; same_yes = waits.same_yes; sealed = λ c. refl; joins = λ arm. refl })
     (arms_of own f s listed blocks before) in
     let waits_still : (c : ℕ) (p : Pending) → IsWaiting f blocks c p → IsWaiting g after c p =
     λ c p is.

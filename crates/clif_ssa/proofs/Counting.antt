@@ -151,6 +151,13 @@ block_params f b =
     (λ last. ap (λ (m : BlockNode). m.params) (sym (at_past f.blocks b empty_block (omega (arith, last)))))
     (λ past. ap (λ (m : BlockNode). m.params) (sym (at_past f.blocks b empty_block (omega (arith, past)))))
 
+pub blocks_counted : (own : Own) (f : Body) (nodes : List BlockNode) (layout : List ℕ) (s : SsaState) (blocks : Blocks)
+    → ((b : ℕ) → (block_at (record f { blocks = nodes; layout = layout }) b).params ≡ (block_at f b).params)
+    → CountsArguments own f s blocks → CountsArguments own (record f { blocks = nodes; layout = layout }) s blocks
+blocks_counted own f nodes layout s blocks same_params counts =
+    counts_same own f (record f { blocks = nodes; layout = layout }) s s blocks blocks
+    (record { predecessors = λ c. refl; inst_same = λ c i here. refl; params = same_params; homes = λ v. refl; defined = λ v c is. refl }) counts
+
 pub block_counted : (own : Own) (f : Body) (s : SsaState) (blocks : Blocks) → CountsArguments own f s blocks → CountsArguments own (with_block f) s blocks
 block_counted own f s blocks counts =
     counts_same own f (with_block f) s s blocks blocks

@@ -186,14 +186,21 @@ same_edges f g s t blocks blocks' arms extends same counts = record {
 pub record SameArms (f g : Body) (s t : SsaState) (blocks blocks' : Blocks) : Type 0 where
   pub edges : SameEdges f g s t blocks blocks'
   pub insts_more : length f.insts ≤ length g.insts
-  pub layout : g.layout ≡ f.layout
+  pub entry : entry_of g ≡ entry_of f
   pub same_yes : (b : ℕ) → is_yes (sealed_of t b) ≡ is_yes (sealed_of s b)
   pub sealed : (b : ℕ) → blocks'.sealed b ≡ blocks.sealed b
   pub joins : (arm : Arm) → blocks'.joins arm ≡ blocks.joins arm
 
+-- layouts that begin with one block, or both with none, both have an entry or have none
+entry_there : (ours theirs : List ℕ) → slice_get ours 0 ≡ slice_get theirs 0 → has_entry ours ≡ has_entry theirs
+entry_there [] [] same = refl
+entry_there [] (b ∷ theirs) same = let no_way : ⊥ = cc in absurd no_way
+entry_there (b ∷ ours) [] same = let no_way : ⊥ = cc in absurd no_way
+entry_there (b ∷ ours) (c ∷ theirs) same = refl
+
 pub arms_kept : (f g : Body) (s t : SsaState) (blocks blocks' : Blocks) → SameArms f g s t blocks blocks' → Arms f s blocks → Arms g t blocks'
 arms_kept f g s t blocks blocks' same arms = record {
-  sealed = λ b. same.sealed b ∙ arms.sealed b ∙ ap (λ r. r && has_entry f.layout) (sym (same.same_yes b)) ∙ ap (λ l. is_yes (sealed_of t b) && has_entry l) (sym same.layout);
+  sealed = λ b. same.sealed b ∙ arms.sealed b ∙ ap (λ r. r && has_entry f.layout) (sym (same.same_yes b)) ∙ ap (λ r. is_yes (sealed_of t b) && r) (sym (entry_there g.layout f.layout same.entry));
   joined = λ arm known.
       let there : (b : ℕ) × (arm.target ≡ front b) × (is_yes (sealed_of s b) ≡ true) × (((arm.source ≡ start) × (entry_of f ≡ Some b)) ⊎ IsEdgeInto f s blocks b arm) =
       arms.joined arm (sym (same.joins arm) ∙ known) in (
@@ -201,19 +208,19 @@ arms_kept f g s t blocks blocks' same arms = record {
         there.1,
         same.same_yes there.0 ∙ there.2,
         elim there.3 [
-          | inl enters ↦ inl (enters.0, ap (λ l. slice_get l 0) same.layout ∙ enters.1)
+          | inl enters ↦ inl (enters.0, same.entry ∙ enters.1)
           | inr edge ↦ inr (edge_kept f g s t blocks blocks' there.0 arm same.edges edge)
         ],
       );
-  entered = λ entry is sealed. same.joins _ ∙ arms.entered entry (ap (λ l. slice_get l 0) (sym same.layout) ∙ is) (sym (same.sealed entry) ∙ sealed);
+  entered = λ entry is sealed. same.joins _ ∙ arms.entered entry (sym same.entry ∙ is) (sym (same.sealed entry) ∙ sealed);
   led = λ b arm sealed at edge. same.joins arm ∙ arms.led b arm (sym (same.same_yes b) ∙ sealed) at (edge_before f g s t blocks blocks' b arm same.edges edge);
   leading = λ b i here.
       let old : (i < length f.insts) × (has_entry f.layout ≡ true) = arms.leading b i (subst (λ xs. Contains xs i) (same.edges.predecessors_same b) here) in
-      (omega (arith, old.0, same.insts_more), ap has_entry same.layout ∙ old.1);
+      (omega (arith, old.0, same.insts_more), entry_there g.layout f.layout same.entry ∙ old.1);
   leading_apart = λ b.
       subst (λ xs. Once (map (branch_block g) xs)) (sym (same.edges.predecessors_same b))
       (subst Once (sym (map_same (branch_block g) (branch_block f) (predecessors_of s b) (same.edges.block_same b))) (arms.leading_apart b));
-  entry_apart = λ entry is. same.edges.predecessors_same entry ∙ arms.entry_apart entry (ap (λ l. slice_get l 0) (sym same.layout) ∙ is);
+  entry_apart = λ entry is. same.edges.predecessors_same entry ∙ arms.entry_apart entry (sym same.entry ∙ is);
 }
 
 -- PARAMETERS ------------------------------------------------------------------------------------------------------

@@ -128,7 +128,7 @@ filled_with own f insts s p ps blocks b given before first sealed passing passed
     } in
     let arms : Arms g s after =
     arms_kept f g s s blocks after
-    (record { edges = edges; insts_more = omega (arith, count); layout = refl; same_yes = λ c. refl; sealed = λ c. refl; joins = λ arm. refl })
+    (record { edges = edges; insts_more = omega (arith, count); entry = refl; same_yes = λ c. refl; sealed = λ c. refl; joins = λ arm. refl })
     (arms_of own f s (p ∷ ps) blocks before) in
     record {
       sealed = arms.sealed;

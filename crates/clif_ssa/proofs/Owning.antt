@@ -82,7 +82,7 @@ inst_kept own f s blocks blocks' b shape types loc before extends counts sealed 
     let edges : SameEdges f g s s blocks blocks' = same_edges f g s s blocks blocks' old extends (λ c. refl) (λ c i here. counts (branch_block f i)) in
     record {
       arms =
-          arms_kept f g s s blocks blocks' (record { edges = edges; insts_more = extends.insts_more; layout = refl; same_yes = λ c. refl; sealed = sealed; joins = joins }) old;
+          arms_kept f g s s blocks blocks' (record { edges = edges; insts_more = extends.insts_more; entry = refl; same_yes = λ c. refl; sealed = sealed; joins = joins }) old;
       order =
           ordered_kept (with_own own b (length f.insts) shape) f g s s [] blocks blocks'
           (record {

@@ -207,7 +207,7 @@ again_arms own f s t blocks b before same seals was =
     (record {
       edges = seal_edges own f s t blocks blocks.sealed blocks.joins before same;
       insts_more = omega arith;
-      layout = refl;
+      entry = refl;
       same_yes = λ c.
           elim (cases_eq c b) [
             | inl at ↦ ap (λ d. is_yes (sealed_of t d)) at ∙ ap is_yes (sealed_now s t b seals) ∙ sym (ap (λ d. is_yes (sealed_of s d)) at ∙ was)

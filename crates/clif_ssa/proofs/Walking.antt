@@ -131,7 +131,7 @@ records_described own f s t completing blocks recorded before same_blocks same_p
     record { predecessors_same = same_predecessors; block_same = λ b i here. refl; target_same = λ b i k here. refl; count_same = λ b i here. refl } in
     let arms : Arms f t after =
     arms_kept f f s t blocks after
-    (record { edges = edges; insts_more = omega arith; layout = refl; same_yes = λ b. ap is_yes (same_blocks b); sealed = λ b. refl; joins = λ arm. refl })
+    (record { edges = edges; insts_more = omega arith; entry = refl; same_yes = λ b. ap is_yes (same_blocks b); sealed = λ b. refl; joins = λ arm. refl })
     (arms_of own f s completing blocks before) in
     let order : Ordered own f t completing after =
     ordered_kept own f f s t completing blocks after

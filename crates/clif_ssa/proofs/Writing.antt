@@ -1,5 +1,5 @@
 -- Items of the caller's: assignments, uses and instructions.
-use Rattle.std.proofs.Common.{◌≡◌, ◌≢◌, ℕ, suc, ◌<◌, ◌≤◌, ◌==◌, ◌&&◌, true, false, [], length, refl, ap, arith, sym, ◌∙◌, subst, ◌⊎◌, inl, inr}
+use Rattle.std.proofs.Common.{◌≡◌, ◌≢◌, ℕ, suc, ◌<◌, ◌≤◌, ◌==◌, ◌&&◌, true, false, [], length, refl, ap, arith, sym, ◌∙◌, subst, ◌⊎◌, inl, inr, List, ◌++◌, slice_get, ◌∷◌}
 use Rattle.std.specs.Prelude.{Option, Some, None, Contains, cond}
 use Rattle.std.proofs.lemmas.Grind.{common_steps}
 use Rattle.std.proofs.lemmas.Bool.{cases_eq}
@@ -70,7 +70,7 @@ shape_kept own f s t blocks blocks' before same =
     record {
       arms =
           arms_kept f f s t blocks blocks'
-          (record { edges = edges; insts_more = omega arith; layout = refl; same_yes = λ b. ap is_yes (same.entries b); sealed = same.sealed; joins = same.joins }) old;
+          (record { edges = edges; insts_more = omega arith; entry = refl; same_yes = λ b. ap is_yes (same.entries b); sealed = same.sealed; joins = same.joins }) old;
       order =
           ordered_kept own f f s t [] blocks blocks'
           (record {
@@ -118,22 +118,27 @@ block_params f b =
     (λ last. ap (λ (m : BlockNode). m.params) (sym (at_past f.blocks b empty_block (omega (arith, last)))))
     (λ past. ap (λ (m : BlockNode). m.params) (sym (at_past f.blocks b empty_block (omega (arith, past)))))
 
-pub block_described : (own : Own) (f : Body) (s : SsaState) (blocks : Blocks) → Describes own f s [] blocks → Describes own (with_block f) s [] blocks
-block_described own f s blocks before =
-    let g : Body = with_block f in
+-- a function with other blocks and another layout: each block has the parameters and instructions that it had, and the entry
+-- is the same
+pub blocks_described : (own : Own) (f : Body) (nodes : List BlockNode) (layout : List ℕ) (s : SsaState) (blocks : Blocks)
+    → ((b : ℕ) → (block_at (record f { blocks = nodes; layout = layout }) b).params ≡ (block_at f b).params)
+    → ((b : ℕ) → (block_at (record f { blocks = nodes; layout = layout }) b).insts ≡ (block_at f b).insts)
+    → slice_get layout 0 ≡ entry_of f → Describes own f s [] blocks → Describes own (record f { blocks = nodes; layout = layout }) s [] blocks
+blocks_described own f nodes layout s blocks same_params same_insts entry before =
+    let g : Body = record f { blocks = nodes; layout = layout } in
     let extends : Extends f g blocks blocks =
     record { values_more = omega arith; insts_more = omega arith; inst_same = λ i here. refl; definition_same = λ v here. refl } in
     let old : Arms f s blocks = arms_of own f s [] blocks before in
     let edges : SameEdges f g s s blocks blocks = same_edges f g s s blocks blocks old extends (λ b. refl) (λ b i here. refl) in
     let arms : Arms g s blocks =
-    arms_kept f g s s blocks blocks (record { edges = edges; insts_more = omega arith; layout = refl; same_yes = λ b. refl; sealed = λ b. refl; joins = λ arm. refl }) old in
+    arms_kept f g s s blocks blocks (record { edges = edges; insts_more = omega arith; entry = entry; same_yes = λ b. refl; sealed = λ b. refl; joins = λ arm. refl }) old in
     let order : Ordered own g s [] blocks =
     ordered_kept own f g s s [] blocks blocks
     (record {
       edges = edges;
       passed = same_passed f g s blocks blocks old extends;
       kinds = same_kinds blocks blocks (λ v. refl);
-      params = block_params f;
+      params = same_params;
       homes = λ v. refl;
       entries = λ b. refl;
       arguments = λ v arm. refl;
@@ -165,8 +170,11 @@ block_described own f s blocks before =
       waiting_order = order.waiting_order;
       completing_order = order.completing_order;
       passes = order.passes;
-      instructions = λ b. instructions_kept f g blocks blocks b (own.insts b) extends (block_insts f b) (before.instructions b);
+      instructions = λ b. instructions_kept f g blocks blocks b (own.insts b) extends (same_insts b) (before.instructions b);
     }
+
+pub block_described : (own : Own) (f : Body) (s : SsaState) (blocks : Blocks) → Describes own f s [] blocks → Describes own (with_block f) s [] blocks
+block_described own f s blocks before = blocks_described own f (f.blocks ++ empty_block ∷ []) f.layout s blocks (block_params f) (block_insts f) refl before
 
 -- THE FIRST TABLES ------------------------------------------------------------------------------------------------
 

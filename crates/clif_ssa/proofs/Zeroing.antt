@@ -92,7 +92,7 @@ zero_described own f s completing blocks b x ty firm before there =
     let old_arms : Arms f s blocks = arms_of own f s completing blocks before in
     let edges : SameEdges f g s s blocks after = same_edges f g s s blocks after old_arms extends (λ c. refl) (λ c i here. refl) in
     let arms : Arms g s after =
-    arms_kept f g s s blocks after (record { edges = edges; insts_more = extends.insts_more; layout = refl; same_yes = λ c. refl; sealed = λ c. refl; joins = λ arm. refl }) old_arms in
+    arms_kept f g s s blocks after (record { edges = edges; insts_more = extends.insts_more; entry = refl; same_yes = λ c. refl; sealed = λ c. refl; joins = λ arm. refl }) old_arms in
     let order : Ordered own g s completing after =
     ordered_kept own f g s s completing blocks after
     (record {
@@ -441,7 +441,7 @@ alias_described own f s p ps blocks z b can sealed before =
     let old_arms : Arms f s blocks = arms_of own f s (p ∷ ps) blocks before in
     let edges : SameEdges f g s s blocks after = same_edges f g s s blocks after old_arms extends (λ c. refl) (λ c i here. refl) in
     let arms : Arms g s after =
-    arms_kept f g s s blocks after (record { edges = edges; insts_more = extends.insts_more; layout = refl; same_yes = λ c. refl; sealed = λ c. refl; joins = λ arm. refl }) old_arms in
+    arms_kept f g s s blocks after (record { edges = edges; insts_more = extends.insts_more; entry = refl; same_yes = λ c. refl; sealed = λ c. refl; joins = λ arm. refl }) old_arms in
     let order : Ordered own g s ps after = alias_order own f s p ps blocks z b can sealed before edges in
     record {
       sealed = arms.sealed;

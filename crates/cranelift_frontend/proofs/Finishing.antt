@@ -89,17 +89,6 @@ none_in_sealed (No pending) is = absurd (apart is)
     apart : false ≡ true → ⊥
     apart h = cc
 
--- the entry stands in the layout
-entry_stands : (layout : List ℕ) (e : ℕ) → slice_get layout 0 ≡ Some e → stands_in e layout ≡ true
-entry_stands [] e is = absurd (none e is)
-  where
-    none : (x : ℕ) → None ≡ Some x → ⊥
-    none x h = cc
-entry_stands (b ∷ layout) e is = rw (equal b e (same_Some b e is)) refl
-  where
-    equal : (x y : ℕ) → x ≡ y → (x == y) ≡ true
-    equal x y h = grind (arith, common_steps)
-
 module _ (declared : SignatureShape) (calls : List AnsweredCall) (f : Body) (c : ContextState) (p : Option ℕ) (stands : StandsIn declared calls f c p)
     (consistent : IsConsistent f) (none : first_fault c 0 (length f.blocks) ≡ None) where
   -- a block in which something was made is sealed
@@ -149,7 +138,7 @@ module _ (declared : SignatureShape) (calls : List AnsweredCall) (f : Body) (c :
   pub is_finished : IsFinished calls f c.ssa
   is_finished = record {
     none_waits = none_waits;
-    entry_sealed = λ entry is. begun_sealed entry (stands.begun entry (entry_stands f.layout entry is));
+    entry_sealed = λ entry is. begun_sealed entry (stands.begun entry is);
     filled_sealed = filled_sealed;
   }
 

@@ -14,11 +14,13 @@ pub mod LedgerVariables
 pub mod LedgerEnds
 pub mod Declaring
 pub mod Growing
+pub mod Laid
 pub mod Named
 mod Appending
 pub mod Statuses
 pub mod Standing
 pub mod StandingResults
+pub mod Marking
 pub mod Finishing
 pub mod StandingBuilt
 pub mod StandingShaped

@@ -7,7 +7,7 @@ use Rattle.clif_types.specs.declared.types.«Type».{«Type»}
 use Rattle.clif_types.specs.Signature.{SignatureShape}
 use Rattle.clif_ir.specs.Body.{Body, empty_body, value_at}
 use Rattle.clif_ir.specs.Consistent.{IsConsistent}
-use Rattle.clif_ir.specs.Changes.{with_block, inserted_in}
+use Rattle.clif_ir.specs.Changes.{with_block, inserted_in, with_layout}
 use Rattle.clif_ir.specs.Reading.{stands_in}
 use Rattle.clif_ssa.specs.declared.tables.Cell.{Cell}
 use Rattle.clif_ssa.specs.Ssa.{record_of, sealed_of, predecessors_of, Records, SameBlocks, SamePredecessors}
@@ -51,24 +51,17 @@ begins_not_empty c d blocks begins b was empty = by (stands_in b blocks) refl (s
     by false is e (inl not) = not e
     by false is e (inr there) = apart (sym there ∙ is)
 
--- a block of the layout into which one was brought was there, or is that one
-pub inserted_cases : (f : Body) (block b : ℕ) → stands_in b (inserted_in f block).layout ≡ true → (stands_in b f.layout ≡ true) ⊎ (b ≡ block)
-inserted_cases f block b stands = by (stands_in block f.layout) refl
+-- the first block of a layout into which one was brought was the first, or is that one
+pub first_cases : (f : Body) (block b : ℕ) → slice_get (inserted_in f block).layout 0 ≡ Some b → (slice_get f.layout 0 ≡ Some b) ⊎ (b ≡ block)
+first_cases f block b is = by (stands_in block f.layout) is
   where
-    split : (x y : Bool) → (x || y) ≡ true → (x ≡ true) ⊎ (y ≡ true)
-    split true y h = inl refl
-    split false y h = inr h
+    pushed : (layout : List ℕ) → slice_get (layout ++ block ∷ []) 0 ≡ Some b → (slice_get layout 0 ≡ Some b) ⊎ (b ≡ block)
+    pushed [] h = inr (sym (same_Some block b h))
+    pushed (x ∷ layout) h = inl h
 
-    push : (stands_in b f.layout ≡ true) ⊎ ((block == b) ≡ true) → (stands_in b f.layout ≡ true) ⊎ (b ≡ block)
-    push (inl old) = inl old
-    push (inr same) = inr (sym (eqb-true block b same))
-
-    by : (t : Bool) → stands_in block f.layout ≡ t → (stands_in b f.layout ≡ true) ⊎ (b ≡ block)
-    by true is = inl (sym (ap (stands_in b) (ap (λ (g : Body). g.layout) (inserted-twice f block is))) ∙ stands)
-    by false is = push (split (stands_in b f.layout) (block == b) (sym (stands-push b block f.layout) ∙ ap (stands_in b) (sym (appended is)) ∙ stands))
-      where
-        appended : stands_in block f.layout ≡ false → (inserted_in f block).layout ≡ f.layout ++ block ∷ []
-        appended absent = ap (λ (t : Bool). (if t then f else record f { layout = f.layout ++ block ∷ [] }).layout) absent
+    by : (t : Bool) → slice_get (if t then f else with_layout f block).layout 0 ≡ Some b → (slice_get f.layout 0 ≡ Some b) ⊎ (b ≡ block)
+    by true h = inl h
+    by false h = pushed f.layout h
 
 module _ (declared : SignatureShape) (calls : List AnsweredCall) (f : Body) (c : ContextState) (p : Option ℕ) (stands : StandsIn declared calls f c p) where
   -- the current block has a name
@@ -92,7 +85,7 @@ module _ (declared : SignatureShape) (calls : List AnsweredCall) (f : Body) (c :
     ledger = ledger;
     carries = subst (λ (h : Body). Carries (calls ++ record { request = CreateBlock; numbers = numbers } ∷ []) h d.ssa) (sym is)
         (carries_created calls f c.ssa stands.carries d.ssa numbers stands.ledger.block_count (λ v b. ap (λ (rows : List (List Cell)). record_of (record c.ssa { records = rows }) v b) records) same leads);
-    begun = λ b there empty. stands.begun b (ap (stands_in b) (ap (λ (h : Body). h.layout) (sym is)) ∙ there) (ap (λ (s : List BlockStatus). status_of (record c { status = s }) b) (sym status) ∙ empty);
+    begun = λ b there empty. stands.begun b (ap (λ (h : Body). slice_get h.layout 0) (sym is) ∙ there) (ap (λ (s : List BlockStatus). status_of (record c { status = s }) b) (sym status) ∙ empty);
   }
 
   pub stands_switched : (q : Option ℕ) (name : Name) → LedgerAgrees (calls ++ record { request = SwitchToBlock name; numbers = [] } ∷ []) (ledger_of (calls ++ record { request = SwitchToBlock name; numbers = [] } ∷ [])) f c q
@@ -116,7 +109,7 @@ module _ (declared : SignatureShape) (calls : List AnsweredCall) (f : Body) (c :
     signature = ap (λ (h : Body). h.signature) seals.constructs.same ∙ stands.signature;
     ledger = ledger;
     carries = carries_sealed calls f c.ssa stands.carries g d.ssa name [] consistent seals.keeps seals.structured seals.constructs layout seals.predecessors;
-    begun = λ b there. begins_not_empty c d told begins b (inl (stands.begun b (ap (stands_in b) (sym layout) ∙ there)));
+    begun = λ b there. begins_not_empty c d told begins b (inl (stands.begun b (ap (λ (blocks : List ℕ). slice_get blocks 0) (sym layout) ∙ there)));
   }
 
   -- the current block, which has no terminator, has none in the ledger
@@ -168,10 +161,10 @@ module _ (declared : SignatureShape) (calls : List AnsweredCall) (f : Body) (c :
         ledger = ledger;
         carries = carries_used calls f c.ssa stands.carries consistent block current.0 current.1 (current_unfilled block current.0 current.1 open_block) g d.ssa variable value ty of_ledger
             is_use.keeps (λ types own same before. (is_use.structured types own (sym same) before).0) is_use.constructs layout is_use.predecessors answer.1.0;
-        begun = λ b there. begins_not_empty c d (block ∷ told) begins b (was b (inserted_cases f block b (ap (stands_in b) (sym layout) ∙ there)));
+        begun = λ b there. begins_not_empty c d (block ∷ told) begins b (was b (first_cases f block b (ap (λ (blocks : List ℕ). slice_get blocks 0) (sym layout) ∙ there)));
       }
     where
-      was : (b : ℕ) → (stands_in b f.layout ≡ true) ⊎ (b ≡ block) → (status_of c b ≢ Empty) ⊎ (stands_in b (block ∷ told) ≡ true)
+      was : (b : ℕ) → (slice_get f.layout 0 ≡ Some b) ⊎ (b ≡ block) → (status_of c b ≢ Empty) ⊎ (stands_in b (block ∷ told) ≡ true)
       was b (inl old) = inl (stands.begun b old)
       was b (inr same) = inr (or_left (block == b) (stands_in b told) (eq-eqb block b (sym same)))
 
@@ -181,11 +174,8 @@ stands_begins f c p function context ledger = record {
   signature = refl;
   ledger = ledger;
   carries = subst (λ (g : Body). Carries [] g c.ssa) (sym function) (subst (λ (d : ContextState). Carries [] (empty_body f.name f.signature) d.ssa) (sym context) (carries_nothing f.name f.signature));
-  begun = λ b there empty. absurd (nowhere b (sym (ap (λ (g : Body). stands_in b g.layout) function) ∙ there));
+  begun = λ b there empty. absurd (none-some b (sym (ap (λ (g : Body). slice_get g.layout 0) function) ∙ there));
 }
-  where
-    nowhere : (b : ℕ) → stands_in b [] ≡ true → ⊥
-    nowhere b h = cc
 
 -- the current block exists
 pub current_exists : (b : FunctionBuilder) → HasCurrent b → (block : ℕ) → b.position ≡ Some block → block < length b.func.now.blocks

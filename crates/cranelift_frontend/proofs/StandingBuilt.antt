@@ -29,7 +29,7 @@ use Rattle.cranelift_frontend.specs.Builder.{AppendsIn, status_after, with_appen
 use Rattle.cranelift_frontend.specs.Ledger.{LedgerAgrees, NamesArgument, NamesArguments, NamesEdge, NamesEdges, block_name, ledger_of}
 use Rattle.cranelift_frontend.specs.StandsFor.{StandsIn}
 use Rattle.cranelift_frontend.proofs.LedgerNames.{IsNumbered, named-block}
-use Rattle.cranelift_frontend.proofs.Standing.{begun_not_empty, inserted_cases}
+use Rattle.cranelift_frontend.proofs.Standing.{begun_not_empty, first_cases}
 
 -- a name that has a number was answered before
 pub named_earlier : (calls : List AnsweredCall) (name : Name) (number : ℕ) → number_of calls name ≡ Some number → IsEarlier calls name
@@ -146,7 +146,7 @@ appended_not_empty shape status = by (is_terminator shape)
 
 module _ (declared : SignatureShape) (calls : List AnsweredCall) (f g : Body) (c d : ContextState) (p : Option ℕ) (stands : StandsIn declared calls f c p)
     (block : ℕ) (shape : InstructionData) (ty : «Type») (inst : ℕ) (appends : AppendsIn f c g d block shape ty inst) where
-  was : (b : ℕ) → (stands_in b f.layout ≡ true) ⊎ (b ≡ block) → (status_of c b ≢ Empty) ⊎ (b ≡ block)
+  was : (b : ℕ) → (slice_get f.layout 0 ≡ Some b) ⊎ (b ≡ block) → (status_of c b ≢ Empty) ⊎ (b ≡ block)
   was b (inl old) = inl (stands.begun b old)
   was b (inr same) = inr same
 
@@ -159,5 +159,5 @@ module _ (declared : SignatureShape) (calls : List AnsweredCall) (f g : Body) (c
     carries = subst (λ (h : Body). Carries (calls ++ call ∷ []) h d.ssa) (sym appends.function) carries;
     begun = λ b stays.
         not_empty c d block (status_after shape (status_of c block)) appends.status (appended_not_empty shape (status_of c block)) b
-        (was b (inserted_cases f block b (ap (stands_in b) (sym (ap (λ (h : Body). h.layout) appends.function)) ∙ stays)));
+        (was b (first_cases f block b (ap (λ (h : Body). slice_get h.layout 0) (sym appends.function) ∙ stays)));
   }

@@ -197,11 +197,6 @@ stands_shaped declared calls f g c d p instruction shape ty (Ok inst) block stan
 
 -- CALLS BY NAME ---------------------------------------------------------------------------------------------------------
 
--- the shape may be told in another way
-pub has_same_shape : (calls : List AnsweredCall) (f : Body) (instruction : Instruction Name Name) (shape told : InstructionData) (ty : «Type») → told ≡ shape
-    → HasShape calls f instruction shape ty → HasShape calls f instruction told ty
-has_same_shape calls f instruction shape told ty same has = subst (λ (s : InstructionData). HasShape calls f instruction s ty) (sym same) has
-
 -- an instruction whose result is a value
 pub value_stands : {E : Type 0} (declared : SignatureShape) (calls : List AnsweredCall) (old new : FunctionBuilder) (instruction : Instruction Name Name) (shape : InstructionData)
     (ty : «Type») (r : Result ℕ E) → StandsFor declared calls old → IsConsistent old.func.now → HasShape calls old.func.now instruction shape ty → HasCurrent old

@@ -1,9 +1,8 @@
 -- When a builder stands for a list of calls with their answers. From it follows that the unfinished function reads right
 -- on runs and bits (`Laws`), and that the finished function means what the list's program means. Own.
-use Rattle.std.specs.Prelude.{◌≡◌, ◌≢◌, ℕ, List, Option, true}
+use Rattle.std.specs.Prelude.{◌≡◌, ◌≢◌, ℕ, List, Option, Some, slice_get}
 use Rattle.clif_types.specs.Signature.{SignatureShape}
 use Rattle.clif_ir.specs.Body.{Body}
-use Rattle.clif_ir.specs.Reading.{stands_in}
 use Rattle.clif_meaning.specs.Request.{AnsweredCall}
 use Rattle.clif_simulation.specs.Carries.{Carries}
 pub use Rattle.clif_simulation.specs.Carries.{NothingLeads}
@@ -22,8 +21,8 @@ pub record StandsIn (declared : SignatureShape) (calls : List AnsweredCall) (f :
   -- each block's instructions are the program's, in order, operands being the answers of the names, with only zeros
   -- before them; and where no branch names the entry the state on paths is sound
   pub carries : Carries calls f c.ssa
-  -- in each block of the layout something was made
-  pub begun : (block : ℕ) → stands_in block f.layout ≡ true → status_of c block ≢ Empty
+  -- in the entry, the first block of the layout, something was made
+  pub begun : (entry : ℕ) → slice_get f.layout 0 ≡ Some entry → status_of c entry ≢ Empty
 
 -- the builder stands for the list of calls
 abbrev pub StandsFor : SignatureShape → List AnsweredCall → FunctionBuilder → Type 0

@@ -113,7 +113,7 @@ impl FunctionBuilderContext {
     ghost use Rattle.clif_ssa.specs.Running.{stage, found};
     ghost use Rattle.clif_ssa.specs.Sealing.{SealsByLookUp};
     ghost use Rattle.clif_ssa.specs.Ssa.{record_of, sealed_of, predecessors_of, completed, HasMore, IsLocal, NamesExist, Records, RecordsStay, SameBlocks, SamePredecessors, SameRecords, Seals, Waits, Zeroes};
-    ghost use Rattle.clif_ssa.specs.Limits.{IsFull, Takes};
+    ghost use Rattle.clif_ssa.specs.Limits.{IsFull, StaysBelow, StaysBelowFor, Takes, TakesByRecords};
     ghost use Rattle.clif_ssa.specs.Tables.{is_yes, pending_of};
 
     /// A context for a first function.
@@ -251,6 +251,8 @@ impl FunctionBuilderContext {
         ensures variables { self.new.variables ≡ self.old.variables }
         ensures full { result ≡ Err BuildError.Full → IsFull func.new }
         ensures takes { IsLocal self.old.ssa variable block → result ≢ Err BuildError.Memory → Takes func.old func.new 2 1 }
+        ensures takes_by_records { result ≢ Err BuildError.Memory → TakesByRecords func.old self.old.ssa func.new self.new.ssa }
+        ensures below { StaysBelowFor variable func.old self.old.ssa self.new.ssa }
         ensures never_failed { result ≢ Err BuildError.Failed }
     {
         let (value, side_effects) = self.ssa.use_var(func, variable, ty, block)?;
@@ -273,6 +275,8 @@ impl FunctionBuilderContext {
         ensures variables { self.new.variables ≡ self.old.variables }
         ensures full { result ≡ Err BuildError.Full → IsFull func.new }
         ensures takes { predecessors_of self.old.ssa block ≡ [] → result ≢ Err BuildError.Memory → Takes func.old func.new 0 0 }
+        ensures takes_by_records { result ≢ Err BuildError.Memory → TakesByRecords func.old self.old.ssa func.new self.new.ssa }
+        ensures below { StaysBelow func.old self.old.ssa self.new.ssa }
         ensures never_failed { result ≢ Err BuildError.Failed }
     {
         let side_effects = self.ssa.seal_block(block, func)?;

@@ -1,6 +1,7 @@
 //! A front end's way to Cranelift's IR: cranelift-frontend 0.137.1, proved.
 #![tactic(auto)]
 
+pub mod blocks;
 pub mod builder;
 pub mod context;
 pub mod error;

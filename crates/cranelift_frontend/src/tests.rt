@@ -2,6 +2,7 @@
 //! texts of errors.
 #![tactic(auto)]
 
+mod branches;
 mod by_calls;
 
 ghost use Rattle.std.specs.Prelude.{◌≡◌, ◌<◌, length, IsTrue, IfOk, Some};

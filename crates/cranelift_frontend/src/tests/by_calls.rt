@@ -5,7 +5,6 @@ ghost use Rattle.std.specs.Prelude.{◌≡◌, ◌<◌, length, slice_get, IfOk,
 ghost use Rattle.clif_ir.specs.Body.{empty_body};
 ghost use Rattle.cranelift_frontend.specs.Builder.{HasCurrent};
 ghost use Rattle.cranelift_frontend.specs.Context.{status_of};
-ghost use Rattle.cranelift_frontend.specs.Growth.{RecordsExist};
 
 use super::CONFIG;
 use crate::context::BlockStatus;
@@ -19,7 +18,7 @@ use std::process::Abort;
 use std::test::Fail;
 
 // The function `name` without parameters, which returns an I32.
-fn returning_i32(alloc: Global, name: &str) -> Result<Function, AllocError>
+pub(super) fn returning_i32(alloc: Global, name: &str) -> Result<Function, AllocError>
     ensures { IfOk result (λ func. func ≡ empty_body func.name func.signature) }
 {
     let name = UserFuncName::testcase(String::from_str(alloc, name)?);
@@ -31,8 +30,6 @@ fn returning_i32(alloc: Global, name: &str) -> Result<Function, AllocError>
 // Makes a block, which becomes the current one.
 fn first_block(rt: &impl Abort, builder: &mut FunctionBuilder<'_>) -> Result<Block, BuildError>
     requires no_block { builder.old.position ≡ None }
-    requires recorded { RecordsExist builder.old.func.now builder.old.ctx.now.ssa }
-    ensures recorded { OnOk result (RecordsExist builder.new.func.now builder.new.ctx.now.ssa) }
     ensures current { OnOk result (HasCurrent builder.new) }
     ensures position { IfOk result (λ block. builder.new.position ≡ Some block) }
     ensures variables { builder.new.ctx.now.variables ≡ builder.old.ctx.now.variables }
@@ -50,10 +47,8 @@ fn add_seven(
     x: Variable,
 ) -> Result<(), BuildError>
     requires current { HasCurrent builder.old }
-    requires recorded { RecordsExist builder.old.func.now builder.old.ctx.now.ssa }
     requires declared { x < length builder.old.ctx.now.variables }
     requires typed { slice_get builder.old.ctx.now.variables x ≡ Some I32 }
-    ensures recorded { OnOk result (RecordsExist builder.new.func.now builder.new.ctx.now.ssa) }
     ensures current { OnOk result (HasCurrent builder.new) }
     ensures variables { OnOk result (builder.new.ctx.now.variables ≡ builder.old.ctx.now.variables) }
 {
@@ -67,7 +62,6 @@ fn add_seven(
 // return x
 fn return_variable(builder: &mut FunctionBuilder<'_>, x: Variable) -> Result<(), BuildError>
     requires current { HasCurrent builder.old }
-    requires recorded { RecordsExist builder.old.func.now builder.old.ctx.now.ssa }
     requires declared { x < length builder.old.ctx.now.variables }
 {
     let after = builder.use_var(x)?;
@@ -112,7 +106,6 @@ fn first_example(rt: HostRuntime) -> Result<(), Fail> {
 // A first block, which is filled, and the answers of the queries on the way.
 fn filled_block(rt: &impl Abort, builder: &mut FunctionBuilder<'_>) -> Result<Block, BuildError>
     requires no_block { builder.old.position ≡ None }
-    requires recorded { RecordsExist builder.old.func.now builder.old.ctx.now.ssa }
     ensures position { IfOk result (λ block. builder.new.position ≡ Some block) }
     ensures filled { IfOk result (λ block. status_of builder.new.ctx.now block ≡ BlockStatus.Filled) }
 {

@@ -12,6 +12,7 @@ use Rattle.clif_script.specs.Requests.{name_of}
 use Rattle.clif_script.specs.Ready.{AnswerExists, value_of, is_open}
 use Rattle.clif_script.proofs.ReadyLaws.{ready-more, value-found, value-exists, answers-exist}
 use Rattle.clif_script.proofs.Conditions
+use Rattle.clif_script.proofs.Limits.{one-assigned}
 use Rattle.clif_script.proofs.make.def_var.Goals as goal
 
 pub value_named-requires : goal.value_named-requires
@@ -88,3 +89,14 @@ returns-clause-judged c = λ calls given.
     let declared = ap (λ (types : List «Type»). slice_get types c.args.variable) (sym c.requires.types) ∙ sym c.type_of.ensures ∙ c.in-Some-type_of.is in
     let holds : c.may_define.result ≡ true = first_of (search rules, grind (arith, common_steps)) in
     Conditions.define-some calls c.args.builder.now c.args.answers.now ready c.args.variable c.args.name c.in-Some.value c.in-Some-type_of.ty found declared ∙ sym c.may_define.ensures ∙ holds
+
+pub returns-clause-one_call : goal.returns-clause-one_call
+returns-clause-one_call c =
+    let old = c.args.builder.now in
+    let new = c.def_var.new.self in
+    let done = c.in_ok-def_var.ensures in
+    let declared = ap (λ (types : List «Type»). slice_get types c.args.variable) (sym c.requires.types) ∙ sym c.type_of.ensures ∙ c.in-Some-type_of.is in
+    let holds : c.may_define.result ≡ true = first_of (search rules, grind (arith, common_steps)) in
+    let current = Conditions.has-current c.requires.ready.1 old c.args.answers.now c.requires.ready.2 (and_parts _ _ (sym c.may_define.ensures ∙ holds)).0 in
+    one-assigned old new c.args.variable c.in-Some.value current done.function done.records done.sealed done.variables
+    (slice_get_within old.ctx.now.variables c.args.variable c.in-Some-type_of.ty declared)

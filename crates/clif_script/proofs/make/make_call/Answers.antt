@@ -65,3 +65,33 @@ pub returns-in-Iadd-clause-ready : goal.returns-in-Iadd-clause-ready
 returns-in-Iadd-clause-ready c = λ declared calls ready.
     let done = c.iadd.ensures.ready declared calls ready in
     subst (λ (x : Call). IfOk c.iadd.result (IsReadyAfter declared calls (request_of (ledger_of calls) x) c.iadd.new.builder c.args.answers.now)) (sym c.in-Iadd.is) done
+
+pub returns-in-Isub-clause-judged : goal.returns-in-Isub-clause-judged
+returns-in-Isub-clause-judged c = λ calls given.
+    let done = c.isub.ensures.judged calls given in
+    subst (λ (x : Call). IsJudged (allows (ledger_of calls) (request_of (ledger_of calls) x)) c.isub.result) (sym c.in-Isub.is) done
+
+pub returns-in-Isub-clause-ready : goal.returns-in-Isub-clause-ready
+returns-in-Isub-clause-ready c = λ declared calls ready.
+    let done = c.isub.ensures.ready declared calls ready in
+    subst (λ (x : Call). IfOk c.isub.result (IsReadyAfter declared calls (request_of (ledger_of calls) x) c.isub.new.builder c.args.answers.now)) (sym c.in-Isub.is) done
+
+pub returns-in-Jump-clause-judged : goal.returns-in-Jump-clause-judged
+returns-in-Jump-clause-judged c = λ calls given.
+    let done = c.jump.ensures.judged calls given in
+    subst (λ (x : Call). IsJudged (allows (ledger_of calls) (request_of (ledger_of calls) x)) c.jump.result) (sym c.in-Jump.is) done
+
+pub returns-in-Jump-clause-ready : goal.returns-in-Jump-clause-ready
+returns-in-Jump-clause-ready c = λ declared calls ready.
+    let done = c.jump.ensures.ready declared calls ready in
+    subst (λ (x : Call). IfOk c.jump.result (IsReadyAfter declared calls (request_of (ledger_of calls) x) c.jump.new.builder c.args.answers.now)) (sym c.in-Jump.is) done
+
+pub returns-in-Brif-clause-judged : goal.returns-in-Brif-clause-judged
+returns-in-Brif-clause-judged c = λ calls given.
+    let done = c.brif.ensures.judged calls given in
+    subst (λ (x : Call). IsJudged (allows (ledger_of calls) (request_of (ledger_of calls) x)) c.brif.result) (sym c.in-Brif.is) done
+
+pub returns-in-Brif-clause-ready : goal.returns-in-Brif-clause-ready
+returns-in-Brif-clause-ready c = λ declared calls ready.
+    let done = c.brif.ensures.ready declared calls ready in
+    subst (λ (x : Call). IfOk c.brif.result (IsReadyAfter declared calls (request_of (ledger_of calls) x) c.brif.new.builder c.args.answers.now)) (sym c.in-Brif.is) done

@@ -1,13 +1,13 @@
-use Rattle.std.proofs.Common.{[], sym, ◌∙◌, refl}
+use Rattle.std.proofs.Common.{[], arith, sym, ◌∙◌, refl}
 use Rattle.std.proofs.lemmas.Bool.{not-true}
 use Rattle.std.proofs.lemmas.Result.{err_from_is_err_and}
-use Rattle.clif_ssa.specs.Tables.{is_yes, pending_of}
+use Rattle.clif_ssa.specs.Tables.{is_yes}
 use Rattle.clif_ssa.specs.Ssa.{sealed_of}
 use Rattle.clif_script.specs.declared.script.Answer.TheVariants as answer
 use Rattle.clif_script.specs.Requests.{name_of}
 use Rattle.clif_script.proofs.ReadyLaws.{ready-more, block-found, block-there}
 use Rattle.clif_script.proofs.Conditions
-use Rattle.clif_script.proofs.Limits.{one-sealed}
+use Rattle.clif_script.proofs.Limits.{full-told-by, one-constructed, nearly-taken, takes-less}
 use Rattle.clif_script.proofs.make.seal_block.Goals as goal
 
 pub returns-in_default-clause-judged : goal.returns-in_default-clause-judged
@@ -47,5 +47,19 @@ returns-clause-judged c = λ calls given.
 
 pub returns-clause-one_call : goal.returns-clause-one_call
 returns-clause-one_call c =
+    let old = c.args.builder.now in
+    let new = c.seal_block.new.self in
     let done = c.in_ok-seal_block.ensures in
-    one-sealed c.args.builder.now c.seal_block.new.self (pending_of (sealed_of c.args.builder.now.ctx.now.ssa c.in-Some.block)) done.function done.grows done.variables
+    let sealing = done.is_sealing in
+    one-constructed old new (done.takes_by_records (λ same. cc)) done.below sealing.1.constructs.block_count done.variables done.grows sealing.1.predecessors
+    (λ none. takes-less old.func.now new.func.now 0 0 2 1 (omega arith) (omega arith) (done.takes (none c.in-Some.block) (λ same. cc)))
+
+pub returns-in_err-seal_block-clause-full : goal.returns-in_err-seal_block-clause-full
+returns-in_err-seal_block-clause-full c = λ full.
+    let old = c.args.builder.now in
+    let new = c.seal_block.new.self in
+    let done = c.seal_block.ensures in
+    let p = err_from_is_err_and c.from_residual.result c.from_residual.ensures.1 in
+    let told = full-told-by c.seal_block.result c.from_residual.result p.0 c.in_err-seal_block.field-0.0 c.in_err-seal_block.was p.1 p.2 full in
+    nearly-taken old new (done.takes_by_records told.1) done.below
+    (λ none. takes-less old.func.now new.func.now 0 0 2 1 (omega arith) (omega arith) (done.takes (none c.in-Some.block) told.1)) (done.full told.0)

@@ -8,7 +8,7 @@ use Rattle.clif_script.specs.declared.script.Answer.TheVariants as answer
 use Rattle.clif_script.specs.Ready.{can_use}
 use Rattle.clif_script.proofs.ReadyLaws.{ready-more}
 use Rattle.clif_script.proofs.Conditions
-use Rattle.clif_script.proofs.Limits.{one-used}
+use Rattle.clif_script.proofs.Limits.{one-constructed, used-here, full-told-by, local-here, nearly-taken}
 use Rattle.clif_script.proofs.make.use_var.Goals as goal
 
 pub returns-then-not-may_use-clause-judged : goal.returns-then-not-may_use-clause-judged
@@ -53,9 +53,20 @@ returns-clause-judged c = λ calls given.
 
 pub returns-clause-one_call : goal.returns-clause-one_call
 returns-clause-one_call c =
+    let old = c.args.builder.now in
+    let new = c.use_var.new.self in
     let done = c.in_ok-value.ensures in
     let holds : c.may_use.result ≡ true = first_of (search rules, grind (arith, common_steps)) in
-    one-used c.args.builder.now c.use_var.new.self c.args.variable c.in_ok-value.value
-    (Conditions.has-current c.requires.ready.1 c.args.builder.now c.args.answers.now c.requires.ready.2 (and_parts _ _ (sym c.may_use.ensures ∙ holds)).0)
-    (Conditions.declared-there c.args.builder.now c.args.types.now c.args.builder.now.ctx.now.variables c.args.variable c.requires.types (sym c.may_use.ensures ∙ holds))
-    done.uses (done.takes (λ same. cc)) done.grows done.variables
+    let current = Conditions.has-current c.requires.ready.1 old c.args.answers.now c.requires.ready.2 (and_parts _ _ (sym c.may_use.ensures ∙ holds)).0 in
+    let declared = Conditions.declared-there old c.args.types.now old.ctx.now.variables c.args.variable c.requires.types (sym c.may_use.ensures ∙ holds) in
+    let one = used-here old new c.args.variable c.in_ok-value.value current declared done.is_use in
+    one-constructed old new (done.takes_by_records (λ same. cc)) done.below one.0 done.variables done.grows one.1
+    (λ none. done.takes (local-here old c.args.variable none) (λ same. cc))
+
+pub returns-in_err-value-clause-full : goal.returns-in_err-value-clause-full
+returns-in_err-value-clause-full c = λ full.
+    let old = c.args.builder.now in
+    let done = c.use_var.ensures in
+    let p = err_from_is_err_and c.from_residual.result c.from_residual.ensures.1 in
+    let told = full-told-by c.use_var.result c.from_residual.result p.0 c.in_err-value.field-0.0 c.in_err-value.was p.1 p.2 full in
+    nearly-taken old c.use_var.new.self (done.takes_by_records told.1) done.below (λ none. done.takes (local-here old c.args.variable none) told.1) (done.full told.0)

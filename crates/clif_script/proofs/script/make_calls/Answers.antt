@@ -5,10 +5,11 @@ use Rattle.cranelift_frontend.specs.Ledger.{ledger_of}
 use Rattle.clif_script.specs.declared.script.Answer.{Answer}
 use Rattle.clif_script.specs.Ready.{IsReady}
 use Rattle.clif_script.specs.Requests.{request_of}
-use Rattle.std.specs.Prelude.{ℕ, Err, Result}
+use Rattle.std.specs.Prelude.{ℕ, length, Err, Result}
 use Rattle.clif_script.specs.declared.script.ReplayError.{ReplayError}
 use Rattle.clif_script.specs.declared.script.ReplayError.TheVariants.{Full, Misuse}
-use Rattle.clif_script.proofs.Limits.{within-more}
+use Rattle.clif_script.proofs.Leading.{straight-leads}
+use Rattle.clif_script.proofs.Limits.{within-more, full-late, full-late-straight}
 use Rattle.clif_script.proofs.Verdicts.{full-told, replayed-more, misuse-told}
 use Rattle.clif_script.proofs.script.make_calls.Goals as goal
 
@@ -44,6 +45,9 @@ returns-in-Err-clause-judged c = λ i told.
     same : (e : ReplayError) (k : ℕ) → ◌≡◌ {A = Result (Unit {0}) ReplayError} (Err e) (Err (Misuse k)) → e ≡ Misuse k
     same e k h = cc
 
+same-full : (e : ReplayError) → ◌≡◌ {A = Result (Unit {0}) ReplayError} (Err e) (Err Full) → e ≡ Full
+same-full e h = cc
+
 pub returns-in-Err-clause-table_full : goal.returns-in-Err-clause-table_full
 returns-in-Err-clause-table_full c = λ told.
     let invariant = c.loop-place.invariant in
@@ -58,8 +62,18 @@ returns-in-Err-clause-table_full c = λ told.
       position = builder.position;
       stands = invariant.made.1.stands;
       named = invariant.name;
-      table = c.in-Err.ensures.full (ap Err (full-told c.in-Err.error c.loop-place.place c.at.result c.at.ensures (same c.at.result told)));
+      table = c.in-Err.ensures.full (ap Err (full-told c.in-Err.error c.loop-place.place c.at.result c.at.ensures (same-full c.at.result told))) invariant.within.records;
     }
-  where
-    same : (e : ReplayError) → ◌≡◌ {A = Result (Unit {0}) ReplayError} (Err e) (Err Full) → e ≡ Full
-    same e h = cc
+
+pub returns-in-Err-clause-full : goal.returns-in-Err-clause-full
+returns-in-Err-clause-full c = λ told.
+    let invariant = c.loop-place.invariant in
+    full-late c.loop-place.place (length c.args.calls.now) c.loop-place.builder c.loop-place-test.true invariant.within
+    (c.in-Err.ensures.full (ap Err (full-told c.in-Err.error c.loop-place.place c.at.result c.at.ensures (same-full c.at.result told))))
+
+pub returns-in-Err-clause-full_straight : goal.returns-in-Err-clause-full_straight
+returns-in-Err-clause-full_straight c = λ told straight.
+    let invariant = c.loop-place.invariant in
+    full-late-straight c.loop-place.place (length c.args.calls.now) c.loop-place.builder c.loop-place-test.true invariant.within
+    (straight-leads c.args.calls.now c.loop-place.place invariant.made.0 c.loop-place.builder straight invariant.made.2 invariant.made.1.stands)
+    (c.in-Err.ensures.full (ap Err (full-told c.in-Err.error c.loop-place.place c.at.result c.at.ensures (same-full c.at.result told))))

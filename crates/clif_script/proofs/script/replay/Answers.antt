@@ -10,7 +10,7 @@ use Rattle.clif_script.specs.Requests.{requests_of}
 use Rattle.clif_types.specs.Signature.{SignatureShape}
 use Rattle.clif_ir.specs.Body.{Body}
 use Rattle.cranelift_frontend.specs.declared.builder.FunctionBuilder.{FunctionBuilder}
-use Rattle.cranelift_frontend.specs.StandsFor.{HasCallersParameters, StandsFor, StandsIn}
+use Rattle.cranelift_frontend.specs.StandsFor.{LeavesNoParameter, StandsFor, StandsIn}
 use Rattle.std.specs.Prelude.{Some}
 use Rattle.clif_script.proofs.Verdicts.{verdict-refused, all-replayed, means-replayed}
 use Rattle.clif_script.proofs.script.replay.Goals as goal
@@ -25,7 +25,7 @@ pub returns-in-Ok-clause-same_meaning : goal.returns-in-Ok-clause-same_meaning
 returns-in-Ok-clause-same_meaning c =
     let made = c.in_ok-made.ensures.ready in
     let fresh : c.new-builder.result.func.now.signature ≡ c.args.signature =
-    ap (λ (b : FunctionBuilder). b.func.now.signature) c.new-builder.ensures.builder ∙ ap (λ (f : Body). f.signature) c.with_name_signature-func.ensures in
+    ap (λ (b : FunctionBuilder). b.func.now.signature) c.new-builder.ensures.builder.1 ∙ ap (λ (f : Body). f.signature) c.with_name_signature-func.ensures in
     let stands = subst (λ (s : SignatureShape). StandsFor s made.0 c.make_calls-made.new.builder) fresh made.1 in
     let done = means-replayed c.args.calls.now made.0 c.args.signature c.args.config.pointer_width c.finalize-finished.new.self.0 made.2 (c.in-Ok.ensures.same_meaning c.args.signature made.0 stands) in
     -- `func-2-1` is the checker's own name of the function once the builder's loan has ended
@@ -37,7 +37,7 @@ returns-in-Ok-clause-built c =
     let made = c.in_ok-made.ensures.ready in
     let builder = c.make_calls-made.new.builder in
     let fresh : c.new-builder.result.func.now.signature ≡ c.args.signature =
-    ap (λ (b : FunctionBuilder). b.func.now.signature) c.new-builder.ensures.builder ∙ ap (λ (f : Body). f.signature) c.with_name_signature-func.ensures in
+    ap (λ (b : FunctionBuilder). b.func.now.signature) c.new-builder.ensures.builder.1 ∙ ap (λ (f : Body). f.signature) c.with_name_signature-func.ensures in
     let stands = subst (λ (s : SignatureShape). StandsFor s made.0 builder) fresh made.1 in
     let left = subst (λ (f : Body). StandsIn c.args.signature made.0 f builder.ctx.now builder.position) (sym c.finalize-finished.ensures.function) stands in
     -- `func-2-1` is the checker's own name of the function once the builder's loan has ended
@@ -48,14 +48,14 @@ returns-in-Ok-clause-built c =
       context = builder.ctx.now;
       position = builder.position;
       stands = subst (λ (f : Body). StandsIn c.args.signature made.0 f builder.ctx.now builder.position) (sym ended) left;
-      parameters = subst (λ (f : Body). HasCallersParameters made.0 f) (sym ended) (c.in-Ok.ensures.parameters c.args.signature made.0 stands);
+      parameters = subst (λ (f : Body). LeavesNoParameter made.0 f builder.ctx.now.ssa) (sym ended) (c.in-Ok.ensures.parameters c.args.signature made.0 stands);
     }
 
 pub returns-in-Ok-clause-edges_match : goal.returns-in-Ok-clause-edges_match
 returns-in-Ok-clause-edges_match c = λ typed.
     let made = c.in_ok-made.ensures.ready in
     let fresh : c.new-builder.result.func.now.signature ≡ c.args.signature =
-    ap (λ (b : FunctionBuilder). b.func.now.signature) c.new-builder.ensures.builder ∙ ap (λ (f : Body). f.signature) c.with_name_signature-func.ensures in
+    ap (λ (b : FunctionBuilder). b.func.now.signature) c.new-builder.ensures.builder.1 ∙ ap (λ (f : Body). f.signature) c.with_name_signature-func.ensures in
     let stands = subst (λ (s : SignatureShape). StandsFor s made.0 c.make_calls-made.new.builder) fresh made.1 in
     let premise = subst (λ (script : Script). CallersEdgesMatch script) (sym (all-replayed c.args.calls.now made.0 made.2)) typed in
     -- `func-2-1` is the checker's own name of the function once the builder's loan has ended
@@ -66,7 +66,7 @@ pub returns-in-Ok-clause-well_placed : goal.returns-in-Ok-clause-well_placed
 returns-in-Ok-clause-well_placed c = λ premises.
     let made = c.in_ok-made.ensures.ready in
     let fresh : c.new-builder.result.func.now.signature ≡ c.args.signature =
-    ap (λ (b : FunctionBuilder). b.func.now.signature) c.new-builder.ensures.builder ∙ ap (λ (f : Body). f.signature) c.with_name_signature-func.ensures in
+    ap (λ (b : FunctionBuilder). b.func.now.signature) c.new-builder.ensures.builder.1 ∙ ap (λ (f : Body). f.signature) c.with_name_signature-func.ensures in
     let stands = subst (λ (s : SignatureShape). StandsFor s made.0 c.make_calls-made.new.builder) fresh made.1 in
     let premise = subst (λ (script : Script). PlacementPremises script c.args.signature) (sym (all-replayed c.args.calls.now made.0 made.2)) premises in
     -- `func-2-1` is the checker's own name of the function once the builder's loan has ended

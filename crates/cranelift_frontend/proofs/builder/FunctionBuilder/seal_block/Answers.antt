@@ -1,10 +1,10 @@
 use Rattle.cranelift_frontend.proofs.Remembered.{remembers_sealed}
 use Rattle.cranelift_frontend.proofs.LedgerBlocks.{sealed}
-use Rattle.cranelift_frontend.proofs.builder.FunctionBuilder.seal_block.Goals as goal
 use Rattle.cranelift_frontend.proofs.Standing.{standing_edges}
 use Rattle.cranelift_frontend.proofs.StandingResults.{sealed_stands}
 use Rattle.cranelift_frontend.proofs.Growing.{sealed_current, sealed_grows}
 use Rattle.cranelift_frontend.proofs.Named.{opened}
+use Rattle.cranelift_frontend.proofs.builder.FunctionBuilder.seal_block.Goals as goal
 
 pub returns-clause-ledger : goal.returns-clause-ledger
 returns-clause-ledger c = λ calls name agrees names.
@@ -19,6 +19,12 @@ returns-clause-current c = sealed_current c.seal_block-sealed.result c.args.self
 pub seal_block-sealed-requires : goal.seal_block-sealed-requires
 seal_block-sealed-requires c = record { named = opened _ _ c.args.self.now.named }
 
+pub returns-clause-stands : goal.returns-clause-stands
+returns-clause-stands c = λ signature calls name stands names.
+    let done = c.seal_block-sealed.ensures in
+    sealed_stands signature calls _ _ _ _ _ name c.args.block _ stands c.law_consistent.ensures done.is_sealing c.law_consistent-2.ensures
+    (returns-clause-ledger c calls name stands.ledger names)
+
 pub returns-then-self-clause-edges_match : goal.returns-then-self-clause-edges_match
 returns-then-self-clause-edges_match c = λ signature calls stands none_waits typed. standing_edges signature calls _ _ _ stands none_waits typed
 
@@ -28,9 +34,3 @@ returns-clause-edges_match c = λ signature calls stands none_waits typed. stand
 pub returns-clause-remembers : goal.returns-clause-remembers
 returns-clause-remembers c = λ x b.
     remembers_sealed c.seal_block-sealed.result x b c.args.self.now.func.now c.seal_block-sealed.new.func c.args.self.now.ctx.now c.seal_block-sealed.new.self c.args.block c.seal_block-sealed.ensures.is_sealing
-
-pub returns-clause-stands : goal.returns-clause-stands
-returns-clause-stands c = λ signature calls name stands names.
-    let done = c.seal_block-sealed.ensures in
-    sealed_stands signature calls _ _ _ _ _ name c.args.block _ stands c.law_consistent.ensures done.is_sealing c.law_consistent-2.ensures
-    (returns-clause-ledger c calls name stands.ledger names)

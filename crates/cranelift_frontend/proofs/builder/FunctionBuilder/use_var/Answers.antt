@@ -1,18 +1,29 @@
 use Rattle.cranelift_frontend.proofs.Remembered.{remembers_used, has_record_used}
 use Rattle.std.proofs.Common.{sym, ◌∙◌, ℕ, subst}
 use Rattle.cranelift_frontend.proofs.LedgerUsed.{used, used-statuses}
-use Rattle.cranelift_frontend.proofs.builder.FunctionBuilder.use_var.Goals as goal
 use Rattle.cranelift_frontend.proofs.Standing.{current_open}
 use Rattle.cranelift_frontend.proofs.StandingResults.{used_stands}
 use Rattle.cranelift_frontend.proofs.Growing.{used_current, used_grows}
 use Rattle.cranelift_frontend.proofs.Named.{opened}
 use Rattle.std.specs.Prelude.{IfSome, OnOk, Option}
 use Rattle.cranelift_frontend.specs.Context.{SetsStatus, begun, status_of}
+use Rattle.cranelift_frontend.proofs.builder.FunctionBuilder.use_var.Goals as goal
 
 pub returns-clause-ledger : goal.returns-clause-ledger
 returns-clause-ledger c = λ calls agrees.
     used calls _ _ _ _ _ c.args.variable c.in-Some-var_type.ty c.in-Some.block _ agrees c.in-Some.is (sym c.var_type.ensures ∙ c.in-Some-var_type.is)
     c.use_variable-used.ensures.is_use c.law_consistent-2.ensures c.use_variable-used.ensures.variables
+
+pub returns-clause-status : goal.returns-clause-status
+returns-clause-status c = λ calls agrees.
+    subst (λ (o : Option ℕ). IfSome o (λ block. OnOk c.use_variable-used.result (SetsStatus c.args.self.now.ctx.now c.use_variable-used.new.ctx block (begun (status_of c.args.self.now.ctx.now block))))) (sym c.in-Some.is)
+    (used-statuses calls c.args.self.now.func.now c.use_variable-used.new.func c.args.self.now.ctx.now c.use_variable-used.new.ctx c.args.self.now.position c.args.variable c.in-Some-var_type.ty c.in-Some.block _ agrees c.use_variable-used.ensures.is_use)
+
+pub returns-clause-stands : goal.returns-clause-stands
+returns-clause-stands c = λ signature calls stands.
+    used_stands signature calls _ _ _ _ _ c.args.variable c.in-Some-var_type.ty c.in-Some.block _ stands c.law_consistent.ensures c.in-Some.is
+    (current_open c.args.self.now c.requires.current c.in-Some.block c.in-Some.is) (sym c.var_type.ensures ∙ c.in-Some-var_type.is)
+    c.use_variable-used.ensures.is_use c.law_consistent-2.ensures (returns-clause-ledger c calls stands.ledger)
 
 pub returns-clause-remembers : goal.returns-clause-remembers
 returns-clause-remembers c = λ x b.
@@ -31,14 +42,3 @@ returns-clause-current c =
 
 pub use_variable-used-requires-clause-named : goal.use_variable-used-requires-clause-named
 use_variable-used-requires-clause-named c = opened _ _ c.args.self.now.named
-
-pub returns-clause-status : goal.returns-clause-status
-returns-clause-status c = λ calls agrees.
-    subst (λ (o : Option ℕ). IfSome o (λ block. OnOk c.use_variable-used.result (SetsStatus c.args.self.now.ctx.now c.use_variable-used.new.ctx block (begun (status_of c.args.self.now.ctx.now block))))) (sym c.in-Some.is)
-    (used-statuses calls c.args.self.now.func.now c.use_variable-used.new.func c.args.self.now.ctx.now c.use_variable-used.new.ctx c.args.self.now.position c.args.variable c.in-Some-var_type.ty c.in-Some.block _ agrees c.use_variable-used.ensures.is_use)
-
-pub returns-clause-stands : goal.returns-clause-stands
-returns-clause-stands c = λ signature calls stands.
-    used_stands signature calls _ _ _ _ _ c.args.variable c.in-Some-var_type.ty c.in-Some.block _ stands c.law_consistent.ensures c.in-Some.is
-    (current_open c.args.self.now c.requires.current c.in-Some.block c.in-Some.is) (sym c.var_type.ensures ∙ c.in-Some-var_type.is)
-    c.use_variable-used.ensures.is_use c.law_consistent-2.ensures (returns-clause-ledger c calls stands.ledger)

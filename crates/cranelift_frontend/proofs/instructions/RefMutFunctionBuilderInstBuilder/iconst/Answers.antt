@@ -7,8 +7,8 @@ use Rattle.cranelift_frontend.proofs.StandingShaped.{value_stands}
 use Rattle.cranelift_frontend.proofs.LedgerShaped.{iconst-shape, ledger-value}
 use Rattle.cranelift_frontend.proofs.Named.{same_builder}
 use Rattle.cranelift_frontend.proofs.Remembered.{remembers_value}
-use Rattle.cranelift_frontend.proofs.instructions.RefMutFunctionBuilderInstBuilder.iconst.Goals as goal
 use Rattle.clif_meaning.specs.Instruction.{Iconst}
+use Rattle.cranelift_frontend.proofs.instructions.RefMutFunctionBuilderInstBuilder.iconst.Goals as goal
 
 pub returns-clause-ledger : goal.returns-clause-ledger
 returns-clause-ledger c = λ calls agrees.
@@ -18,6 +18,14 @@ returns-clause-ledger c = λ calls agrees.
     ledger-value calls c.args.self.now c.append_value.new.builder _ (UnaryImm c.args.imm) c.args.ty (Iconst c.args.imm) _ refl agrees c.law_consistent.ensures
     (iconst-shape calls c.args.self.now.func.now c.args.ty c.args.imm) c.requires.current appends done.ssa done.variables done.position
 
+pub returns-clause-stands : goal.returns-clause-stands
+returns-clause-stands c = λ signature calls stands.
+    let done = c.append_value.ensures in
+    let appends : IfSome c.args.self.now.position (λ block. IfOk c.append_value.result (AppendsValue c.args.self.now c.append_value.new.builder block (UnaryImm c.args.imm) c.args.ty)) =
+    first_of (search rules, grind (arith, common_steps)) in
+    value_stands signature calls c.args.self.now c.append_value.new.builder _ (UnaryImm c.args.imm) c.args.ty _ stands c.law_consistent.ensures (iconst-shape calls _ c.args.ty c.args.imm)
+    c.requires.current appends refl refl refl done.ssa done.position (returns-clause-ledger c calls stands.ledger)
+
 pub returns-clause-remembers : goal.returns-clause-remembers
 returns-clause-remembers c = λ v b.
     let appends : IfSome c.args.self.now.position (λ block. IfOk c.append_value.result (AppendsValue c.args.self.now c.append_value.new.builder block (UnaryImm c.args.imm) c.args.ty)) =
@@ -26,11 +34,3 @@ returns-clause-remembers c = λ v b.
 
 pub returns-clause-unchanged : goal.returns-clause-unchanged
 returns-clause-unchanged c = λ failed. c.append_value.ensures.unchanged failed ∙ same_builder c.args.self.now _
-
-pub returns-clause-stands : goal.returns-clause-stands
-returns-clause-stands c = λ signature calls stands.
-    let done = c.append_value.ensures in
-    let appends : IfSome c.args.self.now.position (λ block. IfOk c.append_value.result (AppendsValue c.args.self.now c.append_value.new.builder block (UnaryImm c.args.imm) c.args.ty)) =
-    first_of (search rules, grind (arith, common_steps)) in
-    value_stands signature calls c.args.self.now c.append_value.new.builder _ (UnaryImm c.args.imm) c.args.ty _ stands c.law_consistent.ensures (iconst-shape calls _ c.args.ty c.args.imm)
-    c.requires.current appends refl refl refl done.ssa done.position (returns-clause-ledger c calls stands.ledger)

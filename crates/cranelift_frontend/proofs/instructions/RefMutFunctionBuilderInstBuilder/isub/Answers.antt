@@ -9,8 +9,8 @@ use Rattle.cranelift_frontend.proofs.LedgerShaped.{binary-shape, ledger-value}
 use Rattle.cranelift_frontend.proofs.StandingShaped.{value_stands}
 use Rattle.cranelift_frontend.proofs.Named.{same_builder}
 use Rattle.cranelift_frontend.proofs.Remembered.{remembers_value}
-use Rattle.cranelift_frontend.proofs.instructions.RefMutFunctionBuilderInstBuilder.isub.Goals as goal
 use Rattle.clif_meaning.specs.Instruction as operation
+use Rattle.cranelift_frontend.proofs.instructions.RefMutFunctionBuilderInstBuilder.isub.Goals as goal
 
 pub returns-clause-ledger : goal.returns-clause-ledger
 returns-clause-ledger c = λ calls a b agrees first second.
@@ -19,6 +19,15 @@ returns-clause-ledger c = λ calls a b agrees first second.
     first_of (search rules, grind (arith, common_steps)) in
     ledger-value calls c.args.self.now c.append_value.new.builder _ (Binary Isub (c.args.x ∷ c.args.y ∷ [])) (value_at c.args.self.now.func.now c.args.x).ty operation.Isub _ refl agrees c.law_consistent.ensures
     (binary-shape calls _ _ _ agrees Isub a b c.args.x c.args.y first second) c.requires.current appends done.ssa done.variables done.position
+
+pub returns-clause-stands : goal.returns-clause-stands
+returns-clause-stands c = λ signature calls a b stands first second.
+    let done = c.append_value.ensures in
+    let appends : IfSome c.args.self.now.position (λ block. IfOk c.append_value.result (AppendsValue c.args.self.now c.append_value.new.builder block (Binary Isub (c.args.x ∷ c.args.y ∷ [])) (value_at c.args.self.now.func.now c.args.x).ty)) =
+    first_of (search rules, grind (arith, common_steps)) in
+    value_stands signature calls c.args.self.now c.append_value.new.builder _ (Binary Isub (c.args.x ∷ c.args.y ∷ [])) _ _ stands c.law_consistent.ensures
+    (binary-shape calls _ _ _ stands.ledger Isub a b c.args.x c.args.y first second) c.requires.current appends refl refl refl done.ssa done.position
+    (returns-clause-ledger c calls a b stands.ledger first second)
 
 pub returns-clause-remembers : goal.returns-clause-remembers
 returns-clause-remembers c = λ v b.
@@ -29,12 +38,3 @@ returns-clause-remembers c = λ v b.
 
 pub returns-clause-unchanged : goal.returns-clause-unchanged
 returns-clause-unchanged c = λ failed. c.append_value.ensures.unchanged failed ∙ same_builder c.args.self.now _
-
-pub returns-clause-stands : goal.returns-clause-stands
-returns-clause-stands c = λ signature calls a b stands first second.
-    let done = c.append_value.ensures in
-    let appends : IfSome c.args.self.now.position (λ block. IfOk c.append_value.result (AppendsValue c.args.self.now c.append_value.new.builder block (Binary Isub (c.args.x ∷ c.args.y ∷ [])) (value_at c.args.self.now.func.now c.args.x).ty)) =
-    first_of (search rules, grind (arith, common_steps)) in
-    value_stands signature calls c.args.self.now c.append_value.new.builder _ (Binary Isub (c.args.x ∷ c.args.y ∷ [])) _ _ stands c.law_consistent.ensures
-    (binary-shape calls _ _ _ stands.ledger Isub a b c.args.x c.args.y first second) c.requires.current appends refl refl refl done.ssa done.position
-    (returns-clause-ledger c calls a b stands.ledger first second)

@@ -4,8 +4,8 @@ use Rattle.clif_types.specs.declared.types.«Type».TheVariants.{Invalid}
 use Rattle.cranelift_frontend.specs.Ledger.{NamesEdge}
 use Rattle.cranelift_frontend.proofs.LedgerShaped.{jump-shape, ledger-ended}
 use Rattle.cranelift_frontend.proofs.StandingShaped.{plain_stands}
-use Rattle.cranelift_frontend.proofs.instructions.RefMutFunctionBuilderInstBuilder.jump.Goals as goal
 use Rattle.clif_ir.specs.declared.block_call.BlockCall.{BlockCall}
+use Rattle.cranelift_frontend.proofs.instructions.RefMutFunctionBuilderInstBuilder.jump.Goals as goal
 
 pub returns-in-Ok-clause-ledger : goal.returns-in-Ok-clause-ledger
 returns-in-Ok-clause-ledger c = λ calls edge agrees names.

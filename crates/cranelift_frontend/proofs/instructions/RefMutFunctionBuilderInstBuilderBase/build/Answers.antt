@@ -2,8 +2,8 @@ use Rattle.cranelift_frontend.proofs.Remembered.{remembers_appended}
 use Rattle.cranelift_frontend.proofs.Named.{opened}
 use Rattle.cranelift_frontend.proofs.Standing.{current_exists, current_open}
 use Rattle.cranelift_frontend.proofs.StandingShaped.{stands_shaped}
-use Rattle.cranelift_frontend.proofs.instructions.RefMutFunctionBuilderInstBuilderBase.build.Goals as goal
 use Rattle.cranelift_frontend.proofs.LedgerShaped.{current-is, ledger-shaped}
+use Rattle.cranelift_frontend.proofs.instructions.RefMutFunctionBuilderInstBuilderBase.build.Goals as goal
 
 pub returns-clause-ledger : goal.returns-clause-ledger
 returns-clause-ledger c = λ calls instruction agrees has.

@@ -1,0 +1,23 @@
+use Rattle.std.proofs.Common.{◌≡◌, rules, arith, sym, subst, length, ◌⊎◌, ◌-◌, ◌^◌}
+use Rattle.std.proofs.lemmas.Grind.{common_steps}
+use Rattle.std.specs.Prelude.{OnOk}
+use Rattle.cranelift_frontend.specs.declared.builder.FunctionBuilder.{FunctionBuilder}
+use Rattle.cranelift_frontend.specs.Builder.{HasCurrent}
+use Rattle.clif_script.specs.Limits.{IsOneCall}
+use Rattle.clif_script.proofs.Limits.{one-branched, nearly-full}
+use Rattle.clif_script.proofs.make.append_jump.Goals as goal
+
+pub returns-clause-one_call : goal.returns-clause-one_call
+returns-clause-one_call c =
+    let here : FunctionBuilder = c.ins.result.now in
+    let current : HasCurrent here = subst HasCurrent (sym c.ins.ensures.builder) c.requires.current in
+    let after : FunctionBuilder = c.jump.new.self in
+    let done = c.jump.ensures in
+    let one : OnOk c.jump.result (IsOneCall here after) = one-branched c.jump.result here after _ _ _ current done.appends done.grows done.declares done.variables in
+    let from : OnOk c.jump.result (IsOneCall c.args.builder.now after) = subst (λ (b : FunctionBuilder). OnOk c.jump.result (IsOneCall b after)) c.ins.ensures.builder one in
+    first_of (search rules, grind (arith, common_steps))
+
+pub returns-clause-full : goal.returns-clause-full
+returns-clause-full c = λ full.
+    nearly-full c.args.builder.now
+    (subst (λ (b : FunctionBuilder). (length b.func.now.insts ≡ 2 ^ 32 - 1) ⊎ (length b.func.now.values ≡ 2 ^ 32 - 1)) c.ins.ensures.builder (c.jump.ensures.full full))

@@ -1,0 +1,147 @@
+-- Calls that seal all blocks, put a block behind another one, make a block cold, or bring the current block into the layout.
+use Rattle.std.proofs.Common.{◌≡◌, ◌≢◌, ℕ, zero, suc, ◌<◌, ◌==◌, List, [], ◌∷◌, ◌++◌, length, refl, sym, ◌∙◌, ap, subst, arith, Bool, true, false, if◌then◌else◌, slice_get, Option, Some, None}
+use Rattle.std.specs.Prelude.{◌||◌, slice_index_or, slice_set}
+use Rattle.clif_ir.specs.Body.{Body, block_at, empty_block}
+use Rattle.clif_ir.specs.declared.function.BlockNode.{BlockNode}
+use Rattle.clif_ir.specs.Consistent.{IsConsistent}
+use Rattle.clif_ir.specs.Changes.{inserted_in, put_behind, with_cold, with_layout_after}
+use Rattle.clif_ir.specs.Reading.{stands_in}
+use Rattle.clif_paths.specs.Blocks.{Blocks}
+use Rattle.clif_ssa.specs.Own.{Own}
+use Rattle.clif_ssa.specs.Ssa.{SsaState, SamePredecessors}
+use Rattle.clif_ssa.specs.Constructs.{OnlyConstructs}
+use Rattle.clif_ssa.specs.Sound.{Keeps, entry_of}
+use Rattle.clif_ssa.specs.SoundLaws.{DescribesSoundly, with_entry}
+use Rattle.clif_ssa.specs.Structured.{Structured, VariableTypes}
+use Rattle.clif_ssa.proofs.Completing.{entry_same, inserted_same, same_program}
+use Rattle.clif_ssa.proofs.Counting.{blocks_counted}
+use Rattle.clif_ssa.proofs.StructuredLaws.{blocks_structured, inserted_structured}
+use Rattle.clif_ssa.proofs.Writing.{blocks_described}
+use Rattle.clif_meaning.specs.Name.{Name}
+use Rattle.clif_meaning.specs.Program.{first_block}
+use Rattle.clif_meaning.specs.Request.{Request, SealAllBlocks, InsertBlockAfter, SetColdBlock, EnsureInsertedBlock, AnsweredCall}
+use Rattle.clif_simulation.specs.Carries.{Carries, IsCurrent}
+use Rattle.clif_simulation.proofs.Calls.{carries_kept, carries_on, inserted_soundly, name_stays}
+use Rattle.clif_simulation.proofs.Growing.{goes_on-constructs, insts_kept, insts_same}
+use Rattle.clif_simulation.proofs.Layouts as layouts
+use Rattle.clif_simulation.proofs.Requests
+use Rattle.clif_simulation.proofs.Requests.{entry_begun}
+
+-- LAYOUTS -----------------------------------------------------------------------------------------------------------------
+
+-- the first block stays where another one comes behind one of the layout
+pub first_stays : (b a : ℕ) (layout : List ℕ) → slice_get (put_behind b a layout) 0 ≡ slice_get layout 0
+first_stays b a [] = refl
+first_stays b a (c ∷ layout) = by (c == a)
+  where
+    by : (test : Bool) → slice_get (if test then c ∷ b ∷ layout else c ∷ put_behind b a layout) 0 ≡ Some c
+    by true = refl
+    by false = refl
+
+-- what stood in the layout stands in it
+pub out_before : (b a x : ℕ) (layout : List ℕ) → stands_in x (put_behind b a layout) ≡ false → stands_in x layout ≡ false
+out_before b a x [] out = refl
+out_before b a x (c ∷ layout) out = by (c == a) (out_before b a x layout) out
+  where
+    neither : (s t : Bool) → (s || t) ≡ false → (s ≡ false) × (t ≡ false)
+    neither true t h = let no_way : ⊥ = cc in absurd no_way
+    neither false t h = (refl, h)
+
+    or_false : (s t : Bool) → s ≡ false → t ≡ false → (s || t) ≡ false
+    or_false s t first second = ap (λ (u : Bool). u || t) first ∙ second
+
+    by : (test : Bool) → (stands_in x (put_behind b a layout) ≡ false → stands_in x layout ≡ false)
+        → stands_in x (if test then c ∷ b ∷ layout else c ∷ put_behind b a layout) ≡ false → ((c == x) || stands_in x layout) ≡ false
+    by true rest h =
+        let parts = neither (c == x) ((b == x) || stands_in x layout) h in
+        or_false (c == x) (stands_in x layout) parts.0 (neither (b == x) (stands_in x layout) parts.1).1
+    by false rest h = let parts = neither (c == x) (stands_in x (put_behind b a layout)) h in or_false (c == x) (stands_in x layout) parts.0 (rest parts.1)
+
+-- BLOCKS ------------------------------------------------------------------------------------------------------------------
+
+-- a block that is cold keeps its parameters and instructions
+pub cold_params : (nodes : List BlockNode) (b x : ℕ)
+    → (slice_index_or (slice_set nodes b (record (slice_index_or nodes b empty_block) { is_cold = true })) x empty_block).params ≡ (slice_index_or nodes x empty_block).params
+cold_params [] b x = refl
+cold_params (node ∷ nodes) zero zero = refl
+cold_params (node ∷ nodes) zero (suc x) = refl
+cold_params (node ∷ nodes) (suc b) zero = refl
+cold_params (node ∷ nodes) (suc b) (suc x) = cold_params nodes b x
+
+pub cold_insts : (nodes : List BlockNode) (b x : ℕ)
+    → (slice_index_or (slice_set nodes b (record (slice_index_or nodes b empty_block) { is_cold = true })) x empty_block).insts ≡ (slice_index_or nodes x empty_block).insts
+cold_insts [] b x = refl
+cold_insts (node ∷ nodes) zero zero = refl
+cold_insts (node ∷ nodes) zero (suc x) = refl
+cold_insts (node ∷ nodes) (suc b) zero = refl
+cold_insts (node ∷ nodes) (suc b) (suc x) = cold_insts nodes b x
+
+-- other blocks and another layout, with the same parameters, instructions and entry
+module _ (f : Body) (nodes : List BlockNode) (layout : List ℕ) (s : SsaState)
+    (same_params : (b : ℕ) → (block_at (record f { blocks = nodes; layout = layout }) b).params ≡ (block_at f b).params)
+    (same_insts : (b : ℕ) → (block_at (record f { blocks = nodes; layout = layout }) b).insts ≡ (block_at f b).insts)
+    (entry : slice_get layout 0 ≡ entry_of f) where
+  pub relaid_keeps : (own : Own) (tables : Blocks) → DescribesSoundly own f s tables → Keeps own tables (record f { blocks = nodes; layout = layout }) s
+  relaid_keeps own tables before = record {
+    tables = tables;
+    describes = blocks_described own f nodes layout s tables same_params same_insts entry before.0;
+    sound = before.1;
+    same = same_program tables;
+    counts = blocks_counted own f nodes layout s tables same_params before.2;
+  }
+
+  pub relaid_structured : (types : VariableTypes) (own : Own) → Structured types own f s [] → Structured types own (record f { blocks = nodes; layout = layout }) s []
+  relaid_structured types own before = blocks_structured f nodes layout types own s [] same_params same_insts before
+
+module _ (calls : List AnsweredCall) (f : Body) (s : SsaState) (c : Carries calls f s) where
+  abbrev the_call : Request → AnsweredCall
+  the_call request = record { request = request; numbers = [] }
+
+  -- each block that isn't sealed is
+  pub carries_sealed_all : (g : Body) (t : SsaState) → IsConsistent f
+      → ((own : Own) (tables : Blocks) → DescribesSoundly own f s tables → Keeps own tables g t)
+      → ((types : VariableTypes) (own : Own) → Structured types own f s [] → Structured types own g t [])
+      → OnlyConstructs f g → g.layout ≡ f.layout → SamePredecessors s t
+      → Carries (calls ++ the_call SealAllBlocks ∷ []) g t
+  carries_sealed_all g t consistent keeps structured constructs layout leads =
+      carries_kept calls f s c (the_call SealAllBlocks) g t tt (Requests.items_sealed_all calls (the_call SealAllBlocks) refl)
+      (Requests.entry_sealed_all calls (the_call SealAllBlocks) refl) (λ index. refl)
+      (insts_kept f g consistent (goes_on-constructs f g constructs)) layout leads structured keeps
+
+  -- a block comes behind another one
+  pub carries_after : (block after : Name) (b a : ℕ) → Carries (calls ++ the_call (InsertBlockAfter block after) ∷ []) (with_layout_after f b a) s
+  carries_after block after b a =
+      let call : AnsweredCall = the_call (InsertBlockAfter block after) in
+      carries_on calls f s c call (with_layout_after f b a) s tt (Requests.items_after calls call block after refl)
+      (λ e is. Requests.entry_after calls call block after refl ∙ is)
+      (Requests.entry_stays calls (calls ++ call ∷ []) f (with_layout_after f b a) (Requests.entry_after calls call block after refl) (first_stays b a f.layout)
+      (name_stays calls call tt) c.holds.entry)
+      (λ index. refl) (insts_same f (with_layout_after f b a) refl refl) (λ x out. out_before b a x f.layout out) (λ x. refl)
+      (relaid_structured f f.blocks (put_behind b a f.layout) s (λ x. refl) (λ x. refl) (first_stays b a f.layout))
+      (relaid_keeps f f.blocks (put_behind b a f.layout) s (λ x. refl) (λ x. refl) (first_stays b a f.layout))
+
+  -- a block is made cold
+  pub carries_cold : (block : Name) (b : ℕ) → Carries (calls ++ the_call (SetColdBlock block) ∷ []) (with_cold f b) s
+  carries_cold block b =
+      let call : AnsweredCall = the_call (SetColdBlock block) in
+      let nodes : List BlockNode = (with_cold f b).blocks in
+      carries_kept calls f s c call (with_cold f b) s tt (Requests.items_cold calls call block refl) (Requests.entry_cold calls call block refl) (λ index. refl)
+      (insts_same f (with_cold f b) refl refl) refl (λ x. refl)
+      (relaid_structured f nodes f.layout s (cold_params f.blocks b) (cold_insts f.blocks b) refl)
+      (relaid_keeps f nodes f.layout s (cold_params f.blocks b) (cold_insts f.blocks b) refl)
+
+  -- the current block is brought into the layout
+  pub carries_ensured : (b : ℕ) (B : Name) → IsCurrent calls b B → Carries (calls ++ the_call EnsureInsertedBlock ∷ []) (inserted_in f b) s
+  carries_ensured b B current =
+      let call : AnsweredCall = the_call EnsureInsertedBlock in
+      let g : Body = inserted_in f b in
+      let same = inserted_same f b in
+      let entry = Requests.entry_ensured calls call B current.current refl in
+      carries_on calls f s c call g s tt (Requests.items_ensured calls call refl)
+      (λ e is. entry ∙ ap (λ (o : Option Name). first_block o (Some B)) is)
+      (entry_begun calls (calls ++ call ∷ []) f g b B entry refl current.named (name_stays calls call tt) c.holds.entry)
+      (λ index. refl) (insts_same f g same.insts same.values) (λ x out. layouts.out_before f b x out) (λ x. refl)
+      (λ types own before. inserted_structured types own f s b before)
+      (λ own tables before.
+      let after = inserted_soundly own f s tables b before in
+      record { tables = with_entry f.layout s b tables; describes = after.0; sound = after.1; same = (entry_same f.layout s b tables).program; counts = after.2 })

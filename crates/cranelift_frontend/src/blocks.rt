@@ -1,0 +1,94 @@
+//! The builder's calls that mark blocks and bring them into the layout.
+ghost use Rattle.std.specs.Prelude.{◌≡◌, ◌≢◌, ◌<◌, ◌++◌, ◌∷◌, [], ℕ, List, IsTrue, ◌↔◌, OnOk, IfSome, is_err, length, slice_index, EachIndex};
+ghost use Rattle.cranelift_frontend.specs.Context.{status_of, begun, SetsStatus};
+ghost use Rattle.cranelift_frontend.specs.Growth.{Grows, RemembersIn};
+ghost use Rattle.cranelift_frontend.specs.Builder.{SameLoans, HasCurrent};
+ghost use Rattle.clif_ir.specs.Body.{block_at};
+ghost use Rattle.clif_ir.specs.Changes.{inserted_in, with_cold, with_layout_after};
+ghost use Rattle.clif_ir.specs.Consistent.{Stands};
+ghost use Rattle.clif_meaning.specs.Name.{Name};
+ghost use Rattle.clif_meaning.specs.Request.{AnsweredCall, EnsureInsertedBlock, InsertBlockAfter, SetColdBlock};
+ghost use Rattle.clif_types.specs.Signature.{SignatureShape};
+ghost use Rattle.cranelift_frontend.specs.StandsFor.{StandsFor};
+ghost use Rattle.cranelift_frontend.specs.Ledger.{AgreesWithLedger, NamesBlock};
+
+use crate::builder::FunctionBuilder;
+use crate::frontend::begin_block;
+use clif_types::{Block, BuildError, Value};
+
+impl<'a> FunctionBuilder<'a> {
+    /// The parameters of a block, in order: those of variables, too.
+    pub fn block_params(&self, block: Block) -> &[Value]
+        requires { block < length self.now.func.now.blocks }
+        ensures exact { result.now ≡ (block_at self.now.func.now block).params }
+        ensures exist { EachIndex result.now (λ k. slice_index result.now k < length self.now.func.now.values) }
+    {
+        self.func.block_params(block)
+    }
+
+    /// Puts a block, which isn't in the layout, behind a block that is in it.
+    pub fn insert_block_after(&mut self, block: Block, after: Block)
+        requires exists { block < length self.old.func.now.blocks }
+        requires outside { Stands block self.old.func.now.layout → ⊥ }
+        requires inside { Stands after self.old.func.now.layout }
+        ensures loans { SameLoans self.old self.new }
+        ensures function { self.new.func.now ≡ with_layout_after self.old.func.now block after }
+        ensures context { self.new.ctx.now ≡ self.old.ctx.now }
+        ensures position { self.new.position ≡ self.old.position }
+        ensures failed { self.new.failed ≡ self.old.failed }
+        ensures ledger { (calls : List AnsweredCall) (name behind : Name) → AgreesWithLedger calls self.old → NamesBlock calls name block → NamesBlock calls behind after → AgreesWithLedger (calls ++ record { request = InsertBlockAfter name behind; numbers = [] } ∷ []) self.new }
+        ensures stands { (signature : SignatureShape) (calls : List AnsweredCall) (name behind : Name) → StandsFor signature calls self.old → NamesBlock calls name block → NamesBlock calls behind after → StandsFor signature (calls ++ record { request = InsertBlockAfter name behind; numbers = [] } ∷ []) self.new }
+        ensures grows { Grows self.old.func.now self.new.func.now }
+        ensures remembers { (x b : ℕ) → RemembersIn x b self.old self.new }
+        ensures current { HasCurrent self.old → HasCurrent self.new }
+    {
+        self.func.insert_block_after(block, after);
+    }
+
+    /// Marks a block as cold: as one that is seldom reached.
+    pub fn set_cold_block(&mut self, block: Block)
+        requires exists { block < length self.old.func.now.blocks }
+        ensures loans { SameLoans self.old self.new }
+        ensures function { self.new.func.now ≡ with_cold self.old.func.now block }
+        ensures context { self.new.ctx.now ≡ self.old.ctx.now }
+        ensures position { self.new.position ≡ self.old.position }
+        ensures failed { self.new.failed ≡ self.old.failed }
+        ensures ledger { (calls : List AnsweredCall) (name : Name) → AgreesWithLedger calls self.old → NamesBlock calls name block → AgreesWithLedger (calls ++ record { request = SetColdBlock name; numbers = [] } ∷ []) self.new }
+        ensures stands { (signature : SignatureShape) (calls : List AnsweredCall) (name : Name) → StandsFor signature calls self.old → NamesBlock calls name block → StandsFor signature (calls ++ record { request = SetColdBlock name; numbers = [] } ∷ []) self.new }
+        ensures grows { Grows self.old.func.now self.new.func.now }
+        ensures remembers { (x b : ℕ) → RemembersIn x b self.old self.new }
+        ensures current { HasCurrent self.old → HasCurrent self.new }
+    {
+        self.func.set_cold_block(block);
+    }
+
+    /// Brings the current block into the layout, as if something were made in it.
+    pub fn ensure_inserted_block(&mut self) -> Result<(), BuildError>
+        requires current { HasCurrent self.old }
+        ensures loans { SameLoans self.old self.new }
+        ensures function { IfSome self.old.position (λ block. OnOk result (self.new.func.now ≡ inserted_in self.old.func.now block)) }
+        ensures status { IfSome self.old.position (λ block. OnOk result (SetsStatus self.old.ctx.now self.new.ctx.now block (begun (status_of self.old.ctx.now block)))) }
+        ensures ssa { self.new.ctx.now.ssa ≡ self.old.ctx.now.ssa }
+        ensures variables { self.new.ctx.now.variables ≡ self.old.ctx.now.variables }
+        ensures position { self.new.position ≡ self.old.position }
+        ensures never_full { result ≢ Err BuildError.Full }
+        ensures failed { (result ≡ Err BuildError.Failed) ↔ IsTrue self.old.failed }
+        ensures unchanged { IsTrue self.old.failed → self.new ≡ self.old }
+        ensures fails { self.new.failed ≡ is_err result }
+        ensures ledger { (calls : List AnsweredCall) → AgreesWithLedger calls self.old → OnOk result (AgreesWithLedger (calls ++ record { request = EnsureInsertedBlock; numbers = [] } ∷ []) self.new) }
+        ensures stands { (signature : SignatureShape) (calls : List AnsweredCall) → StandsFor signature calls self.old → OnOk result (StandsFor signature (calls ++ record { request = EnsureInsertedBlock; numbers = [] } ∷ []) self.new) }
+        ensures grows { OnOk result (Grows self.old.func.now self.new.func.now) }
+        ensures remembers { (x b : ℕ) → OnOk result (RemembersIn x b self.old self.new) }
+        ensures current { OnOk result (HasCurrent self.new) }
+    {
+        if self.failed {
+            return Err(BuildError::Failed);
+        }
+        let Some(block) = self.position else {
+            unreachable!();
+        };
+        let begun = begin_block(self.func, self.ctx, block);
+        self.failed = begun.is_err();
+        begun
+    }
+}
