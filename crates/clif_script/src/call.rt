@@ -34,27 +34,49 @@ pub enum Call {
     CreateBlock,
     /// `switch_to_block(block)`: answers nothing. The block isn't filled, and the current block, if there
     /// is one, is pristine, filled or unreachable.
-    SwitchToBlock { block: Name },
+    SwitchToBlock {
+        block: Name,
+    },
     /// `seal_block(block)`: answers nothing. The block isn't sealed.
-    SealBlock { block: Name },
+    SealBlock {
+        block: Name,
+    },
     /// `declare_var(ty)`: answers the variable, which is numbered from 0 on. So far the type is one of I8
     /// to I64.
-    DeclareVar { ty: Type },
+    DeclareVar {
+        ty: Type,
+    },
     /// `def_var(variable, value)`: answers nothing. The variable is declared, the value has its type, and
     /// there is a current block that isn't filled.
-    DefVar { variable: Variable, value: Name },
+    DefVar {
+        variable: Variable,
+        value: Name,
+    },
     /// `use_var(variable)`: answers the value. The variable is declared, and there is a current block that
     /// isn't filled.
-    UseVar { variable: Variable },
+    UseVar {
+        variable: Variable,
+    },
     /// `iconst.ty imm`, an instruction with one result. The type is one of integers, and there is a
     /// current block that isn't filled, as for each instruction.
-    Iconst { ty: Type, imm: i64 },
+    Iconst {
+        ty: Type,
+        imm: i64,
+    },
     /// `iadd x, y`, an instruction with one result.
-    Iadd { x: Name, y: Name },
+    Iadd {
+        x: Name,
+        y: Name,
+    },
     /// `isub x, y`, an instruction with one result.
-    Isub { x: Name, y: Name },
+    Isub {
+        x: Name,
+        y: Name,
+    },
     /// `jump destination`, an instruction without results, which fills the block.
-    Jump { destination: Edge },
+    Jump {
+        destination: Edge,
+    },
     /// `brif condition, block_then, block_else`, an instruction without results, which fills the block: control
     /// goes along the first edge where the condition isn't zero, and else along the second.
     Brif {
@@ -63,5 +85,7 @@ pub enum Call {
         block_else: Edge,
     },
     /// `return values`, an instruction without results, which fills the block.
-    Return { values: Vec<Name> },
+    Return {
+        values: Vec<Name>,
+    },
 }

@@ -2,8 +2,8 @@
 #![tactic(auto)]
 
 use super::support::Step::{
-    Brif, Create, Declare, Def, Iadd, Iconst, Isub, Jump, JumpWith, Return, ReturnNone, Seal, Switch,
-    Use,
+    Brif, Create, Declare, Def, Iadd, Iconst, Isub, Jump, JumpWith, Return, ReturnNone, Seal,
+    Switch, Use,
 };
 use super::support::{F32, I32, I64, all_refuse};
 use crate::script::ReplayError::{Misuse, Refused};
