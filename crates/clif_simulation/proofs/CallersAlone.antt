@@ -12,9 +12,8 @@ use Rattle.clif_ssa.specs.declared.tables.Sealed.TheVariants.{No, Yes}
 use Rattle.clif_meaning.specs.Name.{Name}
 use Rattle.clif_meaning.specs.Request.{AnsweredCall, script_of}
 use Rattle.clif_simulation.specs.Tables.{answered, block_name}
-use Rattle.clif_simulation.specs.Carries.{NothingLeads}
-use Rattle.clif_simulation.specs.Structure.{callers_parameters, HasCallersAlone, HasCallersParameters, KeepsNoParameter, LeavesFewParameters, LeavesNoParameter, NoneWaits}
-use Rattle.clif_simulation.proofs.Listed.{no_parameters}
+use Rattle.clif_simulation.specs.Carries.{NothingLeads, OwnParameters}
+use Rattle.clif_simulation.specs.Structure.{HasCallersAlone, HasCallersParameters, KeepsNoParameter, LeavesFewParameters, LeavesNoParameter, NoneWaits}
 
 -- where no branch leads anywhere, each block is one of these
 of_all : (calls : List AnsweredCall) (f : Body) (s : SsaState) → LeavesNoParameter calls f s → NothingLeads s → HasCallersParameters calls f
@@ -22,16 +21,8 @@ of_all calls f s leaves nothing b =
     let none : length (predecessors_of s b) ≡ 0 = ap (λ (leading : List ℕ). length leading) (nothing b) in leaves b (omega (arith, none))
 
 module _ (calls : List AnsweredCall) (f : Body) (s : SsaState) (own : Own) (types : VariableTypes) (structured : Structured types own f s [])
-    (no_callers : (b : ℕ) → own.params b ≡ [])
+    (callers_own : OwnParameters calls own)
   where
-    -- a block's parameters that the caller made are the program's: so far there are none
-    callers_own : (b : ℕ) → own.params b ≡ map (answered calls) (callers_parameters calls (block_name calls b))
-    callers_own b = no_callers b ∙ by (block_name calls b)
-      where
-        by : (o : Option Name) → [] ≡ map (answered calls) (callers_parameters calls o)
-        by None = refl
-        by (Some name) = ap (map (answered calls)) (sym (no_parameters (script_of calls) name))
-
     -- none waits in a sealed block, or where the construction knows of none
     sealed_waits : (b : ℕ) (sealed : Sealed) → is_yes sealed ≡ true → waiting_of f sealed [] b ≡ []
     sealed_waits b Yes is = refl

@@ -41,6 +41,7 @@ pub mod Carrying
 pub mod Staying
 pub mod Requests
 pub mod Values
+pub mod LedgerValues
 pub mod Ledgers
 pub mod Unfilled
 pub mod Telling
@@ -66,3 +67,7 @@ mod LoopArgument
 mod LoopRow
 mod LoopConsistent
 mod Further
+pub mod Entered
+pub mod TwoParts
+pub mod InLists
+pub mod GivenNames

@@ -9,7 +9,7 @@ pub fn carrying_means_the_same()
 {}
 
 /// An unfinished function that carries a list of calls has, side by side with the list's program, the bits of its names
-/// and variables: so far, one without branches.
+/// and variables: so far, one without branches and without parameters of the caller's.
 pub fn carrying_reads_right()
     ensures { CarryingReadsRight }
 {}
