@@ -1,5 +1,5 @@
 -- Blocks to which at most one branch leads have no parameter of a variable, in every program.
-use Rattle.std.proofs.Common.{◌≡◌, ◌≢◌, ℕ, ◌≤◌, true, false, List, [], ◌∷◌, ◌++◌, length, map, Option, Some, None, refl, sym, ◌∙◌, ap, arith}
+use Rattle.std.proofs.Common.{◌≡◌, ◌≢◌, ℕ, ◌≤◌, true, false, List, [], ◌∷◌, ◌++◌, length, map, refl, sym, ◌∙◌, ap, arith}
 use Rattle.std.proofs.lemmas.List.{append-nil}
 use Rattle.clif_ir.specs.Body.{Body, block_at}
 use Rattle.clif_ssa.specs.Own.{Own}
@@ -9,9 +9,7 @@ use Rattle.clif_ssa.specs.Tables.{is_yes, pending_of}
 use Rattle.clif_ssa.specs.declared.tables.Pending.{Pending}
 use Rattle.clif_ssa.specs.declared.tables.Sealed.{Sealed}
 use Rattle.clif_ssa.specs.declared.tables.Sealed.TheVariants.{No, Yes}
-use Rattle.clif_meaning.specs.Name.{Name}
-use Rattle.clif_meaning.specs.Request.{AnsweredCall, script_of}
-use Rattle.clif_simulation.specs.Tables.{answered, block_name}
+use Rattle.clif_meaning.specs.Request.{AnsweredCall}
 use Rattle.clif_simulation.specs.Carries.{NothingLeads, OwnParameters}
 use Rattle.clif_simulation.specs.Structure.{HasCallersAlone, HasCallersParameters, KeepsNoParameter, LeavesFewParameters, LeavesNoParameter, NoneWaits}
 

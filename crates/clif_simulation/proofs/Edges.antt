@@ -1,8 +1,7 @@
 -- Along an edge of the function: the arm is known, and each parameter gets the bits of what the arm gives it.
-use Rattle.std.proofs.Common.{◌≡◌, ◌≢◌, ℕ, zero, suc, ◌+◌, ◌<◌, ◌&&◌, Bool, true, false, ◌≤◌, List, [], ◌∷◌, ◌++◌, length, map, slice_get, Option, Some, None, Contains, ◌⊎◌, inl, inr, refl, sym, ◌∙◌, ap, subst, arith}
-use Rattle.std.specs.Prelude.{IsTrue, slice_index}
+use Rattle.std.proofs.Common.{◌≡◌, ◌≢◌, ℕ, ◌+◌, ◌<◌, ◌&&◌, Bool, true, ◌≤◌, List, [], ◌++◌, length, map, slice_get, Option, Some, None, Contains, ◌⊎◌, inl, inr, refl, sym, ◌∙◌, ap, subst, arith}
+use Rattle.std.specs.Prelude.{IsTrue}
 use Rattle.std.proofs.lemmas.List.{length-append, map-append}
-use Rattle.std.proofs.lemmas.Bool.Decides.{nat_tests}
 use Rattle.clif_ir.specs.Body.{Body, block_at, resolved}
 use Rattle.clif_ir.specs.Consistent.{IsConsistent, Stands}
 use Rattle.clif_ir.specs.Reading.{param_home, place_of}
@@ -44,7 +43,6 @@ use Rattle.clif_simulation.proofs.TwoParts.{among_first, assigned_at, assigned_e
 use Rattle.clif_simulation.proofs.Entry.{resolved_twice}
 use Rattle.clif_simulation.proofs.ItemsAt
 use Rattle.clif_simulation.proofs.ItemsAt.{not_start, stands_for_itself}
-use Rattle.clif_simulation.proofs.Listed.{none_mapped}
 use Rattle.clif_simulation.proofs.OwnEdges
 use Rattle.clif_simulation.proofs.Placing.{at_second, contained, map_at, map_length, placed_item}
 use Rattle.clif_simulation.proofs.Straight.{arms}

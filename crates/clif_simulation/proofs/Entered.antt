@@ -1,10 +1,9 @@
 -- When both machines agree as a block is entered: its parameters that the caller made and their answers get the same bits,
 -- and other values come along.
-use Rattle.std.proofs.Common.{◌≡◌, ◌≢◌, ◌⊎◌, ℕ, ◌≤◌, true, List, ◌∷◌, map, length, None, inl, inr, refl, sym, ◌∙◌, ap}
+use Rattle.std.proofs.Common.{◌≡◌, ◌≢◌, ◌⊎◌, ℕ, true, List, ◌∷◌, map, length, None, inl, inr, sym, ◌∙◌, ap}
 use Rattle.clif_paths.specs.Places.{Arm, Path}
 use Rattle.clif_paths.specs.State.{fresh, Naming, Program, born, zero_of, Definition, Function}
 use Rattle.clif_paths.specs.Denotation.{Instance, zero, given, variable, name, instances, denotes}
-use Rattle.clif_paths.specs.Laws.{age}
 use Rattle.clif_paths.proofs.PathLemmas.{dec_place}
 use Rattle.clif_paths.proofs.Executing.{program_steps, function_steps, variable-kept, name-past}
 use Rattle.clif_paths.proofs.Remembering.{program_knows, function_knows}

@@ -12,7 +12,7 @@ use Rattle.clif_paths.specs.Blocks.{front}
 use Rattle.clif_ssa.specs.Ssa.{SsaState}
 use Rattle.clif_ssa.specs.Sound.{IsEdgeInto, entry_of, has_entry}
 use Rattle.clif_meaning.specs.Name.{Name}
-use Rattle.clif_meaning.specs.Request.{AnsweredCall, script_of}
+use Rattle.clif_meaning.specs.Request.{AnsweredCall}
 use Rattle.clif_meaning.specs.Program.{Program, Item}
 use Rattle.clif_meaning.specs.WellPlaced.{item_gives, item_names, program_code, IsWellPlaced, IsGivenAlong, given_on_entry}
 use Rattle.clif_meaning.proofs.StraightLine.{nothing_contained}

@@ -17,7 +17,7 @@ use Rattle.clif_ssa.specs.Ssa.{SsaState, sealed_of}
 use Rattle.clif_ssa.specs.Tables.{pending_of}
 use Rattle.clif_ssa.specs.Sound.{IsEdgeInto, entry_of}
 use Rattle.clif_meaning.specs.Name.{Name}
-use Rattle.clif_meaning.specs.Request.{AnsweredCall, script_of}
+use Rattle.clif_meaning.specs.Request.{AnsweredCall}
 use Rattle.clif_meaning.specs.Instruction.{Edge}
 use Rattle.clif_meaning.specs.Program.{Program, Item, Instruct, Use, Assign}
 use Rattle.clif_meaning.specs.Path.{Place, IsPath}

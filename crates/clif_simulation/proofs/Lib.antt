@@ -71,3 +71,5 @@ pub mod Entered
 pub mod TwoParts
 pub mod InLists
 pub mod GivenNames
+pub mod Appending
+pub mod ParameterCalls

@@ -31,12 +31,12 @@ use Rattle.clif_meaning.specs.FunctionView.{Placed}
 use Rattle.clif_meaning.specs.View.{placed_of, items_of, first_type}
 use Rattle.clif_meaning.specs.WellPlaced.{item_gives, program_code, IsWellPlaced}
 use Rattle.clif_meaning.proofs.StraightLine.{nothing_contained, none_of}
-use Rattle.clif_simulation.specs.Tables.{code, answered, program_so_far, IsGiven}
+use Rattle.clif_simulation.specs.Tables.{code, answered, program_so_far}
 use Rattle.clif_simulation.specs.Carries.{carried}
 use Rattle.clif_simulation.specs.Reading.{starting_at, IsAtEnd, StandAlike, StartAlike, SideBySide}
 use Rattle.clif_simulation.proofs.Unbranched.{CarriesUnbranched}
 use Rattle.clif_simulation.proofs.Agreement.{any_value, zeros_agree}
-use Rattle.clif_simulation.proofs.Straight.{first_arm, straight, same_block, same_step, absent_name, absent_value}
+use Rattle.clif_simulation.proofs.Straight.{first_arm, straight, same_block, absent_name, absent_value}
 use Rattle.clif_simulation.proofs.Ended.{defined-end, is-end}
 use Rattle.clif_simulation.proofs.Opened.{Opens}
 use Rattle.clif_simulation.proofs.Opened

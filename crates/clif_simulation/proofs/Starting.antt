@@ -13,7 +13,7 @@ use Rattle.clif_paths.specs.Blocks.{Blocks}
 use Rattle.clif_ssa.specs.Ssa.{SsaState}
 use Rattle.clif_ssa.specs.Sound.{entry_of, has_entry}
 use Rattle.clif_meaning.specs.Bits.{Bits, AreValues}
-use Rattle.clif_meaning.specs.Name.{Name, same_name}
+use Rattle.clif_meaning.specs.Name.{Name}
 use Rattle.clif_meaning.specs.Request.{AnsweredCall, script_of}
 use Rattle.clif_meaning.specs.Program.{Item}
 use Rattle.clif_meaning.specs.Ledger.{ledger_after, or_invalid, type_of}

@@ -1,6 +1,5 @@
 -- Lists in two parts: places in them, and the bits that they get.
-use Rattle.std.proofs.Common.{◌≡◌, ◌≢◌, ℕ, zero, suc, ◌+◌, ◌<◌, ◌≤◌, true, false, List, [], ◌∷◌, ◌++◌, length, map, slice_get, Option, Some, inl, inr, refl, sym, ◌∙◌, ap, arith, if◌then◌else◌, Bool}
-use Rattle.std.specs.Prelude.{slice_index}
+use Rattle.std.proofs.Common.{◌≡◌, ◌≢◌, ℕ, zero, suc, ◌+◌, ◌<◌, ◌≤◌, true, false, List, [], ◌∷◌, ◌++◌, length, map, slice_get, Option, Some, inl, inr, refl, sym, ◌∙◌, ap, arith, if◌then◌else◌}
 use Rattle.std.proofs.Math.Decide.{ℕ_discrete}
 use Rattle.std.proofs.lemmas.Bool.Decides.{nat_tests}
 use Rattle.clif_ir.specs.Consistent.{Stands}

@@ -7,6 +7,7 @@ use Rattle.std.specs.List.{AllByRecursion}
 use Rattle.clif_types.specs.declared.types.«Type».{«Type»}
 use Rattle.clif_ir.specs.declared.block_call.BlockArg.{BlockArg}
 use Rattle.clif_ir.specs.Body.{Body, inst_at}
+use Rattle.clif_ir.specs.Changes.{with_param}
 use Rattle.clif_ir.specs.Reading.{stands_in}
 use Rattle.clif_ssa.specs.Own.{Own}
 use Rattle.clif_ssa.specs.Ssa.{SsaState, predecessors_of, Declares, SameBlocks, SamePredecessors, SameRecords}
@@ -209,6 +210,16 @@ abbrev pub DeclaredAlong : SsaState → ℕ → List ℕ → SsaState → Type 0
 DeclaredAlong s inst [] t = SameRecords s t × SameBlocks s t × SamePredecessors s t
 DeclaredAlong s inst (block ∷ blocks) t =
     (between : SsaState) × SameRecords s between × SameBlocks s between × Declares s between block inst × DeclaredAlong between inst blocks t
+
+-- a function with parameters of these types at the end of those of a block, one after the other
+abbrev pub with_params : Body → ℕ → List «Type» → Body
+with_params f b [] = f
+with_params f b (ty ∷ types) = with_params (with_param f b ty) b types
+
+-- as many numbers as types, from this one on
+abbrev pub numbers_from : ℕ → List «Type» → List ℕ
+numbers_from n [] = []
+numbers_from n (ty ∷ types) = n ∷ numbers_from (suc n) types
 
 -- the current block, by its number and its name
 pub record IsCurrent (calls : List AnsweredCall) (block : ℕ) (name : Name) : Type 0 where

@@ -1,7 +1,7 @@
 -- What holds of a finished function that carries a list of calls, beside what it means: its values are defined before
 -- they are named, the arguments of its edges match, and a block to which at most one branch leads has no parameter of a
 -- variable. Source: own.
-use Rattle.std.specs.Prelude.{◌≡◌, ℕ, ◌+◌, ◌≤◌, true, List, [], length, map, flat_map, drop, Option, Some, None, Contains}
+use Rattle.std.specs.Prelude.{◌≡◌, ℕ, ◌+◌, ◌≤◌, true, List, [], length, map, flat_map, drop, Some, Contains}
 use Rattle.std.specs.List.{AllByRecursion}
 use Rattle.clif_ir.specs.Body.{Body, block_at}
 use Rattle.clif_ir.specs.Consistent.{IsConsistent}
