@@ -185,8 +185,7 @@ module _ (b place : ℕ) where
   others_same T f index (ty ∷ types) m none =
       let n : ℕ = code (answer_of place index) in
       let rest = others_same (with_born T (front b) n (length f.values)) (with_param f b ty) (suc index) types m (λ x there. none x (inr there)) in
-      let other : m ≢ n = λ same. none (answer_of place index) (inl refl) (sym same) in
-      (
+      let other : m ≢ n = λ same. none (answer_of place index) (inl refl) (sym same) in (
         rest.0 ∙ updated-other T.naming n (record { home = front b; origin = fresh }) m other,
         rest.1 ∙ updated-other T.answer n (length f.values) m other,
       )
@@ -206,8 +205,7 @@ module _ (b place : ℕ) where
       (let far = (among place (suc index) types y there).1 in
       let one : y ≡ x = Codes.differ y x same in
       let same_index : y.index ≡ index = ap (λ (m : Name). m.index) (one ∙ here) in absurd (omega (arith, far, same_index))) in
-      let rest = others_same T1 (with_param f b ty) (suc index) types (code x) later in
-      (
+      let rest = others_same T1 (with_param f b ty) (suc index) types (code x) later in (
         rest.0 ∙ updated-same T.naming n (record { home = front b; origin = fresh }) (code x) (ap code here),
         rest.1 ∙ updated-same T.answer n (length f.values) (code x) (ap code here) ∙ sym (ap number here ∙ number_first f ty types place index number all),
       )
@@ -227,6 +225,24 @@ module _ (b place : ℕ) where
           → (block_at (with_param f b ty) b).params ≡ own.params b ++ length f.values ∷ []
       by (inl here) = here.1 ∙ ap (λ (ps : List ℕ). ps ++ length f.values ∷ []) bare
       by (inr apart) = absurd (apart.0 refl)
+
+  -- the block has no parameter of a variable then either, and the other blocks keep theirs
+  pub bare_still : (own : Own) (f : Body) (types : List «Type») → b < length f.blocks → (block_at f b).params ≡ own.params b
+      → (block_at (with_params f b types) b).params ≡ (own_after own f b types).params b
+  bare_still own f [] there bare = bare
+  bare_still own f (ty ∷ types) there bare =
+      bare_still (with_own_param own b (length f.values)) (with_param f b ty) types (one_more_there f ty there) (one_more_bare own f ty there bare)
+
+  pub params_elsewhere : (f : Body) (types : List «Type») (d : ℕ) → b < length f.blocks → d ≢ b → (block_at (with_params f b types) d).params ≡ (block_at f d).params
+  params_elsewhere f [] d there other = refl
+  params_elsewhere f (ty ∷ types) d there other =
+      params_elsewhere (with_param f b ty) types d (one_more_there f ty there) other ∙ by (param_params f b ty there d)
+    where
+      by : ((d ≡ b) × ((block_at (with_param f b ty) d).params ≡ (block_at f d).params ++ length f.values ∷ []))
+          ⊎ ((d ≢ b) × ((block_at (with_param f b ty) d).params ≡ (block_at f d).params))
+          → (block_at (with_param f b ty) d).params ≡ (block_at f d).params
+      by (inl here) = absurd (other here.0)
+      by (inr apart) = apart.1
 
   pub params_soundly : (own : Own) (f : Body) (s : SsaState) (T : Blocks) (index : ℕ) (types : List «Type») → Firm f → b < length f.blocks → (block_at f b).params ≡ own.params b
       → ((k : ℕ) → index ≤ k → IsNewName (state_of T) (code (answer_of place k))) → DescribesSoundly own f s T

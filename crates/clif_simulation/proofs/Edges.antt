@@ -160,8 +160,7 @@ module _ (calls : List AnsweredCall) (f : Body) (s : SsaState) (consistent : IsC
       -- what is born there answers one of the block's parameters
       pub born_there : (w n : ℕ) → (function.definition w).home ≡ front b → HomeFits carries.tables w (born n) → (x : Name) × In x parameters × (w ≡ answered calls x)
       born_there w n at fits =
-          let found = given_at_front calls carries.tables carries.program n b B named (ap (λ naming. naming.home) fits.0 ∙ at) in
-          (
+          let found = given_at_front calls carries.tables carries.program n b B named (ap (λ naming. naming.home) fits.0 ∙ at) in (
             found.0,
             contained_in parameters found.0 found.2,
             sym fits.1 ∙ ap carries.tables.answer (sym found.1) ∙ (carries.program.parameter b B named found.0 found.2).1,

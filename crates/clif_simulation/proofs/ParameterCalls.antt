@@ -81,11 +81,10 @@ answer_there place index (ty ∷ types) (suc k) below =
 all_answers : (P : Name → Type 0) (place index : ℕ) (types : List «Type») → ((k : ℕ) → k < length types → P (answer_of place (index + k))) → AllByRecursion P (answers_from place index types)
 all_answers P place index [] each = tt
 all_answers P place index (ty ∷ types) each =
-    let same : index + 0 ≡ index = omega arith in
-    (
+    let same : index + 0 ≡ index = omega arith in (
       subst (λ (i : ℕ). P (answer_of place i)) same (each 0 (omega arith)),
       all_answers P place (suc index) types (λ k below. let later : index + suc k ≡ suc index + k = omega arith in
-      subst (λ (i : ℕ). P (answer_of place i)) later (each (suc k) (omega (arith, below)))),
+          subst (λ (i : ℕ). P (answer_of place i)) later (each (suc k) (omega (arith, below)))),
     )
 
 module _ (calls : List AnsweredCall) (f : Body) (s : SsaState) (c : Carries calls f s) (consistent : IsConsistent f)
@@ -467,3 +466,14 @@ module _ (calls : List AnsweredCall) (f : Body) (s : SsaState) (c : Carries call
           counts = described.2;
         };
   }
+
+  -- a block that had the caller's parameters alone has them alone: this one, and each other
+  pub alone_still : (d : ℕ) → HasCallersAlone calls f d → HasCallersAlone after g d
+  alone_still d before = by (ℕ_discrete d b)
+    where
+      by : Dec (d ≡ b) → HasCallersAlone after g d
+      by (yes same) =
+          subst (HasCallersAlone after g) (sym same) (Appending.bare_still b (length calls) c.own f types there bare ∙ own_parameters b)
+      by (no other) =
+          Appending.params_elsewhere b (length calls) f types d there other ∙ before ∙ sym (c.holds.parameters d)
+          ∙ sym (own_elsewhere c.own f b types d other) ∙ own_parameters d

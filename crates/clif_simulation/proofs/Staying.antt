@@ -294,7 +294,7 @@ module _ (calls : List AnsweredCall) (call : AnsweredCall) (is : call.request �
         names_new = λ c N h. new c N (old_or_new c N h);
         one_new = λ c d N first none second none'. at_end c N none (old_or_new c N first) ∙ sym (at_end d N none' (old_or_new d N second));
         items = items;
-      parameters = parameters_stay calls call no_parameter;
+        parameters = parameters_stay calls call no_parameter;
         answers_stay = λ x h. answered_stays calls call x h;
       })
       was

@@ -1,5 +1,5 @@
 -- A parameter of the caller's, of a block that has no parameter of a variable.
-use Rattle.std.proofs.Common.{◌≡◌, ◌≢◌, ℕ, suc, ◌+◌, ◌<◌, ◌≤◌, List, [], ◌∷◌, ◌++◌, length, refl, ap, arith, sym, ◌∙◌, subst, ◌⊎◌, inl, inr}
+use Rattle.std.proofs.Common.{◌≡◌, ◌≢◌, ℕ, ◌+◌, ◌<◌, ◌≤◌, List, [], ◌∷◌, ◌++◌, length, refl, ap, arith, sym, ◌∙◌, subst, ◌⊎◌, inl, inr}
 use Rattle.std.specs.Prelude.{Contains, Some}
 use Rattle.std.proofs.lemmas.Grind.{common_steps}
 use Rattle.std.proofs.lemmas.Bool.{cases_eq}
@@ -13,11 +13,10 @@ use Rattle.clif_paths.specs.Steps.{IsNewName}
 use Rattle.clif_paths.specs.Blocks.{Blocks, front, state_of, with_born}
 use Rattle.clif_paths.proofs.BlockSteps.{born_keeps}
 use Rattle.clif_paths.proofs.Tables.{updated-same, updated-other}
-use Rattle.clif_ssa.specs.declared.tables.Pending.{Pending}
 use Rattle.clif_ssa.specs.Own.{Own, with_own_param}
 use Rattle.clif_ssa.specs.Tables.{pending_of}
 use Rattle.clif_ssa.specs.Ssa.{SsaState, sealed_of, predecessors_of}
-use Rattle.clif_ssa.specs.Sound.{BelongsTo, CountsArguments, Describes, HomeFits, InOrder, IsBehind, IsCounted, IsEdgeInto, IsWaiting, parameters_of, passed_count, edge_target}
+use Rattle.clif_ssa.specs.Sound.{BelongsTo, CountsArguments, Describes, HomeFits, IsBehind, IsCounted, IsWaiting, passed_count, edge_target}
 use Rattle.clif_ssa.specs.SoundLaws.{DescribesSoundly}
 use Rattle.clif_ssa.proofs.Adding.{param_home_other}
 use Rattle.clif_ssa.proofs.Bodies.{Firm, home-append, param_exists}
