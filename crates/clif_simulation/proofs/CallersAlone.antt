@@ -57,6 +57,25 @@ module _ (calls : List AnsweredCall) (f : Body) (s : SsaState) (own : Own) (type
             apart : (v ∷ complete) ≡ [] → ⊥
             apart h = cc
 
+    -- a block in which none waits has the caller's alone, where at most one branch leads to it, or where it isn't sealed
+    pub alone_few : (b : ℕ) → length (predecessors_of s b) ≤ 1 → pending_of (sealed_of s b) ≡ [] → HasCallersAlone calls f b
+    alone_few b few none = alone b few (none_waiting b (sealed_of s b) none)
+
+    pub alone_unsealed : (b : ℕ) → is_yes (sealed_of s b) ≡ false → pending_of (sealed_of s b) ≡ [] → HasCallersAlone calls f b
+    alone_unsealed b unsealed none = callers_first b (none_waiting b (sealed_of s b) none) ∙ by (structured.parameters b).complete refl ∙ callers_own b
+      where
+        by : (complete : List ℕ) → (structured.parameters b).complete ≡ complete → own.params b ++ complete ≡ own.params b
+        by [] is = append-nil (own.params b)
+        by (v ∷ complete) is =
+            let some : (structured.parameters b).complete ≢ [] = λ empty. apart (sym is ∙ empty) in
+            absurd (both (sym ((structured.parameters b).several some).0 ∙ unsealed))
+          where
+            apart : (v ∷ complete) ≡ [] → ⊥
+            apart h = cc
+
+            both : true ≡ false → ⊥
+            both h = cc
+
     keeps_none : KeepsNoParameter calls f s
     keeps_none b sealed few = alone b few (sealed_waits b (sealed_of s b) sealed)
 
