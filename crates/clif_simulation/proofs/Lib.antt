@@ -66,10 +66,12 @@ mod LoopWrong
 mod LoopArgument
 mod LoopRow
 mod LoopConsistent
-mod Further
 pub mod Entered
 pub mod TwoParts
 pub mod InLists
 pub mod GivenNames
+-- Further calls, and parameters of the caller's.
+mod Further
 pub mod Appending
 pub mod ParameterCalls
+mod ParameterRow

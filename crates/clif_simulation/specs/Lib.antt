@@ -5,3 +5,4 @@ pub mod ReadingExamples
 pub mod Laws
 pub mod CarryingExamples
 pub mod Structure
+pub mod ParameterCarryingExamples
