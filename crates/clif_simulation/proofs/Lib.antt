@@ -7,6 +7,10 @@ pub mod Unbranched
 -- A finished function that carries calls means what their program means.
 mod Giving
 mod Agreement
+mod Entered
+pub mod TwoParts
+pub mod InLists
+pub mod GivenNames
 mod Straight
 mod Listed
 mod Entry
@@ -66,12 +70,8 @@ mod LoopWrong
 mod LoopArgument
 mod LoopRow
 mod LoopConsistent
-pub mod Entered
-pub mod TwoParts
-pub mod InLists
-pub mod GivenNames
 -- Further calls, and parameters of the caller's.
-mod Further
+pub mod Further
 pub mod Appending
 pub mod ParameterCalls
 mod ParameterRow
