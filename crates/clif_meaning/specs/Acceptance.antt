@@ -9,8 +9,8 @@ use Rattle.clif_types.specs.Types.{is_int}
 use Rattle.clif_meaning.specs.SameType.{same_type}
 use Rattle.clif_meaning.specs.Instruction.{Iconst, Iadd, Isub, Operation, Compute, Jump, Brif, Return, Argument, Known, CallResult, CallPayload, Edge}
 use Rattle.clif_meaning.specs.Name.{Name}
-use Rattle.clif_meaning.specs.Request.{Request, CreateBlock, SwitchToBlock, SealBlock, SealAllBlocks, InsertBlockAfter, SetColdBlock, EnsureInsertedBlock, DeclareVar, DefVar, UseVar, Build, Finalize, Script}
-use Rattle.clif_meaning.specs.Ledger.{BlockState, Ledger, empty_ledger, type_of, or_invalid, has_value, has_block, is_filled, is_sealed, is_inserted, is_pristine, is_unreachable, variable_type, ledger_with}
+use Rattle.clif_meaning.specs.Request.{Request, CreateBlock, SwitchToBlock, SealBlock, SealAllBlocks, InsertBlockAfter, SetColdBlock, EnsureInsertedBlock, AppendBlockParams, AppendFunctionParams, DeclareVar, DefVar, UseVar, Build, Finalize, Script}
+use Rattle.clif_meaning.specs.Ledger.{BlockState, Ledger, empty_ledger, type_of, or_invalid, has_value, has_block, is_filled, is_sealed, is_inserted, is_pristine, has_predecessors, is_unreachable, variable_type, ledger_with}
 
 -- there is a current block, and it isn't filled
 abbrev pub is_open : Ledger → Option Name → Bool
@@ -63,6 +63,8 @@ allows ledger SealAllBlocks = true
 allows ledger (InsertBlockAfter block after) = has_block ledger block && not (is_inserted ledger block) && is_inserted ledger after
 allows ledger (SetColdBlock block) = has_block ledger block
 allows ledger EnsureInsertedBlock = is_open ledger ledger.current
+allows ledger (AppendBlockParams block types) = is_pristine ledger block
+allows ledger (AppendFunctionParams block types) = is_pristine ledger block && not (has_predecessors ledger block)
 allows ledger (DeclareVar ty) = is_variable_type ty
 allows ledger (DefVar variable value) = is_open ledger ledger.current && can_assign (variable_type ledger variable) (type_of ledger value)
 allows ledger (UseVar variable) = is_open ledger ledger.current && is_some (variable_type ledger variable)

@@ -7,7 +7,7 @@ use Rattle.clif_types.specs.declared.types.«Type».{«Type»}
 use Rattle.clif_types.specs.declared.types.«Type».TheVariants as type
 use Rattle.clif_meaning.specs.Instruction.{Operation, Compute, Jump, Brif, Return, Edge}
 use Rattle.clif_meaning.specs.Name.{Name, answer_of, same_name}
-use Rattle.clif_meaning.specs.Request.{Request, CreateBlock, SwitchToBlock, SealBlock, SealAllBlocks, InsertBlockAfter, SetColdBlock, EnsureInsertedBlock, DeclareVar, DefVar, UseVar, Build, Finalize, Script}
+use Rattle.clif_meaning.specs.Request.{Request, CreateBlock, SwitchToBlock, SealBlock, SealAllBlocks, InsertBlockAfter, SetColdBlock, EnsureInsertedBlock, AppendBlockParams, AppendFunctionParams, DeclareVar, DefVar, UseVar, Build, Finalize, Script}
 use Rattle.clif_meaning.specs.Program.{result_types}
 
 -- what an answer is
@@ -185,6 +185,8 @@ answers_to ledger SealAllBlocks = []
 answers_to ledger (InsertBlockAfter block after) = []
 answers_to ledger (SetColdBlock block) = []
 answers_to ledger EnsureInsertedBlock = []
+answers_to ledger (AppendBlockParams block types) = map AValue types
+answers_to ledger (AppendFunctionParams block types) = map AValue types
 answers_to ledger (DeclareVar ty) = AVariable (length ledger.variables) ∷ []
 answers_to ledger (DefVar variable value) = []
 answers_to ledger (UseVar variable) = AValue (or_invalid (variable_type ledger variable)) ∷ []
@@ -206,6 +208,10 @@ new_variable ty = record { ty = ty; is_marked = false; is_touched = false }
 abbrev pub sealed : BlockState → BlockState
 sealed state = record state { is_sealed = true }
 
+-- more parameters of the caller's, of these types
+abbrev pub with_parameter_types : List «Type» → BlockState → BlockState
+with_parameter_types types state = record state { parameters = state.parameters ++ types }
+
 -- a list with a block behind another one
 abbrev pub put_after : Name → Name → List Name → List Name
 put_after block after [] = []
@@ -220,6 +226,8 @@ changed_by ledger SealAllBlocks = record ledger { blocks = map sealed ledger.blo
 changed_by ledger (InsertBlockAfter block after) = record ledger { layout = put_after block after ledger.layout }
 changed_by ledger (SetColdBlock block) = ledger
 changed_by ledger EnsureInsertedBlock = with_begun ledger
+changed_by ledger (AppendBlockParams block types) = with_state ledger block (with_parameter_types types)
+changed_by ledger (AppendFunctionParams block types) = with_state ledger block (with_parameter_types types)
 changed_by ledger (DeclareVar ty) = record ledger { variables = ledger.variables ++ new_variable ty ∷ [] }
 changed_by ledger (DefVar variable value) = with_touched ledger variable
 changed_by ledger (UseVar variable) = with_touched (with_begun ledger) variable

@@ -31,3 +31,4 @@ pub mod CallExamples
 pub mod ScriptExamples
 pub mod BranchExamples
 pub mod ViewExamples
+pub mod ParameterExamples

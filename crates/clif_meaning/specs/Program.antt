@@ -5,7 +5,7 @@ use Rattle.std.specs.Prelude.{ℕ, suc, if◌then◌else◌, List, [], ◌∷◌
 use Rattle.clif_types.specs.declared.types.«Type».{«Type»}
 use Rattle.clif_meaning.specs.Instruction.{Iconst, Iadd, Isub, Operation, Compute, Jump, Brif, Return, Instruction}
 use Rattle.clif_meaning.specs.Name.{Name, answer_of, same_name}
-use Rattle.clif_meaning.specs.Request.{Request, CreateBlock, SwitchToBlock, SealBlock, SealAllBlocks, InsertBlockAfter, SetColdBlock, EnsureInsertedBlock, DeclareVar, DefVar, UseVar, Build, Finalize, Script}
+use Rattle.clif_meaning.specs.Request.{Request, CreateBlock, SwitchToBlock, SealBlock, SealAllBlocks, InsertBlockAfter, SetColdBlock, EnsureInsertedBlock, AppendBlockParams, AppendFunctionParams, DeclareVar, DefVar, UseVar, Build, Finalize, Script}
 
 -- the types of an instruction's results: the table of operations, at the controlling type
 abbrev pub result_types : Operation → «Type» → List «Type»
@@ -57,6 +57,11 @@ with_item_at program (Some block) item =
 abbrev pub with_item : Program → Item → Program
 with_item program item = with_item_at program program.current item
 
+-- names at the end of the caller's parameters of a block
+abbrev pub with_parameters : Program → Name → List Name → Program
+with_parameters program block names =
+    record program { parameters = λ other. if same_name other block then program.parameters other ++ names else program.parameters other }
+
 -- the first of two blocks that there is
 abbrev pub first_block : Option Name → Option Name → Option Name
 first_block None block = block
@@ -75,6 +80,8 @@ extended program SealAllBlocks = program
 extended program (InsertBlockAfter block after) = program
 extended program (SetColdBlock block) = program
 extended program EnsureInsertedBlock = with_inserted program
+extended program (AppendBlockParams block types) = with_parameters program block (answers_from program.place 0 types)
+extended program (AppendFunctionParams block types) = with_parameters program block (answers_from program.place 0 types)
 extended program (DeclareVar ty) = program
 extended program (DefVar variable value) = with_item program (Assign variable value)
 extended program (UseVar variable) = with_item (with_inserted program) (Use variable (answer_of program.place 0))

@@ -14,6 +14,10 @@ pub data Request : Type 0 where
   InsertBlockAfter : (block after : Name) → Request
   SetColdBlock : (block : Name) → Request
   EnsureInsertedBlock : Request
+  -- parameters of the caller's at the end of those of a block: it answers them, in order
+  AppendBlockParams : (block : Name) (types : List «Type») → Request
+  -- the same with the function's parameters
+  AppendFunctionParams : (block : Name) (types : List «Type») → Request
   DeclareVar : (ty : «Type») → Request
   DefVar : (variable : ℕ) (value : Name) → Request
   UseVar : (variable : ℕ) → Request

@@ -4,6 +4,7 @@
 ghost use Rattle.clif_meaning.specs.BranchExamples.{BranchExamples};
 ghost use Rattle.clif_meaning.specs.CallExamples.{CallExamples, EdgeExamples};
 ghost use Rattle.clif_meaning.specs.Examples.{ArithmeticExamples, ByteExamples, SwitchExamples, FirstAnswersSeven, FirstMeansTheSame, WrongFunctionsAreRefused, EightIsNotSeven, EmptyIsStuck, VerdictExamples, RefusalExamples};
+ghost use Rattle.clif_meaning.specs.ParameterExamples.{ParameterExamples};
 ghost use Rattle.clif_meaning.specs.ScriptExamples.{LedgerExamples, PathExamples};
 ghost use Rattle.clif_meaning.specs.ViewExamples.{ViewExamples};
 
@@ -55,6 +56,11 @@ pub fn empty_is_stuck()
 /// What the ledger of the row `first` tells.
 pub fn ledger_examples()
     ensures { LedgerExamples }
+{}
+
+/// A script whose entry takes the function's parameters and passes their difference to a block.
+pub fn parameter_examples()
+    ensures { ParameterExamples }
 {}
 
 /// Paths of an irreducible loop.

@@ -28,7 +28,7 @@ abbrev pub any_value : ℕ → Type 0
 any_value w = Unit {0}
 
 -- what arose before isn't what is given now
-too_young : (n : ℕ) (arm : Arm) (path : Path) (i : Instance) → age i ≤ length path → i ≡ given n (arm ∷ path) → ⊥
+pub too_young : (n : ℕ) (arm : Arm) (path : Path) (i : Instance) → age i ≤ length path → i ≡ given n (arm ∷ path) → ⊥
 too_young n arm path i old new =
     let same : age i ≡ length (arm ∷ path) = ap age new in
     absurd (omega arith)
@@ -291,56 +291,6 @@ module _ (live : ℕ → Type 0) (program : Program) (function : Function) (arm 
         by z y is false other =
             let apart : z ≢ x = grind (arith, nat_tests) in
             rw other (zeros.of_variable z y (sym (variable-kept program arm path z assigns.known (assigns.unwritten z apart)) ∙ is))
-
--- Along an edge ---------------------------------------------------------------------------------------------------------
-
--- What such a value is after an edge: what another was before, with its bits, or a zero without bits.
-abbrev pub ComesAlong : (ℕ → Type 0) → Program → Function → Arm → Path → (ℕ → ℕ) → (ℕ → ℕ) → ℕ → Type 0
-ComesAlong live program function arm path old new w =
-    ((u : ℕ) × live u × (denotes program function (arm ∷ path) w ≡ denotes program function path u) × (new w ≡ old u))
-    ⊎ ((x : ℕ) × (denotes program function (arm ∷ path) w ≡ zero x) × (new w ≡ 0))
-
--- Nothing is assigned and no name is given at the arm's target, and values come along.
-pub record EntersThere (live : ℕ → Type 0) (program : Program) (function : Function) (arm : Arm) (path : Path) (old new : ℕ → ℕ) : Type 0 where
-  pub known : program.is_sealed arm.target ≡ true
-  pub unassigned : (x : ℕ) → program.assigned arm.target x ≡ None
-  pub no_names : (n : ℕ) → (program.naming n).home ≢ arm.target
-  pub comes : (w : ℕ) → live w → ComesAlong live program function arm path old new w
-  pub zeros_stay : (w y : ℕ) → (function.definition w).kind ≡ zero_of y → new w ≡ old w
-
-module _ (live : ℕ → Type 0) (program : Program) (function : Function) (arm : Arm) (path : Path) (old new : ℕ → ℕ)
-    (enters : EntersThere live program function arm path old new)
-    (variables : ℕ → ℕ) (names : Name → ℕ) (agrees : Agrees live program function path variables names old)
-    (zeros : ZerosAreZero program function path variables names old)
-  where
-    same_variable_there : (x : ℕ) → instances program (arm ∷ path) (variable x) ≡ instances program path (variable x)
-    same_variable_there x = variable-kept program arm path x enters.known (enters.unassigned x)
-
-    same_name_there : (n : Name) → instances program (arm ∷ path) (name (code n)) ≡ instances program path (name (code n))
-    same_name_there n = name-past program arm path (code n) (enters.no_names (code n))
-
-    pub entered_agrees : Agrees live program function (arm ∷ path) variables names new
-    entered_agrees = record {
-      of_variable = λ x w is_live same. variable_by x w same (enters.comes w is_live);
-      of_name = λ n w is_live same. name_by n w same (enters.comes w is_live);
-    }
-      where
-        variable_by : (x w : ℕ) → instances program (arm ∷ path) (variable x) ≡ denotes program function (arm ∷ path) w
-            → ComesAlong live program function arm path old new w → variables x ≡ new w
-        variable_by x w same (inl from) = agrees.of_variable x from.0 from.1 (sym (same_variable_there x) ∙ same ∙ from.2) ∙ sym from.3
-        variable_by x w same (inr none) = zeros.of_variable x none.0 (sym (same_variable_there x) ∙ same ∙ none.1) ∙ sym none.2
-
-        name_by : (n : Name) (w : ℕ) → instances program (arm ∷ path) (name (code n)) ≡ denotes program function (arm ∷ path) w
-            → ComesAlong live program function arm path old new w → names n ≡ new w
-        name_by n w same (inl from) = agrees.of_name n from.0 from.1 (sym (same_name_there n) ∙ same ∙ from.2) ∙ sym from.3
-        name_by n w same (inr none) = zeros.of_name n none.0 (sym (same_name_there n) ∙ same ∙ none.1) ∙ sym none.2
-
-    pub entered_zeros : ZerosAreZero program function (arm ∷ path) variables names new
-    entered_zeros = record {
-      of_variable = λ x y is. zeros.of_variable x y (sym (same_variable_there x) ∙ is);
-      of_name = λ n y is. zeros.of_name n y (sym (same_name_there n) ∙ is);
-      of_value = λ w y is. enters.zeros_stay w y is ∙ zeros.of_value w y is;
-    }
 
 -- where all bits are zero, they agree
 pub zeros_agree : (live : ℕ → Type 0) (program : Program) (function : Function) (path : Path) (variables : ℕ → ℕ) (names : Name → ℕ) (values : ℕ → ℕ)

@@ -40,11 +40,11 @@ module _ (calls : List AnsweredCall) (f : Body) (ssa : SsaState) (width : Pointe
     -- with an entry
     entered : (entry : Name) → (program_so_far calls).entry ≡ Some entry → SameMeaning (observed left) (observed right)
     entered entry is_entry =
-        let empty = Starting.no_arguments calls entry (types_of f.signature.params) world is_entry premises.well_typed.entry fits.arguments in
+        let as_many = Starting.arguments_count calls entry (types_of f.signature.params) world is_entry premises.well_typed.entry fits.arguments in
         Stuttering.same_meaning left right
         (Stepping.Related calls f ssa consistent carries finished width world f.signature premises.given_before premises.targets_filled premises.well_typed)
         (Stepping.measure calls f ssa consistent carries finished width world f.signature premises.given_before premises.targets_filled premises.well_typed)
-        (Starting.simulates calls f ssa consistent carries finished width world f.signature premises.given_before premises.targets_filled premises.well_typed entry is_entry empty)
+        (Starting.simulates calls f ssa consistent carries finished width world f.signature premises.given_before premises.targets_filled premises.well_typed entry is_entry as_many)
 
     -- with none both are stuck at once
     not_entered : (program_so_far calls).entry ≡ None → SameMeaning (observed left) (observed right)

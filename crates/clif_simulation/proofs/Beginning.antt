@@ -1,6 +1,7 @@
 -- A new function carries the empty list of calls; and the current block of a list is one for program and ledger.
 use Rattle.std.proofs.Common.{◌≡◌, List, [], ◌∷◌, ◌++◌, length, refl, sym, ◌∙◌, arith, Some, None, inl, Bool, true, false}
-use Rattle.std.specs.Prelude.{Option, fold, if◌then◌else◌}
+use Rattle.std.specs.Prelude.{ℕ, zero, suc, Option, fold, if◌then◌else◌, option_and_then, slice_get}
+use Rattle.clif_types.specs.declared.types.«Type».{«Type»}
 use Rattle.clif_types.specs.declared.extname.UserFuncName.{UserFuncName}
 use Rattle.clif_types.specs.Signature.{SignatureShape}
 use Rattle.clif_ir.specs.Body.{empty_body}
@@ -11,8 +12,8 @@ use Rattle.clif_ssa.proofs.StructuredLaws.{first_structured}
 use Rattle.clif_ssa.proofs.Writing.{first_described}
 use Rattle.clif_meaning.specs.Name.{Name, answer_of}
 use Rattle.clif_meaning.specs.Instruction.{Operation, Edge}
-use Rattle.clif_meaning.specs.Request.{Request, CreateBlock, SwitchToBlock, SealBlock, SealAllBlocks, InsertBlockAfter, SetColdBlock, EnsureInsertedBlock, DeclareVar, DefVar, UseVar, Build, Finalize, Script, AnsweredCall, script_of}
-use Rattle.clif_meaning.specs.Ledger.{Ledger, ledger_after, ledger_with, empty_ledger, with_layout, with_begun_at, with_begun, with_filled_at, with_terminator, with_predecessor, is_inserted, is_terminator}
+use Rattle.clif_meaning.specs.Request.{Request, CreateBlock, SwitchToBlock, SealBlock, SealAllBlocks, InsertBlockAfter, SetColdBlock, EnsureInsertedBlock, AppendBlockParams, AppendFunctionParams, DeclareVar, DefVar, UseVar, Build, Finalize, Script, AnsweredCall, script_of}
+use Rattle.clif_meaning.specs.Ledger.{Answered, Ledger, type_of, value_answer_type, ledger_after, ledger_with, empty_ledger, with_layout, with_begun_at, with_begun, with_filled_at, with_terminator, with_predecessor, is_inserted, is_terminator}
 use Rattle.clif_meaning.specs.Program.{Program, Item, with_call, empty_program, with_item_at, with_inserted}
 use Rattle.clif_simulation.specs.Tables.{program_so_far, IsProgramOf}
 use Rattle.clif_simulation.specs.Carries.{Carries}
@@ -61,6 +62,8 @@ current_next program ledger SealAllBlocks same = same
 current_next program ledger (InsertBlockAfter block after) same = same
 current_next program ledger (SetColdBlock block) same = same
 current_next program ledger EnsureInsertedBlock same = same ∙ sym (current-begun ledger ledger.current)
+current_next program ledger (AppendBlockParams block types) same = same
+current_next program ledger (AppendFunctionParams block types) same = same
 current_next program ledger (DeclareVar ty) same = same
 current_next program ledger (DefVar variable value) same = current-item program program.current _ ∙ same
 current_next program ledger (UseVar variable) same = current-item (with_inserted program) program.current _ ∙ same ∙ sym (current-begun ledger ledger.current)
@@ -76,6 +79,13 @@ current_fold (request ∷ script) program ledger same = current_fold script (wit
 pub one_current : (calls : List AnsweredCall) → (program_so_far calls).current ≡ (ledger_after (script_of calls)).current
 one_current calls = current_fold (script_of calls) empty_program empty_ledger refl
 
+none_typed : (N : Name) (ty : «Type») → type_of empty_ledger N ≡ Some ty → ⊥
+none_typed N ty is = by N.place is
+  where
+    by : (place : ℕ) → value_answer_type (option_and_then (λ (answers : List Answered). slice_get answers N.index) (slice_get [] place)) ≡ Some ty → ⊥
+    by zero h = cc
+    by (suc place) h = cc
+
 nothing_so_far : IsProgramOf [] no_blocks
 nothing_so_far = record {
   counts = λ b N named. absurd (some_none N named);
@@ -89,7 +99,9 @@ nothing_so_far = record {
   assigned_earlier = λ place x n is. absurd (some_none n is);
   distinct = λ b c N first second. absurd (some_none N first);
   blocks_earlier = λ b N named. absurd (some_none N named);
+  parameter = λ b N named. absurd (some_none N named);
   only_blocks = λ N. inl refl;
+  only_parameters = λ N. inl refl;
 }
 
 -- a new function carries the empty list of calls
@@ -101,6 +113,7 @@ carries_nothing name signature = record {
       distinct = λ b c N first second. absurd (some_none N first);
       earlier = λ b N named. absurd (some_none N named);
       only = λ N. inl refl;
+      only_parameters = λ N. inl refl;
     };
     items = λ b N named. absurd (some_none N named);
     earlier = λ N. tt;
@@ -110,7 +123,9 @@ carries_nothing name signature = record {
     own_inserted = λ b out. refl;
     declared = λ b inst k target here to. absurd (omega (arith, here.1));
     leads_own = λ target inst here. absurd (omega (arith, here.1));
-    no_parameters = λ b. refl;
+    parameters = λ b. refl;
+    parameters_values = λ N. tt;
+    values_typed = λ N ty is. absurd (none_typed N ty is);
     entry = record { none = λ none. refl; some = λ e is. absurd (some_none e is) };
     structured = λ types are. first_structured types name signature;
   };

@@ -186,8 +186,7 @@ module _ (calls : List AnsweredCall) (f : Body) (s : SsaState) (consistent : IsC
             (stands_at (block_at f (inst_at f i).block).insts stands.0 stands.1 ∙ ap (λ (n : ℕ). Some n) stands.2))
         by (origin.Param c) is =
             let known : param_home f r ≡ Some c = home_inside f.values r exists ∙ ap home_of_param is in
-            let defined = Edges.parameter_complete calls f s consistent carries finished placed c r known in
-            let same : c ≡ b = same_block (sym (ap (λ (d : Definition). d.home) defined) ∙ home) in
+            let same : c ≡ b = same_block (sym (Edges.parameter_front calls f s consistent carries finished placed c r known) ∙ home) in
             inl (home_stands f consistent r b (known ∙ ap (λ (d : ℕ). Some d) same))
         by (origin.Alias original) is =
             let none : alias_of f.values r ≡ None = subst (λ (v : ℕ). alias_of f.values v ≡ None) itself (resolved-no_alias f.values r consistent.aliases_end exists) in

@@ -27,7 +27,7 @@ use Rattle.clif_ssa.specs.Tables.{is_yes}
 use Rattle.clif_ssa.specs.Ssa.{SsaState, predecessors_of, sealed_of}
 use Rattle.clif_ssa.specs.Sound.{SameProgram, args_of, edge_target, edges_at, entry_of}
 use Rattle.clif_ssa.specs.SoundLaws.{with_entry, with_own, shape_passes, DescribesSoundly, IsOpen}
-use Rattle.clif_ssa.specs.Structured.{Structured, VariableTypes}
+use Rattle.clif_ssa.specs.Structured.{HasType, Structured, VariableTypes}
 use Rattle.clif_ssa.proofs.Bodies.{Firm, firm_from}
 use Rattle.clif_ssa.proofs.Completing.{SameButLayout, inserted_same, inserted_firm, entry_same}
 use Rattle.clif_ssa.proofs.Entering.{inserted_entry}
@@ -37,7 +37,7 @@ use Rattle.clif_ssa.proofs.StructuredLaws.{inserted_structured, instruction_stru
 use Rattle.clif_meaning.specs.Name.{Name, answer_of}
 use Rattle.clif_meaning.specs.Instruction.{Operation, Instruction, Edge}
 use Rattle.clif_meaning.specs.Request.{Build, AnsweredCall, script_of}
-use Rattle.clif_meaning.specs.Ledger.{AnInstruction, AValue, is_filled, is_terminator, ledger_after}
+use Rattle.clif_meaning.specs.Ledger.{AnInstruction, AValue, answers_to, is_filled, is_terminator, ledger_after, value_answer_type}
 use Rattle.clif_meaning.specs.Program.{Item, Instruct, result_types, answers_from, first_block}
 use Rattle.clif_meaning.specs.FunctionView.{Placed}
 use Rattle.clif_meaning.specs.View.{argument_of, edge_of, edges_of, operation_of, controlling_of, first_type}
@@ -50,6 +50,7 @@ use Rattle.clif_simulation.proofs.Giving.{In, contained_in}
 use Rattle.clif_simulation.proofs.Growing.{GoesOn, KeepsInsts, goes_on-from, goes_on-with_inst, insts_inserted, insts_kept}
 use Rattle.clif_simulation.proofs.ItemCalls.{PutsItem, adds_instruction, adds_result, last-with_item, number_of_answer}
 use Rattle.clif_simulation.proofs.Layouts.{out_before, never_out}
+use Rattle.clif_simulation.proofs.LedgerValues.{typed_on}
 use Rattle.clif_simulation.proofs.Ledgers.{fills, types_before}
 use Rattle.clif_simulation.proofs.NameLists.{the_one}
 use Rattle.clif_simulation.proofs.Requests
@@ -327,10 +328,23 @@ module _ (calls : List AnsweredCall) (f : Body) (s : SsaState) (c : Carries call
     edges_after : edges_of shape ≡ map (answered_edge after) instruction.edges
     edges_after = matches.edges ∙ sym (edges_kept calls call instruction.edges matches.edges_earlier)
 
+    none_typed : (index : ℕ) (a : «Type») → value_answer_type (slice_get (answers_to (ledger_after (script_of calls)) call.request) index) ≡ Some a
+        → HasType m (answered after (answer_of (length calls) index)) a
+    none_typed index a is =
+        absurd (by index (subst (λ (types : List «Type»). value_answer_type (slice_get (AnInstruction ∷ map AValue types) index) ≡ Some a) no_results is))
+      where
+        none_some : None ≡ Some a → ⊥
+        none_some h = cc
+
+        by : (i : ℕ) → value_answer_type (slice_get (AnInstruction ∷ []) i) ≡ Some a → ⊥
+        by zero h = none_some h
+        by (suc i) h = none_some h
+
     holds_branch : (t : SsaState) → AreDeclared m t mine.insts → LeadsOwn after mine t → ((types : VariableTypes) → AreTypes after types → Structured types mine m t []) → Holds after mine m t
     holds_branch t declared leads structured =
         holds_item calls call stays c.own mine f m s t c.holds (kept []) (keeps []).more (out_before f b) b B item current.named puts (i ∷ []) own_here own_elsewhere
-        c.holds.no_parameters (λ out. absurd (never_out f b out)) (own_new [] matches.operation operands_after edges_after [] controlling refl) (longer_insts [], tt) (
+        (λ d. refl) (typed_on calls call f m c.holds.values_typed (keeps []).types none_typed) (λ out. absurd (never_out f b out))
+        (own_new [] matches.operation operands_after edges_after [] controlling refl) (longer_insts [], tt) (
           all_mapped (IsEarlier calls) (IsEarlier after) (earlier_name calls call) instruction.operands matches.earlier,
           tt,
           all_mapped (EdgeEarlier calls) (EdgeEarlier after) (edge_earlier calls call stays) instruction.edges matches.edges_earlier,
@@ -485,6 +499,27 @@ module _ (calls : List AnsweredCall) (f : Body) (s : SsaState) (c : Carries call
           counts = described.2;
         }
 
+    result_typed : (index : ℕ) (a : «Type») → value_answer_type (slice_get (answers_to (ledger_after (script_of calls)) call.request) index) ≡ Some a
+        → HasType k (answered after (answer_of (length calls) index)) a
+    result_typed index a is = by index (subst (λ (types : List «Type»). value_answer_type (slice_get (AnInstruction ∷ map AValue types) index) ≡ Some a) one_result is)
+      where
+        none_some : None ≡ Some a → ⊥
+        none_some h = cc
+
+        some_is : (b e : «Type») → Some b ≡ Some e → b ≡ e
+        some_is b e same = cc
+
+        by : (j : ℕ) → value_answer_type (slice_get (AnInstruction ∷ AValue ty ∷ []) j) ≡ Some a → HasType k (answered after (answer_of (length calls) j)) a
+        by zero h = absurd (none_some h)
+        by (suc zero) h =
+            let same : ty ≡ a = some_is ty a h in
+            subst (λ (v : ℕ). HasType k v a) (number_of_answer calls call 1 (length h'.values) number)
+            (grind (arith, common_steps), ap (λ (node : ValueNode). node.ty) (last_type h'.values _) ∙ same)
+          where
+            h' : Body
+            h' = inserted_in f b
+        by (suc (suc j)) h = absurd (none_some h)
+
     pub carries_result : Carries after k s
     carries_result =
         let l = longer_calls calls call in
@@ -492,7 +527,7 @@ module _ (calls : List AnsweredCall) (f : Body) (s : SsaState) (c : Carries call
         record {
           own = mine;
           holds = holds_item calls call stays c.own mine f k s s c.holds (kept (ty ∷ [])) (keeps (ty ∷ [])).more (out_before f b) b B giving current.named puts_result (i ∷ []) own_here own_elsewhere
-              c.holds.no_parameters (λ out. absurd (never_out f b out)) result_is (longer_insts (ty ∷ []), tt) (
+              (λ d. refl) (typed_on calls call f k c.holds.values_typed (keeps (ty ∷ [])).types result_typed) (λ out. absurd (never_out f b out)) result_is (longer_insts (ty ∷ []), tt) (
                 all_mapped (IsEarlier calls) (IsEarlier after) (earlier_name calls call) instruction.operands matches.earlier,
                 (result_earlier, tt),
                 subst (AllByRecursion (EdgeEarlier after)) (sym matches.edges) tt,

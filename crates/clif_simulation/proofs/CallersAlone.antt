@@ -1,5 +1,5 @@
 -- Blocks to which at most one branch leads have no parameter of a variable, in every program.
-use Rattle.std.proofs.Common.{◌≡◌, ◌≢◌, ℕ, ◌≤◌, true, false, List, [], ◌∷◌, ◌++◌, length, map, Option, Some, None, refl, sym, ◌∙◌, ap, arith}
+use Rattle.std.proofs.Common.{◌≡◌, ◌≢◌, ℕ, ◌≤◌, true, false, List, [], ◌∷◌, ◌++◌, length, map, refl, sym, ◌∙◌, ap, arith}
 use Rattle.std.proofs.lemmas.List.{append-nil}
 use Rattle.clif_ir.specs.Body.{Body, block_at}
 use Rattle.clif_ssa.specs.Own.{Own}
@@ -9,12 +9,9 @@ use Rattle.clif_ssa.specs.Tables.{is_yes, pending_of}
 use Rattle.clif_ssa.specs.declared.tables.Pending.{Pending}
 use Rattle.clif_ssa.specs.declared.tables.Sealed.{Sealed}
 use Rattle.clif_ssa.specs.declared.tables.Sealed.TheVariants.{No, Yes}
-use Rattle.clif_meaning.specs.Name.{Name}
-use Rattle.clif_meaning.specs.Request.{AnsweredCall, script_of}
-use Rattle.clif_simulation.specs.Tables.{answered, block_name}
-use Rattle.clif_simulation.specs.Carries.{NothingLeads}
-use Rattle.clif_simulation.specs.Structure.{callers_parameters, HasCallersAlone, HasCallersParameters, KeepsNoParameter, LeavesFewParameters, LeavesNoParameter, NoneWaits}
-use Rattle.clif_simulation.proofs.Listed.{no_parameters}
+use Rattle.clif_meaning.specs.Request.{AnsweredCall}
+use Rattle.clif_simulation.specs.Carries.{NothingLeads, OwnParameters}
+use Rattle.clif_simulation.specs.Structure.{HasCallersAlone, HasCallersParameters, KeepsNoParameter, LeavesFewParameters, LeavesNoParameter, NoneWaits}
 
 -- where no branch leads anywhere, each block is one of these
 of_all : (calls : List AnsweredCall) (f : Body) (s : SsaState) → LeavesNoParameter calls f s → NothingLeads s → HasCallersParameters calls f
@@ -22,16 +19,8 @@ of_all calls f s leaves nothing b =
     let none : length (predecessors_of s b) ≡ 0 = ap (λ (leading : List ℕ). length leading) (nothing b) in leaves b (omega (arith, none))
 
 module _ (calls : List AnsweredCall) (f : Body) (s : SsaState) (own : Own) (types : VariableTypes) (structured : Structured types own f s [])
-    (no_callers : (b : ℕ) → own.params b ≡ [])
+    (callers_own : OwnParameters calls own)
   where
-    -- a block's parameters that the caller made are the program's: so far there are none
-    callers_own : (b : ℕ) → own.params b ≡ map (answered calls) (callers_parameters calls (block_name calls b))
-    callers_own b = no_callers b ∙ by (block_name calls b)
-      where
-        by : (o : Option Name) → [] ≡ map (answered calls) (callers_parameters calls o)
-        by None = refl
-        by (Some name) = ap (map (answered calls)) (sym (no_parameters (script_of calls) name))
-
     -- none waits in a sealed block, or where the construction knows of none
     sealed_waits : (b : ℕ) (sealed : Sealed) → is_yes sealed ≡ true → waiting_of f sealed [] b ≡ []
     sealed_waits b Yes is = refl
@@ -67,6 +56,25 @@ module _ (calls : List AnsweredCall) (f : Body) (s : SsaState) (own : Own) (type
           where
             apart : (v ∷ complete) ≡ [] → ⊥
             apart h = cc
+
+    -- a block in which none waits has the caller's alone, where at most one branch leads to it, or where it isn't sealed
+    pub alone_few : (b : ℕ) → length (predecessors_of s b) ≤ 1 → pending_of (sealed_of s b) ≡ [] → HasCallersAlone calls f b
+    alone_few b few none = alone b few (none_waiting b (sealed_of s b) none)
+
+    pub alone_unsealed : (b : ℕ) → is_yes (sealed_of s b) ≡ false → pending_of (sealed_of s b) ≡ [] → HasCallersAlone calls f b
+    alone_unsealed b unsealed none = callers_first b (none_waiting b (sealed_of s b) none) ∙ by (structured.parameters b).complete refl ∙ callers_own b
+      where
+        by : (complete : List ℕ) → (structured.parameters b).complete ≡ complete → own.params b ++ complete ≡ own.params b
+        by [] is = append-nil (own.params b)
+        by (v ∷ complete) is =
+            let some : (structured.parameters b).complete ≢ [] = λ empty. apart (sym is ∙ empty) in
+            absurd (both (sym ((structured.parameters b).several some).0 ∙ unsealed))
+          where
+            apart : (v ∷ complete) ≡ [] → ⊥
+            apart h = cc
+
+            both : true ≡ false → ⊥
+            both h = cc
 
     keeps_none : KeepsNoParameter calls f s
     keeps_none b sealed few = alone b few (sealed_waits b (sealed_of s b) sealed)

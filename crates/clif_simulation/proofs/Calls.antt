@@ -31,14 +31,16 @@ use Rattle.clif_ssa.proofs.StructuredLaws.{assigned_structured, block_structured
 use Rattle.clif_ssa.proofs.Writing.{same_state, block_described, write_item_described, read_item_described}
 use Rattle.clif_meaning.specs.Name.{Name, answer_of}
 use Rattle.clif_meaning.specs.Request.{Request, CreateBlock, SwitchToBlock, SealBlock, DeclareVar, DefVar, UseVar, AnsweredCall, script_of, number_of}
-use Rattle.clif_meaning.specs.Ledger.{BlockState, ABlock, AVariable, AValue, answers_to, ledger_after, has_value, is_filled, or_invalid, variable_type}
+use Rattle.clif_meaning.specs.Ledger.{BlockState, ABlock, AVariable, AValue, answers_to, ledger_after, has_value, is_filled, or_invalid, value_answer_type, variable_type}
 use Rattle.clif_meaning.specs.Program.{Use, Assign}
-use Rattle.clif_simulation.specs.Tables.{code, number_or_none, program_so_far, block_name}
+use Rattle.clif_simulation.specs.Tables.{answered, code, number_or_none, program_so_far, block_name}
 use Rattle.clif_simulation.specs.Carries.{AreTypes, Carries, IsCurrent, NamesBlocks, SoundOnPaths, ValuesGiven, HasEntry}
-use Rattle.clif_simulation.proofs.Carrying.{declared_kept, holds_item, holds_on, leads_kept, spares_before, spares_item}
+use Rattle.clif_simulation.proofs.Carrying.{declared_kept, holds_item, holds_on, leads_kept, only_parameters, parameters_on, parameters_values_on, spares_before, spares_item}
 use Rattle.clif_simulation.proofs.Growing.{KeepsInsts, goes_on-constructs, insts_kept, insts_same}
-use Rattle.clif_simulation.proofs.ItemCalls.{adds_use, adds_assignment}
+use Rattle.clif_simulation.proofs.ItemCalls.{adds_use, adds_assignment, number_of_answer}
 use Rattle.clif_simulation.proofs.Layouts.{out_before}
+use Rattle.clif_simulation.proofs.LedgerValues.{none_new, typed_on}
+use Rattle.clif_simulation.proofs.Listed.{MakesNoParameter, parameters_stay}
 use Rattle.clif_simulation.proofs.Ledgers.{types_before}
 use Rattle.clif_simulation.proofs.NameLists.{the_one, MakesNoBlock, names_stay, names_of}
 use Rattle.clif_simulation.proofs.Requests
@@ -135,7 +137,10 @@ module _ (calls : List AnsweredCall) (f : Body) (s : SsaState) (c : Carries call
       record {
         own = c.own;
         holds = holds_on calls call (kept calls call refl) c.own c.own f (with_block f) s t c.holds (λ i below. refl) (omega arith) (λ b out. out)
-            (λ b. refl) c.holds.no_parameters blocks named items
+            (λ b. refl)
+            (parameters_on calls call (kept calls call refl) c.own c.own f (with_block f) s t c.holds (λ i below. refl) (omega arith) (λ b out. out) tt (λ b. refl) bare)
+            (parameters_values_on calls call (kept calls call refl) c.own c.own f (with_block f) s t c.holds (λ i below. refl) (omega arith) (λ b out. out) tt)
+            (typed_on calls call f (with_block f) c.holds.values_typed (λ v ty typed. typed) (λ index ty is. absurd (none_new calls call one_answer_none index ty is))) blocks named items
             (declared_kept c.own f (with_block f) s t (insts_same f (with_block f) refl refl) leads c.holds.own_exist c.holds.declared)
             (leads_kept calls call c.own c.own s t (kept calls call refl) (λ b i h. h) leads c.holds.leads_own)
             (entry_stays calls (calls ++ call ∷ []) f (with_block f) (Requests.entry_created calls call refl) refl (kept calls call refl) c.holds.entry)
@@ -175,11 +180,34 @@ module _ (calls : List AnsweredCall) (f : Body) (s : SsaState) (c : Carries call
           by (inl old) = inl old
           by (inr new) = inr (empty b new.0, no_items N new.1 (c.holds.blocks.only N))
 
+      no_parameters : (N : Name) → answer_of (length calls) 0 ≡ N → ((program_so_far calls).parameters N ≡ []) ⊎ ((b : ℕ) × (block_name calls b ≡ Some N)) → (program_so_far calls).parameters N ≡ []
+      no_parameters N new (inl none) = none
+      no_parameters N new (inr block) =
+          let earlier : N.place < length calls = c.holds.blocks.earlier block.0 N block.1 in
+          let late : length calls ≡ N.place = ap (λ (M : Name). M.place) new in
+          absurd (omega (arith, earlier, late))
+
+      past_names : (names : List Name) → slice_get names (length names) ≡ None
+      past_names [] = refl
+      past_names (N ∷ names) = past_names names
+
+      bare : (b : ℕ) (N : Name) → block_name (with_answers CreateBlock numbers) b ≡ Some N → (block_name calls b ≡ Some N) ⊎ ((block_name calls b ≡ None) × ((program_so_far calls).parameters N ≡ []))
+      bare b N is = by (old_or_new calls (the_call CreateBlock numbers) refl b N is)
+        where
+          by : (block_name calls b ≡ Some N) ⊎ ((b ≡ length (names_of (ledger_after (script_of calls)).blocks)) × (answer_of (length calls) 0 ≡ N))
+              → (block_name calls b ≡ Some N) ⊎ ((block_name calls b ≡ None) × ((program_so_far calls).parameters N ≡ []))
+          by (inl old) = inl old
+          by (inr new) = inr (
+            ap (slice_get (names_of (ledger_after (script_of calls)).blocks)) new.0 ∙ past_names (names_of (ledger_after (script_of calls)).blocks),
+            no_parameters N new.1 (c.holds.blocks.only_parameters N),
+          )
+
       blocks : NamesBlocks (with_answers CreateBlock numbers)
       blocks = record {
         distinct = λ b d N first second. one b d N (old_or_new calls (the_call CreateBlock numbers) refl b N first) (old_or_new calls (the_call CreateBlock numbers) refl d N second);
         earlier = λ b N is. early b N (old_or_new calls (the_call CreateBlock numbers) refl b N is);
         only = λ N. stay N (c.holds.blocks.only N);
+        only_parameters = λ N. still N (c.holds.blocks.only_parameters N);
       }
         where
           more : length (with_answers CreateBlock numbers) ≡ suc (length calls)
@@ -208,11 +236,16 @@ module _ (calls : List AnsweredCall) (f : Body) (s : SsaState) (c : Carries call
           stay N (inl none) = inl (Requests.items_created calls (the_call CreateBlock numbers) refl N ∙ none)
           stay N (inr block) = inr (block.0, kept calls (the_call CreateBlock numbers) refl block.0 N block.1)
 
+          still : (N : Name) → ((program_so_far calls).parameters N ≡ []) ⊎ ((b : ℕ) × (block_name calls b ≡ Some N))
+              → ((program_so_far (with_answers CreateBlock numbers)).parameters N ≡ []) ⊎ ((b : ℕ) × (block_name (with_answers CreateBlock numbers) b ≡ Some N))
+          still N (inl none) = inl (parameters_stay calls (the_call CreateBlock numbers) tt N ∙ none)
+          still N (inr block) = inr (block.0, kept calls (the_call CreateBlock numbers) refl block.0 N block.1)
+
   -- A CALL WITHOUT AN ITEM ----------------------------------------------------------------------------------------------
 
   -- A call that makes no block and no item, and answers no value: the construction may go on, and blocks may enter the
   -- layout behind the entry.
-  pub carries_on : (call : AnsweredCall) (g : Body) (t : SsaState) → MakesNoBlock call.request
+  pub carries_on : (call : AnsweredCall) (g : Body) (t : SsaState) → MakesNoBlock call.request → MakesNoParameter call.request
       → ((N : Name) → (program_so_far (calls ++ call ∷ [])).items N ≡ (program_so_far calls).items N)
       → ((entry : Name) → (program_so_far calls).entry ≡ Some entry → (program_so_far (calls ++ call ∷ [])).entry ≡ Some entry)
       → HasEntry (calls ++ call ∷ []) g
@@ -221,14 +254,20 @@ module _ (calls : List AnsweredCall) (f : Body) (s : SsaState) (c : Carries call
       → ((types : VariableTypes) (own : Own) → Structured types own f s [] → Structured types own g t [])
       → ((own : Own) (tables : Blocks) → DescribesSoundly own f s tables → Keeps own tables g t)
       → Carries (calls ++ call ∷ []) g t
-  carries_on call g t no_block items entry enters no_value keeps layout leads structured sound = record {
+  carries_on call g t no_block no_parameter items entry enters no_value keeps layout leads structured sound = record {
     own = c.own;
     holds = holds_on calls call (name_stays calls call no_block) c.own c.own f g s t c.holds (λ i below. keeps.placed c.own i below) keeps.more
-        layout (λ b. refl) c.holds.no_parameters
+        layout (λ b. refl)
+        (parameters_on calls call (name_stays calls call no_block) c.own c.own f g s t c.holds (λ i below. keeps.placed c.own i below) keeps.more layout no_parameter (λ b. refl)
+        (λ b N is. inl (was b N is)))
+        (parameters_values_on calls call (name_stays calls call no_block) c.own c.own f g s t c.holds (λ i below. keeps.placed c.own i below) keeps.more layout no_parameter)
+        (typed_on calls call f g c.holds.values_typed keeps.types (λ index ty is. absurd (none_new calls call no_value index ty is)))
         (record {
           distinct = λ b d N first second. c.holds.blocks.distinct b d N (was b N first) (was d N second);
           earlier = λ b N is. let e = c.holds.blocks.earlier b N (was b N is) in let l = longer_calls calls call in omega (arith, e, l);
           only = λ N. only N (c.holds.blocks.only N);
+          only_parameters = only_parameters calls call (name_stays calls call no_block) c.own c.own f g s t c.holds (λ i below. keeps.placed c.own i below) keeps.more layout no_parameter
+              (names_stay calls call no_block);
         })
         (λ b N is. inl (was b N is)) items
         (declared_kept c.own f g s t keeps leads c.holds.own_exist c.holds.declared)
@@ -241,7 +280,7 @@ module _ (calls : List AnsweredCall) (f : Body) (s : SsaState) (c : Carries call
         let after : Keeps c.own p.tables g t = sound c.own p.tables (p.describes, p.sound, p.counts) in
         record {
           tables = after.tables;
-          program = unchanged calls call p.tables after.tables after.same no_block items p.program;
+          program = unchanged calls call p.tables after.tables after.same no_block no_parameter items p.program;
           values_given = values_kept calls call p.tables after.tables after.same no_value p.values_given;
           describes = after.describes;
           sound = after.sound;
@@ -258,7 +297,7 @@ module _ (calls : List AnsweredCall) (f : Body) (s : SsaState) (c : Carries call
       only N (inr block) = inr (block.0, name_stays calls call no_block block.0 N block.1)
 
   -- The same where the layout and the entry stay.
-  pub carries_kept : (call : AnsweredCall) (g : Body) (t : SsaState) → MakesNoBlock call.request
+  pub carries_kept : (call : AnsweredCall) (g : Body) (t : SsaState) → MakesNoBlock call.request → MakesNoParameter call.request
       → ((N : Name) → (program_so_far (calls ++ call ∷ [])).items N ≡ (program_so_far calls).items N)
       → (program_so_far (calls ++ call ∷ [])).entry ≡ (program_so_far calls).entry
       → ((index : ℕ) → is_value_at (answers_to (ledger_after (script_of calls)) call.request) index ≡ false)
@@ -266,8 +305,8 @@ module _ (calls : List AnsweredCall) (f : Body) (s : SsaState) (c : Carries call
       → ((types : VariableTypes) (own : Own) → Structured types own f s [] → Structured types own g t [])
       → ((own : Own) (tables : Blocks) → DescribesSoundly own f s tables → Keeps own tables g t)
       → Carries (calls ++ call ∷ []) g t
-  carries_kept call g t no_block items entry no_value keeps layout leads structured sound =
-      carries_on call g t no_block items (λ e is. entry ∙ is)
+  carries_kept call g t no_block no_parameter items entry no_value keeps layout leads structured sound =
+      carries_on call g t no_block no_parameter items (λ e is. entry ∙ is)
       (entry_stays calls (calls ++ call ∷ []) f g entry (ap (λ (l : List ℕ). slice_get l 0) layout) (name_stays calls call no_block) c.holds.entry)
       no_value keeps (λ b out. ap (stands_in b) (sym layout) ∙ out) leads structured sound
 
@@ -279,14 +318,14 @@ module _ (calls : List AnsweredCall) (f : Body) (s : SsaState) (c : Carries call
   pub carries_switched : (block : Name) (numbers : List ℕ) → Carries (with_answers (SwitchToBlock block) numbers) f s
   carries_switched block numbers =
       let call : AnsweredCall = the_call (SwitchToBlock block) numbers in
-      carries_kept call f s tt (Requests.items_switched calls call block refl) (Requests.entry_switched calls call block refl) (λ index. refl)
+      carries_kept call f s tt tt (Requests.items_switched calls call block refl) (Requests.entry_switched calls call block refl) (λ index. refl)
       (insts_same f f refl refl) refl (λ b. refl) (λ types own h. h) still
 
   -- a variable is declared
   pub carries_declared : (ty : «Type») (numbers : List ℕ) → Carries (with_answers (DeclareVar ty) numbers) f s
   carries_declared ty numbers =
       let call : AnsweredCall = the_call (DeclareVar ty) numbers in
-      carries_kept call f s tt (Requests.items_declared calls call ty refl) (Requests.entry_declared calls call ty refl)
+      carries_kept call f s tt tt (Requests.items_declared calls call ty refl) (Requests.entry_declared calls call ty refl)
       (one_variable_none (length (ledger_after (script_of calls)).variables))
       (insts_same f f refl refl) refl (λ b. refl) (λ types own h. h) still
 
@@ -298,7 +337,7 @@ module _ (calls : List AnsweredCall) (f : Body) (s : SsaState) (c : Carries call
       → Carries (with_answers (SealBlock block) numbers) g t
   carries_sealed g t block numbers consistent keeps structured constructs layout leads =
       let call : AnsweredCall = the_call (SealBlock block) numbers in
-      carries_kept call g t tt (Requests.items_sealed calls call block refl) (Requests.entry_sealed calls call block refl) (λ index. refl)
+      carries_kept call g t tt tt (Requests.items_sealed calls call block refl) (Requests.entry_sealed calls call block refl) (λ index. refl)
       (insts_kept f g consistent (goes_on-constructs f g constructs)) layout leads structured keeps
 
   -- IN THE CURRENT BLOCK, WHICH HAS NO TERMINATOR -----------------------------------------------------------------------
@@ -326,7 +365,8 @@ module _ (calls : List AnsweredCall) (f : Body) (s : SsaState) (c : Carries call
         record {
           own = c.own;
           holds = holds_item calls call (name_stays calls call tt) c.own c.own f f s t c.holds (λ i below. refl) (omega arith) (λ d out. out) b B (Assign x n) current.named puts []
-              (sym (append-nil (c.own.insts b))) (λ d other. refl) c.holds.no_parameters (λ out. refl) refl tt (let l = longer_calls calls call in omega (arith, earlier, l)) plain
+              (sym (append-nil (c.own.insts b))) (λ d other. refl) (λ d. refl) (typed_on calls call f f c.holds.values_typed (λ v ty typed. typed) (λ index a is. absurd (none_new calls call (λ k. refl) index a is)))
+              (λ out. refl) refl tt (let l = longer_calls calls call in omega (arith, earlier, l)) plain
               (declared_kept c.own f f s t (insts_same f f refl refl) leads c.holds.own_exist c.holds.declared)
               (leads_kept calls call c.own c.own s t (name_stays calls call tt) (λ d i h. h) leads c.holds.leads_own)
               (entry_stays calls (calls ++ call ∷ []) f f entry refl (name_stays calls call tt) c.holds.entry)
@@ -355,9 +395,9 @@ module _ (calls : List AnsweredCall) (f : Body) (s : SsaState) (c : Carries call
     pub carries_used : (g : Body) (t : SsaState) (x v : ℕ) (ty : «Type») → variable_type (ledger_after (script_of calls)) x ≡ Some ty
         → ((own : Own) (tables : Blocks) → DescribesSoundly own (inserted_in f b) s tables → KeepsAndKnows own tables g t b x v)
         → ((types : VariableTypes) (own : Own) → types x ≡ ty → Structured types own (inserted_in f b) s [] → Structured types own g t [])
-        → OnlyConstructs (inserted_in f b) g → g.layout ≡ (inserted_in f b).layout → SamePredecessors s t → v < length g.values
+        → OnlyConstructs (inserted_in f b) g → g.layout ≡ (inserted_in f b).layout → SamePredecessors s t → HasType g v ty
         → Carries (with_answers (UseVar x) (v ∷ [])) g t
-    carries_used g t x v ty of_type sound structured constructs layout leads exists =
+    carries_used g t x v ty of_type sound structured constructs layout leads has_type =
         let call : AnsweredCall = the_call (UseVar x) (v ∷ []) in
         let name : Name = answer_of (length calls) 0 in
         let h : Body = inserted_in f b in
@@ -368,7 +408,8 @@ module _ (calls : List AnsweredCall) (f : Body) (s : SsaState) (c : Carries call
           own = c.own;
           holds = holds_item calls call (name_stays calls call tt) c.own c.own f g s t c.holds (λ i below. keeps.placed c.own i below) keeps.more
               (λ d out. out_before f b d (ap (stands_in d) (sym layout) ∙ out)) b B (Use x name) current.named puts []
-              (sym (append-nil (c.own.insts b))) (λ d other. refl) c.holds.no_parameters (λ out. refl) refl tt (let l = longer_calls calls call in omega (arith, l)) plain
+              (sym (append-nil (c.own.insts b))) (λ d other. refl) (λ d. refl) (typed_on calls call f g c.holds.values_typed keeps.types used_typed)
+              (λ out. refl) refl tt (let l = longer_calls calls call in omega (arith, l)) plain
               (declared_kept c.own f g s t keeps leads c.holds.own_exist c.holds.declared)
               (leads_kept calls call c.own c.own s t (name_stays calls call tt) (λ d i here. here) leads c.holds.leads_own)
               (entry_begun calls (calls ++ call ∷ []) f g b B entry layout current.named (name_stays calls call tt) c.holds.entry)
@@ -384,7 +425,7 @@ module _ (calls : List AnsweredCall) (f : Body) (s : SsaState) (c : Carries call
               let was = restated calls p.tables T same p.program in
               let T' : Blocks = with_read (with_item T b) b (code name) x v in
               let read : DescribesSoundly c.own g t T' =
-              read_item_described c.own g t T b (code name) x v (after.kept.describes, after.kept.sound, after.kept.counts) (open_kept f g s t b keeps leads exist opened) (next_is_new calls T 0 was) after.known exists in
+              read_item_described c.own g t T b (code name) x v (after.kept.describes, after.kept.sound, after.kept.counts) (open_kept f g s t b keeps leads exist opened) (next_is_new calls T 0 was) after.known has_type.0 in
               let unwritten : (y : ℕ) → T.assigned (inside b (suc (T.count b))) y ≡ None = λ y. after.kept.describes.unwritten b (suc (T.count b)) y (omega arith) in
               let adds = adds_use calls call T b B current.named unwritten x v puts refl in
               record {
@@ -398,3 +439,19 @@ module _ (calls : List AnsweredCall) (f : Body) (s : SsaState) (c : Carries call
                 counts = read.2;
               };
         }
+      where
+        used : AnsweredCall
+        used = the_call (UseVar x) (v ∷ [])
+
+        number : answered (calls ++ used ∷ []) (answer_of (length calls) 0) ≡ v
+        number = sym (number_of_answer calls used 0 v refl)
+
+        some_is : (a e : «Type») → Some a ≡ Some e → a ≡ e
+        some_is a e same = cc
+
+        used_typed : (index : ℕ) (a : «Type») → value_answer_type (slice_get (answers_to (ledger_after (script_of calls)) (UseVar x)) index) ≡ Some a
+            → HasType g (answered (calls ++ used ∷ []) (answer_of (length calls) index)) a
+        used_typed zero a is =
+            let same : ty ≡ a = sym (ap or_invalid of_type) ∙ some_is (or_invalid (variable_type (ledger_after (script_of calls)) x)) a is in
+            subst (λ (w : ℕ). HasType g w a) (sym number) (subst (HasType g v) same has_type)
+        used_typed (suc index) a is = cc

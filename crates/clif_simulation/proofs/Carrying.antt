@@ -16,12 +16,14 @@ use Rattle.clif_meaning.specs.Instruction.{Argument, Known, CallResult, CallPayl
 use Rattle.clif_meaning.specs.Request.{AnsweredCall}
 use Rattle.clif_meaning.specs.Program.{Item, Instruct, Use, Assign}
 use Rattle.clif_meaning.specs.FunctionView.{Placed}
-use Rattle.clif_simulation.specs.Tables.{answered, program_so_far, block_name}
-use Rattle.clif_simulation.specs.Carries.{AreDeclared, AreTypes, EdgeEarlier, EdgesEnd, HasEntry, HasItems, Holds, IsEarlier, LeadsOwn, NamesBlocks, NamesEarlier, OwnExist, PassesEarlier, SparesBlock, SparesEntry, answered_argument, answered_edge, answered_instruction, carried, own_placed}
+use Rattle.clif_simulation.specs.Tables.{answered, callers_parameters, program_so_far, block_name}
+use Rattle.clif_simulation.specs.Carries.{AreDeclared, AreTypes, EdgeEarlier, EdgesEnd, HasEntry, HasItems, Holds, IsEarlier, IsValue, LeadsOwn, NamesBlocks, NamesEarlier, OwnExist, OwnParameters, PassesEarlier, SparesBlock, SparesEntry, ValuesTyped, answered_argument, answered_edge, answered_instruction, carried, own_placed}
 use Rattle.clif_simulation.proofs.Extending.{one_answer}
 use Rattle.clif_simulation.proofs.Growing.{KeepsInsts}
 use Rattle.clif_simulation.proofs.ItemCalls.{PutsItem, items-here, items-elsewhere, same_or_other}
 use Rattle.clif_simulation.proofs.Ledgers.{filled_stays}
+use Rattle.clif_simulation.proofs.LedgerValues.{value_earlier, value_stays}
+use Rattle.clif_simulation.proofs.Listed.{MakesNoParameter, parameters_stay}
 use Rattle.clif_simulation.proofs.NameLists.{names_stay}
 use Rattle.clif_simulation.proofs.Numbers.{answered_stays}
 use Rattle.clif_simulation.proofs.Unfilled.{HasNoEdges, one_more_ends}
@@ -76,7 +78,7 @@ module _ (calls : List AnsweredCall) (call : AnsweredCall) where
   numbers_kept = map_same (answered after) (answered calls) (IsEarlier calls) (λ name earlier. answered_stays calls call name earlier)
 
   argument_kept : (argument : Argument Name) → PassesEarlier calls argument → answered_argument after argument ≡ answered_argument calls argument
-  argument_kept (Known name) earlier = ap Known (answered_stays calls call name earlier)
+  argument_kept (Known name) value = ap Known (answered_stays calls call name (value_earlier calls name value))
   argument_kept (CallResult index) earlier = refl
   argument_kept (CallPayload index) earlier = refl
 
@@ -122,7 +124,7 @@ module _ (calls : List AnsweredCall) (call : AnsweredCall) where
               more (d ∷ ds) = ap suc (more ds)
 
   passes_earlier : (argument : Argument Name) → PassesEarlier calls argument → PassesEarlier after argument
-  passes_earlier (Known name) earlier = earlier_name name earlier
+  passes_earlier (Known name) value = value_stays calls call name value
   passes_earlier (CallResult index) earlier = tt
   passes_earlier (CallPayload index) earlier = tt
 
@@ -194,14 +196,63 @@ module _ (calls : List AnsweredCall) (call : AnsweredCall) where
           map_same (own_placed own' g) (own_placed own f) (λ (i : ℕ). i < length f.insts) kept (own.insts block) (c.own_exist block)
           ∙ c.items block name named ∙ sym (all_carried ((program_so_far calls).items name) (c.earlier name))
 
+      -- The caller's parameters ---------------------------------------------------------------------------------------
+
+      parameters_earlier : (name : Name) → AllByRecursion (IsEarlier calls) ((program_so_far calls).parameters name)
+      parameters_earlier name = all_mapped (IsValue calls) (IsEarlier calls) (value_earlier calls) ((program_so_far calls).parameters name) (c.parameters_values name)
+
+      -- the program's parameters of a block have the numbers that they had
+      pub parameters_kept : (name : Name) → map (answered after) ((program_so_far calls).parameters name) ≡ map (answered calls) ((program_so_far calls).parameters name)
+      parameters_kept name = numbers_kept ((program_so_far calls).parameters name) (parameters_earlier name)
+
+      -- a call that makes no parameter leaves those of each block, and those of a new block are none
+      pub parameters_on : MakesNoParameter call.request → ((block : ℕ) → own'.params block ≡ own.params block)
+          → ((block : ℕ) (name : Name) → block_name after block ≡ Some name → (block_name calls block ≡ Some name) ⊎ ((block_name calls block ≡ None) × ((program_so_far calls).parameters name ≡ [])))
+          → OwnParameters after own'
+      parameters_on none same named block = same block ∙ c.parameters block ∙ by (block_name after block) refl
+        where
+          at_block : (o : Option Name) → block_name calls block ≡ o → map (answered calls) (callers_parameters calls (block_name calls block)) ≡ map (answered calls) (callers_parameters calls o)
+          at_block o is = ap (λ (p : Option Name). map (answered calls) (callers_parameters calls p)) is
+
+          old : (name : Name) → map (answered calls) ((program_so_far calls).parameters name) ≡ map (answered after) ((program_so_far after).parameters name)
+          old name = sym (parameters_kept name) ∙ ap (map (answered after)) (sym (parameters_stay calls call none name))
+
+          was_unnamed : (o : Option Name) → block_name calls block ≡ o → block_name after block ≡ None → block_name calls block ≡ None
+          was_unnamed None is unnamed = is
+          was_unnamed (Some name) is unnamed = absurd (none_some name (sym unnamed ∙ stays block name is))
+
+          of_name : (name : Name) → (block_name calls block ≡ Some name) ⊎ ((block_name calls block ≡ None) × ((program_so_far calls).parameters name ≡ []))
+              → map (answered calls) (callers_parameters calls (block_name calls block)) ≡ map (answered after) ((program_so_far after).parameters name)
+          of_name name (inl is) = at_block (Some name) is ∙ old name
+          of_name name (inr new) = at_block None new.0 ∙ ap (map (answered calls)) (sym new.1) ∙ old name
+
+          by : (o : Option Name) → block_name after block ≡ o → map (answered calls) (callers_parameters calls (block_name calls block)) ≡ map (answered after) (callers_parameters after (block_name after block))
+          by None is = at_block None (was_unnamed (block_name calls block) refl is) ∙ ap (λ (o : Option Name). map (answered after) (callers_parameters after o)) (sym is)
+          by (Some name) is = of_name name (named block name is) ∙ ap (λ (o : Option Name). map (answered after) (callers_parameters after o)) (sym is)
+
+      pub parameters_values_on : MakesNoParameter call.request → (name : Name) → AllByRecursion (IsValue after) ((program_so_far after).parameters name)
+      parameters_values_on none name =
+          subst (AllByRecursion (IsValue after)) (sym (parameters_stay calls call none name))
+          (all_mapped (IsValue calls) (IsValue after) (value_stays calls call) ((program_so_far calls).parameters name) (c.parameters_values name))
+
+      pub only_parameters : MakesNoParameter call.request → ((d : ℕ) → block_name after d ≡ block_name calls d)
+          → (name : Name) → ((program_so_far after).parameters name ≡ []) ⊎ ((block : ℕ) × (block_name after block ≡ Some name))
+      only_parameters none names name = by (c.blocks.only_parameters name)
+        where
+          by : ((program_so_far calls).parameters name ≡ []) ⊎ ((block : ℕ) × (block_name calls block ≡ Some name))
+              → ((program_so_far after).parameters name ≡ []) ⊎ ((block : ℕ) × (block_name after block ≡ Some name))
+          by (inl empty) = inl (parameters_stay calls call none name ∙ empty)
+          by (inr block) = inr (block.0, names block.0 ∙ block.1)
+
       -- A call without an item ------------------------------------------------------------------------------------------
 
-      pub holds_on : ((block : ℕ) → own'.insts block ≡ own.insts block) → ((block : ℕ) → own'.params block ≡ []) → NamesBlocks after
+      pub holds_on : ((block : ℕ) → own'.insts block ≡ own.insts block) → OwnParameters after own'
+          → ((name : Name) → AllByRecursion (IsValue after) ((program_so_far after).parameters name)) → ValuesTyped after g → NamesBlocks after
           → ((block : ℕ) (name : Name) → block_name after block ≡ Some name → (block_name calls block ≡ Some name) ⊎ ((own.insts block ≡ []) × ((program_so_far calls).items name ≡ [])))
           → ((name : Name) → (program_so_far after).items name ≡ (program_so_far calls).items name)
           → AreDeclared g t own'.insts → LeadsOwn after own' t → HasEntry after g
           → ((types : VariableTypes) → AreTypes after types → Structured types own' g t []) → Holds after own' g t
-      holds_on same no_parameters blocks named items declared leads entry structured = record {
+      holds_on same parameters parameters_values values_typed blocks named items declared leads entry structured = record {
         blocks = blocks;
         items = λ block name here. ap (map (own_placed own' g)) (same block) ∙ by block name (named block name here);
         earlier = λ name. subst (AllByRecursion (NamesEarlier after)) (sym (items name)) (all_mapped (NamesEarlier calls) (NamesEarlier after) earlier_stays ((program_so_far calls).items name) (c.earlier name));
@@ -211,7 +262,9 @@ module _ (calls : List AnsweredCall) (call : AnsweredCall) where
         own_inserted = λ block out. same block ∙ c.own_inserted block (inserted block out);
         declared = declared;
         leads_own = leads;
-        no_parameters = no_parameters;
+        parameters = parameters;
+        parameters_values = parameters_values;
+        values_typed = values_typed;
         entry = entry;
         structured = structured;
       }
@@ -229,7 +282,7 @@ module _ (calls : List AnsweredCall) (call : AnsweredCall) where
 
       module _ (b : ℕ) (B : Name) (item : Item) (named : block_name calls b ≡ Some B) (puts : PutsItem calls call B item) (new : List ℕ)
           (own_here : own'.insts b ≡ own.insts b ++ new) (own_elsewhere : (d : ℕ) → d ≢ b → own'.insts d ≡ own.insts d)
-          (no_parameters : (d : ℕ) → own'.params d ≡ []) (new_inserted : stands_in b g.layout ≡ false → new ≡ [])
+          (same_params : (d : ℕ) → own'.params d ≡ own.params d) (values_typed : ValuesTyped after g) (new_inserted : stands_in b g.layout ≡ false → new ≡ [])
           (new_is : map (own_placed own' g) new ≡ carried after item)
           (new_exist : AllByRecursion (λ (i : ℕ). i < length g.insts) new) (item_earlier : NamesEarlier after item)
           (no_edges : AllByRecursion HasNoEdges ((program_so_far calls).items B)) where
@@ -307,6 +360,7 @@ module _ (calls : List AnsweredCall) (call : AnsweredCall) where
             distinct = λ d e name first second. c.blocks.distinct d e name (sym (names d) ∙ first) (sym (names e) ∙ second);
             earlier = λ d name is. earlier_name name (c.blocks.earlier d name (sym (names d) ∙ is));
             only = λ name. only name (same_or_other B name) (c.blocks.only name);
+            only_parameters = only_parameters puts.no_parameter (λ d. names d);
           };
           items = items_of;
           earlier = each_item (AllByRecursion (NamesEarlier after)) (all_append (NamesEarlier after) ((program_so_far calls).items B) (item ∷ []) (old_earlier B) (item_earlier, tt)) old_earlier;
@@ -316,7 +370,9 @@ module _ (calls : List AnsweredCall) (call : AnsweredCall) where
           own_inserted = λ block out. own_outside block out (ℕ_discrete block b);
           declared = declared;
           leads_own = leads;
-          no_parameters = no_parameters;
+          parameters = parameters_on puts.no_parameter same_params (λ d name is. inl (sym (names d) ∙ is));
+          parameters_values = parameters_values_on puts.no_parameter;
+          values_typed = values_typed;
           entry = entry;
           structured = structured;
         }

@@ -7,7 +7,7 @@ use Rattle.clif_meaning.specs.Bits.{Bits}
 use Rattle.clif_meaning.specs.Memory.{Memory}
 use Rattle.clif_meaning.specs.Name.{Name, same_name, answer_of}
 use Rattle.clif_meaning.specs.Instruction.{Instruction, Operation, Compute, Jump, Brif, Return, Arithmetic, Iconst, Iadd, Isub}
-use Rattle.clif_meaning.specs.Request.{Request, CreateBlock, SwitchToBlock, SealBlock, SealAllBlocks, InsertBlockAfter, SetColdBlock, EnsureInsertedBlock, DeclareVar, DefVar, UseVar, Build, Finalize, Script}
+use Rattle.clif_meaning.specs.Request.{Request, CreateBlock, SwitchToBlock, SealBlock, SealAllBlocks, InsertBlockAfter, SetColdBlock, EnsureInsertedBlock, AppendBlockParams, AppendFunctionParams, DeclareVar, DefVar, UseVar, Build, Finalize, Script}
 use Rattle.clif_meaning.specs.Program.{Program, Item, Instruct, Use, Assign, result_types, result_names, answers_from, with_item_at, with_inserted, extended, with_call, empty_program, program_of}
 use Rattle.clif_meaning.specs.Ledger.{is_terminator}
 use Rattle.clif_meaning.specs.World.{World}
@@ -42,6 +42,8 @@ with_request program SealAllBlocks all = all
 with_request program (InsertBlockAfter block after) all = all
 with_request program (SetColdBlock block) all = all
 with_request program EnsureInsertedBlock all = all
+with_request program (AppendBlockParams block types) all = all
+with_request program (AppendFunctionParams block types) all = all
 with_request program (DeclareVar ty) all = all
 with_request program (DefVar variable value) all = with_one program program.current (Assign variable value) all tt
 with_request program (UseVar variable) all = with_one (with_inserted program) program.current (Use variable (answer_of program.place 0)) all tt

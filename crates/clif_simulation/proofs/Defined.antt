@@ -45,30 +45,13 @@ use Rattle.clif_simulation.proofs.Entry.{resolved_twice}
 use Rattle.clif_simulation.proofs.Flow
 use Rattle.clif_simulation.proofs.Flow.{IsGivenOn, at_index}
 use Rattle.clif_simulation.proofs.Giving.{In, contained_in, in_contained}
+use Rattle.clif_simulation.proofs.InLists.{among_all, in_either}
 use Rattle.clif_simulation.proofs.Listed.{none_mapped, place_within}
 use Rattle.clif_simulation.proofs.OwnEdges
 use Rattle.clif_simulation.proofs.Placing.{contained, contained_at, in_two, map_at, map_from}
 use Rattle.clif_simulation.proofs.Straight.{arms, next_arm}
 
 -- Lists -----------------------------------------------------------------------------------------------------------------
-
-in_either : {X : Type 0} (xs ys : List X) (y : X) → In y (xs ++ ys) → In y xs ⊎ In y ys
-in_either [] ys y there = inr there
-in_either (x ∷ xs) ys y (inl here) = inl (inl here)
-in_either {X} (x ∷ xs) ys y (inr there) = by (in_either xs ys y there)
-  where
-    by : In y xs ⊎ In y ys → In y (x ∷ xs) ⊎ In y ys
-    by (inl first) = inl (inr first)
-    by (inr second) = inr second
-
-in_first : {X : Type 0} (xs ys : List X) (y : X) → In y xs → In y (xs ++ ys)
-in_first [] ys y there = absurd there
-in_first (x ∷ xs) ys y (inl here) = inl here
-in_first (x ∷ xs) ys y (inr there) = inr (in_first xs ys y there)
-
-in_second : {X : Type 0} (xs ys : List X) (y : X) → In y ys → In y (xs ++ ys)
-in_second [] ys y there = there
-in_second (x ∷ xs) ys y there = inr (in_second xs ys y there)
 
 -- what is among lists that stand for elements is in the list of one of these
 record OfOne {X Y : Type 0} (g : X → List Y) (xs : List X) (y : Y) : Type 0 where
@@ -84,15 +67,6 @@ of_one {X} {Y} g (x ∷ xs) y there = by (in_either (g x) (flat_map g xs) y ther
     by : In y (g x) ⊎ In y (flat_map g xs) → (In y (flat_map g xs) → OfOne g xs y) → OfOne g (x ∷ xs) y
     by (inl first) later = record { k = 0; x = x; stands = refl; has = first }
     by (inr second) later = let found = later second in record { k = suc found.k; x = found.x; stands = found.stands; has = found.has }
-
-among_all : {X Y : Type 0} (g : X → List Y) (xs : List X) (k : ℕ) (x : X) (y : Y) → slice_get xs k ≡ Some x → In y (g x) → In y (flat_map g xs)
-among_all g [] zero x y stands has = cc
-among_all g [] (suc k) x y stands has = cc
-among_all {X} {Y} g (z ∷ xs) zero x y stands has = let same : x ≡ z = some_is z x stands in in_first (g z) (flat_map g xs) y (subst (λ (w : X). In y (g w)) same has)
-  where
-    some_is : (z x : X) → Some z ≡ Some x → x ≡ z
-    some_is z x e = cc
-among_all g (z ∷ xs) (suc k) x y stands has = in_second (g z) (flat_map g xs) y (among_all g xs k x y stands has)
 
 -- Arguments -------------------------------------------------------------------------------------------------------------
 
@@ -297,8 +271,8 @@ module _ (calls : List AnsweredCall) (f : Body) (s : SsaState) (consistent : IsC
           let below : place < length (block_at f d).params = omega (arith, behind, more, count, place_within is.call.args is.j (Value v) is.passes) in
           let w : ℕ = slice_index (block_at f d).params place in
           let home : param_home f w ≡ Some d = stands_home f consistent w d (place, below, refl) in
-          let defined = Edges.parameter_complete calls f s consistent carries finished placed d w home in
           let stands : place_of w (block_at f d).params ≡ place = place_at (block_at f d).params place (consistent.params_once d) below in
+          let defined = Edges.parameter_complete calls f s consistent carries finished placed d w home (omega (arith, stands)) in
           let arm = Beside.arm calls f s consistent carries finished placed targets q path name a is.n is.call is.stands in
           let into = Beside.into calls f s consistent carries finished placed targets q path name a is.n is.call is.stands in
           let passes : passed_at f a.i is.n is.j ≡ Some (Value (carries.tables.function.argument w arm)) =

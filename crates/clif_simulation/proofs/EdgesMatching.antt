@@ -16,23 +16,24 @@ use Rattle.clif_ssa.specs.Structure.{IsNeededZero}
 use Rattle.clif_ssa.specs.Structured.{VariableTypes, Structured, AreFor, EdgePasses}
 use Rattle.clif_meaning.specs.Name.{Name}
 use Rattle.clif_meaning.specs.Request.{AnsweredCall, script_of}
-use Rattle.clif_meaning.specs.Ledger.{ledger_after}
-use Rattle.clif_meaning.specs.Instruction.{Edge}
+use Rattle.clif_meaning.specs.Ledger.{ledger_after, or_invalid}
+use Rattle.clif_meaning.specs.Instruction.{Argument, Known, CallResult, CallPayload, Edge}
 use Rattle.clif_meaning.specs.Program.{Instruct}
 use Rattle.clif_meaning.specs.Event.{CallShape}
 use Rattle.clif_meaning.specs.FunctionView.{Placed}
 use Rattle.clif_meaning.specs.View.{argument_of, edge_of, edges_of, operation_of, placed_of, view_of}
 use Rattle.clif_meaning.specs.Typing.{EdgesMatch, EachEdgeMatches, EdgeMatches, argument_type, call_shape, value_types_at}
 use Rattle.clif_meaning.specs.Premises.{CallersEdgesMatch, ItemEdgesMatch, parameter_types}
-use Rattle.clif_simulation.specs.Tables.{answered, program_so_far, block_name}
-use Rattle.clif_simulation.specs.Carries.{HasItems, OwnNamed, AreDeclared, answered_argument, answered_edge, own_placed}
+use Rattle.clif_simulation.specs.Tables.{answered, callers_parameters, program_so_far, block_name}
+use Rattle.clif_simulation.specs.Carries.{AreDeclared, EdgeEarlier, HasItems, IsValue, NamesEarlier, OwnNamed, OwnParameters, PassesEarlier, ValuesTyped, answered_argument, answered_edge, own_placed}
 use Rattle.clif_simulation.specs.Structure.{NoneWaits}
 use Rattle.clif_simulation.proofs.CallersAlone
 use Rattle.clif_simulation.proofs.Carrying.{all_append, all_mapped}
-use Rattle.clif_simulation.proofs.Listed.{all_at, none_mapped}
+use Rattle.clif_simulation.proofs.Listed.{all_at}
 use Rattle.clif_simulation.proofs.OwnEdges.{passed_there}
 use Rattle.clif_simulation.proofs.Placing.{contained, map_at, map_from, OfItem, of_item}
-use Rattle.clif_simulation.proofs.Targets.{each_edge, each_matches, matching_passes_nothing, name_types}
+use Rattle.clif_simulation.proofs.Targets.{each_edge, each_matches, name_types}
+use Rattle.clif_simulation.proofs.LedgerValues.{value_type}
 
 -- what holds of what stands at each place holds of each entry
 pub all_where : {X : Type 0} (P : X → Type 0) (xs : List X) → ((k : ℕ) (x : X) → slice_get xs k ≡ Some x → P x) → AllByRecursion P xs
@@ -83,7 +84,8 @@ zero_matches f i is_zero =
     (sym (ap edges_of is_zero.shape)) (none_match f (call_shape (operation_of (inst_at f i).shape)))
 
 module _ (calls : List AnsweredCall) (f : Body) (s : SsaState) (own : Own) (types : VariableTypes) (structured : Structured types own f s [])
-    (no_callers : (b : ℕ) → own.params b ≡ []) (items : HasItems calls f own) (named_only : OwnNamed calls own.insts)
+    (callers_own : OwnParameters calls own) (parameters_values : (name : Name) → AllByRecursion (IsValue calls) ((program_so_far calls).parameters name))
+    (values_typed : ValuesTyped calls f) (earlier : (name : Name) → AllByRecursion (NamesEarlier calls) ((program_so_far calls).items name)) (items : HasItems calls f own) (named_only : OwnNamed calls own.insts)
     (declared : AreDeclared f s own.insts) (none_waits : NoneWaits s) (typed : CallersEdgesMatch (script_of calls))
   where
     -- An edge of an instruction of the caller's is one of the program, which matches.
@@ -91,6 +93,7 @@ module _ (calls : List AnsweredCall) (f : Body) (s : SsaState) (own : Own) (type
       edge : Edge Name Name
       target : answered calls edge.target ≡ call.block
       passed : map argument_of (own.passed i k) ≡ map (answered_argument calls) edge.arguments
+      was : EdgeEarlier calls edge
       matches : EdgeMatches (name_types calls) (parameter_types (ledger_after (script_of calls)) (program_so_far calls)) [] [] edge
 
     is_callers : (b t i k : ℕ) (B : Name) (call : BlockCall) → block_name calls b ≡ Some B → slice_get (own.insts b) t ≡ Some i
@@ -103,22 +106,51 @@ module _ (calls : List AnsweredCall) (f : Body) (s : SsaState) (own : Own) (type
         let edge = map_from (answered_edge calls) it.instruction.edges k (record (edge_of call) { arguments = map argument_of (own.passed i (0 + k)) })
         (ap (λ (es : List (Edge ℕ ℕ)). slice_get es k) (sym edges_are) ∙ passes) in
         let same : k ≡ 0 + k = omega arith in
+        let named_earlier : NamesEarlier calls (Instruct it.place it.instruction it.results) =
+        all_at (NamesEarlier calls) ((program_so_far calls).items B) it.j (Instruct it.place it.instruction it.results) (earlier B) it.stands in
         let item : ItemEdgesMatch (ledger_after (script_of calls)) (program_so_far calls) (Instruct it.place it.instruction it.results) =
         all_at (ItemEdgesMatch (ledger_after (script_of calls)) (program_so_far calls)) ((program_so_far calls).items B) it.j (Instruct it.place it.instruction it.results) (typed B) it.stands in
         record {
           edge = edge.0;
           target = ap (λ (e : Edge ℕ ℕ). e.target) edge.2;
           passed = ap (λ (m : ℕ). map argument_of (own.passed i m)) same ∙ sym (ap (λ (e : Edge ℕ ℕ). e.arguments) edge.2);
+          was = all_at (EdgeEarlier calls) it.instruction.edges k edge.0 named_earlier.2 edge.1;
           matches = all_at (EdgeMatches (name_types calls) (parameter_types (ledger_after (script_of calls)) (program_so_far calls)) [] []) it.instruction.edges k edge.0
               (each_edge (name_types calls) (parameter_types (ledger_after (script_of calls)) (program_so_far calls)) it.instruction.operation it.instruction.edges item) edge.1;
         }
 
-    -- what the caller passed matches the caller's parameters: so far nothing is passed, and there are none
+    -- a value has the type of its name
+    value_typed : (name : Name) → IsValue calls name → (view_of f).value_type (answered calls name) ≡ name_types calls name
+    value_typed name is =
+        let typed = value_type calls name is in
+        (values_typed name typed.0 typed.1).1 ∙ sym (ap or_invalid typed.1)
+
+    argument_typed : (argument : Argument Name) → PassesEarlier calls argument
+        → argument_type (view_of f).value_type [] [] (answered_argument calls argument) ≡ argument_type (name_types calls) [] [] argument
+    argument_typed (Known name) is = ap (λ ty. Some ty) (value_typed name is)
+    argument_typed (CallResult index) is = refl
+    argument_typed (CallPayload index) is = refl
+
+    arguments_typed : (arguments : List (Argument Name)) → AllByRecursion (PassesEarlier calls) arguments
+        → map (argument_type (view_of f).value_type [] []) (map (answered_argument calls) arguments) ≡ map (argument_type (name_types calls) [] []) arguments
+    arguments_typed [] all = refl
+    arguments_typed (argument ∷ arguments) all =
+        ap₂ (λ (ty : Option «Type») (types : List (Option «Type»)). ty ∷ types) (argument_typed argument all.0) (arguments_typed arguments all.1)
+
+    names_typed : (names : List Name) → AllByRecursion (IsValue calls) names → map (view_of f).value_type (map (answered calls) names) ≡ map (name_types calls) names
+    names_typed [] all = refl
+    names_typed (name ∷ names) all = ap₂ (λ (ty : «Type») (types : List «Type»). ty ∷ types) (value_typed name all.0) (names_typed names all.1)
+
+    -- what the caller passed matches the caller's parameters
     callers_match : (i k : ℕ) (call : BlockCall) → IsCallers i k call → passed_types f (own.passed i k) ≡ wanted_types f (own.params call.block)
     callers_match i k call is =
-        let none : own.passed i k ≡ [] =
-        none_mapped argument_of (own.passed i k) (is.passed ∙ ap (map (answered_argument calls)) (matching_passes_nothing calls is.edge is.matches)) in
-        ap (passed_types f) none ∙ sym (ap (wanted_types f) (no_callers call.block))
+        let params : own.params call.block ≡ map (answered calls) ((program_so_far calls).parameters is.edge.target) =
+        callers_own call.block ∙ ap (λ (o : Option Name). map (answered calls) (callers_parameters calls o)) (ap (block_name calls) (sym is.target) ∙ is.was.leads) in
+        ap (map (argument_type (view_of f).value_type [] [])) is.passed
+        ∙ arguments_typed is.edge.arguments is.was.passes
+        ∙ is.matches
+        ∙ ap (map (λ ty. Some ty)) (sym (names_typed ((program_so_far calls).parameters is.edge.target) (parameters_values is.edge.target)))
+        ∙ sym (ap (wanted_types f) params)
 
     edge_matches : (b t i k : ℕ) (B : Name) (call : BlockCall) → block_name calls b ≡ Some B → slice_get (own.insts b) t ≡ Some i
         → slice_get (destinations (inst_at f i).shape) k ≡ Some call → EdgeMatches (view_of f).value_type (value_types_at (view_of f)) [] [] (edge_of call)
@@ -128,8 +160,8 @@ module _ (calls : List AnsweredCall) (f : Body) (s : SsaState) (own : Own) (type
         (structured.parameters call.block).edges i k (declared b i k call.block (contained (own.insts b) t i there) to) to in
         let args : call.args ≡ own.passed i k ++ map Value passes.values = ap args_of (sym stands) ∙ passes.in_order in
         let params : (block_at f call.block).params ≡ own.params call.block ++ (structured.parameters call.block).complete =
-        CallersAlone.callers_first calls f s own types structured no_callers call.block
-        (CallersAlone.none_waiting calls f s own types structured no_callers call.block (sealed_of s call.block) (none_waits call.block)) in
+        CallersAlone.callers_first calls f s own types structured callers_own call.block
+        (CallersAlone.none_waiting calls f s own types structured callers_own call.block (sealed_of s call.block) (none_waits call.block)) in
         ap (passed_types f) args
         ∙ both_match f (own.passed i k) (map Value passes.values) (own.params call.block) (structured.parameters call.block).complete
         (callers_match i k call (is_callers b t i k B call named there stands))

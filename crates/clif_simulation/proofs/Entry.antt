@@ -12,7 +12,7 @@ use Rattle.clif_paths.specs.Blocks.{front}
 use Rattle.clif_ssa.specs.Ssa.{SsaState}
 use Rattle.clif_ssa.specs.Sound.{IsEdgeInto, entry_of, has_entry}
 use Rattle.clif_meaning.specs.Name.{Name}
-use Rattle.clif_meaning.specs.Request.{AnsweredCall, script_of}
+use Rattle.clif_meaning.specs.Request.{AnsweredCall}
 use Rattle.clif_meaning.specs.Program.{Program, Item}
 use Rattle.clif_meaning.specs.WellPlaced.{item_gives, item_names, program_code, IsWellPlaced, IsGivenAlong, given_on_entry}
 use Rattle.clif_meaning.proofs.StraightLine.{nothing_contained}
@@ -20,7 +20,7 @@ use Rattle.clif_simulation.specs.Tables.{code, answered, program_so_far, block_n
 use Rattle.clif_simulation.specs.Laws.{IsFinished}
 use Rattle.clif_simulation.proofs.Straight.{OnlyEntry}
 use Rattle.clif_simulation.proofs.Unbranched.{none_leads, CarriesUnbranched}
-use Rattle.clif_simulation.proofs.Listed.{no_parameters, place_within, through_block, is_path, given_earlier, none_on_entry}
+use Rattle.clif_simulation.proofs.Listed.{place_within, through_block, is_path, given_earlier, none_on_entry}
 
 -- what a value stands for stands for itself
 pub resolved_twice : (f : Body) (v : ℕ) → IsConsistent f → resolved f (resolved f v) ≡ resolved f v
@@ -114,7 +114,7 @@ module _ (calls : List AnsweredCall) (f : Body) (s : SsaState) (carries : Carrie
         program = program_so_far calls
 
         none : (block : Name) → program.parameters block ≡ []
-        none = no_parameters (script_of calls)
+        none = carries.bare
 
         by : Contains (given_on_entry (program_code program) entry k) x ⊎ IsGivenAlong (program_code program) x (through_block entry k) → IsEarlier k x
         by (inl entering) = absurd (none_on_entry program entry is_entry none x k entering)

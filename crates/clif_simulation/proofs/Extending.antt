@@ -5,14 +5,15 @@ use Rattle.std.specs.Prelude.{slice_get, Option, Contains}
 use Rattle.std.proofs.lemmas.Option.{slice_get_within}
 use Rattle.clif_paths.proofs.PathLemmas.{dec_place}
 use Rattle.clif_paths.specs.Places.{Place, start, inside}
-use Rattle.clif_paths.specs.State.{Naming}
+use Rattle.clif_paths.specs.State.{Naming, fresh}
 use Rattle.clif_paths.specs.Blocks.{Blocks, front}
 use Rattle.clif_meaning.specs.Name.{Name}
 use Rattle.clif_meaning.specs.Request.{AnsweredCall}
 use Rattle.clif_meaning.specs.Program.{Item}
 use Rattle.clif_meaning.specs.WellPlaced.{item_gives}
-use Rattle.clif_simulation.specs.Tables.{code, answered, program_so_far, block_name, item_at, assigned_by, origin_of, IsGiven, IsProgramOf}
+use Rattle.clif_simulation.specs.Tables.{code, answered, program_so_far, block_name, item_at, assigned_by, origin_of, IsGiven, IsParameter, IsProgramOf}
 use Rattle.clif_simulation.proofs.Codes.{differ as codes_differ}
+use Rattle.clif_simulation.proofs.GivenNames.{named_earlier}
 use Rattle.clif_simulation.proofs.Numbers.{slice_get-last, slice_get-other, slice_get-longer, slice_get-front}
 
 -- a call puts one item behind those of a block, and the tables say so
@@ -22,6 +23,7 @@ pub record AddsItem (calls calls' : List AnsweredCall) (T T' : Blocks) (b : ℕ)
   pub longer : length calls' ≡ suc (length calls)
   pub items_here : (program_so_far calls').items B ≡ (program_so_far calls).items B ++ item ∷ []
   pub items_elsewhere : (N : Name) → N ≢ B → (program_so_far calls').items N ≡ (program_so_far calls).items N
+  pub parameters : (N : Name) → (program_so_far calls').parameters N ≡ (program_so_far calls).parameters N
   pub same_or_other : (N : Name) → (N ≡ B) ⊎ (N ≢ B)
   pub count_here : T'.count b ≡ suc (T.count b)
   pub count_elsewhere : (c : ℕ) → c ≢ b → T'.count c ≡ T.count c
@@ -56,9 +58,7 @@ module _ (calls calls' : List AnsweredCall) (T T' : Blocks) (b : ℕ) (B : Name)
   -- a name that was given before was answered before
   given_earlier : (x : Name) → (T.naming (code x)).home ≢ start → x.place < length calls
   given_earlier x home =
-      let g = was.given_only (code x) home in
-      let same : g.name ≡ x = codes_differ g.name x g.coded in
-      subst (λ (y : Name). y.place < length calls) same g.earlier
+      named_earlier calls T was x home
 
   -- an item of the longer program is one of the shorter, or the new one
   item_cases : (c index : ℕ) (N : Name) (i : Item) → block_name calls c ≡ Some N → item_at calls' N index ≡ Some i
@@ -192,9 +192,40 @@ module _ (calls calls' : List AnsweredCall) (T T' : Blocks) (b : ℕ) (B : Name)
           let home : inside b (suc (T.count b)) ≡ inside c (suc index) = ap (λ (d : ℕ). inside d (suc (T.count b))) (sym new.1) ∙ ap (λ (k : ℕ). inside c (suc k)) (sym new.2) in
           (g.1 ∙ ap (λ (place : Place). record { home = place; origin = origin_of item }) home ∙ ap (λ (j : Item). record { home = inside c (suc index); origin = origin_of j }) new.3, g.2)
 
-  given_only : (n : ℕ) → (T'.naming n).home ≢ start → IsGiven calls' T' n
+  -- the caller's parameters are given as before
+  parameter : (c : ℕ) (N : Name) → block_name calls' c ≡ Some N → (x : Name) → Contains ((program_so_far calls').parameters N) x
+      → (T'.naming (code x) ≡ record { home = front c; origin = fresh }) × (T'.answer (code x) ≡ answered calls' x)
+  parameter c N named x stands = by (adds.gives_decided (code x))
+    where
+      old : (T.naming (code x) ≡ record { home = front c; origin = fresh }) × (T.answer (code x) ≡ answered calls x)
+      old = was.parameter c N (name_was c N named) x (subst (λ (xs : List Name). Contains xs x) (adds.parameters N) stands)
+
+      earlier : x.place < length calls
+      earlier = given_earlier x (λ at_start. inside≢start c 0 (sym (ap (λ (n : Naming). n.home) old.0) ∙ at_start))
+
+      by : ((y : Name) × Contains (item_gives (Some item)) y × (code y ≡ code x)) ⊎ ((T'.naming (code x) ≡ T.naming (code x)) × (T'.answer (code x) ≡ T.answer (code x)))
+          → (T'.naming (code x) ≡ record { home = front c; origin = fresh }) × (T'.answer (code x) ≡ answered calls' x)
+      by (inl new) =
+          let same : new.0 ≡ x = codes_differ new.0 x new.2 in
+          let late : new.0.place ≡ length calls = (adds.gives_new new.0 new.1).0 in
+          absurd (omega (arith, earlier, late, ap (λ (y : Name). y.place) same))
+      by (inr kept) = (kept.0 ∙ old.0, kept.1 ∙ old.1 ∙ sym (adds.answers_stay x earlier))
+
+  given_only : (n : ℕ) → (T'.naming n).home ≢ start → IsGiven calls' T' n ⊎ IsParameter calls' T' n
   given_only n home = by (adds.gives_decided n)
     where
+      of_parameter : T'.naming n ≡ T.naming n → IsParameter calls T n → IsParameter calls' T' n
+      of_parameter same p = record {
+        name = p.name;
+        block = p.block;
+        block_is = p.block_is;
+        coded = p.coded;
+        earlier = let e = p.earlier in omega (arith, e, adds.longer);
+        named = adds.names p.block ∙ p.named;
+        stands = subst (λ (xs : List Name). Contains xs p.name) (sym (adds.parameters p.block_is)) p.stands;
+        naming = same ∙ p.naming;
+      }
+
       of_old : T'.naming n ≡ T.naming n → IsGiven calls T n → IsGiven calls' T' n
       of_old same g = record {
         name = g.name;
@@ -227,9 +258,13 @@ module _ (calls calls' : List AnsweredCall) (T T' : Blocks) (b : ℕ) (B : Name)
             naming = ap T'.naming (sym coded) ∙ g.1;
           }
 
-      by : ((x : Name) × Contains (item_gives (Some item)) x × (code x ≡ n)) ⊎ ((T'.naming n ≡ T.naming n) × (T'.answer n ≡ T.answer n)) → IsGiven calls' T' n
-      by (inl new) = of_new new.0 new.1 new.2
-      by (inr kept) = of_old kept.0 (was.given_only n (λ at_start. home (ap (λ (m : Naming). m.home) kept.0 ∙ at_start)))
+      by : ((x : Name) × Contains (item_gives (Some item)) x × (code x ≡ n)) ⊎ ((T'.naming n ≡ T.naming n) × (T'.answer n ≡ T.answer n)) → IsGiven calls' T' n ⊎ IsParameter calls' T' n
+      by (inl new) = inl (of_new new.0 new.1 new.2)
+      by (inr kept) = either (was.given_only n (λ at_start. home (ap (λ (m : Naming). m.home) kept.0 ∙ at_start)))
+        where
+          either : IsGiven calls T n ⊎ IsParameter calls T n → IsGiven calls' T' n ⊎ IsParameter calls' T' n
+          either (inl g) = inl (of_old kept.0 g)
+          either (inr p) = inr (of_parameter kept.0 p)
 
   -- the place of the new item, or another
   place_cases : (place : Place) → (place ≡ inside b (suc (T.count b))) ⊎ (place ≢ inside b (suc (T.count b)))
@@ -260,6 +295,13 @@ module _ (calls calls' : List AnsweredCall) (T T' : Blocks) (b : ℕ) (B : Name)
       by (inl same) = inr (b, adds.names b ∙ adds.named ∙ ap (λ (M : Name). Some M) (sym same))
       by (inr other) = of_old other (was.only_blocks N)
 
+  only_parameters : (N : Name) → ((program_so_far calls').parameters N ≡ []) ⊎ ((c : ℕ) × (block_name calls' c ≡ Some N))
+  only_parameters N = by (was.only_parameters N)
+    where
+      by : ((program_so_far calls).parameters N ≡ []) ⊎ ((c : ℕ) × (block_name calls c ≡ Some N)) → ((program_so_far calls').parameters N ≡ []) ⊎ ((c : ℕ) × (block_name calls' c ≡ Some N))
+      by (inl none) = inl (adds.parameters N ∙ none)
+      by (inr block) = inr (block.0, adds.names block.0 ∙ block.1)
+
   pub extended : IsProgramOf calls' T'
   extended = record {
     counts = counts;
@@ -269,9 +311,11 @@ module _ (calls calls' : List AnsweredCall) (T T' : Blocks) (b : ℕ) (B : Name)
     start_assigns_nothing = λ x. adds.assigned_elsewhere start x (λ e. inside≢start b (suc (T.count b)) (sym e)) ∙ was.start_assigns_nothing x;
     elsewhere_nothing = elsewhere_nothing;
     given = given;
+    parameter = parameter;
     given_only = given_only;
     assigned_earlier = assigned_earlier;
     distinct = λ c d N first second. was.distinct c d N (name_was c N first) (name_was d N second);
     blocks_earlier = λ c N named. let e = was.blocks_earlier c N (name_was c N named) in omega (arith, e, adds.longer);
     only_blocks = only_blocks;
+    only_parameters = only_parameters;
   }

@@ -17,11 +17,11 @@ use Rattle.clif_ssa.specs.Ssa.{SsaState, sealed_of}
 use Rattle.clif_ssa.specs.Tables.{pending_of}
 use Rattle.clif_ssa.specs.Sound.{IsEdgeInto, entry_of}
 use Rattle.clif_meaning.specs.Name.{Name}
-use Rattle.clif_meaning.specs.Request.{AnsweredCall, script_of}
+use Rattle.clif_meaning.specs.Request.{AnsweredCall}
 use Rattle.clif_meaning.specs.Instruction.{Edge}
 use Rattle.clif_meaning.specs.Program.{Program, Item, Instruct, Use, Assign}
 use Rattle.clif_meaning.specs.Path.{Place, IsPath}
-use Rattle.clif_meaning.specs.WellPlaced.{edge_targets, item_gives, item_names, item_targets, program_code, program_flow, IsWellPlaced, IsGivenAlong, IsGivenBefore, given_on_entry}
+use Rattle.clif_meaning.specs.WellPlaced.{edge_targets, item_gives, item_names, item_passes, item_targets, program_code, program_flow, IsWellPlaced, IsGivenAlong, IsGivenBefore, given_on_entry}
 use Rattle.clif_meaning.proofs.StraightLine.{nothing_contained, none_of}
 use Rattle.clif_simulation.specs.Tables.{code, answered, program_so_far, block_name, item_at, assigned_by}
 use Rattle.clif_simulation.proofs.Whole.{Whole}
@@ -30,7 +30,7 @@ use Rattle.clif_simulation.specs.Laws.{IsFinished}
 use Rattle.clif_simulation.proofs.Entry.{resolved_twice}
 use Rattle.clif_simulation.proofs.Giving.{In}
 use Rattle.clif_simulation.proofs.ItemsAt.{not_start}
-use Rattle.clif_simulation.proofs.Listed.{no_parameters, place_within}
+use Rattle.clif_simulation.proofs.Listed.{place_within}
 use Rattle.clif_simulation.proofs.OwnEdges
 use Rattle.clif_simulation.proofs.OwnEdges.{last_item}
 use Rattle.clif_simulation.proofs.Placing.{map_at, contained, OfItem}
@@ -41,6 +41,11 @@ none_some x e = cc
 
 some_is : {X : Type 0} (x y : X) → Some x ≡ Some y → x ≡ y
 some_is x y e = cc
+
+-- a path comes to where it ends
+pub ends_visits : (path : Path) (b k : ℕ) → end_of path ≡ inside b k → Visits (inside b k) path
+ends_visits [] b k ends = cc
+ends_visits (arm ∷ path) b k ends = inl (sym ends)
 
 abbrev pub at_index : Name → ℕ → Place Name
 at_index block index = record { block = block; index = index }
@@ -54,6 +59,8 @@ module _ (calls : List AnsweredCall) (f : Body) (s : SsaState) (consistent : IsC
     pub block : ℕ
     pub named : block_name calls block ≡ Some p.block
     pub visits : Visits (inside block (suc p.index)) path
+    -- and the front of its block, if it is the first one there
+    pub front : p.index ≡ 0 → Visits (inside block 0) path
 
   -- The program's path beside one along the arms that stands behind so many items of a block: the places of the items
   -- before.
@@ -67,12 +74,12 @@ module _ (calls : List AnsweredCall) (f : Body) (s : SsaState) (consistent : IsC
     pub visited : (p : Place Name) → In p walk → WasVisited path p
 
   pub visited_later : (arm : Arm) (path : Path) (p : Place Name) → WasVisited path p → WasVisited (arm ∷ path) p
-  visited_later arm path p was = record { block = was.block; named = was.named; visits = inr was.visits }
+  visited_later arm path p was = record { block = was.block; named = was.named; visits = inr was.visits; front = λ first. inr (was.front first) }
 
   -- From one item to the next ---------------------------------------------------------------------------------------------
 
-  next : (arm : Arm) (path : Path) (b k : ℕ) → arm.target ≡ inside b (suc k) → k < carries.tables.count b → Walk path b k → Walk (arm ∷ path) b (suc k)
-  next arm path b k target below before = record {
+  next : (arm : Arm) (path : Path) (b k : ℕ) → arm.target ≡ inside b (suc k) → end_of path ≡ inside b k → k < carries.tables.count b → Walk path b k → Walk (arm ∷ path) b (suc k)
+  next arm path b k target ends below before = record {
     name = before.name;
     named = before.named;
     walk = at_index before.name k ∷ before.walk;
@@ -89,6 +96,8 @@ module _ (calls : List AnsweredCall) (f : Body) (s : SsaState) (consistent : IsC
         block = b;
         named = before.named ∙ ap (λ (q : Place Name). Some q.block) (sym is);
         visits = inl (ap (λ (q : Place Name). inside b (suc q.index)) is ∙ sym target);
+        front = λ first.
+            inr (ends_visits path b 0 (ends ∙ ap (inside b) (sym (ap (λ (q : Place Name). q.index) is) ∙ first)));
       }
       visited p (inr there) = visited_later arm path p (before.visited p there)
 
@@ -182,7 +191,7 @@ module _ (calls : List AnsweredCall) (f : Body) (s : SsaState) (consistent : IsC
       (both_right (nat_lt k (carries.tables.count b)) (same_place arm.source (inside b k) && (arm.edge == 0)) known)) in
       let test : nat_lt k (carries.tables.count b) ≡ true = both_left (nat_lt k (carries.tables.count b)) (same_place arm.source (inside b k) && (arm.edge == 0)) known in
       let below : k < carries.tables.count b = grind (arith, nat_tests) in
-      next arm path b k ends below (walk_of path b k follows.2 (sym follows.1 ∙ source))
+      next arm path b k ends (sym follows.1 ∙ source) below (walk_of path b k follows.2 (sym follows.1 ∙ source))
 
   -- What items name -------------------------------------------------------------------------------------------------------
 
@@ -204,15 +213,25 @@ module _ (calls : List AnsweredCall) (f : Body) (s : SsaState) (consistent : IsC
         visits = subst (λ (q : paths.Place). Visits q path) (sym home) was.visits;
       }
 
-  pub none_entering : (B : Name) (k : ℕ) (x : Name) → Contains (given_on_entry (program_code program) B k) x → ⊥
-  none_entering B zero x there = none_of (program.parameters B) x (no_parameters (script_of calls) B) there
-  none_entering B (suc k) x there = nothing_contained x there
+  -- a parameter of the caller's is given as its block is entered
+  pub given_entering : (path : Path) (b : ℕ) (B : Name) (k : ℕ) (x : Name) → block_name calls b ≡ Some B → (k ≡ 0 → Visits (inside b 0) path)
+      → Contains (given_on_entry (program_code program) B k) x → IsGivenOn path x
+  given_entering path b B zero x named visits there =
+      let given = carries.program.parameter b B named x there in
+      let home : (carries.tables.naming (code x)).home ≡ inside b 0 = ap (λ (m : Naming). m.home) given.0 in
+      record {
+        given = not_start (carries.tables.naming (code x)).home b 0 home;
+        answer = given.1;
+        visits = subst (λ (q : paths.Place). Visits q path) (sym home) (visits refl);
+      }
+  given_entering path b B (suc k) x named visits there = absurd (nothing_contained x there)
 
   pub given_along_walk : (path : Path) (x : Name) (walk : List (Place Name)) → ((p : Place Name) → In p walk → WasVisited path p)
       → IsGivenAlong (program_code program) x walk → IsGivenOn path x
   given_along_walk path x [] visited along = absurd along
   given_along_walk path x (p ∷ walk) visited (inl here) = given_at_place path p x (visited p (inl refl)) (item_at calls p.block p.index) refl here
-  given_along_walk path x (p ∷ walk) visited (inr (inl entering)) = absurd (none_entering p.block p.index x entering)
+  given_along_walk path x (p ∷ walk) visited (inr (inl entering)) =
+      let was = visited p (inl refl) in given_entering path was.block p.block p.index x was.named was.front entering
   given_along_walk path x (p ∷ walk) visited (inr (inr along)) = given_along_walk path x walk (λ q there. visited q (inr there)) along
 
   -- what is given before a place of the program is given on each path to it
@@ -221,7 +240,7 @@ module _ (calls : List AnsweredCall) (f : Body) (s : SsaState) (consistent : IsC
   given_before path b k B follows ends named within x before = by (walk_of path b k follows ends)
     where
       or_along : (w : Walk path b k) → Contains (given_on_entry (program_code program) B k) x ⊎ IsGivenAlong (program_code program) x w.walk → IsGivenOn path x
-      or_along w (inl entering) = absurd (none_entering B k x entering)
+      or_along w (inl entering) = given_entering path b B k x named (λ first. ends_visits path b 0 (ends ∙ ap (inside b) first)) entering
       or_along w (inr along) = given_along_walk path x w.walk w.visited along
 
       by : Walk path b k → IsGivenOn path x
@@ -239,11 +258,34 @@ module _ (calls : List AnsweredCall) (f : Body) (s : SsaState) (consistent : IsC
       given_before path b k B follows ends named (place_within (program.items B) k item stands) x
       (placed.named (at_index B k) x (subst (λ (o : Option Item). Contains (item_names o) x) (sym stands) names))
 
+  -- what is given on a path is given on a longer one
+  given_longer : (arm : Arm) (path : Path) (x : Name) → IsGivenOn path x → IsGivenOn (arm ∷ path) x
+  given_longer arm path x on = record { given = on.given; answer = on.answer; visits = inr on.visits }
+
+  -- what the edges of the item at this place pass is given on each path through it
+  pub passed_before : IsWellPlaced (program_code program) → (arm : Arm) (path : Path) (b k : ℕ) (B : Name) → Follows (arms carries.tables) path → end_of path ≡ inside b k
+      → arm.target ≡ inside b (suc k) → block_name calls b ≡ Some B → (item : Item) → slice_get (program.items B) k ≡ Some item
+      → (x : Name) → Contains (item_passes (Some item)) x → IsGivenOn (arm ∷ path) x
+  passed_before placed arm path b k B follows ends target named item stands x passes =
+      by (placed.passed (at_index B k) x (subst (λ (o : Option Item). Contains (item_passes o) x) (sym stands) passes))
+    where
+      was : WasVisited (arm ∷ path) (at_index B k)
+      was = record {
+        block = b;
+        named = named;
+        visits = inl (sym target);
+        front = λ first. inr (ends_visits path b 0 (ends ∙ ap (inside b) first));
+      }
+
+      by : Contains (item_gives (item_at calls B k)) x ⊎ IsGivenBefore (program_code program) x (at_index B k) → IsGivenOn (arm ∷ path) x
+      by (inl gives) = given_at_place (arm ∷ path) (at_index B k) x was (item_at calls B k) refl gives
+      by (inr before) = given_longer arm path x (given_before path b k B follows ends named (place_within (program.items B) k item stands) x before)
+
   -- The theory's conclusion -----------------------------------------------------------------------------------------------
 
   module _ (placed : IsWellPlaced (program_code program)) where
     -- the arm to an item comes from the place before it
-    to_item : (arm : Arm) (path : Path) (b k : ℕ) → Follows (arms carries.tables) (arm ∷ path) → arm.target ≡ inside b (suc k) → end_of path ≡ inside b k
+    pub to_item : (arm : Arm) (path : Path) (b k : ℕ) → Follows (arms carries.tables) (arm ∷ path) → arm.target ≡ inside b (suc k) → end_of path ≡ inside b k
     to_item arm path b k follows ends =
         let known : (nat_lt k (carries.tables.count b) && (same_place arm.source (inside b k) && (arm.edge == 0))) ≡ true =
         subst (λ (p : paths.Place). arm_into carries.tables.count carries.tables.sealed carries.tables.joins arm p ≡ true) ends follows.0 in

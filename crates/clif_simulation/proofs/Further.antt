@@ -1,5 +1,5 @@
 -- Calls that seal all blocks, put a block behind another one, make a block cold, or bring the current block into the layout.
-use Rattle.std.proofs.Common.{◌≡◌, ◌≢◌, ℕ, zero, suc, ◌<◌, ◌==◌, List, [], ◌∷◌, ◌++◌, length, refl, sym, ◌∙◌, ap, subst, arith, Bool, true, false, if◌then◌else◌, slice_get, Option, Some, None}
+use Rattle.std.proofs.Common.{◌≡◌, ℕ, zero, suc, ◌==◌, List, [], ◌∷◌, ◌++◌, refl, ◌∙◌, ap, Bool, true, false, if◌then◌else◌, slice_get, Option, Some}
 use Rattle.std.specs.Prelude.{◌||◌, slice_index_or, slice_set}
 use Rattle.clif_ir.specs.Body.{Body, block_at, empty_block}
 use Rattle.clif_ir.specs.declared.function.BlockNode.{BlockNode}
@@ -104,7 +104,7 @@ module _ (calls : List AnsweredCall) (f : Body) (s : SsaState) (c : Carries call
       → OnlyConstructs f g → g.layout ≡ f.layout → SamePredecessors s t
       → Carries (calls ++ the_call SealAllBlocks ∷ []) g t
   carries_sealed_all g t consistent keeps structured constructs layout leads =
-      carries_kept calls f s c (the_call SealAllBlocks) g t tt (Requests.items_sealed_all calls (the_call SealAllBlocks) refl)
+      carries_kept calls f s c (the_call SealAllBlocks) g t tt tt (Requests.items_sealed_all calls (the_call SealAllBlocks) refl)
       (Requests.entry_sealed_all calls (the_call SealAllBlocks) refl) (λ index. refl)
       (insts_kept f g consistent (goes_on-constructs f g constructs)) layout leads structured keeps
 
@@ -112,7 +112,7 @@ module _ (calls : List AnsweredCall) (f : Body) (s : SsaState) (c : Carries call
   pub carries_after : (block after : Name) (b a : ℕ) → Carries (calls ++ the_call (InsertBlockAfter block after) ∷ []) (with_layout_after f b a) s
   carries_after block after b a =
       let call : AnsweredCall = the_call (InsertBlockAfter block after) in
-      carries_on calls f s c call (with_layout_after f b a) s tt (Requests.items_after calls call block after refl)
+      carries_on calls f s c call (with_layout_after f b a) s tt tt (Requests.items_after calls call block after refl)
       (λ e is. Requests.entry_after calls call block after refl ∙ is)
       (Requests.entry_stays calls (calls ++ call ∷ []) f (with_layout_after f b a) (Requests.entry_after calls call block after refl) (first_stays b a f.layout)
       (name_stays calls call tt) c.holds.entry)
@@ -125,7 +125,7 @@ module _ (calls : List AnsweredCall) (f : Body) (s : SsaState) (c : Carries call
   carries_cold block b =
       let call : AnsweredCall = the_call (SetColdBlock block) in
       let nodes : List BlockNode = (with_cold f b).blocks in
-      carries_kept calls f s c call (with_cold f b) s tt (Requests.items_cold calls call block refl) (Requests.entry_cold calls call block refl) (λ index. refl)
+      carries_kept calls f s c call (with_cold f b) s tt tt (Requests.items_cold calls call block refl) (Requests.entry_cold calls call block refl) (λ index. refl)
       (insts_same f (with_cold f b) refl refl) refl (λ x. refl)
       (relaid_structured f nodes f.layout s (cold_params f.blocks b) (cold_insts f.blocks b) refl)
       (relaid_keeps f nodes f.layout s (cold_params f.blocks b) (cold_insts f.blocks b) refl)
@@ -137,7 +137,7 @@ module _ (calls : List AnsweredCall) (f : Body) (s : SsaState) (c : Carries call
       let g : Body = inserted_in f b in
       let same = inserted_same f b in
       let entry = Requests.entry_ensured calls call B current.current refl in
-      carries_on calls f s c call g s tt (Requests.items_ensured calls call refl)
+      carries_on calls f s c call g s tt tt (Requests.items_ensured calls call refl)
       (λ e is. entry ∙ ap (λ (o : Option Name). first_block o (Some B)) is)
       (entry_begun calls (calls ++ call ∷ []) f g b B entry refl current.named (name_stays calls call tt) c.holds.entry)
       (λ index. refl) (insts_same f g same.insts same.values) (λ x out. layouts.out_before f b x out) (λ x. refl)

@@ -89,3 +89,26 @@ same_given answered (r ∷ results) (b ∷ bits) names values n apart there befo
         let two : same_value (answered n) (answered r) ≡ false =
         other_number (answered n) (answered r) (λ e. other.1 (apart n r (inr later) (inl refl) e)) in
         rw (other.0, two) (rest later)
+
+-- the same where there are as many bits as names, whatever they had before
+pub same_all : (answered : Name → ℕ) (results : List Name) (bits : List ℕ) (names : Name → ℕ) (values : ℕ → ℕ) (n : Name)
+    → ((a b : Name) → In a results → In b results → answered a ≡ answered b → a ≡ b)
+    → In n results → length bits ≡ length results
+    → assigned same_name results bits names n ≡ assigned same_value (map answered results) bits values (answered n)
+same_all answered [] bits names values n apart there as_many = absurd there
+same_all answered (r ∷ results) [] names values n apart there as_many = absurd (omega (arith, as_many))
+same_all answered (r ∷ results) (b ∷ bits) names values n apart there as_many =
+    by (same_or_other n r) there
+    (λ later. same_all answered results bits names values n (λ a b in_a in_b. apart a b (inr in_a) (inr in_b)) later (omega (arith, as_many)))
+  where
+    by : ((same_name n r ≡ true) × (n ≡ r)) ⊎ ((same_name n r ≡ false) × (n ≢ r)) → (n ≡ r) ⊎ In n results
+        → (In n results → assigned same_name results bits names n ≡ assigned same_value (map answered results) bits values (answered n))
+        → assigned same_name (r ∷ results) (b ∷ bits) names n ≡ assigned same_value (map answered (r ∷ results)) (b ∷ bits) values (answered n)
+    by (inl same) there rest =
+        let one : same_value (answered n) (answered r) ≡ true = subst (λ (m : Name). same_value (answered n) (answered m) ≡ true) same.1 (same_number (answered n)) in
+        rw (same.0, one) refl
+    by (inr other) (inl here) rest = absurd (other.1 here)
+    by (inr other) (inr later) rest =
+        let two : same_value (answered n) (answered r) ≡ false =
+        other_number (answered n) (answered r) (λ e. other.1 (apart n r (inr later) (inl refl) e)) in
+        rw (other.0, two) (rest later)

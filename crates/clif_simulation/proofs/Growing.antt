@@ -23,6 +23,7 @@ use Rattle.clif_ssa.specs.Own.{Own}
 use Rattle.clif_ssa.specs.Constructs.{MayPassMore, OnlyConstructs, StaysOrNames, with_passed}
 use Rattle.clif_ssa.specs.LookUp.{branch_block}
 use Rattle.clif_ssa.specs.Sound.{edge_target}
+use Rattle.clif_ssa.specs.Structured.{HasType}
 use Rattle.clif_ssa.proofs.Completing.{inserted_same}
 use Rattle.clif_ssa.proofs.Constructing.{more_none}
 use Rattle.clif_meaning.specs.Instruction.{Operation, Edge}
@@ -35,12 +36,14 @@ pub record GoesOn (f g : Body) : Type 0 where
   pub insts : (i : ℕ) → i < length f.insts → MayPassMore (inst_at f i) (inst_at g i)
   pub types : (v : ℕ) → v < length f.values → (value_at g v).ty ≡ (value_at f v).ty
   pub more_insts : length f.insts ≤ length g.insts
+  pub more_values : length f.values ≤ length g.values
 
 pub goes_on-constructs : (f g : Body) → OnlyConstructs f g → GoesOn f g
 goes_on-constructs f g constructs = record {
   insts = constructs.same_insts;
   types = λ v below. of (value_at f v) (value_at g v) (constructs.same_values v below);
   more_insts = constructs.insts;
+  more_values = constructs.values;
 }
   where
     of : (old new : ValueNode) → StaysOrNames old new → new.ty ≡ old.ty
@@ -53,6 +56,7 @@ goes_on-with_inst f b end shape types loc = record {
       subst (λ (node : InstNode). MayPassMore (inst_at f i) node) (sym (get_or-append f.insts _ _ i below)) (more_none (inst_at f i));
   types = λ v below. ap (λ (n : ValueNode). n.ty) (get_or-append f.values _ no_value v below);
   more_insts = grind (arith, common_steps);
+  more_values = grind (arith, common_steps);
 }
 
 -- the same from a function with the same instructions and values
@@ -63,6 +67,7 @@ goes_on-from f h g insts values on = record {
   types = λ v below.
       subst (λ (vs : List ValueNode). (value_at g v).ty ≡ (value_at (record f { values = vs }) v).ty) values (on.types v (subst (λ (vs : List ValueNode). v < length vs) (sym values) below));
   more_insts = subst (λ (is : List InstNode). length is ≤ length g.insts) insts on.more_insts;
+  more_values = subst (λ (vs : List ValueNode). length vs ≤ length g.values) values on.more_values;
 }
 
 -- THE CALLER'S INSTRUCTIONS ----------------------------------------------------------------------------------------------
@@ -73,6 +78,7 @@ pub record KeepsInsts (f g : Body) : Type 0 where
   pub targets : (i k : ℕ) → i < length f.insts → edge_target g i k ≡ edge_target f i k
   pub block : (i : ℕ) → i < length f.insts → branch_block g i ≡ branch_block f i
   pub more : length f.insts ≤ length g.insts
+  pub types : (v : ℕ) (ty : «Type») → HasType f v ty → HasType g v ty
 
 -- instructions and values stay
 pub insts_same : (f g : Body) → g.insts ≡ f.insts → g.values ≡ f.values → KeepsInsts f g
@@ -83,6 +89,7 @@ insts_same f g insts values = record {
   targets = λ i k below. ap (λ (is : List InstNode). edge_target (record f { insts = is }) i k) insts;
   block = λ i below. ap (λ (is : List InstNode). branch_block (record f { insts = is }) i) insts;
   more = omega (arith, ap (λ (is : List InstNode). length is) insts);
+  types = λ v ty typed. subst (λ (vs : List ValueNode). HasType (record g { values = vs }) v ty) (sym values) typed;
 }
 
 pub insts_then : (f g h : Body) → KeepsInsts f g → KeepsInsts g h → KeepsInsts f h
@@ -91,6 +98,7 @@ insts_then f g h first next = record {
   targets = λ i k below. next.targets i k (let m = first.more in omega (arith, m, below)) ∙ first.targets i k below;
   block = λ i below. next.block i (let m = first.more in omega (arith, m, below)) ∙ first.block i below;
   more = let a = first.more in let b = next.more in omega (arith, a, b);
+  types = λ v ty typed. next.types v ty (first.types v ty typed);
 }
 
 pub insts_inserted : (f : Body) (b : ℕ) → KeepsInsts f (inserted_in f b)
@@ -205,6 +213,7 @@ insts_kept f g consistent on = record {
       ∙ ap (λ (ts : List ℕ). slice_get ts k) (same_with g more.0 (inst_at f i).shape).targets_same;
   block = λ i below. ap (λ (node : InstNode). node.block) (on.insts i below).1;
   more = on.more_insts;
+  types = λ v ty typed. (let m = on.more_values in omega (arith, typed.0, m), on.types v typed.0 ∙ typed.1);
 }
   where
     parts_same : {o p : Operation} {c d : «Type»} {xs ys : List ℕ} {es fs : List (Edge ℕ ℕ)} (rs : List ℕ) → o ≡ p → c ≡ d → xs ≡ ys → es ≡ fs

@@ -13,6 +13,7 @@ use Rattle.clif_meaning.specs.Program.{Program, Item, Instruct, Use, Assign, wit
 use Rattle.clif_meaning.proofs.CallLists
 use Rattle.clif_simulation.specs.Tables.{code, answered, number_or_none, program_so_far, block_name, assigned_by}
 use Rattle.clif_simulation.proofs.Numbers.{answered_stays}
+use Rattle.clif_simulation.proofs.Listed.{MakesNoParameter, parameters_stay}
 use Rattle.clif_simulation.proofs.NameLists.{same_name-equal, same_name_cases, only_one, none_in, the_one, MakesNoBlock, names_stay}
 use Rattle.clif_simulation.proofs.Extending.{AddsItem}
 
@@ -40,6 +41,7 @@ module _ (program : Program) (B : Name) (item : Item) where
 pub record PutsItem (calls : List AnsweredCall) (call : AnsweredCall) (B : Name) (item : Item) : Type 0 where
   pub items : (N : Name) → (program_so_far (calls ++ call ∷ [])).items N ≡ (with_item_at (program_so_far calls) (Some B) item).items N
   pub no_block : MakesNoBlock call.request
+  pub no_parameter : MakesNoParameter call.request
 
 pub same_or_other : (B N : Name) → (N ≡ B) ⊎ (N ≢ B)
 same_or_other B N = by (same_name_cases N B)
@@ -97,6 +99,7 @@ module _ (calls : List AnsweredCall) (call : AnsweredCall) (T : Blocks) (b : ℕ
     longer = omega (arith, length-append calls);
     items_here = puts.items B ∙ items-here (program_so_far calls) B (Use x (name_at 0));
     items_elsewhere = λ N other. puts.items N ∙ items-elsewhere (program_so_far calls) B (Use x (name_at 0)) N other;
+    parameters = parameters_stay calls call puts.no_parameter;
     same_or_other = same_or_other B;
     count_here = count_here T b;
     count_elsewhere = λ c other. updated-other T.count b (suc (T.count b)) c other;
@@ -120,6 +123,7 @@ module _ (calls : List AnsweredCall) (call : AnsweredCall) (T : Blocks) (b : ℕ
     longer = omega (arith, length-append calls);
     items_here = puts.items B ∙ items-here (program_so_far calls) B (Assign x n);
     items_elsewhere = λ N other. puts.items N ∙ items-elsewhere (program_so_far calls) B (Assign x n) N other;
+    parameters = parameters_stay calls call puts.no_parameter;
     same_or_other = same_or_other B;
     count_here = count_here T b;
     count_elsewhere = λ c other. updated-other T.count b (suc (T.count b)) c other;
@@ -173,6 +177,7 @@ module _ (calls : List AnsweredCall) (call : AnsweredCall) (T : Blocks) (b : ℕ
     longer = omega (arith, length-append calls);
     items_here = puts.items B ∙ items-here (program_so_far calls) B (Instruct (length calls) instruction []);
     items_elsewhere = λ N other. puts.items N ∙ items-elsewhere (program_so_far calls) B (Instruct (length calls) instruction []) N other;
+    parameters = parameters_stay calls call puts.no_parameter;
     same_or_other = same_or_other B;
     count_here = count_here T b;
     count_elsewhere = λ c other. updated-other T.count b (suc (T.count b)) c other;
@@ -195,6 +200,7 @@ module _ (calls : List AnsweredCall) (call : AnsweredCall) (T : Blocks) (b : ℕ
     longer = omega (arith, length-append calls);
     items_here = puts.items B ∙ items-here (program_so_far calls) B (Instruct (length calls) instruction (name_at 1 ∷ []));
     items_elsewhere = λ N other. puts.items N ∙ items-elsewhere (program_so_far calls) B (Instruct (length calls) instruction (name_at 1 ∷ [])) N other;
+    parameters = parameters_stay calls call puts.no_parameter;
     same_or_other = same_or_other B;
     count_here = count_here T b;
     count_elsewhere = λ c other. updated-other T.count b (suc (T.count b)) c other;

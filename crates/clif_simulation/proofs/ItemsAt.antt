@@ -21,6 +21,7 @@ use Rattle.clif_meaning.proofs.StraightLine.{nothing_contained}
 use Rattle.clif_simulation.specs.Tables.{code, answered, program_so_far, block_name, item_at, assigned_by, origin_of, IsProgramOf, IsGiven}
 use Rattle.clif_simulation.proofs.Codes
 use Rattle.clif_simulation.proofs.Giving.{In, contained_in, in_contained}
+use Rattle.clif_simulation.proofs.GivenNames.{given_by_item}
 use Rattle.clif_simulation.proofs.Agreement.{GivesThere, UsesThere, AssignsThere}
 use Rattle.clif_simulation.proofs.Straight.{next_arm, same_step, same_block}
 
@@ -85,12 +86,6 @@ module _ (calls : List AnsweredCall) (own : Own) (f : Body) (s : SsaState) (tabl
     pub is_born : (w b k : ℕ) → (tables.function.definition w).home ≡ inside b (suc k) → IsBorn w b k
     is_born w b k at = born_by w b k (tables.function.definition w).kind (describes.homes w) at
 
-    -- nothing is given at a block's front
-    pub none_at_front : (n b : ℕ) → (tables.naming n).home ≢ inside b 0
-    none_at_front n b at =
-        let g = program_is.given_only n (not_start (tables.naming n).home b 0 at) in
-        absurd (omega (arith, same_step (sym (ap (λ (m : Naming). m.home) g.naming) ∙ at)))
-
     module _ (b : ℕ) (B : Name) (named : block_name calls b ≡ Some B) where
       abbrev pub items : List Item
       items = (program_so_far calls).items B
@@ -108,7 +103,7 @@ module _ (calls : List AnsweredCall) (own : Own) (f : Body) (s : SsaState) (tabl
         pub gives : Contains (item_gives (Some item)) x
 
       pub given_only : (n k : ℕ) (item : Item) → slice_get items k ≡ Some item → (tables.naming n).home ≡ inside b (suc k) → IsOfItem n item
-      given_only n k item stands at = by (program_is.given_only n (not_start (tables.naming n).home b (suc k) at))
+      given_only n k item stands at = by (given_by_item calls tables program_is n b k at)
         where
           by : IsGiven calls tables n → IsOfItem n item
           by g =
@@ -123,6 +118,25 @@ module _ (calls : List AnsweredCall) (own : Own) (f : Body) (s : SsaState) (tabl
                 coded = g.coded;
                 gives = subst (λ (i : Item). Contains (item_gives (Some i)) g.name) (some_is g.item item one) g.gives;
               }
+
+      -- What is given as the block is entered ---------------------------------------------------------------------------
+
+      module _ (x : Name) (stands : Contains ((program_so_far calls).parameters B) x) where
+        pub parameter_named : tables.naming (code x) ≡ record { home = inside b 0; origin = fresh }
+        parameter_named = (program_is.parameter b B named x stands).0
+
+        parameter_answers : tables.answer (code x) ≡ answered calls x
+        parameter_answers = (program_is.parameter b B named x stands).1
+
+        parameter_born : (function.definition (tables.answer (code x)) ≡ record { home = (tables.naming (code x)).home; kind = born (code x) })
+            × (resolved f (tables.answer (code x)) ≡ tables.answer (code x))
+        parameter_born =
+            describes.born_there (code x) (not_start (tables.naming (code x)).home b 0 (ap (λ (m : Naming). m.home) parameter_named))
+            (ap (λ (m : Naming). m.origin) parameter_named)
+
+        pub parameter_defined : function.definition (answered calls x) ≡ record { home = inside b 0; kind = born (code x) }
+        parameter_defined =
+            ap function.definition (sym parameter_answers) ∙ parameter_born.0 ∙ ap (λ (m : Naming). record { home = m.home; kind = born (code x) }) parameter_named
 
       unassigned : (k : ℕ) (item : Item) → slice_get items k ≡ Some item → ((x : ℕ) → assigned_by (Some item) x ≡ None)
           → (x : ℕ) → tables.assigned (inside b (suc k)) x ≡ None

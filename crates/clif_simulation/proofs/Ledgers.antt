@@ -6,8 +6,8 @@ use Rattle.std.specs.List.{list_any}
 use Rattle.clif_types.specs.declared.types.«Type».{«Type»}
 use Rattle.clif_meaning.specs.Name.{Name, answer_of, same_name}
 use Rattle.clif_meaning.specs.Instruction.{Operation, Edge, Instruction}
-use Rattle.clif_meaning.specs.Request.{Request, CreateBlock, SwitchToBlock, SealBlock, SealAllBlocks, InsertBlockAfter, SetColdBlock, EnsureInsertedBlock, DeclareVar, DefVar, UseVar, Build, Finalize, AnsweredCall, script_of}
-use Rattle.clif_meaning.specs.Ledger.{BlockState, Ledger, VariableState, ledger_after, ledger_with, with_state, with_layout, with_begun_at, with_begun, with_filled_at, with_terminator, with_predecessor, touched_at, new_variable, is_inserted, is_filled, is_terminator, state_has, variable_type, sealed}
+use Rattle.clif_meaning.specs.Request.{Request, CreateBlock, SwitchToBlock, SealBlock, SealAllBlocks, InsertBlockAfter, SetColdBlock, EnsureInsertedBlock, AppendBlockParams, AppendFunctionParams, DeclareVar, DefVar, UseVar, Build, Finalize, AnsweredCall, script_of}
+use Rattle.clif_meaning.specs.Ledger.{BlockState, Ledger, VariableState, ledger_after, ledger_with, with_state, with_layout, with_begun_at, with_begun, with_filled_at, with_terminator, with_predecessor, touched_at, new_variable, is_inserted, is_filled, is_terminator, state_has, variable_type, sealed, with_parameter_types}
 use Rattle.clif_simulation.specs.Carries.{AreTypes}
 use Rattle.clif_simulation.specs.Carries as carries
 use Rattle.clif_ssa.specs.Structured.{VariableTypes}
@@ -131,6 +131,8 @@ module _ (name : Name) where
   filled_with ledger (InsertBlockAfter block after) filled = filled
   filled_with ledger (SetColdBlock block) filled = filled
   filled_with ledger EnsureInsertedBlock filled = filled-with_begun_at ledger ledger.current filled
+  filled_with ledger (AppendBlockParams block types) filled = filled-with_state ledger block (with_parameter_types types) (record { name = λ state. refl; filled = λ state is. is }) filled
+  filled_with ledger (AppendFunctionParams block types) filled = filled-with_state ledger block (with_parameter_types types) (record { name = λ state. refl; filled = λ state is. is }) filled
   filled_with ledger (DeclareVar ty) filled = filled
   filled_with ledger (DefVar variable value) filled = filled
   filled_with ledger (UseVar variable) filled = filled-with_begun_at ledger ledger.current filled
@@ -241,6 +243,8 @@ type_with ledger SealAllBlocks x ty is = is
 type_with ledger (InsertBlockAfter block after) x ty is = is
 type_with ledger (SetColdBlock block) x ty is = is
 type_with ledger EnsureInsertedBlock x ty is = ap (λ (states : List VariableState). type_in states x) (variables-begun ledger ledger.current) ∙ is
+type_with ledger (AppendBlockParams block types) x ty is = is
+type_with ledger (AppendFunctionParams block types) x ty is = is
 type_with ledger (DeclareVar declared) x ty is = type_longer ledger.variables (new_variable declared ∷ []) x ty is
 type_with ledger (DefVar variable value) x ty is = type_touched ledger.variables variable x ∙ is
 type_with ledger (UseVar variable) x ty is =

@@ -7,6 +7,10 @@ pub mod Unbranched
 -- A finished function that carries calls means what their program means.
 mod Giving
 mod Agreement
+mod Entered
+pub mod TwoParts
+pub mod InLists
+pub mod GivenNames
 mod Straight
 mod Listed
 mod Entry
@@ -30,6 +34,7 @@ mod Setting
 pub mod RightReading
 -- With branches, beside interrupted runs.
 mod Interrupting
+mod Bare
 mod OpenArms
 mod OpenFlow
 mod OpenEdges
@@ -50,6 +55,7 @@ pub mod Carrying
 pub mod Staying
 pub mod Requests
 pub mod Values
+pub mod LedgerValues
 pub mod Ledgers
 pub mod Unfilled
 pub mod Telling
@@ -76,4 +82,8 @@ mod LoopRow
 mod LoopConsistent
 mod LoopAlong
 mod LoopWaiting
+-- Further calls, and parameters of the caller's.
 pub mod Further
+pub mod Appending
+pub mod ParameterCalls
+mod ParameterRow

@@ -1,39 +1,60 @@
 -- What a script's program has, and places of lists.
-use Rattle.std.proofs.Common.{◌≡◌, ℕ, zero, suc, ◌<◌, List, [], ◌∷◌, length, map, fold, slice_get, Option, Some, None, Contains, ◌⊎◌, inl, inr, refl, ◌∙◌, ap, subst, arith}
+use Rattle.std.proofs.Common.{◌≡◌, ℕ, zero, suc, ◌<◌, List, [], ◌∷◌, ◌++◌, length, map, slice_get, Option, Some, None, Contains, ◌⊎◌, inl, inr, refl, ◌∙◌, ap, subst, arith}
 use Rattle.std.specs.List.{AllByRecursion}
 use Rattle.clif_meaning.specs.Name.{Name}
-use Rattle.clif_meaning.specs.Request.{Request, CreateBlock, SwitchToBlock, SealBlock, SealAllBlocks, InsertBlockAfter, SetColdBlock, EnsureInsertedBlock, DeclareVar, DefVar, UseVar, Build, Finalize, Script}
-use Rattle.clif_meaning.specs.Program.{Program, Item, with_item_at, with_inserted, extended, with_call, empty_program, program_of}
+use Rattle.clif_meaning.specs.Request.{Request, CreateBlock, SwitchToBlock, SealBlock, SealAllBlocks, InsertBlockAfter, SetColdBlock, EnsureInsertedBlock, AppendBlockParams, AppendFunctionParams, DeclareVar, DefVar, UseVar, Build, Finalize, AnsweredCall}
+use Rattle.clif_meaning.specs.Program.{Program, Item, with_item_at, with_inserted, extended}
 use Rattle.clif_meaning.specs.Path.{Place, IsPath}
 use Rattle.clif_meaning.specs.WellPlaced.{item_gives, program_flow, program_code, IsGivenAlong, given_on_entry}
+use Rattle.clif_simulation.specs.Tables.{program_so_far}
+use Rattle.clif_simulation.proofs.Numbers.{program_longer}
 use Rattle.clif_meaning.proofs.StraightLine.{nothing_contained, none_of}
 
--- Blocks have no parameters -----------------------------------------------------------------------------------------
+-- Parameters of the caller's -------------------------------------------------------------------------------------
+
+-- the call makes no parameter of the caller's
+abbrev pub MakesNoParameter : Request → Type 0
+MakesNoParameter CreateBlock = Unit {0}
+MakesNoParameter (SwitchToBlock block) = Unit {0}
+MakesNoParameter (SealBlock block) = Unit {0}
+MakesNoParameter SealAllBlocks = Unit {0}
+MakesNoParameter (InsertBlockAfter block after) = Unit {0}
+MakesNoParameter (SetColdBlock block) = Unit {0}
+MakesNoParameter EnsureInsertedBlock = Unit {0}
+MakesNoParameter (AppendBlockParams block types) = ⊥
+MakesNoParameter (AppendFunctionParams block types) = ⊥
+MakesNoParameter (DeclareVar ty) = Unit {0}
+MakesNoParameter (DefVar variable value) = Unit {0}
+MakesNoParameter (UseVar variable) = Unit {0}
+MakesNoParameter (Build instruction) = Unit {0}
+MakesNoParameter Finalize = Unit {0}
 
 item_leaves : (program : Program) (current : Option Name) (item : Item) → (with_item_at program current item).parameters ≡ program.parameters
 item_leaves program None item = refl
 item_leaves program (Some block) item = refl
 
-call_leaves : (program : Program) (request : Request) → (extended program request).parameters ≡ program.parameters
-call_leaves program CreateBlock = refl
-call_leaves program (SwitchToBlock block) = refl
-call_leaves program (SealBlock block) = refl
-call_leaves program SealAllBlocks = refl
-call_leaves program (InsertBlockAfter block after) = refl
-call_leaves program (SetColdBlock block) = refl
-call_leaves program EnsureInsertedBlock = refl
-call_leaves program (DeclareVar ty) = refl
-call_leaves program (DefVar variable value) = item_leaves program program.current _
-call_leaves program (UseVar variable) = item_leaves (with_inserted program) program.current _
-call_leaves program (Build instruction) = item_leaves (with_inserted program) program.current _
-call_leaves program Finalize = refl
+call_leaves : (program : Program) (request : Request) → MakesNoParameter request → (extended program request).parameters ≡ program.parameters
+call_leaves program CreateBlock none = refl
+call_leaves program (SwitchToBlock block) none = refl
+call_leaves program (SealBlock block) none = refl
+call_leaves program SealAllBlocks none = refl
+call_leaves program (InsertBlockAfter block after) none = refl
+call_leaves program (SetColdBlock block) none = refl
+call_leaves program EnsureInsertedBlock none = refl
+call_leaves program (AppendBlockParams block types) none = absurd none
+call_leaves program (AppendFunctionParams block types) none = absurd none
+call_leaves program (DeclareVar ty) none = refl
+call_leaves program (DefVar variable value) none = item_leaves program program.current _
+call_leaves program (UseVar variable) none = item_leaves (with_inserted program) program.current _
+call_leaves program (Build instruction) none = item_leaves (with_inserted program) program.current _
+call_leaves program Finalize none = refl
 
-none_from : (program : Program) (script : Script) → (fold with_call program script).parameters ≡ program.parameters
-none_from program [] = refl
-none_from program (request ∷ script) = none_from (with_call program request) script ∙ call_leaves program request
-
-pub no_parameters : (script : Script) (block : Name) → (program_of script).parameters block ≡ []
-no_parameters script block = ap (λ (parameters : Name → List Name). parameters block) (none_from empty_program script)
+-- such a call leaves each block's
+pub parameters_stay : (calls : List AnsweredCall) (call : AnsweredCall) → MakesNoParameter call.request → (block : Name)
+    → (program_so_far (calls ++ call ∷ [])).parameters block ≡ (program_so_far calls).parameters block
+parameters_stay calls call none block =
+    ap (λ (program : Program). program.parameters block) (program_longer calls call)
+    ∙ ap (λ (parameters : Name → List Name). parameters block) (call_leaves (program_so_far calls) call.request none)
 
 -- Places of lists ---------------------------------------------------------------------------------------------------
 

@@ -171,7 +171,7 @@ module _ (carries : Carries loop_calls early_body loop_state) where
       by : (kind : Kind) → (T.function.definition 1).kind ≡ kind → IsBehind kind 0 (length (carries.own.params 1)) → kind ≡ complete
       by unborn e behind = absurd behind
       by (born n) e behind =
-          let none : length (carries.own.params 1) ≡ 0 = ap (λ (params : List ℕ). length params) (carries.holds.no_parameters 1) in
+          let none : length (carries.own.params 1) ≡ 0 = ap (λ (params : List ℕ). length params) (carries.holds.parameters 1) in
           absurd (omega (arith, none, behind))
       by (pending x) e behind = absurd (waits_not x e)
       by complete e behind = refl
@@ -206,7 +206,7 @@ module _ (carries : Carries loop_calls early_body loop_state) where
 
       belongs : 0 + length (carries.own.params 1) ≡ 0 + length (carries.own.passed 1 0)
       belongs =
-          let none : length (carries.own.params 1) ≡ 0 = ap (λ (params : List ℕ). length params) (carries.holds.no_parameters 1) in
+          let none : length (carries.own.params 1) ≡ 0 = ap (λ (params : List ℕ). length params) (carries.holds.parameters 1) in
           let nothing = passes_none in
           omega (arith, none, nothing)
 

@@ -3,12 +3,12 @@ use Rattle.std.proofs.Common.{◌≡◌, ◌≢◌, ℕ, zero, suc, ◌<◌, fal
 use Rattle.std.proofs.lemmas.Bool.Decides.{nat_tests}
 use Rattle.clif_paths.specs.Places.{Place, start, inside}
 use Rattle.clif_meaning.specs.Name.{Name, answer_of, same_name}
-use Rattle.clif_meaning.specs.Request.{CreateBlock, SwitchToBlock, SealBlock, DeclareVar, DefVar, UseVar, Build, Finalize, Script, script_of, SealAllBlocks, InsertBlockAfter, SetColdBlock, EnsureInsertedBlock}
+use Rattle.clif_meaning.specs.Request.{CreateBlock, SwitchToBlock, SealBlock, DeclareVar, DefVar, UseVar, Build, Finalize, Script, script_of, SealAllBlocks, InsertBlockAfter, SetColdBlock, EnsureInsertedBlock, AppendBlockParams, AppendFunctionParams}
 use Rattle.clif_meaning.specs.Program.{Program, Item, Instruct, Use, Assign, with_call, with_item_at, with_inserted, result_names, empty_program}
 use Rattle.clif_meaning.specs.BranchExamples.{block}
 use Rattle.clif_meaning.specs.WellPlaced.{item_gives}
 use Rattle.clif_meaning.proofs.FirstRow.{one_of, first_of_one}
-use Rattle.clif_meaning.proofs.StraightLine.{none_of}
+use Rattle.clif_meaning.proofs.StraightLine.{none_of, nothing_contained}
 use Rattle.clif_simulation.specs.Tables.{code, answered, program_so_far, block_name, item_at, assigned_by, origin_of, IsGiven, IsProgramOf}
 use Rattle.clif_simulation.specs.CarryingExamples.{loop_calls}
 use Rattle.clif_simulation.proofs.NameLists.{same_name_cases}
@@ -67,6 +67,8 @@ nothing_there name (SealAllBlocks ∷ rest) program never apart none = nothing_t
 nothing_there name (InsertBlockAfter block after ∷ rest) program never apart none = nothing_there name rest (with_call program (InsertBlockAfter block after)) never apart none
 nothing_there name (SetColdBlock block ∷ rest) program never apart none = nothing_there name rest (with_call program (SetColdBlock block)) never apart none
 nothing_there name (EnsureInsertedBlock ∷ rest) program never apart none = nothing_there name rest (with_call program EnsureInsertedBlock) never apart none
+nothing_there name (AppendBlockParams to types ∷ rest) program never apart none = nothing_there name rest (with_call program (AppendBlockParams to types)) never apart none
+nothing_there name (AppendFunctionParams to types ∷ rest) program never apart none = nothing_there name rest (with_call program (AppendFunctionParams to types)) never apart none
 nothing_there name (DeclareVar ty ∷ rest) program never apart none = nothing_there name rest (with_call program (DeclareVar ty)) never apart none
 nothing_there name (DefVar variable value ∷ rest) program never apart none =
     nothing_there name rest (with_call program (DefVar variable value)) never
@@ -305,9 +307,11 @@ row_program = record {
   start_assigns_nothing = λ x. refl;
   elsewhere_nothing = elsewhere_nothing;
   given = λ number index name item named stands. (given number index name item named stands).given_there;
-  given_only = given_only;
+  parameter = λ number name named x stands. absurd (nothing_contained x stands);
+  given_only = λ n home. inl (given_only n home);
   assigned_earlier = assigned_earlier;
   distinct = λ b c name e h. (is_its_place b name e).0 ∙ sym (is_its_place c name h).0;
   blocks_earlier = λ number name e. (is_its_place number name e).1;
   only_blocks = only_blocks;
+  only_parameters = λ name. inl refl;
 }

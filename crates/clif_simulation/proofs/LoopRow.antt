@@ -1,21 +1,24 @@
 -- The row `both_arms` is carried, and finished.
 use Rattle.std.proofs.Common.{◌≡◌, ◌≢◌, ℕ, zero, suc, ◌<◌, true, false, List, [], inl, inr, Some, None, refl, ap, arith, IsTrue, map, flat_map, Bool, if◌then◌else◌}
 use Rattle.std.specs.List.{AllByRecursion}
+use Rattle.std.specs.Prelude.{Option, is_some}
+use Rattle.clif_types.specs.declared.types.«Type».{«Type»}
 use Rattle.clif_ir.specs.Body.{follow, resolved}
 use Rattle.clif_ir.specs.Reading.{stands_in}
 use Rattle.clif_paths.specs.Places.{start}
 use Rattle.clif_ssa.specs.Ssa.{sealed_of}
 use Rattle.clif_ssa.specs.Sound.{entry_of}
+use Rattle.clif_ssa.specs.Structured.{HasType}
 use Rattle.clif_ssa.specs.Tables.{is_yes}
 use Rattle.clif_meaning.specs.Name.{Name, answer_of}
 use Rattle.clif_meaning.specs.Request.{script_of}
-use Rattle.clif_meaning.specs.Ledger.{ledger_after, has_value}
+use Rattle.clif_meaning.specs.Ledger.{ledger_after, has_value, type_of}
 use Rattle.clif_meaning.specs.View.{view_of}
 use Rattle.clif_meaning.specs.FunctionView.{Placed}
 use Rattle.clif_meaning.specs.Examples.{i32}
 use Rattle.clif_meaning.specs.BranchExamples.{block, plain, both_arms_function}
-use Rattle.clif_simulation.specs.Tables.{code, answered, program_so_far, block_name}
-use Rattle.clif_simulation.specs.Carries.{Carries, HasItems, HasEntry, NamesEarlier, EdgesEnd, EdgeEarlier, ValuesGiven, own_placed, carried}
+use Rattle.clif_simulation.specs.Tables.{code, answered, callers_parameters, program_so_far, block_name}
+use Rattle.clif_simulation.specs.Carries.{Carries, HasItems, HasEntry, NamesEarlier, EdgesEnd, EdgeEarlier, OwnParameters, ValuesGiven, ValuesTyped, own_placed, carried}
 use Rattle.clif_simulation.specs.Laws.{IsFinished}
 use Rattle.clif_simulation.specs.CarryingExamples.{loop_calls, loop_body, loop_state, SeenAlike}
 use Rattle.clif_simulation.proofs.Values.{false_is}
@@ -117,14 +120,12 @@ own_inserted (suc (suc (suc (suc b)))) e = refl
 no_truth : {A : Type 0} → IsTrue false → A
 no_truth is = absurd (false_is is)
 
-abbrev IsGivenValue : Name → Type 0
-IsGivenValue name = IsTrue (has_value (ledger_after (script_of loop_calls)) name) → (loop_tables.naming (code name)).home ≢ start
-
-values_given : ValuesGiven loop_calls loop_tables
-unfolding computing_row
-values_given name = by name.place name.index
+-- what holds of each name that is a value's
+each_value : (P : Name → Type 0) → P (answer_of 7 1) → P (answer_of 11 0) → P (answer_of 15 0) → P (answer_of 16 1) → P (answer_of 17 1) → P (answer_of 23 0)
+    → (name : Name) → IsTrue (has_value (ledger_after (script_of loop_calls)) name) → P name
+each_value P a b c d e h name = by name.place name.index
   where
-    by : (place index : ℕ) → IsGivenValue (answer_of place index)
+    by : (place index : ℕ) → IsTrue (has_value (ledger_after (script_of loop_calls)) (answer_of place index)) → P (answer_of place index)
     by zero zero is = no_truth is
     by zero (suc index) is = no_truth is
     by (suc zero) zero is = no_truth is
@@ -138,25 +139,25 @@ values_given name = by name.place name.index
     by (suc (suc (suc (suc (suc zero))))) index is = no_truth is
     by (suc (suc (suc (suc (suc (suc zero)))))) index is = no_truth is
     by (suc (suc (suc (suc (suc (suc (suc zero))))))) zero is = no_truth is
-    by (suc (suc (suc (suc (suc (suc (suc zero))))))) (suc zero) is = not_start 0 1
+    by (suc (suc (suc (suc (suc (suc (suc zero))))))) (suc zero) is = a
     by (suc (suc (suc (suc (suc (suc (suc zero))))))) (suc (suc index)) is = no_truth is
     by (suc (suc (suc (suc (suc (suc (suc (suc zero)))))))) index is = no_truth is
     by (suc (suc (suc (suc (suc (suc (suc (suc (suc zero))))))))) zero is = no_truth is
     by (suc (suc (suc (suc (suc (suc (suc (suc (suc zero))))))))) (suc index) is = no_truth is
     by (suc (suc (suc (suc (suc (suc (suc (suc (suc (suc zero)))))))))) index is = no_truth is
-    by (suc (suc (suc (suc (suc (suc (suc (suc (suc (suc (suc zero))))))))))) zero is = not_start 1 1
+    by (suc (suc (suc (suc (suc (suc (suc (suc (suc (suc (suc zero))))))))))) zero is = b
     by (suc (suc (suc (suc (suc (suc (suc (suc (suc (suc (suc zero))))))))))) (suc index) is = no_truth is
     by (suc (suc (suc (suc (suc (suc (suc (suc (suc (suc (suc (suc zero)))))))))))) zero is = no_truth is
     by (suc (suc (suc (suc (suc (suc (suc (suc (suc (suc (suc (suc zero)))))))))))) (suc index) is = no_truth is
     by (suc (suc (suc (suc (suc (suc (suc (suc (suc (suc (suc (suc (suc zero))))))))))))) index is = no_truth is
     by (suc (suc (suc (suc (suc (suc (suc (suc (suc (suc (suc (suc (suc (suc zero)))))))))))))) index is = no_truth is
-    by (suc (suc (suc (suc (suc (suc (suc (suc (suc (suc (suc (suc (suc (suc (suc zero))))))))))))))) zero is = not_start 2 1
+    by (suc (suc (suc (suc (suc (suc (suc (suc (suc (suc (suc (suc (suc (suc (suc zero))))))))))))))) zero is = c
     by (suc (suc (suc (suc (suc (suc (suc (suc (suc (suc (suc (suc (suc (suc (suc zero))))))))))))))) (suc index) is = no_truth is
     by (suc (suc (suc (suc (suc (suc (suc (suc (suc (suc (suc (suc (suc (suc (suc (suc zero)))))))))))))))) zero is = no_truth is
-    by (suc (suc (suc (suc (suc (suc (suc (suc (suc (suc (suc (suc (suc (suc (suc (suc zero)))))))))))))))) (suc zero) is = not_start 2 2
+    by (suc (suc (suc (suc (suc (suc (suc (suc (suc (suc (suc (suc (suc (suc (suc (suc zero)))))))))))))))) (suc zero) is = d
     by (suc (suc (suc (suc (suc (suc (suc (suc (suc (suc (suc (suc (suc (suc (suc (suc zero)))))))))))))))) (suc (suc index)) is = no_truth is
     by (suc (suc (suc (suc (suc (suc (suc (suc (suc (suc (suc (suc (suc (suc (suc (suc (suc zero))))))))))))))))) zero is = no_truth is
-    by (suc (suc (suc (suc (suc (suc (suc (suc (suc (suc (suc (suc (suc (suc (suc (suc (suc zero))))))))))))))))) (suc zero) is = not_start 2 3
+    by (suc (suc (suc (suc (suc (suc (suc (suc (suc (suc (suc (suc (suc (suc (suc (suc (suc zero))))))))))))))))) (suc zero) is = e
     by (suc (suc (suc (suc (suc (suc (suc (suc (suc (suc (suc (suc (suc (suc (suc (suc (suc zero))))))))))))))))) (suc (suc index)) is = no_truth is
     by (suc (suc (suc (suc (suc (suc (suc (suc (suc (suc (suc (suc (suc (suc (suc (suc (suc (suc zero)))))))))))))))))) index is = no_truth is
     by (suc (suc (suc (suc (suc (suc (suc (suc (suc (suc (suc (suc (suc (suc (suc (suc (suc (suc (suc zero))))))))))))))))))) zero is = no_truth is
@@ -164,11 +165,42 @@ values_given name = by name.place name.index
     by (suc (suc (suc (suc (suc (suc (suc (suc (suc (suc (suc (suc (suc (suc (suc (suc (suc (suc (suc (suc zero)))))))))))))))))))) index is = no_truth is
     by (suc (suc (suc (suc (suc (suc (suc (suc (suc (suc (suc (suc (suc (suc (suc (suc (suc (suc (suc (suc (suc zero))))))))))))))))))))) index is = no_truth is
     by (suc (suc (suc (suc (suc (suc (suc (suc (suc (suc (suc (suc (suc (suc (suc (suc (suc (suc (suc (suc (suc (suc zero)))))))))))))))))))))) index is = no_truth is
-    by (suc (suc (suc (suc (suc (suc (suc (suc (suc (suc (suc (suc (suc (suc (suc (suc (suc (suc (suc (suc (suc (suc (suc zero))))))))))))))))))))))) zero is = not_start 3 1
+    by (suc (suc (suc (suc (suc (suc (suc (suc (suc (suc (suc (suc (suc (suc (suc (suc (suc (suc (suc (suc (suc (suc (suc zero))))))))))))))))))))))) zero is = h
     by (suc (suc (suc (suc (suc (suc (suc (suc (suc (suc (suc (suc (suc (suc (suc (suc (suc (suc (suc (suc (suc (suc (suc zero))))))))))))))))))))))) (suc index) is = no_truth is
     by (suc (suc (suc (suc (suc (suc (suc (suc (suc (suc (suc (suc (suc (suc (suc (suc (suc (suc (suc (suc (suc (suc (suc (suc zero)))))))))))))))))))))))) zero is = no_truth is
     by (suc (suc (suc (suc (suc (suc (suc (suc (suc (suc (suc (suc (suc (suc (suc (suc (suc (suc (suc (suc (suc (suc (suc (suc zero)))))))))))))))))))))))) (suc index) is = no_truth is
     by (suc (suc (suc (suc (suc (suc (suc (suc (suc (suc (suc (suc (suc (suc (suc (suc (suc (suc (suc (suc (suc (suc (suc (suc (suc place))))))))))))))))))))))))) index is = no_truth is
+
+values_given : ValuesGiven loop_calls loop_tables
+unfolding computing_row
+values_given =
+    each_value (λ name. (loop_tables.naming (code name)).home ≢ start) (not_start 0 1) (not_start 1 1) (not_start 2 1) (not_start 2 2) (not_start 2 3) (not_start 3 1)
+
+-- each is of the type of the one variable
+abbrev IsTyped : Name → Type 0
+IsTyped name = (ty : «Type») → type_of (ledger_after (script_of loop_calls)) name ≡ Some ty → HasType loop_body (answered loop_calls name) ty
+
+is_value : (o : Option «Type») (ty : «Type») → o ≡ Some ty → IsTrue (is_some o)
+is_value None ty is = absurd cc
+is_value (Some one) ty is = refl
+
+one_type : (a b : «Type») → Some a ≡ Some b → a ≡ b
+one_type a b same = cc
+
+values_typed : ValuesTyped loop_calls loop_body
+values_typed name ty is =
+    each_value IsTyped
+    (λ t one. (omega arith, one_type i32 t one)) (λ t one. (omega arith, one_type i32 t one)) (λ t one. (omega arith, one_type i32 t one))
+    (λ t one. (omega arith, one_type i32 t one)) (λ t one. (omega arith, one_type i32 t one)) (λ t one. (omega arith, one_type i32 t one))
+    name (is_value (type_of (ledger_after (script_of loop_calls)) name) ty is) ty is
+
+-- no block has a parameter that the caller made
+parameters : OwnParameters loop_calls row_own
+parameters b = by (block_name loop_calls b)
+  where
+    by : (o : Option Name) → [] ≡ map (answered loop_calls) (callers_parameters loop_calls o)
+    by None = refl
+    by (Some name) = refl
 
 -- The entry -----------------------------------------------------------------------------------------------------------------
 
@@ -182,7 +214,7 @@ pub row_carried : Carries loop_calls loop_body loop_state
 row_carried = record {
   own = row_own;
   holds = record {
-    blocks = record { distinct = row_program.distinct; earlier = row_program.blocks_earlier; only = row_program.only_blocks };
+    blocks = record { distinct = row_program.distinct; earlier = row_program.blocks_earlier; only = row_program.only_blocks; only_parameters = row_program.only_parameters };
     items = items;
     earlier = earlier;
     edges_end = edges_end;
@@ -191,7 +223,9 @@ row_carried = record {
     own_inserted = own_inserted;
     declared = λ b inst k target there to. leads inst k target to;
     leads_own = leads_own;
-    no_parameters = λ b. refl;
+    parameters = parameters;
+    parameters_values = λ name. tt;
+    values_typed = values_typed;
     entry = has_entry;
     structured = row_structured seen_alike.resolved;
   };

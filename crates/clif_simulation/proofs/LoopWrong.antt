@@ -127,7 +127,7 @@ one_argument carries =
     let same : lengths_of (own_placed carries.own one_body 5) ≡ 0 ∷ 0 ∷ [] =
     ap (λ (inst : ℕ). lengths_of (own_placed carries.own one_body inst)) (sym five) ∙ ap lengths_of found.1 in
     no_kind ((carries.on_paths spares_entry).tables.function.definition 1).kind (length (carries.own.params 1)) (length (carries.own.passed 5 0)) (length (carries.own.passed 5 1))
-    (ap (λ (params : List ℕ). length params) (carries.holds.no_parameters 1))
+    (ap (λ (params : List ℕ). length params) (carries.holds.parameters 1))
     (none_mapped (carries.own.passed 5 0) (head_of _ _ _ _ same))
     (none_mapped (carries.own.passed 5 1) (head_of _ _ _ _ (tail_of _ _ _ _ same)))
     ((carries.on_paths spares_entry).counts.behind 1 1 refl)

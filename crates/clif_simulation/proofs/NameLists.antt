@@ -6,8 +6,8 @@ use Rattle.std.proofs.lemmas.Bool.Decides.{nat_tests}
 use Rattle.clif_paths.proofs.Tables.{number_equal}
 use Rattle.clif_meaning.specs.Name.{Name, answer_of, same_name}
 use Rattle.clif_meaning.specs.Instruction.{Operation, Edge}
-use Rattle.clif_meaning.specs.Request.{Request, CreateBlock, SwitchToBlock, SealBlock, SealAllBlocks, InsertBlockAfter, SetColdBlock, EnsureInsertedBlock, DeclareVar, DefVar, UseVar, Build, Finalize, AnsweredCall, script_of}
-use Rattle.clif_meaning.specs.Ledger.{BlockState, Ledger, ledger_after, ledger_with, with_state, with_layout, with_begun_at, with_begun, with_filled_at, with_terminator, with_predecessor, is_inserted, is_terminator, sealed}
+use Rattle.clif_meaning.specs.Request.{Request, CreateBlock, SwitchToBlock, SealBlock, SealAllBlocks, InsertBlockAfter, SetColdBlock, EnsureInsertedBlock, AppendBlockParams, AppendFunctionParams, DeclareVar, DefVar, UseVar, Build, Finalize, AnsweredCall, script_of}
+use Rattle.clif_meaning.specs.Ledger.{BlockState, Ledger, ledger_after, ledger_with, with_state, with_layout, with_begun_at, with_begun, with_filled_at, with_terminator, with_predecessor, is_inserted, is_terminator, sealed, with_parameter_types}
 use Rattle.clif_simulation.specs.Tables.{block_name}
 use Rattle.clif_simulation.proofs.Numbers.{ledger_longer}
 
@@ -106,6 +106,8 @@ MakesNoBlock SealAllBlocks = Unit {0}
 MakesNoBlock (InsertBlockAfter block after) = Unit {0}
 MakesNoBlock (SetColdBlock block) = Unit {0}
 MakesNoBlock EnsureInsertedBlock = Unit {0}
+MakesNoBlock (AppendBlockParams block types) = Unit {0}
+MakesNoBlock (AppendFunctionParams block types) = Unit {0}
 MakesNoBlock (DeclareVar ty) = Unit {0}
 MakesNoBlock (DefVar variable value) = Unit {0}
 MakesNoBlock (UseVar variable) = Unit {0}
@@ -124,6 +126,8 @@ names_after ledger SealAllBlocks made = names-sealed ledger.blocks
 names_after ledger (InsertBlockAfter block after) made = refl
 names_after ledger (SetColdBlock block) made = refl
 names_after ledger EnsureInsertedBlock made = names-with_begun_at ledger ledger.current
+names_after ledger (AppendBlockParams block types) made = names-with_state block (with_parameter_types types) (λ state. refl) ledger
+names_after ledger (AppendFunctionParams block types) made = names-with_state block (with_parameter_types types) (λ state. refl) ledger
 names_after ledger (DeclareVar ty) made = refl
 names_after ledger (DefVar variable value) made = refl
 names_after ledger (UseVar variable) made = names-with_begun_at ledger ledger.current

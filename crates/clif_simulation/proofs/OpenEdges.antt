@@ -20,7 +20,7 @@ use Rattle.clif_ssa.specs.Ssa.{SsaState, sealed_of}
 use Rattle.clif_ssa.specs.Tables.{is_yes, pending_of}
 use Rattle.clif_ssa.specs.Sound.{HomeFits, IsBehind, IsCounted, IsEdgeInto, args_of, edges_at, has_entry, passed_count}
 use Rattle.clif_ssa.proofs.Alike.{unaliased_home}
-use Rattle.clif_ssa.proofs.Ordering.{place_here}
+use Rattle.clif_ssa.proofs.Ordering.{place_here, stands_place}
 use Rattle.clif_ssa.proofs.Losing.{stands_home, home_stands}
 use Rattle.clif_meaning.specs.Name.{Name}
 use Rattle.clif_meaning.specs.Request.{AnsweredCall}
@@ -29,16 +29,19 @@ use Rattle.clif_meaning.specs.FunctionMachine.{same_value}
 use Rattle.clif_meaning.specs.View.{argument_of}
 use Rattle.clif_meaning.proofs.StraightLine.{nothing_contained, none_of}
 use Rattle.clif_simulation.specs.Interrupted.{values_entering, variables_entering}
-use Rattle.clif_simulation.proofs.Agreement.{Agrees, ZerosAreZero, ComesAlong, EntersThere, entered_agrees, entered_zeros}
-use Rattle.clif_simulation.proofs.Edges.{assigned_at, assigned_elsewhere}
+use Rattle.clif_simulation.specs.Laws.{MakesNoParameters}
+use Rattle.clif_simulation.specs.Tables.{answered, code}
+use Rattle.clif_simulation.proofs.Agreement.{Agrees, ZerosAreZero}
+use Rattle.clif_simulation.proofs.Bare.{none_at_front}
+use Rattle.clif_simulation.proofs.Entered.{ComesAlong, EntersThere, entered_agrees, entered_zeros}
+use Rattle.clif_simulation.proofs.TwoParts.{assigned_at, assigned_elsewhere}
 use Rattle.clif_simulation.proofs.Entry.{resolved_twice}
 use Rattle.clif_simulation.proofs.Giving.{In, contained_in, in_contained}
 use Rattle.clif_simulation.proofs.Interrupting.{OpensThere, interrupted_agrees, interrupted_zeros, waiting_gets, waiting_leaves}
-use Rattle.clif_simulation.proofs.ItemsAt
 use Rattle.clif_simulation.proofs.ItemsAt.{not_start, stands_for_itself}
 use Rattle.clif_simulation.proofs.Placing.{map_at}
 use Rattle.clif_simulation.proofs.Straight.{same_block}
-use Rattle.clif_simulation.proofs.Whole.{Whole}
+use Rattle.clif_simulation.proofs.Whole.{Whole, bare_own}
 
 some_is : {X : Type 0} (x y : X) → Some x ≡ Some y → x ≡ y
 some_is x y e = cc
@@ -83,7 +86,7 @@ module _ (calls : List AnsweredCall) (f : Body) (s : SsaState) (consistent : IsC
           subst (λ (c : ℕ). Contains (pending_of (sealed_of s c)) (record { variable = x; param = w })) (same_block home) found.1
       by (inr none) = absurd (nothing_contained {X = Pending} (record { variable = x; param = w }) none)
 
-  module _ (b : ℕ) where
+  module _ (bare : MakesNoParameters calls) (b : ℕ) where
     abbrev waiting : List Pending
     waiting = pending_of (sealed_of s b)
 
@@ -107,7 +110,7 @@ module _ (calls : List AnsweredCall) (f : Body) (s : SsaState) (consistent : IsC
           → ((x : ℕ) × ((function.definition w).kind ≡ pending x) × (new w ≡ bits x)) ⊎ ((x : ℕ) × ((function.definition w).kind ≡ zero_of x))
       kinds w is_live at unborn kind fits = absurd (not_start (front b) b 0 refl (sym at ∙ fits))
       kinds w is_live at (born n) kind fits =
-          absurd (ItemsAt.none_at_front calls carries.own f s carries.tables carries.program carries.describes n b (ap (λ naming. naming.home) fits.0 ∙ at))
+          absurd (none_at_front calls carries.tables carries.program bare n b (ap (λ naming. naming.home) fits.0 ∙ at))
       kinds w is_live at (pending x) kind fits = inl (x, kind, gets w x is_live at kind)
       kinds w is_live at complete kind fits =
           let here : fits.0 ≡ b = same_block (sym fits.1 ∙ at) in
@@ -118,7 +121,7 @@ module _ (calls : List AnsweredCall) (f : Body) (s : SsaState) (consistent : IsC
       opens_there = record {
         unsealed = ap (λ (p : Place). program.is_sealed p) target ∙ unsealed;
         unassigned = λ x. ap (λ (p : Place). carries.tables.assigned p x) target ∙ carries.program.front_assigns_nothing b x;
-        no_names = λ n at. ItemsAt.none_at_front calls carries.own f s carries.tables carries.program carries.describes n b (at ∙ target);
+        no_names = λ n at. none_at_front calls carries.tables carries.program bare n b (at ∙ target);
         kinds = λ w is_live at. kinds w is_live (at ∙ target) (function.definition w).kind refl (carries.describes.homes w);
         others_stay = λ w elsewhere.
             waiting_leaves waiting bits between w
@@ -149,7 +152,7 @@ module _ (calls : List AnsweredCall) (f : Body) (s : SsaState) (consistent : IsC
         none_own = ap (λ (xs : List BlockArg). length xs) none_passed
 
         no_callers : length (carries.own.params b) ≡ 0
-        no_callers = ap (λ (xs : List ℕ). length xs) (carries.no_parameters b)
+        no_callers = ap (λ (xs : List ℕ). length xs) (bare_own calls carries.own carries.parameters bare b)
 
         starts_first : has_entry f.layout ≡ true
         starts_first = (carries.describes.leading b into.branch into.leads).1
@@ -251,7 +254,7 @@ module _ (calls : List AnsweredCall) (f : Body) (s : SsaState) (consistent : IsC
           parameter_gets : (v : ℕ) → param_home f v ≡ Some b → entering v ≡ old (resolved f (function.argument v arm))
           parameter_gets v home =
               assigned_at (block_at f b).params (map (argument_bits (λ (u : ℕ). old (resolved f u)) given) (map argument_of call.args)) old v
-              (old (resolved f (function.argument v arm))) (home_stands f consistent v b home)
+              (old (resolved f (function.argument v arm))) (stands_place v (block_at f b).params (home_stands f consistent v b home))
               (map_at (argument_bits (λ (u : ℕ). old (resolved f u)) given) (map argument_of call.args) (place_of v (block_at f b).params) (argument_of (Value (function.argument v arm)))
               (map_at argument_of call.args (place_of v (block_at f b).params) (Value (function.argument v arm)) (takes v home)))
 
@@ -275,7 +278,7 @@ module _ (calls : List AnsweredCall) (f : Body) (s : SsaState) (consistent : IsC
               → HomeFits carries.tables w kind → ComesAlong live program function arm path old entering w
           at_front w is_live other at unborn kind fits = absurd (not_start (front b) b 0 refl (sym at ∙ fits))
           at_front w is_live other at (born n) kind fits =
-              absurd (ItemsAt.none_at_front calls carries.own f s carries.tables carries.program carries.describes n b (ap (λ naming. naming.home) fits.0 ∙ at))
+              absurd (none_at_front calls carries.tables carries.program bare n b (ap (λ naming. naming.home) fits.0 ∙ at))
           at_front w is_live other at (pending x) kind fits = absurd (none_pending w x is_live at kind)
           at_front w is_live other at complete kind fits =
               absurd (other (carries.describes.complete_there b w
@@ -304,20 +307,22 @@ module _ (calls : List AnsweredCall) (f : Body) (s : SsaState) (consistent : IsC
               by (yes same) = of_parameter w (home ∙ ap (λ (x : ℕ). Some x) same)
               by (no apart) = of_other w is_live (λ here. apart (some_is d b (sym home ∙ here))) (dec_place (function.definition w).home (front b))
 
-          enters : EntersThere live program function arm path old entering
+          enters : EntersThere live program function arm path [] (answered calls) old entering
           enters = record {
             known = ap (λ (p : Place). program.is_sealed p) target ∙ sealed;
             unassigned = λ x. ap (λ (p : Place). carries.tables.assigned p x) target ∙ carries.program.front_assigns_nothing b x;
-            no_names = λ n at. ItemsAt.none_at_front calls carries.own f s carries.tables carries.program carries.describes n b (at ∙ target);
-            comes = λ w is_live. comes w is_live (param_home f w) refl;
+            only_names = λ n at. absurd (none_at_front calls carries.tables carries.program bare (code n) b (at ∙ target));
+            named = λ n there. absurd there;
+            defined = λ n there. absurd there;
+            comes = λ w is_live. inr (comes w is_live (param_home f w) refl);
             zeros_stay = λ w y kind. other_keeps w (λ home. complete_no_zero y (sym (ap (λ (d : Definition). d.kind) (parameter_complete w home)) ∙ kind));
           }
 
           into_sealed : Goes variables (values_entering waiting bits entering)
           into_sealed =
               subst (λ (ps : List Pending). Goes variables (values_entering ps bits entering)) (sym (sealed_none (sealed_of s b) is_sealed)) (
-                entered_agrees live program function arm path old entering enters variables names agrees zeros,
-                entered_zeros live program function arm path old entering enters variables names agrees zeros,
+                entered_agrees live program function arm path [] (answered calls) old entering enters variables names agrees zeros [] refl,
+                entered_zeros live program function arm path [] (answered calls) old entering enters variables names agrees zeros [] refl,
               )
 
         pub goes : Goes (variables_entering (is_yes (sealed_of s b)) bits variables) (values_entering waiting bits entering)

@@ -63,8 +63,8 @@ module _ (calls : List AnsweredCall) (f : Body) (s : SsaState) (consistent : IsC
 
   -- From one item to the next ---------------------------------------------------------------------------------------------
 
-  next : (arm : Arm) (path : Path) (b k : ℕ) → arm.target ≡ inside b (suc k) → k < carries.tables.count b → Walk path b k → Walk (arm ∷ path) b (suc k)
-  next arm path b k target below before = record {
+  next : (arm : Arm) (path : Path) (b k : ℕ) → arm.target ≡ inside b (suc k) → end_of path ≡ inside b k → k < carries.tables.count b → Walk path b k → Walk (arm ∷ path) b (suc k)
+  next arm path b k target ends below before = record {
     name = before.name;
     named = before.named;
     walk = behind before.name k ∷ before.walk;
@@ -87,6 +87,7 @@ module _ (calls : List AnsweredCall) (f : Body) (s : SsaState) (consistent : IsC
         block = b;
         named = before.named ∙ ap (λ (q : Place Name). Some q.block) (sym is);
         visits = inl (ap (λ (q : Place Name). inside b (suc q.index)) is ∙ sym target);
+        front = λ first. inr (Flow.ends_visits path b 0 (ends ∙ ap (inside b) (sym (ap (λ (q : Place Name). q.index) is) ∙ first)));
       }
       visited p (inr there) = Flow.visited_later calls f s consistent carries arm path p (before.visited p there)
 
@@ -155,7 +156,7 @@ module _ (calls : List AnsweredCall) (f : Body) (s : SsaState) (consistent : IsC
           (earlier (branch_block f edge.branch) (carries.tables.count (branch_block f edge.branch)) (sym follows.1 ∙ edge.from))
   walk_of (arm ∷ path) b (suc k) follows ends =
       let item : ToItem arm b k = to_item arm b k follows.0 ends in
-      next arm path b k ends item.below (walk_of path b k follows.2 (sym follows.1 ∙ item.source))
+      next arm path b k ends (sym follows.1 ∙ item.source) item.below (walk_of path b k follows.2 (sym follows.1 ∙ item.source))
 
   -- What is given before ----------------------------------------------------------------------------------------------------
 
@@ -167,7 +168,8 @@ module _ (calls : List AnsweredCall) (f : Body) (s : SsaState) (consistent : IsC
     same = some_is w.name B (sym w.named ∙ named)
 
     on_walk : Contains (given_on_entry (program_code program) B k) x ⊎ IsGivenAlong (program_code program) x w.walk → IsGivenOn path x
-    on_walk (inl entering) = absurd (Flow.none_entering calls f s consistent carries B k x entering)
+    on_walk (inl entering) =
+        Flow.given_entering calls f s consistent carries path b B k x named (λ first. Flow.ends_visits path b 0 (ends ∙ ap (inside b) first)) entering
     on_walk (inr along) = Flow.given_along_walk calls f s consistent carries path x w.walk w.visited along
 
     -- what is given before an item of the program, or before a place of the code so far, is given on each path to it

@@ -56,6 +56,7 @@ use Rattle.clif_simulation.proofs.OpenStepping
 use Rattle.clif_simulation.proofs.Starting.{no_arguments, none_assigned}
 use Rattle.clif_simulation.proofs.Stepping.{nothing_assigned}
 use Rattle.clif_simulation.proofs.Straight.{first_arm, next_arm}
+use Rattle.clif_simulation.specs.Laws.{MakesNoParameters}
 use Rattle.clif_simulation.proofs.Whole.{Whole, whole}
 
 -- Instructions, but for what their edges pass ---------------------------------------------------------------------------
@@ -107,7 +108,7 @@ module _ (calls : List AnsweredCall) (f : Body) (ssa : SsaState) (consistent : I
 
 module _ (calls : List AnsweredCall) (signature : SignatureShape) (f : Body) (ssa : SsaState) (consistent : IsConsistent f) (carries : Whole calls f ssa)
     (width : PointerWidth) (world : World) (tracked : Name → Bool) (collector : Collector)
-    (fits : IsWorldOf signature (view_of f) width world) (premises : PremisesSoFar calls signature)
+    (fits : IsWorldOf signature (view_of f) width world) (premises : PremisesSoFar calls signature) (bare : MakesNoParameters calls)
     (entry : ℕ) (entry_name : Name) (entry_named : block_name calls entry ≡ Some entry_name) (is_entry : (program_so_far calls).entry ≡ Some entry_name)
     (unknowns : Unknowns)
   where
@@ -184,7 +185,7 @@ module _ (calls : List AnsweredCall) (signature : SignatureShape) (f : Body) (ss
           subst₂ (λ (names : Name → ℕ) (values : ℕ → ℕ). Agrees live program function (next_arm b k ∷ path) p.variables names values)
           (nothing_assigned same_name results p.names) (nothing_assigned same_value (map (answered calls) results) q.values)
           (given_agrees live program function (next_arm b k) path results (answered calls)
-          (OpenStepping.gives_there calls f ssa consistent carries width world tracked collector unknowns entry entry_name signature premises.given_before premises.well_typed
+          (OpenStepping.gives_there calls f ssa consistent carries width world tracked collector unknowns entry entry_name signature premises.given_before premises.well_typed bare
           b B r.named k place instruction results stands path)
           p.variables p.names q.values r.agrees [])
 
@@ -198,7 +199,7 @@ module _ (calls : List AnsweredCall) (signature : SignatureShape) (f : Body) (ss
           let last : length (items B) ≤ suc k = nothing_behind (items B) (suc k) (rest_behind (items B) k (Instruct place instruction results) ahead here ∙ at_end.1) in
           let none : results ≡ [] = gives_results (script_of calls) B k (Instruct place instruction results) stands ∙ terminator_gives_none place instruction at_end.0 in
           recorded_bits (next_arm b k ∷ path) (suc k)
-          (OpenStepping.goes_on calls f ssa consistent carries width world tracked collector unknowns entry entry_name signature premises.given_before premises.well_typed
+          (OpenStepping.goes_on calls f ssa consistent carries width world tracked collector unknowns entry entry_name signature premises.given_before premises.well_typed bare
           b B r.named k path (Instruct place instruction results) stands r.follows r.ends)
           refl (omega (arith, last, place_within (items B) k (Instruct place instruction results) stands)) (before_end place instruction results stands none)
       records_alike (Use y used ∷ ahead) here at_end = absurd at_end
@@ -233,7 +234,7 @@ module _ (calls : List AnsweredCall) (signature : SignatureShape) (f : Body) (ss
         there.1 ∙ ap (λ (c : ℕ). Some c) (carries.program.distinct there.0 entry entry_name there.2 entry_named)
 
     nothing_passed : world.arguments ≡ []
-    nothing_passed = no_arguments calls entry_name (types_of signature.params) world is_entry premises.well_typed.entry fits.arguments
+    nothing_passed = no_arguments calls entry_name (types_of signature.params) world bare is_entry premises.well_typed.entry fits.arguments
 
     abbrev p0 : ScriptState
     p0 = script.enter_block left_run (script.blank_state left_run) entry_name world.arguments
@@ -271,7 +272,7 @@ module _ (calls : List AnsweredCall) (signature : SignatureShape) (f : Body) (ss
             )
         by false is =
             let unsealed : tables.sealed entry ≡ false = carries.describes.sealed entry ∙ ap (λ (t : Bool). t && has_entry f.layout) is in
-            let opens = OpenEdges.opens_there calls f ssa consistent carries entry unsealed (first_arm entry) refl (unknowns 0) (λ w. 0) q0.values no_bits in (
+            let opens = OpenEdges.opens_there calls f ssa consistent carries bare entry unsealed (first_arm entry) refl (unknowns 0) (λ w. 0) q0.values no_bits in (
               interrupted_agrees live program function (first_arm entry) [] (unknowns 0) (λ w. 0)
                   (values_entering (pending_of (sealed_of ssa entry)) (unknowns 0) q0.values) opens (λ x. 0) p0.names (all_zero []) (none_set []),
               interrupted_zeros live program function (first_arm entry) [] (unknowns 0) (λ w. 0)
@@ -325,13 +326,13 @@ module _ (calls : List AnsweredCall) (signature : SignatureShape) (f : Body) (ss
     met (suc n) rest on =
         let before = went_on (state_after left_machine n) (state_after left_machine n).state.control refl rest on in
         let now : IsMet n = met n before.0 before.1 in
-        let more = OpenStepping.step calls f ssa consistent carries width world tracked collector unknowns entry entry_name signature premises.given_before premises.well_typed
+        let more = OpenStepping.step calls f ssa consistent carries width world tracked collector unknowns entry entry_name signature premises.given_before premises.well_typed bare
         (state_after left_machine n) (state_after right_machine now.0) now.1 rest on in
         later (state_after left_machine (suc n)) now.0 more.0 more.1
 
     pub beside : (n : ℕ) (rest : List Item) → (state_after left_machine n).state.control ≡ At rest → HasBeside calls f ssa (state_after left_machine n) right_machine
     beside n rest on = let now : IsMet n = met n rest on in has_beside (state_after left_machine n) now.0 now.1
 
-pub reads_right : (calls : List AnsweredCall) (signature : SignatureShape) (f : Body) (ssa : SsaState) → IsConsistent f → Carries calls f ssa → ReadsRight calls signature f ssa
-reads_right calls signature f ssa consistent carries width world tracked collector fits premises spares block name named is_entry unknowns =
-    beside calls signature f ssa consistent (whole calls f ssa consistent carries spares) width world tracked collector fits premises block name named is_entry unknowns
+pub reads_right : (calls : List AnsweredCall) (signature : SignatureShape) (f : Body) (ssa : SsaState) → IsConsistent f → Carries calls f ssa → MakesNoParameters calls → ReadsRight calls signature f ssa
+reads_right calls signature f ssa consistent carries bare width world tracked collector fits premises spares block name named is_entry unknowns =
+    beside calls signature f ssa consistent (whole calls f ssa consistent carries spares) width world tracked collector fits premises bare block name named is_entry unknowns

@@ -40,6 +40,8 @@ use Rattle.clif_simulation.specs.Tables.{code, answered, program_so_far, block_n
 use Rattle.clif_simulation.specs.Carries.{answered_argument, carried, own_placed}
 use Rattle.clif_simulation.specs.Reading.{behind}
 use Rattle.clif_simulation.specs.Interrupted.{taken_of, Unknowns, ScriptStanding, FunctionStanding, script_edge, script_goes, script_enters, function_edge, function_goes, function_enters, variables_entering, values_entering}
+use Rattle.clif_simulation.specs.Laws.{MakesNoParameters}
+use Rattle.clif_simulation.proofs.Bare.{no_length}
 use Rattle.clif_simulation.proofs.Whole.{Whole}
 use Rattle.clif_simulation.proofs.Giving.{in_contained}
 use Rattle.clif_simulation.proofs.Agreement.{Agrees, GivesThere, UsesThere, AssignsThere, ZerosAreZero, given_agrees, used_agrees, assigned_agrees, given_zeros, used_zeros, assigned_zeros}
@@ -47,7 +49,7 @@ use Rattle.clif_simulation.proofs.Entry.{resolved_twice}
 use Rattle.clif_simulation.proofs.Fronts.{placed_inst, steps_behind}
 use Rattle.clif_simulation.proofs.ItemsAt
 use Rattle.clif_simulation.proofs.ItemsAt.{same_instance}
-use Rattle.clif_simulation.proofs.Listed.{no_parameters, place_within, none_mapped}
+use Rattle.clif_simulation.proofs.Listed.{place_within, none_mapped}
 use Rattle.clif_simulation.proofs.Matching.{first_is, rest_is, item_here, rest_behind, same_bits, IsPlain, outcome_plain}
 use Rattle.clif_simulation.proofs.OpenArms
 use Rattle.clif_simulation.proofs.OpenEdges
@@ -67,7 +69,7 @@ stuck_not_on rest h = cc
 module _ (calls : List AnsweredCall) (f : Body) (ssa : SsaState) (consistent : IsConsistent f) (carries : Whole calls f ssa)
     (width : PointerWidth) (world : World) (tracked : Name → Bool) (collector : Collector) (unknowns : Unknowns) (entry : ℕ) (entry_name : Name)
     (signature : SignatureShape) (placed : IsWellPlaced (program_code (program_so_far calls)))
-    (typed : WellTyped (ledger_after (script_of calls)) (program_so_far calls) signature)
+    (typed : WellTyped (ledger_after (script_of calls)) (program_so_far calls) signature) (bare : MakesNoParameters calls)
   where
     abbrev left_run : ScriptRun
     left_run = OpenStanding.left_run calls f ssa consistent carries width world tracked collector unknowns entry entry_name
@@ -353,7 +355,9 @@ module _ (calls : List AnsweredCall) (f : Body) (ssa : SsaState) (consistent : I
           -- along an edge
           module _ (n : ℕ) (edge : Edge Name Name) (is_edge : slice_get instruction.edges n ≡ Some edge) (given : List Bits) (memory : Memory) where
             nothing_passed : edge.arguments ≡ []
-            nothing_passed = Targets.passes_nothing calls B k place instruction results stands n edge is_edge signature typed
+            nothing_passed =
+                no_length edge.arguments
+                (Targets.passes_as_many calls B k place instruction results stands n edge is_edge signature typed ∙ ap (λ (names : List Name). length names) (bare edge.target))
 
             abbrev d : ℕ
             d = answered calls edge.target
@@ -395,7 +399,7 @@ module _ (calls : List AnsweredCall) (f : Body) (ssa : SsaState) (consistent : I
 
             same_names : p1.names ≡ a.state.names
             same_names =
-                ap (λ (names : List Name). assigned same_name names (map (argument_bits a.state.names given) edge.arguments) a.state.names) (no_parameters (script_of calls) edge.target)
+                ap (λ (names : List Name). assigned same_name names (map (argument_bits a.state.names given) edge.arguments) a.state.names) (bare edge.target)
 
             abbrev along : Path
             along = next_arm b k ∷ path
@@ -413,12 +417,12 @@ module _ (calls : List AnsweredCall) (f : Body) (ssa : SsaState) (consistent : I
                 (given_zeros live program function (next_arm b k) path results (answered calls) (gives path) a.state.variables a.state.names c.state.values r.agrees [] r.zeros)
 
             crossed :
-                OpenEdges.Goes calls f ssa consistent carries d arm refl into none_passed of_function.call of_function.stands along given c.state.values
+                OpenEdges.Goes calls f ssa consistent carries bare d arm refl into none_passed of_function.call of_function.stands along given c.state.values
                 (unknowns a.entries) a.state.variables a.state.names agrees_behind zeros_behind
                 (variables_entering (is_yes (sealed_of ssa d)) (unknowns a.entries) a.state.variables)
                 (values_entering (pending_of (sealed_of ssa d)) (unknowns a.entries) q1.values)
             crossed =
-                OpenEdges.goes calls f ssa consistent carries d arm refl into none_passed of_function.call of_function.stands along given c.state.values
+                OpenEdges.goes calls f ssa consistent carries bare d arm refl into none_passed of_function.call of_function.stands along given c.state.values
                 (unknowns a.entries) a.state.variables a.state.names agrees_behind zeros_behind
 
             follows_there : Follows (OpenFlow.edges calls f ssa consistent carries) (arm ∷ along)

@@ -13,6 +13,7 @@ use Rattle.clif_meaning.specs.Program.{Program, Instruct, Use, Assign, with_call
 use Rattle.clif_simulation.specs.Tables.{program_so_far, block_name}
 use Rattle.clif_simulation.specs.Carries.{HasEntry}
 use Rattle.clif_simulation.proofs.Numbers.{program_longer, place_so_far}
+use Rattle.clif_simulation.proofs.Listed.{MakesNoParameter}
 use Rattle.clif_simulation.proofs.NameLists.{MakesNoBlock}
 use Rattle.clif_simulation.proofs.ItemCalls.{PutsItem}
 
@@ -85,6 +86,7 @@ module _ (calls : List AnsweredCall) (call : AnsweredCall) where
           ∙ ap (λ (o : Option Name). (with_item_at (with_inserted before) o (Use x (answer_of before.place 0))).items N) current
           ∙ ap (λ (place : ℕ). (with_item_at before (Some B) (Use x (answer_of place 0))).items N) (place_so_far calls);
       no_block = subst MakesNoBlock (sym is) tt;
+      no_parameter = subst MakesNoParameter (sym is) tt;
     }
 
     pub entry_used : (x : ℕ) → call.request ≡ UseVar x → longer.entry ≡ first_block before.entry (Some B)
@@ -99,6 +101,7 @@ module _ (calls : List AnsweredCall) (call : AnsweredCall) where
           ap (λ (p : Program). p.items N) (program_with (DefVar x n) is)
           ∙ ap (λ (o : Option Name). (with_item_at before o (Assign x n)).items N) current;
       no_block = subst MakesNoBlock (sym is) tt;
+      no_parameter = subst MakesNoParameter (sym is) tt;
     }
 
     pub entry_assigned : (x : ℕ) (n : Name) → call.request ≡ DefVar x n → longer.entry ≡ before.entry
@@ -113,6 +116,7 @@ module _ (calls : List AnsweredCall) (call : AnsweredCall) where
           ∙ ap (λ (o : Option Name). (with_item_at (with_inserted before) o (Instruct before.place instruction (result_names before.place instruction))).items N) current
           ∙ ap (λ (place : ℕ). (with_item_at before (Some B) (Instruct place instruction (result_names place instruction))).items N) (place_so_far calls);
       no_block = subst MakesNoBlock (sym is) tt;
+      no_parameter = subst MakesNoParameter (sym is) tt;
     }
 
     pub entry_instructed : (instruction : Instruction Name Name) → call.request ≡ Build instruction → longer.entry ≡ first_block before.entry (Some B)

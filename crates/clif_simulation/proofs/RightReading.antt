@@ -61,7 +61,7 @@ module _ (calls : List AnsweredCall) (signature : SignatureShape) (f : Body) (ss
       right_is = ap (function_machine_of.start_at right_run) (Entry.found calls f ssa carries entry is_entry)
 
       nothing_passed : world.arguments ≡ []
-      nothing_passed = no_arguments calls entry (types_of signature.params) world is_entry premises.well_typed.entry fits.arguments
+      nothing_passed = no_arguments calls entry (types_of signature.params) world carries.bare is_entry premises.well_typed.entry fits.arguments
 
       started : (sealed : ℕ → Bool) (joins : Edges) → Opens carries.tables e sealed joins → FromStart e entry
       started sealed joins opens =

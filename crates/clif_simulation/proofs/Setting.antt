@@ -30,13 +30,13 @@ use Rattle.clif_meaning.specs.FunctionMachine.{Collector, FunctionRun, FunctionS
 use Rattle.clif_meaning.specs.FunctionView.{Placed}
 use Rattle.clif_meaning.specs.View.{placed_of, items_of, first_type}
 use Rattle.clif_meaning.specs.WellPlaced.{item_gives, program_code, IsWellPlaced}
-use Rattle.clif_meaning.proofs.StraightLine.{nothing_contained}
-use Rattle.clif_simulation.specs.Tables.{code, answered, program_so_far, IsGiven}
+use Rattle.clif_meaning.proofs.StraightLine.{nothing_contained, none_of}
+use Rattle.clif_simulation.specs.Tables.{code, answered, program_so_far}
 use Rattle.clif_simulation.specs.Carries.{carried}
 use Rattle.clif_simulation.specs.Reading.{starting_at, IsAtEnd, StandAlike, StartAlike, SideBySide}
 use Rattle.clif_simulation.proofs.Unbranched.{CarriesUnbranched}
 use Rattle.clif_simulation.proofs.Agreement.{any_value, zeros_agree}
-use Rattle.clif_simulation.proofs.Straight.{first_arm, straight, same_block, same_step, absent_name, absent_value}
+use Rattle.clif_simulation.proofs.Straight.{first_arm, straight, same_block, absent_name, absent_value}
 use Rattle.clif_simulation.proofs.Ended.{defined-end, is-end}
 use Rattle.clif_simulation.proofs.Opened.{Opens}
 use Rattle.clif_simulation.proofs.Opened
@@ -46,6 +46,7 @@ use Rattle.clif_simulation.proofs.Listed.{place_within}
 use Rattle.clif_simulation.proofs.Reaching
 use Rattle.clif_simulation.proofs.Fronts.{zero_placed, is_zero_placed, any_first, zero_bits}
 use Rattle.clif_simulation.proofs.Entry
+use Rattle.clif_simulation.proofs.GivenNames.{given_at_front}
 use Rattle.clif_simulation.proofs.Alongside
 
 module _ (calls : List AnsweredCall) (f : Body) (ssa : SsaState) (consistent : IsConsistent f) (carries : CarriesUnbranched calls f ssa)
@@ -140,7 +141,7 @@ module _ (calls : List AnsweredCall) (f : Body) (ssa : SsaState) (consistent : I
           same_memory = s.same_memory;
           same_events = s.same_events;
           names = λ x given.
-              let before = Reaching.given_behind calls entry is_entry x k s.within given in
+              let before = Reaching.given_behind calls carries.bare entry is_entry x k s.within given in
               let there = item_gives_at x before.0 before.2 (slice_get items before.0) refl in
               Alongside.given_bits calls f ssa consistent carries entry is_entry placed sealed joins opens width world tracked collector
               k a b s x before.0 before.1 there.0 there.1;
@@ -269,13 +270,9 @@ module _ (calls : List AnsweredCall) (f : Body) (ssa : SsaState) (consistent : I
           ∙ entered-unsealed program (first_arm e) [] x (Opened.seal_is calls f ssa carries entry is_entry false unsealed)
 
       no_name : (n : ℕ) → (carries.tables.naming n).home ≢ front e
-      no_name n at = by (carries.program.given_only n (λ none. other (sym none ∙ at)))
-        where
-          other : start ≡ front e → ⊥
-          other h = cc
-
-          by : IsGiven calls carries.tables n → ⊥
-          by g = absurd (omega (arith, same_step (sym (ap (λ naming. naming.home) g.naming) ∙ at)))
+      no_name n at =
+          let given = given_at_front calls carries.tables carries.program n e entry (Entry.named calls f ssa carries entry is_entry) at in
+          none_of ((program_so_far calls).parameters entry) given.0 (carries.bare entry) given.2
 
       name_absent : (n : ℕ) → instances program (straight e 0) (name n) ≡ absent
       name_absent n = absent_name program n (straight e 0) (λ visits. never visits)

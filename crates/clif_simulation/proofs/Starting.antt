@@ -1,21 +1,22 @@
--- How both machines start: at the entry, after the zeros at its front, with all bits zero.
+-- How both machines start: at the entry, whose parameters that the caller made have the world's arguments, after the zeros at
+-- its front, with all other bits zero.
 use Rattle.std.proofs.Common.{◌≡◌, ℕ, zero, suc, ◌+◌, ◌-◌, ◌&&◌, Bool, true, List, [], ◌∷◌, length, map, Option, Some, inl, refl, sym, ◌∙◌, ap, subst, arith}
+use Rattle.std.proofs.lemmas.List.{append-nil}
 use Rattle.clif_types.specs.declared.types.«Type».{«Type»}
 use Rattle.clif_types.specs.declared.target.PointerWidth.{PointerWidth}
 use Rattle.clif_types.specs.Signature.{SignatureShape}
 use Rattle.clif_ir.specs.Body.{Body, block_at}
 use Rattle.clif_ir.specs.Consistent.{IsConsistent}
-use Rattle.clif_paths.specs.Places.{Follows}
+use Rattle.clif_paths.specs.Places.{Follows, start}
 use Rattle.clif_paths.specs.State.{Program, Function, zero_of}
 use Rattle.clif_paths.specs.Blocks.{Blocks}
 use Rattle.clif_ssa.specs.Ssa.{SsaState}
 use Rattle.clif_ssa.specs.Sound.{entry_of, has_entry}
 use Rattle.clif_meaning.specs.Bits.{Bits, AreValues}
-use Rattle.clif_meaning.specs.Name.{Name, same_name}
+use Rattle.clif_meaning.specs.Name.{Name}
 use Rattle.clif_meaning.specs.Request.{AnsweredCall, script_of}
-use Rattle.clif_meaning.specs.Program as program_of_script
 use Rattle.clif_meaning.specs.Program.{Item}
-use Rattle.clif_meaning.specs.Ledger.{Ledger, ledger_after}
+use Rattle.clif_meaning.specs.Ledger.{ledger_after, or_invalid, type_of}
 use Rattle.clif_meaning.specs.World.{World}
 use Rattle.clif_meaning.specs.Store.{assigned}
 use Rattle.clif_meaning.specs.Machine.{Machine, At, state_after, observed, Observation}
@@ -27,34 +28,47 @@ use Rattle.clif_meaning.specs.FunctionView.{Placed}
 use Rattle.clif_meaning.specs.Premises.{EachItem, EntryTakes, HasGoodTargets, WellTyped, parameter_types}
 use Rattle.clif_meaning.specs.WellPlaced.{program_code, IsWellPlaced}
 use Rattle.clif_meaning.proofs.Stuttering.{Simulates, steps_from}
-use Rattle.clif_simulation.specs.Tables.{block_name, program_so_far}
+use Rattle.clif_simulation.specs.Tables.{answered, block_name, program_so_far}
 use Rattle.clif_simulation.proofs.Whole.{Whole}
-use Rattle.clif_simulation.specs.Laws.{IsFinished}
-use Rattle.clif_simulation.proofs.Agreement.{zeros_agree}
+use Rattle.clif_simulation.specs.Laws.{IsFinished, MakesNoParameters}
+use Rattle.clif_simulation.proofs.Agreement.{Agrees, ZerosAreZero, agrees_still, zeros_agree, zeros_still}
+use Rattle.clif_simulation.proofs.Edges
+use Rattle.clif_simulation.proofs.Entered.{EntersThere, entered_agrees, entered_zeros}
 use Rattle.clif_simulation.proofs.Entry.{begins}
 use Rattle.clif_simulation.proofs.Fronts
 use Rattle.clif_simulation.proofs.Fronts.{HasFront, has_front, placed_inst, quiet}
-use Rattle.clif_simulation.proofs.Listed.{no_parameters}
+use Rattle.clif_simulation.proofs.Placing.{map_length}
 use Rattle.clif_simulation.proofs.Straight.{arms, first_arm}
 use Rattle.clif_simulation.proofs.Stepping
+use Rattle.clif_simulation.proofs.Stepping.{nothing_assigned}
 
--- Nothing is passed to the entry ----------------------------------------------------------------------------------------
+-- What is passed to the entry --------------------------------------------------------------------------------------------
 
-no_values : (types : List «Type») (values : List Bits) → types ≡ [] → AreValues types values → values ≡ []
-no_values [] [] none are = refl
-no_values [] (bits ∷ values) none are = absurd are
-no_values (ty ∷ types) values none are = cc
+as_many_values : (types : List «Type») (values : List Bits) → AreValues types values → length values ≡ length types
+as_many_values [] [] are = refl
+as_many_values [] (bits ∷ values) are = absurd are
+as_many_values (ty ∷ types) [] are = absurd are
+as_many_values (ty ∷ types) (bits ∷ values) are = ap suc (as_many_values types values are.1)
 
-no_types : (ledger : Ledger) (program : program_of_script.Program) (entry : Name) → program.parameters entry ≡ [] → parameter_types ledger program entry ≡ []
-no_types ledger program entry none = rw none refl
-
-pub no_arguments : (calls : List AnsweredCall) (entry : Name) (types : List «Type») (world : World) → (program_so_far calls).entry ≡ Some entry
-    → EntryTakes (ledger_after (script_of calls)) (program_so_far calls) types (program_so_far calls).entry → AreValues types world.arguments → world.arguments ≡ []
-no_arguments calls entry types world is_entry takes are =
+-- the world gives as many arguments as the entry has parameters
+pub arguments_count : (calls : List AnsweredCall) (entry : Name) (types : List «Type») (world : World) → (program_so_far calls).entry ≡ Some entry
+    → EntryTakes (ledger_after (script_of calls)) (program_so_far calls) types (program_so_far calls).entry → AreValues types world.arguments
+    → length world.arguments ≡ length ((program_so_far calls).parameters entry)
+arguments_count calls entry types world is_entry takes are =
     let taken : parameter_types (ledger_after (script_of calls)) (program_so_far calls) entry ≡ types =
     subst (λ (o : Option Name). EntryTakes (ledger_after (script_of calls)) (program_so_far calls) types o) is_entry takes in
-    no_values types world.arguments
-    (sym taken ∙ no_types (ledger_after (script_of calls)) (program_so_far calls) entry (no_parameters (script_of calls) entry)) are
+    as_many_values types world.arguments are ∙ ap (λ (tys : List «Type»). length tys) (sym taken)
+    ∙ map_length (λ (name : Name). or_invalid (type_of (ledger_after (script_of calls)) name)) ((program_so_far calls).parameters entry)
+
+no_elements : {X : Type 0} (xs : List X) → length xs ≡ 0 → xs ≡ []
+no_elements [] none = refl
+no_elements (x ∷ xs) none = absurd (omega (arith, none))
+
+-- none, where no block has a parameter
+pub no_arguments : (calls : List AnsweredCall) (entry : Name) (types : List «Type») (world : World) → MakesNoParameters calls → (program_so_far calls).entry ≡ Some entry
+    → EntryTakes (ledger_after (script_of calls)) (program_so_far calls) types (program_so_far calls).entry → AreValues types world.arguments → world.arguments ≡ []
+no_arguments calls entry types world bare is_entry takes are =
+    no_elements world.arguments (arguments_count calls entry types world is_entry takes are ∙ ap (λ (names : List Name). length names) (bare entry))
 
 pub none_assigned : {Place : Type 0} (same : Place → Place → Bool) (places : List Place) (values : List Bits) (old : Place → Bits) → values ≡ []
     → assigned same places values old ≡ old
@@ -71,7 +85,7 @@ module _ (calls : List AnsweredCall) (f : Body) (ssa : SsaState) (consistent : I
     (width : PointerWidth) (world : World) (signature : SignatureShape) (placed : IsWellPlaced (program_code (program_so_far calls)))
     (targets : EachItem (HasGoodTargets (ledger_after (script_of calls)) (program_so_far calls)) (program_so_far calls))
     (typed : WellTyped (ledger_after (script_of calls)) (program_so_far calls) signature)
-    (entry : Name) (is_entry : (program_so_far calls).entry ≡ Some entry) (empty : world.arguments ≡ [])
+    (entry : Name) (is_entry : (program_so_far calls).entry ≡ Some entry) (as_many : length world.arguments ≡ length ((program_so_far calls).parameters entry))
   where
     abbrev left_run : ScriptRun
     left_run = Stepping.left_run calls f ssa consistent carries finished width world signature placed targets typed
@@ -128,14 +142,49 @@ module _ (calls : List AnsweredCall) (f : Body) (ssa : SsaState) (consistent : I
     right_is : right_machine.start ≡ right_first
     right_is = ap (function_machine_of.start_at right_run) found
 
-    no_names : (n : Name) → left_first.names n ≡ 0
-    no_names n = ap (λ (names : Name → Bits). names n) (none_assigned same_name ((program_so_far calls).parameters entry) world.arguments (λ x. 0) empty)
+    abbrev of_entry : List Name
+    of_entry = (program_so_far calls).parameters entry
 
-    no_bits : (w : ℕ) → right_first.values w ≡ 0
-    no_bits w = ap (λ (values : ℕ → Bits). values w) (none_assigned same_value (block_at f e).params world.arguments (λ u. 0) empty)
+    -- all bits are zero at first
+    abbrev blank_values : ℕ → ℕ
+    blank_values = λ v. 0
+
+    enters : EntersThere live program function (first_arm e) [] of_entry (answered calls) blank_values blank_values
+    enters =
+        Edges.enters_front calls f ssa consistent carries finished placed e entry named start 0 [] blank_values blank_values
+        (λ w defined. refl) (λ w elsewhere. refl) (λ w y kind. refl) (λ w y kind. refl)
+
+    blank_agrees : Agrees live program function [] left_first.variables (λ x. 0) blank_values
+    blank_agrees = zeros_agree live program function [] left_first.variables (λ x. 0) blank_values (λ x. refl) (λ n. refl) (λ w. refl)
+
+    blank_zeros : ZerosAreZero program function [] left_first.variables (λ x. 0) blank_values
+    blank_zeros = record { of_variable = λ x y is. refl; of_name = λ n y is. refl; of_value = λ w y is. refl }
+
+    -- the values at the entry
+    abbrev values_there : ℕ → ℕ
+    values_there = assigned same_value (map (answered calls) of_entry) world.arguments blank_values
+
+    same_values : (v : ℕ) → right_first.values v ≡ values_there v
+    same_values v =
+        ap (λ (bits : List ℕ). assigned same_value (block_at f e).params bits blank_values v) (sym (append-nil world.arguments))
+        ∙ Edges.in_two_parts calls f ssa consistent carries finished placed e entry named (block_at f e).params world.arguments [] blank_values v refl as_many
+        ∙ ap (λ (values : ℕ → ℕ). assigned same_value (map (answered calls) of_entry) world.arguments values v)
+        (nothing_assigned same_value (Edges.others calls f ssa consistent carries finished placed e entry named) blank_values)
+
+    agrees_there : Agrees live program function (first_arm e ∷ []) left_first.variables left_first.names right_first.values
+    agrees_there =
+        agrees_still live program function (first_arm e ∷ []) left_first.variables left_first.names values_there right_first.values same_values
+        (entered_agrees live program function (first_arm e) [] of_entry (answered calls) blank_values blank_values enters left_first.variables (λ x. 0) blank_agrees blank_zeros
+        world.arguments as_many)
+
+    zeros_there : ZerosAreZero program function (first_arm e ∷ []) left_first.variables left_first.names right_first.values
+    zeros_there =
+        zeros_still program function (first_arm e ∷ []) left_first.variables left_first.names values_there right_first.values same_values
+        (entered_zeros live program function (first_arm e) [] of_entry (answered calls) blank_values blank_values enters left_first.variables (λ x. 0) blank_agrees blank_zeros
+        world.arguments as_many)
 
     blank : (w y : ℕ) → (function.definition w).kind ≡ zero_of y → right_first.values w ≡ 0
-    blank w y kind = no_bits w
+    blank = zeros_there.of_value
 
     -- The zeros come first --------------------------------------------------------------------------------------------------
 
@@ -173,7 +222,6 @@ module _ (calls : List AnsweredCall) (f : Body) (ssa : SsaState) (consistent : I
 
     related_first : (q : FunctionState) → Left 0 q → Related left_machine.start q
     related_first q z =
-        let no_values : (w : ℕ) → q.values w ≡ 0 = λ w. z.values w ∙ no_bits w in
         subst (λ (p : ScriptState). Related p q) (sym left_is) (inl (record {
           block = e;
           name = entry;
@@ -193,8 +241,8 @@ module _ (calls : List AnsweredCall) (f : Body) (ssa : SsaState) (consistent : I
             function_at = Fronts.at_rest right_run f tables e (map (placed_inst f) (carries.own.insts e)) right_first blank q z;
             same_memory = sym z.memory;
             same_events = sym z.events;
-            agrees = zeros_agree live program function (first_arm e ∷ []) left_first.variables left_first.names q.values (λ x. refl) no_names no_values;
-            zeros = record { of_variable = λ x y is. refl; of_name = λ n y is. no_names n; of_value = λ w y is. no_values w };
+            agrees = agrees_still live program function (first_arm e ∷ []) left_first.variables left_first.names right_first.values q.values z.values agrees_there;
+            zeros = zeros_still program function (first_arm e ∷ []) left_first.variables left_first.names right_first.values q.values z.values zeros_there;
           };
         }))
 

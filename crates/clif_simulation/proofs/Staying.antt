@@ -3,7 +3,7 @@ use Rattle.std.proofs.Common.{◌≡◌, ◌≢◌, ℕ, suc, ◌<◌, ◌≤◌
 use Rattle.std.specs.Prelude.{slice_get, Option, Contains}
 use Rattle.std.proofs.lemmas.List.{map-append}
 use Rattle.clif_paths.specs.Places.{start, inside}
-use Rattle.clif_paths.specs.State.{Naming}
+use Rattle.clif_paths.specs.State.{Naming, fresh}
 use Rattle.clif_paths.specs.Blocks.{Blocks, front}
 use Rattle.clif_ssa.specs.Sound.{SameProgram}
 use Rattle.clif_meaning.specs.Name.{Name, answer_of}
@@ -12,8 +12,10 @@ use Rattle.clif_meaning.specs.Ledger.{Ledger, ledger_after, ledger_with, new_blo
 use Rattle.clif_meaning.specs.Program.{Item}
 use Rattle.clif_meaning.specs.WellPlaced.{item_gives}
 use Rattle.clif_meaning.proofs.CallLists.{ledger_place}
-use Rattle.clif_simulation.specs.Tables.{code, answered, program_so_far, block_name, item_at, assigned_by, origin_of, IsGiven, IsProgramOf}
-use Rattle.clif_simulation.proofs.Codes.{differ as codes_differ}
+use Rattle.clif_simulation.specs.Tables.{code, answered, program_so_far, block_name, item_at, assigned_by, origin_of, IsGiven, IsParameter, IsProgramOf}
+use Rattle.clif_meaning.proofs.StraightLine.{none_of}
+use Rattle.clif_simulation.proofs.GivenNames.{named_earlier}
+use Rattle.clif_simulation.proofs.Listed.{MakesNoParameter, parameters_stay}
 use Rattle.clif_simulation.proofs.Numbers.{answered_stays, ledger_longer, slice_get-longer, slice_get-front, slice_get-last}
 use Rattle.clif_simulation.proofs.NameLists.{MakesNoBlock, names_of, names_stay}
 use Rattle.std.proofs.lemmas.Option.{slice_get_within}
@@ -30,14 +32,13 @@ pub record AddsNoItem (calls calls' : List AnsweredCall) (T T' : Blocks) : Type 
       → (block_name calls c ≡ Some N) ⊎ ((block_name calls c ≡ None) × (N.place ≡ length calls) × (length calls < length calls'))
   pub one_new : (c d : ℕ) (N : Name) → block_name calls' c ≡ Some N → block_name calls c ≡ None → block_name calls' d ≡ Some N → block_name calls d ≡ None → c ≡ d
   pub items : (N : Name) → (program_so_far calls').items N ≡ (program_so_far calls).items N
+  pub parameters : (N : Name) → (program_so_far calls').parameters N ≡ (program_so_far calls).parameters N
   pub answers_stay : (x : Name) → x.place < length calls → answered calls' x ≡ answered calls x
 
 module _ (calls calls' : List AnsweredCall) (T T' : Blocks) (adds : AddsNoItem calls calls' T T') (was : IsProgramOf calls T) where
   given_earlier : (x : Name) → (T.naming (code x)).home ≢ start → x.place < length calls
   given_earlier x home =
-      let g = was.given_only (code x) home in
-      let same : g.name ≡ x = codes_differ g.name x g.coded in
-      subst (λ (y : Name). y.place < length calls) same g.earlier
+      named_earlier calls T was x home
 
   -- a block that is new has no items
   new_empty : (c : ℕ) (N : Name) → block_name calls c ≡ None → N.place ≡ length calls → (program_so_far calls).items N ≡ []
@@ -96,10 +97,34 @@ module _ (calls calls' : List AnsweredCall) (T T' : Blocks) (adds : AddsNoItem c
           differ : (j : Item) → None ≡ Some j → ⊥
           differ j h = cc
 
-  given_only : (n : ℕ) → (T'.naming n).home ≢ start → IsGiven calls' T' n
-  given_only n home =
-      let g = was.given_only n (λ at_start. home (ap (λ (m : Naming). m.home) (adds.same.naming n) ∙ at_start)) in
-      record {
+  -- a block that is new has no parameters either
+  new_bare : (c : ℕ) (N : Name) → N.place ≡ length calls → (program_so_far calls).parameters N ≡ []
+  new_bare c N late = by (was.only_parameters N)
+    where
+      by : ((program_so_far calls).parameters N ≡ []) ⊎ ((d : ℕ) × (block_name calls d ≡ Some N)) → (program_so_far calls).parameters N ≡ []
+      by (inl empty) = empty
+      by (inr block) = let earlier : N.place < length calls = was.blocks_earlier block.0 N block.1 in absurd (omega (arith, earlier, late))
+
+  parameter : (c : ℕ) (N : Name) → block_name calls' c ≡ Some N → (x : Name) → Contains ((program_so_far calls').parameters N) x
+      → (T'.naming (code x) ≡ record { home = front c; origin = fresh }) × (T'.answer (code x) ≡ answered calls' x)
+  parameter c N named x stands = by (adds.names_new c N named)
+    where
+      stood : Contains ((program_so_far calls).parameters N) x
+      stood = subst (λ (xs : List Name). Contains xs x) (adds.parameters N) stands
+
+      by : (block_name calls c ≡ Some N) ⊎ ((block_name calls c ≡ None) × (N.place ≡ length calls) × (length calls < length calls'))
+          → (T'.naming (code x) ≡ record { home = front c; origin = fresh }) × (T'.answer (code x) ≡ answered calls' x)
+      by (inl old) =
+          let p = was.parameter c N old x stood in
+          let earlier : x.place < length calls = given_earlier x (λ at_start. inside≢start c 0 (sym (ap (λ (n : Naming). n.home) p.0) ∙ at_start)) in
+          (adds.same.naming (code x) ∙ p.0, adds.same.answer (code x) ∙ p.1 ∙ sym (adds.answers_stay x earlier))
+      by (inr new) = absurd (none_of ((program_so_far calls).parameters N) x (new_bare c N new.1) stood)
+
+  given_only : (n : ℕ) → (T'.naming n).home ≢ start → IsGiven calls' T' n ⊎ IsParameter calls' T' n
+  given_only n home = by (was.given_only n (λ at_start. home (ap (λ (m : Naming). m.home) (adds.same.naming n) ∙ at_start)))
+    where
+      by : IsGiven calls T n ⊎ IsParameter calls T n → IsGiven calls' T' n ⊎ IsParameter calls' T' n
+      by (inl g) = inl (record {
         name = g.name;
         block = g.block;
         block_is = g.block_is;
@@ -111,7 +136,17 @@ module _ (calls calls' : List AnsweredCall) (T T' : Blocks) (adds : AddsNoItem c
         stands = item_same g.block_is g.index ∙ g.stands;
         gives = g.gives;
         naming = adds.same.naming n ∙ g.naming;
-      }
+      })
+      by (inr p) = inr (record {
+        name = p.name;
+        block = p.block;
+        block_is = p.block_is;
+        coded = p.coded;
+        earlier = let e = p.earlier in let l = adds.longer in omega (arith, e, l);
+        named = adds.names_kept p.block p.block_is p.named;
+        stands = subst (λ (xs : List Name). Contains xs p.name) (sym (adds.parameters p.block_is)) p.stands;
+        naming = adds.same.naming n ∙ p.naming;
+      })
 
   distinct : (c d : ℕ) (N : Name) → block_name calls' c ≡ Some N → block_name calls' d ≡ Some N → c ≡ d
   distinct c d N first second = by (adds.names_new c N first) (adds.names_new d N second)
@@ -140,6 +175,13 @@ module _ (calls calls' : List AnsweredCall) (T T' : Blocks) (adds : AddsNoItem c
       by (inl empty) = inl (adds.items N ∙ empty)
       by (inr block) = inr (block.0, adds.names_kept block.0 N block.1)
 
+  only_parameters : (N : Name) → ((program_so_far calls').parameters N ≡ []) ⊎ ((c : ℕ) × (block_name calls' c ≡ Some N))
+  only_parameters N = by (was.only_parameters N)
+    where
+      by : ((program_so_far calls).parameters N ≡ []) ⊎ ((c : ℕ) × (block_name calls c ≡ Some N)) → ((program_so_far calls').parameters N ≡ []) ⊎ ((c : ℕ) × (block_name calls' c ≡ Some N))
+      by (inl empty) = inl (adds.parameters N ∙ empty)
+      by (inr block) = inr (block.0, adds.names_kept block.0 N block.1)
+
   pub stays : IsProgramOf calls' T'
   stays = record {
     counts = counts;
@@ -149,6 +191,7 @@ module _ (calls calls' : List AnsweredCall) (T T' : Blocks) (adds : AddsNoItem c
     start_assigns_nothing = λ x. adds.same.assigned start x ∙ was.start_assigns_nothing x;
     elsewhere_nothing = λ c index x none. adds.same.assigned (inside c index) x ∙ was.elsewhere_nothing c index x (none_at c none);
     given = given;
+    parameter = parameter;
     given_only = given_only;
     assigned_earlier = λ place x n is.
         let a = was.assigned_earlier place x n (sym (adds.same.assigned place x) ∙ is) in
@@ -156,6 +199,7 @@ module _ (calls calls' : List AnsweredCall) (T T' : Blocks) (adds : AddsNoItem c
     distinct = distinct;
     blocks_earlier = blocks_earlier;
     only_blocks = only_blocks;
+    only_parameters = only_parameters;
   }
 
 pub same_program-refl : (T : Blocks) → SameProgram T T
@@ -172,6 +216,7 @@ restated calls T T' same was =
       names_new = λ c N h. inl h;
       one_new = λ c d N first none second none'. absurd (differ N (block_name calls c) first none);
       items = λ N. refl;
+      parameters = λ N. refl;
       answers_stay = λ x h. refl;
     })
     was
@@ -180,10 +225,10 @@ restated calls T T' same was =
     differ M o first second = cc
 
 -- a call that makes no block and no item
-pub unchanged : (calls : List AnsweredCall) (call : AnsweredCall) (T T' : Blocks) → SameProgram T T' → MakesNoBlock call.request
+pub unchanged : (calls : List AnsweredCall) (call : AnsweredCall) (T T' : Blocks) → SameProgram T T' → MakesNoBlock call.request → MakesNoParameter call.request
     → ((N : Name) → (program_so_far (calls ++ call ∷ [])).items N ≡ (program_so_far calls).items N)
     → IsProgramOf calls T → IsProgramOf (calls ++ call ∷ []) T'
-unchanged calls call T T' same no_block items was =
+unchanged calls call T T' same no_block no_parameter items was =
     stays calls (calls ++ call ∷ []) T T'
     (record {
       same = same;
@@ -192,6 +237,7 @@ unchanged calls call T T' same no_block items was =
       names_new = λ c N h. inl (sym (names_stay calls call no_block c) ∙ h);
       one_new = λ c d N first none second none'. absurd (differ N (block_name calls c) (sym (names_stay calls call no_block c) ∙ first) none);
       items = items;
+      parameters = parameters_stay calls call no_parameter;
       answers_stay = λ x h. answered_stays calls call x h;
     })
     was
@@ -239,6 +285,7 @@ module _ (calls : List AnsweredCall) (call : AnsweredCall) (is : call.request �
       → ((N : Name) → (program_so_far (calls ++ call ∷ [])).items N ≡ (program_so_far calls).items N)
       → IsProgramOf calls T → IsProgramOf (calls ++ call ∷ []) T'
   created T T' same items was =
+      let no_parameter : MakesNoParameter call.request = subst MakesNoParameter (sym is) tt in
       stays calls (calls ++ call ∷ []) T T'
       (record {
         same = same;
@@ -247,6 +294,7 @@ module _ (calls : List AnsweredCall) (call : AnsweredCall) (is : call.request �
         names_new = λ c N h. new c N (old_or_new c N h);
         one_new = λ c d N first none second none'. at_end c N none (old_or_new c N first) ∙ sym (at_end d N none' (old_or_new d N second));
         items = items;
+        parameters = parameters_stay calls call no_parameter;
         answers_stay = λ x h. answered_stays calls call x h;
       })
       was

@@ -7,7 +7,7 @@ use Rattle.clif_types.specs.Signature.{SignatureShape}
 use Rattle.clif_types.specs.declared.target.PointerWidth.{PointerWidth}
 use Rattle.clif_ir.specs.Body.{Body, inst_at, resolved}
 use Rattle.clif_ir.specs.Consistent.{IsConsistent}
-use Rattle.clif_paths.specs.Places.{inside, Arm, Path, Follows, end_of}
+use Rattle.clif_paths.specs.Places.{inside, Arm, Path, Follows, Visits, end_of}
 use Rattle.clif_paths.specs.State.{Program, Function}
 use Rattle.clif_paths.specs.Denotation.{denotes}
 use Rattle.clif_paths.specs.Blocks.{Blocks, state_of}
@@ -21,7 +21,7 @@ use Rattle.clif_meaning.specs.Event.{Event}
 use Rattle.clif_meaning.specs.Name.{Name, same_name}
 use Rattle.clif_meaning.specs.Request.{AnsweredCall, script_of}
 use Rattle.clif_meaning.specs.Ledger.{ledger_after, is_filled}
-use Rattle.clif_meaning.specs.Instruction.{Edge, Instruction}
+use Rattle.clif_meaning.specs.Instruction.{Argument, Known, CallResult, CallPayload, Edge, Instruction}
 use Rattle.clif_meaning.specs.Program.{Item, Instruct, Use, Assign}
 use Rattle.clif_meaning.specs.World.{World}
 use Rattle.clif_meaning.specs.Outcome.{Outcome, Gives, Goes, Returns, Traps, Calls, NoStep, outcome_of}
@@ -35,14 +35,16 @@ use Rattle.clif_meaning.specs.FunctionView.{Placed}
 use Rattle.clif_meaning.specs.View.{view_of, edge_of, edges_of, argument_of}
 use Rattle.clif_meaning.specs.Headline.{script_run, function_run}
 use Rattle.clif_meaning.specs.Premises.{EachItem, HasGoodTargets, WellTyped}
-use Rattle.clif_meaning.specs.WellPlaced.{item_names, program_code, IsWellPlaced}
+use Rattle.clif_meaning.specs.WellPlaced.{item_names, known_argument, passed_operands, program_code, IsWellPlaced}
 use Rattle.clif_meaning.proofs.Stuttering.{Matched, steps_from}
 use Rattle.clif_simulation.specs.Tables.{code, answered, program_so_far, block_name}
 use Rattle.clif_simulation.proofs.Whole.{Whole}
-use Rattle.clif_simulation.specs.Carries.{carried, own_placed}
+use Rattle.clif_simulation.specs.Carries.{answered_argument, carried, own_placed}
 use Rattle.clif_simulation.specs.Laws.{IsFinished}
-use Rattle.clif_simulation.proofs.Giving.{in_contained}
-use Rattle.clif_simulation.proofs.Agreement.{Agrees, GivesThere, EntersThere, ZerosAreZero, given_agrees, used_agrees, assigned_agrees, entered_agrees, given_zeros, used_zeros, assigned_zeros, entered_zeros, agrees_still, zeros_still}
+use Rattle.clif_simulation.proofs.Giving.{In, in_contained}
+use Rattle.clif_simulation.proofs.InLists.{among_all}
+use Rattle.clif_simulation.proofs.Agreement.{Agrees, GivesThere, ZerosAreZero, given_agrees, used_agrees, assigned_agrees, given_zeros, used_zeros, assigned_zeros, agrees_still, zeros_still}
+use Rattle.clif_simulation.proofs.Entered.{EntersThere, entered_agrees, entered_zeros}
 use Rattle.clif_simulation.proofs.Entry.{resolved_twice}
 use Rattle.clif_simulation.proofs.Straight.{arms, next_arm}
 use Rattle.clif_simulation.proofs.Edges
@@ -50,12 +52,29 @@ use Rattle.clif_simulation.proofs.Flow
 use Rattle.clif_simulation.proofs.Fronts
 use Rattle.clif_simulation.proofs.Fronts.{HasFront, has_front, placed_inst, goes_on_quietly, steps_behind}
 use Rattle.clif_simulation.proofs.ItemsAt
-use Rattle.clif_simulation.proofs.Listed.{no_parameters, place_within}
+use Rattle.clif_simulation.proofs.Listed.{place_within}
 use Rattle.clif_simulation.proofs.OwnEdges
 use Rattle.clif_simulation.proofs.OwnEdges.{last_item}
 use Rattle.clif_simulation.proofs.Targets
-use Rattle.clif_simulation.proofs.Placing.{at_second, map_at, placed_item}
+use Rattle.clif_simulation.proofs.Placing.{at_second, map_at, map_length, placed_item}
 use Rattle.clif_simulation.proofs.Matching.{script_still, function_still, observation, remaining, first_is, rest_is, item_here, rest_behind, same_bits, matched_by_one, matched_by_none, matched_by_more, SameEnd, same_ending, IsPlain, outcome_plain}
+
+-- what is passed has the same bits where the names have those of their answers
+same_arguments : (calls : List AnsweredCall) (names : Name → ℕ) (values : ℕ → ℕ) (given : List ℕ) (arguments : List (Argument Name))
+    → ((x : Name) → In x (flat_map known_argument arguments) → names x ≡ values (answered calls x))
+    → map (argument_bits names given) arguments ≡ map (argument_bits values given) (map (answered_argument calls) arguments)
+same_arguments calls names values given [] same = refl
+same_arguments calls names values given (Known x ∷ arguments) same =
+    ap₂ (λ (bits : ℕ) (rest : List ℕ). bits ∷ rest) (same x (inl refl)) (same_arguments calls names values given arguments (λ y there. same y (inr there)))
+same_arguments calls names values given (CallResult index ∷ arguments) same =
+    ap (λ (rest : List ℕ). argument_bits values given (CallResult index) ∷ rest) (same_arguments calls names values given arguments same)
+same_arguments calls names values given (CallPayload index ∷ arguments) same =
+    ap (λ (rest : List ℕ). argument_bits values given (CallPayload index) ∷ rest) (same_arguments calls names values given arguments same)
+
+-- what an edge of an instruction passes the instruction passes
+edge_passes : (instruction : Instruction Name Name) (n : ℕ) (edge : Edge Name Name) → slice_get instruction.edges n ≡ Some edge
+    → (x : Name) → In x (flat_map known_argument edge.arguments) → In x (passed_operands instruction)
+edge_passes instruction n edge is x known = among_all (λ (e : Edge Name Name). flat_map known_argument e.arguments) instruction.edges n edge x is known
 
 -- no bits, and nothing changes
 pub nothing_assigned : {Place : Type 0} (same : Place → Place → Bool) (places : List Place) (old : Place → ℕ) → assigned same places [] old ≡ old
@@ -360,8 +379,8 @@ module _ (calls : List AnsweredCall) (f : Body) (ssa : SsaState) (consistent : I
             (left_next : left_machine.next p ≡ script.follow_edge left_run (record p { memory = memory }) given (Some edge))
             (right_next : right_machine.next q ≡ function_machine_of.follow_edge right_run (record q { memory = memory }) given (slice_get (edges_of (inst_at f i).shape) n))
           where
-            nothing_passed : edge.arguments ≡ []
-            nothing_passed = Targets.passes_nothing calls B k place instruction results stands n edge is_edge signature typed
+            as_many : length edge.arguments ≡ length ((program_so_far calls).parameters edge.target)
+            as_many = Targets.passes_as_many calls B k place instruction results stands n edge is_edge signature typed
 
             filled : IsTrue (is_filled (ledger_after (script_of calls)) edge.target)
             filled = Targets.target_filled calls B k place instruction results stands n edge is_edge targets
@@ -373,7 +392,7 @@ module _ (calls : List AnsweredCall) (f : Body) (ssa : SsaState) (consistent : I
             of_function = OwnEdges.edge_in_function calls f ssa consistent carries i instruction results is n edge is_edge
 
             abbrev arm : Arm
-            arm = Edges.arm calls f ssa consistent carries finished placed b B r.named k place instruction results stands (length r.front) i there is n edge is_edge nothing_passed filled
+            arm = Edges.arm calls f ssa consistent carries finished placed b B r.named k place instruction results stands (length r.front) i there is n edge is_edge as_many filled
 
             -- the states behind the edge
             abbrev p1 : ScriptState
@@ -392,12 +411,11 @@ module _ (calls : List AnsweredCall) (f : Body) (ssa : SsaState) (consistent : I
                 ∙ ap (λ (c : ℕ). function_machine_of.enter_block right_run (record q { memory = memory }) c
                 (map (argument_bits (value_bits right_run q) given) (map argument_of of_function.call.args))) of_function.target
 
-            same_names : p1.names ≡ p.names
-            same_names =
-                ap (λ (names : List Name). assigned same_name names (map (argument_bits p.names given) edge.arguments) p.names) (no_parameters (script_of calls) edge.target)
-
             abbrev behind : Path
             behind = next_arm b k ∷ path
+
+            follows_behind : Follows (arms tables) behind
+            follows_behind = goes_on b B k path r.named (Instruct place instruction results) stands r.follows r.ends
 
             agrees_behind : Agrees live program function behind p.variables p.names q.values
             agrees_behind =
@@ -411,21 +429,76 @@ module _ (calls : List AnsweredCall) (f : Body) (ssa : SsaState) (consistent : I
                 (nothing_assigned same_name results p.names) (nothing_assigned same_value (map (answered calls) results) q.values)
                 (given_zeros live program function (next_arm b k) path results (answered calls) (gives path) p.variables p.names q.values r.agrees [] r.zeros)
 
-            enters : EntersThere live program function arm behind q.values q1.values
-            enters =
-                Edges.enters calls f ssa consistent carries finished placed b B r.named k place instruction results stands (length r.front) i there is n edge is_edge nothing_passed filled
+            -- a name that the edge passes has the bits that its answer has
+            passed_agrees : (x : Name) → Contains (passed_operands instruction) x → p.names x ≡ value_bits right_run q (answered calls x)
+            passed_agrees x passes =
+                let correct : IsCorrect (state_of tables) = Flow.is_correct calls f ssa consistent carries placed finished in
+                let on = Flow.passed_before calls f ssa consistent carries placed (next_arm b k) path b k B r.follows r.ends refl r.named (Instruct place instruction results) stands x passes in
+                let stands_for = correct.answers (code x) on.given (inside b (suc k)) (record {
+                  on_every_path = λ way follows ends. visits_on way follows ends;
+                }) in
+                let same : function.resolve (tables.answer (code x)) ≡ resolved f (answered calls x) =
+                carries.describes.resolves (tables.answer (code x)) ∙ ap (resolved f) on.answer in
+                agrees_behind.of_name x (resolved f (answered calls x))
+                (carries.describes.resolves (resolved f (answered calls x)) ∙ resolved_twice f (answered calls x) consistent)
+                (sym (stands_for.denotes_name program behind follows_behind refl) ∙ ap (λ (v : ℕ). denotes program function behind v) same)
+              where
+                visits_on : (way : Path) → Follows (arms tables) way → end_of way ≡ inside b (suc k) → Visits (tables.naming (code x)).home way
+                visits_on [] follows ends = cc
+                visits_on (first ∷ way) follows ends =
+                    (Flow.passed_before calls f ssa consistent carries placed first way b k B follows.2
+                    (Flow.to_item calls f ssa consistent carries placed first way b k follows ends) ends r.named (Instruct place instruction results) stands x passes).visits
+
+            -- the bits that the target's parameters get
+            abbrev bits_passed : List ℕ
+            bits_passed = map (argument_bits p.names given) edge.arguments
+
+            abbrev of_target : List Name
+            of_target = (program_so_far calls).parameters edge.target
+
+            same_passed : bits_passed ≡ map (argument_bits (value_bits right_run q) given) (map argument_of (carries.own.passed i n))
+            same_passed =
+                same_arguments calls p.names (value_bits right_run q) given edge.arguments
+                (λ x known. passed_agrees x (in_contained (passed_operands instruction) x (edge_passes instruction n edge is_edge x known)))
+                ∙ ap (map (argument_bits (value_bits right_run q) given)) (sym of_function.passed)
+
+            abbrev old_and_theirs : ℕ → ℕ
+            old_and_theirs =
+                Edges.new calls f ssa consistent carries finished placed b B r.named k place instruction results stands (length r.front) i there is n edge is_edge as_many filled
                 behind given q.values zeros_behind.of_value
 
-            agrees_there : Agrees live program function (arm ∷ behind) p.variables p.names q1.values
-            agrees_there = entered_agrees live program function arm behind q.values q1.values enters p.variables p.names agrees_behind zeros_behind
+            enters : EntersThere live program function arm behind of_target (answered calls) q.values old_and_theirs
+            enters =
+                Edges.enters calls f ssa consistent carries finished placed b B r.named k place instruction results stands (length r.front) i there is n edge is_edge as_many filled
+                behind given q.values zeros_behind.of_value
 
-            zeros_there : ZerosAreZero program function (arm ∷ behind) p.variables p.names q1.values
-            zeros_there = entered_zeros live program function arm behind q.values q1.values enters p.variables p.names agrees_behind zeros_behind
+            bits_count : length bits_passed ≡ length of_target
+            bits_count = map_length (argument_bits p.names given) edge.arguments ∙ as_many
+
+            -- the values behind the edge
+            abbrev values_there : ℕ → ℕ
+            values_there = assigned same_value (map (answered calls) of_target) bits_passed old_and_theirs
+
+            same_values : (v : ℕ) → q1.values v ≡ values_there v
+            same_values v =
+                Edges.both_parts calls f ssa consistent carries finished placed b B r.named k place instruction results stands (length r.front) i there is n edge is_edge as_many filled
+                behind given q.values zeros_behind.of_value v
+                ∙ ap (λ (bits : List ℕ). assigned same_value (map (answered calls) of_target) bits old_and_theirs v) (sym same_passed)
+
+            agrees_there : Agrees live program function (arm ∷ behind) p.variables p1.names q1.values
+            agrees_there =
+                agrees_still live program function (arm ∷ behind) p.variables p1.names values_there q1.values same_values
+                (entered_agrees live program function arm behind of_target (answered calls) q.values old_and_theirs enters p.variables p.names agrees_behind zeros_behind bits_passed bits_count)
+
+            zeros_there : ZerosAreZero program function (arm ∷ behind) p.variables p1.names q1.values
+            zeros_there =
+                zeros_still program function (arm ∷ behind) p.variables p1.names values_there q1.values same_values
+                (entered_zeros live program function arm behind of_target (answered calls) q.values old_and_theirs enters p.variables p.names agrees_behind zeros_behind bits_passed bits_count)
 
             follows_there : Follows (arms tables) (arm ∷ behind)
             follows_there =
                 let last : suc k ≡ length (items B) = last_item (items B) k place instruction results n edge (carries.edges_end B) stands is_edge in (
-                  Edges.known calls f ssa consistent carries finished placed b B r.named k place instruction results stands (length r.front) i there is n edge is_edge nothing_passed filled,
+                  Edges.known calls f ssa consistent carries finished placed b B r.named k place instruction results stands (length r.front) i there is n edge is_edge as_many filled,
                   ap (inside b) (carries.program.counts b B r.named ∙ sym last),
                   goes_on b B k path r.named (Instruct place instruction results) stands r.follows r.ends,
                 )
@@ -469,22 +542,20 @@ module _ (calls : List AnsweredCall) (f : Body) (ssa : SsaState) (consistent : I
               left = carries.own.insts d;
               path = arm ∷ behind;
               is_at = record {
-                named = Edges.target_named calls f ssa consistent carries finished placed b B r.named k place instruction results stands (length r.front) i there is n edge is_edge nothing_passed filled;
+                named = Edges.target_named calls f ssa consistent carries finished placed b B r.named k place instruction results stands (length r.front) i there is n edge is_edge as_many filled;
                 follows = follows_there;
                 ends = refl;
                 behind = refl;
                 front = [];
                 own_is = refl;
                 left_is = carries.items d edge.target
-                    (Edges.target_named calls f ssa consistent carries finished placed b B r.named k place instruction results stands (length r.front) i there is n edge is_edge nothing_passed filled);
+                    (Edges.target_named calls f ssa consistent carries finished placed b B r.named k place instruction results stands (length r.front) i there is n edge is_edge as_many filled);
                 script_at = refl;
                 function_at = Fronts.at_rest right_run f tables d (map (placed_inst f) (carries.own.insts d)) q1 zeros_there.of_value q2 done;
                 same_memory = sym done.memory;
                 same_events = r.same_events ∙ sym done.events;
-                agrees = subst (λ (names : Name → ℕ). Agrees live program function (arm ∷ behind) p.variables names q2.values) (sym same_names)
-                    (agrees_still live program function (arm ∷ behind) p.variables p.names q1.values q2.values done.values agrees_there);
-                zeros = subst (λ (names : Name → ℕ). ZerosAreZero program function (arm ∷ behind) p.variables names q2.values) (sym same_names)
-                    (zeros_still program function (arm ∷ behind) p.variables p.names q1.values q2.values done.values zeros_there);
+                agrees = agrees_still live program function (arm ∷ behind) p.variables p1.names q1.values q2.values done.values agrees_there;
+                zeros = zeros_still program function (arm ∷ behind) p.variables p1.names q1.values q2.values done.values zeros_there;
               };
             }
 

@@ -1,5 +1,6 @@
--- What the premises say of an edge of the program: its target has its terminator, and it passes nothing so far.
-use Rattle.std.proofs.Common.{◌≡◌, ℕ, List, [], map, slice_get, Some, ◌∙◌, ap}
+-- What the premises say of an edge of the program: its target has its terminator, and it passes as much as that has
+-- parameters of the caller's.
+use Rattle.std.proofs.Common.{◌≡◌, ℕ, List, [], length, map, slice_get, Option, Some, sym, ◌∙◌, ap}
 use Rattle.std.specs.Prelude.{IsTrue}
 use Rattle.std.specs.List.{AllByRecursion}
 use Rattle.clif_types.specs.Signature.{SignatureShape}
@@ -13,7 +14,8 @@ use Rattle.clif_meaning.specs.Program.{Instruct}
 use Rattle.clif_meaning.specs.Premises.{EachItem, HasGoodTargets, IsGoodTarget, IsItemWellTyped, WellTyped, parameter_types}
 use Rattle.clif_meaning.specs.Typing.{EdgeMatches, EachEdgeMatches, argument_type, call_shape}
 use Rattle.clif_simulation.specs.Tables.{program_so_far}
-use Rattle.clif_simulation.proofs.Listed.{all_at, no_parameters, none_mapped}
+use Rattle.clif_simulation.proofs.Listed.{all_at}
+use Rattle.clif_simulation.proofs.Placing.{map_length}
 
 -- no operation is a call so far
 pub each_edge : {Block Operand : Type 0} (type_of_operand : Operand → «Type») (parameters : Block → List «Type») (operation : Operation) (edges : List (Edge Block Operand))
@@ -34,12 +36,15 @@ each_matches type_of_operand parameters Return edges match_all = match_all
 abbrev pub name_types : List AnsweredCall → Name → «Type»
 name_types calls name = or_invalid (type_of (ledger_after (script_of calls)) name)
 
--- blocks have no parameters, so an edge of the program that matches passes nothing
-pub matching_passes_nothing : (calls : List AnsweredCall) (edge : Edge Name Name)
-    → EdgeMatches (name_types calls) (parameter_types (ledger_after (script_of calls)) (program_so_far calls)) [] [] edge → edge.arguments ≡ []
-matching_passes_nothing calls edge matches =
-    none_mapped (argument_type (name_types calls) [] []) edge.arguments
-    (matches ∙ ap (λ (names : List Name). map (λ ty. Some ty) (map (name_types calls) names)) (no_parameters (script_of calls) edge.target))
+-- an edge of the program that matches passes as much as its target has parameters
+pub matching_passes_as_many : (calls : List AnsweredCall) (edge : Edge Name Name)
+    → EdgeMatches (name_types calls) (parameter_types (ledger_after (script_of calls)) (program_so_far calls)) [] [] edge
+    → length edge.arguments ≡ length ((program_so_far calls).parameters edge.target)
+matching_passes_as_many calls edge matches =
+    sym (map_length (argument_type (name_types calls) [] []) edge.arguments)
+    ∙ ap (λ (types : List (Option «Type»)). length types) matches
+    ∙ map_length (λ ty. Some ty) (map (name_types calls) ((program_so_far calls).parameters edge.target))
+    ∙ map_length (name_types calls) ((program_so_far calls).parameters edge.target)
 
 module _ (calls : List AnsweredCall) (B : Name) (k place : ℕ) (instruction : Instruction Name Name) (results : List Name)
     (stands : slice_get ((program_so_far calls).items B) k ≡ Some (Instruct place instruction results)) (n : ℕ) (edge : Edge Name Name) (is_edge : slice_get instruction.edges n ≡ Some edge)
@@ -47,12 +52,13 @@ module _ (calls : List AnsweredCall) (B : Name) (k place : ℕ) (instruction : I
     abbrev ledger : Ledger
     ledger = ledger_after (script_of calls)
 
-    -- an edge that is well typed passes nothing
-    pub passes_nothing : (signature : SignatureShape) → WellTyped ledger (program_so_far calls) signature → edge.arguments ≡ []
-    passes_nothing signature typed =
+    -- so does an edge that is well typed
+    pub passes_as_many : (signature : SignatureShape) → WellTyped ledger (program_so_far calls) signature
+        → length edge.arguments ≡ length ((program_so_far calls).parameters edge.target)
+    passes_as_many signature typed =
         let item : IsItemWellTyped ledger (program_so_far calls) (types_of signature.returns) (Instruct place instruction results) =
         all_at (IsItemWellTyped ledger (program_so_far calls) (types_of signature.returns)) ((program_so_far calls).items B) k (Instruct place instruction results) (typed.items B) stands in
-        matching_passes_nothing calls edge
+        matching_passes_as_many calls edge
         (all_at (EdgeMatches (name_types calls) (parameter_types ledger (program_so_far calls)) [] []) instruction.edges n edge
         (each_edge (name_types calls) (parameter_types ledger (program_so_far calls)) instruction.operation instruction.edges item.edges) is_edge)
 

@@ -22,7 +22,8 @@ use Rattle.clif_meaning.specs.View.{placed_of, edge_of, edges_of}
 use Rattle.clif_meaning.proofs.StraightLine.{none_of}
 use Rattle.clif_simulation.specs.Tables.{program_so_far, block_name, IsProgramOf}
 use Rattle.clif_simulation.specs.Carries.{AreTypes, NothingLeads, HasEntry, IsEarlier, NamesEarlier, EdgeEarlier, EdgesEnd, OwnExist, OwnNamed, OwnInserted, ValuesGiven, carried, answered_edge, as_passed, own_placed}
-use Rattle.clif_simulation.proofs.Whole.{Whole}
+use Rattle.clif_simulation.specs.Laws.{MakesNoParameters}
+use Rattle.clif_simulation.proofs.Whole.{Whole, bare_own, own_bare}
 use Rattle.clif_simulation.proofs.Giving.{In, contained_in, in_contained}
 use Rattle.clif_simulation.proofs.Listed.{none_mapped}
 
@@ -58,6 +59,7 @@ pub record CarriesUnbranched (calls : List AnsweredCall) (f : Body) (s : SsaStat
   pub own_exist : OwnExist f own.insts
   pub own_named : OwnNamed calls own.insts
   pub own_inserted : OwnInserted f own.insts
+  pub bare : MakesNoParameters calls
   pub no_parameters : (block : ℕ) → own.params block ≡ []
   pub values_given : ValuesGiven calls tables
   pub entry : HasEntry calls f
@@ -131,7 +133,7 @@ no_target f inst k target none leads = by (destinations (inst_at f inst).shape) 
 -- Both ways ---------------------------------------------------------------------------------------------------------------
 
 module _ (calls : List AnsweredCall) (f : Body) (s : SsaState) where
-  module _ (carries : Whole calls f s) (nothing : NothingLeads s) where
+  module _ (carries : Whole calls f s) (nothing : NothingLeads s) (bare : MakesNoParameters calls) where
     own_without : (block inst : ℕ) → In inst (carries.own.insts block) → edges_of (inst_at f inst).shape ≡ []
     own_without block inst there = by (destinations (inst_at f inst).shape) refl
       where
@@ -161,14 +163,15 @@ module _ (calls : List AnsweredCall) (f : Body) (s : SsaState) where
       own_exist = carries.own_exist;
       own_named = carries.own_named;
       own_inserted = carries.own_inserted;
-      no_parameters = carries.no_parameters;
+      bare = bare;
+      no_parameters = bare_own calls carries.own carries.parameters bare;
       values_given = carries.values_given;
       entry = carries.entry;
       describes = carries.describes;
       sound = carries.sound;
       counts = carries.counts;
       structured = carries.structured;
-      nothing_stray = carries.nothing_stray nothing;
+      nothing_stray = carries.nothing_stray nothing bare;
       nothing_leads = nothing;
     }
 
@@ -196,12 +199,12 @@ module _ (calls : List AnsweredCall) (f : Body) (s : SsaState) where
       leads_own = λ target inst leads. absurd (none_leads s carries.nothing_leads target inst leads);
       passes_first = λ target inst k leads to. absurd (none_leads s carries.nothing_leads target inst leads);
       parameters_first = λ block. ((block_at f block).params, ap (λ (own : List ℕ). own ++ (block_at f block).params) (sym (carries.no_parameters block)));
-      no_parameters = carries.no_parameters;
+      parameters = own_bare calls carries.own carries.no_parameters carries.bare;
       values_given = carries.values_given;
       entry = carries.entry;
       describes = carries.describes;
       sound = carries.sound;
       counts = carries.counts;
       structured = carries.structured;
-      nothing_stray = λ nothing. carries.nothing_stray;
+      nothing_stray = λ nothing bare. carries.nothing_stray;
     }

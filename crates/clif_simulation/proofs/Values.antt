@@ -16,6 +16,7 @@ use Rattle.clif_meaning.proofs.CallLists.{ledger_place}
 use Rattle.clif_simulation.specs.Tables.{code, answered, IsProgramOf}
 use Rattle.clif_simulation.specs.Carries.{ValuesGiven}
 use Rattle.clif_simulation.proofs.Codes.{differ as codes_differ}
+use Rattle.clif_simulation.proofs.GivenNames.{is_named}
 use Rattle.clif_simulation.proofs.Numbers.{ledger_longer, slice_get-front, slice_get-last, script_length}
 use Rattle.clif_simulation.proofs.Extending.{AddsItem}
 use Rattle.std.proofs.lemmas.Option.{slice_get_past}
@@ -121,14 +122,13 @@ next_is_new calls T index was = record {
 
     by : Dec ((T.naming (code name)).home ≡ start) → (T.naming (code name)).home ≡ start
     by (yes at_start) = at_start
-    by (no given) = let g = was.given_only (code name) given in absurd (late g.name (codes_differ g.name name g.coded) g.earlier)
+    by (no given) = let g = is_named calls T was (code name) given in absurd (late g.name (codes_differ g.name name g.coded) g.earlier)
 
 -- a value of the ledger is answered by the tables as by the builder
 pub value_answered : (calls : List AnsweredCall) (T : Blocks) (name : Name) → IsProgramOf calls T → ValuesGiven calls T → IsTrue (has_value (ledger_after (script_of calls)) name)
     → (T.answer (code name) ≡ answered calls name) × (name.place < length calls) × ((T.naming (code name)).home ≢ start)
 value_answered calls T name was values is =
     let home = values name is in
-    let g = was.given_only (code name) home in
+    let g = is_named calls T was (code name) home in
     let same : g.name ≡ name = codes_differ g.name name g.coded in
-    let answer = (was.given g.block g.index g.block_is g.item g.named g.stands g.name g.gives).1 in
-    (ap T.answer (sym g.coded) ∙ answer ∙ ap (answered calls) same, subst (λ (x : Name). x.place < length calls) same g.earlier, home)
+    (g.answers ∙ ap (answered calls) same, subst (λ (x : Name). x.place < length calls) same g.earlier, home)

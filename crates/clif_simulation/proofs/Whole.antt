@@ -1,5 +1,5 @@
 -- All that a function holds which carries a list of calls, where no branch names their entry.
-use Rattle.std.proofs.Common.{◌≡◌, ◌≢◌, ℕ, zero, suc, ◌<◌, ◌≤◌, List, [], ◌∷◌, ◌++◌, length, map, refl, sym, ◌∙◌, ap, subst, arith, Some}
+use Rattle.std.proofs.Common.{◌≡◌, ◌≢◌, ℕ, zero, suc, ◌<◌, ◌≤◌, List, [], ◌∷◌, ◌++◌, length, map, refl, sym, ◌∙◌, ap, subst, arith, Option, Some, None}
 use Rattle.std.specs.Prelude.{Contains, slice_get, slice_index_or}
 use Rattle.std.specs.List.{AllByRecursion}
 use Rattle.clif_ir.specs.Body.{Body, block_at}
@@ -26,8 +26,9 @@ use Rattle.clif_meaning.specs.Ledger.{ledger_after, or_invalid, variable_type}
 use Rattle.clif_meaning.specs.Instruction.{Edge}
 use Rattle.clif_meaning.specs.Premises.{EachItem, HasGoodTargets, IsGoodTarget}
 use Rattle.clif_meaning.specs.Program.{Item, Instruct, Use, Assign}
-use Rattle.clif_simulation.specs.Tables.{program_so_far, IsProgramOf}
-use Rattle.clif_simulation.specs.Carries.{AreDeclared, AreTypes, Carries, EdgesEnd, HasEntry, HasItems, Holds, LeadsOwn, NamesEarlier, NothingLeads, OwnExist, OwnInserted, OwnNamed, SoundOnPaths, SparesBlock, SparesEntry, ValuesGiven}
+use Rattle.clif_simulation.specs.Laws.{MakesNoParameters}
+use Rattle.clif_simulation.specs.Tables.{answered, block_name, callers_parameters, program_so_far, IsProgramOf}
+use Rattle.clif_simulation.specs.Carries.{AreDeclared, AreTypes, Carries, EdgesEnd, HasEntry, HasItems, Holds, LeadsOwn, NamesEarlier, NothingLeads, OwnExist, OwnInserted, OwnNamed, OwnParameters, SoundOnPaths, SparesBlock, SparesEntry, ValuesGiven}
 
 -- each edge of a branch that leads to a block passes what the caller passed, and then more
 abbrev pub PassesOwnFirst : Own → Body → SsaState → Type 0
@@ -54,14 +55,14 @@ pub record Whole (calls : List AnsweredCall) (f : Body) (s : SsaState) : Type 0 
   pub leads_own : LeadsOwn calls own s
   pub passes_first : PassesOwnFirst own f s
   pub parameters_first : HasOwnFirst own f
-  pub no_parameters : (block : ℕ) → own.params block ≡ []
+  pub parameters : OwnParameters calls own
   pub values_given : ValuesGiven calls tables
   pub entry : HasEntry calls f
   pub describes : Describes own f s [] tables
   pub sound : BlocksSound tables
   pub counts : CountsArguments own f s tables
   pub structured : (types : VariableTypes) → AreTypes calls types → Structured types own f s []
-  pub nothing_stray : NothingLeads s → NothingStray own.insts f s
+  pub nothing_stray : NothingLeads s → MakesNoParameters calls → NothingStray own.insts f s
 
 -- types that the calls declare
 abbrev pub declared_types : List AnsweredCall → VariableTypes
@@ -101,6 +102,22 @@ home_contains f v b consistent home =
 pub waiting_pending : (f : Body) (entry : Sealed) (b : ℕ) → waiting_of f entry [] b ≡ pending_of entry
 waiting_pending f (No pending) b = refl
 waiting_pending f Yes b = refl
+
+-- where no block has a parameter that the caller made, it made none
+pub bare_own : (calls : List AnsweredCall) (own : Own) → OwnParameters calls own → MakesNoParameters calls → (block : ℕ) → own.params block ≡ []
+bare_own calls own parameters bare block = parameters block ∙ by (block_name calls block)
+  where
+    by : (o : Option Name) → map (answered calls) (callers_parameters calls o) ≡ []
+    by None = refl
+    by (Some name) = ap (map (answered calls)) (bare name)
+
+-- and the other way round
+pub own_bare : (calls : List AnsweredCall) (own : Own) → ((block : ℕ) → own.params block ≡ []) → MakesNoParameters calls → OwnParameters calls own
+own_bare calls own none bare block = none block ∙ by (block_name calls block)
+  where
+    by : (o : Option Name) → [] ≡ map (answered calls) (callers_parameters calls o)
+    by None = refl
+    by (Some name) = sym (ap (map (answered calls)) (bare name))
 
 stray_nowhere : (types : VariableTypes) (own : Own) (f : Body) (s : SsaState) → IsConsistent f → ((block : ℕ) → own.params block ≡ [])
     → Structured types own f s [] → NothingLeads s → NothingStray own.insts f s
@@ -149,14 +166,14 @@ whole calls f s consistent carries spares =
       leads_own = holds.leads_own;
       passes_first = passes_first carries.own f s (declared_types calls) structured;
       parameters_first = parameters_first carries.own f s (declared_types calls) structured;
-      no_parameters = holds.no_parameters;
+      parameters = holds.parameters;
       values_given = paths.values_given;
       entry = holds.entry;
       describes = paths.describes;
       sound = paths.sound;
       counts = paths.counts;
       structured = holds.structured;
-      nothing_stray = stray_nowhere (declared_types calls) carries.own f s consistent holds.no_parameters structured;
+      nothing_stray = λ nothing bare. stray_nowhere (declared_types calls) carries.own f s consistent (bare_own calls carries.own holds.parameters bare) structured nothing;
     }
 
 -- Where no target of a branch is the entry, none names the entry -------------------------------------------------------------------

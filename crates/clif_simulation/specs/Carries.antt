@@ -7,22 +7,23 @@ use Rattle.std.specs.List.{AllByRecursion}
 use Rattle.clif_types.specs.declared.types.«Type».{«Type»}
 use Rattle.clif_ir.specs.declared.block_call.BlockArg.{BlockArg}
 use Rattle.clif_ir.specs.Body.{Body, inst_at}
+use Rattle.clif_ir.specs.Changes.{with_param}
 use Rattle.clif_ir.specs.Reading.{stands_in}
 use Rattle.clif_ssa.specs.Own.{Own}
 use Rattle.clif_ssa.specs.Ssa.{SsaState, predecessors_of, Declares, SameBlocks, SamePredecessors, SameRecords}
 use Rattle.clif_ssa.specs.Sound.{Describes, CountsArguments, entry_of, edge_target}
-use Rattle.clif_ssa.specs.Structured.{Structured, VariableTypes}
+use Rattle.clif_ssa.specs.Structured.{HasType, Structured, VariableTypes}
 use Rattle.clif_paths.specs.Places.{start}
 use Rattle.clif_paths.specs.Blocks.{Blocks}
 use Rattle.clif_paths.specs.BlockLaws.{BlocksSound}
 use Rattle.clif_meaning.specs.Name.{Name}
 use Rattle.clif_meaning.specs.Request.{AnsweredCall, script_of}
-use Rattle.clif_meaning.specs.Ledger.{ledger_after, has_value, is_filled, variable_type}
+use Rattle.clif_meaning.specs.Ledger.{ledger_after, has_value, is_filled, type_of, variable_type}
 use Rattle.clif_meaning.specs.Instruction.{Instruction, Argument, Known, CallResult, CallPayload, Edge}
 use Rattle.clif_meaning.specs.Program.{Item, Instruct, Use, Assign}
 use Rattle.clif_meaning.specs.FunctionView.{Placed}
 use Rattle.clif_meaning.specs.View.{argument_of, placed_of}
-use Rattle.clif_simulation.specs.Tables.{code, answered, block_name, program_so_far, IsProgramOf}
+use Rattle.clif_simulation.specs.Tables.{code, answered, block_name, callers_parameters, program_so_far, IsProgramOf}
 
 -- what an edge passes, and an edge, with numbers in place of names
 abbrev pub answered_argument : List AnsweredCall → Argument Name → Argument ℕ
@@ -77,9 +78,13 @@ pub record HasEntry (calls : List AnsweredCall) (f : Body) : Type 0 where
 abbrev pub IsEarlier : List AnsweredCall → Name → Type 0
 IsEarlier calls name = name.place < length calls
 
--- what an edge passes was answered
+-- a name was answered by a value
+abbrev pub IsValue : List AnsweredCall → Name → Type 0
+IsValue calls name = IsTrue (has_value (ledger_after (script_of calls)) name)
+
+-- what an edge passes was answered by a value
 abbrev pub PassesEarlier : List AnsweredCall → Argument Name → Type 0
-PassesEarlier calls (Known name) = IsEarlier calls name
+PassesEarlier calls (Known name) = IsValue calls name
 PassesEarlier calls (CallResult index) = Unit {0}
 PassesEarlier calls (CallPayload index) = Unit {0}
 
@@ -120,7 +125,15 @@ abbrev pub AreDeclared : Body → SsaState → (ℕ → List ℕ) → Type 0
 AreDeclared f s own =
     (block inst k target : ℕ) → Contains (own block) inst → edge_target f inst k ≡ Some target → Contains (predecessors_of s target) inst
 
--- what the ledger of the calls has as a value is given by an item
+-- the caller's parameters of each block are the values that answered the program's, in order
+abbrev pub OwnParameters : List AnsweredCall → Own → Type 0
+OwnParameters calls own = (block : ℕ) → own.params block ≡ map (answered calls) (callers_parameters calls (block_name calls block))
+
+-- what the ledger of the calls has as a value of a type was answered by one of that type
+abbrev pub ValuesTyped : List AnsweredCall → Body → Type 0
+ValuesTyped calls f = (name : Name) (ty : «Type») → type_of (ledger_after (script_of calls)) name ≡ Some ty → HasType f (answered calls name) ty
+
+-- what the ledger of the calls has as a value is given by an item, or as a block is entered
 abbrev pub ValuesGiven : List AnsweredCall → Blocks → Type 0
 ValuesGiven calls blocks = (name : Name) → IsTrue (has_value (ledger_after (script_of calls)) name) → (blocks.naming (code name)).home ≢ start
 
@@ -128,11 +141,12 @@ ValuesGiven calls blocks = (name : Name) → IsTrue (has_value (ledger_after (sc
 abbrev pub NothingLeads : SsaState → Type 0
 NothingLeads s = (block : ℕ) → predecessors_of s block ≡ []
 
--- Blocks have different names, which were answered before, and only blocks have items.
+-- Blocks have different names, which were answered before, and only blocks have items and parameters.
 pub record NamesBlocks (calls : List AnsweredCall) : Type 0 where
   pub distinct : (b c : ℕ) (name : Name) → block_name calls b ≡ Some name → block_name calls c ≡ Some name → b ≡ c
   pub earlier : (block : ℕ) (name : Name) → block_name calls block ≡ Some name → name.place < length calls
   pub only : (name : Name) → ((program_so_far calls).items name ≡ []) ⊎ ((block : ℕ) × (block_name calls block ≡ Some name))
+  pub only_parameters : (name : Name) → ((program_so_far calls).parameters name ≡ []) ⊎ ((block : ℕ) × (block_name calls block ≡ Some name))
 
 -- Each branch that leads to a block is one of the caller's, in a block that has its terminator.
 abbrev pub LeadsOwn : List AnsweredCall → Own → SsaState → Type 0
@@ -156,8 +170,9 @@ pub record Holds (calls : List AnsweredCall) (own : Own) (f : Body) (s : SsaStat
   pub own_inserted : OwnInserted f own.insts
   pub declared : AreDeclared f s own.insts
   pub leads_own : LeadsOwn calls own s
-  -- so far no call makes a parameter of the caller's
-  pub no_parameters : (block : ℕ) → own.params block ≡ []
+  pub parameters : OwnParameters calls own
+  pub parameters_values : (name : Name) → AllByRecursion (IsValue calls) ((program_so_far calls).parameters name)
+  pub values_typed : ValuesTyped calls f
   pub entry : HasEntry calls f
   pub structured : (types : VariableTypes) → AreTypes calls types → Structured types own f s []
 
@@ -195,6 +210,16 @@ abbrev pub DeclaredAlong : SsaState → ℕ → List ℕ → SsaState → Type 0
 DeclaredAlong s inst [] t = SameRecords s t × SameBlocks s t × SamePredecessors s t
 DeclaredAlong s inst (block ∷ blocks) t =
     (between : SsaState) × SameRecords s between × SameBlocks s between × Declares s between block inst × DeclaredAlong between inst blocks t
+
+-- a function with parameters of these types at the end of those of a block, one after the other
+abbrev pub with_params : Body → ℕ → List «Type» → Body
+with_params f b [] = f
+with_params f b (ty ∷ types) = with_params (with_param f b ty) b types
+
+-- as many numbers as types, from this one on
+abbrev pub numbers_from : ℕ → List «Type» → List ℕ
+numbers_from n [] = []
+numbers_from n (ty ∷ types) = n ∷ numbers_from (suc n) types
 
 -- the current block, by its number and its name
 pub record IsCurrent (calls : List AnsweredCall) (block : ℕ) (name : Name) : Type 0 where

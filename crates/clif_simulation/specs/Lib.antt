@@ -7,3 +7,4 @@ pub mod Laws
 pub mod CarryingExamples
 pub mod InterruptedExamples
 pub mod Structure
+pub mod ParameterCarryingExamples

@@ -1,7 +1,8 @@
 -- What holds of a finished function that carries a list of calls, beside what it means: its values are defined before
 -- they are named, the arguments of its edges match, and a block to which at most one branch leads has no parameter of a
 -- variable. Source: own.
-use Rattle.std.specs.Prelude.{◌≡◌, ℕ, ◌+◌, ◌≤◌, true, List, [], length, map, flat_map, drop, Option, Some, None, Contains}
+use Rattle.std.specs.Prelude.{◌≡◌, ℕ, ◌+◌, ◌≤◌, true, List, [], length, map, flat_map, drop, Some, Contains}
+use Rattle.std.specs.List.{AllByRecursion}
 use Rattle.clif_ir.specs.Body.{Body, block_at}
 use Rattle.clif_ir.specs.Consistent.{IsConsistent}
 use Rattle.clif_ssa.specs.Ssa.{SsaState, record_of, sealed_of, predecessors_of}
@@ -17,14 +18,9 @@ use Rattle.clif_meaning.specs.Typing.{EdgesMatch}
 use Rattle.clif_meaning.specs.Ledger.{ledger_after}
 use Rattle.clif_meaning.specs.Premises.{CallersEdgesMatch, EachItem, HasGoodTargets}
 use Rattle.clif_meaning.specs.WellPlaced.{program_code, IsWellPlaced, WellPlaced, Records, RecordsWellPlaced}
-use Rattle.clif_simulation.specs.Tables.{answered, program_so_far, block_name, item_at}
-use Rattle.clif_simulation.specs.Carries.{Carries, NothingLeads, HasItems, OwnNamed, AreDeclared, carried}
+use Rattle.clif_simulation.specs.Tables.{answered, callers_parameters, program_so_far, block_name, item_at}
+use Rattle.clif_simulation.specs.Carries.{AreDeclared, Carries, HasItems, IsValue, NamesEarlier, NothingLeads, OwnNamed, OwnParameters, ValuesTyped, carried}
 use Rattle.clif_simulation.specs.Laws.{IsFinished}
-
--- the parameters of a block that the caller made, by the block's name
-abbrev pub callers_parameters : List AnsweredCall → Option Name → List Name
-callers_parameters calls None = []
-callers_parameters calls (Some block) = (program_so_far calls).parameters block
 
 -- this block's parameters are those that the caller made, in order: none is a variable's
 abbrev pub HasCallersAlone : List AnsweredCall → Body → ℕ → Type 0
@@ -48,8 +44,7 @@ LeavesNoParameter calls f s = (block : ℕ) → length (predecessors_of s block)
 abbrev pub NoneWaits : SsaState → Type 0
 NoneWaits s = (block : ℕ) → pending_of (sealed_of s block) ≡ []
 
--- In every program, branches to the entry and blocks that control never reaches included: so far the caller makes no
--- parameters.
+-- In every program, branches to the entry and blocks that control never reaches included.
 pub record LeavesFewParameters (calls : List AnsweredCall) (f : Body) (s : SsaState) : Type 0 where
   pub keeps : KeepsNoParameter calls f s
   pub leaves : NoneWaits s → LeavesNoParameter calls f s
@@ -58,7 +53,7 @@ pub record LeavesFewParameters (calls : List AnsweredCall) (f : Body) (s : SsaSt
 abbrev pub ConstructionLeavesFewParameters : Type 0
 ConstructionLeavesFewParameters =
     (calls : List AnsweredCall) (types : VariableTypes) (own : Own) (f : Body) (s : SsaState)
-    → Structured types own f s [] → ((block : ℕ) → own.params block ≡ [])
+    → Structured types own f s [] → OwnParameters calls own
     → LeavesFewParameters calls f s
 
 -- So does a function that carries a list of calls, once no parameter waits.
@@ -72,7 +67,9 @@ CarryingLeavesNoParameters =
 abbrev pub ConstructionMatchesEdges : Type 0
 ConstructionMatchesEdges =
     (calls : List AnsweredCall) (types : VariableTypes) (own : Own) (f : Body) (s : SsaState)
-    → Structured types own f s [] → ((block : ℕ) → own.params block ≡ [])
+    → Structured types own f s [] → OwnParameters calls own
+    → ((name : Name) → AllByRecursion (IsValue calls) ((program_so_far calls).parameters name)) → ValuesTyped calls f
+    → ((name : Name) → AllByRecursion (NamesEarlier calls) ((program_so_far calls).items name))
     → HasItems calls f own → OwnNamed calls own.insts → AreDeclared f s own.insts → NoneWaits s
     → CallersEdgesMatch (script_of calls)
     → EdgesMatch (view_of f)

@@ -40,6 +40,11 @@ assigned_by (Some (Instruct place instruction results)) x = None
 assigned_by (Some (Use variable name)) x = None
 assigned_by (Some (Assign variable name)) x = if x == variable then Some (code name) else None
 
+-- the parameters of a block that the caller made, by the block's name
+abbrev pub callers_parameters : List AnsweredCall → Option Name → List Name
+callers_parameters calls None = []
+callers_parameters calls (Some block) = (program_so_far calls).parameters block
+
 -- how an item gives a name
 abbrev pub origin_of : Item → Origin
 origin_of (Instruct place instruction results) = fresh
@@ -60,6 +65,17 @@ pub record IsGiven (calls : List AnsweredCall) (blocks : Blocks) (n : ℕ) : Typ
   pub gives : Contains (item_gives (Some item)) name
   pub naming : blocks.naming n ≡ record { home = inside block (suc index); origin = origin_of item }
 
+-- the number is that of a parameter of the caller's, which is given as its block is entered
+pub record IsParameter (calls : List AnsweredCall) (blocks : Blocks) (n : ℕ) : Type 0 where
+  pub name : Name
+  pub block : ℕ
+  pub block_is : Name
+  pub coded : code name ≡ n
+  pub earlier : name.place < length calls
+  pub named : block_name calls block ≡ Some block_is
+  pub stands : Contains ((program_so_far calls).parameters block_is) name
+  pub naming : blocks.naming n ≡ record { home = front block; origin = fresh }
+
 -- The program's side of the tables is what the calls say.
 pub record IsProgramOf (calls : List AnsweredCall) (blocks : Blocks) : Type 0 where
   -- a block has as many items as the program's; a block that isn't there has none
@@ -75,10 +91,14 @@ pub record IsProgramOf (calls : List AnsweredCall) (blocks : Blocks) : Type 0 wh
   pub given : (block index : ℕ) (name : Name) (item : Item) → block_name calls block ≡ Some name → item_at calls name index ≡ Some item
       → (x : Name) → Contains (item_gives (Some item)) x
       → (blocks.naming (code x) ≡ record { home = inside block (suc index); origin = origin_of item }) × (blocks.answer (code x) ≡ answered calls x)
-  pub given_only : (n : ℕ) → (blocks.naming n).home ≢ start → IsGiven calls blocks n
+  -- a parameter of the caller's is given at the front of its block, and answered by the number that the builder answered
+  pub parameter : (block : ℕ) (name : Name) → block_name calls block ≡ Some name → (x : Name) → Contains ((program_so_far calls).parameters name) x
+      → (blocks.naming (code x) ≡ record { home = front block; origin = fresh }) × (blocks.answer (code x) ≡ answered calls x)
+  pub given_only : (n : ℕ) → (blocks.naming n).home ≢ start → IsGiven calls blocks n ⊎ IsParameter calls blocks n
   -- what is assigned was answered before; blocks have different names, which were answered before, and only blocks have
-  -- items
+  -- items and parameters
   pub assigned_earlier : (place : Place) (x n : ℕ) → blocks.assigned place x ≡ Some n → (name : Name) × (code name ≡ n) × (name.place < length calls)
   pub distinct : (b c : ℕ) (name : Name) → block_name calls b ≡ Some name → block_name calls c ≡ Some name → b ≡ c
   pub blocks_earlier : (block : ℕ) (name : Name) → block_name calls block ≡ Some name → name.place < length calls
   pub only_blocks : (name : Name) → ((program_so_far calls).items name ≡ []) ⊎ ((block : ℕ) × (block_name calls block ≡ Some name))
+  pub only_parameters : (name : Name) → ((program_so_far calls).parameters name ≡ []) ⊎ ((block : ℕ) × (block_name calls block ≡ Some name))

@@ -2,6 +2,7 @@
 
 ghost use Rattle.clif_simulation.specs.CarryingExamples.{CarryingExamples};
 ghost use Rattle.clif_simulation.specs.InterruptedExamples.{InterruptedExamples};
+ghost use Rattle.clif_simulation.specs.ParameterCarryingExamples.{ParameterCarryingExamples};
 ghost use Rattle.clif_simulation.specs.ReadingExamples.{ReadingExamples};
 
 /// The row `first`, half built, reads right on bits from every start; with another constant, another record, or a parameter that doesn't
@@ -21,4 +22,9 @@ pub fn interrupted_reads_right()
 /// finished.
 pub fn loop_is_carried()
     ensures { CarryingExamples }
+{}
+
+/// A block with a parameter of the caller's is carried; where the parameter is missing, or of another type, it isn't.
+pub fn parameter_is_carried()
+    ensures { ParameterCarryingExamples }
 {}

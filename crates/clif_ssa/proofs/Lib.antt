@@ -63,3 +63,4 @@ pub mod WithinUses
 pub mod Records
 pub mod TakingByRecords
 pub mod Below
+pub mod CallersParameters

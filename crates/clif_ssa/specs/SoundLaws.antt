@@ -4,8 +4,8 @@ use Rattle.std.specs.Prelude.{◌≡◌, ◌≢◌, ℕ, ◌<◌, ◌==◌, ◌&
 use Rattle.clif_types.specs.declared.types.«Type».{«Type»}
 use Rattle.clif_types.specs.declared.extname.UserFuncName.{UserFuncName}
 use Rattle.clif_types.specs.Signature.{SignatureShape}
-use Rattle.clif_ir.specs.Body.{Body, empty_body}
-use Rattle.clif_ir.specs.Changes.{inserted_in, with_block, with_inst}
+use Rattle.clif_ir.specs.Body.{Body, block_at, empty_body}
+use Rattle.clif_ir.specs.Changes.{inserted_in, with_block, with_inst, with_param}
 use Rattle.clif_ir.specs.Consistent.{IsConsistent}
 use Rattle.clif_ir.specs.Instruction.{destinations}
 use Rattle.clif_ir.specs.Reading.{without}
@@ -20,7 +20,7 @@ use Rattle.clif_ssa.specs.declared.tables.Pending.{Pending}
 use Rattle.clif_ssa.specs.Tables.{is_yes, pending_of}
 use Rattle.clif_ssa.specs.Ssa.{SsaState, no_state, record_of, sealed_of, predecessors_of, completed, Records, SameRecords, SameBlocks, SamePredecessors, Seals, Waits, Zeroes}
 use Rattle.clif_ssa.specs.LookUp.{branch_block}
-use Rattle.clif_ssa.specs.Own.{Own, no_own, with_one_more}
+use Rattle.clif_ssa.specs.Own.{Own, no_own, with_one_more, with_own_param}
 use Rattle.clif_ssa.specs.Sound.{Describes, CountsArguments, PassesOwn, args_of, has_entry, entry_of, is_some_block, edge_target, SameProgram, Keeps, KeepsAndKnows}
 
 -- the one arm into the entry's front, from the virtual start
@@ -137,6 +137,16 @@ OwnResultKeeps =
     IsConsistent f → DescribesSoundly own f s blocks → IsOpen f s b → b < length f.blocks → IsNewName (state_of blocks) n →
     DescribesSoundly (with_own own b (length f.insts) shape) (with_inst f b Back shape (ty ∷ []) loc) s
     (with_born (with_item blocks b) (last_place (with_item blocks b) b) n (length f.values))
+
+-- a parameter of the caller's, by which a new name is given as the block is entered: the block has no parameter of a
+-- variable so far
+abbrev pub OwnParameterKeeps : Type 0
+OwnParameterKeeps =
+    (own : Own) (f : Body) (s : SsaState) (blocks : Blocks) (b n : ℕ) (ty : «Type») →
+    IsConsistent f → DescribesSoundly own f s blocks → b < length f.blocks → (block_at f b).params ≡ own.params b →
+    IsNewName (state_of blocks) n →
+    DescribesSoundly (with_own_param own b (length f.values)) (with_param f b ty) s
+    (with_born blocks (front b) n (length f.values))
 
 -- a use of a variable that isn't recorded in an unsealed block
 abbrev pub WaitingUseKeeps : Type 0

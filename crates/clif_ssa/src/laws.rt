@@ -1,7 +1,7 @@
 //! Laws for the builder above: the tables of the theory of variables on paths describe what it makes of a function by
 //! itself, and stay sound.
 
-ghost use Rattle.clif_ssa.specs.SoundLaws.{FirstDescribes, SameStateKeeps, InsertionKeeps, NewBlockKeeps, ReadItemKeeps, WriteHereKeeps, WriteItemKeeps, OwnInstructionKeeps, OwnResultKeeps, WaitingUseKeeps, ZeroUseKeeps, SealingKeeps, PredecessorDeclared, PredecessorRemoved, NewNameStays};
+ghost use Rattle.clif_ssa.specs.SoundLaws.{FirstDescribes, SameStateKeeps, InsertionKeeps, NewBlockKeeps, ReadItemKeeps, WriteHereKeeps, WriteItemKeeps, OwnInstructionKeeps, OwnResultKeeps, OwnParameterKeeps, WaitingUseKeeps, ZeroUseKeeps, SealingKeeps, PredecessorDeclared, PredecessorRemoved, NewNameStays};
 ghost use Rattle.clif_ssa.specs.Limits.{FewRecords};
 ghost use Rattle.clif_ssa.specs.Structure.{UsesAgree};
 ghost use Rattle.clif_ssa.specs.Structured.{FirstStructured, NewBlockStructured, InsertionStructured, InstructionStructured, ParameterStructured};
@@ -50,6 +50,11 @@ pub fn own_instruction_keeps()
 /// The caller's own instruction with one result, which a new name is given.
 pub fn own_result_keeps()
     ensures { OwnResultKeeps }
+{}
+
+/// The caller's own parameter of a block, which a new name is given.
+pub fn own_parameter_keeps()
+    ensures { OwnParameterKeeps }
 {}
 
 /// A use in an unsealed block makes a parameter that waits.

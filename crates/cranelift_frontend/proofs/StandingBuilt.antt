@@ -67,7 +67,7 @@ all_named calls (name ∷ names) (v ∷ values) same =
 -- names of what an edge passes answered it
 argument_named : (calls : List AnsweredCall) (argument : Argument Name) (passed : BlockArg) → NamesArgument calls argument passed
     → (argument_of passed ≡ answered_argument calls argument) × PassesEarlier calls argument
-argument_named calls (Known name) (arg.Value value) names = (ap (λ (v : ℕ). Known v) (answer_is calls name value names.number), named_earlier calls name value names.number)
+argument_named calls (Known name) (arg.Value value) names = (ap (λ (v : ℕ). Known v) (answer_is calls name value names.number), names.is_value)
 argument_named calls (Known name) (arg.TryCallRet place) names = absurd names
 argument_named calls (Known name) (arg.TryCallExn place) names = absurd names
 argument_named calls (CallResult index) (arg.Value value) names = absurd names

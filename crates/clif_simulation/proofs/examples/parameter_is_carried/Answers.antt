@@ -1,0 +1,5 @@
+use Rattle.clif_simulation.proofs.ParameterRow
+use Rattle.clif_simulation.proofs.examples.parameter_is_carried.Goals as goal
+
+pub returns : goal.returns
+returns c = record { carried = ParameterRow.carried; missing = ParameterRow.missing; other_type = ParameterRow.other_type }
