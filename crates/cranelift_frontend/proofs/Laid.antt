@@ -36,7 +36,7 @@ after-same ledger block after b a (x ∷ names) (j ∷ numbers) test at same =
     by : (s t : Bool) → s ≡ t → block_name ledger j ≡ Some x → map Some names ≡ map (block_name ledger) numbers
         → map Some (put_after block after names) ≡ map (block_name ledger) (put_behind b a numbers)
         → map Some (if s then x ∷ block ∷ names else x ∷ put_after block after names)
-          ≡ map (block_name ledger) (if t then j ∷ b ∷ numbers else j ∷ put_behind b a numbers)
+        ≡ map (block_name ledger) (if t then j ∷ b ∷ numbers else j ∷ put_behind b a numbers)
     by true true is here rest others = cc
     by false false is here rest others = cc
     by true false is here rest others = let no_way : ⊥ = cc in absurd no_way
@@ -78,7 +78,7 @@ laid-agrees calls ledger f c p b a layout agrees same = record {
 pub laid : (calls : List AnsweredCall) (f : Body) (c : ContextState) (p : Option ℕ) (block after : Name) (b a : ℕ) → LedgerAgrees calls (ledger_of calls) f c p
     → NamesBlock calls block b → NamesBlock calls after a
     → LedgerAgrees (calls ++ record { request = InsertBlockAfter block after; numbers = [] } ∷ [])
-      (ledger_of (calls ++ record { request = InsertBlockAfter block after; numbers = [] } ∷ [])) (with_layout_after f b a) c p
+    (ledger_of (calls ++ record { request = InsertBlockAfter block after; numbers = [] } ∷ [])) (with_layout_after f b a) c p
 laid calls f c p block after b a agrees names_block names_after =
     let call : AnsweredCall = record { request = InsertBlockAfter block after; numbers = [] } in
     let ledger : Ledger = ledger_of calls in
@@ -100,7 +100,7 @@ names_laid f s b a named = record { recorded = named.recorded; leading = named.l
 
 pub laid_stands : (declared : SignatureShape) (calls : List AnsweredCall) (f : Body) (c : ContextState) (p : Option ℕ) (block after : Name) (b a : ℕ) → StandsIn declared calls f c p
     → LedgerAgrees (calls ++ record { request = InsertBlockAfter block after; numbers = [] } ∷ [])
-      (ledger_of (calls ++ record { request = InsertBlockAfter block after; numbers = [] } ∷ [])) (with_layout_after f b a) c p
+    (ledger_of (calls ++ record { request = InsertBlockAfter block after; numbers = [] } ∷ [])) (with_layout_after f b a) c p
     → StandsIn declared (calls ++ record { request = InsertBlockAfter block after; numbers = [] } ∷ []) (with_layout_after f b a) c p
 laid_stands declared calls f c p block after b a stands ledger = record {
   signature = stands.signature;
