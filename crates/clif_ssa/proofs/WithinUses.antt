@@ -1,5 +1,5 @@
 -- The zeros of uses and of sealings come into blocks of a set that holds the blocks of the branches.
-use Rattle.std.proofs.Common.{◌≡◌, ◌≢◌, ℕ, ◌+◌, ◌≤◌, ◌==◌, Bool, true, false, List, [], ◌∷◌, ◌++◌, length, refl, ap, arith, sym, ◌∙◌, subst, ◌⊎◌, inl, inr}
+use Rattle.std.proofs.Common.{◌<◌, ◌≡◌, ◌≢◌, ℕ, ◌+◌, ◌≤◌, ◌==◌, Bool, true, false, List, [], ◌∷◌, ◌++◌, length, refl, ap, arith, sym, ◌∙◌, subst, ◌⊎◌, inl, inr}
 use Rattle.std.specs.Prelude.{Option, Some, None, Contains, Result, Ok, Err, OnOk, IfOk, if◌then◌else◌}
 use Rattle.std.specs.Option.{option_to_list}
 use Rattle.clif_types.specs.declared.error.BuildError.{BuildError}
@@ -172,26 +172,26 @@ module _ (holds : ℕ → Bool) (f : Body) (s : SsaState) where
             looked_up_kept g t block answer.instructions_added_to_blocks.items homes (seals.completes (λ empty. some_none (sym some ∙ empty)))
 
 -- what waits goes on waiting for blocks of the set
-waiting_kept : (holds : ℕ → Bool) (f : Body) (s : SsaState) (g : Body) (t : SsaState) (told : List ℕ) → Kept holds f s g t told → ((b : ℕ) → HoldsWaiting f s holds b)
-    → (b : ℕ) → HoldsWaiting g t holds b
-waiting_kept holds f s g t told kept homes b p home here is =
+waiting_kept : (holds : ℕ → Bool) (f : Body) (s : SsaState) (g : Body) (t : SsaState) (told : List ℕ) → Kept holds f s g t told
+    → (b : ℕ) → HoldsWaiting f s holds b → HoldsWaiting g t holds b
+waiting_kept holds f s g t told kept b homes p home here is =
     elim (kept.grown.homes p.param home is) [
       | inr new ↦ new
       | inl old ↦
           elim (kept.waiting b p here) [
-            | inl before ↦ homes b p home before old
+            | inl before ↦ homes p home before old
             | inr later ↦ absurd (omega (arith, later, param_exists f p.param home old))
           ]
     ]
 
-below_kept : (holds : ℕ → Bool) (f : Body) (s : SsaState) → Leads holds f s → ((b : ℕ) → HoldsWaiting f s holds b)
-    → {n : ℕ} {g : Body} {t : SsaState} {told : List ℕ} → SealsBelow f s n g t told → Kept holds f s g t told
+below_kept : (holds : ℕ → Bool) (f : Body) (s : SsaState) → Leads holds f s
+    → {n : ℕ} {g : Body} {t : SsaState} {told : List ℕ} → ((b : ℕ) → b < n → HoldsWaiting f s holds b) → SealsBelow f s n g t told → Kept holds f s g t told
 below_kept holds f s leads homes none_sealed =
     record { grown = grown_none holds f; predecessors = λ b. refl; waiting = λ b p here. inl here; zeros = tt }
 below_kept holds f s leads homes (next_sealed {n = n} {g = g} {h = h} {t = t} {u = u} {told = told} {answer = answer} first seals) =
-    let before : Kept holds f s g t told = below_kept holds f s leads homes first in
+    let before : Kept holds f s g t told = below_kept holds f s leads (λ b below. homes b (omega (arith, below))) first in
     kept_then holds f s g t h u told answer.instructions_added_to_blocks.items before
-    (seals_kept holds g t (leads_kept holds f s g t told before leads) h u n answer (waiting_kept holds f s g t told before homes n) seals)
+    (seals_kept holds g t (leads_kept holds f s g t told before leads) h u n answer (waiting_kept holds f s g t told before n (homes n (omega arith))) seals)
 
 -- a block is sealed
 pub seal_within : (holds : ℕ → Bool) (f g : Body) (s t : SsaState) (b : ℕ) (result : Result SideEffects BuildError) → Leads holds f s → HoldsWaiting f s holds b
@@ -205,7 +205,7 @@ seal_within holds f g s t b (Ok answer) leads homes same locally looks =
     stays_within holds f g answer.instructions_added_to_blocks.items kept.grown kept.zeros
 
 -- all blocks are
-pub seals_within : (holds : ℕ → Bool) (f g : Body) (s t : SsaState) (n : ℕ) (told : List ℕ) → Leads holds f s → ((b : ℕ) → HoldsWaiting f s holds b)
+pub seals_within : (holds : ℕ → Bool) (f g : Body) (s t : SsaState) (n : ℕ) (told : List ℕ) → Leads holds f s → ((b : ℕ) → b < n → HoldsWaiting f s holds b)
     → SealsBelow f s n g t told → StaysWithin holds f g told
 seals_within holds f g s t n told leads homes below =
     let kept : Kept holds f s g t told = below_kept holds f s leads homes below in stays_within holds f g told kept.grown kept.zeros

@@ -572,13 +572,13 @@ impl SSABuilder {
         told
     }
 
-    /// Seals all known blocks that aren't sealed, by rising number.
+    /// Seals all blocks of the function that aren't sealed, by rising number.
     pub fn seal_all_blocks(&mut self, func: &mut Function) -> Result<SideEffects, BuildError>
         requires named { Named func.old self.old }
-        ensures sealed { OnOk result ((b : ℕ) → b < length self.old.blocks → is_yes (sealed_of self.new b) ≡ true) }
+        ensures sealed { OnOk result ((b : ℕ) → b < length func.old.blocks → is_yes (sealed_of self.new b) ≡ true) }
         ensures sealed_stays { (b : ℕ) → is_yes (sealed_of self.old b) ≡ true → is_yes (sealed_of self.new b) ≡ true }
-        ensures others { (b : ℕ) → length self.old.blocks ≤ b → is_yes (sealed_of self.new b) ≡ is_yes (sealed_of self.old b) }
-        ensures in_turn { IfOk result (λ r. SealsBelow func.old self.old (length self.old.blocks) func.new self.new r.instructions_added_to_blocks.items) }
+        ensures others { (b : ℕ) → length func.old.blocks ≤ b → is_yes (sealed_of self.new b) ≡ is_yes (sealed_of self.old b) }
+        ensures in_turn { IfOk result (λ r. SealsBelow func.old self.old (length func.old.blocks) func.new self.new r.instructions_added_to_blocks.items) }
         ensures keeps { (own : Own) (tables : Blocks) → DescribesSoundly own func.old self.old tables → OnOk result (Keeps own tables func.new self.new) }
         ensures remembers { (x b : ℕ) → OnOk result (Remembers x b func.old self.old func.new self.new) }
         ensures looks_once { LooksOnce self.old → LooksOnce self.new }
@@ -589,7 +589,7 @@ impl SSABuilder {
         ensures more { HasMore func.old func.new }
         ensures constructs { OnlyConstructs func.old func.new }
         ensures tells { IfOk result (λ r. TellsZeros func.old func.new r.instructions_added_to_blocks.items) }
-        ensures within { (holds : ℕ → Bool) → HoldsBranches func.old self.old holds → ((b : ℕ) → HoldsWaiting func.old self.old holds b) → IfOk result (λ r. StaysWithin holds func.old func.new r.instructions_added_to_blocks.items) }
+        ensures within { (holds : ℕ → Bool) → HoldsBranches func.old self.old holds → ((b : ℕ) → b < length func.old.blocks → HoldsWaiting func.old self.old holds b) → IfOk result (λ r. StaysWithin holds func.old func.new r.instructions_added_to_blocks.items) }
         ensures names { NamesExist func.old self.old → NamesExist func.new self.new }
         ensures full { result ≡ Err BuildError.Full → IsFull func.new }
         ensures takes_by_records { result ≢ Err BuildError.Memory → TakesByRecords func.old self.old func.new self.new }
@@ -597,7 +597,7 @@ impl SSABuilder {
         ensures never_failed { result ≢ Err BuildError.Failed }
     {
         let mut side_effects = SideEffects::new(self.alloc);
-        for number in 0..self.tables.block_count() {
+        for number in 0..func.block_count() {
             let block = Block::new(number);
             func.law_consistent();
             let told = self.seal_one_block(block, func)?;

@@ -114,14 +114,6 @@ impl SsaTables {
         !self.blocks.predecessors(block).is_empty()
     }
 
-    /// How many blocks are known, by their numbers from 0 on.
-    pub(crate) fn block_count(&self) -> usize
-        ensures exact { result ≡ length self.now.blocks }
-        ensures bounded { result < 2 ^ 32 }
-    {
-        self.blocks.len()
-    }
-
     /// Whether a block is sealed.
     pub(crate) fn is_sealed(&self, block: Block) -> bool
         ensures { result ≡ is_yes (sealed_of self.now block) }

@@ -20,7 +20,7 @@ use Rattle.cranelift_frontend.specs.declared.context.BlockStatus.TheVariants.{Em
 use Rattle.cranelift_frontend.specs.Context.{ContextState, begun, status_of, SetsStatus, Begins}
 use Rattle.cranelift_frontend.specs.declared.builder.FunctionBuilder.{FunctionBuilder}
 use Rattle.cranelift_frontend.specs.Builder.{Appends, AppendsIn, AppendsValue, HasCurrent, status_after, with_appended}
-use Rattle.cranelift_frontend.specs.Construction.{IsUse, IsSealing}
+use Rattle.cranelift_frontend.specs.Construction.{IsUse, IsSealingOf}
 use Rattle.cranelift_frontend.specs.Growth.{Grows}
 use Rattle.clif_ssa.specs.Constructs.{OnlyConstructs}
 
@@ -210,11 +210,11 @@ used_current r o f c g d variable ty block used current =
     (fills_none_begins c d (block ∷ used_so.0) used_so.2) current) used
 
 -- a sealing answered
-pub sealed_grows : (r : Result (Unit {0}) BuildError) (f : Body) (c : ContextState) (g : Body) (d : ContextState) (block : ℕ)
-    → OnOk r ((told : List ℕ) × IsSealing f c.ssa g d.ssa block told × Begins c d told) → OnOk r (Grows f g)
-sealed_grows r f c g d block = on_ok_step r _ _ (λ sealing. Grows-constructs f g sealing.1.constructs)
+pub sealed_grows : (r : Result (Unit {0}) BuildError) (f : Body) (c : ContextState) (g : Body) (d : ContextState) (seals : ℕ → Bool)
+    → OnOk r ((told : List ℕ) × IsSealingOf f c.ssa g d.ssa seals told × Begins c d told) → OnOk r (Grows f g)
+sealed_grows r f c g d seals = on_ok_step r _ _ (λ sealing. Grows-constructs f g sealing.1.constructs)
 
-pub sealed_current : (r : Result (Unit {0}) BuildError) (o : Option ℕ) (f : Body) (c : ContextState) (g : Body) (d : ContextState) (block : ℕ)
-    → OnOk r ((told : List ℕ) × IsSealing f c.ssa g d.ssa block told × Begins c d told) → CurrentIn o f c → OnOk r (CurrentIn o g d)
-sealed_current r o f c g d block sealed current =
+pub sealed_current : (r : Result (Unit {0}) BuildError) (o : Option ℕ) (f : Body) (c : ContextState) (g : Body) (d : ContextState) (seals : ℕ → Bool)
+    → OnOk r ((told : List ℕ) × IsSealingOf f c.ssa g d.ssa seals told × Begins c d told) → CurrentIn o f c → OnOk r (CurrentIn o g d)
+sealed_current r o f c g d seals sealed current =
     on_ok_step r _ _ (λ sealing. still_current o o f g c d refl (Grows-constructs f g sealing.1.constructs) (fills_none_begins c d sealing.0 sealing.2) current) sealed

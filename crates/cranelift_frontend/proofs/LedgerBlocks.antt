@@ -23,7 +23,7 @@ use Rattle.cranelift_frontend.specs.declared.context.BlockStatus.{BlockStatus}
 use Rattle.cranelift_frontend.specs.declared.context.BlockStatus.TheVariants.{Empty}
 use Rattle.cranelift_frontend.specs.Context.{Begins, ContextState, SameStatus, status_of}
 use Rattle.cranelift_frontend.specs.Builder.{is_empty_status, is_filled_status}
-use Rattle.cranelift_frontend.specs.Construction.{IsSealing}
+use Rattle.cranelift_frontend.specs.Construction.{IsSealing, IsSealingOf}
 use Rattle.cranelift_frontend.specs.Ledger.{AnswersAgree, AreTypesOf, BlockAgrees, IsBegun, IsEnded, IsStructured, LedgerAgrees, NamesBlock, block_name, ledger_of}
 use Rattle.cranelift_frontend.proofs.LedgerLists.{get-front, get-last, get-push, if-yes, if-no, named-more, one-named-more, map-some}
 use Rattle.cranelift_frontend.proofs.LedgerNames.{name-number, named-block, state-entries}
@@ -228,10 +228,10 @@ module _ (calls : List AnsweredCall) (ledger : Ledger) (f g : Body) (c d : Conte
   extends = extends-constructs f g sealing.constructs
 
   layout : g.layout ≡ f.layout
-  layout = sealed_layout calls ledger f c p agrees g d block told sealing consistent
+  layout = sealed_layout calls ledger f c p agrees g d (λ b. b == block) told sealing consistent
 
   status_at : SameStatus c d
-  status_at = sealed_status calls ledger f c p agrees g d block told sealing begins
+  status_at = sealed_status calls ledger f c p agrees g d (λ b. b == block) told sealing begins
 
   names : (k : ℕ) (x : Name) → block_name ledger k ≡ Some x → block_name new k ≡ Some x
   names k x is = changed-names ledger new name change (λ s. refl) refl k ∙ is
@@ -272,8 +272,8 @@ module _ (calls : List AnsweredCall) (ledger : Ledger) (f g : Body) (c d : Conte
           λ types are.
               sealing.structured types agrees.structured.0 (agrees.structured.1 types (subst (λ (xs : List «Type»). AreTypesOf xs types) variables are)),
         );
-        parameters = sealed_parameters calls ledger f c p agrees g d block told sealing consistent begins;
-        branches = sealed_branches calls ledger f c p agrees g d block told sealing consistent begins;
+        parameters = sealed_parameters calls ledger f c p agrees g d (λ b. b == block) told sealing consistent begins;
+        branches = sealed_branches calls ledger f c p agrees g d (λ b. b == block) told sealing consistent begins;
         fresh = λ k above.
             let past : length f.blocks ≤ k = omega (arith, above, extends.block_count) in
             let exists : block < length f.blocks = block-exists calls ledger f c p agrees block name named in
@@ -296,7 +296,7 @@ sealed calls f g c d p name block (Ok done) agrees names seals consistent variab
     (agrees-sealed calls (ledger_of calls) f g c d p name block seals.0 agrees named seals.1 seals.2 consistent variables)
 
 -- the statuses after sealing
-pub sealed-statuses : {E : Type 0} (calls : List AnsweredCall) (f g : Body) (c d : ContextState) (p : Option ℕ) (block : ℕ) (r : Result (Unit {0}) E)
-    → LedgerAgrees calls (ledger_of calls) f c p → OnOk r ((told : List ℕ) × IsSealing f c.ssa g d.ssa block told × Begins c d told) → OnOk r (SameStatus c d)
-sealed-statuses calls f g c d p block (Err e) agrees seals = tt
-sealed-statuses calls f g c d p block (Ok done) agrees seals = sealed_status calls (ledger_of calls) f c p agrees g d block seals.0 seals.1 seals.2
+pub sealed-statuses : {E : Type 0} (calls : List AnsweredCall) (f g : Body) (c d : ContextState) (p : Option ℕ) (seals : ℕ → Bool) (r : Result (Unit {0}) E)
+    → LedgerAgrees calls (ledger_of calls) f c p → OnOk r ((told : List ℕ) × IsSealingOf f c.ssa g d.ssa seals told × Begins c d told) → OnOk r (SameStatus c d)
+sealed-statuses calls f g c d p seals (Err e) agrees are = tt
+sealed-statuses calls f g c d p seals (Ok done) agrees are = sealed_status calls (ledger_of calls) f c p agrees g d seals are.0 are.1 are.2

@@ -21,6 +21,7 @@ pub mod Statuses
 pub mod Standing
 pub mod StandingResults
 pub mod Marking
+pub mod SealingAll
 pub mod Finishing
 pub mod StandingBuilt
 pub mod StandingShaped

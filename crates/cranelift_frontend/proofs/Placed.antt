@@ -22,7 +22,7 @@ use Rattle.cranelift_frontend.specs.declared.context.BlockStatus.{BlockStatus}
 use Rattle.cranelift_frontend.specs.declared.context.BlockStatus.TheVariants.{Empty, Partial, Filled}
 use Rattle.cranelift_frontend.specs.Context.{Begins, ContextState, SameStatus, SetsStatus, begun, status_of}
 use Rattle.cranelift_frontend.specs.Builder.{is_empty_status}
-use Rattle.cranelift_frontend.specs.Construction.{IsSealing, IsUse}
+use Rattle.cranelift_frontend.specs.Construction.{IsSealingOf, IsUse}
 use Rattle.cranelift_frontend.specs.Ledger.{AreTypesOf, IsBegun, IsEnded, LedgerAgrees}
 use Rattle.cranelift_frontend.proofs.LedgerLists.{if-yes, if-no}
 use Rattle.cranelift_frontend.proofs.LedgerKept.{home-inserted, inserted-insts, stands-inserted, stands-still}
@@ -226,9 +226,9 @@ module _ (calls : List AnsweredCall) (ledger : Ledger) (f : Body) (c : ContextSt
               | inr other ↦ if-no (h == block) (begun (status_of c block)) (status_of c h) (ne_eqb h block other) ∙ filled
             ]
 
-  -- A SEALING -----------------------------------------------------------------------------------------------------
+  -- SEALINGS ------------------------------------------------------------------------------------------------------
 
-  module _ (block : ℕ) (told : List ℕ) (sealing : IsSealing f c.ssa g d.ssa block told) where
+  module _ (seals : ℕ → Bool) (told : List ℕ) (sealing : IsSealingOf f c.ssa g d.ssa seals told) where
     abbrev keeps : ℕ → Bool
     keeps b = stands_in b f.layout && not (is_empty_status (status_of c b))
 
@@ -244,7 +244,7 @@ module _ (calls : List AnsweredCall) (ledger : Ledger) (f : Body) (c : ContextSt
     kept =
         sealing.within keeps
         (λ b i leads. keeps_begun (branch_block f i) (ended-begun f c (branch_block f i) (agrees.branches b i leads)))
-        (λ q home waits is. keeps_begun home (agrees.parameters q.param home is))
+        (λ b is_sealed q home waits is. keeps_begun home (agrees.parameters q.param home is))
 
     -- no block enters the layout
     pub sealed_layout : IsConsistent g → g.layout ≡ f.layout

@@ -18,7 +18,7 @@ use Rattle.clif_ssa.proofs.Instructions.{inst_resolved}
 use Rattle.clif_ssa.proofs.Completing.{inserted_firm}
 use Rattle.clif_ssa.proofs.Alike.{alike_same, alike_then, inserted_resolved}
 use Rattle.cranelift_frontend.specs.Context.{ContextState, Begins}
-use Rattle.cranelift_frontend.specs.Construction.{IsUse, IsSealing, IsDeclared}
+use Rattle.cranelift_frontend.specs.Construction.{IsUse, IsSealingOf, IsDeclared}
 use Rattle.cranelift_frontend.proofs.Declaring.{declared_same}
 use Rattle.cranelift_frontend.specs.declared.builder.FunctionBuilder.{FunctionBuilder}
 use Rattle.cranelift_frontend.specs.Builder.{AppendsIn, AppendsValue, HasCurrent}
@@ -45,11 +45,11 @@ pub remembers_declared : {T E : Type 0} (r : Result T E) (x b : ℕ) (f : Body) 
 remembers_declared (Err e) x b f c d ty is = tt
 remembers_declared (Ok v) x b f c d ty is = remembers_same x b f f c.ssa d.ssa refl (ap (λ (e : ContextState). e.ssa) is)
 
--- a block is sealed
-pub remembers_sealed : {T E : Type 0} (r : Result T E) (x b : ℕ) (f g : Body) (c d : ContextState) (block : ℕ)
-    → OnOk r ((told : List ℕ) × IsSealing f c.ssa g d.ssa block told × Begins c d told) → OnOk r (Remembers x b f c.ssa g d.ssa)
-remembers_sealed (Err e) x b f g c d block sealed = tt
-remembers_sealed (Ok v) x b f g c d block sealed = sealed.1.remembers x b
+-- blocks are sealed
+pub remembers_sealed : {T E : Type 0} (r : Result T E) (x b : ℕ) (f g : Body) (c d : ContextState) (seals : ℕ → Bool)
+    → OnOk r ((told : List ℕ) × IsSealingOf f c.ssa g d.ssa seals told × Begins c d told) → OnOk r (Remembers x b f c.ssa g d.ssa)
+remembers_sealed (Err e) x b f g c d seals sealed = tt
+remembers_sealed (Ok v) x b f g c d seals sealed = sealed.1.remembers x b
 
 -- a variable is assigned in a block, and it isn't this one there
 pub remembers_assigned : {T E : Type 0} (r : Result T E) (x b y c value : ℕ) (f g : Body) (s t : SsaState) → (y ≡ x → c ≡ b → ⊥) → g ≡ f → OnOk r (Records s t x b value)

@@ -1,6 +1,6 @@
 -- The same for calls that answer a result: where it is no error.
 use Rattle.std.proofs.Common.{◌≡◌, ◌≢◌, ◌<◌, ℕ, List, [], ◌∷◌, ◌++◌, length, ap}
-use Rattle.std.specs.Prelude.{slice_get, Option, Some, IfOk, OnOk, Result, Ok, Err}
+use Rattle.std.specs.Prelude.{◌==◌, slice_get, Option, Some, IfOk, OnOk, Result, Ok, Err}
 use Rattle.clif_types.specs.Signature.{SignatureShape}
 use Rattle.clif_types.specs.declared.types.«Type».{«Type»}
 use Rattle.clif_ir.specs.Body.{Body, value_at}
@@ -41,7 +41,7 @@ module _ {E : Type 0} (declared : SignatureShape) (calls : List AnsweredCall) wh
   sealed_stands f g c d p name block (Err e) stands consistent seals after ledger = tt
   sealed_stands f g c d p name block (Ok u) stands consistent seals after ledger =
       stands_sealed declared calls f c p stands g d name block seals.0 consistent seals.1 seals.2
-      (sealed_layout calls (ledger_of calls) f c p stands.ledger g d block seals.0 seals.1 after) ledger
+      (sealed_layout calls (ledger_of calls) f c p stands.ledger g d (λ b. b == block) seals.0 seals.1 after) ledger
 
   pub assigned_stands : (f : Body) (c d : ContextState) (p : Option ℕ) (variable value block : ℕ) (name : Name) (r : Result (Unit {0}) E) → StandsIn declared calls f c p
       → p ≡ Some block → IsConsistent f → status_of c block ≢ Filled → value < length f.values → slice_get c.variables variable ≡ Some (value_at f value).ty

@@ -1,19 +1,19 @@
 -- What a use of a variable and a sealing make of a function and of the state of its construction: the contracts of the
 -- crate below, of a call that answers. Source: own, after Braun et al. 2013.
-use Rattle.std.specs.Prelude.{◌≡◌, ℕ, List, [], Bool, true}
+use Rattle.std.specs.Prelude.{◌≡◌, ℕ, ◌==◌, List, [], length, Bool, true, ltb, if◌then◌else◌}
 use Rattle.clif_types.specs.declared.types.«Type».{«Type»}
 use Rattle.clif_ir.specs.Body.{Body}
 use Rattle.clif_ir.specs.Reading.{stands_in}
 use Rattle.clif_paths.specs.Blocks.{Blocks}
 use Rattle.clif_ssa.specs.Own.{Own}
-use Rattle.clif_ssa.specs.Ssa.{SsaState, RecordsStay, SamePredecessors, SealedStays}
+use Rattle.clif_ssa.specs.Ssa.{SsaState, RecordsStay, SamePredecessors, SealedStays, sealed_of}
 use Rattle.clif_ssa.specs.Sound.{Keeps, KeepsAndKnows}
 use Rattle.clif_ssa.specs.SoundLaws.{DescribesSoundly}
 use Rattle.clif_ssa.specs.Structure.{HasRecordOf, Remembers}
 use Rattle.clif_ssa.specs.Structured.{HasType, Structured, VariableTypes}
 use Rattle.clif_ssa.specs.Constructs.{OnlyConstructs, TellsZeros}
 use Rattle.clif_ssa.specs.Within.{HoldsBranches, HoldsWaiting, StaysWithin}
-use Rattle.clif_ssa.specs.Sealing.{SealsOne}
+use Rattle.clif_ssa.specs.Tables.{is_yes}
 use Rattle.clif_ir.specs.Consistent.{Once}
 use Rattle.clif_simulation.specs.Carries.{DeclaredAlong}
 
@@ -31,17 +31,25 @@ pub record IsUse (f : Body) (s : SsaState) (g : Body) (t : SsaState) (variable :
       → Structured types own g t [] × HasType g value ty
   pub keeps : (own : Own) (tables : Blocks) → DescribesSoundly own f s tables → KeepsAndKnows own tables g t block variable value
 
--- A block is sealed; zeros come into the blocks `told`.
-pub record IsSealing (f : Body) (s : SsaState) (g : Body) (t : SsaState) (block : ℕ) (told : List ℕ) : Type 0 where
+-- The blocks are sealed of which `seals` says so; zeros come into the blocks `told`.
+pub record IsSealingOf (f : Body) (s : SsaState) (g : Body) (t : SsaState) (seals : ℕ → Bool) (told : List ℕ) : Type 0 where
   pub constructs : OnlyConstructs f g
   pub tells : TellsZeros f g told
-  pub within : (holds : ℕ → Bool) → HoldsBranches f s holds → HoldsWaiting f s holds block → StaysWithin holds f g told
+  pub within : (holds : ℕ → Bool) → HoldsBranches f s holds → ((b : ℕ) → seals b ≡ true → HoldsWaiting f s holds b) → StaysWithin holds f g told
   pub predecessors : SamePredecessors s t
-  pub sealed : SealsOne s t block
+  pub sealed : (b : ℕ) → is_yes (sealed_of t b) ≡ (if seals b then true else is_yes (sealed_of s b))
   pub stay : RecordsStay s t
   pub remembers : (x b : ℕ) → Remembers x b f s g t
   pub structured : (types : VariableTypes) (own : Own) → Structured types own f s [] → Structured types own g t []
   pub keeps : (own : Own) (tables : Blocks) → DescribesSoundly own f s tables → Keeps own tables g t
+
+-- A block is sealed.
+abbrev pub IsSealing : Body → SsaState → Body → SsaState → ℕ → List ℕ → Type 0
+IsSealing f s g t block told = IsSealingOf f s g t (λ b. b == block) told
+
+-- Each block of the function is sealed.
+abbrev pub IsSealingAll : Body → SsaState → Body → SsaState → List ℕ → Type 0
+IsSealingAll f s g t told = IsSealingOf f s g t (λ b. ltb b (length f.blocks)) told
 
 -- A branch is declared at each of these targets, once.
 pub record IsDeclared (s : SsaState) (inst : ℕ) (targets : List ℕ) (t : SsaState) : Type 0 where

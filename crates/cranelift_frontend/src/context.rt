@@ -106,12 +106,12 @@ impl Model for FunctionBuilderContext {
 
 impl FunctionBuilderContext {
     ghost use Rattle.cranelift_frontend.specs.Context.{empty_context, status_of, SetsStatus, Begins};
-    ghost use Rattle.cranelift_frontend.specs.Construction.{IsUse, IsSealing, IsDeclared};
+    ghost use Rattle.cranelift_frontend.specs.Construction.{IsUse, IsSealing, IsSealingAll, IsDeclared};
     ghost use Rattle.clif_ir.specs.Body.{Body};
     ghost use Rattle.clif_ir.specs.Reading.{targets};
     ghost use Rattle.clif_ssa.specs.LookUp.{no_look_up, UsesVariable};
     ghost use Rattle.clif_ssa.specs.Running.{stage, found};
-    ghost use Rattle.clif_ssa.specs.Sealing.{SealsByLookUp};
+    ghost use Rattle.clif_ssa.specs.Sealing.{SealsBelow, SealsByLookUp};
     ghost use Rattle.clif_ssa.specs.Ssa.{record_of, sealed_of, predecessors_of, completed, HasMore, IsLocal, NamesExist, Records, RecordsStay, SameBlocks, SamePredecessors, SameRecords, Seals, Waits, Zeroes};
     ghost use Rattle.clif_ssa.specs.Limits.{IsFull, StaysBelow, StaysBelowFor, Takes, TakesByRecords};
     ghost use Rattle.clif_ssa.specs.Tables.{is_yes, pending_of};
@@ -280,6 +280,25 @@ impl FunctionBuilderContext {
         ensures never_failed { result ≢ Err BuildError.Failed }
     {
         let side_effects = self.ssa.seal_block(block, func)?;
+        self.begin_all(side_effects.instructions_added_to_blocks.as_slice())
+    }
+
+    #[tactic(auto, using(crate::proofs::Statuses::status_rules))]
+    /// Seals each block of the function that isn't sealed, by rising number. Blocks that get a zero are begun.
+    pub(crate) fn seal_all_blocks(&mut self, func: &mut Function) -> Result<(), BuildError>
+        requires named { NamesExist func.old self.old.ssa }
+        ensures is_sealing { OnOk result ((told : List ℕ) × IsSealingAll func.old self.old.ssa func.new self.new.ssa told × Begins self.old self.new told) }
+        ensures in_turn { OnOk result ((told : List ℕ) × SealsBelow func.old self.old.ssa (length func.old.blocks) func.new self.new.ssa told) }
+        ensures names { NamesExist func.new self.new.ssa }
+        ensures more { HasMore func.old func.new }
+        ensures stay { RecordsStay self.old.ssa self.new.ssa }
+        ensures variables { self.new.variables ≡ self.old.variables }
+        ensures full { result ≡ Err BuildError.Full → IsFull func.new }
+        ensures takes_by_records { result ≢ Err BuildError.Memory → TakesByRecords func.old self.old.ssa func.new self.new.ssa }
+        ensures below { StaysBelow func.old self.old.ssa self.new.ssa }
+        ensures never_failed { result ≢ Err BuildError.Failed }
+    {
+        let side_effects = self.ssa.seal_all_blocks(func)?;
         self.begin_all(side_effects.instructions_added_to_blocks.as_slice())
     }
 

@@ -2,11 +2,11 @@
 ghost use Rattle.std.specs.Prelude.{◌≡◌, ◌≢◌, ◌<◌, ◌-◌, ◌^◌, ◌+◌, ◌++◌, ◌∷◌, [], ◌==◌, ◌⊎◌, ℕ, List, IsTrue, ◌↔◌, OnOk, OnErr, IfOk, IfSome, IsSome, is_err, Some, None, true, false, length, slice_index, slice_get, EachIndex};
 ghost use Rattle.cranelift_frontend.specs.Context.{empty_context, status_of, begun, Begins, SetsStatus};
 ghost use Rattle.cranelift_frontend.specs.Growth.{Grows, HasRecordIn, KeepsRecordsBelow, RemembersIn};
-ghost use Rattle.cranelift_frontend.specs.Construction.{IsUse, IsSealing};
+ghost use Rattle.cranelift_frontend.specs.Construction.{IsUse, IsSealing, IsSealingAll};
 ghost use Rattle.cranelift_frontend.specs.Builder.{SameLoans, with_position, is_unreachable, is_free, is_declarable, HasCurrent, Uses, UsesIn};
 ghost use Rattle.clif_ssa.specs.Limits.{IsFull, StaysBelowFor, Takes, TakesByRecords};
 ghost use Rattle.clif_ssa.specs.Tables.{is_yes, pending_of};
-ghost use Rattle.clif_ssa.specs.Sealing.{SealsByLookUp};
+ghost use Rattle.clif_ssa.specs.Sealing.{SealsBelow, SealsByLookUp};
 ghost use Rattle.clif_ssa.specs.Ssa.{record_of, sealed_of, predecessors_of, completed, IsLocal, NamesExist, Records, RecordsStay, SameBlocks, SamePredecessors, SameRecords, Seals, Waits, Zeroes};
 ghost use Rattle.clif_ir.specs.Body.{empty_body, inst_at, block_at, value_at};
 ghost use Rattle.clif_ir.specs.Changes.{with_block, inserted_in};
@@ -15,7 +15,7 @@ ghost use Rattle.clif_meaning.specs.View.{view_of};
 ghost use Rattle.clif_meaning.specs.Typing.{EdgesMatch};
 ghost use Rattle.clif_meaning.specs.Premises.{CallersEdgesMatch};
 ghost use Rattle.clif_simulation.specs.Structure.{NoneWaits};
-ghost use Rattle.clif_meaning.specs.Request.{AnsweredCall, script_of, CreateBlock, SwitchToBlock, SealBlock, DeclareVar, DefVar, UseVar};
+ghost use Rattle.clif_meaning.specs.Request.{AnsweredCall, script_of, CreateBlock, SwitchToBlock, SealBlock, SealAllBlocks, DeclareVar, DefVar, UseVar};
 ghost use Rattle.clif_types.specs.Signature.{SignatureShape};
 ghost use Rattle.cranelift_frontend.specs.StandsFor.{StandsFor};
 ghost use Rattle.cranelift_frontend.specs.Ledger.{AgreesWithLedger, NamesBlock, NamesValue};
@@ -184,6 +184,38 @@ impl<'a> FunctionBuilder<'a> {
         }
         self.func.law_consistent();
         let sealed = self.ctx.seal_block(block, self.func);
+        self.func.law_consistent();
+        self.failed = sealed.is_err();
+        sealed
+    }
+
+    /// Says that all predecessors of all blocks are known: seals each block that isn't sealed, by rising number.
+    pub fn seal_all_blocks(&mut self) -> Result<(), BuildError>
+        ensures loans { SameLoans self.old self.new }
+        ensures sealed { OnOk result ((b : ℕ) → b < length self.new.func.now.blocks → is_yes (sealed_of self.new.ctx.now.ssa b) ≡ true) }
+        ensures in_turn { OnOk result ((told : List ℕ) × SealsBelow self.old.func.now self.old.ctx.now.ssa (length self.old.func.now.blocks) self.new.func.now self.new.ctx.now.ssa told) }
+        ensures is_sealing { OnOk result ((told : List ℕ) × IsSealingAll self.old.func.now self.old.ctx.now.ssa self.new.func.now self.new.ctx.now.ssa told × Begins self.old.ctx.now self.new.ctx.now told) }
+        ensures stay { RecordsStay self.old.ctx.now.ssa self.new.ctx.now.ssa }
+        ensures variables { self.new.ctx.now.variables ≡ self.old.ctx.now.variables }
+        ensures position { self.new.position ≡ self.old.position }
+        ensures full { result ≡ Err BuildError.Full → IsFull self.new.func.now }
+        ensures takes_by_records { result ≢ Err BuildError.Memory → TakesByRecords self.old.func.now self.old.ctx.now.ssa self.new.func.now self.new.ctx.now.ssa }
+        ensures below { KeepsRecordsBelow self.old self.new }
+        ensures failed { (result ≡ Err BuildError.Failed) ↔ IsTrue self.old.failed }
+        ensures unchanged { IsTrue self.old.failed → self.new ≡ self.old }
+        ensures fails { self.new.failed ≡ is_err result }
+        ensures ledger { (calls : List AnsweredCall) → AgreesWithLedger calls self.old → OnOk result (AgreesWithLedger (calls ++ record { request = SealAllBlocks; numbers = [] } ∷ []) self.new) }
+        ensures stands { (signature : SignatureShape) (calls : List AnsweredCall) → StandsFor signature calls self.old → OnOk result (StandsFor signature (calls ++ record { request = SealAllBlocks; numbers = [] } ∷ []) self.new) }
+        ensures edges_match { (signature : SignatureShape) (calls : List AnsweredCall) → StandsFor signature calls self.new → CallersEdgesMatch (script_of calls) → OnOk result (EdgesMatch (view_of self.new.func.now)) }
+        ensures grows { OnOk result (Grows self.old.func.now self.new.func.now) }
+        ensures remembers { (x b : ℕ) → OnOk result (RemembersIn x b self.old self.new) }
+        ensures current { HasCurrent self.old → OnOk result (HasCurrent self.new) }
+    {
+        if self.failed {
+            return Err(BuildError::Failed);
+        }
+        self.func.law_consistent();
+        let sealed = self.ctx.seal_all_blocks(self.func);
         self.func.law_consistent();
         self.failed = sealed.is_err();
         sealed

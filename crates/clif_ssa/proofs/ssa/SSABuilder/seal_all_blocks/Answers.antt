@@ -48,7 +48,7 @@ loop-number-preserved c =
     let number : c.new-block.result ≡ c.loop-number.number = first_of (search rules, grind (arith, common_steps)) in
     let seals : SealsOne c.loop-number.self c.seal_one_block.new.self c.loop-number.number =
     subst (λ k. SealsOne c.loop-number.self c.seal_one_block.new.self k) number c.in_ok-told.ensures.sealed in
-    let inside : c.loop-number.number < length c.args.self.now.blocks = first_of (search rules, grind (arith, common_steps)) in
+    let inside : c.loop-number.number < length c.args.func.now.blocks = first_of (search rules, grind (arith, common_steps)) in
     record {
       sealed = sealed-below c.loop-number.self c.seal_one_block.new.self c.loop-number.number c.loop-number.invariant.sealed seals;
       below = stays_below_then c.args.func.now c.loop-number.func c.args.self.now c.loop-number.self c.seal_one_block.new.self c.loop-number.invariant.more c.loop-number.invariant.below c.seal_one_block.ensures.below;
@@ -74,8 +74,8 @@ loop-number-preserved c =
       stay = λ x b v is. c.seal_one_block.ensures.stay x b v (c.loop-number.invariant.stay x b v is);
       more = more-then c.args.func.now c.loop-number.func c.seal_one_block.new.func c.loop-number.invariant.more c.seal_one_block.ensures.more;
       no_more = λ fits.
-          no_more-sealed c.loop-number.self c.seal_one_block.new.self (length c.args.func.now.blocks) (length c.loop-number.func.blocks) c.new-block.result (length c.args.self.now.blocks)
-          (omega (arith, number, inside)) fits c.loop-number.invariant.more.blocks (c.loop-number.invariant.no_more fits) c.seal_one_block.ensures.no_more;
+          no_more-sealed c.loop-number.self c.seal_one_block.new.self (length c.args.func.now.blocks) (length c.loop-number.func.blocks) c.new-block.result (length c.args.func.now.blocks)
+          (omega (arith, number, inside)) (omega arith) c.loop-number.invariant.more.blocks (c.loop-number.invariant.no_more fits) c.seal_one_block.ensures.no_more;
       constructs = constructs_then c.args.func.now c.loop-number.func c.seal_one_block.new.func c.loop-number.invariant.constructs c.seal_one_block.ensures.constructs;
       tells =
           tells_more_then c.args.func.now c.loop-number.func c.seal_one_block.new.func _ _ _ c.seal_one_block.ensures.constructs c.loop-number.invariant.tells
@@ -107,13 +107,13 @@ returns-in_err-append-clause-sealed_stays c = λ b is.
 pub returns-in_err-told-clause-others : goal.returns-in_err-told-clause-others
 returns-in_err-told-clause-others c = λ b above.
     let number : c.new-block.result ≡ c.loop-number.number = first_of (search rules, grind (arith, common_steps)) in
-    let inside : c.loop-number.number < length c.args.self.now.blocks = first_of (search rules, grind (arith, common_steps)) in
+    let inside : c.loop-number.number < length c.args.func.now.blocks = first_of (search rules, grind (arith, common_steps)) in
     other-same c.loop-number.self c.seal_one_block.new.self c.new-block.result c.in_err-told.ensures.err b (omega (arith, number, inside, above)) ∙ c.loop-number.invariant.others b above
 
 pub returns-in_err-append-clause-others : goal.returns-in_err-append-clause-others
 returns-in_err-append-clause-others c = λ b above.
     let number : c.new-block.result ≡ c.loop-number.number = first_of (search rules, grind (arith, common_steps)) in
-    let inside : c.loop-number.number < length c.args.self.now.blocks = first_of (search rules, grind (arith, common_steps)) in
+    let inside : c.loop-number.number < length c.args.func.now.blocks = first_of (search rules, grind (arith, common_steps)) in
     other-same c.loop-number.self c.seal_one_block.new.self c.new-block.result (inr c.in_ok-told.ensures.sealed) b (omega (arith, number, inside, above)) ∙ c.loop-number.invariant.others b above
 
 pub returns-clause-others : goal.returns-clause-others
@@ -122,18 +122,18 @@ returns-clause-others c = c.loop-number.invariant.others
 pub returns-in_err-told-clause-no_more : goal.returns-in_err-told-clause-no_more
 returns-in_err-told-clause-no_more c =
     let number : c.new-block.result ≡ c.loop-number.number = first_of (search rules, grind (arith, common_steps)) in
-    let inside : c.loop-number.number < length c.args.self.now.blocks = first_of (search rules, grind (arith, common_steps)) in
+    let inside : c.loop-number.number < length c.args.func.now.blocks = first_of (search rules, grind (arith, common_steps)) in
     λ fits.
-    no_more-sealed c.loop-number.self c.seal_one_block.new.self (length c.args.func.now.blocks) (length c.loop-number.func.blocks) c.new-block.result (length c.args.self.now.blocks)
-    (omega (arith, number, inside)) fits c.loop-number.invariant.more.blocks (c.loop-number.invariant.no_more fits) c.seal_one_block.ensures.no_more
+    no_more-sealed c.loop-number.self c.seal_one_block.new.self (length c.args.func.now.blocks) (length c.loop-number.func.blocks) c.new-block.result (length c.args.func.now.blocks)
+    (omega (arith, number, inside)) (omega arith) c.loop-number.invariant.more.blocks (c.loop-number.invariant.no_more fits) c.seal_one_block.ensures.no_more
 
 pub returns-in_err-append-clause-no_more : goal.returns-in_err-append-clause-no_more
 returns-in_err-append-clause-no_more c =
     let number : c.new-block.result ≡ c.loop-number.number = first_of (search rules, grind (arith, common_steps)) in
-    let inside : c.loop-number.number < length c.args.self.now.blocks = first_of (search rules, grind (arith, common_steps)) in
+    let inside : c.loop-number.number < length c.args.func.now.blocks = first_of (search rules, grind (arith, common_steps)) in
     λ fits.
-    no_more-sealed c.loop-number.self c.seal_one_block.new.self (length c.args.func.now.blocks) (length c.loop-number.func.blocks) c.new-block.result (length c.args.self.now.blocks)
-    (omega (arith, number, inside)) fits c.loop-number.invariant.more.blocks (c.loop-number.invariant.no_more fits) c.seal_one_block.ensures.no_more
+    no_more-sealed c.loop-number.self c.seal_one_block.new.self (length c.args.func.now.blocks) (length c.loop-number.func.blocks) c.new-block.result (length c.args.func.now.blocks)
+    (omega (arith, number, inside)) (omega arith) c.loop-number.invariant.more.blocks (c.loop-number.invariant.no_more fits) c.seal_one_block.ensures.no_more
 
 pub returns-clause-no_more : goal.returns-clause-no_more
 returns-clause-no_more c = c.loop-number.invariant.no_more
@@ -166,8 +166,9 @@ returns-clause-tells c = tells_all c.args.func.now c.loop-number.func _ _ c.new-
 
 pub returns-clause-within : goal.returns-clause-within
 returns-clause-within c = λ holds branches waiting.
-    seals_within holds c.args.func.now c.loop-number.func c.args.self.now c.loop-number.self _ _ (leads_of holds c.args.func.now c.args.self.now c.requires.named branches) waiting
-    c.loop-number.invariant.in_turn
+    let at : c.loop-number.number ≡ length c.args.func.now.blocks = first_of (search rules, grind (arith, common_steps)) in
+    seals_within holds c.args.func.now c.loop-number.func c.args.self.now c.loop-number.self c.loop-number.number _
+    (leads_of holds c.args.func.now c.args.self.now c.requires.named branches) (λ b below. waiting b (omega (arith, below, at))) c.loop-number.invariant.in_turn
 
 -- HOW MUCH IS TAKEN -----------------------------------------------------------------------------------------------
 

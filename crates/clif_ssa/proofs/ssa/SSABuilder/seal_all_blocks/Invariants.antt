@@ -16,7 +16,7 @@ abbrev pub invariant-loop-number : goal.invariant-loop-number
 invariant-loop-number l = record {
   sealed : (b : ℕ) → b < l.number → is_yes (sealed_of l.self b) ≡ true;
   sealed_stays : (b : ℕ) → is_yes (sealed_of l.initial.self b) ≡ true → is_yes (sealed_of l.self b) ≡ true;
-  others : (b : ℕ) → length l.initial.self.blocks ≤ b → is_yes (sealed_of l.self b) ≡ is_yes (sealed_of l.initial.self b);
+  others : (b : ℕ) → length l.initial.func.blocks ≤ b → is_yes (sealed_of l.self b) ≡ is_yes (sealed_of l.initial.self b);
   in_turn : SealsBelow l.initial.func l.initial.self l.number l.func l.self l.side_effects.instructions_added_to_blocks.items;
   once : LooksOnce l.initial.self → LooksOnce l.self;
   named : Named l.func l.self;

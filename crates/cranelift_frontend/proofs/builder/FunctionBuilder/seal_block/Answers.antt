@@ -1,3 +1,4 @@
+use Rattle.std.specs.Prelude.{◌==◌}
 use Rattle.cranelift_frontend.proofs.Remembered.{remembers_sealed}
 use Rattle.cranelift_frontend.proofs.LedgerBlocks.{sealed}
 use Rattle.cranelift_frontend.proofs.Standing.{standing_edges}
@@ -11,10 +12,10 @@ returns-clause-ledger c = λ calls name agrees names.
     sealed calls _ _ _ _ _ name c.args.block _ agrees names c.seal_block-sealed.ensures.is_sealing c.law_consistent-2.ensures c.seal_block-sealed.ensures.variables
 
 pub returns-clause-grows : goal.returns-clause-grows
-returns-clause-grows c = sealed_grows c.seal_block-sealed.result c.args.self.now.func.now c.args.self.now.ctx.now c.seal_block-sealed.new.func c.seal_block-sealed.new.self c.args.block c.seal_block-sealed.ensures.is_sealing
+returns-clause-grows c = sealed_grows c.seal_block-sealed.result c.args.self.now.func.now c.args.self.now.ctx.now c.seal_block-sealed.new.func c.seal_block-sealed.new.self (λ b. b == c.args.block) c.seal_block-sealed.ensures.is_sealing
 
 pub returns-clause-current : goal.returns-clause-current
-returns-clause-current c = sealed_current c.seal_block-sealed.result c.args.self.now.position c.args.self.now.func.now c.args.self.now.ctx.now c.seal_block-sealed.new.func c.seal_block-sealed.new.self c.args.block c.seal_block-sealed.ensures.is_sealing
+returns-clause-current c = sealed_current c.seal_block-sealed.result c.args.self.now.position c.args.self.now.func.now c.args.self.now.ctx.now c.seal_block-sealed.new.func c.seal_block-sealed.new.self (λ b. b == c.args.block) c.seal_block-sealed.ensures.is_sealing
 
 pub seal_block-sealed-requires : goal.seal_block-sealed-requires
 seal_block-sealed-requires c = record { named = opened _ _ c.args.self.now.named }
@@ -33,4 +34,4 @@ returns-clause-edges_match c = λ signature calls stands none_waits typed. stand
 
 pub returns-clause-remembers : goal.returns-clause-remembers
 returns-clause-remembers c = λ x b.
-    remembers_sealed c.seal_block-sealed.result x b c.args.self.now.func.now c.seal_block-sealed.new.func c.args.self.now.ctx.now c.seal_block-sealed.new.self c.args.block c.seal_block-sealed.ensures.is_sealing
+    remembers_sealed c.seal_block-sealed.result x b c.args.self.now.func.now c.seal_block-sealed.new.func c.args.self.now.ctx.now c.seal_block-sealed.new.self (λ b. b == c.args.block) c.seal_block-sealed.ensures.is_sealing

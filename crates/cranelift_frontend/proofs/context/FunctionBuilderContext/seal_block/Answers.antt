@@ -1,4 +1,5 @@
-use Rattle.std.proofs.Common.{List, ℕ, sym, ap, subst}
+use Rattle.std.proofs.Common.{List, ℕ, refl, sym, ap, subst}
+use Rattle.std.proofs.lemmas.Bool.{eq-eqb}
 use Rattle.clif_ssa.specs.Ssa.{SsaState, RecordsStay}
 use Rattle.cranelift_frontend.specs.Context.{ContextState}
 use Rattle.cranelift_frontend.specs.Construction.{IsSealing}
@@ -13,7 +14,7 @@ returns-clause-is_sealing c =
     let sealing : IsSealing c.args.func.now c.self.inside.ssa c.seal_block.new.func c.seal_block.new.self c.args.block told = record {
       constructs = done.constructs;
       tells = done.tells;
-      within = done.within;
+      within = λ holds branches waiting. done.within holds branches (waiting c.args.block (eq-eqb c.args.block c.args.block refl));
       predecessors = done.predecessors;
       sealed = done.sealed;
       stay = done.stay;

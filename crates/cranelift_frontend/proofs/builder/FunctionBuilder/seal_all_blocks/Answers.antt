@@ -1,0 +1,43 @@
+use Rattle.std.specs.Prelude.{ltb, length}
+use Rattle.cranelift_frontend.proofs.Remembered.{remembers_sealed}
+use Rattle.cranelift_frontend.proofs.SealingAll.{all_sealed, sealed_all, sealed_all_stands}
+use Rattle.cranelift_frontend.proofs.Finishing.{sealed_edges}
+use Rattle.cranelift_frontend.proofs.Growing.{sealed_current, sealed_grows}
+use Rattle.cranelift_frontend.proofs.Named.{opened}
+use Rattle.cranelift_frontend.proofs.builder.FunctionBuilder.seal_all_blocks.Goals as goal
+
+pub seal_all_blocks-sealed-requires : goal.seal_all_blocks-sealed-requires
+seal_all_blocks-sealed-requires c = record { named = opened _ _ c.args.self.now.named }
+
+pub returns-clause-ledger : goal.returns-clause-ledger
+returns-clause-ledger c = λ calls agrees.
+    sealed_all calls _ _ _ _ _ _ agrees c.seal_all_blocks-sealed.ensures.is_sealing c.law_consistent-2.ensures c.seal_all_blocks-sealed.ensures.variables
+
+pub returns-clause-stands : goal.returns-clause-stands
+returns-clause-stands c = λ signature calls stands.
+    sealed_all_stands signature calls _ _ _ _ _ _ stands c.law_consistent.ensures c.seal_all_blocks-sealed.ensures.is_sealing c.law_consistent-2.ensures
+    (returns-clause-ledger c calls stands.ledger)
+
+pub returns-clause-sealed : goal.returns-clause-sealed
+returns-clause-sealed c =
+    all_sealed c.args.self.now.func.now c.seal_all_blocks-sealed.new.func c.args.self.now.ctx.now c.seal_all_blocks-sealed.new.self c.seal_all_blocks-sealed.result
+    c.seal_all_blocks-sealed.ensures.is_sealing
+
+pub returns-clause-edges_match : goal.returns-clause-edges_match
+returns-clause-edges_match c = λ signature calls stands typed.
+    sealed_edges signature calls _ _ _ stands c.law_consistent-2.ensures c.seal_all_blocks-sealed.result (returns-clause-sealed c) typed
+
+pub returns-clause-grows : goal.returns-clause-grows
+returns-clause-grows c =
+    sealed_grows c.seal_all_blocks-sealed.result c.args.self.now.func.now c.args.self.now.ctx.now c.seal_all_blocks-sealed.new.func c.seal_all_blocks-sealed.new.self
+    (λ b. ltb b (length c.args.self.now.func.now.blocks)) c.seal_all_blocks-sealed.ensures.is_sealing
+
+pub returns-clause-current : goal.returns-clause-current
+returns-clause-current c =
+    sealed_current c.seal_all_blocks-sealed.result c.args.self.now.position c.args.self.now.func.now c.args.self.now.ctx.now c.seal_all_blocks-sealed.new.func c.seal_all_blocks-sealed.new.self
+    (λ b. ltb b (length c.args.self.now.func.now.blocks)) c.seal_all_blocks-sealed.ensures.is_sealing
+
+pub returns-clause-remembers : goal.returns-clause-remembers
+returns-clause-remembers c = λ x b.
+    remembers_sealed c.seal_all_blocks-sealed.result x b c.args.self.now.func.now c.seal_all_blocks-sealed.new.func c.args.self.now.ctx.now c.seal_all_blocks-sealed.new.self
+    (λ b. ltb b (length c.args.self.now.func.now.blocks)) c.seal_all_blocks-sealed.ensures.is_sealing

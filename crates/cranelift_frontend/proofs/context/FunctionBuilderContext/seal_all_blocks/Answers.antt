@@ -1,0 +1,58 @@
+use Rattle.std.proofs.Common.{◌≡◌, ◌<◌, ◌≤◌, Bool, true, if◌then◌else◌, List, ℕ, length, sym, ap, subst, ◌∙◌, arith, ◌⊎◌, inl, inr}
+use Rattle.std.specs.Prelude.{ltb}
+use Rattle.std.proofs.lemmas.Bool.{le-ltb, lt-ltb, ltb-true}
+use Rattle.clif_ssa.specs.Ssa.{SsaState, RecordsStay, sealed_of}
+use Rattle.clif_ssa.specs.Tables.{is_yes}
+use Rattle.clif_ssa.specs.Sealing.{SealsBelow}
+use Rattle.clif_ir.specs.Body.{Body}
+use Rattle.cranelift_frontend.specs.Context.{ContextState}
+use Rattle.cranelift_frontend.specs.Construction.{IsSealingAll}
+use Rattle.cranelift_frontend.proofs.Growing.{on_ok_step}
+use Rattle.cranelift_frontend.proofs.Statuses.{begins_from}
+use Rattle.cranelift_frontend.proofs.LedgerLists.{if-no, if-yes}
+use Rattle.cranelift_frontend.proofs.context.FunctionBuilderContext.seal_all_blocks.Goals as goal
+
+order : (n k : ℕ) → (n ≤ k) ⊎ (k < n)
+order n k = grind arith
+
+pub returns-clause-is_sealing : goal.returns-clause-is_sealing
+returns-clause-is_sealing c =
+    let done = c.in_ok-side_effects.ensures in
+    let told : List ℕ = c.in_ok-side_effects.side_effects.instructions_added_to_blocks.items in
+    let sealing : IsSealingAll c.args.func.now c.self.inside.ssa c.seal_all_blocks.new.func c.seal_all_blocks.new.self told = record {
+      constructs = done.constructs;
+      tells = done.tells;
+      within = λ holds branches waiting. done.within holds branches (λ b below. waiting b (lt-ltb b (length c.args.func.now.blocks) below));
+      predecessors = done.predecessors;
+      sealed = λ b.
+          elim (order (length c.args.func.now.blocks) b) [
+            | inl past ↦ done.others b past ∙ sym (if-no (ltb b (length c.args.func.now.blocks)) true (is_yes (sealed_of c.self.inside.ssa b)) (le-ltb b (length c.args.func.now.blocks) past))
+            | inr below ↦ done.sealed b below ∙ sym (if-yes (ltb b (length c.args.func.now.blocks)) true (is_yes (sealed_of c.self.inside.ssa b)) (lt-ltb b (length c.args.func.now.blocks) below))
+          ];
+      stay = done.stay;
+      remembers = done.remembers;
+      structured = done.structured;
+      keeps = done.keeps;
+    } in
+    on_ok_step c.begin_all.result _ _ (λ begins. (
+      told,
+      subst (λ (v : ContextState). IsSealingAll c.args.func.now v.ssa c.seal_all_blocks.new.func c.begin_all.new.self.ssa told) c.self.view_is
+          (subst (λ (t : SsaState). IsSealingAll c.args.func.now c.self.inside.ssa c.seal_all_blocks.new.func t told) (sym c.begin_all.ensures.ssa) sealing),
+      begins_from c.args.self.now (record { ssa = c.seal_all_blocks.new.self; status = c.self.inside.status; variables = c.self.inside.variables.items }) c.begin_all.new.self c.as_slice.result.now told
+          (ap (λ (v : ContextState). v.status) c.self.view_is) c.as_slice.ensures.value begins,
+    )) c.begin_all.ensures.status
+
+pub returns-clause-stay : goal.returns-clause-stay
+returns-clause-stay c =
+    subst (λ (v : ContextState). RecordsStay v.ssa c.begin_all.new.self.ssa) c.self.view_is
+    (subst (RecordsStay c.self.inside.ssa) (sym c.begin_all.ensures.ssa) c.seal_all_blocks.ensures.stay)
+
+pub returns-clause-in_turn : goal.returns-clause-in_turn
+returns-clause-in_turn c =
+    let told : List ℕ = c.in_ok-side_effects.side_effects.instructions_added_to_blocks.items in
+    let below : SealsBelow c.args.func.now c.self.inside.ssa (length c.args.func.now.blocks) c.seal_all_blocks.new.func c.seal_all_blocks.new.self told = c.in_ok-side_effects.ensures.in_turn in
+    on_ok_step c.begin_all.result _ _ (λ begins. (
+      told,
+      subst (λ (v : ContextState). SealsBelow c.args.func.now v.ssa (length c.args.func.now.blocks) c.seal_all_blocks.new.func c.begin_all.new.self.ssa told) c.self.view_is
+          (subst (λ (t : SsaState). SealsBelow c.args.func.now c.self.inside.ssa (length c.args.func.now.blocks) c.seal_all_blocks.new.func t told) (sym c.begin_all.ensures.ssa) below),
+    )) c.begin_all.ensures.status
