@@ -40,13 +40,13 @@ of_none : {X : Type 0} (P : X → Type 0) (xs : List X) → xs ≡ [] → AllByR
 of_none P xs none = subst (λ (ys : List _). AllByRecursion P ys) (sym none) tt
 
 -- so far no item touches memory
-spares : (run : ScriptRun) (state : ScriptState) (item : Item) → SparesSpillSlots run state item
+pub spares : (run : ScriptRun) (state : ScriptState) (item : Item) → SparesSpillSlots run state item
 spares run state (Instruct place instruction results) = of_none _ _ (none_touched run.world instruction.operation _ _)
 spares run state (Use variable name) = tt
 spares run state (Assign variable name) = tt
 
 -- and none claims anything
-claims : (run : ScriptRun) (state : ScriptState) (item : Item) → ClaimsAreTrue run state item
+pub claims : (run : ScriptRun) (state : ScriptState) (item : Item) → ClaimsAreTrue run state item
 claims run state (Instruct place instruction results) = of_none _ _ (none_claimed run.world instruction.operation _ _)
 claims run state (Use variable name) = tt
 claims run state (Assign variable name) = tt
@@ -58,7 +58,7 @@ next_item P each (HasReturned results) = tt
 next_item P each (HasTrapped reason) = tt
 next_item P each IsStuck = tt
 
-each_step : (P : ScriptState → Item → Type 0) (run : ScriptRun) → ((state : ScriptState) (item : Item) → P state item) → InEachStep P run
+pub each_step : (P : ScriptState → Item → Type 0) (run : ScriptRun) → ((state : ScriptState) (item : Item) → P state item) → InEachStep P run
 each_step P run each n = next_item _ (each (state_after (script_machine run) n)) (state_after (script_machine run) n).control
 
 -- beside any function
@@ -132,7 +132,7 @@ first_same world fits premises = record {
 }
 
 -- of no slots nothing is asked
-no_slots : (world : World) → PlacesSlots world [] 64
+pub no_slots : (world : World) → PlacesSlots world [] 64
 no_slots world = record {
   aligned = λ s slot h. cc;
   accessible = λ s slot k h below. cc;

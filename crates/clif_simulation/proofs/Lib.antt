@@ -81,6 +81,7 @@ mod LoopArgument
 mod LoopRow
 mod LoopConsistent
 mod LoopAlong
+mod LoopPremises
 mod LoopWaiting
 -- Further calls, and parameters of the caller's.
 pub mod Further

@@ -137,7 +137,7 @@ well_typed = record {
   entry = refl;
 }
 
-premises : PremisesSoFar loop_calls both_arms_signature
+pub premises : PremisesSoFar loop_calls both_arms_signature
 premises = record { well_typed = well_typed; given_before = well_placed }
 
 fits : IsWorldOf both_arms_signature (view_of loop_body) U64 SampleWorld.sample_world

@@ -1,5 +1,7 @@
 -- A worked example of a function that carries calls: the row `both_arms`, whose loop has both arms of one branch. Own.
 use Rattle.std.specs.Prelude.{◌≡◌, ℕ, ◌<◌, length, false, List, [], ◌∷◌, Some, ℤ, pos, negsuc}
+use Rattle.clif_types.specs.declared.target.PointerWidth.TheVariants.{U64}
+use Rattle.clif_types.specs.Target.{pointer_type_of}
 use Rattle.clif_types.specs.declared.extname.UserFuncName.TheVariants.{Testcase}
 use Rattle.clif_ir.specs.declared.block_call.BlockArg.{BlockArg}
 use Rattle.clif_ir.specs.declared.block_call.BlockArg.TheVariants.{Value}
@@ -18,7 +20,11 @@ use Rattle.clif_meaning.specs.Request.{CreateBlock, SwitchToBlock, SealBlock, De
 use Rattle.clif_meaning.specs.Acceptance.{iconst, jump, return_}
 use Rattle.clif_meaning.specs.FunctionView.{FunctionView}
 use Rattle.clif_meaning.specs.View.{view_of}
-use Rattle.clif_meaning.specs.Examples.{i32}
+use Rattle.clif_meaning.specs.Event.{CallShape, Event}
+use Rattle.clif_meaning.specs.World.{World}
+use Rattle.clif_meaning.specs.Premises.{Premises}
+use Rattle.clif_meaning.specs.Headline.{IsWorldOf, script_run}
+use Rattle.clif_meaning.specs.Examples.{i32, moved_by_16}
 use Rattle.clif_meaning.specs.BranchExamples.{block, branch, plain, both_arms_script, both_arms_signature, both_arms_function}
 use Rattle.clif_simulation.specs.Carries.{Carries}
 use Rattle.clif_simulation.specs.Laws.{IsFinished}
@@ -145,3 +151,9 @@ pub record CarryingExamples : Type 0 where
   pub one_argument : Carries loop_calls (loop_body_with (pos 5) 0 to_two_or_three (edge_to 1 (Value 3 ∷ []) ∷ edge_to 1 [] ∷ [])) loop_state → ⊥
   -- while block1 is unsealed, nothing is finished
   pub unsealed : IsFinished loop_calls loop_body (loop_state_with (No [])) → ⊥
+
+-- There is a world in which the row's function can run, with a collector that moves, and every world meets the premises for
+-- the row.
+pub record LoopMeetsPremises : Type 0 where
+  pub a_world : (world : World) × IsWorldOf both_arms_signature both_arms_function U64 world × ((events : List Event) (call : CallShape) → world.moved events call ≡ moved_by_16)
+  pub premises : (world : World) → Premises both_arms_script both_arms_signature (pointer_type_of U64) (script_run both_arms_script both_arms_function world)
