@@ -108,6 +108,9 @@ alone-straight ledger call.CreateBlock straight alone = λ k state at.
     ]
 alone-straight ledger (call.SwitchToBlock block) straight alone = alone
 alone-straight ledger (call.SealBlock block) straight alone = alone-state ledger _ (λ (state : BlockState). record state { is_sealed = true }) (λ state. refl) alone
+alone-straight ledger (call.InsertBlockAfter block after) straight alone = alone
+alone-straight ledger (call.SetColdBlock block) straight alone = alone
+alone-straight ledger call.EnsureInsertedBlock straight alone = alone-begun ledger ledger.current alone
 alone-straight ledger (call.DeclareVar ty) straight alone = alone
 alone-straight ledger (call.DefVar variable value) straight alone = alone
 alone-straight ledger (call.UseVar variable) straight alone = alone-begun ledger ledger.current alone

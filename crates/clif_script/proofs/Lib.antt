@@ -3,3 +3,4 @@ pub mod Leading
 pub mod ReadyLaws
 pub mod Conditions
 pub mod Verdicts
+pub mod Placements

@@ -1,5 +1,5 @@
 -- What each call takes of the tables, and how long a script that fills one is.
-use Rattle.std.proofs.Common.{◌≡◌, ◌≢◌, ℕ, ◌+◌, ◌*◌, ◌-◌, ◌^◌, ◌<◌, ◌≤◌, ◌==◌, List, [], ◌∷◌, ◌++◌, length, refl, ap, arith, sym, ◌∙◌, subst, ◌⊎◌, inl, inr, get_or}
+use Rattle.std.proofs.Common.{◌≡◌, ◌≢◌, ℕ, ◌+◌, ◌*◌, ◌-◌, ◌^◌, ◌<◌, ◌≤◌, ◌==◌, List, [], ◌∷◌, ◌++◌, length, refl, ap, arith, sym, ◌∙◌, subst, ◌⊎◌, inl, inr, get_or, length-set}
 use Rattle.std.specs.Prelude.{slice_get, Option, Some, None, IfSome, IfOk, OnOk, Result, Ok, Err, Bool, true, false, if◌then◌else◌}
 use Rattle.std.proofs.Math.Nat.{mul-add, add-mul, mul_comm, mul-le-mul}
 use Rattle.std.proofs.Math.Nat.{mul-add, add-mul, mul_comm, mul-le-mul}
@@ -12,7 +12,7 @@ use Rattle.clif_types.specs.declared.error.BuildError.TheVariants as build
 use Rattle.clif_ir.specs.declared.inst_list.BlockEnd.TheVariants.{Back}
 use Rattle.clif_ir.specs.declared.instructions.InstructionData.{InstructionData}
 use Rattle.clif_ir.specs.Body.{Body}
-use Rattle.clif_ir.specs.Changes.{inserted_in, with_block, with_inst, with_layout}
+use Rattle.clif_ir.specs.Changes.{inserted_in, with_block, with_cold, with_inst, with_layout, with_layout_after}
 use Rattle.clif_ir.specs.Instruction.{has_result, result_types}
 use Rattle.clif_ir.specs.Reading.{stands_in}
 use Rattle.clif_ssa.specs.declared.tables.SsaBlock.{SsaBlock}
@@ -25,7 +25,7 @@ use Rattle.clif_simulation.specs.Carries.{DeclaredAlong}
 use Rattle.cranelift_frontend.specs.declared.builder.FunctionBuilder.{FunctionBuilder}
 use Rattle.cranelift_frontend.specs.Builder.{Appends, AppendsValue, HasCurrent, with_appended}
 use Rattle.cranelift_frontend.specs.Construction.{IsDeclared, IsUse}
-use Rattle.cranelift_frontend.specs.Context.{Begins}
+use Rattle.cranelift_frontend.specs.Context.{Begins, ContextState}
 use Rattle.cranelift_frontend.specs.Growth.{Grows, KeepsRecordsBelow}
 use Rattle.cranelift_frontend.specs.StandsFor.{NothingLeads}
 use Rattle.clif_script.specs.declared.script.CallError.{CallError}
@@ -150,6 +150,40 @@ one-created old new function records sealed leads variables =
     let takes : Takes f (with_block f) 1 1 = takes-less f (with_block f) 0 0 1 1 (omega arith) (omega arith) (Takes-same f (with_block f) refl refl) in
     one-plain old new (subst (λ (g : Body). Takes f g 1 1) (sym function) takes) (records, sealed, leads)
     (omega (arith, blocks, more)) (omega (arith, count)) (omega (arith, blocks, more, count)) (ap (λ (g : Body). g.name) function)
+
+-- a call that marks a block or places it
+pub one-placed : (old new : FunctionBuilder) (g : Body) → new.func.now ≡ g → Takes old.func.now g 0 0 → length g.blocks ≡ length old.func.now.blocks
+    → g.name ≡ old.func.now.name → new.ctx.now.ssa ≡ old.ctx.now.ssa → new.ctx.now.variables ≡ old.ctx.now.variables → IsOneCall old new
+one-placed old new g function takes many name same variables =
+    let blocks : length new.func.now.blocks ≡ length old.func.now.blocks = ap (λ (h : Body). length h.blocks) function ∙ many in
+    let count : length new.ctx.now.variables ≡ length old.ctx.now.variables = ap (λ xs. length xs) variables in
+    one-plain old new (subst (λ (h : Body). Takes old.func.now h 1 1) (sym function) (takes-less old.func.now g 0 0 1 1 (omega arith) (omega arith) takes))
+    (keeps-same old.ctx.now.ssa new.ctx.now.ssa same) (omega (arith, blocks)) (omega (arith, count)) (omega (arith, blocks, count))
+    (ap (λ (h : Body). h.name) function ∙ name)
+
+pub one-laid : (old new : FunctionBuilder) (block after : ℕ) → new.func.now ≡ with_layout_after old.func.now block after → new.ctx.now ≡ old.ctx.now → IsOneCall old new
+one-laid old new block after function context =
+    one-placed old new (with_layout_after old.func.now block after) function (Takes-same old.func.now (with_layout_after old.func.now block after) refl refl) refl refl
+    (ap (λ (c : ContextState). c.ssa) context) (ap (λ (c : ContextState). c.variables) context)
+
+pub one-cold : (old new : FunctionBuilder) (block : ℕ) → new.func.now ≡ with_cold old.func.now block → new.ctx.now ≡ old.ctx.now → IsOneCall old new
+one-cold old new block function context =
+    one-placed old new (with_cold old.func.now block) function (Takes-same old.func.now (with_cold old.func.now block) refl refl) (length-set old.func.now.blocks block _) refl
+    (ap (λ (c : ContextState). c.ssa) context) (ap (λ (c : ContextState). c.variables) context)
+
+-- the current block is brought into the layout
+pub one-ensured : (old new : FunctionBuilder) → HasCurrent old → IfSome old.position (λ block. new.func.now ≡ inserted_in old.func.now block)
+    → new.ctx.now.ssa ≡ old.ctx.now.ssa → new.ctx.now.variables ≡ old.ctx.now.variables → IsOneCall old new
+one-ensured old new current inserted same variables =
+    let here : new.func.now ≡ inserted_in old.func.now current.0 = subst (λ (o : Option ℕ). IfSome o (λ block. new.func.now ≡ inserted_in old.func.now block)) current.1 inserted in
+    one-placed old new (inserted_in old.func.now current.0) here (Takes-inserted old.func.now current.0) (blocks-inserted old.func.now current.0) (name_inserted old.func.now current.0) same variables
+  where
+    name_inserted : (f : Body) (b : ℕ) → (inserted_in f b).name ≡ f.name
+    name_inserted f b = by (stands_in b f.layout)
+      where
+        by : (test : Bool) → (if test then f else with_layout f b).name ≡ f.name
+        by true = refl
+        by false = refl
 
 pub one-defined : (old new : FunctionBuilder) (variable block value : ℕ) → new.func.now ≡ old.func.now → Records old.ctx.now.ssa new.ctx.now.ssa variable block value
     → SameBlocks old.ctx.now.ssa new.ctx.now.ssa → SamePredecessors old.ctx.now.ssa new.ctx.now.ssa → new.ctx.now.variables ≡ old.ctx.now.variables

@@ -29,6 +29,9 @@ no-refusal : (ledger : Ledger) (c : Call) → refusal_of ledger (request_of ledg
 no-refusal ledger call.CreateBlock = refl
 no-refusal ledger (call.SwitchToBlock block) = refl
 no-refusal ledger (call.SealBlock block) = refl
+no-refusal ledger (call.InsertBlockAfter block after) = refl
+no-refusal ledger (call.SetColdBlock block) = refl
+no-refusal ledger call.EnsureInsertedBlock = refl
 no-refusal ledger (call.DeclareVar ty) = refl
 no-refusal ledger (call.DefVar variable value) = refl
 no-refusal ledger (call.UseVar variable) = refl

@@ -5,7 +5,7 @@ use Rattle.std.specs.List.{list_all}
 use Rattle.clif_types.specs.declared.types.«Type».{«Type»}
 use Rattle.clif_types.specs.Types.{is_int}
 use Rattle.clif_ir.specs.Body.{Body, inst_at, value_at, resolved}
-use Rattle.clif_ir.specs.Reading.{def_of}
+use Rattle.clif_ir.specs.Reading.{def_of, stands_in}
 use Rattle.clif_ir.specs.declared.block_call.BlockArg.{BlockArg}
 use Rattle.clif_ir.specs.declared.block_call.BlockArg.TheVariants.{Value}
 use Rattle.clif_ir.specs.declared.function.ValueDef.{ValueDef}
@@ -124,6 +124,10 @@ can_switch b block = not (is_filled_status (status_of b.ctx.now block)) && is_fr
 abbrev pub can_seal : FunctionBuilder → ℕ → Bool
 can_seal b block = not (is_yes (sealed_of b.ctx.now.ssa block))
 
+-- a block may be put behind another one: it isn't in the layout, and the other one is
+abbrev pub can_insert : FunctionBuilder → ℕ → ℕ → Bool
+can_insert b block after = not (stands_in block b.func.now.layout) && stands_in after b.func.now.layout
+
 -- a value may be assigned to a variable of this type
 abbrev pub can_define : FunctionBuilder → «Type» → ℕ → Bool
 can_define b ty value = is_open b && same_type ty (value_at b.func.now value).ty
@@ -163,6 +167,9 @@ types_after (call.DeclareVar ty) types = types ++ ty ∷ []
 types_after call.CreateBlock types = types
 types_after (call.SwitchToBlock block) types = types
 types_after (call.SealBlock block) types = types
+types_after (call.InsertBlockAfter block after) types = types
+types_after (call.SetColdBlock block) types = types
+types_after call.EnsureInsertedBlock types = types
 types_after (call.DefVar variable value) types = types
 types_after (call.UseVar variable) types = types
 types_after (call.Iconst ty imm) types = types

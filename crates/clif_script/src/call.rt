@@ -41,6 +41,18 @@ pub enum Call {
     SealBlock {
         block: Name,
     },
+    /// `insert_block_after(block, after)`: answers nothing. The first block isn't in the layout, and the
+    /// second one is.
+    InsertBlockAfter {
+        block: Name,
+        after: Name,
+    },
+    /// `set_cold_block(block)`: answers nothing. It has no condition but that the name leads to a block.
+    SetColdBlock {
+        block: Name,
+    },
+    /// `ensure_inserted_block()`: answers nothing. There is a current block that isn't filled.
+    EnsureInsertedBlock,
     /// `declare_var(ty)`: answers the variable, which is numbered from 0 on. So far the type is one of I8
     /// to I64.
     DeclareVar {

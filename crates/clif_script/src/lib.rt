@@ -3,6 +3,7 @@
 
 mod call;
 mod make;
+mod make_blocks;
 mod rows;
 mod script;
 #[cfg(test)]

@@ -1,6 +1,6 @@
 //! The calls of a script, each made on a builder if its condition holds.
 ghost use Rattle.std.specs.Prelude.{◌≡◌, ◌≢◌, ◌<◌, ◌++◌, ◌∷◌, [], List, map, OnOk, OnErr, IfOk, IfSome, length, slice_get, slice_index, slice_index_or, EachIndex, Some, Err, IsTrue, ◌↔◌, false, is_err};
-ghost use Rattle.cranelift_frontend.specs.Builder.{SameLoans, AppendsValue, CanLead, HasCurrent, is_declarable, is_free};
+ghost use Rattle.cranelift_frontend.specs.Builder.{SameLoans, AppendsValue, CanLead, HasCurrent, is_declarable};
 ghost use Rattle.clif_types.specs.Signature.{SignatureShape};
 ghost use Rattle.cranelift_frontend.specs.Ledger.{NamesEdge, NamesValue, ledger_of};
 ghost use Rattle.cranelift_frontend.specs.StandsFor.{StandsFor};
@@ -8,13 +8,17 @@ ghost use Rattle.clif_types.specs.Types.{is_int};
 ghost use Rattle.clif_ir.specs.Body.{value_at};
 ghost use Rattle.clif_meaning.specs.Name as meaning;
 ghost use Rattle.clif_meaning.specs.Instruction as instruction;
-ghost use Rattle.clif_meaning.specs.Request.{AnsweredCall, number_of, CreateBlock, SwitchToBlock, SealBlock, DeclareVar, DefVar, UseVar};
+ghost use Rattle.clif_meaning.specs.Request.{AnsweredCall, number_of, DeclareVar, DefVar, UseVar};
 ghost use Rattle.clif_meaning.specs.Acceptance.{allows, iconst, iadd, isub, jump, brif, return_};
 ghost use Rattle.clif_script.specs.Limits.{IsOneCall, IsNearlyFull};
 ghost use Rattle.clif_script.specs.Requests.{edge_of, name_of, request_of};
-ghost use Rattle.clif_script.specs.Ready.{IsReady, IsReadyNow, IsReadyWith, IsReadyAfter, IsFound, IsJudged, AnswerExists, may_lead, block_of, value_of, all_values, instruction_answer, is_open, can_switch, can_seal, can_define, can_use, can_make_constant, types_after};
+ghost use Rattle.clif_script.specs.Ready.{IsReady, IsReadyNow, IsReadyWith, IsReadyAfter, IsFound, IsJudged, AnswerExists, may_lead, block_of, value_of, all_values, instruction_answer, is_open, can_define, can_use, can_make_constant, types_after};
 
 use crate::call::{Call, Edge, Name};
+use crate::make_blocks::{
+    create_block, ensure_inserted_block, insert_block_after, may_seal, seal_block, set_cold_block,
+    switch_to_block,
+};
 use crate::script::{Answer, CallError};
 use clif_ir::{BinaryOpcode, BlockArg, Function, InstructionData, ValueDef};
 use clif_ssa::Variable;
@@ -45,6 +49,11 @@ pub(crate) fn make_call(
         Call::CreateBlock => create_block(builder, answers),
         Call::SwitchToBlock { block } => switch_to_block(builder, answers, *block),
         Call::SealBlock { block } => seal_block(builder, answers, *block),
+        Call::InsertBlockAfter { block, after } => {
+            insert_block_after(builder, answers, *block, *after)
+        }
+        Call::SetColdBlock { block } => set_cold_block(builder, answers, *block),
+        Call::EnsureInsertedBlock => ensure_inserted_block(builder, answers),
         Call::DeclareVar { ty } => declare_var(builder, answers, *ty),
         Call::DefVar { variable, value } => def_var(builder, answers, types, *variable, *value),
         Call::UseVar { variable } => use_var(builder, answers, types, *variable),
@@ -62,7 +71,7 @@ pub(crate) fn make_call(
 }
 
 // The block that a name leads to.
-fn block_named(answers: &[Answer], name: Name) -> Option<Block>
+pub(crate) fn block_named(answers: &[Answer], name: Name) -> Option<Block>
     ensures { result ≡ block_of answers.now name }
 {
     match answers.get(name.place) {
@@ -83,103 +92,6 @@ fn value_named(func: &Function, answers: &[Answer], name: Name) -> Option<Value>
         }
         _ => None,
     }
-}
-
-// `create_block()`.
-fn create_block(builder: &mut FunctionBuilder<'_>, answers: &[Answer]) -> Result<Answer, CallError>
-    requires ready { IsReadyNow builder.old answers.now }
-    requires sound { builder.old.failed ≡ false }
-    ensures loans { SameLoans builder.old builder.new }
-    ensures ready { (declared : SignatureShape) (calls : List AnsweredCall) → IsReady declared calls builder.old answers.now → IfOk result (IsReadyAfter declared calls CreateBlock builder.new answers.now) }
-    ensures judged { (calls : List AnsweredCall) → IsReadyWith calls builder.old answers.now → IsJudged (allows (ledger_of calls) CreateBlock) result }
-    ensures sound { OnOk result (builder.new.failed ≡ false) }
-    ensures never_refused { result ≢ Err CallError.Refused }
-    ensures one_call { OnOk result (IsOneCall builder.old builder.new) }
-    ensures full { result ≡ Err CallError.Full → IsNearlyFull builder.old }
-    ensures variables { builder.new.ctx.now.variables ≡ builder.old.ctx.now.variables }
-{
-    let block = builder.create_block()?;
-    Ok(Answer::Block(block))
-}
-
-// `switch_to_block(block)`, where the current block may be left and the block isn't filled.
-fn switch_to_block(
-    builder: &mut FunctionBuilder<'_>,
-    answers: &[Answer],
-    name: Name,
-) -> Result<Answer, CallError>
-    requires ready { IsReadyNow builder.old answers.now }
-    requires sound { builder.old.failed ≡ false }
-    ensures loans { SameLoans builder.old builder.new }
-    ensures ready { (declared : SignatureShape) (calls : List AnsweredCall) → IsReady declared calls builder.old answers.now → IfOk result (IsReadyAfter declared calls (SwitchToBlock (name_of name)) builder.new answers.now) }
-    ensures judged { (calls : List AnsweredCall) → IsReadyWith calls builder.old answers.now → IsJudged (allows (ledger_of calls) (SwitchToBlock (name_of name))) result }
-    ensures sound { OnOk result (builder.new.failed ≡ false) }
-    ensures never_refused { result ≢ Err CallError.Refused }
-    ensures one_call { OnOk result (IsOneCall builder.old builder.new) }
-    ensures full { result ≡ Err CallError.Full → IsNearlyFull builder.old }
-    ensures variables { builder.new.ctx.now.variables ≡ builder.old.ctx.now.variables }
-{
-    let Some(block) = block_named(answers, name) else {
-        return Err(CallError::Misuse);
-    };
-    if !may_switch(builder, block) {
-        return Err(CallError::Misuse);
-    }
-    builder.switch_to_block(block);
-    Ok(Answer::Nothing)
-}
-
-// Whether a block isn't filled, and the current block may be left.
-fn may_switch(builder: &FunctionBuilder<'_>, block: Block) -> bool
-    ensures { result ≡ can_switch builder.now block }
-{
-    !builder.is_filled(block) && may_leave(builder)
-}
-
-// Whether the current block is absent, pristine, filled or unreachable.
-fn may_leave(builder: &FunctionBuilder<'_>) -> bool
-    ensures { result ≡ is_free builder.now }
-{
-    match builder.current_block() {
-        None => true,
-        Some(block) => {
-            builder.is_pristine(block) || builder.is_filled(block) || builder.is_unreachable()
-        }
-    }
-}
-
-// Whether a block isn't sealed.
-fn may_seal(builder: &FunctionBuilder<'_>, block: Block) -> bool
-    ensures { result ≡ can_seal builder.now block }
-{
-    !builder.is_sealed(block)
-}
-
-// `seal_block(block)`, where it isn't sealed.
-fn seal_block(
-    builder: &mut FunctionBuilder<'_>,
-    answers: &[Answer],
-    name: Name,
-) -> Result<Answer, CallError>
-    requires ready { IsReadyNow builder.old answers.now }
-    requires sound { builder.old.failed ≡ false }
-    ensures loans { SameLoans builder.old builder.new }
-    ensures ready { (declared : SignatureShape) (calls : List AnsweredCall) → IsReady declared calls builder.old answers.now → IfOk result (IsReadyAfter declared calls (SealBlock (name_of name)) builder.new answers.now) }
-    ensures judged { (calls : List AnsweredCall) → IsReadyWith calls builder.old answers.now → IsJudged (allows (ledger_of calls) (SealBlock (name_of name))) result }
-    ensures sound { OnOk result (builder.new.failed ≡ false) }
-    ensures never_refused { result ≢ Err CallError.Refused }
-    ensures one_call { OnOk result (IsOneCall builder.old builder.new) }
-    ensures full { result ≡ Err CallError.Full → IsNearlyFull builder.old }
-    ensures variables { builder.new.ctx.now.variables ≡ builder.old.ctx.now.variables }
-{
-    let Some(block) = block_named(answers, name) else {
-        return Err(CallError::Misuse);
-    };
-    if !may_seal(builder, block) {
-        return Err(CallError::Misuse);
-    }
-    builder.seal_block(block)?;
-    Ok(Answer::Nothing)
 }
 
 // `declare_var(ty)`, for a type that a variable may have so far.
@@ -217,7 +129,7 @@ fn is_declarable(ty: Type) -> bool
 }
 
 // Whether there is a current block to which no terminator was appended.
-fn has_current(builder: &FunctionBuilder<'_>) -> bool
+pub(crate) fn has_current(builder: &FunctionBuilder<'_>) -> bool
     ensures { result ≡ is_open builder.now }
 {
     match builder.current_block() {

@@ -28,6 +28,9 @@ pub enum Step {
     Create,
     Switch(usize, usize),
     Seal(usize, usize),
+    InsertAfter((usize, usize), (usize, usize)),
+    Cold(usize, usize),
+    Ensure,
     Declare(Type),
     Def(u8, usize, usize),
     Use(u8),
@@ -59,6 +62,14 @@ pub fn call_of(alloc: Global, step: Step) -> Result<Call, AllocError> {
         Step::Seal(place, answer) => Call::SealBlock {
             block: name(place, answer),
         },
+        Step::InsertAfter(block, after) => Call::InsertBlockAfter {
+            block: name(block.0, block.1),
+            after: name(after.0, after.1),
+        },
+        Step::Cold(place, answer) => Call::SetColdBlock {
+            block: name(place, answer),
+        },
+        Step::Ensure => Call::EnsureInsertedBlock,
         Step::Declare(ty) => Call::DeclareVar { ty },
         Step::Def(number, place, answer) => Call::DefVar {
             variable: variable(number),

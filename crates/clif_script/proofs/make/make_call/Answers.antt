@@ -24,6 +24,21 @@ returns-in-SealBlock-clause-judged c = λ calls given.
     let done = c.seal_block.ensures.judged calls given in
     subst (λ (x : Call). IsJudged (allows (ledger_of calls) (request_of (ledger_of calls) x)) c.seal_block.result) (sym c.in-SealBlock.is) done
 
+pub returns-in-InsertBlockAfter-clause-judged : goal.returns-in-InsertBlockAfter-clause-judged
+returns-in-InsertBlockAfter-clause-judged c = λ calls given.
+    let done = c.insert_block_after.ensures.judged calls given in
+    subst (λ (x : Call). IsJudged (allows (ledger_of calls) (request_of (ledger_of calls) x)) c.insert_block_after.result) (sym c.in-InsertBlockAfter.is) done
+
+pub returns-in-SetColdBlock-clause-judged : goal.returns-in-SetColdBlock-clause-judged
+returns-in-SetColdBlock-clause-judged c = λ calls given.
+    let done = c.set_cold_block.ensures.judged calls given in
+    subst (λ (x : Call). IsJudged (allows (ledger_of calls) (request_of (ledger_of calls) x)) c.set_cold_block.result) (sym c.in-SetColdBlock.is) done
+
+pub returns-in-EnsureInsertedBlock-clause-judged : goal.returns-in-EnsureInsertedBlock-clause-judged
+returns-in-EnsureInsertedBlock-clause-judged c = λ calls given.
+    let done = c.ensure_inserted_block.ensures.judged calls given in
+    subst (λ (x : Call). IsJudged (allows (ledger_of calls) (request_of (ledger_of calls) x)) c.ensure_inserted_block.result) (sym c.in-EnsureInsertedBlock.is) done
+
 pub returns-in-DeclareVar-clause-judged : goal.returns-in-DeclareVar-clause-judged
 returns-in-DeclareVar-clause-judged c = λ calls given.
     let done = c.declare_var.ensures.judged calls given in

@@ -5,7 +5,7 @@ use Rattle.clif_script.specs.declared.script.Answer.TheVariants as answer
 use Rattle.clif_script.proofs.ReadyLaws.{ready-more}
 use Rattle.clif_script.proofs.Leading.{leads-created}
 use Rattle.clif_script.proofs.Limits.{one-created}
-use Rattle.clif_script.proofs.make.create_block.Goals as goal
+use Rattle.clif_script.proofs.make_blocks.create_block.Goals as goal
 
 pub returns-clause-ready : goal.returns-clause-ready
 returns-clause-ready c = λ declared calls ready.

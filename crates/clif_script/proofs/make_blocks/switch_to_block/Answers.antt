@@ -5,7 +5,7 @@ use Rattle.clif_script.specs.declared.script.Answer.TheVariants as answer
 use Rattle.clif_script.specs.Requests.{name_of}
 use Rattle.clif_script.proofs.ReadyLaws.{ready-more, block-found, block-there}
 use Rattle.clif_script.proofs.Conditions
-use Rattle.clif_script.proofs.make.switch_to_block.Goals as goal
+use Rattle.clif_script.proofs.make_blocks.switch_to_block.Goals as goal
 
 pub returns-in_default-clause-judged : goal.returns-in_default-clause-judged
 returns-in_default-clause-judged c = λ calls given.

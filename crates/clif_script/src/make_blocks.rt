@@ -1,0 +1,204 @@
+//! The calls of a script that make, mark and place blocks, each made on a builder if its condition holds.
+ghost use Rattle.std.specs.Prelude.{◌≡◌, ◌≢◌, ◌<◌, List, OnOk, IfOk, Err, length, false};
+ghost use Rattle.cranelift_frontend.specs.Builder.{SameLoans, is_free};
+ghost use Rattle.clif_types.specs.Signature.{SignatureShape};
+ghost use Rattle.cranelift_frontend.specs.Ledger.{ledger_of};
+ghost use Rattle.clif_meaning.specs.Request.{AnsweredCall, CreateBlock, SwitchToBlock, SealBlock, InsertBlockAfter, SetColdBlock, EnsureInsertedBlock};
+ghost use Rattle.clif_meaning.specs.Acceptance.{allows};
+ghost use Rattle.clif_script.specs.Limits.{IsOneCall, IsNearlyFull};
+ghost use Rattle.clif_script.specs.Requests.{name_of};
+ghost use Rattle.clif_script.specs.Ready.{IsReady, IsReadyNow, IsReadyWith, IsReadyAfter, IsJudged, can_switch, can_seal, can_insert};
+
+use crate::call::Name;
+use crate::make::{block_named, has_current};
+use crate::script::{Answer, CallError};
+use clif_types::Block;
+use cranelift_frontend::FunctionBuilder;
+
+// `create_block()`.
+pub(crate) fn create_block(
+    builder: &mut FunctionBuilder<'_>,
+    answers: &[Answer],
+) -> Result<Answer, CallError>
+    requires ready { IsReadyNow builder.old answers.now }
+    requires sound { builder.old.failed ≡ false }
+    ensures loans { SameLoans builder.old builder.new }
+    ensures ready { (declared : SignatureShape) (calls : List AnsweredCall) → IsReady declared calls builder.old answers.now → IfOk result (IsReadyAfter declared calls CreateBlock builder.new answers.now) }
+    ensures judged { (calls : List AnsweredCall) → IsReadyWith calls builder.old answers.now → IsJudged (allows (ledger_of calls) CreateBlock) result }
+    ensures sound { OnOk result (builder.new.failed ≡ false) }
+    ensures never_refused { result ≢ Err CallError.Refused }
+    ensures one_call { OnOk result (IsOneCall builder.old builder.new) }
+    ensures full { result ≡ Err CallError.Full → IsNearlyFull builder.old }
+    ensures variables { builder.new.ctx.now.variables ≡ builder.old.ctx.now.variables }
+{
+    let block = builder.create_block()?;
+    Ok(Answer::Block(block))
+}
+
+// `switch_to_block(block)`, where the current block may be left and the block isn't filled.
+pub(crate) fn switch_to_block(
+    builder: &mut FunctionBuilder<'_>,
+    answers: &[Answer],
+    name: Name,
+) -> Result<Answer, CallError>
+    requires ready { IsReadyNow builder.old answers.now }
+    requires sound { builder.old.failed ≡ false }
+    ensures loans { SameLoans builder.old builder.new }
+    ensures ready { (declared : SignatureShape) (calls : List AnsweredCall) → IsReady declared calls builder.old answers.now → IfOk result (IsReadyAfter declared calls (SwitchToBlock (name_of name)) builder.new answers.now) }
+    ensures judged { (calls : List AnsweredCall) → IsReadyWith calls builder.old answers.now → IsJudged (allows (ledger_of calls) (SwitchToBlock (name_of name))) result }
+    ensures sound { OnOk result (builder.new.failed ≡ false) }
+    ensures never_refused { result ≢ Err CallError.Refused }
+    ensures one_call { OnOk result (IsOneCall builder.old builder.new) }
+    ensures full { result ≡ Err CallError.Full → IsNearlyFull builder.old }
+    ensures variables { builder.new.ctx.now.variables ≡ builder.old.ctx.now.variables }
+{
+    let Some(block) = block_named(answers, name) else {
+        return Err(CallError::Misuse);
+    };
+    if !may_switch(builder, block) {
+        return Err(CallError::Misuse);
+    }
+    builder.switch_to_block(block);
+    Ok(Answer::Nothing)
+}
+
+// Whether a block isn't filled, and the current block may be left.
+fn may_switch(builder: &FunctionBuilder<'_>, block: Block) -> bool
+    ensures { result ≡ can_switch builder.now block }
+{
+    !builder.is_filled(block) && may_leave(builder)
+}
+
+// Whether the current block is absent, pristine, filled or unreachable.
+fn may_leave(builder: &FunctionBuilder<'_>) -> bool
+    ensures { result ≡ is_free builder.now }
+{
+    match builder.current_block() {
+        None => true,
+        Some(block) => {
+            builder.is_pristine(block) || builder.is_filled(block) || builder.is_unreachable()
+        }
+    }
+}
+
+// Whether a block isn't sealed.
+pub(crate) fn may_seal(builder: &FunctionBuilder<'_>, block: Block) -> bool
+    ensures { result ≡ can_seal builder.now block }
+{
+    !builder.is_sealed(block)
+}
+
+// `seal_block(block)`, where it isn't sealed.
+pub(crate) fn seal_block(
+    builder: &mut FunctionBuilder<'_>,
+    answers: &[Answer],
+    name: Name,
+) -> Result<Answer, CallError>
+    requires ready { IsReadyNow builder.old answers.now }
+    requires sound { builder.old.failed ≡ false }
+    ensures loans { SameLoans builder.old builder.new }
+    ensures ready { (declared : SignatureShape) (calls : List AnsweredCall) → IsReady declared calls builder.old answers.now → IfOk result (IsReadyAfter declared calls (SealBlock (name_of name)) builder.new answers.now) }
+    ensures judged { (calls : List AnsweredCall) → IsReadyWith calls builder.old answers.now → IsJudged (allows (ledger_of calls) (SealBlock (name_of name))) result }
+    ensures sound { OnOk result (builder.new.failed ≡ false) }
+    ensures never_refused { result ≢ Err CallError.Refused }
+    ensures one_call { OnOk result (IsOneCall builder.old builder.new) }
+    ensures full { result ≡ Err CallError.Full → IsNearlyFull builder.old }
+    ensures variables { builder.new.ctx.now.variables ≡ builder.old.ctx.now.variables }
+{
+    let Some(block) = block_named(answers, name) else {
+        return Err(CallError::Misuse);
+    };
+    if !may_seal(builder, block) {
+        return Err(CallError::Misuse);
+    }
+    builder.seal_block(block)?;
+    Ok(Answer::Nothing)
+}
+
+// Whether a block isn't in the layout, and the other one is.
+fn may_insert(builder: &FunctionBuilder<'_>, block: Block, after: Block) -> bool
+    requires block { block < length builder.now.func.now.blocks }
+    requires after { after < length builder.now.func.now.blocks }
+    ensures { result ≡ can_insert builder.now block after }
+{
+    let func = builder.func();
+    !func.is_block_inserted(block) && func.is_block_inserted(after)
+}
+
+// `insert_block_after(block, after)`, where the first block isn't in the layout and the second one is.
+pub(crate) fn insert_block_after(
+    builder: &mut FunctionBuilder<'_>,
+    answers: &[Answer],
+    name: Name,
+    behind: Name,
+) -> Result<Answer, CallError>
+    requires ready { IsReadyNow builder.old answers.now }
+    requires sound { builder.old.failed ≡ false }
+    ensures loans { SameLoans builder.old builder.new }
+    ensures ready { (declared : SignatureShape) (calls : List AnsweredCall) → IsReady declared calls builder.old answers.now → IfOk result (IsReadyAfter declared calls (InsertBlockAfter (name_of name) (name_of behind)) builder.new answers.now) }
+    ensures judged { (calls : List AnsweredCall) → IsReadyWith calls builder.old answers.now → IsJudged (allows (ledger_of calls) (InsertBlockAfter (name_of name) (name_of behind))) result }
+    ensures sound { OnOk result (builder.new.failed ≡ false) }
+    ensures never_refused { result ≢ Err CallError.Refused }
+    ensures one_call { OnOk result (IsOneCall builder.old builder.new) }
+    ensures full { result ≡ Err CallError.Full → IsNearlyFull builder.old }
+    ensures variables { builder.new.ctx.now.variables ≡ builder.old.ctx.now.variables }
+{
+    let Some(block) = block_named(answers, name) else {
+        return Err(CallError::Misuse);
+    };
+    let Some(after) = block_named(answers, behind) else {
+        return Err(CallError::Misuse);
+    };
+    if !may_insert(builder, block, after) {
+        return Err(CallError::Misuse);
+    }
+    builder.insert_block_after(block, after);
+    Ok(Answer::Nothing)
+}
+
+// `set_cold_block(block)`.
+pub(crate) fn set_cold_block(
+    builder: &mut FunctionBuilder<'_>,
+    answers: &[Answer],
+    name: Name,
+) -> Result<Answer, CallError>
+    requires ready { IsReadyNow builder.old answers.now }
+    requires sound { builder.old.failed ≡ false }
+    ensures loans { SameLoans builder.old builder.new }
+    ensures ready { (declared : SignatureShape) (calls : List AnsweredCall) → IsReady declared calls builder.old answers.now → IfOk result (IsReadyAfter declared calls (SetColdBlock (name_of name)) builder.new answers.now) }
+    ensures judged { (calls : List AnsweredCall) → IsReadyWith calls builder.old answers.now → IsJudged (allows (ledger_of calls) (SetColdBlock (name_of name))) result }
+    ensures sound { OnOk result (builder.new.failed ≡ false) }
+    ensures never_refused { result ≢ Err CallError.Refused }
+    ensures one_call { OnOk result (IsOneCall builder.old builder.new) }
+    ensures full { result ≡ Err CallError.Full → IsNearlyFull builder.old }
+    ensures variables { builder.new.ctx.now.variables ≡ builder.old.ctx.now.variables }
+{
+    let Some(block) = block_named(answers, name) else {
+        return Err(CallError::Misuse);
+    };
+    builder.set_cold_block(block);
+    Ok(Answer::Nothing)
+}
+
+// `ensure_inserted_block()`, where there is a current block that isn't filled.
+pub(crate) fn ensure_inserted_block(
+    builder: &mut FunctionBuilder<'_>,
+    answers: &[Answer],
+) -> Result<Answer, CallError>
+    requires ready { IsReadyNow builder.old answers.now }
+    requires sound { builder.old.failed ≡ false }
+    ensures loans { SameLoans builder.old builder.new }
+    ensures ready { (declared : SignatureShape) (calls : List AnsweredCall) → IsReady declared calls builder.old answers.now → IfOk result (IsReadyAfter declared calls EnsureInsertedBlock builder.new answers.now) }
+    ensures judged { (calls : List AnsweredCall) → IsReadyWith calls builder.old answers.now → IsJudged (allows (ledger_of calls) EnsureInsertedBlock) result }
+    ensures sound { OnOk result (builder.new.failed ≡ false) }
+    ensures never_refused { result ≢ Err CallError.Refused }
+    ensures one_call { OnOk result (IsOneCall builder.old builder.new) }
+    ensures full { result ≡ Err CallError.Full → IsNearlyFull builder.old }
+    ensures variables { builder.new.ctx.now.variables ≡ builder.old.ctx.now.variables }
+{
+    if !has_current(builder) {
+        return Err(CallError::Misuse);
+    }
+    builder.ensure_inserted_block()?;
+    Ok(Answer::Nothing)
+}
