@@ -7,7 +7,7 @@ use Rattle.clif_types.specs.Signature.{SignatureShape}
 use Rattle.clif_ir.specs.Body.{Body}
 use Rattle.clif_meaning.specs.Name.{Name, same_name}
 use Rattle.clif_meaning.specs.Request.{AnsweredCall, Request, CreateBlock, number_of}
-use Rattle.clif_meaning.specs.Ledger.{BlockState, Ledger, empty_ledger, is_inserted, ledger_after, ledger_with, new_block, next_answer, with_begun_at, with_filled_at, with_layout, with_state}
+use Rattle.clif_meaning.specs.Ledger.{BlockState, Ledger, empty_ledger, is_inserted, ledger_after, ledger_with, new_block, next_answer, sealed, with_begun_at, with_filled_at, with_layout, with_state}
 use Rattle.clif_ssa.specs.Ssa.{predecessors_of}
 use Rattle.cranelift_frontend.specs.declared.builder.FunctionBuilder.{FunctionBuilder}
 use Rattle.cranelift_frontend.specs.Context.{ContextState}
@@ -99,6 +99,12 @@ alone-filled : (ledger : Ledger) (current : Option Name) → AreAlone ledger.blo
 alone-filled ledger None alone = alone
 alone-filled ledger (Some block) alone = alone-state ledger block (λ (state : BlockState). record state { is_filled = true }) (λ state. refl) alone
 
+-- each block is sealed
+alone-sealed : (states : List BlockState) → AreAlone states → AreAlone (map sealed states)
+alone-sealed states alone k state at =
+    let was = map-some sealed (slice_get states k) state (sym (slice_get-map sealed states k) ∙ at) in
+    ap (λ (s : BlockState). s.predecessors) (sym was.2) ∙ alone k was.0 was.1
+
 -- a call that is no branch
 alone-straight : (ledger : Ledger) (c : Call) → is_straight c ≡ true → AreAlone ledger.blocks → AreAlone (ledger_with ledger (request_of ledger c)).blocks
 alone-straight ledger call.CreateBlock straight alone = λ k state at.
@@ -108,6 +114,7 @@ alone-straight ledger call.CreateBlock straight alone = λ k state at.
     ]
 alone-straight ledger (call.SwitchToBlock block) straight alone = alone
 alone-straight ledger (call.SealBlock block) straight alone = alone-state ledger _ (λ (state : BlockState). record state { is_sealed = true }) (λ state. refl) alone
+alone-straight ledger call.SealAllBlocks straight alone = alone-sealed ledger.blocks alone
 alone-straight ledger (call.InsertBlockAfter block after) straight alone = alone
 alone-straight ledger (call.SetColdBlock block) straight alone = alone
 alone-straight ledger call.EnsureInsertedBlock straight alone = alone-begun ledger ledger.current alone

@@ -29,6 +29,7 @@ no-refusal : (ledger : Ledger) (c : Call) → refusal_of ledger (request_of ledg
 no-refusal ledger call.CreateBlock = refl
 no-refusal ledger (call.SwitchToBlock block) = refl
 no-refusal ledger (call.SealBlock block) = refl
+no-refusal ledger call.SealAllBlocks = refl
 no-refusal ledger (call.InsertBlockAfter block after) = refl
 no-refusal ledger (call.SetColdBlock block) = refl
 no-refusal ledger call.EnsureInsertedBlock = refl

@@ -167,6 +167,7 @@ types_after (call.DeclareVar ty) types = types ++ ty ∷ []
 types_after call.CreateBlock types = types
 types_after (call.SwitchToBlock block) types = types
 types_after (call.SealBlock block) types = types
+types_after call.SealAllBlocks types = types
 types_after (call.InsertBlockAfter block after) types = types
 types_after (call.SetColdBlock block) types = types
 types_after call.EnsureInsertedBlock types = types

@@ -3,7 +3,7 @@ use Rattle.std.specs.Prelude.{◌≡◌, ◌<◌, ℕ, List, [], ◌∷◌, ◌+
 use Rattle.clif_ir.specs.Body.{Body}
 use Rattle.clif_meaning.specs.Name.{Name}
 use Rattle.clif_meaning.specs.Instruction.{Edge, Known}
-use Rattle.clif_meaning.specs.Request.{Request, CreateBlock, SwitchToBlock, SealBlock, InsertBlockAfter, SetColdBlock, EnsureInsertedBlock, DeclareVar, DefVar, UseVar, Finalize, Script, AnsweredCall, script_of}
+use Rattle.clif_meaning.specs.Request.{Request, CreateBlock, SwitchToBlock, SealBlock, SealAllBlocks, InsertBlockAfter, SetColdBlock, EnsureInsertedBlock, DeclareVar, DefVar, UseVar, Finalize, Script, AnsweredCall, script_of}
 use Rattle.clif_meaning.specs.Ledger.{Ledger, empty_ledger, ledger_after, ledger_with}
 use Rattle.clif_meaning.specs.Acceptance.{Verdict, Accepted, Misuse, Refused, iconst, iadd, isub, jump, brif, return_, verdict_from, verdict_on}
 use Rattle.clif_types.specs.Signature.{SignatureShape}
@@ -31,6 +31,7 @@ abbrev pub request_of : Ledger → Call → Request
 request_of ledger call.CreateBlock = CreateBlock
 request_of ledger (call.SwitchToBlock block) = SwitchToBlock (name_of block)
 request_of ledger (call.SealBlock block) = SealBlock (name_of block)
+request_of ledger call.SealAllBlocks = SealAllBlocks
 request_of ledger (call.InsertBlockAfter block after) = InsertBlockAfter (name_of block) (name_of after)
 request_of ledger (call.SetColdBlock block) = SetColdBlock (name_of block)
 request_of ledger call.EnsureInsertedBlock = EnsureInsertedBlock

@@ -41,6 +41,8 @@ pub enum Call {
     SealBlock {
         block: Name,
     },
+    /// `seal_all_blocks()`: answers nothing. Blocks that are sealed stay so.
+    SealAllBlocks,
     /// `insert_block_after(block, after)`: answers nothing. The first block isn't in the layout, and the
     /// second one is.
     InsertBlockAfter {

@@ -16,8 +16,8 @@ ghost use Rattle.clif_script.specs.Ready.{IsReady, IsReadyNow, IsReadyWith, IsRe
 
 use crate::call::{Call, Edge, Name};
 use crate::make_blocks::{
-    create_block, ensure_inserted_block, insert_block_after, may_seal, seal_block, set_cold_block,
-    switch_to_block,
+    create_block, ensure_inserted_block, insert_block_after, may_seal, seal_all_blocks, seal_block,
+    set_cold_block, switch_to_block,
 };
 use crate::script::{Answer, CallError};
 use clif_ir::{BinaryOpcode, BlockArg, Function, InstructionData, ValueDef};
@@ -49,6 +49,7 @@ pub(crate) fn make_call(
         Call::CreateBlock => create_block(builder, answers),
         Call::SwitchToBlock { block } => switch_to_block(builder, answers, *block),
         Call::SealBlock { block } => seal_block(builder, answers, *block),
+        Call::SealAllBlocks => seal_all_blocks(builder, answers),
         Call::InsertBlockAfter { block, after } => {
             insert_block_after(builder, answers, *block, *after)
         }

@@ -3,7 +3,7 @@ ghost use Rattle.std.specs.Prelude.{◌≡◌, ◌≢◌, ◌<◌, List, OnOk, I
 ghost use Rattle.cranelift_frontend.specs.Builder.{SameLoans, is_free};
 ghost use Rattle.clif_types.specs.Signature.{SignatureShape};
 ghost use Rattle.cranelift_frontend.specs.Ledger.{ledger_of};
-ghost use Rattle.clif_meaning.specs.Request.{AnsweredCall, CreateBlock, SwitchToBlock, SealBlock, InsertBlockAfter, SetColdBlock, EnsureInsertedBlock};
+ghost use Rattle.clif_meaning.specs.Request.{AnsweredCall, CreateBlock, SwitchToBlock, SealBlock, SealAllBlocks, InsertBlockAfter, SetColdBlock, EnsureInsertedBlock};
 ghost use Rattle.clif_meaning.specs.Acceptance.{allows};
 ghost use Rattle.clif_script.specs.Limits.{IsOneCall, IsNearlyFull};
 ghost use Rattle.clif_script.specs.Requests.{name_of};
@@ -112,6 +112,26 @@ pub(crate) fn seal_block(
         return Err(CallError::Misuse);
     }
     builder.seal_block(block)?;
+    Ok(Answer::Nothing)
+}
+
+// `seal_all_blocks()`.
+pub(crate) fn seal_all_blocks(
+    builder: &mut FunctionBuilder<'_>,
+    answers: &[Answer],
+) -> Result<Answer, CallError>
+    requires ready { IsReadyNow builder.old answers.now }
+    requires sound { builder.old.failed ≡ false }
+    ensures loans { SameLoans builder.old builder.new }
+    ensures ready { (declared : SignatureShape) (calls : List AnsweredCall) → IsReady declared calls builder.old answers.now → IfOk result (IsReadyAfter declared calls SealAllBlocks builder.new answers.now) }
+    ensures judged { (calls : List AnsweredCall) → IsReadyWith calls builder.old answers.now → IsJudged (allows (ledger_of calls) SealAllBlocks) result }
+    ensures sound { OnOk result (builder.new.failed ≡ false) }
+    ensures never_refused { result ≢ Err CallError.Refused }
+    ensures one_call { OnOk result (IsOneCall builder.old builder.new) }
+    ensures full { result ≡ Err CallError.Full → IsNearlyFull builder.old }
+    ensures variables { builder.new.ctx.now.variables ≡ builder.old.ctx.now.variables }
+{
+    builder.seal_all_blocks()?;
     Ok(Answer::Nothing)
 }
 

@@ -592,6 +592,7 @@ impl SSABuilder {
         ensures within { (holds : ℕ → Bool) → HoldsBranches func.old self.old holds → ((b : ℕ) → b < length func.old.blocks → HoldsWaiting func.old self.old holds b) → IfOk result (λ r. StaysWithin holds func.old func.new r.instructions_added_to_blocks.items) }
         ensures names { NamesExist func.old self.old → NamesExist func.new self.new }
         ensures full { result ≡ Err BuildError.Full → IsFull func.new }
+        ensures takes { ((b : ℕ) → predecessors_of self.old b ≡ []) → result ≢ Err BuildError.Memory → Takes func.old func.new 0 0 }
         ensures takes_by_records { result ≢ Err BuildError.Memory → TakesByRecords func.old self.old func.new self.new }
         ensures below { StaysBelow func.old self.old self.new }
         ensures never_failed { result ≢ Err BuildError.Failed }

@@ -294,6 +294,7 @@ impl FunctionBuilderContext {
         ensures stay { RecordsStay self.old.ssa self.new.ssa }
         ensures variables { self.new.variables ≡ self.old.variables }
         ensures full { result ≡ Err BuildError.Full → IsFull func.new }
+        ensures takes { ((b : ℕ) → predecessors_of self.old.ssa b ≡ []) → result ≢ Err BuildError.Memory → Takes func.old func.new 0 0 }
         ensures takes_by_records { result ≢ Err BuildError.Memory → TakesByRecords func.old self.old.ssa func.new self.new.ssa }
         ensures below { StaysBelow func.old self.old.ssa self.new.ssa }
         ensures never_failed { result ≢ Err BuildError.Failed }

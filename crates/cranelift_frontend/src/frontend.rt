@@ -199,6 +199,7 @@ impl<'a> FunctionBuilder<'a> {
         ensures variables { self.new.ctx.now.variables ≡ self.old.ctx.now.variables }
         ensures position { self.new.position ≡ self.old.position }
         ensures full { result ≡ Err BuildError.Full → IsFull self.new.func.now }
+        ensures takes { ((b : ℕ) → predecessors_of self.old.ctx.now.ssa b ≡ []) → result ≢ Err BuildError.Memory → Takes self.old.func.now self.new.func.now 0 0 }
         ensures takes_by_records { result ≢ Err BuildError.Memory → TakesByRecords self.old.func.now self.old.ctx.now.ssa self.new.func.now self.new.ctx.now.ssa }
         ensures below { KeepsRecordsBelow self.old self.new }
         ensures failed { (result ≡ Err BuildError.Failed) ↔ IsTrue self.old.failed }

@@ -2,8 +2,8 @@
 #![tactic(auto)]
 
 use super::support::Step::{
-    Cold, Create, Declare, Def, Ensure, Iadd, Iconst, InsertAfter, Jump, ReturnNone, Seal, Switch,
-    Use,
+    Cold, Create, Declare, Def, Ensure, Iadd, Iconst, InsertAfter, Jump, ReturnNone, Seal, SealAll,
+    Switch, Use,
 };
 use super::support::{I32, all_refuse, builds};
 use crate::script::ReplayError::{Misuse, Refused};
@@ -136,6 +136,48 @@ fn ensured(rt: HostRuntime) -> Result<(), Fail> {
         ReturnNone,
     ];
     builds(&rt, rt.alloc(), &steps, BETWEEN)
+}
+
+const DEAD_LOOP: &str = "\
+function u0:0() fast {
+block0:
+    v0 = iconst.i32 1
+    return
+
+block1:
+    jump block2
+
+block2:
+    v2 = iadd v1, v1  ; v1 = 1, v1 = 1
+    v3 = iconst.i32 1
+    v1 -> v3
+    jump block1
+}
+";
+
+// All blocks are sealed at the end. In a loop that nothing leads to an alias stands behind its uses.
+#[test]
+fn sealed_at_once(rt: HostRuntime) -> Result<(), Fail> {
+    let steps = [
+        Declare(I32),
+        Create,
+        Create,
+        Create,
+        Switch(1, 0),
+        Iconst(I32),
+        Def(0, 5, 1),
+        ReturnNone,
+        Switch(2, 0),
+        Jump(3, 0),
+        Switch(3, 0),
+        Use(0),
+        Iadd((11, 0), (11, 0)),
+        Iconst(I32),
+        Def(0, 13, 1),
+        Jump(2, 0),
+        SealAll,
+    ];
+    builds(&rt, rt.alloc(), &steps, DEAD_LOOP)
 }
 
 #[test]

@@ -28,6 +28,7 @@ pub enum Step {
     Create,
     Switch(usize, usize),
     Seal(usize, usize),
+    SealAll,
     InsertAfter((usize, usize), (usize, usize)),
     Cold(usize, usize),
     Ensure,
@@ -62,6 +63,7 @@ pub fn call_of(alloc: Global, step: Step) -> Result<Call, AllocError> {
         Step::Seal(place, answer) => Call::SealBlock {
             block: name(place, answer),
         },
+        Step::SealAll => Call::SealAllBlocks,
         Step::InsertAfter(block, after) => Call::InsertBlockAfter {
             block: name(block.0, block.1),
             after: name(after.0, after.1),

@@ -24,6 +24,11 @@ returns-in-SealBlock-clause-judged c = λ calls given.
     let done = c.seal_block.ensures.judged calls given in
     subst (λ (x : Call). IsJudged (allows (ledger_of calls) (request_of (ledger_of calls) x)) c.seal_block.result) (sym c.in-SealBlock.is) done
 
+pub returns-in-SealAllBlocks-clause-judged : goal.returns-in-SealAllBlocks-clause-judged
+returns-in-SealAllBlocks-clause-judged c = λ calls given.
+    let done = c.seal_all_blocks.ensures.judged calls given in
+    subst (λ (x : Call). IsJudged (allows (ledger_of calls) (request_of (ledger_of calls) x)) c.seal_all_blocks.result) (sym c.in-SealAllBlocks.is) done
+
 pub returns-in-InsertBlockAfter-clause-judged : goal.returns-in-InsertBlockAfter-clause-judged
 returns-in-InsertBlockAfter-clause-judged c = λ calls given.
     let done = c.insert_block_after.ensures.judged calls given in

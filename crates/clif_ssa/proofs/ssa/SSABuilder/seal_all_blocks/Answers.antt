@@ -11,6 +11,7 @@ use Rattle.clif_ssa.proofs.Waited.{named-kept, no_more-sealed, other-same, seale
 use Rattle.clif_ssa.proofs.StructuredPublic.{seal_structured}
 use Rattle.clif_ssa.proofs.WithinUses.{leads_of, seals_within}
 use Rattle.std.proofs.lemmas.Result.{err_from_is_err_and}
+use Rattle.clif_ssa.proofs.Taking.{Takes-same, Takes-then}
 use Rattle.clif_ssa.proofs.TakingByRecords.{by_records_none, by_records_then}
 use Rattle.clif_ssa.proofs.Below.{stays_below_then}
 use Rattle.clif_ssa.proofs.ssa.SSABuilder.seal_all_blocks.Goals as goal
@@ -39,6 +40,7 @@ loop-number-init c = record {
   keeps = λ own tables both. keeps_itself own tables c.args.func.now c.args.self.now both;
   remembers = λ x b. same_remembers x b c.args.func.now c.args.self.now c.args.self.now refl;
   structured = λ types own before. before;
+  takes_none = λ none. Takes-same c.args.func.now c.args.func.now refl refl;
   takes = by_records_none c.args.func.now c.args.self.now;
   below = λ variables blocks fits before. before;
 }
@@ -52,6 +54,9 @@ loop-number-preserved c =
     record {
       sealed = sealed-below c.loop-number.self c.seal_one_block.new.self c.loop-number.number c.loop-number.invariant.sealed seals;
       below = stays_below_then c.args.func.now c.loop-number.func c.args.self.now c.loop-number.self c.seal_one_block.new.self c.loop-number.invariant.more c.loop-number.invariant.below c.seal_one_block.ensures.below;
+      takes_none = λ none.
+          Takes-then c.args.func.now c.loop-number.func c.seal_one_block.new.func 0 0 0 0 (c.loop-number.invariant.takes_none none)
+          (c.in_ok-told.ensures.takes (c.loop-number.invariant.same c.new-block.result ∙ none c.new-block.result) (λ memory. cc));
       takes = by_records_then c.args.func.now c.args.self.now c.loop-number.func c.loop-number.self c.seal_one_block.new.func c.seal_one_block.new.self c.loop-number.invariant.takes
           (c.in_ok-told.ensures.takes_by_records (λ memory. cc));
       named = named-kept c.loop-number.func c.seal_one_block.new.func c.loop-number.self c.seal_one_block.new.self c.seal_one_block.ensures.predecessors c.seal_one_block.ensures.names
@@ -171,6 +176,15 @@ returns-clause-within c = λ holds branches waiting.
     (leads_of holds c.args.func.now c.args.self.now c.requires.named branches) (λ b below. waiting b (omega (arith, below, at))) c.loop-number.invariant.in_turn
 
 -- HOW MUCH IS TAKEN -----------------------------------------------------------------------------------------------
+
+pub returns-in_err-told-clause-takes : goal.returns-in_err-told-clause-takes
+returns-in_err-told-clause-takes c = λ none not_memory.
+    let p = err_from_is_err_and c.from_residual.result c.from_residual.ensures.1 in
+    Takes-then c.args.func.now c.loop-number.func c.seal_one_block.new.func 0 0 0 0 (c.loop-number.invariant.takes_none none)
+    (c.in_err-told.ensures.takes (c.loop-number.invariant.same c.new-block.result ∙ none c.new-block.result) (λ memory. not_memory (cc)))
+
+pub returns-clause-takes : goal.returns-clause-takes
+returns-clause-takes c = λ none not_memory. c.loop-number.invariant.takes_none none
 
 pub returns-in_err-told-clause-takes_by_records : goal.returns-in_err-told-clause-takes_by_records
 returns-in_err-told-clause-takes_by_records c = λ not_memory.
