@@ -1,22 +1,17 @@
 -- Where `finalize` succeeds, no parameter waits and the entry is sealed, so the finished function means what the list
 -- of calls means.
 use Rattle.std.proofs.Common.{◌≡◌, ◌≢◌, ℕ, zero, suc, ◌+◌, ◌<◌, ◌≤◌, List, [], ◌∷◌, length, refl, sym, ◌∙◌, ap, subst, arith, ◌⊎◌, inl, inr}
-use Rattle.std.specs.Prelude.{slice_get, Option, Some, None, Bool, true, false, if◌then◌else◌, ◌==◌, OnOk, Err, Contains, IsTrue}
-use Rattle.std.proofs.lemmas.Option.{same_Some, slice_get-map}
-use Rattle.std.proofs.lemmas.Grind.{common_steps}
+use Rattle.std.specs.Prelude.{Option, Some, None, Bool, true, false, if◌then◌else◌, OnOk, Err, IsTrue}
+use Rattle.std.proofs.lemmas.Option.{slice_get-map}
 use Rattle.clif_types.specs.Signature.{SignatureShape}
 use Rattle.clif_types.specs.declared.target.PointerWidth.{PointerWidth}
 use Rattle.clif_ir.specs.Body.{Body}
 use Rattle.clif_ir.specs.Consistent.{IsConsistent}
-use Rattle.clif_ir.specs.Reading.{param_home, stands_in}
 use Rattle.clif_ssa.specs.declared.tables.Pending.{Pending}
 use Rattle.clif_ssa.specs.declared.tables.Sealed.{Sealed}
 use Rattle.clif_ssa.specs.declared.tables.Sealed.TheVariants.{No, Yes}
 use Rattle.clif_ssa.specs.Tables.{is_yes, pending_of}
 use Rattle.clif_ssa.specs.Ssa.{sealed_of}
-use Rattle.clif_ssa.specs.Structured.{waiting_in}
-use Rattle.clif_ssa.proofs.Housing.{housed_from}
-use Rattle.clif_ssa.proofs.StructuredUses.{waiting_home}
 use Rattle.clif_meaning.specs.Name.{Name}
 use Rattle.clif_meaning.specs.Ledger.{BlockState, is_filled, state_has}
 use Rattle.clif_meaning.specs.Request.{AnsweredCall, script_of}
@@ -28,9 +23,8 @@ use Rattle.clif_meaning.specs.WellPlaced.{Records, RecordsWellPlaced, WellPlaced
 use Rattle.clif_simulation.specs.Tables as simulation
 use Rattle.clif_simulation.specs.Laws.{IsFinished}
 use Rattle.clif_simulation.specs.Structure.{AreRecords, LeavesNoParameter}
-use Rattle.clif_simulation.proofs.Calls.{structured_so_far}
 use Rattle.clif_simulation.proofs.Values.{false_is}
-use Rattle.clif_simulation.proofs.Whole.{spared, waiting_pending, whole}
+use Rattle.clif_simulation.proofs.Whole.{spared, whole}
 use Rattle.clif_simulation.proofs.CarriedStructure.{no_parameters}
 use Rattle.clif_simulation.proofs.Defined.{well_placed}
 use Rattle.clif_simulation.proofs.RecordsDefined.{records_well_placed}
@@ -45,6 +39,7 @@ use Rattle.cranelift_frontend.specs.Builder.{answer_of, block_fault, first_fault
 use Rattle.cranelift_frontend.specs.Ledger.{ledger_of, block_name}
 use Rattle.cranelift_frontend.specs.StandsFor.{StandsIn, StandsFor}
 use Rattle.cranelift_frontend.proofs.LedgerNames.{state-by-name, name-number}
+use Rattle.cranelift_frontend.proofs.Placed.{waiting_begun}
 use Rattle.cranelift_frontend.proofs.Standing.{standing_edges}
 
 -- no block is at fault, where none is the first
@@ -112,12 +107,11 @@ module _ (declared : SignatureShape) (calls : List AnsweredCall) (f : Body) (c :
       by : (ps : List Pending) → pending_of (sealed_of c.ssa b) ≡ ps → pending_of (sealed_of c.ssa b) ≡ []
       by [] is = is
       by (q ∷ ps) is =
-          let first : Contains (q ∷ ps) q = (0, omega arith, refl) in
-          let here : Contains (pending_of (sealed_of c.ssa b)) q = subst (λ (qs : List Pending). Contains qs q) (sym is) first in
-          let has = (structured_so_far calls f c.ssa stands.carries).parameters b in
-          let waits : Contains (waiting_in f c.ssa [] b) q = subst (λ (qs : List Pending). Contains qs q) (sym (waiting_pending f (sealed_of c.ssa b) b)) here in
-          let home : param_home f q.param ≡ Some b = waiting_home stands.carries.own f c.ssa [] b (housed_from f consistent) has q waits in
-          none_in_sealed (sealed_of c.ssa b) (begun_sealed b (stands.ledger.parameters q.param b home).begun)
+          let some : pending_of (sealed_of c.ssa b) ≢ [] = λ none. apart (sym is ∙ none) in
+          none_in_sealed (sealed_of c.ssa b) (begun_sealed b (waiting_begun calls (ledger_of calls) f c p stands.ledger b some).begun)
+        where
+          apart : (q ∷ ps) ≡ [] → ⊥
+          apart h = cc
 
   filled_not_empty : (status : BlockStatus) → IsTrue (is_filled_status status) → status ≢ Empty
   filled_not_empty Empty filled = absurd (false_is filled)
