@@ -10,7 +10,9 @@ use Rattle.clif_meaning.specs.Headline.{MeansTheSame}
 use Rattle.clif_meaning.specs.Request.{AnsweredCall, Finalize, Request, Script, script_of}
 use Rattle.clif_meaning.specs.Ledger.{Ledger, empty_ledger, ledger_after, ledger_with}
 use Rattle.clif_meaning.specs.Acceptance.{Accepted, Misuse, Refusal, Refused, allows, refusal_of, verdict_from, verdict_on}
+use Rattle.clif_meaning.specs.Acceptance as refusal
 use Rattle.cranelift_frontend.specs.declared.error.FinalizeError.{FinalizeError}
+use Rattle.cranelift_frontend.specs.declared.error.FinalizeError.TheVariants as ending
 use Rattle.cranelift_frontend.specs.Ledger.{RefusalAgrees, ledger_of}
 use Rattle.cranelift_frontend.proofs.LedgerLists.{if-no}
 use Rattle.cranelift_frontend.proofs.LedgerKept.{ledger-more}
@@ -138,6 +140,16 @@ verdict-refused calls made r e replayed agrees is =
     by : (o : Option Refusal) → RefusalAgrees made o r → (if is_some o then Refused (length calls) else Accepted) ≡ Refused (length calls)
     by None agrees = let no_way : ⊥ = cc in absurd no_way
     by (Some refusal) agrees = refl
+
+-- `finalize` answers no full table, where the builder didn't fail
+pub never-full : (made : List AnsweredCall) (r : Result (Unit {0}) FinalizeError) (e : FinalizeError) → RefusalAgrees made (refusal_of (ledger_of made) Finalize) r
+    → r ≡ Err e → e ≡ ending.Full → ⊥
+never-full made r e agrees is full = by (refusal_of (ledger_of made) Finalize) agrees
+  where
+    by : (o : Option Refusal) → RefusalAgrees made o r → ⊥
+    by None ok = cc
+    by (Some (refusal.Unsealed name)) (block, number, found) = cc
+    by (Some (refusal.Unfilled name)) (block, number, found) = cc
 
 -- only the error of a full table tells one
 pub full-told : (refusal : CallError) (place : ℕ) (told : ReplayError) → told ≡ replay_error_at refusal place → told ≡ replay.Full → refusal ≡ error.Full

@@ -12,7 +12,7 @@ pub mod TwoParts
 pub mod InLists
 pub mod GivenNames
 mod Straight
-mod Listed
+pub mod Listed
 mod Entry
 mod ItemsAt
 mod OwnEdges

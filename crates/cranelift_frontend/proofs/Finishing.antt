@@ -1,23 +1,17 @@
 -- Where `finalize` succeeds, no parameter waits and the entry is sealed, so the finished function means what the list
 -- of calls means.
 use Rattle.std.proofs.Common.{◌≡◌, ◌≢◌, ℕ, zero, suc, ◌+◌, ◌<◌, ◌≤◌, List, [], ◌∷◌, length, refl, sym, ◌∙◌, ap, subst, arith, ◌⊎◌, inl, inr}
-use Rattle.std.specs.Prelude.{slice_get, Option, Some, None, Bool, true, false, if◌then◌else◌, ◌==◌, OnOk, Ok, Err, Result, Contains, IsTrue}
-use Rattle.std.proofs.lemmas.Option.{same_Some, slice_get-map}
-use Rattle.std.proofs.lemmas.Grind.{common_steps}
+use Rattle.std.specs.Prelude.{Option, Some, None, Bool, true, false, if◌then◌else◌, OnOk, Ok, Err, Result, IsTrue}
+use Rattle.std.proofs.lemmas.Option.{slice_get-map}
 use Rattle.clif_types.specs.Signature.{SignatureShape}
 use Rattle.clif_types.specs.declared.target.PointerWidth.{PointerWidth}
 use Rattle.clif_ir.specs.Body.{Body}
-use Rattle.clif_ir.specs.Consistent.{IsConsistent, IsOrigin}
-use Rattle.clif_ir.specs.Reading.{param_home, stands_in}
+use Rattle.clif_ir.specs.Consistent.{IsConsistent}
 use Rattle.clif_ssa.specs.declared.tables.Pending.{Pending}
 use Rattle.clif_ssa.specs.declared.tables.Sealed.{Sealed}
 use Rattle.clif_ssa.specs.declared.tables.Sealed.TheVariants.{No, Yes}
 use Rattle.clif_ssa.specs.Tables.{is_yes, pending_of}
 use Rattle.clif_ssa.specs.Ssa.{sealed_of}
-use Rattle.clif_ssa.specs.Structured.{waiting_in}
-use Rattle.clif_ssa.proofs.Bodies.{param_exists, param_origin}
-use Rattle.clif_ssa.proofs.Housing.{housed_from}
-use Rattle.clif_ssa.proofs.StructuredUses.{waiting_home}
 use Rattle.clif_meaning.specs.Name.{Name}
 use Rattle.clif_meaning.specs.Ledger.{BlockState, is_filled, state_has}
 use Rattle.clif_meaning.specs.Request.{AnsweredCall, script_of}
@@ -29,9 +23,8 @@ use Rattle.clif_meaning.specs.WellPlaced.{Records, RecordsWellPlaced, WellPlaced
 use Rattle.clif_simulation.specs.Tables as simulation
 use Rattle.clif_simulation.specs.Laws.{IsFinished}
 use Rattle.clif_simulation.specs.Structure.{AreRecords, LeavesNoParameter, NoneWaits}
-use Rattle.clif_simulation.proofs.Calls.{structured_so_far}
 use Rattle.clif_simulation.proofs.Values.{false_is}
-use Rattle.clif_simulation.proofs.Whole.{spared, waiting_pending, whole}
+use Rattle.clif_simulation.proofs.Whole.{spared, whole}
 use Rattle.clif_simulation.proofs.CarriedStructure.{no_parameters}
 use Rattle.clif_simulation.proofs.Defined.{well_placed}
 use Rattle.clif_simulation.proofs.RecordsDefined.{records_well_placed}
@@ -46,6 +39,7 @@ use Rattle.cranelift_frontend.specs.Builder.{answer_of, block_fault, first_fault
 use Rattle.cranelift_frontend.specs.Ledger.{ledger_of, block_name}
 use Rattle.cranelift_frontend.specs.StandsFor.{StandsIn, StandsFor}
 use Rattle.cranelift_frontend.proofs.LedgerNames.{state-by-name, name-number}
+use Rattle.cranelift_frontend.proofs.Placed.{waiting_begun}
 use Rattle.cranelift_frontend.proofs.Standing.{standing_edges}
 
 -- no block is at fault, where none is the first
@@ -90,28 +84,31 @@ none_in_sealed (No pending) is = absurd (apart is)
     apart : false ≡ true → ⊥
     apart h = cc
 
--- no parameter waits where each block of a parameter is sealed
-module _ (declared : SignatureShape) (calls : List AnsweredCall) (f : Body) (c : ContextState) (p : Option ℕ) (stands : StandsIn declared calls f c p)
-    (consistent : IsConsistent f) where
-  none_waiting : ((v b : ℕ) → param_home f v ≡ Some b → is_yes (sealed_of c.ssa b) ≡ true) → NoneWaits c.ssa
+-- no parameter waits where each block in which any waits is sealed
+module _ (declared : SignatureShape) (calls : List AnsweredCall) (f : Body) (c : ContextState) (p : Option ℕ) (stands : StandsIn declared calls f c p) where
+  none_waiting : ((b : ℕ) → pending_of (sealed_of c.ssa b) ≢ [] → is_yes (sealed_of c.ssa b) ≡ true) → NoneWaits c.ssa
   none_waiting sealed b = by (pending_of (sealed_of c.ssa b)) refl
     where
       by : (ps : List Pending) → pending_of (sealed_of c.ssa b) ≡ ps → pending_of (sealed_of c.ssa b) ≡ []
       by [] is = is
-      by (q ∷ ps) is =
-          let first : Contains (q ∷ ps) q = (0, omega arith, refl) in
-          let here : Contains (pending_of (sealed_of c.ssa b)) q = subst (λ (qs : List Pending). Contains qs q) (sym is) first in
-          let has = (structured_so_far calls f c.ssa stands.carries).parameters b in
-          let waits : Contains (waiting_in f c.ssa [] b) q = subst (λ (qs : List Pending). Contains qs q) (sym (waiting_pending f (sealed_of c.ssa b) b)) here in
-          let home : param_home f q.param ≡ Some b = waiting_home stands.carries.own f c.ssa [] b (housed_from f consistent) has q waits in
-          none_in_sealed (sealed_of c.ssa b) (sealed q.param b home)
+      by (q ∷ ps) is = none_in_sealed (sealed_of c.ssa b) (sealed b (λ none. apart (sym is ∙ none)))
+        where
+          apart : (q ∷ ps) ≡ [] → ⊥
+          apart h = cc
 
   -- where each block is sealed, edges match
   pub sealed_edges : {T E : Type 0} (r : Result T E) → OnOk r ((b : ℕ) → b < length f.blocks → is_yes (sealed_of c.ssa b) ≡ true) → CallersEdgesMatch (script_of calls)
       → OnOk r (EdgesMatch (view_of f))
   sealed_edges (Err e) sealed typed = tt
   sealed_edges (Ok u) sealed typed =
-      standing_edges declared calls f c p stands (none_waiting (λ v b home. sealed b (subst (IsOrigin f v) (param_origin f v b home) (consistent.origins v (param_exists f v b home))).0)) typed
+      standing_edges declared calls f c p stands (none_waiting (λ b some. by b some (order (length f.blocks) b))) typed
+    where
+      order : (n k : ℕ) → (n ≤ k) ⊎ (k < n)
+      order n k = grind arith
+
+      by : (b : ℕ) → pending_of (sealed_of c.ssa b) ≢ [] → (length f.blocks ≤ b) ⊎ (b < length f.blocks) → is_yes (sealed_of c.ssa b) ≡ true
+      by b some (inl past) = absurd ((waiting_begun calls (ledger_of calls) f c p stands.ledger b some).begun (stands.ledger.fresh b past).1)
+      by b some (inr there) = sealed b there
 
 module _ (declared : SignatureShape) (calls : List AnsweredCall) (f : Body) (c : ContextState) (p : Option ℕ) (stands : StandsIn declared calls f c p)
     (consistent : IsConsistent f) (none : first_fault c 0 (length f.blocks) ≡ None) where
@@ -131,7 +128,7 @@ module _ (declared : SignatureShape) (calls : List AnsweredCall) (f : Body) (c :
       by (inr there) = or_empty (sealed_unless_empty (status_of c b) (is_yes (sealed_of c.ssa b)) b (no_fault c (length f.blocks) 0 b none (omega arith) (omega (arith, there))))
 
   none_waits : (b : ℕ) → pending_of (sealed_of c.ssa b) ≡ []
-  none_waits = none_waiting declared calls f c p stands consistent (λ v b home. begun_sealed b (stands.ledger.parameters v b home).begun)
+  none_waits = none_waiting declared calls f c p stands (λ b some. begun_sealed b (waiting_begun calls (ledger_of calls) f c p stands.ledger b some).begun)
 
   filled_not_empty : (status : BlockStatus) → IsTrue (is_filled_status status) → status ≢ Empty
   filled_not_empty Empty filled = absurd (false_is filled)

@@ -11,7 +11,7 @@ use Rattle.clif_ir.specs.declared.instructions.InstructionData.{InstructionData}
 use Rattle.std.specs.List.{range_with_len}
 use Rattle.clif_ir.specs.declared.function.InstNode.{InstNode}
 use Rattle.clif_ir.specs.Body.{Body, inst_at}
-use Rattle.clif_ir.specs.Changes.{inserted_in, with_block, with_layout, with_inst, inst_node}
+use Rattle.clif_ir.specs.Changes.{inserted_in, with_block, with_layout, with_inst, with_param, inst_node}
 use Rattle.clif_ir.specs.Instruction.{is_terminator, result_types}
 use Rattle.clif_ir.specs.Reading.{stands_in}
 use Rattle.clif_ssa.specs.Ssa.{no_srcloc}
@@ -42,6 +42,9 @@ Grows-inserted f b = by_test (stands_in b f.layout)
 
 pub Grows-with_inst : (f : Body) (b : ℕ) (end : BlockEnd) (shape : InstructionData) (types : List «Type») (loc : ℕ) → Grows f (with_inst f b end shape types loc)
 Grows-with_inst f b end shape types loc = (grind (arith, common_steps), grind (arith, common_steps), grind (arith, common_steps), refl, refl)
+
+pub Grows-with_param : (f : Body) (b : ℕ) (ty : «Type») → Grows f (with_param f b ty)
+Grows-with_param f b ty = (grind (arith, common_steps), omega arith, grind (arith, common_steps), refl, refl)
 
 -- what the construction of SSA form makes of a function
 pub Grows-constructs : (f g : Body) → OnlyConstructs f g → Grows f g

@@ -1,6 +1,6 @@
 -- A block comes behind another one in the layout: the agreement with the ledger is kept, and the builder stands for the
 -- calls.
-use Rattle.std.proofs.Common.{◌≡◌, ℕ, List, [], ◌∷◌, ◌++◌, length, refl, sym, ◌∙◌, ap, subst, Bool, false, if◌then◌else◌}
+use Rattle.std.proofs.Common.{◌≡◌, ℕ, List, [], ◌∷◌, ◌++◌, length, refl, sym, ◌∙◌, Bool, false, if◌then◌else◌, inl, inr}
 use Rattle.std.proofs.lemmas.Bool.{false≢true}
 use Rattle.std.specs.Prelude.{◌==◌, map, Option, Some, true}
 use Rattle.clif_types.specs.Signature.{SignatureShape}
@@ -20,6 +20,7 @@ use Rattle.cranelift_frontend.specs.StandsFor.{StandsIn}
 use Rattle.cranelift_frontend.proofs.LedgerBlocks.{agrees-kept}
 use Rattle.cranelift_frontend.proofs.LedgerKept.{answers-none, concluded}
 use Rattle.cranelift_frontend.proofs.LedgerNames.{name-number, named-block, same-block}
+use Rattle.cranelift_frontend.proofs.StandingCallers.{alone_after, kept_alone, same_callers}
 
 -- a block behind another one, by names and by numbers
 after-same : (ledger : Ledger) (block after : Name) (b a : ℕ) (names : List Name) (numbers : List ℕ)
@@ -64,12 +65,14 @@ laid-agrees calls ledger f c p b a layout agrees same = record {
   current = agrees.current;
   layout = same;
   variables = agrees.variables;
-  structured = (
-    agrees.structured.0,
-    λ types are.
-        blocks_structured f f.blocks (put_behind b a f.layout) types agrees.structured.0 c.ssa [] (λ x. refl) (λ x. refl) (agrees.structured.1 types are),
-  );
-  parameters = λ v h is. let old = agrees.parameters v h is in record { inserted = still_stands b a h f.layout old.inserted; begun = old.begun };
+  own = agrees.own;
+  structured = λ types are.
+      blocks_structured f f.blocks (put_behind b a f.layout) types agrees.own c.ssa [] (λ x. refl) (λ x. refl) (agrees.structured types are);
+  callers_types = agrees.callers_types;
+  callers_alone = λ d. elim (agrees.callers_alone d) [
+    | inl alone ↦ inl alone
+    | inr old ↦ inr (record { inserted = still_stands b a d f.layout old.inserted; begun = old.begun })
+  ];
   branches = λ d i here. let old = agrees.branches d i here in record { inserted = still_stands b a (branch_block f i) f.layout old.inserted; filled = old.filled };
   fresh = agrees.fresh;
 }
@@ -107,4 +110,9 @@ laid_stands declared calls f c p block after b a stands ledger = record {
   ledger = ledger;
   carries = carries_after calls f c.ssa stands.carries block after b a;
   begun = λ entry is. stands.begun entry (sym (first_stays b a f.layout) ∙ is);
+  callers_alone = λ d.
+      let call : AnsweredCall = record { request = InsertBlockAfter block after; numbers = [] } in
+      alone_after calls call f (with_layout_after f b a) c c stands.carries.own stands.carries.holds.parameters (same_callers calls call f c.ssa stands.carries tt tt) d
+      (kept_alone stands.carries.own f (with_layout_after f b a) c c d refl (λ was. record { inserted = still_stands b a d f.layout was.inserted; begun = was.begun }))
+      (stands.callers_alone d);
 }

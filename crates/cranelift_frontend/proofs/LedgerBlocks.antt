@@ -1,12 +1,13 @@
 -- A block is created, made current or sealed: the agreement with the ledger is kept.
-use Rattle.std.proofs.Common.{◌≡◌, ◌≢◌, ◌+◌, ◌<◌, ◌≤◌, ℕ, suc, List, [], ◌∷◌, ◌++◌, length, refl, sym, ◌∙◌, ap, subst, arith, inl, inr, length-append}
-use Rattle.std.specs.Prelude.{map, slice_get, Option, Some, option_map, option_and_then, Bool, true, false, if◌then◌else◌, ◌==◌, Contains, Result, Ok, Err, IfOk, OnOk}
+use Rattle.std.proofs.Common.{◌≡◌, ◌≢◌, ◌+◌, ◌<◌, ◌≤◌, ℕ, zero, suc, List, [], ◌∷◌, ◌++◌, length, refl, sym, ◌∙◌, ap, subst, arith, inl, inr, length-append}
+use Rattle.std.specs.Prelude.{map, slice_get, slice_index_or, Option, Some, option_map, option_and_then, Bool, true, false, if◌then◌else◌, ◌==◌, Contains, Result, Ok, Err, IfOk, OnOk}
 use Rattle.std.proofs.lemmas.Bool.{ne_eqb}
 use Rattle.clif_types.specs.declared.types.«Type».{«Type»}
-use Rattle.clif_ir.specs.Body.{Body}
+use Rattle.clif_ir.specs.declared.function.BlockNode.{BlockNode}
+use Rattle.clif_ir.specs.Body.{Body, block_at, empty_block}
 use Rattle.clif_ir.specs.Changes.{with_block}
 use Rattle.clif_ir.specs.Consistent.{IsConsistent}
-use Rattle.clif_ir.specs.Reading.{param_home, stands_in}
+use Rattle.clif_ir.specs.Reading.{stands_in}
 use Rattle.clif_meaning.specs.Name.{Name, answer_of, same_name}
 use Rattle.clif_meaning.specs.Request.{AnsweredCall, CreateBlock, SwitchToBlock, SealBlock, number_of}
 use Rattle.clif_meaning.specs.Ledger.{answer_at, Answered, ABlock, BlockState, Ledger, VariableState, ledger_with, new_block, next_answer}
@@ -17,19 +18,30 @@ use Rattle.clif_ssa.specs.declared.tables.Cell.{Cell}
 use Rattle.clif_ssa.specs.LookUp.{branch_block}
 use Rattle.clif_ssa.specs.Ssa.{predecessors_of, sealed_of, SameBlocks, SamePredecessors}
 use Rattle.clif_ssa.specs.Structured.{Structured}
+use Rattle.clif_ssa.proofs.Counting.{block_params}
 use Rattle.clif_ssa.proofs.Structuring.{same_structured}
 use Rattle.clif_ssa.proofs.StructuredLaws.{block_structured}
 use Rattle.cranelift_frontend.specs.declared.context.BlockStatus.{BlockStatus}
 use Rattle.cranelift_frontend.specs.declared.context.BlockStatus.TheVariants.{Empty}
 use Rattle.cranelift_frontend.specs.Context.{Begins, ContextState, SameStatus, status_of}
 use Rattle.cranelift_frontend.specs.Builder.{is_empty_status, is_filled_status}
-use Rattle.cranelift_frontend.specs.Construction.{IsSealing, IsSealingOf}
-use Rattle.cranelift_frontend.specs.Ledger.{AnswersAgree, AreTypesOf, BlockAgrees, IsBegun, IsEnded, IsStructured, LedgerAgrees, NamesBlock, block_name, ledger_of}
+use Rattle.cranelift_frontend.specs.Construction.{IsSealing}
+use Rattle.cranelift_frontend.specs.Ledger.{AnswersAgree, AreTypesOf, BlockAgrees, HaveTypes, IsBegun, IsEnded, IsStructured, LedgerAgrees, NamesBlock, block_name, ledger_of, value_type}
 use Rattle.cranelift_frontend.proofs.LedgerLists.{get-front, get-last, get-push, if-yes, if-no, named-more, one-named-more, map-some}
 use Rattle.cranelift_frontend.proofs.LedgerNames.{name-number, named-block, state-entries}
-use Rattle.cranelift_frontend.proofs.LedgerKept.{answer-still, Extends, Keeps, extends-constructs, keeps-block, keeps-itself, keeps-of, answers-after, places-after, answers-none, answers-one, concluded}
+use Rattle.cranelift_frontend.proofs.LedgerKept.{answer-still, Extends, Keeps, extends-constructs, keeps-block, keeps-itself, keeps-of, answers-after, places-after, answers-none, answers-one, concluded, types-kept}
 use Rattle.cranelift_frontend.proofs.LedgerMade.{block-exists, changed-names, numbers-kept}
-use Rattle.cranelift_frontend.proofs.Placed.{sealed_branches, sealed_layout, sealed_parameters, sealed_status}
+use Rattle.cranelift_frontend.proofs.Placed.{are_listed, listed_structured, listed_types, sealed_alone, sealed_branches, sealed_layout, sealed_status}
+
+-- a block that doesn't exist has no parameters
+past_params : (nodes : List BlockNode) (b : ℕ) → length nodes ≤ b → (slice_index_or nodes b empty_block).params ≡ []
+past_params [] b past = refl
+past_params (node ∷ nodes) zero past = absurd (omega (arith, past))
+past_params (node ∷ nodes) (suc b) past = past_params nodes b (omega (arith, past))
+
+first_none : (xs ys : List ℕ) → xs ++ ys ≡ [] → xs ≡ []
+first_none [] ys none = refl
+first_none (x ∷ xs) ys none = let no_way : ⊥ = cc in absurd no_way
 
 -- a block of the ledger, one more call on, where sealing and status are as before
 pub block-kept : (calls : List AnsweredCall) (call : AnsweredCall) (c d : ContextState) (k : ℕ) (s : BlockState)
@@ -41,15 +53,14 @@ block-kept calls call c d k s was sealed leads status =
       is_sealed = was.is_sealed ∙ sym sealed;
       is_pristine = was.is_pristine ∙ ap is_empty_status (sym status);
       is_filled = was.is_filled ∙ ap is_filled_status (sym status);
-      parameters = was.parameters;
       predecessors = numbers-kept calls call s.predecessors (predecessors_of c.ssa k) was.predecessors ∙ ap (map Some) (sym leads);
     }
 
 -- a call that changes neither function nor blocks
 pub agrees-kept : (calls : List AnsweredCall) (call : AnsweredCall) (old new : Ledger) (f : Body) (c d : ContextState) (p q : Option ℕ) (answered : List Answered)
-    → LedgerAgrees calls old f c p → new.answers ≡ old.answers ++ answered ∷ [] → new.blocks ≡ old.blocks → new.layout ≡ old.layout
+    (agrees : LedgerAgrees calls old f c p) → new.answers ≡ old.answers ++ answered ∷ [] → new.blocks ≡ old.blocks → new.layout ≡ old.layout
     → option_map Some new.current ≡ option_map (block_name old) q → map (λ (v : VariableState). v.ty) new.variables ≡ d.variables
-    → ((b : ℕ) → is_yes (sealed_of d.ssa b) ≡ is_yes (sealed_of c.ssa b)) → SamePredecessors c.ssa d.ssa → SameStatus c d → IsStructured f d
+    → ((b : ℕ) → is_yes (sealed_of d.ssa b) ≡ is_yes (sealed_of c.ssa b)) → SamePredecessors c.ssa d.ssa → SameStatus c d → IsStructured agrees.own f d
     → AnswersAgree new f (length calls) answered call.numbers → LedgerAgrees (calls ++ call ∷ []) new f d q
 agrees-kept calls call old new f c d p q answered agrees answers blocks layout current variables sealed leads status structured fresh =
     record {
@@ -64,8 +75,10 @@ agrees-kept calls call old new f c d p q answered agrees answers blocks layout c
       current = current ∙ ap (λ (states : List BlockState). option_map (λ (k : ℕ). option_map (λ (s : BlockState). s.block) (slice_get states k)) q) (sym blocks);
       layout = ap (map Some) layout ∙ named-more (block_name old) (block_name new) old.layout f.layout names agrees.layout;
       variables = variables;
+      own = agrees.own;
       structured = structured;
-      parameters = λ v h is. begun_still h (agrees.parameters v h is);
+      callers_types = λ k s there. agrees.callers_types k s (ap (λ (states : List BlockState). slice_get states k) (sym blocks) ∙ there);
+      callers_alone = λ b. elim (agrees.callers_alone b) [ inl alone ↦ inl alone | inr begun ↦ inr (begun_still b begun) ];
       branches = λ b i here. ended_still (branch_block f i) (agrees.branches b i (subst (λ (is : List ℕ). Contains is i) (leads b) here));
       fresh = λ k above. (sealed_at k ∙ (agrees.fresh k above).0, status_at k ∙ (agrees.fresh k above).1, leads k ∙ (agrees.fresh k above).2);
     }
@@ -119,15 +132,17 @@ agrees-created calls ledger f g c d p block agrees function number records seale
       layout = named-more (block_name ledger) (block_name (ledger_with ledger CreateBlock)) ledger.layout f.layout names agrees.layout
           ∙ ap (λ (h : Body). map (block_name (ledger_with ledger CreateBlock)) h.layout) (sym function);
       variables = agrees.variables ∙ sym variables;
-      structured = (
-        agrees.structured.0,
-        λ types are.
-            let own : Own = agrees.structured.0 in
-            let before : Structured types own f c.ssa [] = agrees.structured.1 types (subst (λ (xs : List «Type»). AreTypesOf xs types) variables are) in
-            let made : Structured types own g c.ssa [] = subst (λ (h : Body). Structured types own h c.ssa []) (sym function) (block_structured types own f c.ssa before) in
-            same_structured types own g c.ssa d.ssa [] (λ x b. ap (λ (rows : List (List Cell)). record_at rows x b) records) sealed leads made,
-      );
-      parameters = λ v h is. begun_still h (agrees.parameters v h (ap (λ (b : Body). param_home b v) (sym function) ∙ is));
+      own = agrees.own;
+      structured = λ types are.
+          let own : Own = agrees.own in
+          let before : Structured types own f c.ssa [] = agrees.structured types (subst (λ (xs : List «Type»). AreTypesOf xs types) variables are) in
+          let made : Structured types own g c.ssa [] = subst (λ (h : Body). Structured types own h c.ssa []) (sym function) (block_structured types own f c.ssa before) in
+          same_structured types own g c.ssa d.ssa [] (λ x b. ap (λ (rows : List (List Cell)). record_at rows x b) records) sealed leads made;
+      callers_types = types_agree;
+      callers_alone = λ b. elim (agrees.callers_alone b) [
+        | inl alone ↦ inl (same_params b ∙ alone)
+        | inr begun ↦ inr (begun_still b begun)
+      ];
       branches = λ b i here.
           subst (IsEnded g d) (ap (λ (h : Body). branch_block h i) (sym function))
           (ended_still (branch_block f i) (agrees.branches b i (subst (λ (is : List ℕ). Contains is i) (leads b) here)));
@@ -166,6 +181,25 @@ agrees-created calls ledger f g c d p block agrees function number records seale
           begun = λ empty. was.begun (sym (status_at h) ∙ empty);
         }
 
+    same_params : (b : ℕ) → (block_at g b).params ≡ (block_at f b).params
+    same_params b = ap (λ (h : Body). (block_at h b).params) function ∙ block_params f b
+
+    -- a new block has no parameters
+    none_new : (b : ℕ) → length f.blocks ≤ b → agrees.own.params b ≡ []
+    none_new b past =
+        first_none (agrees.own.params b) _
+        (sym ((listed_structured calls ledger f c p agrees).parameters b).in_order
+        ∙ past_params f.blocks b past)
+
+    types_agree : (k : ℕ) (s : BlockState) → slice_get (ledger_with ledger CreateBlock).blocks k ≡ Some s → HaveTypes g (agrees.own.params k) s.parameters
+    types_agree k s there =
+        elim (get-push ledger.blocks (new_block (next_answer ledger)) k s there) [
+          | inl old ↦ types-kept f g keeps (agrees.own.params k) s.parameters (agrees.callers_types k s old)
+          | inr last ↦
+              let past : length f.blocks ≤ k = omega (arith, last.0, agrees.block_count) in
+              ap (map (value_type g)) (none_new k past) ∙ ap (λ (t : BlockState). map Some t.parameters) last.1
+        ]
+
     ended_still : (h : ℕ) → IsEnded f c h → IsEnded g d h
     ended_still h was = record { inserted = ap (λ (b : Body). stands_in h b.layout) function ∙ was.inserted; filled = status_at h ∙ was.filled }
 
@@ -196,7 +230,6 @@ agrees-created calls ledger f g c d p block agrees function number records seale
                 is_sealed = sym (sealed_at k ∙ (agrees.fresh k past).0);
                 is_pristine = ap is_empty_status (sym none);
                 is_filled = ap is_filled_status (sym none);
-                parameters = refl;
                 predecessors = sym (ap (map Some) (leads k ∙ (agrees.fresh k past).2));
               })
         ]
@@ -214,7 +247,7 @@ created calls f g c d p (Ok block) agrees function number records sealed leads s
 -- a sealed block
 module _ (calls : List AnsweredCall) (ledger : Ledger) (f g : Body) (c d : ContextState) (p : Option ℕ) (name : Name) (block : ℕ) (told : List ℕ)
     (agrees : LedgerAgrees calls ledger f c p) (named : block_name ledger block ≡ Some name) (sealing : IsSealing f c.ssa g d.ssa block told)
-    (begins : Begins c d told) (consistent : IsConsistent g) (variables : d.variables ≡ c.variables) where
+    (begins : Begins c d told) (firm : IsConsistent f) (consistent : IsConsistent g) (variables : d.variables ≡ c.variables) where
   abbrev call : AnsweredCall
   call = record { request = SealBlock name; numbers = [] }
 
@@ -228,10 +261,10 @@ module _ (calls : List AnsweredCall) (ledger : Ledger) (f g : Body) (c d : Conte
   extends = extends-constructs f g sealing.constructs
 
   layout : g.layout ≡ f.layout
-  layout = sealed_layout calls ledger f c p agrees g d (λ b. b == block) told sealing consistent
+  layout = sealed_layout calls ledger f c p agrees g d (λ b. b == block) told sealing firm consistent
 
   status_at : SameStatus c d
-  status_at = sealed_status calls ledger f c p agrees g d (λ b. b == block) told sealing begins
+  status_at = sealed_status calls ledger f c p agrees g d (λ b. b == block) told sealing firm begins
 
   names : (k : ℕ) (x : Name) → block_name ledger k ≡ Some x → block_name new k ≡ Some x
   names k x is = changed-names ledger new name change (λ s. refl) refl k ∙ is
@@ -247,11 +280,17 @@ module _ (calls : List AnsweredCall) (ledger : Ledger) (f g : Body) (c d : Conte
         is_sealed = sym (sealing.sealed k ∙ if-yes (k == block) true (is_yes (sealed_of c.ssa k)) here);
         is_pristine = was.is_pristine ∙ ap is_empty_status (sym (status_at k));
         is_filled = was.is_filled ∙ ap is_filled_status (sym (status_at k));
-        parameters = was.parameters;
         predecessors = numbers-kept calls call s.predecessors (predecessors_of c.ssa k) was.predecessors ∙ ap (map Some) (sym (sealing.predecessors k));
       }
   block_here k s was false other =
       block-kept calls call c d k s was (sealing.sealed k ∙ if-no (k == block) true (is_yes (sealed_of c.ssa k)) other) (sealing.predecessors k) (status_at k)
+
+  structured : IsStructured agrees.own g d
+  structured types are = sealing.structured types agrees.own (agrees.structured types (subst (λ (xs : List «Type»). AreTypesOf xs types) variables are))
+
+  kept_types : (test : Bool) (s : BlockState) → (if test then change s else s).parameters ≡ s.parameters
+  kept_types true s = refl
+  kept_types false s = refl
 
   pub agrees-sealed : LedgerAgrees (calls ++ call ∷ []) new g d p
   agrees-sealed =
@@ -267,13 +306,16 @@ module _ (calls : List AnsweredCall) (ledger : Ledger) (f g : Body) (c d : Conte
         current = one-named-more (block_name ledger) (block_name new) ledger.current p names agrees.current;
         layout = named-more (block_name ledger) (block_name new) ledger.layout f.layout names agrees.layout ∙ ap (map (block_name new)) (sym layout);
         variables = agrees.variables ∙ sym variables;
-        structured = (
-          agrees.structured.0,
-          λ types are.
-              sealing.structured types agrees.structured.0 (agrees.structured.1 types (subst (λ (xs : List «Type»). AreTypesOf xs types) variables are)),
-        );
-        parameters = sealed_parameters calls ledger f c p agrees g d (λ b. b == block) told sealing consistent begins;
-        branches = sealed_branches calls ledger f c p agrees g d (λ b. b == block) told sealing consistent begins;
+        own = agrees.own;
+        structured = structured;
+        callers_types = λ k t there.
+            let entry = state-entries calls ledger (name-number calls ledger f c p agrees) block name change named k t there in
+            types-kept f g (keeps-of f g extends) (agrees.own.params k) entry.0.parameters (agrees.callers_types k entry.0 entry.1)
+            ∙ ap (map Some) (sym (kept_types (k == block) entry.0) ∙ ap (λ (s : BlockState). s.parameters) entry.2);
+        callers_alone = λ b.
+            sealed_alone calls ledger f c p agrees g d (λ b. b == block) told sealing firm consistent begins agrees.own (listed_types d.variables)
+            (structured (listed_types d.variables) (are_listed d.variables)) b (agrees.callers_alone b);
+        branches = sealed_branches calls ledger f c p agrees g d (λ b. b == block) told sealing firm consistent begins;
         fresh = λ k above.
             let past : length f.blocks ≤ k = omega (arith, above, extends.block_count) in
             let exists : block < length f.blocks = block-exists calls ledger f c p agrees block name named in
@@ -287,16 +329,10 @@ module _ (calls : List AnsweredCall) (ledger : Ledger) (f g : Body) (c d : Conte
 -- what comes of sealing
 pub sealed : {E : Type 0} (calls : List AnsweredCall) (f g : Body) (c d : ContextState) (p : Option ℕ) (name : Name) (block : ℕ) (r : Result (Unit {0}) E)
     → LedgerAgrees calls (ledger_of calls) f c p → NamesBlock calls name block
-    → OnOk r ((told : List ℕ) × IsSealing f c.ssa g d.ssa block told × Begins c d told) → IsConsistent g → d.variables ≡ c.variables
+    → OnOk r ((told : List ℕ) × IsSealing f c.ssa g d.ssa block told × Begins c d told) → IsConsistent f → IsConsistent g → d.variables ≡ c.variables
     → OnOk r (LedgerAgrees (calls ++ record { request = SealBlock name; numbers = [] } ∷ []) (ledger_of (calls ++ record { request = SealBlock name; numbers = [] } ∷ [])) g d p)
-sealed calls f g c d p name block (Err e) agrees names seals consistent variables = tt
-sealed calls f g c d p name block (Ok done) agrees names seals consistent variables =
+sealed calls f g c d p name block (Err e) agrees names seals firm consistent variables = tt
+sealed calls f g c d p name block (Ok done) agrees names seals firm consistent variables =
     let named = named-block calls (name-number calls (ledger_of calls) f c p agrees) name block names in
     concluded calls (record { request = SealBlock name; numbers = [] }) g d p
-    (agrees-sealed calls (ledger_of calls) f g c d p name block seals.0 agrees named seals.1 seals.2 consistent variables)
-
--- the statuses after sealing
-pub sealed-statuses : {E : Type 0} (calls : List AnsweredCall) (f g : Body) (c d : ContextState) (p : Option ℕ) (seals : ℕ → Bool) (r : Result (Unit {0}) E)
-    → LedgerAgrees calls (ledger_of calls) f c p → OnOk r ((told : List ℕ) × IsSealingOf f c.ssa g d.ssa seals told × Begins c d told) → OnOk r (SameStatus c d)
-sealed-statuses calls f g c d p seals (Err e) agrees are = tt
-sealed-statuses calls f g c d p seals (Ok done) agrees are = sealed_status calls (ledger_of calls) f c p agrees g d seals are.0 are.1 are.2
+    (agrees-sealed calls (ledger_of calls) f g c d p name block seals.0 agrees named seals.1 seals.2 firm consistent variables)

@@ -12,6 +12,7 @@ use Rattle.clif_meaning.specs.Name.{Name, same_name}
 use Rattle.clif_meaning.specs.Instruction.{Edge}
 use Rattle.clif_meaning.specs.Request.{AnsweredCall, number_of}
 use Rattle.clif_meaning.specs.Ledger.{Answered, BlockState, Ledger, VariableState, answer_at}
+use Rattle.clif_ssa.specs.Own.{Own}
 use Rattle.clif_ssa.specs.Tables.{is_yes}
 use Rattle.clif_ssa.specs.LookUp.{branch_block}
 use Rattle.clif_ssa.specs.Ssa.{predecessors_of, sealed_of}
@@ -19,7 +20,7 @@ use Rattle.clif_simulation.proofs.Telling.{along_old_or_it}
 use Rattle.cranelift_frontend.specs.Context.{ContextState, SameStatus}
 use Rattle.cranelift_frontend.specs.Builder.{is_empty_status, is_filled_status}
 use Rattle.cranelift_frontend.specs.Construction.{IsDeclared}
-use Rattle.cranelift_frontend.specs.Ledger.{BlockAgrees, IsBegun, IsEnded, IsStructured, LedgerAgrees, block_name}
+use Rattle.cranelift_frontend.specs.Ledger.{BlockAgrees, IsBegun, IsEnded, IsStructured, LedgerAgrees, block_name, value_type}
 use Rattle.cranelift_frontend.proofs.LedgerLists.{if-yes, if-no, map-some, named-more, one-named-more}
 use Rattle.cranelift_frontend.proofs.LedgerNames.{IsNumbered, name-number}
 use Rattle.cranelift_frontend.proofs.LedgerKept.{answers-kept, keeps-itself}
@@ -30,7 +31,7 @@ use Rattle.cranelift_frontend.proofs.LedgerLeads.{LeadTo, LedLedger, blocks-alon
 module _ (calls : List AnsweredCall) (old new : Ledger) (g : Body) (c d : ContextState) (p : Option ℕ) (branch : Name) (inst : ℕ) (edges : List (Edge Name Name)) (made : List BlockCall)
     (agrees : LedgerAgrees calls old g c p) (number : number_of calls branch ≡ Some inst) (is_new : (b : ℕ) → Contains (predecessors_of c.ssa b) inst → ⊥)
     (ledger : LedLedger old new branch edges) (lead : LeadTo old edges made) (declared : IsDeclared c.ssa inst (targets made) d.ssa)
-    (same_status : SameStatus c d) (variables : d.variables ≡ c.variables) (structured : IsStructured g d) (ended : IsEnded g d (branch_block g inst)) where
+    (same_status : SameStatus c d) (variables : d.variables ≡ c.variables) (mine : Own) (structured : IsStructured mine g d) (callers : (b : ℕ) → mine.params b ≡ agrees.own.params b) (ended : IsEnded g d (branch_block g inst)) where
   numbered : IsNumbered calls old
   numbered = name-number calls old g c p agrees
 
@@ -99,7 +100,6 @@ module _ (calls : List AnsweredCall) (old new : Ledger) (g : Body) (c d : Contex
         is_sealed = kept_sealed (goes edges s.block) (list_any (same_name branch) s.predecessors) ∙ was.is_sealed ∙ sym (sealed k);
         is_pristine = kept_pristine (goes edges s.block) (list_any (same_name branch) s.predecessors) ∙ was.is_pristine ∙ ap is_empty_status (sym (same_status k));
         is_filled = kept_filled (goes edges s.block) (list_any (same_name branch) s.predecessors) ∙ was.is_filled ∙ ap is_filled_status (sym (same_status k));
-        parameters = kept_parameters (goes edges s.block) (list_any (same_name branch) s.predecessors) ∙ was.parameters;
         predecessors = predecessors k s there was;
       }
     where
@@ -118,10 +118,10 @@ module _ (calls : List AnsweredCall) (old new : Ledger) (g : Body) (c d : Contex
       kept_filled true false = refl
       kept_filled false heard = refl
 
-      kept_parameters : (goes heard : Bool) → (changed s goes heard).parameters ≡ s.parameters
-      kept_parameters true true = refl
-      kept_parameters true false = refl
-      kept_parameters false heard = refl
+  kept_parameters : (s : BlockState) (goes heard : Bool) → (changed s goes heard).parameters ≡ s.parameters
+  kept_parameters s true true = refl
+  kept_parameters s true false = refl
+  kept_parameters s false heard = refl
 
   -- nothing leads to a block that doesn't exist
   not_led : (k : ℕ) → length g.blocks ≤ k → (edges : List (Edge Name Name)) (made : List BlockCall) → LeadTo old edges made → stands_in k (targets made) ≡ false
@@ -155,8 +155,17 @@ module _ (calls : List AnsweredCall) (old new : Ledger) (g : Body) (c d : Contex
         current = ap (option_map Some) ledger.current ∙ one-named-more (block_name old) (block_name new) old.current p names agrees.current;
         layout = ap (map Some) ledger.layout ∙ named-more (block_name old) (block_name new) old.layout g.layout names agrees.layout;
         variables = ap (map (λ (v : VariableState). v.ty)) ledger.variables ∙ agrees.variables ∙ sym variables;
+        own = mine;
         structured = structured;
-        parameters = λ v h is. begun_still h (agrees.parameters v h is);
+        callers_types = λ k t there.
+            let was = state_was k t there in
+            ap (map (value_type g)) (callers k) ∙ agrees.callers_types k was.0 was.1
+            ∙ ap (map Some)
+            (sym (kept_parameters was.0 (goes edges was.0.block) (list_any (same_name branch) was.0.predecessors)) ∙ ap (λ (s : BlockState). s.parameters) was.2);
+        callers_alone = λ b. elim (agrees.callers_alone b) [
+          | inl alone ↦ inl (alone ∙ sym (callers b))
+          | inr begun ↦ inr (begun_still b begun)
+        ];
         branches = λ b i here. elim (along_old_or_it declared.told c.ssa d.ssa inst declared.along b i here) [
           | inl before ↦ ended_still (branch_block g i) (agrees.branches b i before)
           | inr it ↦ subst (λ (n : ℕ). IsEnded g d (branch_block g n)) (sym it) ended

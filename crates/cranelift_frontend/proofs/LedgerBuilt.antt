@@ -9,7 +9,8 @@ use Rattle.clif_ir.specs.declared.instructions.InstructionData.{InstructionData}
 use Rattle.clif_ir.specs.declared.function.ValueNode.{ValueNode}
 use Rattle.clif_ir.specs.declared.function.InstNode.{InstNode}
 use Rattle.clif_ir.specs.declared.block_call.BlockCall.{BlockCall}
-use Rattle.clif_ir.specs.Body.{Body, inst_at, no_inst}
+use Rattle.clif_ir.specs.declared.function.BlockNode.{BlockNode}
+use Rattle.clif_ir.specs.Body.{Body, block_at, inst_at, no_inst}
 use Rattle.clif_ir.specs.Changes.{inserted_in, with_inst, inst_node}
 use Rattle.clif_ir.specs.Consistent.{IsConsistent}
 use Rattle.clif_ir.specs.Instruction.{destinations}
@@ -30,6 +31,7 @@ use Rattle.clif_ssa.specs.Ssa.{SsaState, no_srcloc, predecessors_of, sealed_of}
 use Rattle.clif_ssa.specs.Structured.{Structured, VariableTypes}
 use Rattle.clif_ssa.proofs.Bodies.{firm_from}
 use Rattle.clif_ssa.proofs.Completing.{inserted_firm, inserted_same}
+use Rattle.clif_ssa.proofs.Instructions.{inst_params}
 use Rattle.clif_ssa.proofs.Ordering.{contains_cons, none_contained}
 use Rattle.clif_ssa.proofs.StructuredLaws.{inserted_structured, instruction_structured}
 use Rattle.clif_simulation.proofs.Telling.{MayLead, along_structured}
@@ -41,8 +43,8 @@ use Rattle.cranelift_frontend.specs.Construction.{IsDeclared}
 use Rattle.cranelift_frontend.specs.Ledger.{AreTypesOf, IsEnded, IsStructured, LedgerAgrees, NamesEdges, block_name, value_type, ledger_of}
 use Rattle.cranelift_frontend.proofs.LedgerLists.{get-last, name-of-some}
 use Rattle.cranelift_frontend.proofs.LedgerNames.{name-number, state-twice}
-use Rattle.cranelift_frontend.proofs.LedgerKept.{Continues, Extends, Extends-then, Extends-inserted, Continues-inst, branch-kept, home-inserted, inserted-insts, inserted-values, keeps-of, answers-one, answers-two}
-use Rattle.cranelift_frontend.proofs.LedgerMade.{ChangeAgrees, MadeLedger, Makes, agrees-made, begun-ledger, begun-still, changed-names, ended-here, ended-still, unpristine}
+use Rattle.cranelift_frontend.proofs.LedgerKept.{Continues, Extends, Extends-then, Extends-inserted, Continues-inst, branch-kept, inserted-insts, inserted-values, keeps-of, answers-one, answers-two}
+use Rattle.cranelift_frontend.proofs.LedgerMade.{ChangeAgrees, MadeLedger, Makes, agrees-made, alone-still, begun-ledger, changed-names, ended-here, ended-still, made-callers, unpristine}
 use Rattle.cranelift_frontend.proofs.LedgerUsed.{begun-agrees, begun-not-empty}
 use Rattle.cranelift_frontend.proofs.LedgerLeads.{LedLedger, lead-still, lead-to, led-ledger}
 use Rattle.cranelift_frontend.proofs.LedgerBranched.{agrees-led}
@@ -58,21 +60,18 @@ appended-structured types own f s block shape results consistent exists before =
     (inserted_structured types own f s block before)
 
 appended-is-structured : (f g : Body) (c d : ContextState) (block : ℕ) (shape : InstructionData) (results : List «Type») → IsConsistent f → block < length f.blocks
-    → g ≡ with_inst (inserted_in f block) block Back shape results no_srcloc → d.ssa ≡ c.ssa → d.variables ≡ c.variables → IsStructured f c → IsStructured g d
-appended-is-structured f g c d block shape results consistent exists function ssa variables before =
-    let own : Own = with_own before.0 block (length (inserted_in f block).insts) shape in (
-      own,
-      λ types are.
-          subst (λ (s : SsaState). Structured types own g s []) (sym ssa)
-          (subst (λ (h : Body). Structured types own h c.ssa []) (sym function)
-          (appended-structured types before.0 f c.ssa block shape results consistent exists (before.1 types (subst (λ (xs : List «Type»). AreTypesOf xs types) variables are)))),
-    )
+    → g ≡ with_inst (inserted_in f block) block Back shape results no_srcloc → d.ssa ≡ c.ssa → d.variables ≡ c.variables → (mine : Own) → IsStructured mine f c → IsStructured (with_own mine block (length (inserted_in f block).insts) shape) g d
+appended-is-structured f g c d block shape results consistent exists function ssa variables mine before types are =
+    let own : Own = with_own mine block (length (inserted_in f block).insts) shape in
+    subst (λ (s : SsaState). Structured types own g s []) (sym ssa)
+    (subst (λ (h : Body). Structured types own h c.ssa []) (sym function)
+    (appended-structured types mine f c.ssa block shape results consistent exists (before types (subst (λ (xs : List «Type»). AreTypesOf xs types) variables are))))
 
 -- what an appended instruction makes
 pub appends-make : (calls : List AnsweredCall) (ledger : Ledger) (f g : Body) (c d : ContextState) (p : Option ℕ) (block : ℕ) (shape : InstructionData) (types : List «Type») (status : BlockStatus)
-    → LedgerAgrees calls ledger f c p → IsConsistent f → block < length f.blocks
+    (agrees : LedgerAgrees calls ledger f c p) → IsConsistent f → block < length f.blocks
     → g ≡ with_inst (inserted_in f block) block Back shape types no_srcloc → SetsStatus c d block status → status ≢ Empty → (status_of c block ≡ Filled → status ≡ Filled)
-    → d.ssa ≡ c.ssa → d.variables ≡ c.variables → Makes f c g d block
+    → d.ssa ≡ c.ssa → d.variables ≡ c.variables → Makes agrees.own f c g d block
 appends-make calls ledger f g c d p block shape types status agrees consistent exists function sets some stays ssa variables =
     let made : Continues (inserted_in f block) g = subst (Continues (inserted_in f block)) (sym function) (Continues-inst (inserted_in f block) block Back shape types no_srcloc) in
     let extends : Extends f g = Extends-then f (inserted_in f block) g (Extends-inserted f block) made.extends in
@@ -82,8 +81,14 @@ appends-make calls ledger f g c d p block shape types status agrees consistent e
       sealed = λ b. ap (λ (s : SsaState). is_yes (sealed_of s b)) ssa;
       predecessors = λ b. ap (λ (s : SsaState). predecessors_of s b) ssa;
       variables = variables;
-      structured = appended-is-structured f g c d block shape types consistent exists function ssa variables agrees.structured;
-      parameters = λ v h is. begun-still f g c d block status made.layout sets some h (agrees.parameters v h (home-inserted f block v h (made.homes v h is)));
+      own = with_own agrees.own block (length (inserted_in f block).insts) shape;
+      structured = appended-is-structured f g c d block shape types consistent exists function ssa variables agrees.own agrees.structured;
+      callers = λ b. refl;
+      callers_alone = λ b.
+          alone-still (with_own agrees.own block (length (inserted_in f block).insts) shape) agrees.own f g c d block status made.layout sets some b refl
+          (ap (λ (h : Body). (block_at h b).params) function ∙ inst_params (inserted_in f block) block Back shape types no_srcloc b
+          ∙ ap (λ (blocks : List BlockNode). (block_at (record f { blocks = blocks }) b).params) (inserted_same f block).blocks)
+          (agrees.callers_alone b);
       branches = λ b i leads.
           let before : Contains (predecessors_of c.ssa b) i = subst (λ (s : SsaState). Contains (predecessors_of s b) i) ssa leads in
           let same : branch_block g i ≡ branch_block f i = branch-kept f g (keeps-of f g extends) i (branch_exists calls ledger f c p agrees b i before) in
@@ -216,7 +221,7 @@ module _ (calls : List AnsweredCall) (f g : Body) (c d : ContextState) (p : Opti
   some : Filled ≢ Empty
   some is = cc
 
-  makes : Makes f c g undeclared block
+  makes : Makes agrees.own f c g undeclared block
   makes = appends-make calls ledger f g c undeclared p block shape [] Filled agrees consistent exists function sets some (λ filled. refl) refl variables
 
   current : (x : Name) × (ledger.current ≡ Some x) × (block_name ledger block ≡ Some x)
@@ -228,11 +233,17 @@ module _ (calls : List AnsweredCall) (f g : Body) (c d : ContextState) (p : Opti
       record { blocks = fills.blocks; layout = fills.layout; current = fills.current; variables = fills.variables }
 
   -- the ledger agrees before the branch is declared
-  ended : LedgerAgrees (calls ++ call ∷ []) (record ended_ledger { answers = answered }) g undeclared p
+  abbrev ended : LedgerAgrees (calls ++ call ∷ []) (record ended_ledger { answers = answered }) g undeclared p
   ended =
       agrees-made calls call ledger (record ended_ledger { answers = answered }) f g c undeclared p block current.0 (λ (t : BlockState). filled (unpristine t)) Filled (AnInstruction ∷ [])
       agrees current.2 refl changed (filled-agrees (status_of c block)) sets makes
       (answers-one (record ended_ledger { answers = answered }) g (length calls) AnInstruction inst (node, there) (node, there, refl))
+
+  same_callers : (b : ℕ) → agrees.own.params b ≡ ended.own.params b
+  same_callers b = sym
+      (made-callers calls call ledger (record ended_ledger { answers = answered }) f g c undeclared p block current.0 (λ (t : BlockState). filled (unpristine t)) Filled (AnInstruction ∷ [])
+      agrees current.2 refl changed (filled-agrees (status_of c block)) sets makes
+      (answers-one (record ended_ledger { answers = answered }) g (length calls) AnInstruction inst (node, there) (node, there, refl)) b)
 
   number : number_of (calls ++ call ∷ []) (next_answer ledger) ≡ Some inst
   number = ap (λ (n : ℕ). number_of (calls ++ call ∷ []) (record { place = n; index = 0 })) agrees.places ∙ earlier.new calls call 0
@@ -253,20 +264,20 @@ module _ (calls : List AnsweredCall) (f g : Body) (c d : ContextState) (p : Opti
         open_in (ap (status_of c) (sym is_block) ∙ (agrees.branches x j leads).filled);
   }
 
-  structured : IsStructured g d
-  structured =
-      let own : Own = with_own agrees.structured.0 block (length (inserted_in f block).insts) shape in
+  -- what the caller made then
+  abbrev mine : Own
+  mine = with_own agrees.own block (length (inserted_in f block).insts) shape
+
+  structured : IsStructured mine g d
+  structured types are =
       let same : inst ≡ length (inserted_in f block).insts = is_inst ∙ sym (inserted-insts f block) in
-      let more : length g.insts ≡ length (inserted_in f block).insts + 1 = ap (λ (h : Body). length h.insts) function ∙ length-append (inserted_in f block).insts (node ∷ []) in (
-        own,
-        λ types are.
-            along_structured declared.told types own g c.ssa d.ssa inst (omega (arith, same, more)) declared.once may_lead
-            (λ k. ap (λ (n : InstNode). args_of (slice_get (destinations n.shape) k)) node_is
-            ∙ ap (λ passes. passes k) (sym (updated-same (agrees.structured.0).passed (length (inserted_in f block).insts) (shape_passes shape) inst same)))
-            declared.along (subst (λ (h : Body). Structured types own h c.ssa []) (sym function)
-            (appended-structured types agrees.structured.0 f c.ssa block shape [] consistent exists
-            (agrees.structured.1 types (subst (λ (xs : List «Type»). AreTypesOf xs types) variables are)))),
-      )
+      let more : length g.insts ≡ length (inserted_in f block).insts + 1 = ap (λ (h : Body). length h.insts) function ∙ length-append (inserted_in f block).insts (node ∷ []) in
+      along_structured declared.told types mine g c.ssa d.ssa inst (omega (arith, same, more)) declared.once may_lead
+      (λ k. ap (λ (n : InstNode). args_of (slice_get (destinations n.shape) k)) node_is
+      ∙ ap (λ passes. passes k) (sym (updated-same agrees.own.passed (length (inserted_in f block).insts) (shape_passes shape) inst same)))
+      declared.along (subst (λ (h : Body). Structured types mine h c.ssa []) (sym function)
+      (appended-structured types agrees.own f c.ssa block shape [] consistent exists
+      (agrees.structured types (subst (λ (xs : List «Type»). AreTypesOf xs types) variables are))))
 
   led : LedLedger (record ended_ledger { answers = answered }) (record (fold (with_predecessor (next_answer ledger)) ended_ledger instruction.edges) { answers = answered })
       (next_answer ledger) instruction.edges
@@ -281,7 +292,7 @@ module _ (calls : List AnsweredCall) (f g : Body) (c d : ContextState) (p : Opti
       (lead-still ledger (record ended_ledger { answers = answered }) instruction.edges (destinations shape)
       (λ k x is. changed-names ledger (record ended_ledger { answers = answered }) current.0 (λ (t : BlockState). filled (unpristine t)) (λ s. refl) changed.blocks k ∙ is)
       (lead-to calls instruction.edges (destinations shape) (name-number calls ledger f c p agrees) names))
-      declared (λ b. refl) refl structured (subst (IsEnded g d) (sym stands) (ended-here f g c d block makes.layout sets))
+      declared (λ b. refl) refl mine structured same_callers (subst (IsEnded g d) (sym stands) (ended-here f g c d block makes.layout sets))
 
   -- a terminator, with its edges
   pub agrees-ended : is_terminator instruction.operation ≡ true → program.result_types instruction.operation instruction.controlling ≡ []

@@ -1,5 +1,5 @@
 -- The ledger agrees with a new builder, and tells what `finalize` answers.
-use Rattle.std.proofs.Common.{◌≡◌, ◌+◌, ℕ, suc, List, [], ◌∷◌, length, refl, sym, subst, arith}
+use Rattle.std.proofs.Common.{◌≡◌, ◌+◌, ℕ, suc, List, [], ◌∷◌, length, refl, sym, subst, arith, inl}
 use Rattle.std.specs.Prelude.{slice_get, Option, Some, None, Err, Bool, true, false, if◌then◌else◌, not, ◌&&◌, find}
 use Rattle.std.proofs.lemmas.Option.{none-some}
 use Rattle.clif_types.specs.Signature.{SignatureShape}
@@ -35,8 +35,10 @@ agrees-empty name signature =
       current = refl;
       layout = refl;
       variables = refl;
-      structured = (no_own, λ types are. first_structured types name signature);
-      parameters = λ v b is. absurd (none-some b is);
+      own = no_own;
+      structured = λ types are. first_structured types name signature;
+      callers_types = λ k s there. absurd (none-some s there);
+      callers_alone = λ b. inl refl;
       branches = λ b branch leads. absurd (none_contained branch leads);
       fresh = λ k above. (refl, refl, refl);
     }

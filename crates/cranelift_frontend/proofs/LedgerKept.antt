@@ -23,9 +23,9 @@ use Rattle.clif_ssa.specs.declared.tables.Pending.{Pending}
 use Rattle.clif_ssa.specs.Constructs.{MayPassMore, OnlyConstructs}
 use Rattle.clif_ssa.specs.LookUp.{branch_block}
 use Rattle.clif_ssa.specs.Ssa.{no_srcloc, with_zero, zeroed, zeroed_in, completed, completing_blocks}
-use Rattle.cranelift_frontend.specs.Ledger.{AnswerAgrees, ResultsFollow, AnswersAgree, LedgerAgrees, block_name, value_type, ledger_of}
+use Rattle.cranelift_frontend.specs.Ledger.{AnswerAgrees, HaveTypes, ResultsFollow, AnswersAgree, LedgerAgrees, block_name, value_type, ledger_of}
 use Rattle.cranelift_frontend.specs.Context.{ContextState}
-use Rattle.cranelift_frontend.proofs.LedgerLists.{fold-push, get-front, get-last, get-push, map-some, some-is, and-then-some, if-yes}
+use Rattle.cranelift_frontend.proofs.LedgerLists.{fold-push, get-front, get-last, get-push, map-some, some-is, and-then-some, if-yes, numbered-more}
 
 -- the ledger with one more call
 pub ledger-more : (calls : List AnsweredCall) (call : AnsweredCall) → ledger_of (calls ++ call ∷ []) ≡ ledger_with (ledger_of calls) call.request
@@ -331,6 +331,10 @@ completing-homes P f (p ∷ pending) there b stands =
           | inl here ↦ subst P (eqb-true h b here) (there p.param h is).1
           | inr next ↦ later next
         ]
+
+-- values keep their types
+pub types-kept : (f g : Body) → Keeps f g → (values : List ℕ) (types : List «Type») → HaveTypes f values types → HaveTypes g values types
+types-kept f g keeps values types = numbered-more (value_type f) (value_type g) values types keeps.values
 
 -- answers stay
 answer-kept : (old new : Ledger) (f g : Body) → ((k : ℕ) (name : Name) → block_name old k ≡ Some name → block_name new k ≡ Some name) → Keeps f g

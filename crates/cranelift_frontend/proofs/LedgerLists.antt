@@ -61,9 +61,9 @@ named-more old new (x ∷ names) (k ∷ numbers) more same =
     let others : map Some names ≡ map new numbers = named-more old new names numbers more rest in
     cc
 
--- numbers of names stay, if the number of each name stays
-pub numbered-more : {X : Type 0} (old new : X → Option ℕ) (names : List X) (numbers : List ℕ)
-    → ((x : X) (k : ℕ) → old x ≡ Some k → new x ≡ Some k) → map old names ≡ map Some numbers → map new names ≡ map Some numbers
+-- numbers of names stay, if the number of each name stays; and so with types of values
+pub numbered-more : {X Y : Type 0} (old new : X → Option Y) (names : List X) (numbers : List Y)
+    → ((x : X) (k : Y) → old x ≡ Some k → new x ≡ Some k) → map old names ≡ map Some numbers → map new names ≡ map Some numbers
 numbered-more old new [] [] more same = refl
 numbered-more old new [] (k ∷ numbers) more same = let no_way : ⊥ = cc in absurd no_way
 numbered-more old new (x ∷ names) [] more same = let no_way : ⊥ = cc in absurd no_way

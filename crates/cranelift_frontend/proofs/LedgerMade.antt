@@ -4,14 +4,15 @@ use Rattle.std.specs.Prelude.{map, slice_get, Option, Some, option_map, Bool, tr
 use Rattle.std.proofs.lemmas.Option.{slice_get_within}
 use Rattle.std.proofs.lemmas.Bool.{cases_eq, eq-eqb, eqb-true, ne_eqb}
 use Rattle.std.proofs.lemmas.List.{map_push}
-use Rattle.clif_ir.specs.Body.{Body}
+use Rattle.clif_ir.specs.Body.{Body, block_at}
 use Rattle.clif_ir.specs.Changes.{inserted_in}
 use Rattle.clif_ir.specs.Changes as body
-use Rattle.clif_ir.specs.Reading.{param_home, stands_in}
+use Rattle.clif_ir.specs.Reading.{stands_in}
 use Rattle.clif_meaning.specs.Name.{Name, same_name}
 use Rattle.clif_meaning.specs.Request.{AnsweredCall, number_of}
 use Rattle.clif_meaning.specs.Ledger.{ABlock, Answered, BlockState, Ledger, VariableState, with_state, with_layout, with_begun, with_begun_at, is_inserted}
 use Rattle.clif_meaning.proofs.CallLists.{kept}
+use Rattle.clif_ssa.specs.Own.{Own}
 use Rattle.clif_ssa.specs.Tables.{is_yes}
 use Rattle.clif_ssa.specs.LookUp.{branch_block}
 use Rattle.clif_ssa.specs.Ssa.{SamePredecessors, predecessors_of, sealed_of}
@@ -19,10 +20,10 @@ use Rattle.cranelift_frontend.specs.declared.context.BlockStatus.{BlockStatus}
 use Rattle.cranelift_frontend.specs.declared.context.BlockStatus.TheVariants.{Empty, Filled}
 use Rattle.cranelift_frontend.specs.Context.{ContextState, status_of, SetsStatus}
 use Rattle.cranelift_frontend.specs.Builder.{is_empty_status, is_filled_status}
-use Rattle.cranelift_frontend.specs.Ledger.{AnswersAgree, BlockAgrees, IsBegun, IsEnded, IsStructured, LedgerAgrees, block_name}
+use Rattle.cranelift_frontend.specs.Ledger.{AloneUnlessBegun, AnswersAgree, BlockAgrees, IsBegun, IsEnded, IsStructured, LedgerAgrees, block_name, value_type}
 use Rattle.cranelift_frontend.proofs.LedgerLists.{if-yes, if-no, named-more, numbered-more, one-named-more, map-some}
 use Rattle.cranelift_frontend.proofs.LedgerNames.{IsNumbered, name-number, block-inserted, state-names, state-entries}
-use Rattle.cranelift_frontend.proofs.LedgerKept.{answer-still, Extends, keeps-of, answers-after, places-after, stands-inserted, stands-still}
+use Rattle.cranelift_frontend.proofs.LedgerKept.{answer-still, Extends, keeps-of, answers-after, places-after, stands-inserted, stands-still, types-kept}
 
 -- a change of a block's state leaves what it is, and has it agree with another status
 pub record ChangeAgrees (change : BlockState → BlockState) (old new : BlockStatus) : Type 0 where
@@ -40,15 +41,17 @@ pub record MadeLedger (old new : Ledger) (name : Name) (change : BlockState → 
   pub current : new.current ≡ old.current
   pub variables : map (λ (v : VariableState). v.ty) new.variables ≡ map (λ (v : VariableState). v.ty) old.variables
 
--- the function and the context in which something was made in a block
-pub record Makes (f : Body) (c : ContextState) (g : Body) (d : ContextState) (block : ℕ) : Type 0 where
+-- the function and the context in which something was made in a block: `mine` is what the caller made before
+pub record Makes (mine : Own) (f : Body) (c : ContextState) (g : Body) (d : ContextState) (block : ℕ) : Type 0 where
   pub extends : Extends f g
   pub layout : g.layout ≡ (inserted_in f block).layout
   pub sealed : (b : ℕ) → is_yes (sealed_of d.ssa b) ≡ is_yes (sealed_of c.ssa b)
   pub predecessors : SamePredecessors c.ssa d.ssa
   pub variables : d.variables ≡ c.variables
-  pub structured : IsStructured g d
-  pub parameters : (value h : ℕ) → param_home g value ≡ Some h → IsBegun g d h
+  pub own : Own
+  pub structured : IsStructured own g d
+  pub callers : (b : ℕ) → own.params b ≡ mine.params b
+  pub callers_alone : (b : ℕ) → AloneUnlessBegun own g d b
   pub branches : (b branch : ℕ) → Contains (predecessors_of d.ssa b) branch → IsEnded g d (branch_block g branch)
 
 -- what was begun or ended is so when something was made in a block
@@ -69,6 +72,15 @@ begun-here f g c d block status layout sets begun =
       inserted = ap (stands_in block) layout ∙ stands-inserted f block;
       begun = λ empty. begun (sym (sets block ∙ if-yes (block == block) status (status_of c block) (eq-eqb block block refl)) ∙ empty);
     }
+
+-- a block that has as many parameters has the caller's alone as before
+pub alone-still : (own mine : Own) (f g : Body) (c d : ContextState) (block : ℕ) (status : BlockStatus) → g.layout ≡ (inserted_in f block).layout → SetsStatus c d block status → status ≢ Empty
+    → (h : ℕ) → own.params h ≡ mine.params h → (block_at g h).params ≡ (block_at f h).params → AloneUnlessBegun mine f c h → AloneUnlessBegun own g d h
+alone-still own mine f g c d block status layout sets some h same params was =
+    elim was [
+      | inl alone ↦ inl (params ∙ alone ∙ sym same)
+      | inr begun ↦ inr (begun-still f g c d block status layout sets some h begun)
+    ]
 
 pub ended-still : (f g : Body) (c d : ContextState) (block : ℕ) (status : BlockStatus) → g.layout ≡ (inserted_in f block).layout → SetsStatus c d block status
     → (status_of c block ≡ Filled → status ≡ Filled) → (h : ℕ) → IsEnded f c h → IsEnded g d h
@@ -127,7 +139,6 @@ blocks-after calls call old new f c d p block name change status agrees named bl
           is_sealed = changes.is_sealed s ∙ was.is_sealed ∙ sym (sealed k);
           is_pristine = changes.is_pristine s (was.is_pristine ∙ ap is_empty_status before) ∙ ap is_empty_status (sym now);
           is_filled = changes.is_filled s (was.is_filled ∙ ap is_filled_status before) ∙ ap is_filled_status (sym now);
-          parameters = changes.parameters s ∙ was.parameters;
           predecessors = ap (map (number_of (calls ++ call ∷ []))) (changes.predecessors s) ∙ numbers-kept calls call s.predecessors (predecessors_of c.ssa k) was.predecessors ∙ ap (map Some) (sym (leads k));
         }
     by s was false other =
@@ -137,7 +148,6 @@ blocks-after calls call old new f c d p block name change status agrees named bl
           is_sealed = was.is_sealed ∙ sym (sealed k);
           is_pristine = was.is_pristine ∙ ap is_empty_status (sym same);
           is_filled = was.is_filled ∙ ap is_filled_status (sym same);
-          parameters = was.parameters;
           predecessors = numbers-kept calls call s.predecessors (predecessors_of c.ssa k) was.predecessors ∙ ap (map Some) (sym (leads k));
         }
 
@@ -163,9 +173,9 @@ layout-after calls old new f block name numbered same named names =
         ∙ sym (map_push (block_name new) f.layout block)
 
 pub agrees-made : (calls : List AnsweredCall) (call : AnsweredCall) (old new : Ledger) (f g : Body) (c d : ContextState) (p : Option ℕ) (block : ℕ) (name : Name) (change : BlockState → BlockState) (status : BlockStatus) (answered : List Answered)
-    → LedgerAgrees calls old f c p → block_name old block ≡ Some name
+    (agrees : LedgerAgrees calls old f c p) → block_name old block ≡ Some name
     → new.answers ≡ old.answers ++ answered ∷ [] → MadeLedger old new name change
-    → ChangeAgrees change (status_of c block) status → SetsStatus c d block status → Makes f c g d block
+    → ChangeAgrees change (status_of c block) status → SetsStatus c d block status → Makes agrees.own f c g d block
     → AnswersAgree new g (length calls) answered call.numbers → LedgerAgrees (calls ++ call ∷ []) new g d p
 agrees-made calls call old new f g c d p block name change status answered agrees named answers ledger changes sets makes fresh =
     record {
@@ -178,8 +188,13 @@ agrees-made calls call old new f g c d p block name change status answered agree
       current = ap (option_map Some) ledger.current ∙ one-named-more (block_name old) (block_name new) old.current p names agrees.current;
       layout = ap (map Some) ledger.layout ∙ layout-after calls old new f block name numbered agrees.layout named names ∙ ap (map (block_name new)) (sym makes.layout);
       variables = ledger.variables ∙ agrees.variables ∙ sym makes.variables;
+      own = makes.own;
       structured = makes.structured;
-      parameters = makes.parameters;
+      callers_types = λ k t there.
+          let entry = state-entries calls old numbered block name change named k t (ap (λ (states : List BlockState). slice_get states k) (sym ledger.blocks) ∙ there) in
+          ap (map (value_type g)) (makes.callers k) ∙ types-kept f g (keeps-of f g makes.extends) (agrees.own.params k) entry.0.parameters (agrees.callers_types k entry.0 entry.1)
+          ∙ ap (map Some) (sym (kept_types (k == block) entry.0) ∙ ap (λ (s : BlockState). s.parameters) entry.2);
+      callers_alone = makes.callers_alone;
       branches = makes.branches;
       fresh = λ k above.
           let past : length f.blocks ≤ k = omega (arith, above, makes.extends.block_count) in
@@ -194,6 +209,10 @@ agrees-made calls call old new f g c d p block name change status answered agree
     numbered : IsNumbered calls old
     numbered = name-number calls old f c p agrees
 
+    kept_types : (test : Bool) (s : BlockState) → (if test then change s else s).parameters ≡ s.parameters
+    kept_types true s = changes.parameters s
+    kept_types false s = refl
+
     names : (k : ℕ) (x : Name) → block_name old k ≡ Some x → block_name new k ≡ Some x
     names k x is = changed-names old new name change changes.block ledger.blocks k ∙ is
 
@@ -203,6 +222,16 @@ agrees-made calls call old new f g c d p block name change status answered agree
         length_map : (states : List BlockState) → length (map (λ (s : BlockState). if same_name s.block name then change s else s) states) ≡ length states
         length_map [] = refl
         length_map (s ∷ states) = ap suc (length_map states)
+
+-- the caller's parameters then
+pub made-callers : (calls : List AnsweredCall) (call : AnsweredCall) (old new : Ledger) (f g : Body) (c d : ContextState) (p : Option ℕ) (block : ℕ) (name : Name) (change : BlockState → BlockState) (status : BlockStatus) (answered : List Answered)
+    (agrees : LedgerAgrees calls old f c p) (named : block_name old block ≡ Some name)
+    (answers : new.answers ≡ old.answers ++ answered ∷ []) (ledger : MadeLedger old new name change)
+    (changes : ChangeAgrees change (status_of c block) status) (sets : SetsStatus c d block status) (makes : Makes agrees.own f c g d block)
+    (fresh : AnswersAgree new g (length calls) answered call.numbers)
+    → (b : ℕ) → (agrees-made calls call old new f g c d p block name change status answered agrees named answers ledger changes sets makes fresh).own.params b ≡ agrees.own.params b
+unfolding agrees-made
+made-callers calls call old new f g c d p block name change status answered agrees named answers ledger changes sets makes fresh b = makes.callers b
 
 -- the ledger in which something was made in the current block
 abbrev pub unpristine : BlockState → BlockState

@@ -10,7 +10,6 @@ use Rattle.clif_ir.specs.Consistent.{IsConsistent}
 use Rattle.clif_meaning.specs.Name.{Name}
 use Rattle.clif_meaning.specs.Request.{AnsweredCall, UseVar}
 use Rattle.clif_meaning.specs.Ledger.{AValue, Ledger, VariableState, or_invalid, variable_type, ledger_with, with_begun, touched_at}
-use Rattle.clif_ssa.specs.Own.{Own}
 use Rattle.clif_ssa.specs.Structured.{HasType, Structured, VariableTypes}
 use Rattle.clif_ssa.proofs.StructuredLaws.{inserted_structured}
 use Rattle.cranelift_frontend.specs.declared.context.BlockStatus.{BlockStatus}
@@ -22,7 +21,7 @@ use Rattle.cranelift_frontend.specs.Ledger.{AreTypesOf, LedgerAgrees, block_name
 use Rattle.cranelift_frontend.proofs.LedgerLists.{name-of-some}
 use Rattle.cranelift_frontend.proofs.LedgerKept.{Extends-inserted, Extends-then, answers-one, concluded, extends-constructs}
 use Rattle.cranelift_frontend.proofs.LedgerMade.{ChangeAgrees, MadeLedger, Makes, agrees-made, begun-ledger, unpristine}
-use Rattle.cranelift_frontend.proofs.Placed.{are_listed, listed_types, used_branches, used_layout, used_parameters, used_status}
+use Rattle.cranelift_frontend.proofs.Placed.{are_listed, listed_types, used_alone, used_branches, used_layout, used_status}
 
 -- a mark on a variable leaves the types
 pub types-touched : (variable : ℕ) (states : List VariableState) → map (λ (v : VariableState). v.ty) (touched_at variable states) ≡ map (λ (v : VariableState). v.ty) states
@@ -73,13 +72,12 @@ module _ (calls : List AnsweredCall) (ledger : Ledger) (f g : Body) (c d : Conte
     (use_of : IsUse (inserted_in f block) c.ssa g d.ssa variable ty block value told) (begins : Begins c d (block ∷ told)) (consistent : IsConsistent g)
     (variables : d.variables ≡ c.variables) where
   -- the structure then
-  used-structured : (types : VariableTypes) → AreTypesOf c.variables types → Structured types agrees.structured.0 g d.ssa [] × HasType g value ty
+  used-structured : (types : VariableTypes) → AreTypesOf c.variables types → Structured types agrees.own g d.ssa [] × HasType g value ty
   used-structured types are =
-      let own : Own = agrees.structured.0 in
-      use_of.structured types own (sym (are variable ty declared)) (inserted_structured types own f c.ssa block (agrees.structured.1 types are))
+      use_of.structured types agrees.own (sym (are variable ty declared)) (inserted_structured types agrees.own f c.ssa block (agrees.structured types are))
 
   -- what a use makes, and the type of its answer
-  pub use-makes : Makes f c g d block
+  pub use-makes : Makes agrees.own f c g d block
   use-makes =
       record {
         extends = Extends-then f (inserted_in f block) g (Extends-inserted f block) (extends-constructs (inserted_in f block) g use_of.constructs);
@@ -87,8 +85,12 @@ module _ (calls : List AnsweredCall) (ledger : Ledger) (f g : Body) (c d : Conte
         sealed = use_of.flags;
         predecessors = use_of.predecessors;
         variables = variables;
-        structured = (agrees.structured.0, λ types are. (used-structured types (subst (λ (xs : List «Type»). AreTypesOf xs types) variables are)).0);
-        parameters = used_parameters calls ledger f c p agrees g d variable ty block value told use_of consistent begins;
+        own = agrees.own;
+        structured = λ types are. (used-structured types (subst (λ (xs : List «Type»). AreTypesOf xs types) variables are)).0;
+        callers = λ b. refl;
+        callers_alone = λ b.
+            used_alone calls ledger f c p agrees g d variable ty block value told use_of consistent begins agrees.own (listed_types c.variables)
+            (used-structured (listed_types c.variables) (are_listed c.variables)).0 b (agrees.callers_alone b);
         branches = used_branches calls ledger f c p agrees g d variable ty block value told use_of consistent begins;
       }
 

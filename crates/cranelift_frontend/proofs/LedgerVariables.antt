@@ -34,7 +34,7 @@ agrees-declared calls ledger f c p ty variable agrees number =
     agrees-kept calls call ledger new f c d p p (AVariable (length ledger.variables) ∷ []) agrees refl refl refl agrees.current
     (map_push (λ (v : VariableState). v.ty) ledger.variables (new_variable ty) ∙ ap (λ (types : List «Type»). types ++ ty ∷ []) agrees.variables)
     (λ b. refl) (λ b. refl) (λ b. refl)
-    (agrees.structured.0, λ types are. agrees.structured.1 types (λ x t is. are x t (get-front c.variables _ x t is)))
+    (λ types are. agrees.structured types (λ x t is. are x t (get-front c.variables _ x t is)))
     (answers-one new f (length calls) (AVariable (length ledger.variables)) variable (number ∙ sym (variable-count calls ledger f c p agrees)) tt)
 
 -- what comes of a declaration
@@ -57,14 +57,12 @@ agrees-assigned calls ledger f c d p variable name block value ty agrees declare
     agrees-kept calls call ledger new f c d p p [] agrees refl refl refl agrees.current
     (types-touched variable ledger.variables ∙ agrees.variables ∙ sym variables)
     (λ b. ap (λ (xs : List SsaBlock). is_yes (sealed_at xs b)) blocks) leads
-    (λ b. ap (λ (xs : List BlockStatus). status_of (record c { status = xs }) b) status) (
-      agrees.structured.0,
-      λ types are.
-          let before : AreTypesOf c.variables types = subst (λ (xs : List «Type»). AreTypesOf xs types) variables are in
-          let has : HasType f value (types variable) = subst (HasType f value) (sym (before variable ty declared)) typed in
-          assigned_structured types agrees.structured.0 f c.ssa d.ssa variable block value has records (λ b. ap (λ (xs : List SsaBlock). sealed_at xs b) blocks) leads
-          (agrees.structured.1 types before),
-    )
+    (λ b. ap (λ (xs : List BlockStatus). status_of (record c { status = xs }) b) status)
+    (λ types are.
+    let before : AreTypesOf c.variables types = subst (λ (xs : List «Type»). AreTypesOf xs types) variables are in
+    let has : HasType f value (types variable) = subst (HasType f value) (sym (before variable ty declared)) typed in
+    assigned_structured types agrees.own f c.ssa d.ssa variable block value has records (λ b. ap (λ (xs : List SsaBlock). sealed_at xs b) blocks) leads
+    (agrees.structured types before))
     (answers-none new f (length calls))
   where
     leads : SamePredecessors c.ssa d.ssa

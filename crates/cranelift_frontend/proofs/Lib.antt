@@ -1,6 +1,7 @@
 pub mod Faults
 pub mod LedgerLists
 pub mod LedgerNames
+pub mod Callers
 pub mod LedgerKept
 pub mod Placed
 pub mod LedgerMade
@@ -18,6 +19,7 @@ pub mod Laid
 pub mod Named
 mod Appending
 pub mod Statuses
+pub mod StandingCallers
 pub mod Standing
 pub mod StandingResults
 pub mod Marking
@@ -26,3 +28,5 @@ pub mod Finishing
 pub mod StandingBuilt
 pub mod StandingShaped
 mod Remembered
+pub mod Parameters
+pub mod StandingParameters

@@ -1,36 +1,37 @@
 -- A block is made cold, and the current block is brought into the layout: the agreement with the ledger is kept, and the
 -- builder stands for the calls.
-use Rattle.std.proofs.Common.{◌≡◌, ◌≢◌, ℕ, ◌<◌, List, [], ◌∷◌, ◌++◌, length, refl, sym, ◌∙◌, ap, subst, length-set, ◌≤◌, Bool, false, if◌then◌else◌, ◌⊎◌, inl, inr}
+use Rattle.std.proofs.Common.{◌≡◌, ◌≢◌, ℕ, List, [], ◌∷◌, ◌++◌, length, refl, sym, ◌∙◌, ap, subst, length-set, ◌≤◌, Bool, false, if◌then◌else◌, ◌⊎◌, inl, inr}
 use Rattle.std.proofs.lemmas.Bool.{eq-eqb, false≢true}
-use Rattle.std.specs.Prelude.{◌==◌, map, slice_get, Option, Some, option_map, Contains, true, OnOk, Result, Ok, Err}
+use Rattle.std.specs.Prelude.{◌==◌, slice_get, Option, Some, option_map, Contains, true, OnOk, Result, Ok, Err}
 use Rattle.clif_types.specs.declared.types.«Type».{«Type»}
 use Rattle.clif_types.specs.Signature.{SignatureShape}
 use Rattle.clif_ir.specs.declared.function.BlockNode.{BlockNode}
-use Rattle.clif_ir.specs.Body.{Body}
+use Rattle.clif_ir.specs.Body.{Body, block_at}
 use Rattle.clif_ir.specs.Changes.{inserted_in, with_cold, with_layout}
 use Rattle.clif_ir.specs.Reading.{stands_in}
 use Rattle.clif_meaning.specs.Name.{Name}
-use Rattle.clif_meaning.specs.Request.{AnsweredCall, EnsureInsertedBlock, Request, SetColdBlock}
+use Rattle.clif_meaning.specs.Request.{AnsweredCall, EnsureInsertedBlock, SetColdBlock}
 use Rattle.clif_meaning.specs.Ledger.{Ledger, ledger_with}
 use Rattle.clif_ssa.specs.Ssa.{NamesExist, SsaState, predecessors_of, sealed_of}
 use Rattle.clif_ssa.specs.Tables.{is_yes}
 use Rattle.clif_ssa.specs.LookUp.{branch_block}
 use Rattle.clif_ssa.specs.Structured.{Structured}
+use Rattle.clif_ssa.proofs.Completing.{inserted_same}
 use Rattle.clif_ssa.proofs.StructuredLaws.{blocks_structured, inserted_structured}
 use Rattle.clif_simulation.specs.Carries.{Carries}
 use Rattle.clif_simulation.proofs.Further.{carries_cold, carries_ensured, cold_insts, cold_params}
-use Rattle.cranelift_frontend.specs.declared.context.BlockStatus.TheVariants.{Empty, Filled}
+use Rattle.cranelift_frontend.specs.declared.context.BlockStatus.TheVariants.{Empty}
 use Rattle.cranelift_frontend.specs.Context.{ContextState, begun, status_of, SetsStatus}
-use Rattle.cranelift_frontend.specs.Ledger.{AreTypesOf, IsBegun, IsEnded, IsStructured, LedgerAgrees, block_name, ledger_of}
+use Rattle.cranelift_frontend.specs.Ledger.{AreTypesOf, IsEnded, LedgerAgrees, block_name, ledger_of}
 use Rattle.cranelift_frontend.specs.StandsFor.{StandsIn}
 use Rattle.cranelift_frontend.proofs.LedgerBlocks.{agrees-kept}
-use Rattle.cranelift_frontend.proofs.LedgerBuilt.{appends-make}
-use Rattle.cranelift_frontend.proofs.LedgerKept.{Extends-inserted, Keeps, answers-after, answers-none, branch-kept, concluded, home-inserted, keeps-itself, keeps-of, ledger-more}
+use Rattle.cranelift_frontend.proofs.LedgerKept.{Extends-inserted, answers-none, branch-kept, concluded, keeps-of}
 use Rattle.cranelift_frontend.proofs.LedgerLists.{name-of-some}
-use Rattle.cranelift_frontend.proofs.LedgerMade.{MadeLedger, Makes, agrees-made, begun-ledger, begun-still, ended-still, unpristine}
+use Rattle.cranelift_frontend.proofs.LedgerMade.{MadeLedger, Makes, agrees-made, alone-still, begun-ledger, ended-still, unpristine}
 use Rattle.cranelift_frontend.proofs.LedgerUsed.{begun-agrees, begun-not-empty}
 use Rattle.cranelift_frontend.proofs.Placed.{branch_exists}
 use Rattle.cranelift_frontend.proofs.Standing.{current_name, first_cases}
+use Rattle.cranelift_frontend.proofs.StandingCallers.{alone_after, kept_alone, same_callers}
 
 -- COLD BLOCKS -------------------------------------------------------------------------------------------------------------
 
@@ -48,13 +49,15 @@ cold-agrees calls ledger f c p b agrees = record {
   current = agrees.current;
   layout = agrees.layout;
   variables = agrees.variables;
-  structured = (
-    agrees.structured.0,
-    λ types are.
-        blocks_structured f (with_cold f b).blocks f.layout types agrees.structured.0 c.ssa [] (cold_params f.blocks b) (cold_insts f.blocks b)
-        (agrees.structured.1 types are),
-  );
-  parameters = λ v h is. let old = agrees.parameters v h is in record { inserted = old.inserted; begun = old.begun };
+  own = agrees.own;
+  structured = λ types are.
+      blocks_structured f (with_cold f b).blocks f.layout types agrees.own c.ssa [] (cold_params f.blocks b) (cold_insts f.blocks b)
+      (agrees.structured types are);
+  callers_types = agrees.callers_types;
+  callers_alone = λ d. elim (agrees.callers_alone d) [
+    | inl alone ↦ inl (cold_params f.blocks b d ∙ alone)
+    | inr old ↦ inr (record { inserted = old.inserted; begun = old.begun })
+  ];
   branches = λ d i here. let old = agrees.branches d i here in record { inserted = old.inserted; filled = old.filled };
   fresh = λ k above. agrees.fresh k (subst (λ (n : ℕ). n ≤ k) (length-set f.blocks b _) above);
 }
@@ -78,13 +81,23 @@ pub cold_stands : (declared : SignatureShape) (calls : List AnsweredCall) (f : B
     → LedgerAgrees (calls ++ record { request = SetColdBlock name; numbers = [] } ∷ []) (ledger_of (calls ++ record { request = SetColdBlock name; numbers = [] } ∷ [])) (with_cold f b) c p
     → StandsIn declared (calls ++ record { request = SetColdBlock name; numbers = [] } ∷ []) (with_cold f b) c p
 cold_stands declared calls f c p name b stands ledger =
-    record { signature = stands.signature; ledger = ledger; carries = carries_cold calls f c.ssa stands.carries name b; begun = stands.begun }
+    record {
+      signature = stands.signature;
+      ledger = ledger;
+      carries = carries_cold calls f c.ssa stands.carries name b;
+      begun = stands.begun;
+      callers_alone = λ d.
+          let call : AnsweredCall = record { request = SetColdBlock name; numbers = [] } in
+          alone_after calls call f (with_cold f b) c c stands.carries.own stands.carries.holds.parameters (same_callers calls call f c.ssa stands.carries tt tt) d
+          (kept_alone stands.carries.own f (with_cold f b) c c d (cold_params f.blocks b d) (λ was. record { inserted = was.inserted; begun = was.begun }))
+          (stands.callers_alone d);
+    }
 
 -- THE LAYOUT --------------------------------------------------------------------------------------------------------------
 
 -- a block that is brought into the layout
-ensured-makes : (calls : List AnsweredCall) (ledger : Ledger) (f : Body) (c d : ContextState) (p : Option ℕ) (block : ℕ) → LedgerAgrees calls ledger f c p
-    → SetsStatus c d block (begun (status_of c block)) → d.ssa ≡ c.ssa → d.variables ≡ c.variables → Makes f c (inserted_in f block) d block
+ensured-makes : (calls : List AnsweredCall) (ledger : Ledger) (f : Body) (c d : ContextState) (p : Option ℕ) (block : ℕ) (agrees : LedgerAgrees calls ledger f c p)
+    → SetsStatus c d block (begun (status_of c block)) → d.ssa ≡ c.ssa → d.variables ≡ c.variables → Makes agrees.own f c (inserted_in f block) d block
 ensured-makes calls ledger f c d p block agrees sets ssa variables =
     let g : Body = inserted_in f block in
     let extends = Extends-inserted f block in
@@ -94,14 +107,14 @@ ensured-makes calls ledger f c d p block agrees sets ssa variables =
       sealed = λ b. ap (λ (s : SsaState). is_yes (sealed_of s b)) ssa;
       predecessors = λ b. ap (λ (s : SsaState). predecessors_of s b) ssa;
       variables = variables;
-      structured = (
-        agrees.structured.0,
-        λ types are.
-            subst (λ (s : SsaState). Structured types agrees.structured.0 g s []) (sym ssa)
-            (inserted_structured types agrees.structured.0 f c.ssa block (agrees.structured.1 types (subst (λ (xs : List «Type»). AreTypesOf xs types) variables are))),
-      );
-      parameters = λ v h is.
-          begun-still f g c d block (begun (status_of c block)) refl sets (begun-not-empty (status_of c block)) h (agrees.parameters v h (home-inserted f block v h is));
+      own = agrees.own;
+      structured = λ types are.
+          subst (λ (s : SsaState). Structured types agrees.own g s []) (sym ssa)
+          (inserted_structured types agrees.own f c.ssa block (agrees.structured types (subst (λ (xs : List «Type»). AreTypesOf xs types) variables are)));
+      callers = λ b. refl;
+      callers_alone = λ b.
+          alone-still agrees.own agrees.own f g c d block (begun (status_of c block)) refl sets (begun-not-empty (status_of c block)) b refl
+          (ap (λ (blocks : List BlockNode). (block_at (record f { blocks = blocks }) b).params) (inserted_same f block).blocks) (agrees.callers_alone b);
       branches = λ b i leads.
           let before : Contains (predecessors_of c.ssa b) i = subst (λ (s : SsaState). Contains (predecessors_of s b) i) ssa leads in
           let same : branch_block g i ≡ branch_block f i = branch-kept f g (keeps-of f g extends) i (branch_exists calls ledger f c p agrees b i before) in
@@ -154,6 +167,13 @@ ensured_stands declared calls f g c d p block (Ok u) stands at is sets ssa ledge
       begun = λ b there empty.
           still_begun c d block sets b
           (old_or_it b (first_cases f block b (ap (λ (h : Body). slice_get h.layout 0) (sym is) ∙ there))) empty;
+      callers_alone = λ b.
+          let call : AnsweredCall = record { request = EnsureInsertedBlock; numbers = [] } in
+          alone_after calls call f g c d stands.carries.own stands.carries.holds.parameters (same_callers calls call f c.ssa stands.carries tt tt) b
+          (alone-still stands.carries.own stands.carries.own f g c d block (begun (status_of c block)) (ap (λ (h : Body). h.layout) is) sets (begun-not-empty (status_of c block)) b refl
+          (ap (λ (h : Body). (block_at h b).params) is
+          ∙ ap (λ (blocks : List BlockNode). (block_at (record f { blocks = blocks }) b).params) (inserted_same f block).blocks))
+          (stands.callers_alone b);
     }
   where
     inserted_signature : (f : Body) (b : ℕ) → (inserted_in f b).signature ≡ f.signature

@@ -5,13 +5,13 @@ use mathlib.Core.Logic.{∥∥₁_elim, ∥∥₁_prop}
 use denote.Struct.Props.{props}
 use Rattle.clif_types.specs.declared.types.«Type».{«Type»}
 use Rattle.clif_ir.specs.Body.{Body}
-use Rattle.clif_ir.specs.Changes.{inserted_in, with_block, with_inst}
+use Rattle.clif_ir.specs.Changes.{inserted_in, with_block, with_inst, with_param}
 use Rattle.clif_ir.specs.declared.inst_list.BlockEnd.{BlockEnd}
 use Rattle.clif_ir.specs.declared.instructions.InstructionData.{InstructionData}
 use Rattle.clif_ssa.specs.declared.tables.SsaBlock.{SsaBlock}
 use Rattle.clif_ssa.specs.Tables.{predecessors_at, sealed_at, pending_of}
 use Rattle.clif_ssa.specs.Ssa.{SsaState, NamesExist, record_of, Records, SameRecords}
-use Rattle.cranelift_frontend.proofs.Growing.{Grows-inserted, Grows-with_block, Grows-with_inst}
+use Rattle.cranelift_frontend.proofs.Growing.{Grows-inserted, Grows-with_block, Grows-with_inst, Grows-with_param}
 use Rattle.cranelift_frontend.specs.Growth.{Grows}
 use Rattle.cranelift_frontend.specs.declared.builder.FunctionBuilder.{FunctionBuilder}
 
@@ -38,6 +38,10 @@ names_inserted (Err y) f g s b is kept named = subst (λ h. NamesExist h s) (sym
 pub names_made : {X Y : Type 0} (r : Result X Y) (f g : Body) (s : SsaState) → OnOk r (g ≡ with_block f) → OnErr r (g ≡ f) → NamesExist f s → NamesExist g s
 names_made (Ok x) f g s is kept named = subst (λ h. NamesExist h s) (sym is) (names_grow f (with_block f) s (Grows-with_block f) named)
 names_made (Err y) f g s is kept named = subst (λ h. NamesExist h s) (sym kept) named
+
+pub names_param : {X Y : Type 0} (r : Result X Y) (f g : Body) (s : SsaState) (b : ℕ) (ty : «Type») → OnOk r (g ≡ with_param f b ty) → OnErr r (g ≡ f) → NamesExist f s → NamesExist g s
+names_param (Ok x) f g s b ty is kept named = subst (λ h. NamesExist h s) (sym is) (names_grow f (with_param f b ty) s (Grows-with_param f b ty) named)
+names_param (Err y) f g s b ty is kept named = subst (λ h. NamesExist h s) (sym kept) named
 
 pub names_appended : {X Y : Type 0} (r : Result X Y) (f g : Body) (s : SsaState) (b : ℕ) (end : BlockEnd) (shape : InstructionData) (types : List «Type») (loc : ℕ)
     → OnOk r (g ≡ with_inst f b end shape types loc) → OnErr r (g ≡ f) → NamesExist f s → NamesExist g s

@@ -3,29 +3,35 @@
 use Rattle.std.proofs.Common.{◌≡◌, ◌≢◌, ◌<◌, ◌==◌, ℕ, suc, List, [], ◌∷◌, ◌++◌, length, refl, sym, ◌∙◌, ap, subst, arith, inl, inr}
 use Rattle.std.specs.Prelude.{Bool, true, false, not, ◌&&◌, ◌||◌, if◌then◌else◌, slice_get, slice_index, Option, Some, Contains}
 use Rattle.std.specs.List.{AllByRecursion}
-use Rattle.std.proofs.lemmas.Bool.{and_from, and_parts, cases_eq, eq-eqb, eqb-true, ne_eqb, or_cases, or_left, or_right}
+use Rattle.std.proofs.lemmas.Bool.{and_from, and_parts, cases_eq, eq-eqb, eqb-true, false≢true, ne_eqb, or_cases, or_left, or_right}
 use Rattle.clif_types.specs.declared.types.«Type».{«Type»}
 use Rattle.clif_ir.specs.declared.function.InstNode.{InstNode}
-use Rattle.clif_ir.specs.Body.{Body, inst_at}
+use Rattle.clif_ir.specs.declared.function.BlockNode.{BlockNode}
+use Rattle.clif_ir.specs.Body.{Body, block_at, inst_at}
 use Rattle.clif_ir.specs.Changes.{inserted_in, with_layout}
 use Rattle.clif_ir.specs.Consistent.{IsConsistent, Once}
 use Rattle.clif_ir.specs.Reading.{param_home, stands_in}
 use Rattle.clif_ir.proofs.Reading.{Once-tail}
 use Rattle.clif_meaning.specs.Request.{AnsweredCall}
 use Rattle.clif_meaning.specs.Ledger.{Ledger, or_invalid}
-use Rattle.clif_ssa.specs.Ssa.{predecessors_of}
+use Rattle.clif_ssa.specs.Own.{Own}
+use Rattle.clif_ssa.specs.Ssa.{predecessors_of, sealed_of}
+use Rattle.clif_ssa.specs.Tables.{pending_of}
 use Rattle.clif_ssa.specs.LookUp.{branch_block}
-use Rattle.clif_ssa.specs.Structured.{VariableTypes}
+use Rattle.clif_ssa.specs.Structured.{Structured, VariableTypes}
 use Rattle.clif_ssa.specs.Constructs.{MayPassMore, OnlyConstructs}
 use Rattle.clif_ssa.specs.Within.{StaysWithin}
+use Rattle.clif_ssa.proofs.Completing.{inserted_same}
+use Rattle.clif_ssa.proofs.WithinUses.{waiting_held}
 use Rattle.cranelift_frontend.specs.declared.context.BlockStatus.{BlockStatus}
 use Rattle.cranelift_frontend.specs.declared.context.BlockStatus.TheVariants.{Empty, Partial, Filled}
 use Rattle.cranelift_frontend.specs.Context.{Begins, ContextState, SameStatus, SetsStatus, begun, status_of}
 use Rattle.cranelift_frontend.specs.Builder.{is_empty_status}
 use Rattle.cranelift_frontend.specs.Construction.{IsSealingOf, IsUse}
-use Rattle.cranelift_frontend.specs.Ledger.{AreTypesOf, IsBegun, IsEnded, LedgerAgrees}
+use Rattle.cranelift_frontend.specs.Ledger.{AloneUnlessBegun, AreTypesOf, IsBegun, IsEnded, LedgerAgrees}
+use Rattle.cranelift_frontend.proofs.Callers.{alone_stays, none_waits_alone}
 use Rattle.cranelift_frontend.proofs.LedgerLists.{if-yes, if-no}
-use Rattle.cranelift_frontend.proofs.LedgerKept.{home-inserted, inserted-insts, stands-inserted, stands-still}
+use Rattle.cranelift_frontend.proofs.LedgerKept.{inserted-insts, stands-inserted, stands-still}
 
 -- STATUSES --------------------------------------------------------------------------------------------------------
 
@@ -110,10 +116,24 @@ listed_types variables x = or_invalid (slice_get variables x)
 pub are_listed : (variables : List «Type») → AreTypesOf variables (listed_types variables)
 are_listed variables x ty is = ap or_invalid is
 
+-- parameters, edges and records are in order, by the types that were declared
+pub listed_structured : (calls : List AnsweredCall) (ledger : Ledger) (f : Body) (c : ContextState) (p : Option ℕ) (agrees : LedgerAgrees calls ledger f c p)
+    → Structured (listed_types c.variables) agrees.own f c.ssa []
+listed_structured calls ledger f c p agrees = agrees.structured (listed_types c.variables) (are_listed c.variables)
+
 -- a branch that leads somewhere exists
 pub branch_exists : (calls : List AnsweredCall) (ledger : Ledger) (f : Body) (c : ContextState) (p : Option ℕ) → LedgerAgrees calls ledger f c p
     → (b i : ℕ) → Contains (predecessors_of c.ssa b) i → i < length f.insts
-branch_exists calls ledger f c p agrees b i leads = (agrees.structured.1 (listed_types c.variables) (are_listed c.variables)).leading b i leads
+branch_exists calls ledger f c p agrees b i leads = (listed_structured calls ledger f c p agrees).leading b i leads
+
+-- where a parameter waits something was made
+pub waiting_begun : (calls : List AnsweredCall) (ledger : Ledger) (f : Body) (c : ContextState) (p : Option ℕ) → LedgerAgrees calls ledger f c p
+    → (b : ℕ) → pending_of (sealed_of c.ssa b) ≢ [] → IsBegun f c b
+waiting_begun calls ledger f c p agrees b some =
+    elim (agrees.callers_alone b) [
+      | inl alone ↦ absurd (some (none_waits_alone agrees.own (listed_types c.variables) f c.ssa b (listed_structured calls ledger f c p agrees) alone))
+      | inr is ↦ is
+    ]
 
 pub inserted_inst : (f : Body) (b i : ℕ) → inst_at (inserted_in f b) i ≡ inst_at f i
 inserted_inst f b i = by (stands_in b f.layout)
@@ -192,18 +212,26 @@ module _ (calls : List AnsweredCall) (ledger : Ledger) (f : Body) (c : ContextSt
             if-no (stands_in b (block ∷ told)) (begun (status_of c b)) (status_of c b)
             (ap (λ (t : Bool). t || stands_in b told) (ne_eqb block b (λ same. other (sym same))) ∙ is)
 
-    -- a parameter is in a block that is begun
-    pub used_parameters : IsConsistent g → Begins c d (block ∷ told) → (v b : ℕ) → param_home g v ≡ Some b → IsBegun g d b
-    used_parameters consistent begins v b home =
-        elim (held.parameters v b home) [
-          | inl was ↦
-              let before : IsBegun f c b = agrees.parameters v b (home-inserted f block v b was) in
-              now b (stands-still f block b before.inserted) (after_some b (λ other. before.begun))
-          | inr is ↦ now b (held_there b is) (held_some b is)
-        ]
+    -- a block in which nothing was made has the caller's parameters alone
+    pub used_alone : IsConsistent g → Begins c d (block ∷ told) → (own : Own) (types : VariableTypes) → Structured types own g d.ssa []
+        → (b : ℕ) → AloneUnlessBegun own f c b → AloneUnlessBegun own g d b
+    used_alone consistent begins own types structured b was = by (holds b) refl
       where
-        now : (b : ℕ) → stands_in b (inserted_in f block).layout ≡ true → after b ≢ Empty → IsBegun g d b
-        now b there some = record { inserted = ap (stands_in b) (used_layout consistent) ∙ there; begun = λ empty. some (sym (used_status begins b) ∙ empty) }
+        now : stands_in b (inserted_in f block).layout ≡ true → after b ≢ Empty → IsBegun g d b
+        now there some = record { inserted = ap (stands_in b) (used_layout consistent) ∙ there; begun = λ empty. some (sym (used_status begins b) ∙ empty) }
+
+        no_other : holds b ≡ false → (v : ℕ) → param_home g v ≡ Some b → param_home (inserted_in f block) v ≡ Some b
+        no_other out v home = elim (held.parameters v b home) [ inl old ↦ old | inr is ↦ absurd (false≢true (sym out ∙ is)) ]
+
+        by : (test : Bool) → holds b ≡ test → AloneUnlessBegun own g d b
+        by true is = inr (now (held_there b is) (held_some b is))
+        by false out =
+            elim was [
+              | inl alone ↦
+                  inl (alone_stays own types (inserted_in f block) g d.ssa b used.constructs consistent structured (no_other out)
+                  (ap (λ (blocks : List BlockNode). (block_at (record f { blocks = blocks }) b).params) (inserted_same f block).blocks ∙ alone))
+              | inr before ↦ inr (now (stands-still f block b before.inserted) (after_some b (λ other. before.begun)))
+            ]
 
     -- a branch that leads somewhere ends a block of the layout
     pub used_branches : IsConsistent g → Begins c d (block ∷ told) → (b i : ℕ) → Contains (predecessors_of d.ssa b) i → IsEnded g d (branch_block g i)
@@ -228,7 +256,7 @@ module _ (calls : List AnsweredCall) (ledger : Ledger) (f : Body) (c : ContextSt
 
   -- SEALINGS ------------------------------------------------------------------------------------------------------
 
-  module _ (seals : ℕ → Bool) (told : List ℕ) (sealing : IsSealingOf f c.ssa g d.ssa seals told) where
+  module _ (seals : ℕ → Bool) (told : List ℕ) (sealing : IsSealingOf f c.ssa g d.ssa seals told) (firm : IsConsistent f) where
     abbrev keeps : ℕ → Bool
     keeps b = stands_in b f.layout && not (is_empty_status (status_of c b))
 
@@ -244,7 +272,9 @@ module _ (calls : List AnsweredCall) (ledger : Ledger) (f : Body) (c : ContextSt
     kept =
         sealing.within keeps
         (λ b i leads. keeps_begun (branch_block f i) (ended-begun f c (branch_block f i) (agrees.branches b i leads)))
-        (λ b is_sealed q home waits is. keeps_begun home (agrees.parameters q.param home is))
+        (λ b is_sealed.
+        waiting_held (listed_types c.variables) agrees.own f c.ssa keeps b firm (listed_structured calls ledger f c p agrees)
+        (λ some. keeps_begun b (waiting_begun calls ledger f c p agrees b some)))
 
     -- no block enters the layout
     pub sealed_layout : IsConsistent g → g.layout ≡ f.layout
@@ -259,13 +289,24 @@ module _ (calls : List AnsweredCall) (ledger : Ledger) (f : Body) (c : ContextSt
         by true is = begun-twice (status_of c b) (begun_kept b (among_held keeps told b kept.zeros is)).begun
         by false is = refl
 
-    -- a parameter is in a block that is begun
-    pub sealed_parameters : IsConsistent g → Begins c d told → (v b : ℕ) → param_home g v ≡ Some b → IsBegun g d b
-    sealed_parameters consistent begins v b home =
-        elim (kept.parameters v b home) [ inl was ↦ now b (agrees.parameters v b was) | inr is ↦ now b (begun_kept b is) ]
+    -- a block in which nothing was made has the caller's parameters alone
+    pub sealed_alone : IsConsistent g → Begins c d told → (own : Own) (types : VariableTypes) → Structured types own g d.ssa []
+        → (b : ℕ) → AloneUnlessBegun own f c b → AloneUnlessBegun own g d b
+    sealed_alone consistent begins own types structured b was = by (keeps b) refl
       where
-        now : (b : ℕ) → IsBegun f c b → IsBegun g d b
-        now b was = record { inserted = ap (stands_in b) (sealed_layout consistent) ∙ was.inserted; begun = λ empty. was.begun (sym (sealed_status begins b) ∙ empty) }
+        now : IsBegun f c b → IsBegun g d b
+        now before = record { inserted = ap (stands_in b) (sealed_layout consistent) ∙ before.inserted; begun = λ empty. before.begun (sym (sealed_status begins b) ∙ empty) }
+
+        no_other : keeps b ≡ false → (v : ℕ) → param_home g v ≡ Some b → param_home f v ≡ Some b
+        no_other out v home = elim (kept.parameters v b home) [ inl old ↦ old | inr is ↦ absurd (false≢true (sym out ∙ is)) ]
+
+        by : (test : Bool) → keeps b ≡ test → AloneUnlessBegun own g d b
+        by true is = inr (now (begun_kept b is))
+        by false out =
+            elim was [
+              | inl alone ↦ inl (alone_stays own types f g d.ssa b sealing.constructs consistent structured (no_other out) alone)
+              | inr before ↦ inr (now before)
+            ]
 
     -- a branch that leads somewhere ends a block of the layout
     pub sealed_branches : IsConsistent g → Begins c d told → (b i : ℕ) → Contains (predecessors_of d.ssa b) i → IsEnded g d (branch_block g i)

@@ -1,40 +1,39 @@
 -- All blocks are sealed: the agreement with the ledger is kept, and the builder stands for the calls.
 use Rattle.std.proofs.Common.{◌≡◌, ◌<◌, ◌≤◌, Bool, ℕ, List, [], ◌∷◌, ◌++◌, length, refl, sym, ◌∙◌, ap, subst, arith, inl}
 use Rattle.std.proofs.lemmas.List.{length-map}
-use Rattle.std.specs.Prelude.{map, ltb, slice_get, Option, None, Some, option_map, true, Contains, Result, Ok, Err, OnOk}
+use Rattle.std.specs.Prelude.{map, ltb, slice_get, Option, None, Some, option_map, true, Result, Ok, Err, OnOk}
 use Rattle.std.proofs.lemmas.Bool.{le-ltb, lt-ltb}
 use Rattle.std.proofs.lemmas.Option.{slice_get-map, slice_get_within}
 use Rattle.clif_types.specs.Signature.{SignatureShape}
 use Rattle.clif_types.specs.declared.types.«Type».{«Type»}
 use Rattle.clif_ir.specs.Body.{Body}
-use Rattle.clif_ir.specs.Consistent.{IsConsistent, IsOrigin}
-use Rattle.clif_ir.specs.Reading.{param_home}
+use Rattle.clif_ir.specs.Consistent.{IsConsistent}
 use Rattle.clif_meaning.specs.Name.{Name}
-use Rattle.clif_meaning.specs.Request.{AnsweredCall, SealAllBlocks, script_of}
+use Rattle.clif_meaning.specs.Request.{AnsweredCall, SealAllBlocks}
 use Rattle.clif_meaning.specs.Ledger.{ABlock, BlockState, Ledger, ledger_with, sealed}
-use Rattle.clif_meaning.specs.View.{view_of}
-use Rattle.clif_meaning.specs.Typing.{EdgesMatch}
-use Rattle.clif_meaning.specs.Premises.{CallersEdgesMatch}
 use Rattle.clif_meaning.proofs.CallLists as earlier
 use Rattle.clif_ssa.specs.Tables.{is_yes}
 use Rattle.clif_ssa.specs.Ssa.{predecessors_of, sealed_of}
 use Rattle.clif_simulation.proofs.Further.{carries_sealed_all}
-use Rattle.cranelift_frontend.specs.Context.{Begins, ContextState, SameStatus, status_of}
+use Rattle.cranelift_frontend.specs.Context.{Begins, ContextState, SameStatus}
 use Rattle.cranelift_frontend.specs.Builder.{is_empty_status, is_filled_status}
 use Rattle.cranelift_frontend.specs.Construction.{IsSealingAll}
-use Rattle.cranelift_frontend.specs.Ledger.{AreTypesOf, BlockAgrees, LedgerAgrees, block_name, ledger_of}
+use Rattle.cranelift_frontend.specs.Ledger.{AreTypesOf, BlockAgrees, IsStructured, LedgerAgrees, block_name, ledger_of}
 use Rattle.cranelift_frontend.specs.StandsFor.{StandsIn}
 use Rattle.cranelift_frontend.proofs.LedgerLists.{if-yes, if-no, map-some, named-more, one-named-more}
-use Rattle.cranelift_frontend.proofs.LedgerKept.{Extends, answer-still, answers-after, answers-none, concluded, extends-constructs, keeps-of, places-after}
+use Rattle.cranelift_frontend.proofs.LedgerKept.{Extends, answer-still, answers-after, answers-none, concluded, extends-constructs, keeps-of, places-after, types-kept}
 use Rattle.cranelift_frontend.proofs.LedgerMade.{numbers-kept}
-use Rattle.cranelift_frontend.proofs.Placed.{sealed_branches, sealed_layout, sealed_parameters, sealed_status}
+use Rattle.cranelift_frontend.proofs.Placed.{are_listed, listed_types, sealed_alone, sealed_branches, sealed_layout, sealed_status}
 use Rattle.cranelift_frontend.proofs.Standing.{begins_not_empty}
+use Rattle.cranelift_frontend.proofs.StandingCallers.{alone_after, same_callers}
+use Rattle.clif_simulation.proofs.Whole.{declared_types}
+use Rattle.clif_simulation.proofs.Calls.{structured_so_far}
 
 abbrev seals_all : AnsweredCall
 seals_all = record { request = SealAllBlocks; numbers = [] }
 
 module _ (calls : List AnsweredCall) (ledger : Ledger) (f g : Body) (c d : ContextState) (p : Option ℕ) (told : List ℕ) (agrees : LedgerAgrees calls ledger f c p)
-    (sealing : IsSealingAll f c.ssa g d.ssa told) (begins : Begins c d told) (consistent : IsConsistent g) (variables : d.variables ≡ c.variables) where
+    (sealing : IsSealingAll f c.ssa g d.ssa told) (begins : Begins c d told) (firm : IsConsistent f) (consistent : IsConsistent g) (variables : d.variables ≡ c.variables) where
   abbrev new : Ledger
   new = ledger_with ledger SealAllBlocks
 
@@ -45,10 +44,10 @@ module _ (calls : List AnsweredCall) (ledger : Ledger) (f g : Body) (c d : Conte
   extends = extends-constructs f g sealing.constructs
 
   layout : g.layout ≡ f.layout
-  layout = sealed_layout calls ledger f c p agrees g d all_blocks told sealing consistent
+  layout = sealed_layout calls ledger f c p agrees g d all_blocks told sealing firm consistent
 
   status_at : SameStatus c d
-  status_at = sealed_status calls ledger f c p agrees g d all_blocks told sealing begins
+  status_at = sealed_status calls ledger f c p agrees g d all_blocks told sealing firm begins
 
   same_names : (k : ℕ) → block_name new k ≡ block_name ledger k
   same_names k = ap (option_map (λ (s : BlockState). s.block)) (slice_get-map sealed ledger.blocks k) ∙ by (slice_get ledger.blocks k)
@@ -66,13 +65,19 @@ module _ (calls : List AnsweredCall) (ledger : Ledger) (f g : Body) (c d : Conte
     is_sealed = sym (sealing.sealed k ∙ if-yes (all_blocks k) true (is_yes (sealed_of c.ssa k)) (lt-ltb k (length f.blocks) inside));
     is_pristine = was.is_pristine ∙ ap is_empty_status (sym (status_at k));
     is_filled = was.is_filled ∙ ap is_filled_status (sym (status_at k));
-    parameters = was.parameters;
     predecessors = numbers-kept calls seals_all s.predecessors (predecessors_of c.ssa k) was.predecessors ∙ ap (map Some) (sym (sealing.predecessors k));
   }
 
+  -- a state of the new ledger is one of the old ledger, sealed
+  state_here : (k : ℕ) (t : BlockState) → slice_get new.blocks k ≡ Some t → (s : BlockState) × (slice_get ledger.blocks k ≡ Some s) × (sealed s ≡ t)
+  state_here k t there = map-some sealed (slice_get ledger.blocks k) t (sym (slice_get-map sealed ledger.blocks k) ∙ there)
+
+  structured : IsStructured agrees.own g d
+  structured types are = sealing.structured types agrees.own (agrees.structured types (subst (λ (xs : List «Type»). AreTypesOf xs types) variables are))
+
   blocks_agree : (k : ℕ) (t : BlockState) → slice_get new.blocks k ≡ Some t → BlockAgrees (calls ++ seals_all ∷ []) d k t
   blocks_agree k t there =
-      let state = map-some sealed (slice_get ledger.blocks k) t (sym (slice_get-map sealed ledger.blocks k) ∙ there) in
+      let state = state_here k t there in
       let inside : k < length ledger.blocks = slice_get_within ledger.blocks k state.0 state.1 in
       subst (λ (s : BlockState). BlockAgrees (calls ++ seals_all ∷ []) d k s) state.2
       (block_here k state.0 (agrees.blocks k state.0 state.1) (omega (arith, inside, agrees.block_count)))
@@ -87,12 +92,16 @@ module _ (calls : List AnsweredCall) (ledger : Ledger) (f g : Body) (c d : Conte
     current = one-named-more (block_name ledger) (block_name new) ledger.current p names agrees.current;
     layout = named-more (block_name ledger) (block_name new) ledger.layout f.layout names agrees.layout ∙ ap (map (block_name new)) (sym layout);
     variables = agrees.variables ∙ sym variables;
-    structured = (
-      agrees.structured.0,
-      λ types are. sealing.structured types agrees.structured.0 (agrees.structured.1 types (subst (λ (xs : List «Type»). AreTypesOf xs types) variables are)),
-    );
-    parameters = sealed_parameters calls ledger f c p agrees g d all_blocks told sealing consistent begins;
-    branches = sealed_branches calls ledger f c p agrees g d all_blocks told sealing consistent begins;
+    own = agrees.own;
+    structured = structured;
+    callers_types = λ k t there.
+        let state = state_here k t there in
+        types-kept f g (keeps-of f g extends) (agrees.own.params k) state.0.parameters (agrees.callers_types k state.0 state.1)
+        ∙ ap (λ (s : BlockState). map Some s.parameters) state.2;
+    callers_alone = λ b.
+        sealed_alone calls ledger f c p agrees g d all_blocks told sealing firm consistent begins agrees.own (listed_types d.variables)
+        (structured (listed_types d.variables) (are_listed d.variables)) b (agrees.callers_alone b);
+    branches = sealed_branches calls ledger f c p agrees g d all_blocks told sealing firm consistent begins;
     fresh = λ k above.
         let past : length f.blocks ≤ k = omega (arith, above, extends.block_count) in (
           sealing.sealed k ∙ if-no (all_blocks k) true (is_yes (sealed_of c.ssa k)) (le-ltb k (length f.blocks) past) ∙ (agrees.fresh k past).0,
@@ -103,11 +112,11 @@ module _ (calls : List AnsweredCall) (ledger : Ledger) (f g : Body) (c d : Conte
 
 -- what comes of it
 pub sealed_all : {E : Type 0} (calls : List AnsweredCall) (f g : Body) (c d : ContextState) (p : Option ℕ) (r : Result (Unit {0}) E)
-    → LedgerAgrees calls (ledger_of calls) f c p → OnOk r ((told : List ℕ) × IsSealingAll f c.ssa g d.ssa told × Begins c d told) → IsConsistent g → d.variables ≡ c.variables
+    → LedgerAgrees calls (ledger_of calls) f c p → OnOk r ((told : List ℕ) × IsSealingAll f c.ssa g d.ssa told × Begins c d told) → IsConsistent f → IsConsistent g → d.variables ≡ c.variables
     → OnOk r (LedgerAgrees (calls ++ seals_all ∷ []) (ledger_of (calls ++ seals_all ∷ [])) g d p)
-sealed_all calls f g c d p (Err e) agrees seals consistent variables = tt
-sealed_all calls f g c d p (Ok u) agrees seals consistent variables =
-    concluded calls seals_all g d p (agrees-sealed_all calls (ledger_of calls) f g c d p seals.0 agrees seals.1 seals.2 consistent variables)
+sealed_all calls f g c d p (Err e) agrees seals firm consistent variables = tt
+sealed_all calls f g c d p (Ok u) agrees seals firm consistent variables =
+    concluded calls seals_all g d p (agrees-sealed_all calls (ledger_of calls) f g c d p seals.0 agrees seals.1 seals.2 firm consistent variables)
 
 pub sealed_all_stands : {E : Type 0} (declared : SignatureShape) (calls : List AnsweredCall) (f g : Body) (c d : ContextState) (p : Option ℕ) (r : Result (Unit {0}) E)
     → StandsIn declared calls f c p → IsConsistent f → OnOk r ((told : List ℕ) × IsSealingAll f c.ssa g d.ssa told × Begins c d told) → IsConsistent g
@@ -116,12 +125,17 @@ pub sealed_all_stands : {E : Type 0} (declared : SignatureShape) (calls : List A
 sealed_all_stands declared calls f g c d p (Err e) stands consistent are after ledger = tt
 sealed_all_stands declared calls f g c d p (Ok u) stands consistent are after ledger =
     let seals = are.1 in
-    let layout : g.layout ≡ f.layout = sealed_layout calls (ledger_of calls) f c p stands.ledger g d (λ b. ltb b (length f.blocks)) are.0 seals after in
+    let layout : g.layout ≡ f.layout = sealed_layout calls (ledger_of calls) f c p stands.ledger g d (λ b. ltb b (length f.blocks)) are.0 seals consistent after in
     record {
       signature = ap (λ (h : Body). h.signature) seals.constructs.same ∙ stands.signature;
       ledger = ledger;
       carries = carries_sealed_all calls f c.ssa stands.carries g d.ssa consistent seals.keeps seals.structured seals.constructs layout seals.predecessors;
       begun = λ b there. begins_not_empty c d are.0 are.2 b (inl (stands.begun b (ap (λ (blocks : List ℕ). slice_get blocks 0) (sym layout) ∙ there)));
+      callers_alone = λ b.
+          alone_after calls seals_all f g c d stands.carries.own stands.carries.holds.parameters (same_callers calls seals_all f c.ssa stands.carries tt tt) b
+          (sealed_alone calls (ledger_of calls) f c p stands.ledger g d (λ x. ltb x (length f.blocks)) are.0 seals consistent after are.2 stands.carries.own (declared_types calls)
+          (seals.structured (declared_types calls) stands.carries.own (structured_so_far calls f c.ssa stands.carries)) b)
+          (stands.callers_alone b);
     }
 
 -- each block of the function is sealed then

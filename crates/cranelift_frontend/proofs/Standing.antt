@@ -1,11 +1,11 @@
 -- Each call that succeeds leaves a builder that stands for the list with this call at its end.
 use Rattle.std.proofs.Common.{◌≡◌, ◌≢◌, ℕ, ◌<◌, List, [], ◌∷◌, ◌++◌, length, refl, sym, ◌∙◌, ap, subst, ◌⊎◌, inl, inr}
-use Rattle.std.specs.Prelude.{slice_get, Option, Some, None, option_map, Bool, true, false, if◌then◌else◌, ◌==◌, ◌||◌}
+use Rattle.std.specs.Prelude.{slice_get, Option, Some, None, option_map, Bool, true, false, if◌then◌else◌, ◌==◌}
 use Rattle.std.proofs.lemmas.Option.{same_Some, slice_get-map, none-some}
-use Rattle.std.proofs.lemmas.Bool.{eq-eqb, eqb-true, or_left}
+use Rattle.std.proofs.lemmas.Bool.{eq-eqb, or_left}
 use Rattle.clif_types.specs.declared.types.«Type».{«Type»}
 use Rattle.clif_types.specs.Signature.{SignatureShape}
-use Rattle.clif_ir.specs.Body.{Body, empty_body, value_at}
+use Rattle.clif_ir.specs.Body.{Body, block_at, empty_body, value_at}
 use Rattle.clif_ir.specs.Consistent.{IsConsistent}
 use Rattle.clif_ir.specs.Changes.{with_block, inserted_in, with_layout}
 use Rattle.clif_ir.specs.Reading.{stands_in}
@@ -13,26 +13,31 @@ use Rattle.clif_ssa.specs.declared.tables.Cell.{Cell}
 use Rattle.clif_ssa.specs.Ssa.{record_of, sealed_of, predecessors_of, Records, SameBlocks, SamePredecessors}
 use Rattle.clif_meaning.specs.Name.{Name}
 use Rattle.clif_meaning.specs.Request.{AnsweredCall, CreateBlock, SwitchToBlock, SealBlock, DeclareVar, DefVar, UseVar}
+use Rattle.clif_ssa.proofs.Counting.{block_params}
 use Rattle.clif_ssa.proofs.Constructed.{inserted_constructs}
 use Rattle.clif_ssa.proofs.Constructing.{constructs_then}
 use Rattle.clif_ssa.proofs.StructuredLaws.{inserted_structured}
 use Rattle.clif_meaning.specs.Ledger.{BlockState, VariableState, is_filled, state_has, variable_type}
 use Rattle.clif_simulation.specs.Carries.{Carries, IsCurrent}
+use Rattle.clif_simulation.specs.Structure.{HasCallersAlone}
+use Rattle.clif_simulation.proofs.Listed.{MakesNoParameter}
+use Rattle.clif_simulation.proofs.NameLists.{MakesNoBlock}
 use Rattle.clif_simulation.proofs.Whole.{are_declared, declared_types}
 use Rattle.clif_simulation.proofs.CarriedStructure.{matching_edges}
 use Rattle.clif_simulation.proofs.Beginning.{carries_nothing, one_current}
 use Rattle.clif_simulation.proofs.Calls.{carries_created, carries_switched, carries_declared, carries_sealed, carries_assigned, carries_used, structured_so_far}
 use Rattle.cranelift_frontend.specs.declared.context.BlockStatus.{BlockStatus}
 use Rattle.cranelift_frontend.specs.declared.context.BlockStatus.TheVariants.{Empty, Partial, Filled}
-use Rattle.cranelift_frontend.specs.Context.{ContextState, empty_context, status_of, begun, Begins}
+use Rattle.cranelift_frontend.specs.Context.{ContextState, SameStatus, empty_context, status_of, begun, Begins}
 use Rattle.cranelift_frontend.specs.Construction.{IsUse, IsSealing}
 use Rattle.cranelift_frontend.specs.Builder.{HasCurrent, is_filled_status}
 use Rattle.cranelift_frontend.specs.declared.builder.FunctionBuilder.{FunctionBuilder}
-use Rattle.cranelift_frontend.specs.Ledger.{LedgerAgrees, NamesValue, ledger_of, block_name}
+use Rattle.cranelift_frontend.specs.Ledger.{IsBegun, LedgerAgrees, NamesValue, ledger_of, block_name}
 use Rattle.cranelift_frontend.specs.Laws.{StandingMatchesEdges}
 use Rattle.cranelift_frontend.specs.StandsFor.{StandsIn}
-use Rattle.cranelift_frontend.proofs.LedgerKept.{inserted-twice, stands-push}
 use Rattle.cranelift_frontend.proofs.LedgerNames.{state-by-name, name-number}
+use Rattle.cranelift_frontend.proofs.Placed.{sealed_alone, used_alone}
+use Rattle.cranelift_frontend.proofs.StandingCallers.{alone_after, created_callers, kept_alone, same_callers}
 
 pub begun_not_empty : (s : BlockStatus) → begun s ≢ Empty
 begun_not_empty Empty h = cc
@@ -77,6 +82,17 @@ module _ (declared : SignatureShape) (calls : List AnsweredCall) (f : Body) (c :
           let named : Some B ≡ block_name (ledger_of calls) block = same_Some (Some B) (block_name (ledger_of calls) block) (sym (ap (option_map Some) is) ∙ agrees) in
           (B, record { current = one_current calls ∙ is; named = slice_get-map (λ (s : BlockState). s.block) (ledger_of calls).blocks block ∙ sym named })
 
+  same_status : (d : ContextState) → d.status ≡ c.status → (b : ℕ) → status_of c b ≡ status_of d b
+  same_status d status b = ap (λ (s : List BlockStatus). status_of (record c { status = s }) b) (sym status)
+
+  -- a call that changes neither the function nor a status
+  pub unchanged_alone : (call : AnsweredCall) (d : ContextState) → MakesNoBlock call.request → MakesNoParameter call.request → SameStatus c d
+      → (b : ℕ) → HasCallersAlone (calls ++ call ∷ []) f b ⊎ IsBegun f d b
+  unchanged_alone call d no_block no_parameter status b =
+      alone_after calls call f f c d stands.carries.own stands.carries.holds.parameters (same_callers calls call f c.ssa stands.carries no_block no_parameter) b
+      (kept_alone stands.carries.own f f c d b refl (λ was. record { inserted = was.inserted; begun = λ empty. was.begun (sym (status b) ∙ empty) }))
+      (stands.callers_alone b)
+
   pub stands_created : (g : Body) (d : ContextState) (numbers : List ℕ) → g ≡ with_block f → d.ssa.records ≡ c.ssa.records → SameBlocks c.ssa d.ssa → SamePredecessors c.ssa d.ssa → d.status ≡ c.status
       → LedgerAgrees (calls ++ record { request = CreateBlock; numbers = numbers } ∷ []) (ledger_of (calls ++ record { request = CreateBlock; numbers = numbers } ∷ [])) g d p
       → StandsIn declared (calls ++ record { request = CreateBlock; numbers = numbers } ∷ []) g d p
@@ -86,11 +102,24 @@ module _ (declared : SignatureShape) (calls : List AnsweredCall) (f : Body) (c :
     carries = subst (λ (h : Body). Carries (calls ++ record { request = CreateBlock; numbers = numbers } ∷ []) h d.ssa) (sym is)
         (carries_created calls f c.ssa stands.carries d.ssa numbers stands.ledger.block_count (λ v b. ap (λ (rows : List (List Cell)). record_of (record c.ssa { records = rows }) v b) records) same leads);
     begun = λ b there empty. stands.begun b (ap (λ (h : Body). slice_get h.layout 0) (sym is) ∙ there) (ap (λ (s : List BlockStatus). status_of (record c { status = s }) b) (sym status) ∙ empty);
+    callers_alone = λ b.
+        alone_after calls (record { request = CreateBlock; numbers = numbers }) f g c d stands.carries.own stands.carries.holds.parameters (created_callers calls numbers f c.ssa stands.carries) b
+        (kept_alone stands.carries.own f g c d b (ap (λ (h : Body). (block_at h b).params) is ∙ block_params f b) (λ was. record {
+          inserted = ap (λ (h : Body). stands_in b h.layout) is ∙ was.inserted;
+          begun = λ empty. was.begun (same_status d status b ∙ empty);
+        }))
+        (stands.callers_alone b);
   }
 
   pub stands_switched : (q : Option ℕ) (name : Name) → LedgerAgrees (calls ++ record { request = SwitchToBlock name; numbers = [] } ∷ []) (ledger_of (calls ++ record { request = SwitchToBlock name; numbers = [] } ∷ [])) f c q
       → StandsIn declared (calls ++ record { request = SwitchToBlock name; numbers = [] } ∷ []) f c q
-  stands_switched q name ledger = record { signature = stands.signature; ledger = ledger; carries = carries_switched calls f c.ssa stands.carries name []; begun = stands.begun }
+  stands_switched q name ledger = record {
+    signature = stands.signature;
+    ledger = ledger;
+    carries = carries_switched calls f c.ssa stands.carries name [];
+    begun = stands.begun;
+    callers_alone = λ b. unchanged_alone (record { request = SwitchToBlock name; numbers = [] }) c tt tt (λ e. refl) b;
+  }
 
   pub stands_declared : (d : ContextState) (ty : «Type») (numbers : List ℕ) → d.ssa ≡ c.ssa → d.status ≡ c.status
       → LedgerAgrees (calls ++ record { request = DeclareVar ty; numbers = numbers } ∷ []) (ledger_of (calls ++ record { request = DeclareVar ty; numbers = numbers } ∷ [])) f d p
@@ -100,16 +129,23 @@ module _ (declared : SignatureShape) (calls : List AnsweredCall) (f : Body) (c :
     ledger = ledger;
     carries = subst (Carries (calls ++ record { request = DeclareVar ty; numbers = numbers } ∷ []) f) (sym ssa) (carries_declared calls f c.ssa stands.carries ty numbers);
     begun = λ b there empty. stands.begun b there (ap (λ (s : List BlockStatus). status_of (record c { status = s }) b) (sym status) ∙ empty);
+    callers_alone = λ b. unchanged_alone (record { request = DeclareVar ty; numbers = numbers }) d tt tt (λ e. sym (same_status d status e)) b;
   }
 
-  pub stands_sealed : (g : Body) (d : ContextState) (name : Name) (block : ℕ) (told : List ℕ) → IsConsistent f → IsSealing f c.ssa g d.ssa block told → Begins c d told → g.layout ≡ f.layout
+  pub stands_sealed : (g : Body) (d : ContextState) (name : Name) (block : ℕ) (told : List ℕ) → IsConsistent f → IsSealing f c.ssa g d.ssa block told → Begins c d told → IsConsistent g → g.layout ≡ f.layout
       → LedgerAgrees (calls ++ record { request = SealBlock name; numbers = [] } ∷ []) (ledger_of (calls ++ record { request = SealBlock name; numbers = [] } ∷ [])) g d p
       → StandsIn declared (calls ++ record { request = SealBlock name; numbers = [] } ∷ []) g d p
-  stands_sealed g d name block told consistent seals begins layout ledger = record {
+  stands_sealed g d name block told consistent seals begins after layout ledger = record {
     signature = ap (λ (h : Body). h.signature) seals.constructs.same ∙ stands.signature;
     ledger = ledger;
     carries = carries_sealed calls f c.ssa stands.carries g d.ssa name [] consistent seals.keeps seals.structured seals.constructs layout seals.predecessors;
     begun = λ b there. begins_not_empty c d told begins b (inl (stands.begun b (ap (λ (blocks : List ℕ). slice_get blocks 0) (sym layout) ∙ there)));
+    callers_alone = λ b.
+        let call : AnsweredCall = record { request = SealBlock name; numbers = [] } in
+        alone_after calls call f g c d stands.carries.own stands.carries.holds.parameters (same_callers calls call f c.ssa stands.carries tt tt) b
+        (sealed_alone calls (ledger_of calls) f c p stands.ledger g d (λ b. b == block) told seals consistent after begins stands.carries.own (declared_types calls)
+        (seals.structured (declared_types calls) stands.carries.own (structured_so_far calls f c.ssa stands.carries)) b)
+        (stands.callers_alone b);
   }
 
   -- the current block, which has no terminator, has none in the ledger
@@ -143,15 +179,16 @@ module _ (declared : SignatureShape) (calls : List AnsweredCall) (f : Body) (c :
             names.number names.is_value (ledger_type variable (value_at f value).ty typed) (exists, refl) records
             (λ b. ap (λ bs. sealed_of (record c.ssa { blocks = bs }) b) blocks) (λ b. ap (λ bs. predecessors_of (record c.ssa { blocks = bs }) b) blocks);
         begun = λ b there empty. stands.begun b there (ap (λ (s : List BlockStatus). status_of (record c { status = s }) b) (sym status) ∙ empty);
+        callers_alone = λ b. unchanged_alone (record { request = DefVar variable name; numbers = [] }) d tt tt (λ e. sym (same_status d status e)) b;
       }
 
   -- a use of a variable in the current block
   pub stands_used : (g : Body) (d : ContextState) (variable : ℕ) (ty : «Type») (block value : ℕ) (told : List ℕ) → IsConsistent f → p ≡ Some block → status_of c block ≢ Filled
-      → slice_get c.variables variable ≡ Some ty → IsUse (inserted_in f block) c.ssa g d.ssa variable ty block value told → Begins c d (block ∷ told)
+      → slice_get c.variables variable ≡ Some ty → IsUse (inserted_in f block) c.ssa g d.ssa variable ty block value told → Begins c d (block ∷ told) → IsConsistent g
       → g.layout ≡ (inserted_in f block).layout
       → LedgerAgrees (calls ++ record { request = UseVar variable; numbers = value ∷ [] } ∷ []) (ledger_of (calls ++ record { request = UseVar variable; numbers = value ∷ [] } ∷ [])) g d p
       → StandsIn declared (calls ++ record { request = UseVar variable; numbers = value ∷ [] } ∷ []) g d p
-  stands_used g d variable ty block value told consistent at open_block of_type is_use begins layout ledger =
+  stands_used g d variable ty block value told consistent at open_block of_type is_use begins after layout ledger =
       let current = current_name block at in
       let of_ledger : variable_type (ledger_of calls) variable ≡ Some ty = ledger_type variable ty of_type in
       let answer = is_use.structured (declared_types calls) stands.carries.own (sym (are_declared calls variable ty of_ledger))
@@ -162,6 +199,11 @@ module _ (declared : SignatureShape) (calls : List AnsweredCall) (f : Body) (c :
         carries = carries_used calls f c.ssa stands.carries consistent block current.0 current.1 (current_unfilled block current.0 current.1 open_block) g d.ssa variable value ty of_ledger
             is_use.keeps (λ types own same before. (is_use.structured types own (sym same) before).0) is_use.constructs layout is_use.predecessors answer.1;
         begun = λ b there. begins_not_empty c d (block ∷ told) begins b (was b (first_cases f block b (ap (λ (blocks : List ℕ). slice_get blocks 0) (sym layout) ∙ there)));
+        callers_alone = λ b.
+            let call : AnsweredCall = record { request = UseVar variable; numbers = value ∷ [] } in
+            alone_after calls call f g c d stands.carries.own stands.carries.holds.parameters (same_callers calls call f c.ssa stands.carries tt tt) b
+            (used_alone calls (ledger_of calls) f c p stands.ledger g d variable ty block value told is_use after begins stands.carries.own (declared_types calls) answer.0 b)
+            (stands.callers_alone b);
       }
     where
       was : (b : ℕ) → (slice_get f.layout 0 ≡ Some b) ⊎ (b ≡ block) → (status_of c b ≢ Empty) ⊎ (stands_in b (block ∷ told) ≡ true)
@@ -175,6 +217,7 @@ stands_begins f c p function context ledger = record {
   ledger = ledger;
   carries = subst (λ (g : Body). Carries [] g c.ssa) (sym function) (subst (λ (d : ContextState). Carries [] (empty_body f.name f.signature) d.ssa) (sym context) (carries_nothing f.name f.signature));
   begun = λ b there empty. absurd (none-some b (sym (ap (λ (g : Body). slice_get g.layout 0) function) ∙ there));
+  callers_alone = λ b. inl (ap (λ (g : Body). (block_at g b).params) function);
 }
 
 -- the current block exists

@@ -10,9 +10,11 @@ use Rattle.clif_ir.specs.declared.block_call.BlockArg.{BlockArg}
 use Rattle.clif_ir.specs.declared.block_call.BlockArg.TheVariants as arg
 use Rattle.clif_ir.specs.declared.block_call.BlockCall.{BlockCall}
 use Rattle.clif_ir.specs.declared.instructions.InstructionData.{InstructionData}
-use Rattle.clif_ir.specs.Body.{Body}
-use Rattle.clif_ir.specs.Instruction.{is_terminator}
-use Rattle.clif_ir.specs.Reading.{stands_in}
+use Rattle.clif_ir.specs.declared.function.BlockNode.{BlockNode}
+use Rattle.clif_ir.specs.declared.inst_list.BlockEnd.TheVariants.{Back}
+use Rattle.clif_ir.specs.Body.{Body, block_at}
+use Rattle.clif_ir.specs.Changes.{inserted_in}
+use Rattle.clif_ir.specs.Instruction.{is_terminator, result_types}
 use Rattle.clif_meaning.specs.Name.{Name}
 use Rattle.clif_meaning.specs.Instruction.{Argument, CallPayload, CallResult, Edge, Known}
 use Rattle.clif_meaning.specs.Ledger.{BlockState}
@@ -21,7 +23,12 @@ use Rattle.clif_meaning.specs.View.{argument_of, edge_of}
 use Rattle.clif_simulation.specs.Tables as simulation
 use Rattle.clif_simulation.specs.Tables.{answered, number_or_none}
 use Rattle.clif_simulation.specs.Carries.{Carries, EdgeEarlier, IsEarlier, PassesEarlier, answered_argument, answered_edge}
+use Rattle.clif_simulation.proofs.Listed.{MakesNoParameter}
+use Rattle.clif_simulation.proofs.NameLists.{MakesNoBlock}
+use Rattle.clif_ssa.specs.Ssa.{no_srcloc}
+use Rattle.clif_ssa.proofs.Completing.{inserted_same}
 use Rattle.clif_ssa.proofs.Constructed.{inserted_constructs}
+use Rattle.clif_ssa.proofs.Instructions.{inst_params}
 use Rattle.cranelift_frontend.specs.declared.context.BlockStatus.{BlockStatus}
 use Rattle.cranelift_frontend.specs.declared.context.BlockStatus.TheVariants.{Empty, Filled}
 use Rattle.cranelift_frontend.specs.Context.{ContextState, status_of, begun, SetsStatus}
@@ -29,7 +36,9 @@ use Rattle.cranelift_frontend.specs.Builder.{AppendsIn, status_after, with_appen
 use Rattle.cranelift_frontend.specs.Ledger.{LedgerAgrees, NamesArgument, NamesArguments, NamesEdge, NamesEdges, block_name, ledger_of}
 use Rattle.cranelift_frontend.specs.StandsFor.{StandsIn}
 use Rattle.cranelift_frontend.proofs.LedgerNames.{IsNumbered, named-block}
+use Rattle.cranelift_frontend.proofs.LedgerMade.{alone-still}
 use Rattle.cranelift_frontend.proofs.Standing.{begun_not_empty, first_cases}
+use Rattle.cranelift_frontend.proofs.StandingCallers.{alone_after, same_callers}
 
 -- a name that has a number was answered before
 pub named_earlier : (calls : List AnsweredCall) (name : Name) (number : ℕ) → number_of calls name ≡ Some number → IsEarlier calls name
@@ -151,13 +160,20 @@ module _ (declared : SignatureShape) (calls : List AnsweredCall) (f g : Body) (c
   was b (inr same) = inr same
 
   -- an instruction was appended, and the function carries the call
-  pub stands_built : (call : AnsweredCall) → LedgerAgrees (calls ++ call ∷ []) (ledger_of (calls ++ call ∷ [])) g d p
+  pub stands_built : (call : AnsweredCall) → MakesNoBlock call.request → MakesNoParameter call.request → LedgerAgrees (calls ++ call ∷ []) (ledger_of (calls ++ call ∷ [])) g d p
       → Carries (calls ++ call ∷ []) (with_appended f block shape ty) d.ssa → StandsIn declared (calls ++ call ∷ []) g d p
-  stands_built call ledger carries = record {
+  stands_built call no_block no_parameter ledger carries = record {
     signature = ap (λ (h : Body). h.signature) appends.function ∙ ap (λ (h : Body). h.signature) (inserted_constructs f block).same ∙ stands.signature;
     ledger = ledger;
     carries = subst (λ (h : Body). Carries (calls ++ call ∷ []) h d.ssa) (sym appends.function) carries;
     begun = λ b stays.
         not_empty c d block (status_after shape (status_of c block)) appends.status (appended_not_empty shape (status_of c block)) b
         (was b (first_cases f block b (ap (λ (h : Body). slice_get h.layout 0) (sym appends.function) ∙ stays)));
+    callers_alone = λ b.
+        alone_after calls call f g c d stands.carries.own stands.carries.holds.parameters (same_callers calls call f c.ssa stands.carries no_block no_parameter) b
+        (alone-still stands.carries.own stands.carries.own f g c d block (status_after shape (status_of c block)) (ap (λ (h : Body). h.layout) appends.function) appends.status
+        (appended_not_empty shape (status_of c block)) b refl
+        (ap (λ (h : Body). (block_at h b).params) appends.function ∙ inst_params (inserted_in f block) block Back shape (result_types shape ty) no_srcloc b
+        ∙ ap (λ (blocks : List BlockNode). (block_at (record f { blocks = blocks }) b).params) (inserted_same f block).blocks))
+        (stands.callers_alone b);
   }

@@ -40,8 +40,8 @@ module _ {E : Type 0} (declared : SignatureShape) (calls : List AnsweredCall) wh
       → OnOk r (StandsIn declared (calls ++ record { request = SealBlock name; numbers = [] } ∷ []) g d p)
   sealed_stands f g c d p name block (Err e) stands consistent seals after ledger = tt
   sealed_stands f g c d p name block (Ok u) stands consistent seals after ledger =
-      stands_sealed declared calls f c p stands g d name block seals.0 consistent seals.1 seals.2
-      (sealed_layout calls (ledger_of calls) f c p stands.ledger g d (λ b. b == block) seals.0 seals.1 after) ledger
+      stands_sealed declared calls f c p stands g d name block seals.0 consistent seals.1 seals.2 after
+      (sealed_layout calls (ledger_of calls) f c p stands.ledger g d (λ b. b == block) seals.0 seals.1 consistent after) ledger
 
   pub assigned_stands : (f : Body) (c d : ContextState) (p : Option ℕ) (variable value block : ℕ) (name : Name) (r : Result (Unit {0}) E) → StandsIn declared calls f c p
       → p ≡ Some block → IsConsistent f → status_of c block ≢ Filled → value < length f.values → slice_get c.variables variable ≡ Some (value_at f value).ty
@@ -60,5 +60,5 @@ module _ {E : Type 0} (declared : SignatureShape) (calls : List AnsweredCall) wh
       → IfOk r (λ value. StandsIn declared (calls ++ record { request = UseVar variable; numbers = value ∷ [] } ∷ []) g d p)
   used_stands f g c d p variable ty block (Err e) stands consistent at open_block of_type is_use after ledger = tt
   used_stands f g c d p variable ty block (Ok value) stands consistent at open_block of_type is_use after ledger =
-      stands_used declared calls f c p stands g d variable ty block value is_use.0 consistent at open_block of_type is_use.1 is_use.2
+      stands_used declared calls f c p stands g d variable ty block value is_use.0 consistent at open_block of_type is_use.1 is_use.2 after
       (used_layout calls (ledger_of calls) f c p stands.ledger g d variable ty block value is_use.0 is_use.1 after) ledger

@@ -113,7 +113,7 @@ module _ (declared : SignatureShape) (calls : List AnsweredCall) (f g : Body) (c
   finished : (types : List «Type») → result_types shape ty ≡ types → Carries (calls ++ call ∷ []) (with_inst (inserted_in f block) block Back shape types no_srcloc) d.ssa
       → StandsIn declared (calls ++ call ∷ []) g d p
   finished types is carries =
-      stands_built declared calls f g c d p stands block shape ty inst appends call kept
+      stands_built declared calls f g c d p stands block shape ty inst appends call tt tt kept
       (subst (λ (ts : List «Type»). Carries (calls ++ call ∷ []) (with_inst (inserted_in f block) block Back shape ts no_srcloc) d.ssa) (sym is) carries)
 
   -- it computes a value

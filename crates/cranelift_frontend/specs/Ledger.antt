@@ -1,6 +1,6 @@
 -- How a builder agrees with the ledger of the calls that were made on it: what the ledger tells of answers, blocks,
 -- layout and variables is what the builder answered and its queries answer. Own.
-use Rattle.std.specs.Prelude.{◌≡◌, ◌≢◌, ℕ, ◌≤◌, List, [], ◌∷◌, length, map, slice_get, Option, Some, None, option_map, Contains, false, true, IsTrue, Result, Ok, Err}
+use Rattle.std.specs.Prelude.{◌≡◌, ◌≢◌, ◌⊎◌, ℕ, ◌≤◌, List, [], ◌∷◌, length, map, slice_get, Option, Some, None, option_map, Contains, false, true, IsTrue, Result, Ok, Err}
 use Rattle.clif_types.specs.declared.types.«Type».{«Type»}
 use Rattle.clif_types.specs.declared.types.«Type».TheVariants.{Invalid}
 use Rattle.clif_ir.specs.declared.instructions.InstructionData.{InstructionData}
@@ -13,8 +13,8 @@ use Rattle.clif_meaning.specs.Instruction.{Argument, CallPayload, CallResult, Ed
 use Rattle.clif_meaning.specs.View.{operation_of}
 use Rattle.clif_ir.specs.declared.function.ValueNode.{ValueNode}
 use Rattle.clif_ir.specs.declared.function.InstNode.{InstNode}
-use Rattle.clif_ir.specs.Body.{Body, value_at}
-use Rattle.clif_ir.specs.Reading.{param_home, stands_in}
+use Rattle.clif_ir.specs.Body.{Body, block_at, value_at}
+use Rattle.clif_ir.specs.Reading.{stands_in}
 use Rattle.clif_meaning.specs.Name.{Name, answer_of}
 use Rattle.clif_meaning.specs.Request.{AnsweredCall, script_of, number_of}
 use Rattle.clif_meaning.specs.Ledger.{Answered, ABlock, AVariable, AValue, AnInstruction, BlockState, Ledger, ledger_after, answer_at, has_block, has_value}
@@ -93,13 +93,12 @@ pub record HasShape (calls : List AnsweredCall) (f : Body) (instruction : Instru
   pub edges : NamesEdges calls instruction.edges (destinations shape)
 
 -- a block of the ledger is the builder's block with number `k`, is sealed, pristine and filled exactly where that one
--- is, and has the same predecessors in the same order; so far no block has a caller's parameter
+-- is, and has the same predecessors in the same order
 pub record BlockAgrees (calls : List AnsweredCall) (c : ContextState) (k : ℕ) (state : BlockState) : Type 0 where
   pub number : number_of calls state.block ≡ Some k
   pub is_sealed : state.is_sealed ≡ is_yes (sealed_of c.ssa k)
   pub is_pristine : state.is_pristine ≡ is_empty_status (status_of c k)
   pub is_filled : state.is_filled ≡ is_filled_status (status_of c k)
-  pub parameters : state.parameters ≡ []
   pub predecessors : map (number_of calls) state.predecessors ≡ map Some (predecessors_of c.ssa k)
 
 -- an answer of the ledger with this name is the builder's answer with this number: the block that the ledger has
@@ -137,9 +136,18 @@ pub record IsEnded (f : Body) (c : ContextState) (block : ℕ) : Type 0 where
 abbrev pub AreTypesOf : List «Type» → VariableTypes → Type 0
 AreTypesOf variables types = (x : ℕ) (ty : «Type») → slice_get variables x ≡ Some ty → types x ≡ ty
 
--- what the construction has made is in order, whatever the types of variables that weren't declared: these have no records
-abbrev pub IsStructured : Body → ContextState → Type 0
-IsStructured f c = (own : Own) × ((types : VariableTypes) → AreTypesOf c.variables types → Structured types own f c.ssa [])
+-- what the construction has made is in order beside what the caller made, whatever the types of variables that weren't
+-- declared: these have no records
+abbrev pub IsStructured : Own → Body → ContextState → Type 0
+IsStructured own f c = (types : VariableTypes) → AreTypesOf c.variables types → Structured types own f c.ssa []
+
+-- these values have these types, in order
+abbrev pub HaveTypes : Body → List ℕ → List «Type» → Type 0
+HaveTypes f values types = map (value_type f) values ≡ map Some types
+
+-- a block has the caller's parameters alone, and none of a variable, unless something was made in it
+abbrev pub AloneUnlessBegun : Own → Body → ContextState → ℕ → Type 0
+AloneUnlessBegun own f c block = ((block_at f block).params ≡ own.params block) ⊎ IsBegun f c block
 
 -- a ledger of calls agrees with the parts of a builder: its function, its context and its current block
 pub record LedgerAgrees (calls : List AnsweredCall) (ledger : Ledger) (f : Body) (c : ContextState) (position : Option ℕ) : Type 0 where
@@ -156,10 +164,12 @@ pub record LedgerAgrees (calls : List AnsweredCall) (ledger : Ledger) (f : Body)
   pub layout : map Some ledger.layout ≡ map (block_name ledger) f.layout
   -- the types of the variables, in order
   pub variables : map (λ variable. variable.ty) ledger.variables ≡ c.variables
-  -- parameters, edges and records are in order
-  pub structured : IsStructured f c
-  -- a parameter of a block was made in it
-  pub parameters : (value block : ℕ) → param_home f value ≡ Some block → IsBegun f c block
+  -- what the caller made, and beside it parameters, edges and records in order
+  pub own : Own
+  pub structured : IsStructured own f c
+  -- the caller's parameters of each block have the types that the ledger has for it
+  pub callers_types : (k : ℕ) (state : BlockState) → slice_get ledger.blocks k ≡ Some state → HaveTypes f (own.params k) state.parameters
+  pub callers_alone : (block : ℕ) → AloneUnlessBegun own f c block
   -- a branch that leads somewhere ends a block of the layout
   pub branches : (block branch : ℕ) → Contains (predecessors_of c.ssa block) branch → IsEnded f c (branch_block f branch)
   -- a block that doesn't exist yet is neither sealed nor begun, and nothing leads to it

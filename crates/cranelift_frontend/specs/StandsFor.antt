@@ -1,16 +1,17 @@
 -- When a builder stands for a list of calls with their answers. From it follows that the unfinished function reads right
 -- on runs and bits (`Laws`), and that the finished function means what the list's program means. Own.
-use Rattle.std.specs.Prelude.{◌≡◌, ◌≢◌, ℕ, List, Option, Some, slice_get}
+use Rattle.std.specs.Prelude.{◌≡◌, ◌≢◌, ◌⊎◌, ℕ, List, Option, Some, slice_get}
 use Rattle.clif_types.specs.Signature.{SignatureShape}
 use Rattle.clif_ir.specs.Body.{Body}
 use Rattle.clif_meaning.specs.Request.{AnsweredCall}
 use Rattle.clif_simulation.specs.Carries.{Carries}
 pub use Rattle.clif_simulation.specs.Carries.{NothingLeads}
 pub use Rattle.clif_simulation.specs.Structure.{LeavesNoParameter}
+use Rattle.clif_simulation.specs.Structure.{HasCallersAlone}
 use Rattle.cranelift_frontend.specs.declared.context.BlockStatus.TheVariants.{Empty}
 use Rattle.cranelift_frontend.specs.declared.builder.FunctionBuilder.{FunctionBuilder}
 use Rattle.cranelift_frontend.specs.Context.{ContextState, status_of}
-use Rattle.cranelift_frontend.specs.Ledger.{LedgerAgrees, ledger_of}
+use Rattle.cranelift_frontend.specs.Ledger.{IsBegun, LedgerAgrees, ledger_of}
 
 -- the parts of a builder stand for a list of calls on a function of the caller's signature
 pub record StandsIn (declared : SignatureShape) (calls : List AnsweredCall) (f : Body) (c : ContextState) (position : Option ℕ) : Type 0 where
@@ -23,6 +24,8 @@ pub record StandsIn (declared : SignatureShape) (calls : List AnsweredCall) (f :
   pub carries : Carries calls f c.ssa
   -- in the entry, the first block of the layout, something was made
   pub begun : (entry : ℕ) → slice_get f.layout 0 ≡ Some entry → status_of c entry ≢ Empty
+  -- a block has the parameters that the calls made alone, unless something was made in it
+  pub callers_alone : (block : ℕ) → HasCallersAlone calls f block ⊎ IsBegun f c block
 
 -- the builder stands for the list of calls
 abbrev pub StandsFor : SignatureShape → List AnsweredCall → FunctionBuilder → Type 0

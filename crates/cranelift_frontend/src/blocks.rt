@@ -1,20 +1,25 @@
-//! The builder's calls that mark blocks and bring them into the layout.
-ghost use Rattle.std.specs.Prelude.{◌≡◌, ◌≢◌, ◌<◌, ◌++◌, ◌∷◌, [], ℕ, List, IsTrue, ◌↔◌, OnOk, IfSome, is_err, length, slice_index, EachIndex};
+//! The builder's calls that mark blocks, bring them into the layout and give them parameters.
+ghost use Rattle.std.specs.Prelude.{◌≡◌, ◌≢◌, ◌<◌, ◌-◌, ◌^◌, ◌++◌, ◌∷◌, [], ℕ, List, IsTrue, ◌↔◌, OnOk, IfOk, IfSome, is_err, length, slice_index, EachIndex};
 ghost use Rattle.cranelift_frontend.specs.Context.{status_of, begun, SetsStatus};
+ghost use Rattle.clif_ssa.specs.Ssa.{predecessors_of};
+ghost use Rattle.clif_simulation.specs.Carries.{numbers_from, with_params};
 ghost use Rattle.cranelift_frontend.specs.Growth.{Grows, RemembersIn};
 ghost use Rattle.cranelift_frontend.specs.Builder.{SameLoans, HasCurrent};
 ghost use Rattle.clif_ir.specs.Body.{block_at};
-ghost use Rattle.clif_ir.specs.Changes.{inserted_in, with_cold, with_layout_after};
+ghost use Rattle.clif_ir.specs.Changes.{inserted_in, with_cold, with_layout_after, with_param};
 ghost use Rattle.clif_ir.specs.Consistent.{Stands};
+ghost use Rattle.clif_meaning.specs.Event.{types_of};
 ghost use Rattle.clif_meaning.specs.Name.{Name};
-ghost use Rattle.clif_meaning.specs.Request.{AnsweredCall, EnsureInsertedBlock, InsertBlockAfter, SetColdBlock};
+ghost use Rattle.clif_meaning.specs.Request.{AnsweredCall, AppendBlockParams, AppendFunctionParams, EnsureInsertedBlock, InsertBlockAfter, SetColdBlock};
 ghost use Rattle.clif_types.specs.Signature.{SignatureShape};
 ghost use Rattle.cranelift_frontend.specs.StandsFor.{StandsFor};
 ghost use Rattle.cranelift_frontend.specs.Ledger.{AgreesWithLedger, NamesBlock};
 
 use crate::builder::FunctionBuilder;
+use crate::context::BlockStatus;
 use crate::frontend::begin_block;
-use clif_types::{Block, BuildError, Value};
+use clif_ir::Function;
+use clif_types::{Block, BuildError, Type, Value};
 
 impl<'a> FunctionBuilder<'a> {
     /// The parameters of a block, in order: those of variables, too.
@@ -91,4 +96,130 @@ impl<'a> FunctionBuilder<'a> {
         self.failed = begun.is_err();
         begun
     }
+
+    /// Puts a parameter of the caller's behind those of a block, in which nothing was made, and answers it.
+    ///
+    /// It gets the next number of a value. `Full` comes where there are 2^32 - 1 values.
+    pub fn append_block_param(&mut self, block: Block, ty: Type) -> Result<Value, BuildError>
+        requires exists { block < length self.old.func.now.blocks }
+        requires pristine { status_of self.old.ctx.now block ≡ BlockStatus.Empty }
+        ensures loans { SameLoans self.old self.new }
+        ensures function { OnOk result (self.new.func.now ≡ with_param self.old.func.now block ty) }
+        ensures number { IfOk result (λ value. value ≡ length self.old.func.now.values) }
+        ensures context { self.new.ctx.now ≡ self.old.ctx.now }
+        ensures position { self.new.position ≡ self.old.position }
+        ensures full { result ≡ Err BuildError.Full → length self.old.func.now.values ≡ 2 ^ 32 - 1 }
+        ensures failed { (result ≡ Err BuildError.Failed) ↔ IsTrue self.old.failed }
+        ensures unchanged { IsTrue self.old.failed → self.new ≡ self.old }
+        ensures fails { self.new.failed ≡ is_err result }
+        ensures ledger { (calls : List AnsweredCall) (name : Name) → AgreesWithLedger calls self.old → NamesBlock calls name block → IfOk result (λ value. AgreesWithLedger (calls ++ record { request = AppendBlockParams name (ty ∷ []); numbers = value ∷ [] } ∷ []) self.new) }
+        ensures stands { (signature : SignatureShape) (calls : List AnsweredCall) (name : Name) → StandsFor signature calls self.old → NamesBlock calls name block → IfOk result (λ value. StandsFor signature (calls ++ record { request = AppendBlockParams name (ty ∷ []); numbers = value ∷ [] } ∷ []) self.new) }
+        ensures exists { IfOk result (λ value. value < length self.new.func.now.values) }
+        ensures grows { OnOk result (Grows self.old.func.now self.new.func.now) }
+        ensures remembers { (x b : ℕ) → OnOk result (RemembersIn x b self.old self.new) }
+        ensures current { HasCurrent self.old → OnOk result (HasCurrent self.new) }
+    {
+        if self.failed {
+            return Err(BuildError::Failed);
+        }
+        self.func.law_consistent();
+        let appended = self.func.append_block_param(block, ty);
+        self.failed = appended.is_err();
+        appended
+    }
+
+    /// Puts the parameters of the function behind those of a block, in which nothing was made and to which no branch leads.
+    ///
+    /// They get the next numbers of values. `Full` comes where there are 2^32 - 1 values then.
+    pub fn append_block_params_for_function_params(
+        &mut self,
+        block: Block,
+    ) -> Result<(), BuildError>
+        requires exists { block < length self.old.func.now.blocks }
+        requires pristine { status_of self.old.ctx.now block ≡ BlockStatus.Empty }
+        requires alone { predecessors_of self.old.ctx.now.ssa block ≡ [] }
+        ensures loans { SameLoans self.old self.new }
+        ensures function { OnOk result (self.new.func.now ≡ with_params self.old.func.now block (types_of self.old.func.now.signature.params)) }
+        ensures context { self.new.ctx.now ≡ self.old.ctx.now }
+        ensures position { self.new.position ≡ self.old.position }
+        ensures full { result ≡ Err BuildError.Full → length self.new.func.now.values ≡ 2 ^ 32 - 1 }
+        ensures failed { (result ≡ Err BuildError.Failed) ↔ IsTrue self.old.failed }
+        ensures unchanged { IsTrue self.old.failed → self.new ≡ self.old }
+        ensures fails { self.new.failed ≡ is_err result }
+        ensures ledger { (calls : List AnsweredCall) (name : Name) → AgreesWithLedger calls self.old → NamesBlock calls name block → OnOk result (AgreesWithLedger (calls ++ record { request = AppendFunctionParams name (types_of self.old.func.now.signature.params); numbers = numbers_from (length self.old.func.now.values) (types_of self.old.func.now.signature.params) } ∷ []) self.new) }
+        ensures stands { (signature : SignatureShape) (calls : List AnsweredCall) (name : Name) → StandsFor signature calls self.old → NamesBlock calls name block → OnOk result (StandsFor signature (calls ++ record { request = AppendFunctionParams name (types_of self.old.func.now.signature.params); numbers = numbers_from (length self.old.func.now.values) (types_of self.old.func.now.signature.params) } ∷ []) self.new) }
+        ensures grows { OnOk result (Grows self.old.func.now self.new.func.now) }
+        ensures remembers { (x b : ℕ) → OnOk result (RemembersIn x b self.old self.new) }
+        ensures current { HasCurrent self.old → OnOk result (HasCurrent self.new) }
+    {
+        if self.failed {
+            return Err(BuildError::Failed);
+        }
+        self.func.law_consistent();
+        let appended = append_function_params(self.func, block);
+        self.failed = appended.is_err();
+        appended
+    }
+
+    /// Puts what the function returns, as parameters, behind those of a block, in which nothing was made.
+    ///
+    /// They get the next numbers of values. `Full` comes where there are 2^32 - 1 values then.
+    pub fn append_block_params_for_function_returns(
+        &mut self,
+        block: Block,
+    ) -> Result<(), BuildError>
+        requires exists { block < length self.old.func.now.blocks }
+        requires pristine { status_of self.old.ctx.now block ≡ BlockStatus.Empty }
+        ensures loans { SameLoans self.old self.new }
+        ensures function { OnOk result (self.new.func.now ≡ with_params self.old.func.now block (types_of self.old.func.now.signature.returns)) }
+        ensures context { self.new.ctx.now ≡ self.old.ctx.now }
+        ensures position { self.new.position ≡ self.old.position }
+        ensures full { result ≡ Err BuildError.Full → length self.new.func.now.values ≡ 2 ^ 32 - 1 }
+        ensures failed { (result ≡ Err BuildError.Failed) ↔ IsTrue self.old.failed }
+        ensures unchanged { IsTrue self.old.failed → self.new ≡ self.old }
+        ensures fails { self.new.failed ≡ is_err result }
+        ensures ledger { (calls : List AnsweredCall) (name : Name) → AgreesWithLedger calls self.old → NamesBlock calls name block → OnOk result (AgreesWithLedger (calls ++ record { request = AppendBlockParams name (types_of self.old.func.now.signature.returns); numbers = numbers_from (length self.old.func.now.values) (types_of self.old.func.now.signature.returns) } ∷ []) self.new) }
+        ensures stands { (signature : SignatureShape) (calls : List AnsweredCall) (name : Name) → StandsFor signature calls self.old → NamesBlock calls name block → OnOk result (StandsFor signature (calls ++ record { request = AppendBlockParams name (types_of self.old.func.now.signature.returns); numbers = numbers_from (length self.old.func.now.values) (types_of self.old.func.now.signature.returns) } ∷ []) self.new) }
+        ensures grows { OnOk result (Grows self.old.func.now self.new.func.now) }
+        ensures remembers { (x b : ℕ) → OnOk result (RemembersIn x b self.old self.new) }
+        ensures current { HasCurrent self.old → OnOk result (HasCurrent self.new) }
+    {
+        if self.failed {
+            return Err(BuildError::Failed);
+        }
+        self.func.law_consistent();
+        let appended = append_function_returns(self.func, block);
+        self.failed = appended.is_err();
+        appended
+    }
+}
+
+// Puts a parameter behind those of a block for each parameter of the function.
+fn append_function_params(func: &mut Function, block: Block) -> Result<(), BuildError>
+    requires { block < length func.old.blocks }
+    ensures ok { OnOk result (func.new ≡ with_params func.old block (types_of func.old.signature.params)) }
+    ensures grows { Grows func.old func.new }
+    ensures full { result ≡ Err BuildError.Full → length func.new.values ≡ 2 ^ 32 - 1 }
+    ensures never_failed { result ≢ Err BuildError.Failed }
+{
+    for index in 0..func.signature().params.len() {
+        let ty = func.signature().params[index].value_type;
+        func.append_block_param(block, ty)?;
+    }
+    Ok(())
+}
+
+// Puts a parameter behind those of a block for each returned value of the function.
+fn append_function_returns(func: &mut Function, block: Block) -> Result<(), BuildError>
+    requires { block < length func.old.blocks }
+    ensures ok { OnOk result (func.new ≡ with_params func.old block (types_of func.old.signature.returns)) }
+    ensures grows { Grows func.old func.new }
+    ensures full { result ≡ Err BuildError.Full → length func.new.values ≡ 2 ^ 32 - 1 }
+    ensures never_failed { result ≢ Err BuildError.Failed }
+{
+    for index in 0..func.signature().returns.len() {
+        let ty = func.signature().returns[index].value_type;
+        func.append_block_param(block, ty)?;
+    }
+    Ok(())
 }

@@ -4,6 +4,7 @@
 
 mod branches;
 mod by_calls;
+mod parameters;
 
 ghost use Rattle.std.specs.Prelude.{◌≡◌, ◌<◌, length, IsTrue, IfOk, Some};
 ghost use Rattle.cranelift_frontend.specs.Builder.{HasCurrent};

@@ -15,14 +15,14 @@ use std::process::Abort;
 use std::test::Fail;
 
 // Whether the function has a block.
-fn exists(builder: &FunctionBuilder<'_>, block: Block) -> bool
+pub(super) fn exists(builder: &FunctionBuilder<'_>, block: Block) -> bool
     ensures { IsTrue result → block < length builder.now.func.now.blocks }
 {
     (block.as_u32() as usize) < builder.func().block_count()
 }
 
 // Makes a block the current one, where the one that was current is filled.
-fn enter(rt: &impl Abort, builder: &mut FunctionBuilder<'_>, block: Block)
+pub(super) fn enter(rt: &impl Abort, builder: &mut FunctionBuilder<'_>, block: Block)
     ensures current { HasCurrent builder.new }
     ensures variables { builder.new.ctx.now.variables ≡ builder.old.ctx.now.variables }
 {
@@ -34,7 +34,11 @@ fn enter(rt: &impl Abort, builder: &mut FunctionBuilder<'_>, block: Block)
 }
 
 // Seals a block.
-fn seal(rt: &impl Abort, builder: &mut FunctionBuilder<'_>, block: Block) -> Result<(), BuildError>
+pub(super) fn seal(
+    rt: &impl Abort,
+    builder: &mut FunctionBuilder<'_>,
+    block: Block,
+) -> Result<(), BuildError>
     ensures current { HasCurrent builder.old → OnOk result (HasCurrent builder.new) }
     ensures variables { builder.new.ctx.now.variables ≡ builder.old.ctx.now.variables }
 {
@@ -60,7 +64,11 @@ fn define(
 }
 
 // Ends the current block with a jump.
-fn jump(rt: &impl Abort, builder: &mut FunctionBuilder<'_>, block: Block) -> Result<(), BuildError>
+pub(super) fn jump(
+    rt: &impl Abort,
+    builder: &mut FunctionBuilder<'_>,
+    block: Block,
+) -> Result<(), BuildError>
     requires current { HasCurrent builder.old }
     ensures variables { builder.new.ctx.now.variables ≡ builder.old.ctx.now.variables }
 {

@@ -10,9 +10,10 @@ use Rattle.clif_script.specs.Requests.{requests_of}
 use Rattle.clif_types.specs.Signature.{SignatureShape}
 use Rattle.clif_ir.specs.Body.{Body}
 use Rattle.cranelift_frontend.specs.declared.builder.FunctionBuilder.{FunctionBuilder}
+use Rattle.cranelift_frontend.specs.declared.error.FinalizeError.TheVariants.{Full}
 use Rattle.cranelift_frontend.specs.StandsFor.{LeavesNoParameter, StandsFor, StandsIn}
 use Rattle.std.specs.Prelude.{Some}
-use Rattle.clif_script.proofs.Verdicts.{verdict-refused, all-replayed, means-replayed}
+use Rattle.clif_script.proofs.Verdicts.{never-full, verdict-refused, all-replayed, means-replayed}
 use Rattle.clif_script.proofs.script.replay.Goals as goal
 
 pub returns-clause-verdict : goal.returns-clause-verdict
@@ -72,3 +73,24 @@ returns-in-Ok-clause-well_placed c = λ premises.
     -- `func-2-1` is the checker's own name of the function once the builder's loan has ended
     let ended = c.func-2-1.given.1 (first_of (search rules, grind (arith, common_steps))) in
     subst (λ (f : Body). WellPlaced (view_of f)) (sym ended) (c.in-Ok.ensures.well_placed c.args.signature made.0 stands premise)
+
+pub returns-in-Err-Full-clause-full : goal.returns-in-Err-Full-clause-full
+returns-in-Err-Full-clause-full c = λ full.
+    let made = c.in_ok-made.ensures.ready in
+    let is_full : c.in-Err-Full.field-0 ≡ Full = search rules in
+    absurd (never-full made.0 c.finalize-finished.result c.in-Err-Full.field-0
+    (c.finalize-finished.ensures.ledger made.0 made.1.ledger c.in_ok-made.ensures.sound) c.in-Err-Full.is is_full)
+
+pub returns-in-Err-Full-clause-full_straight : goal.returns-in-Err-Full-clause-full_straight
+returns-in-Err-Full-clause-full_straight c = λ full.
+    let made = c.in_ok-made.ensures.ready in
+    let is_full : c.in-Err-Full.field-0 ≡ Full = search rules in
+    absurd (never-full made.0 c.finalize-finished.result c.in-Err-Full.field-0
+    (c.finalize-finished.ensures.ledger made.0 made.1.ledger c.in_ok-made.ensures.sound) c.in-Err-Full.is is_full)
+
+pub returns-in-Err-Full-clause-table_full : goal.returns-in-Err-Full-clause-table_full
+returns-in-Err-Full-clause-table_full c = λ full.
+    let made = c.in_ok-made.ensures.ready in
+    let is_full : c.in-Err-Full.field-0 ≡ Full = search rules in
+    absurd (never-full made.0 c.finalize-finished.result c.in-Err-Full.field-0
+    (c.finalize-finished.ensures.ledger made.0 made.1.ledger c.in_ok-made.ensures.sound) c.in-Err-Full.is is_full)

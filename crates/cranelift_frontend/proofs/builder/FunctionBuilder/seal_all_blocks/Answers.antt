@@ -11,7 +11,7 @@ seal_all_blocks-sealed-requires c = record { named = opened _ _ c.args.self.now.
 
 pub returns-clause-ledger : goal.returns-clause-ledger
 returns-clause-ledger c = λ calls agrees.
-    sealed_all calls _ _ _ _ _ _ agrees c.seal_all_blocks-sealed.ensures.is_sealing c.law_consistent-2.ensures c.seal_all_blocks-sealed.ensures.variables
+    sealed_all calls _ _ _ _ _ _ agrees c.seal_all_blocks-sealed.ensures.is_sealing c.law_consistent.ensures c.law_consistent-2.ensures c.seal_all_blocks-sealed.ensures.variables
 
 pub returns-clause-stands : goal.returns-clause-stands
 returns-clause-stands c = λ signature calls stands.
@@ -25,7 +25,7 @@ returns-clause-sealed c =
 
 pub returns-clause-edges_match : goal.returns-clause-edges_match
 returns-clause-edges_match c = λ signature calls stands typed.
-    sealed_edges signature calls _ _ _ stands c.law_consistent-2.ensures c.seal_all_blocks-sealed.result (returns-clause-sealed c) typed
+    sealed_edges signature calls _ _ _ stands c.seal_all_blocks-sealed.result (returns-clause-sealed c) typed
 
 pub returns-clause-grows : goal.returns-clause-grows
 returns-clause-grows c =

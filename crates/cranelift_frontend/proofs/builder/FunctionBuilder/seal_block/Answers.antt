@@ -9,7 +9,7 @@ use Rattle.cranelift_frontend.proofs.builder.FunctionBuilder.seal_block.Goals as
 
 pub returns-clause-ledger : goal.returns-clause-ledger
 returns-clause-ledger c = λ calls name agrees names.
-    sealed calls _ _ _ _ _ name c.args.block _ agrees names c.seal_block-sealed.ensures.is_sealing c.law_consistent-2.ensures c.seal_block-sealed.ensures.variables
+    sealed calls _ _ _ _ _ name c.args.block _ agrees names c.seal_block-sealed.ensures.is_sealing c.law_consistent.ensures c.law_consistent-2.ensures c.seal_block-sealed.ensures.variables
 
 pub returns-clause-grows : goal.returns-clause-grows
 returns-clause-grows c = sealed_grows c.seal_block-sealed.result c.args.self.now.func.now c.args.self.now.ctx.now c.seal_block-sealed.new.func c.seal_block-sealed.new.self (λ b. b == c.args.block) c.seal_block-sealed.ensures.is_sealing

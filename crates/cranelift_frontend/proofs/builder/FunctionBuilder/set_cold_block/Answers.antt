@@ -1,5 +1,5 @@
 use mathlib.Core.Logic.{∥∥₁_map}
-use Rattle.std.proofs.Common.{ℕ, List, [], ◌∷◌, ◌++◌, sym, subst}
+use Rattle.std.proofs.Common.{List, [], ◌∷◌, ◌++◌, sym, subst}
 use Rattle.clif_ir.specs.Body.{Body}
 use Rattle.clif_ssa.specs.Ssa.{NamesExist}
 use Rattle.clif_meaning.specs.Request.{AnsweredCall, SetColdBlock}
