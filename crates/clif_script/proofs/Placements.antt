@@ -1,6 +1,6 @@
 -- The tests before a call that marks a block or places it are the condition of its request in the ledger.
 use Rattle.std.proofs.Common.{◌≡◌, ℕ, List, [], ◌∷◌, refl, ap, sym, ◌∙◌}
-use Rattle.std.specs.Prelude.{map, Option, Some, None, is_some, Bool, true, false, not, ◌&&◌}
+use Rattle.std.specs.Prelude.{map, Some, None, is_some, Bool, true, false, not, ◌&&◌}
 use Rattle.std.specs.List.{list_any}
 use Rattle.std.proofs.lemmas.Bool.{false_from_ne_true, false≢true}
 use Rattle.clif_types.specs.Signature.{SignatureShape}

@@ -1,8 +1,8 @@
 -- What names lead to, where the builder agrees with the ledger of the calls.
 use Rattle.std.proofs.Common.{◌≡◌, ℕ, zero, suc, ◌+◌, ◌-◌, ◌<◌, List, [], ◌∷◌, ◌++◌, length, refl, ap, arith, sym, ◌∙◌, subst, ◌⊎◌, inl, inr, length-append}
-use Rattle.std.specs.Prelude.{map, slice_get, slice_index_or, Option, Some, None, option_map, option_and_then, is_some, IfSome, false, if◌then◌else◌, ◌==◌}
+use Rattle.std.specs.Prelude.{map, slice_get, slice_index_or, Option, Some, None, option_map, option_and_then, is_some, IfSome, Bool, true, false, nat_lt, if◌then◌else◌, ◌==◌}
 use Rattle.std.proofs.lemmas.Option.{slice_get_within, slice_get_past, same_Some, none-some, get_or_from_slice_get, slice_get-map}
-use Rattle.std.proofs.lemmas.Bool.{cases_lt, ne_eqb, false_from_ne_true}
+use Rattle.std.proofs.lemmas.Bool.{cases_lt, ne_eqb, false_from_ne_true, false≢true, ltb-true, lt-ltb}
 use Rattle.std.proofs.lemmas.List.{length-map}
 use Rattle.clif_types.specs.declared.types.«Type».{«Type»}
 use Rattle.clif_types.specs.Signature.{SignatureShape}
@@ -11,6 +11,7 @@ use Rattle.clif_ir.specs.declared.function.ValueNode.{ValueNode}
 use Rattle.clif_ir.specs.Body.{inst_at, no_inst}
 use Rattle.clif_meaning.specs.Request.{AnsweredCall, number_of}
 use Rattle.clif_meaning.specs.Ledger.{Answered, ABlock, AVariable, AValue, AnInstruction, BlockState, Ledger, answer_at, answers_to, block_state, has_block, has_value, type_of, value_answer_type}
+use Rattle.clif_simulation.specs.Carries.{numbers_from}
 use Rattle.cranelift_frontend.specs.declared.builder.FunctionBuilder.{FunctionBuilder}
 use Rattle.cranelift_frontend.specs.StandsFor.{StandsFor}
 use Rattle.cranelift_frontend.specs.Ledger.{AnswersAgree, ResultsFollow, NamesBlock, NamesValue, block_name, value_type, ledger_of}
@@ -80,6 +81,20 @@ one-answer given a (suc index) x is at = absurd (none-some x (ap (λ (xs : List 
 no-answer : (given : List Answered) (index : ℕ) (x : Answered) → given ≡ [] → slice_get given index ≡ Some x → ⊥
 no-answer given index x is at = none-some x (ap (λ (xs : List Answered). slice_get xs index) (sym is) ∙ at)
 
+-- what a call answered that answers values
+values-answer : (given : List Answered) (types : List «Type») (index : ℕ) (x : Answered) → given ≡ map AValue types → slice_get given index ≡ Some x → (ty : «Type») × (AValue ty ≡ x)
+values-answer given types index x is at =
+    let value = map-some AValue (slice_get types index) x (sym (slice_get-map AValue types index) ∙ ap (λ (xs : List Answered). slice_get xs index) (sym is) ∙ at) in
+    (value.0, value.2)
+
+-- numbers that follow one another
+number-from : (n : ℕ) (types : List «Type») (k : ℕ) → k < length types → slice_get (numbers_from n types) k ≡ Some (n + k)
+number-from n [] k inside = absurd (omega (arith, inside))
+number-from n (ty ∷ types) zero inside = let same : n ≡ n + 0 = omega arith in ap Some same
+number-from n (ty ∷ types) (suc k) inside =
+    let same : suc n + k ≡ n + suc k = omega arith in
+    number-from (suc n) types k (omega (arith, inside)) ∙ ap Some same
+
 -- what an instruction answered
 instruction-answer : (given : List Answered) (types : List «Type») (index : ℕ) (x : Answered) → given ≡ AnInstruction ∷ map AValue types → slice_get given index ≡ Some x
     → ((index ≡ 0) × (AnInstruction ≡ x)) ⊎ ((k : ℕ) × (index ≡ suc k) × (ty : «Type») × (AValue ty ≡ x))
@@ -109,7 +124,7 @@ block-found calls b answers ready name block found = by (slice_get answers name.
     by None at found = absurd (none-some block found)
     by (Some answer.Nothing) at found = absurd (none-some block found)
     by (Some (answer.Variable v)) at found = absurd (none-some block found)
-    by (Some (answer.Value v)) at found = absurd (none-some block found)
+    by (Some (answer.Values first count)) at found = absurd (none-some block found)
     by (Some (answer.Inst i)) at found = absurd (none-some block found)
     by (Some (answer.Block x)) at found = by_block x at name.answer refl found
 
@@ -137,10 +152,10 @@ block-missing calls b answers ready name missing =
         let one = one-answer e.given (AVariable v) name.answer ABlock e.is.0 (sym (answer-at calls b name.place name.answer (answer.Variable v) e) ∙ answered) in
         let wrong : AVariable v ≡ ABlock = one.1 in
         cc
-    by (Some (answer.Value v)) at missing answered =
-        let e = entry calls b answers ready name.place (answer.Value v) at in
-        let one = one-answer e.given (AValue e.is.0) name.answer ABlock e.is.1 (sym (answer-at calls b name.place name.answer (answer.Value v) e) ∙ answered) in
-        let wrong : AValue e.is.0 ≡ ABlock = one.1 in
+    by (Some (answer.Values first count)) at missing answered =
+        let e = entry calls b answers ready name.place (answer.Values first count) at in
+        let one = values-answer e.given e.is.0 name.answer ABlock e.is.1 (sym (answer-at calls b name.place name.answer (answer.Values first count) e) ∙ answered) in
+        let wrong : AValue one.0 ≡ ABlock = one.1 in
         cc
     by (Some (answer.Inst i)) at missing answered =
         let e = entry calls b answers ready name.place (answer.Inst i) at in
@@ -192,16 +207,22 @@ pub value-found : {declared : SignatureShape} (calls : List AnsweredCall) (b : F
     → (name : Name) (value : ℕ) → value_of b.func.now answers name ≡ Some value → NamesValue calls (name_of name) value
 value-found calls b answers ready name value found = by (slice_get answers name.place) refl found
   where
-    by_value : (x : ℕ) → slice_get answers name.place ≡ Some (answer.Value x) → (index : ℕ) → name.answer ≡ index → (if index == 0 then Some x else None) ≡ Some value → NamesValue calls (name_of name) value
-    by_value x at zero is found =
-        let e = entry calls b answers ready name.place (answer.Value x) at in
-        let answered : answer_at (ledger_of calls) (name_of name) ≡ Some (AValue e.is.0) =
-        answer-at calls b name.place name.answer (answer.Value x) e ∙ ap (slice_get e.given) is ∙ ap (λ (xs : List Answered). slice_get xs 0) e.is.1 in
+    by_values : (first count : ℕ) → slice_get answers name.place ≡ Some (answer.Values first count) → (test : Bool) → nat_lt name.answer count ≡ test
+        → (if test then Some (first + name.answer) else None) ≡ Some value → NamesValue calls (name_of name) value
+    by_values first count at true is found =
+        let e = entry calls b answers ready name.place (answer.Values first count) at in
+        let below : name.answer < count = ltb-true name.answer count is in
+        let inside : name.answer < length e.is.0 = omega (arith, below, e.is.3) in
+        let ty = get-below e.is.0 name.answer inside in
+        let answered : answer_at (ledger_of calls) (name_of name) ≡ Some (AValue ty.0) =
+        answer-at calls b name.place name.answer (answer.Values first count) e ∙ ap (λ (xs : List Answered). slice_get xs name.answer) e.is.1
+        ∙ slice_get-map AValue e.is.0 name.answer ∙ ap (option_map AValue) ty.1 in
         record {
-          number = number-at calls b name.place name.answer (answer.Value x) e ∙ ap (slice_get e.call.numbers) is ∙ ap (λ (xs : List ℕ). slice_get xs 0) e.is.2 ∙ found;
+          number = number-at calls b name.place name.answer (answer.Values first count) e ∙ ap (λ (xs : List ℕ). slice_get xs name.answer) e.is.2
+              ∙ number-from first e.is.0 name.answer inside ∙ found;
           is_value = ap (λ (o : Option Answered). is_some (value_answer_type o)) answered;
         }
-    by_value x at (suc k) is found = absurd (none-some value (sym (past k (Some x) None) ∙ found))
+    by_values first count at false is found = absurd (none-some value found)
 
     by_inst : (i : ℕ) → slice_get answers name.place ≡ Some (answer.Inst i) → (index : ℕ) → name.answer ≡ index
         → (if index == 0 then None else slice_get (inst_at b.func.now i).results (index - 1)) ≡ Some value → NamesValue calls (name_of name) value
@@ -228,7 +249,7 @@ value-found calls b answers ready name value found = by (slice_get answers name.
     by (Some answer.Nothing) at found = absurd (none-some value found)
     by (Some (answer.Variable v)) at found = absurd (none-some value found)
     by (Some (answer.Block x)) at found = absurd (none-some value found)
-    by (Some (answer.Value x)) at found = by_value x at name.answer refl found
+    by (Some (answer.Values first count)) at found = by_values first count at (nat_lt name.answer count) refl found
     by (Some (answer.Inst i)) at found = by_inst i at name.answer refl found
 
 -- a name that leads to no value names none
@@ -246,9 +267,9 @@ value-missing calls b answers ready name missing =
     answer_is (Some (AValue other)) ty is = ap (λ (t : «Type»). Some (AValue t)) (same_Some other ty is)
     answer_is (Some AnInstruction) ty is = absurd (none-some ty is)
 
-    by_value : (x : ℕ) (index : ℕ) → index ≡ 0 → (if index == 0 then Some x else None) ≡ None → ⊥
-    by_value x zero is missing = none-some x (sym missing)
-    by_value x (suc k) is missing = omega (arith, is)
+    by_values : (first count index : ℕ) → index < count → (test : Bool) → nat_lt index count ≡ test → (if test then Some (first + index) else None) ≡ None → ⊥
+    by_values first count index inside true is missing = none-some (first + index) (sym missing)
+    by_values first count index inside false is missing = false≢true (sym is ∙ lt-ltb index count inside)
 
     by : (ty : «Type») (o : Option Answer) → slice_get answers name.place ≡ o → value_in b.func.now name.answer o ≡ None → answer_at (ledger_of calls) (name_of name) ≡ Some (AValue ty) → ⊥
     by ty None at missing answered = none-some (AValue ty) (sym (answer-past calls b answers ready name.place name.answer at) ∙ answered)
@@ -265,10 +286,12 @@ value-missing calls b answers ready name missing =
         let one = one-answer e.given ABlock name.answer (AValue ty) e.is.0 (sym (answer-at calls b name.place name.answer (answer.Block x) e) ∙ answered) in
         let wrong : ABlock ≡ AValue ty = one.1 in
         cc
-    by ty (Some (answer.Value x)) at missing answered =
-        let e = entry calls b answers ready name.place (answer.Value x) at in
-        let one = one-answer e.given (AValue e.is.0) name.answer (AValue ty) e.is.1 (sym (answer-at calls b name.place name.answer (answer.Value x) e) ∙ answered) in
-        by_value x name.answer one.0 missing
+    by ty (Some (answer.Values first count)) at missing answered =
+        let e = entry calls b answers ready name.place (answer.Values first count) at in
+        let given_at : slice_get e.given name.answer ≡ Some (AValue ty) = sym (answer-at calls b name.place name.answer (answer.Values first count) e) ∙ answered in
+        let inside : name.answer < length e.given = slice_get_within e.given name.answer (AValue ty) given_at in
+        let many : length e.given ≡ length e.is.0 = ap (λ (xs : List Answered). length xs) e.is.1 ∙ length-map e.is.0 AValue in
+        by_values first count name.answer (omega (arith, inside, many, e.is.3)) (nat_lt name.answer count) refl missing
     by ty (Some (answer.Inst i)) at missing answered =
         let r = results-of calls b answers ready name.place i at in
         let given_at : slice_get r.given name.answer ≡ Some (AValue ty) = sym (ap (option_and_then (λ (xs : List Answered). slice_get xs name.answer)) r.at_given) ∙ answered in
@@ -297,11 +320,15 @@ answers-exist calls b answers ready k inside =
     by answer.Nothing at = tt
     by (answer.Block x) at = tt
     by (answer.Variable v) at = tt
-    by (answer.Value x) at =
-        let e = entry calls b answers ready k (answer.Value x) at in
-        let typed : value_type b.func.now x ≡ Some e.is.0 = e.agree.each 0 (AValue e.is.0) x (ap (λ (xs : List Answered). slice_get xs 0) e.is.1) (ap (λ (xs : List ℕ). slice_get xs 0) e.is.2) in
-        let node = map-some (λ (n : ValueNode). n.ty) (slice_get b.func.now.values x) e.is.0 typed in
-        slice_get_within b.func.now.values x node.0 node.1
+    by (answer.Values first count) at = λ j below.
+        let e = entry calls b answers ready k (answer.Values first count) at in
+        let there : j < length e.is.0 = omega (arith, below, e.is.3) in
+        let ty = get-below e.is.0 j there in
+        let answered : slice_get e.given j ≡ Some (AValue ty.0) = ap (λ (xs : List Answered). slice_get xs j) e.is.1 ∙ slice_get-map AValue e.is.0 j ∙ ap (option_map AValue) ty.1 in
+        let numbered : slice_get e.call.numbers j ≡ Some (first + j) = ap (λ (xs : List ℕ). slice_get xs j) e.is.2 ∙ number-from first e.is.0 j there in
+        let typed : value_type b.func.now (first + j) ≡ Some ty.0 = e.agree.each j (AValue ty.0) (first + j) answered numbered in
+        let node = map-some (λ (n : ValueNode). n.ty) (slice_get b.func.now.values (first + j)) ty.0 typed in
+        slice_get_within b.func.now.values (first + j) node.0 node.1
     by (answer.Inst i) at = let r = results-of calls b answers ready k i at in slice_get_within b.func.now.insts i r.node r.there
 
 -- a value that is named exists

@@ -1,6 +1,6 @@
 -- What holds between the calls of a script: the builder stands for the calls that were made, whose numbers are those
 -- that were answered. Own.
-use Rattle.std.specs.Prelude.{◌≡◌, ℕ, ◌<◌, List, [], ◌∷◌, ◌++◌, length, map, slice_get, is_some, not, ◌&&◌, ◌-◌, ◌==◌, Bool, true, false, Option, Some, None, if◌then◌else◌, Result, Ok, Err}
+use Rattle.std.specs.Prelude.{◌≡◌, ℕ, ◌<◌, List, [], ◌∷◌, ◌++◌, length, map, slice_get, is_some, not, ◌&&◌, ◌+◌, ◌-◌, ◌==◌, nat_lt, Bool, true, false, Option, Some, None, if◌then◌else◌, Result, Ok, Err}
 use Rattle.std.specs.List.{list_all}
 use Rattle.clif_types.specs.declared.types.«Type».{«Type»}
 use Rattle.clif_types.specs.Types.{is_int}
@@ -13,6 +13,7 @@ use Rattle.clif_ir.specs.declared.function.ValueDef.TheVariants as def
 use Rattle.clif_meaning.specs.SameType.{same_type}
 use Rattle.clif_meaning.specs.Request.{AnsweredCall, Request}
 use Rattle.clif_meaning.specs.Ledger.{Answered, ABlock, AVariable, AValue, AnInstruction}
+use Rattle.clif_simulation.specs.Carries.{numbers_from}
 use Rattle.clif_ssa.specs.Tables.{is_yes}
 use Rattle.clif_ssa.specs.Ssa.{sealed_of}
 use Rattle.cranelift_frontend.specs.declared.builder.FunctionBuilder.{FunctionBuilder}
@@ -35,7 +36,8 @@ abbrev pub AnswerIs : Answer → List Answered → List ℕ → Type 0
 AnswerIs answer.Nothing answered numbers = (answered ≡ []) × (numbers ≡ [])
 AnswerIs (answer.Block b) answered numbers = (answered ≡ ABlock ∷ []) × (numbers ≡ b ∷ [])
 AnswerIs (answer.Variable v) answered numbers = (answered ≡ AVariable v ∷ []) × (numbers ≡ v ∷ [])
-AnswerIs (answer.Value v) answered numbers = (ty : «Type») × (answered ≡ AValue ty ∷ []) × (numbers ≡ v ∷ [])
+AnswerIs (answer.Values first count) answered numbers =
+    (types : List «Type») × (answered ≡ map AValue types) × (numbers ≡ numbers_from first types) × (count ≡ length types)
 AnswerIs (answer.Inst i) answered numbers =
     (types : List «Type») × (results : List ℕ) × (answered ≡ AnInstruction ∷ map AValue types) × (numbers ≡ i ∷ results)
 
@@ -73,16 +75,16 @@ abbrev pub block_in : ℕ → Option Answer → Option ℕ
 block_in index (Some (answer.Block b)) = if index == 0 then Some b else None
 block_in index (Some answer.Nothing) = None
 block_in index (Some (answer.Variable v)) = None
-block_in index (Some (answer.Value v)) = None
+block_in index (Some (answer.Values first count)) = None
 block_in index (Some (answer.Inst i)) = None
 block_in index None = None
 
 abbrev pub block_of : List Answer → Name → Option ℕ
 block_of answers name = block_in name.answer (slice_get answers name.place)
 
--- the value that a name leads to: results follow the number of an instruction
+-- the value that a name leads to: the numbers of values follow one another, and results follow the number of an instruction
 abbrev pub value_in : Body → ℕ → Option Answer → Option ℕ
-value_in f index (Some (answer.Value v)) = if index == 0 then Some v else None
+value_in f index (Some (answer.Values first count)) = if nat_lt index count then Some (first + index) else None
 value_in f index (Some (answer.Inst i)) = if index == 0 then None else slice_get (inst_at f i).results (index - 1)
 value_in f index (Some answer.Nothing) = None
 value_in f index (Some (answer.Block b)) = None
@@ -92,18 +94,18 @@ value_in f index None = None
 abbrev pub value_of : Body → List Answer → Name → Option ℕ
 value_of f answers name = value_in f name.answer (slice_get answers name.place)
 
--- an answer that is an instruction is one of the function
+-- an answer that is an instruction is one of the function, and so are values
 abbrev pub AnswerExists : Body → Answer → Type 0
 AnswerExists f (answer.Inst i) = i < length f.insts
 AnswerExists f answer.Nothing = Unit {0}
 AnswerExists f (answer.Block b) = Unit {0}
 AnswerExists f (answer.Variable v) = Unit {0}
-AnswerExists f (answer.Value v) = v < length f.values
+AnswerExists f (answer.Values first count) = (k : ℕ) → k < count → first + k < length f.values
 
 -- the answer of an instruction call: the instruction of which the value is the result
 abbrev pub instruction_in : ValueDef → ℕ → Answer
 instruction_in (def.Result i k) value = answer.Inst i
-instruction_in (def.Param b k) value = answer.Value value
+instruction_in (def.Param b k) value = answer.Values value 1
 
 abbrev pub instruction_answer : Body → ℕ → Answer
 instruction_answer f value = instruction_in (def_of f (resolved f value) (value_at f (resolved f value)).origin) value

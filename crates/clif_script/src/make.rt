@@ -1,5 +1,5 @@
 //! The calls of a script, each made on a builder if its condition holds.
-ghost use Rattle.std.specs.Prelude.{◌≡◌, ◌≢◌, ◌<◌, ◌++◌, ◌∷◌, [], List, map, OnOk, OnErr, IfOk, IfSome, length, slice_get, slice_index, slice_index_or, EachIndex, Some, Err, IsTrue, ◌↔◌, false, is_err};
+ghost use Rattle.std.specs.Prelude.{◌≡◌, ◌≢◌, ℕ, ◌<◌, ◌+◌, ◌++◌, ◌∷◌, [], List, map, OnOk, OnErr, IfOk, IfSome, length, slice_get, slice_index, slice_index_or, EachIndex, Some, None, nat_lt, if◌then◌else◌, Err, IsTrue, ◌↔◌, false, is_err};
 ghost use Rattle.cranelift_frontend.specs.Builder.{SameLoans, AppendsValue, CanLead, HasCurrent, is_declarable};
 ghost use Rattle.clif_types.specs.Signature.{SignatureShape};
 ghost use Rattle.cranelift_frontend.specs.Ledger.{NamesEdge, NamesValue, ledger_of};
@@ -12,7 +12,7 @@ ghost use Rattle.clif_meaning.specs.Request.{AnsweredCall, number_of, DeclareVar
 ghost use Rattle.clif_meaning.specs.Acceptance.{allows, iconst, iadd, isub, jump, brif, return_};
 ghost use Rattle.clif_script.specs.Limits.{IsOneCall, IsNearlyFull};
 ghost use Rattle.clif_script.specs.Requests.{edge_of, name_of, request_of};
-ghost use Rattle.clif_script.specs.Ready.{IsReady, IsReadyNow, IsReadyWith, IsReadyAfter, IsFound, IsJudged, AnswerExists, may_lead, block_of, value_of, all_values, instruction_answer, is_open, can_define, can_use, can_make_constant, types_after};
+ghost use Rattle.clif_script.specs.Ready.{IsReady, IsReadyNow, IsReadyWith, IsReadyAfter, IsFound, IsJudged, AnswerExists, may_lead, block_of, value_in, value_of, all_values, instruction_answer, is_open, can_define, can_use, can_make_constant, types_after};
 
 use crate::call::{Call, Edge, Name};
 use crate::make_blocks::{
@@ -22,7 +22,7 @@ use crate::make_blocks::{
 use crate::script::{Answer, CallError};
 use clif_ir::{BinaryOpcode, BlockArg, Function, InstructionData, ValueDef};
 use clif_ssa::Variable;
-use clif_types::{Block, BuildError, Inst, LaneType, Type, Value};
+use clif_types::{Block, BuildError, EntityRef, Inst, LaneType, Type, Value};
 use cranelift_frontend::{FunctionBuilder, InstBuilder};
 use std::alloc::Global;
 
@@ -81,17 +81,38 @@ pub(crate) fn block_named(answers: &[Answer], name: Name) -> Option<Block>
     }
 }
 
+// One of so many values whose numbers follow one another.
+fn value_among(func: &Function, first: Value, count: usize, place: usize) -> Option<Value>
+    requires { (k : ℕ) → k < count → first + k < length func.now.values }
+    ensures { result ≡ (if nat_lt place count then Some (first + place) else None) }
+{
+    if place >= count {
+        return None;
+    }
+    func.law_consistent();
+    Some(Value::new(first.index() + place))
+}
+
+// The value at a place among what one call answered.
+fn value_in(func: &Function, answer: Answer, place: usize) -> Option<Value>
+    requires { AnswerExists func.now answer }
+    ensures { result ≡ value_in func.now place (Some answer) }
+{
+    match answer {
+        Answer::Values { first, count } => value_among(func, first, count, place),
+        Answer::Inst(inst) if place > 0 => func.inst_results(inst).get(place - 1).copied(),
+        Answer::Inst(_) | Answer::Nothing | Answer::Block(_) | Answer::Variable(_) => None,
+    }
+}
+
 // The value that a name leads to.
 fn value_named(func: &Function, answers: &[Answer], name: Name) -> Option<Value>
     requires { EachIndex answers.now (λ k. AnswerExists func.now (slice_index_or answers.now k Answer.Nothing)) }
     ensures { result ≡ value_of func.now answers.now name }
 {
     match answers.get(name.place) {
-        Some(Answer::Value(value)) if name.answer == 0 => Some(*value),
-        Some(Answer::Inst(inst)) if name.answer > 0 => {
-            func.inst_results(*inst).get(name.answer - 1).copied()
-        }
-        _ => None,
+        Some(answer) => value_in(func, *answer, name.answer),
+        None => None,
     }
 }
 
@@ -225,7 +246,7 @@ fn use_var(
         return Err(CallError::Misuse);
     }
     let value = builder.use_var(variable)?;
-    Ok(Answer::Value(value))
+    Ok(one_value(value))
 }
 
 // The call itself.
@@ -527,7 +548,17 @@ fn instruction_of(func: &Function, value: Value) -> Answer
 {
     match func.value_def(value) {
         ValueDef::Result(inst, _) => Answer::Inst(inst),
-        ValueDef::Param(..) => Answer::Value(value),
+        ValueDef::Param(..) => one_value(value),
+    }
+}
+
+// The answer of a call that answers this value alone.
+fn one_value(value: Value) -> Answer
+    ensures { result ≡ Answer.Values value 1 }
+{
+    Answer::Values {
+        first: value,
+        count: 1,
     }
 }
 

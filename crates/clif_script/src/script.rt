@@ -61,13 +61,14 @@ impl fmt::Display for ReplayError {
 
 impl Error for ReplayError {}
 
-// What a call answered. The results of an instruction are asked of the function.
+// What a call answered: its values have numbers that follow one another, and the results of an
+// instruction are asked of the function.
 #[derive(Clone, Copy, Debug, PartialEq, Eq)]
 pub(crate) enum Answer {
     Nothing,
     Block(Block),
     Variable(Variable),
-    Value(Value),
+    Values { first: Value, count: usize },
     Inst(Inst),
 }
 

@@ -1,11 +1,15 @@
-use Rattle.std.proofs.Common.{◌≡◌, List, [], ◌∷◌, rules, arith, sym, ◌∙◌, ap, refl}
+use Rattle.std.proofs.Common.{◌≡◌, List, [], ◌∷◌, rules, arith, sym, ◌∙◌, ap, refl, subst}
 use Rattle.std.specs.Prelude.{true, false}
 use Rattle.std.proofs.lemmas.Grind.{common_steps}
 use Rattle.std.proofs.lemmas.Bool.{and_parts}
 use Rattle.std.proofs.lemmas.Result.{err_from_is_err_and}
 use Rattle.clif_types.specs.declared.types.«Type».{«Type»}
+use Rattle.clif_meaning.specs.Request.{UseVar}
+use Rattle.clif_meaning.specs.Ledger.{or_invalid, variable_type}
+use Rattle.cranelift_frontend.specs.Ledger.{ledger_of}
+use Rattle.clif_script.specs.declared.script.Answer.{Answer}
 use Rattle.clif_script.specs.declared.script.Answer.TheVariants as answer
-use Rattle.clif_script.specs.Ready.{can_use}
+use Rattle.clif_script.specs.Ready.{IsReadyAfter, can_use}
 use Rattle.clif_script.proofs.ReadyLaws.{ready-more}
 use Rattle.clif_script.proofs.Conditions
 use Rattle.clif_script.proofs.Limits.{one-constructed, used-here, full-told-by, local-here, nearly-taken}
@@ -38,11 +42,15 @@ returns-in_err-value-clause-judged c = λ calls given.
     ∙ ap (λ (types : List «Type»). can_use c.args.builder.now types c.args.variable) (sym c.requires.types) ∙ sym c.may_use.ensures ∙ holds)
 
 pub returns-clause-ready : goal.returns-clause-ready
-returns-clause-ready c = λ declared calls ready. (
-  c.in_ok-value.value ∷ [],
-  ready-more calls _ c.args.builder.now c.use_var.new.self _ (answer.Value c.in_ok-value.value) ready
-      (c.in_ok-value.ensures.stands declared calls ready.stands) (_, refl, refl),
-)
+returns-clause-ready c = λ declared calls ready.
+    let new = c.use_var.new.self in
+    let value = c.in_ok-value.value in
+    let one : IsReadyAfter declared calls (UseVar c.args.variable) new c.args.answers.now (answer.Values value 1) = (
+      value ∷ [],
+      ready-more calls _ c.args.builder.now new _ (answer.Values value 1) ready
+          (c.in_ok-value.ensures.stands declared calls ready.stands) (or_invalid (variable_type (ledger_of calls) c.args.variable) ∷ [], refl, refl, refl),
+    ) in
+    subst (λ (a : Answer). IsReadyAfter declared calls (UseVar c.args.variable) new c.args.answers.now a) (sym c.one_value.ensures) one
 
 pub returns-clause-judged : goal.returns-clause-judged
 returns-clause-judged c = λ calls given.
