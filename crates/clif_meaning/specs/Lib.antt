@@ -32,3 +32,4 @@ pub mod ScriptExamples
 pub mod BranchExamples
 pub mod ViewExamples
 pub mod ParameterExamples
+pub mod SampleExamples

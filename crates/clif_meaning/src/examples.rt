@@ -5,6 +5,7 @@ ghost use Rattle.clif_meaning.specs.BranchExamples.{BranchExamples};
 ghost use Rattle.clif_meaning.specs.CallExamples.{CallExamples, EdgeExamples};
 ghost use Rattle.clif_meaning.specs.Examples.{ArithmeticExamples, ByteExamples, SwitchExamples, FirstAnswersSeven, FirstMeansTheSame, WrongFunctionsAreRefused, EightIsNotSeven, EmptyIsStuck, VerdictExamples, RefusalExamples};
 ghost use Rattle.clif_meaning.specs.ParameterExamples.{ParameterExamples};
+ghost use Rattle.clif_meaning.specs.SampleExamples.{SampleExamples};
 ghost use Rattle.clif_meaning.specs.ScriptExamples.{LedgerExamples, PathExamples};
 ghost use Rattle.clif_meaning.specs.ViewExamples.{ViewExamples};
 
@@ -61,6 +62,11 @@ pub fn ledger_examples()
 /// A script whose entry takes the function's parameters and passes their difference to a block.
 pub fn parameter_examples()
     ensures { ParameterExamples }
+{}
+
+/// The rows `sample` and `sample_late` answer 0 on both machines for several arguments, in every world.
+pub fn sample_examples()
+    ensures { SampleExamples }
 {}
 
 /// Paths of an irreducible loop.
