@@ -82,6 +82,7 @@ mod LoopRow
 mod LoopConsistent
 mod LoopAlong
 mod LoopPremises
+mod SamplePremises
 mod LoopWaiting
 -- Further calls, and parameters of the caller's.
 pub mod Further

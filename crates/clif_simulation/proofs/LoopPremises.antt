@@ -22,7 +22,7 @@ abbrev Good : Name → Type 0
 Good target = IsGoodTarget (ledger_after both_arms_script) (program_of both_arms_script) (plain target)
 
 -- the places of block0 and of another block differ
-abbrev place_in : Option Name → ℕ
+abbrev pub place_in : Option Name → ℕ
 place_in None = 0
 place_in (Some name) = name.place
 
@@ -39,7 +39,7 @@ good_last : Good (block 3)
 good_last = record { filled = refl; no_entry = not_first 2 }
 
 -- nothing is tracked
-apart : (tracked marked : Bool) → tracked ≡ false → IsTrue tracked → IsTrue marked
+pub apart : (tracked marked : Bool) → tracked ≡ false → IsTrue tracked → IsTrue marked
 apart tracked marked none is = let no_way : ⊥ = cc in absurd no_way
 
 meets : (world : World) → Premises both_arms_script both_arms_signature (pointer_type_of U64) (script_run both_arms_script both_arms_function world)

@@ -43,12 +43,12 @@ each_block_of_row P a b c d (suc (suc (suc (suc number)))) name e = absurd (is e
     is e = cc
 
 -- the calls never switch to the block with this name
-abbrev NeverAt : Name → Script → Type 0
+abbrev pub NeverAt : Name → Script → Type 0
 NeverAt name [] = Unit {0}
 NeverAt name (SwitchToBlock block ∷ rest) = (same_name name block ≡ false) × NeverAt name rest
 NeverAt name (request ∷ rest) = NeverAt name rest
 
-abbrev IsNotAt : Name → Option Name → Type 0
+abbrev pub IsNotAt : Name → Option Name → Type 0
 IsNotAt name None = Unit {0}
 IsNotAt name (Some block) = same_name name block ≡ false
 
@@ -57,7 +57,7 @@ no_new_item program None item name apart = refl
 no_new_item program (Some block) item name apart = rw apart refl
 
 -- calls in other blocks add nothing to a block
-nothing_there : (name : Name) (script : Script) (program : Program) → NeverAt name script → IsNotAt name program.current → program.items name ≡ []
+pub nothing_there : (name : Name) (script : Script) (program : Program) → NeverAt name script → IsNotAt name program.current → program.items name ≡ []
     → (fold with_call program script).items name ≡ []
 nothing_there name [] program never apart none = none
 nothing_there name (CreateBlock ∷ rest) program never apart none = nothing_there name rest (with_call program CreateBlock) never apart none

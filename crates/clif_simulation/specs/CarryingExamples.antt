@@ -26,6 +26,7 @@ use Rattle.clif_meaning.specs.Premises.{Premises}
 use Rattle.clif_meaning.specs.Headline.{IsWorldOf, script_run}
 use Rattle.clif_meaning.specs.Examples.{i32, moved_by_16}
 use Rattle.clif_meaning.specs.BranchExamples.{block, branch, plain, both_arms_script, both_arms_signature, both_arms_function}
+use Rattle.clif_meaning.specs.SampleExamples.{sample_script, sample_signature, sample_function}
 use Rattle.clif_simulation.specs.Carries.{Carries}
 use Rattle.clif_simulation.specs.Laws.{IsFinished}
 
@@ -157,3 +158,8 @@ pub record CarryingExamples : Type 0 where
 pub record LoopMeetsPremises : Type 0 where
   pub a_world : (world : World) × IsWorldOf both_arms_signature both_arms_function U64 world × ((events : List Event) (call : CallShape) → world.moved events call ≡ moved_by_16)
   pub premises : (world : World) → Premises both_arms_script both_arms_signature (pointer_type_of U64) (script_run both_arms_script both_arms_function world)
+
+-- The same of the row `sample`, whose function takes an argument.
+pub record SampleMeetsPremises : Type 0 where
+  pub a_world : (world : World) × IsWorldOf sample_signature sample_function U64 world × ((events : List Event) (call : CallShape) → world.moved events call ≡ moved_by_16)
+  pub premises : (world : World) → Premises sample_script sample_signature (pointer_type_of U64) (script_run sample_script sample_function world)

@@ -1,6 +1,6 @@
 //! Worked examples of the definitions.
 
-ghost use Rattle.clif_simulation.specs.CarryingExamples.{CarryingExamples, LoopMeetsPremises};
+ghost use Rattle.clif_simulation.specs.CarryingExamples.{CarryingExamples, LoopMeetsPremises, SampleMeetsPremises};
 ghost use Rattle.clif_simulation.specs.InterruptedExamples.{InterruptedExamples};
 ghost use Rattle.clif_simulation.specs.ParameterCarryingExamples.{ParameterCarryingExamples};
 ghost use Rattle.clif_simulation.specs.ReadingExamples.{ReadingExamples};
@@ -27,6 +27,11 @@ pub fn loop_is_carried()
 /// The row `both_arms` meets the premises of the theorem in every world, and there is a world in which its function can run.
 pub fn loop_meets_premises()
     ensures { LoopMeetsPremises }
+{}
+
+/// The row `sample` meets them too.
+pub fn sample_meets_premises()
+    ensures { SampleMeetsPremises }
 {}
 
 /// A block with a parameter of the caller's is carried; where the parameter is missing, or of another type, it isn't.
