@@ -1,7 +1,8 @@
 -- The rows `sample` and `sample_late`, by computation: the documented example of the crate whose behaviour this one has,
--- a loop over three variables, sealed as soon as may be or all at once, on both machines.
+-- a loop over three variables, sealed as soon as may be or all at once, on both machines; and a loop that names, in a later
+-- block, what it read in an earlier one.
 -- Source: the documentation of cranelift-frontend; the functions are from the project's worked examples.
-use Rattle.std.specs.Prelude.{◌≡◌, ℕ, zero, suc, ◌+◌, ◌^◌, List, [], ◌∷◌, map, Some, pos, ◌==◌, if◌then◌else◌}
+use Rattle.std.specs.Prelude.{◌≡◌, ℕ, zero, suc, ◌+◌, ◌^◌, List, [], ◌∷◌, map, Some, pos, negsuc, ◌==◌, if◌then◌else◌}
 use Rattle.clif_types.specs.declared.types.«Type».TheVariants as type
 use Rattle.clif_types.specs.declared.call_conv.CallConv.TheVariants.{SystemV}
 use Rattle.clif_types.specs.declared.target.PointerWidth.TheVariants.{U64}
@@ -129,6 +130,41 @@ late_resolved v =
 abbrev pub sample_late_function : FunctionView
 sample_late_function = sample_with sample_late_blocks late_resolved
 
+-- A reading that is named in a later block. block0(x): jump to block1; block1: n = x, by n to block2 or block3; block2:
+-- x = x + (-1), jump to block1; block3 returns n.
+abbrev pub reading_script : Script
+reading_script =
+    CreateBlock ∷ CreateBlock ∷ CreateBlock ∷ CreateBlock ∷ DeclareVar i32 ∷ AppendFunctionParams (block 0) (i32 ∷ [])
+    ∷ SwitchToBlock (block 0) ∷ SealBlock (block 0) ∷ DefVar 0 (answer_of 5 0) ∷ jump (plain (block 1))
+    ∷ SwitchToBlock (block 1) ∷ UseVar 0 ∷ branch (answer_of 11 0) (block 2) (block 3)
+    ∷ SwitchToBlock (block 2) ∷ SealBlock (block 2) ∷ UseVar 0 ∷ iconst i32 (negsuc 0) ∷ of_two Iadd (answer_of 15 0) (answer_of 16 1) ∷ DefVar 0 (answer_of 17 1)
+    ∷ jump (plain (block 1)) ∷ SealBlock (block 1)
+    ∷ SwitchToBlock (block 3) ∷ SealBlock (block 3) ∷ return_ (answer_of 11 0 ∷ []) ∷ []
+
+--     block0(v0: i32):
+--         jump block1(v0)
+--     block1(v1: i32):
+--         brif v1, block2, block3
+--     block2:
+--         v2 = iconst.i32 -1
+--         v3 = iadd v1, v2
+--         jump block1(v3)
+--     block3:
+--         return v1
+abbrev pub reading_blocks : ℕ → BlockView
+reading_blocks zero = record { parameters = 0 ∷ []; items = going [] (to_second (0 ∷ []) ∷ []) ∷ [] }
+reading_blocks (suc zero) = record { parameters = 1 ∷ []; items = going (1 ∷ []) (plain 2 ∷ plain 3 ∷ []) ∷ [] }
+reading_blocks (suc (suc zero)) =
+    record {
+      parameters = [];
+      items = placed (Compute (Iconst (negsuc 0))) i32 [] (2 ∷ []) ∷ sum 1 2 3 ∷ going [] (to_second (3 ∷ []) ∷ []) ∷ [];
+    }
+reading_blocks (suc (suc (suc zero))) = record { parameters = []; items = returns 1 ∷ [] }
+reading_blocks (suc (suc (suc (suc number)))) = no_block
+
+abbrev pub reading_function : FunctionView
+reading_function = sample_with reading_blocks (λ v. v)
+
 -- a world that passes this number
 abbrev pub passing_one : ℕ → World → World
 passing_one argument world = record world { arguments = argument ∷ [] }
@@ -146,6 +182,9 @@ pub record SampleExamples : Type 0 where
   pub late_one : AnswerZero sample_late_script sample_late_function 1 42 15
   pub late_two : AnswerZero sample_late_script sample_late_function 2 31 11
   pub late_past : AnswerZero sample_late_script sample_late_function (2 ^ 31 + 1) 42 15
+  -- x counts down from 3
+  pub reading : AnswerZero reading_script reading_function 3 26 15
+  pub reading_accepted : verdict_on reading_script ≡ Accepted
   pub accepted : verdict_on sample_script ≡ Accepted
   pub late_accepted : verdict_on sample_late_script ≡ Accepted
   -- with swapped arms the function answers 2 at once

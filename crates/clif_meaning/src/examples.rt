@@ -64,7 +64,8 @@ pub fn parameter_examples()
     ensures { ParameterExamples }
 {}
 
-/// The rows `sample` and `sample_late` answer 0 on both machines for several arguments, in every world.
+/// The rows `sample` and `sample_late`, and a loop that names an earlier block's reading, answer 0 on both machines for
+/// several arguments, in every world.
 pub fn sample_examples()
     ensures { SampleExamples }
 {}

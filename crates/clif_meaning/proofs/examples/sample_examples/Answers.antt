@@ -9,6 +9,8 @@ returns c = record {
   late_one = record { by_script = λ world. refl; by_function = λ world. refl };
   late_two = record { by_script = λ world. refl; by_function = λ world. refl };
   late_past = record { by_script = λ world. refl; by_function = λ world. refl };
+  reading = record { by_script = λ world. refl; by_function = λ world. refl };
+  reading_accepted = refl;
   accepted = refl;
   late_accepted = refl;
   swapped = λ world. refl;
