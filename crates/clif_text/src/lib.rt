@@ -1,0 +1,22 @@
+//! Scripts as text: read, written, and built.
+#![tactic(auto)]
+
+mod args;
+mod calls;
+mod cursor;
+mod error;
+mod header;
+mod number;
+mod program;
+mod reader;
+mod scope;
+#[cfg(test)]
+mod tests;
+mod types;
+mod words;
+mod writer;
+
+pub use error::{Expected, Fault, ReadError};
+pub use program::build;
+pub use reader::{Script, read};
+pub use writer::{CallText, write};
