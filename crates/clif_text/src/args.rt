@@ -1,4 +1,7 @@
 //! What follows the name of a call.
+ghost use Rattle.std.specs.Prelude.{◌≡◌, ◌++◌, ℕ, List, IfSome, codes};
+ghost use Rattle.clif_text.specs.Grammar.{IsDecimal};
+
 use crate::cursor::Cursor;
 use crate::error::{Expected, Fault, LineError};
 use crate::number::{decimal, number};
@@ -20,19 +23,33 @@ pub(crate) struct Args<'w, 'a> {
 const MOST_VARIABLES: usize = 0xffff_ffff;
 
 impl<'w, 'a> Args<'w, 'a> {
-    ghost use Rattle.std.specs.Prelude.{◌≡◌, ◌+◌, length, OnOk};
-    ghost use Rattle.clif_text.specs.Cursor.{words_left};
+    ghost use Rattle.std.specs.Prelude.{◌∷◌, [], IfOk, OnOk};
+    ghost use Rattle.clif_text.specs.Cursor.{texts, words_left};
+    ghost use Rattle.clif_text.specs.Scope.{names_of};
+    ghost use Rattle.clif_text.specs.Grammar.{AreAnswers, AreLast, IsAnswer, IsEdge, IsLastEdge, IsTypeWord, IsVariable};
 
-    pub(crate) fn new(words: &'w [&'a str], scope: &'w Scope<'a>) -> Args<'w, 'a> {
+    pub(crate) fn new(words: &'w [&'a str], scope: &'w Scope<'a>) -> Args<'w, 'a>
+        ensures words { words_left result.words ≡ texts words.now }
+        ensures scope { result.scope ≡ scope.entry }
+    {
         Args {
             words: Cursor::new(words),
             scope,
         }
     }
 
+    /// The name of a call.
+    pub(crate) fn head(&mut self) -> Result<&'a str, LineError<'a>>
+        ensures scope { self.new.scope ≡ self.old.scope }
+        ensures ok { IfOk result (λ head. words_left self.old.words ≡ head.now ∷ words_left self.new.words) }
+    {
+        self.words.take(Expected::Call)
+    }
+
     // What a name stands for.
     fn answer(&mut self, expected: Expected) -> Result<Name, LineError<'a>>
-        ensures { OnOk result (length (words_left self.old.words) ≡ length (words_left self.new.words) + 1) }
+        ensures scope { self.new.scope ≡ self.old.scope }
+        ensures ok { IfOk result (λ name. (word : List ℕ) × (words_left self.old.words ≡ word ∷ words_left self.new.words) × IsAnswer (names_of self.old.scope.now) word name) }
     {
         let word = self.words.take(expected)?;
         match self.scope.answer(word) {
@@ -42,18 +59,27 @@ impl<'w, 'a> Args<'w, 'a> {
     }
 
     /// A block.
-    pub(crate) fn block(&mut self) -> Result<Name, LineError<'a>> {
+    pub(crate) fn block(&mut self) -> Result<Name, LineError<'a>>
+        ensures scope { self.new.scope ≡ self.old.scope }
+        ensures ok { IfOk result (λ name. (word : List ℕ) × (words_left self.old.words ≡ word ∷ words_left self.new.words) × IsAnswer (names_of self.old.scope.now) word name) }
+    {
         self.answer(Expected::Block)
     }
 
     /// A value.
-    pub(crate) fn value(&mut self) -> Result<Name, LineError<'a>> {
+    pub(crate) fn value(&mut self) -> Result<Name, LineError<'a>>
+        ensures scope { self.new.scope ≡ self.old.scope }
+        ensures ok { IfOk result (λ name. (word : List ℕ) × (words_left self.old.words ≡ word ∷ words_left self.new.words) × IsAnswer (names_of self.old.scope.now) word name) }
+    {
         self.answer(Expected::Value)
     }
 
     /// A variable: the one that a name or `$P.K` stands for, or `varN`, which is variable N unless that name
     /// was given.
-    pub(crate) fn variable(&mut self) -> Result<Variable, LineError<'a>> {
+    pub(crate) fn variable(&mut self) -> Result<Variable, LineError<'a>>
+        ensures scope { self.new.scope ≡ self.old.scope }
+        ensures ok { IfOk result (λ variable. (word : List ℕ) × (words_left self.old.words ≡ word ∷ words_left self.new.words) × IsVariable (names_of self.old.scope.now) word variable) }
+    {
         let word = self.words.take(Expected::Variable)?;
         let index = match self.scope.answer(word) {
             Some(name) => self.scope.variable(name),
@@ -70,19 +96,29 @@ impl<'w, 'a> Args<'w, 'a> {
     }
 
     /// A type.
-    pub(crate) fn ty(&mut self) -> Result<Type, LineError<'a>> {
+    pub(crate) fn ty(&mut self) -> Result<Type, LineError<'a>>
+        ensures scope { self.new.scope ≡ self.old.scope }
+        ensures ok { IfOk result (λ ty. (word : List ℕ) × (words_left self.old.words ≡ word ∷ words_left self.new.words) × IsTypeWord word ty) }
+    {
         let word = self.words.take(Expected::Type)?;
         type_named(word).ok_or(LineError::wanted(Expected::Type))
     }
 
     /// A number.
-    pub(crate) fn number(&mut self) -> Result<i64, LineError<'a>> {
+    pub(crate) fn number(&mut self) -> Result<i64, LineError<'a>>
+        ensures scope { self.new.scope ≡ self.old.scope }
+        ensures ok { OnOk result ((word : List ℕ) × (words_left self.old.words ≡ word ∷ words_left self.new.words)) }
+    {
         let word = self.words.take(Expected::Number)?;
         number(word).ok_or(LineError::wanted(Expected::Number))
     }
 
     // Values up to `)`.
-    fn values_to_close(&mut self, alloc: Global) -> Result<Vec<Name>, LineError<'a>> {
+    #[tactic(auto, using(crate::proofs::Taking::taking_rules))]
+    fn values_to_close(&mut self, alloc: Global) -> Result<Vec<Name>, LineError<'a>>
+        ensures scope { self.new.scope ≡ self.old.scope }
+        ensures ok { IfOk result (λ values. (words : List (List ℕ)) × (words_left self.old.words ≡ words ++ codes ")" ∷ words_left self.new.words) × AreAnswers (names_of self.old.scope.now) words values.items) }
+    {
         let mut values = Vec::new(alloc);
         while !self.words.skips(")") {
             values.push(self.answer(Expected::ValueOrClose)?)?;
@@ -91,7 +127,11 @@ impl<'w, 'a> Args<'w, 'a> {
     }
 
     // Values up to the end of the line.
-    fn values_to_end(&mut self, alloc: Global) -> Result<Vec<Name>, LineError<'a>> {
+    #[tactic(auto, using(crate::proofs::Taking::taking_rules))]
+    fn values_to_end(&mut self, alloc: Global) -> Result<Vec<Name>, LineError<'a>>
+        ensures scope { self.new.scope ≡ self.old.scope }
+        ensures ok { IfOk result (λ values. (words_left self.new.words ≡ []) × AreAnswers (names_of self.old.scope.now) (words_left self.old.words) values.items) }
+    {
         let mut values = Vec::new(alloc);
         while !self.words.is_empty() {
             values.push(self.answer(Expected::Value)?)?;
@@ -100,7 +140,10 @@ impl<'w, 'a> Args<'w, 'a> {
     }
 
     /// Values that end the line, in parentheses or not.
-    pub(crate) fn last_values(&mut self, alloc: Global) -> Result<Vec<Name>, LineError<'a>> {
+    pub(crate) fn last_values(&mut self, alloc: Global) -> Result<Vec<Name>, LineError<'a>>
+        ensures scope { self.new.scope ≡ self.old.scope }
+        ensures ok { IfOk result (λ values. (words : List (List ℕ)) × (words_left self.old.words ≡ words ++ words_left self.new.words) × AreLast (names_of self.old.scope.now) words values.items) }
+    {
         if self.words.skips("(") {
             self.values_to_close(alloc)
         } else {
@@ -109,7 +152,10 @@ impl<'w, 'a> Args<'w, 'a> {
     }
 
     /// An edge: a block, and the values that it passes in parentheses.
-    pub(crate) fn edge(&mut self, alloc: Global) -> Result<Edge, LineError<'a>> {
+    pub(crate) fn edge(&mut self, alloc: Global) -> Result<Edge, LineError<'a>>
+        ensures scope { self.new.scope ≡ self.old.scope }
+        ensures ok { IfOk result (λ edge. (words : List (List ℕ)) × (words_left self.old.words ≡ words ++ words_left self.new.words) × IsEdge (names_of self.old.scope.now) words edge) }
+    {
         let block = self.block()?;
         let args = if self.words.skips("(") {
             self.values_to_close(alloc)?
@@ -120,14 +166,19 @@ impl<'w, 'a> Args<'w, 'a> {
     }
 
     /// An edge that ends the line: the parentheses may be left out.
-    pub(crate) fn last_edge(&mut self, alloc: Global) -> Result<Edge, LineError<'a>> {
+    pub(crate) fn last_edge(&mut self, alloc: Global) -> Result<Edge, LineError<'a>>
+        ensures scope { self.new.scope ≡ self.old.scope }
+        ensures ok { IfOk result (λ edge. (words : List (List ℕ)) × (words_left self.old.words ≡ words ++ words_left self.new.words) × IsLastEdge (names_of self.old.scope.now) words edge) }
+    {
         let block = self.block()?;
         let args = self.last_values(alloc)?;
         Ok(Edge { block, args })
     }
 
     /// Nothing is left.
-    pub(crate) fn end(&self) -> Result<(), LineError<'a>> {
+    pub(crate) fn end(&self) -> Result<(), LineError<'a>>
+        ensures { OnOk result (words_left self.now.words ≡ []) }
+    {
         self.words.end()
     }
 }
@@ -142,6 +193,8 @@ fn unknown(word: &str, expected: Expected) -> LineError<'_> {
 }
 
 // The number in `varN`.
-fn numbered_variable(word: &str) -> Option<usize> {
+fn numbered_variable(word: &str) -> Option<usize>
+    ensures { IfSome result (λ number. (digits : List ℕ) × (word.now ≡ codes "var" ++ digits) × IsDecimal digits number) }
+{
     decimal(word.strip_prefix("var")?)
 }

@@ -1,4 +1,9 @@
 //! The calls that are understood: one arm each.
+ghost use Rattle.std.specs.Prelude.{◌≡◌, ◌++◌, ◌∷◌, ℕ, List, IfOk, IfSome, codes};
+ghost use Rattle.clif_text.specs.Cursor.{texts, words_left};
+ghost use Rattle.clif_text.specs.Grammar.{IsCall};
+ghost use Rattle.clif_text.specs.Scope.{names_of};
+
 use crate::args::Args;
 use crate::error::{Expected, Fault, LineError};
 use crate::scope::Scope;
@@ -88,51 +93,54 @@ fn read_call<'a>(
     alloc: Global,
     head: &'a str,
     args: &mut Args<'_, 'a>,
-) -> Result<Call, LineError<'a>> {
-    Ok(match head {
-        "create_block" => Call::CreateBlock,
-        "switch_to_block" => Call::SwitchToBlock {
+) -> Result<Call, LineError<'a>>
+    ensures { IfOk result (λ call. (words : List (List ℕ)) × (words_left args.old.words ≡ words ++ words_left args.new.words) × IsCall (names_of args.old.scope.now) (head.now ∷ words) call) }
+{
+    match head {
+        "create_block" => Ok(Call::CreateBlock),
+        "switch_to_block" => Ok(Call::SwitchToBlock {
             block: args.block()?,
-        },
-        "seal_block" => Call::SealBlock {
+        }),
+        "seal_block" => Ok(Call::SealBlock {
             block: args.block()?,
-        },
-        "declare_var" => Call::DeclareVar { ty: args.ty()? },
-        "def_var" => Call::DefVar {
+        }),
+        "declare_var" => Ok(Call::DeclareVar { ty: args.ty()? }),
+        "def_var" => Ok(Call::DefVar {
             variable: args.variable()?,
             value: args.value()?,
-        },
-        "use_var" => Call::UseVar {
+        }),
+        "use_var" => Ok(Call::UseVar {
             variable: args.variable()?,
-        },
-        "iadd" => Call::Iadd {
+        }),
+        "iadd" => Ok(Call::Iadd {
             x: args.value()?,
             y: args.value()?,
-        },
-        "isub" => Call::Isub {
+        }),
+        "isub" => Ok(Call::Isub {
             x: args.value()?,
             y: args.value()?,
-        },
-        "jump" => Call::Jump {
+        }),
+        "jump" => Ok(Call::Jump {
             destination: args.last_edge(alloc)?,
-        },
-        "brif" => Call::Brif {
+        }),
+        "brif" => Ok(Call::Brif {
             condition: args.value()?,
             block_then: args.edge(alloc)?,
             block_else: args.last_edge(alloc)?,
-        },
-        "return" => Call::Return {
+        }),
+        "return" => Ok(Call::Return {
             values: args.last_values(alloc)?,
-        },
-        _ => read_typed_call(head, args)?,
-    })
+        }),
+        _ => read_typed_call(head, args),
+    }
 }
 
 // The same for a call whose name has a type behind it, as `iconst.i32`.
-fn read_typed_call<'a>(head: &'a str, args: &mut Args<'_, 'a>) -> Result<Call, LineError<'a>> {
-    let (name, suffix) = match head.split_once('.') {
-        Some((name, suffix)) => (name, suffix),
-        None => (head, ""),
+fn read_typed_call<'a>(head: &'a str, args: &mut Args<'_, 'a>) -> Result<Call, LineError<'a>>
+    ensures { IfOk result (λ call. (words : List (List ℕ)) × (words_left args.old.words ≡ words ++ words_left args.new.words) × IsCall (names_of args.old.scope.now) (head.now ∷ words) call) }
+{
+    let Some((name, suffix)) = name_and_type(head) else {
+        return Err(not_understood(head, head));
     };
     match name {
         "iconst" => {
@@ -144,8 +152,25 @@ fn read_typed_call<'a>(head: &'a str, args: &mut Args<'_, 'a>) -> Result<Call, L
                 imm: args.number()?,
             })
         }
-        _ if NOT_SUPPORTED.contains(&name) => Err(LineError::Fault(Fault::NotSupported(name))),
-        _ => Err(LineError::Fault(Fault::UnknownCall(head))),
+        _ => Err(not_understood(head, name)),
+    }
+}
+
+// The name of a call, and the type behind it.
+fn name_and_type(head: &str) -> Option<(&str, &str)>
+    ensures { IfSome result (λ parts. head.now ≡ parts.0.now ++ (codes "." ++ parts.1.now)) }
+{
+    head.split_once('.')
+}
+
+// No call is read that has this name, in front of the type that may follow.
+fn not_understood<'a>(head: &'a str, name: &'a str) -> LineError<'a> {
+    if name == "iconst" {
+        LineError::wanted(Expected::Type)
+    } else if NOT_SUPPORTED.contains(&name) {
+        LineError::Fault(Fault::NotSupported(name))
+    } else {
+        LineError::Fault(Fault::UnknownCall(head))
     }
 }
 
@@ -154,11 +179,11 @@ pub(crate) fn call_of<'a>(
     alloc: Global,
     words: &[&'a str],
     scope: &Scope<'a>,
-) -> Result<Call, LineError<'a>> {
-    let Some((head, rest)) = words.split_first() else {
-        return Err(LineError::wanted(Expected::Call));
-    };
-    let mut args = Args::new(rest, scope);
+) -> Result<Call, LineError<'a>>
+    ensures { IfOk result (IsCall (names_of scope.now) (texts words.now)) }
+{
+    let mut args = Args::new(words, scope);
+    let head = args.head()?;
     let call = read_call(alloc, head, &mut args)?;
     args.end()?;
     Ok(call)

@@ -149,8 +149,13 @@ impl<T: Drop> From<AllocFailed<T>> for LineError<'_> {
 }
 
 impl<'a> LineError<'a> {
+    ghost use Rattle.std.specs.Prelude.{◌≡◌};
+    ghost use Rattle.clif_text.specs.Errors.{error_at};
+
     /// The same, of the line with this number.
-    pub(crate) fn at(self, number: usize) -> ReadError<'a> {
+    pub(crate) fn at(self, number: usize) -> ReadError<'a>
+        ensures { result ≡ error_at self.entry number }
+    {
         match self {
             LineError::Memory => ReadError::Memory,
             LineError::Fault(fault) => ReadError::Line { number, fault },

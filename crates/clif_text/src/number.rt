@@ -1,8 +1,11 @@
 //! Numbers as words.
-ghost use Rattle.std.specs.Prelude.{◌≡◌};
+ghost use Rattle.std.specs.Prelude.{IfSome};
+ghost use Rattle.clif_text.specs.Grammar.{IsDecimal};
 
 /// The number that decimal digits write, if it is below 2^64.
-pub(crate) fn decimal(digits: &str) -> Option<usize> {
+pub(crate) fn decimal(digits: &str) -> Option<usize>
+    ensures { IfSome result (IsDecimal digits.now) }
+{
     if digits.starts_with('+') {
         return None;
     }
@@ -10,7 +13,9 @@ pub(crate) fn decimal(digits: &str) -> Option<usize> {
 }
 
 /// The same, below 2^32.
-pub(crate) fn short_decimal(digits: &str) -> Option<u32> {
+pub(crate) fn short_decimal(digits: &str) -> Option<u32>
+    ensures { IfSome result (IsDecimal digits.now) }
+{
     if digits.starts_with('+') {
         return None;
     }

@@ -1,4 +1,7 @@
 //! What names stand for.
+ghost use Rattle.std.specs.Prelude.{◌≤◌, IfSome, vec_len};
+ghost use Rattle.clif_text.specs.Grammar.{IsPlaceName};
+
 use crate::number::decimal;
 use clif_script::Name;
 use std::alloc::{AllocError, Global};
@@ -11,11 +14,14 @@ pub(crate) struct Scope<'a> {
     // for each call, the number of the variable that it answers
     variables: Vec<Option<usize>>,
     declared: usize,
+    ghost counted: { declared ≤ vec_len variables },
 }
 
-// The answer that `$P.K` names, from behind the `$`.
-fn answer_at(word: &str) -> Option<Name> {
-    let (place, answer) = word.split_once('.')?;
+// The answer that `$P.K` names.
+fn place_name(word: &str) -> Option<Name>
+    ensures { IfSome result (IsPlaceName word.now) }
+{
+    let (place, answer) = word.strip_prefix('$')?.split_once('.')?;
     Some(Name {
         place: decimal(place)?,
         answer: decimal(answer)?,
@@ -36,6 +42,10 @@ fn may_be_named(byte: u8) -> bool {
 }
 
 impl<'a> Scope<'a> {
+    ghost use Rattle.std.specs.Prelude.{◌≡◌, IfNone};
+    ghost use Rattle.clif_text.specs.Grammar.{IsAnswer};
+    ghost use Rattle.clif_text.specs.Scope.{given_in, names_of, variable_of};
+
     pub(crate) fn new(alloc: Global) -> Scope<'a> {
         Scope {
             names: BTreeMap::new(alloc),
@@ -45,16 +55,21 @@ impl<'a> Scope<'a> {
     }
 
     /// The answer that a word names, if it was given or is of the form `$P.K`.
-    pub(crate) fn answer(&self, word: &str) -> Option<Name> {
-        match word.strip_prefix('$') {
-            Some(answer) => answer_at(answer),
-            None => self.names.get(word).copied(),
+    pub(crate) fn answer(&self, word: &str) -> Option<Name>
+        ensures some { IfSome result (IsAnswer (names_of self.now) word.now) }
+        ensures none { IfNone result (given_in self.now word.now ≡ None) }
+    {
+        match self.names.get(word) {
+            Some(name) => Some(*name),
+            None => place_name(word),
         }
     }
 
     /// The number of the variable that is this answer. Where it is none, the number that the next variable
     /// gets, which isn't declared.
-    pub(crate) fn variable(&self, name: Name) -> usize {
+    pub(crate) fn variable(&self, name: Name) -> usize
+        ensures { result ≡ variable_of self.now name }
+    {
         match self.variables.get(name.place) {
             Some(Some(number)) if name.answer == 0 => *number,
             _ => self.declared,
@@ -71,7 +86,7 @@ impl<'a> Scope<'a> {
     pub(crate) fn count(&mut self, declares: bool) -> Result<(), AllocError> {
         if declares {
             self.variables.push(Some(self.declared))?;
-            self.declared = self.variables.len();
+            self.declared += 1;
         } else {
             self.variables.push(None)?;
         }

@@ -1,7 +1,15 @@
 //! Types and conventions as words.
+ghost use Rattle.std.specs.Prelude.{◌≡◌, IfSome};
+ghost use Rattle.clif_types.specs.Texts.{call_conv_text, lane_text};
+ghost use Rattle.clif_types.specs.Types.{lanes_of};
+ghost use Rattle.std.specs.Fmt.{decimal};
+ghost use Rattle.clif_text.specs.Grammar.{IsTypeWord};
+
 use clif_types::{CallConv, LaneCount, LaneType, PointerWidth, Type};
 
-fn lane_named(word: &str) -> Option<LaneType> {
+fn lane_named(word: &str) -> Option<LaneType>
+    ensures { IfSome result (λ lane. word.now ≡ lane_text lane) }
+{
     match word {
         "i8" => Some(LaneType::I8),
         "i16" => Some(LaneType::I16),
@@ -16,7 +24,9 @@ fn lane_named(word: &str) -> Option<LaneType> {
     }
 }
 
-fn lanes_named(word: &str) -> Option<LaneCount> {
+fn lanes_named(word: &str) -> Option<LaneCount>
+    ensures { IfSome result (λ lanes. word.now ≡ decimal (lanes_of lanes)) }
+{
     match word {
         "2" => Some(LaneCount::Two),
         "4" => Some(LaneCount::Four),
@@ -29,7 +39,9 @@ fn lanes_named(word: &str) -> Option<LaneCount> {
 }
 
 /// The type of this name: a lane, as `i32`, or a vector of at most 64 bytes, as `i8x16`.
-pub(crate) fn type_named(word: &str) -> Option<Type> {
+pub(crate) fn type_named(word: &str) -> Option<Type>
+    ensures { IfSome result (IsTypeWord word.now) }
+{
     let ty = match word.split_once('x') {
         None => Type::Lane(lane_named(word)?),
         Some((lane, lanes)) => Type::Vector(lane_named(lane)?, lanes_named(lanes)?),
@@ -38,7 +50,9 @@ pub(crate) fn type_named(word: &str) -> Option<Type> {
 }
 
 /// The convention of this name.
-pub(crate) fn call_conv_named(word: &str) -> Option<CallConv> {
+pub(crate) fn call_conv_named(word: &str) -> Option<CallConv>
+    ensures { IfSome result (λ conv. word.now ≡ call_conv_text conv) }
+{
     match word {
         "fast" => Some(CallConv::Fast),
         "system_v" => Some(CallConv::SystemV),

@@ -125,6 +125,39 @@ block0:
     gives(&rt, rt.alloc(), script.as_bytes(), 0, text, "")
 }
 
+// Variables are numbered by their declarations, wherever these stand among the calls.
+#[test]
+fn variables(rt: HostRuntime) -> Result<(), Fail> {
+    let script = "\
+b = create_block
+x = declare_var i32
+switch_to_block b
+y = declare_var i32
+one = iconst.i32 1
+def_var x one
+two = iconst.i32 2
+z = declare_var i32
+def_var y, two
+def_var z one
+u = use_var y
+return u
+seal_block b";
+    let text = "\
+function u0:0() fast {
+block0:
+    v0 = iconst.i32 1
+    v1 = iconst.i32 2
+    return v1  ; v1 = 2
+}
+";
+    gives(&rt, rt.alloc(), script.as_bytes(), 0, text, "")?;
+    let written = rewritten(rt.alloc(), script)?;
+    assert!(rt; written.contains("def_var var0 $4.1\n"));
+    assert!(rt; written.contains("def_var var1 $6.1\n"));
+    assert!(rt; written.contains("def_var var2 $4.1\n"));
+    Ok(())
+}
+
 #[test]
 fn misuses(rt: HostRuntime) -> Result<(), Fail> {
     let rows = [
