@@ -1,10 +1,9 @@
 -- The words that are left, one taken.
-use Rattle.std.proofs.Common.{◌≡◌, ℕ, ◌+◌, ◌-◌, ◌<◌, ◌≤◌, List, [], ◌∷◌, length, map, drop, refl, sym, ◌∙◌, ap, arith, get_or, Bor, add-one, suc}
-use Rattle.std.proofs.lemmas.Grind.{common_steps}
+use Rattle.std.proofs.Common.{◌≡◌, ℕ, ◌+◌, ◌-◌, ◌<◌, ◌≤◌, List, [], ◌∷◌, length, drop, refl, sym, ◌∙◌, ap, arith, get_or, Bor, add-one, suc}
 use Rattle.std.proofs.lemmas.Option.{get_or_from_slice_get, slice_get_within, slice_get_read}
 use Rattle.std.proofs.lemmas.List.{length-drop}
 use Rattle.std.proofs.Math.Seq.{drop-cons}
-use Rattle.std.specs.Prelude.{slice_get, Some, None, true, nat_lt, nat_eq}
+use Rattle.std.specs.Prelude.{slice_get, Some, true, nat_lt, nat_eq}
 use Rattle.std.proofs.lemmas.Bool.Decides.{Decides-eqb, Decides-ltb}
 use Rattle.std.specs.Cmp.Lexicographic.{same_text}
 use Rattle.clif_text.specs.Cursor.{texts}

@@ -1,13 +1,13 @@
 -- Where a line may be cut into words.
-use Rattle.std.proofs.Common.{◌≡◌, ◌≢◌, ℕ, ◌+◌, ◌-◌, ◌<◌, ◌≤◌, zero, suc, List, [], ◌∷◌, ◌++◌, length, get_or, take, drop, refl, sym, ◌∙◌, ap, inl, inr, subst, arith, Bool, true, false, not, add-one}
+use Rattle.std.proofs.Common.{◌≡◌, ◌≢◌, ℕ, ◌<◌, ◌≤◌, zero, suc, List, length, get_or, take, drop, refl, sym, ◌∙◌, ap, inr, arith, Bool, true, false, not, add-one}
 use Rattle.std.proofs.lemmas.Bool.Decides.{nat_tests, Decides-ltb}
 use Rattle.std.specs.Prelude.{nat_lt}
 use Rattle.std.proofs.lemmas.List.{get_or-take, get_or-drop, length-take, length-drop}
-use Rattle.std.proofs.lemmas.Str.{IsCharBoundary-start, IsCharBoundary-end, IsCharBoundary-before_ascii, IsCharBoundary-after_ascii}
+use Rattle.std.proofs.lemmas.Str.{IsCharBoundary-start, IsCharBoundary-after_ascii}
 use Rattle.std.specs.Str.{IsCharBoundary, IsUtf8}
-use Rattle.clif_text.specs.Words.{kind_of, AllOf, AreWords, EndsLine, IsWord, NoPlainFirst}
+use Rattle.clif_text.specs.Words.{kind_of, AllOf, IsWord}
 use Rattle.clif_text.specs.declared.words.Kind.{Kind}
-use Rattle.clif_text.specs.declared.words.Kind.TheVariants.{Blank, Mark, Comment, Plain}
+use Rattle.clif_text.specs.declared.words.Kind.TheVariants.{Blank, Mark, Plain}
 
 pub was_true : (b : Bool) → false ≡ not b → b ≡ true
 was_true true e = refl

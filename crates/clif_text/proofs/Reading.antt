@@ -1,14 +1,13 @@
 -- A line that was read, among those before it.
-use Rattle.std.proofs.Common.{◌≡◌, ℕ, ◌+◌, ◌-◌, ◌<◌, ◌≤◌, List, [], ◌∷◌, ◌++◌, length, get_or, ap, sym, subst, ◌∙◌, inl, inr, arith, Bor}
+use Rattle.std.proofs.Common.{◌≡◌, ℕ, ◌+◌, ◌<◌, List, [], ◌∷◌, ◌++◌, length, get_or, ap, sym, subst, ◌∙◌, inl, inr, arith, Bor}
 use Rattle.std.specs.Prelude.{codes}
 use Rattle.std.specs.List.{AllZip}
-use Rattle.clif_script.specs.declared.call.Call.{Call}
 use Rattle.clif_text.specs.declared.reader.Reader.{Reader}
 use Rattle.clif_text.specs.Cursor.{texts}
 use Rattle.clif_text.specs.Grammar.{Names, IsCall}
 use Rattle.clif_text.specs.Words.{AreWords}
 use Rattle.clif_text.specs.Script.{lines_of, line_at, IsLineNumber, IsCallLine, AreCallLines}
-use Rattle.clif_text.specs.Reader.{Adds, Keeps, MayAdd}
+use Rattle.clif_text.specs.Reader.{Adds, MayAdd}
 use Rattle.clif_text.proofs.Left.{length-texts}
 use Rattle.clif_text.proofs.Texts.{get_or-texts}
 

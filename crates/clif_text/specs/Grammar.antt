@@ -1,5 +1,5 @@
 -- Which words stand for which call. Source: own; docs/SCRIPTS.md describes the same format.
-use Rattle.std.specs.Prelude.{◌≡◌, ℕ, ◌⊎◌, ◌++◌, List, [], ◌∷◌, length, Option, Some, None, codes}
+use Rattle.std.specs.Prelude.{◌≡◌, ℕ, ◌⊎◌, ◌++◌, List, [], ◌∷◌, Option, Some, None, codes}
 use Rattle.std.specs.Str.Parse.{IsNumeral, digits_value}
 use Rattle.clif_types.specs.Types.{IsType}
 use Rattle.clif_types.specs.Texts.{type_text}

@@ -1,4 +1,7 @@
 //! Why a text is no script.
+ghost use Rattle.std.specs.Prelude.{Some};
+ghost use Rattle.clif_text.specs.Errors.{expected_text, fault_text, read_error_text};
+
 use std::alloc::{AllocError, AllocFailed};
 use std::fmt;
 
@@ -42,6 +45,8 @@ pub enum Expected {
 }
 
 impl fmt::Display for Expected {
+    ghost output = { λ expected. Some (expected_text expected) };
+
     fn fmt<W: fmt::Write>(&self, f: &mut fmt::Formatter<W>) -> fmt::Result {
         f.write_str(match self {
             Expected::Text => "UTF-8 text",
@@ -83,6 +88,8 @@ pub enum Fault<'a> {
 }
 
 impl fmt::Display for Fault<'_> {
+    ghost output = { λ fault. Some (fault_text fault) };
+
     fn fmt<W: fmt::Write>(&self, f: &mut fmt::Formatter<W>) -> fmt::Result {
         match self {
             Fault::Expected(expected) => write!(f, "expected {expected}"),
@@ -113,6 +120,8 @@ pub enum ReadError<'a> {
 }
 
 impl fmt::Display for ReadError<'_> {
+    ghost output = { λ error. Some (read_error_text error) };
+
     fn fmt<W: fmt::Write>(&self, f: &mut fmt::Formatter<W>) -> fmt::Result {
         match self {
             ReadError::Memory => write!(f, "no memory"),

@@ -1,4 +1,5 @@
-//! Scripts as text: read, written, and built.
+//! Scripts as text: `read` makes calls of a text, `write` a text of calls, and `build` is the program
+//! `clif_build` over two writers.
 #![tactic(auto)]
 
 mod args;

@@ -1,5 +1,8 @@
 //! The program `clif_build`, over two writers.
 ghost use Rattle.std.specs.Prelude.{◌≡◌, ◌<◌, IfOk};
+ghost use Rattle.clif_meaning.specs.Acceptance as acceptance;
+ghost use Rattle.clif_script.specs.Requests.{requests_of};
+ghost use Rattle.clif_text.specs.Program.{IsAccepted};
 
 use crate::error::{Expected, Fault, ReadError};
 use crate::reader::{Script, read};
@@ -26,6 +29,7 @@ pub fn build<O: io::Write, E: io::Write>(
     err: &mut E,
 ) -> u8
     ensures status { result < 3 }
+    ensures accepted { result ≡ 0 → IsAccepted bytes.now }
 {
     let built = match str::from_utf8(bytes) {
         Ok(text) => build_text(alloc, text, out, err),
@@ -48,7 +52,7 @@ fn lines_to(bytes: &[u8]) -> usize {
 
 // Tells why a text is no script.
 fn tell_unread<E: io::Write>(error: ReadError<'_>, err: &mut E) -> io::Result<u8>
-    ensures { IfOk result (λ status. status < 3) }
+    ensures { IfOk result (λ status. (0 < status) × (status < 3)) }
 {
     writeln!(err, "{error}")?;
     match error {
@@ -63,7 +67,8 @@ fn build_text<O: io::Write, E: io::Write>(
     out: &mut O,
     err: &mut E,
 ) -> io::Result<u8>
-    ensures { IfOk result (λ status. status < 3) }
+    ensures status { IfOk result (λ status. status < 3) }
+    ensures accepted { IfOk result (λ status. status ≡ 0 → IsAccepted text.now) }
 {
     match read(alloc, text) {
         Ok(script) => build_script(alloc, text, script, out, err),
@@ -78,7 +83,8 @@ fn build_script<O: io::Write, E: io::Write>(
     out: &mut O,
     err: &mut E,
 ) -> io::Result<u8>
-    ensures { IfOk result (λ status. status < 3) }
+    ensures status { IfOk result (λ status. status < 3) }
+    ensures accepted { IfOk result (λ status. status ≡ 0 → acceptance.verdict_on (requests_of script.calls.items) ≡ acceptance.Accepted) }
 {
     let Script {
         name,

@@ -1,4 +1,7 @@
 //! Scripts as text, written.
+ghost use Rattle.std.specs.Prelude.{◌≡◌, ◌++◌, Some, IfOk, string_bytes};
+ghost use Rattle.clif_text.specs.Texts.{answer_text, answers_text, edge_text, call_text, calls_text, header_text};
+
 use clif_script::{Call, Edge, Name};
 use clif_types::{PointerWidth, Signature, TargetFrontendConfig, UserFuncName};
 use std::alloc::{AllocError, Global};
@@ -9,6 +12,8 @@ use std::fmt;
 struct AnswerText(Name);
 
 impl fmt::Display for AnswerText {
+    ghost output = { λ text. Some (answer_text text.0) };
+
     fn fmt<W: fmt::Write>(&self, f: &mut fmt::Formatter<W>) -> fmt::Result {
         let Name { place, answer } = self.0;
         write!(f, "${place}.{answer}")
@@ -20,6 +25,8 @@ impl fmt::Display for AnswerText {
 struct AnswersText<'a>(&'a [Name]);
 
 impl fmt::Display for AnswersText<'_> {
+    ghost output = { λ text. Some (answers_text text.0.now) };
+
     fn fmt<W: fmt::Write>(&self, f: &mut fmt::Formatter<W>) -> fmt::Result {
         for name in self.0 {
             let answer = AnswerText(*name);
@@ -34,6 +41,8 @@ impl fmt::Display for AnswersText<'_> {
 struct EdgeText<'a>(&'a Edge);
 
 impl fmt::Display for EdgeText<'_> {
+    ghost output = { λ text. Some (edge_text text.0.now) };
+
     fn fmt<W: fmt::Write>(&self, f: &mut fmt::Formatter<W>) -> fmt::Result {
         let block = AnswerText(self.0.block);
         let args = AnswersText(self.0.args.as_slice());
@@ -47,6 +56,8 @@ impl fmt::Display for EdgeText<'_> {
 pub struct CallText<'a>(pub &'a Call);
 
 impl fmt::Display for CallText<'_> {
+    ghost output = { λ text. Some (call_text text.0.now) };
+
     fn fmt<W: fmt::Write>(&self, f: &mut fmt::Formatter<W>) -> fmt::Result {
         match self.0 {
             Call::CreateBlock => write!(f, "create_block"),
@@ -82,12 +93,14 @@ pub fn write(
     signature: &Signature,
     config: TargetFrontendConfig,
     calls: &[Call],
-) -> Result<String, AllocError> {
+) -> Result<String, AllocError>
+    ensures { IfOk result (λ text. string_bytes text ≡ header_text name.now signature.now config ++ calls_text calls.now) }
+{
     let conv = config.default_call_conv;
     let width = match config.pointer_width {
-        PointerWidth::U16 => 16u32,
-        PointerWidth::U32 => 32u32,
-        PointerWidth::U64 => 64u32,
+        PointerWidth::U16 => "16",
+        PointerWidth::U32 => "32",
+        PointerWidth::U64 => "64",
     };
     let mut text = format!(in alloc;
         "function {name} {signature}\npointer {width}\nconv {conv}\n"

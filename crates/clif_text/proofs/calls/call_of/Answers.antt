@@ -1,6 +1,5 @@
-use Rattle.std.proofs.Common.{List, ℕ, ◌∷◌, ◌++◌, [], ap, sym, subst, ◌∙◌}
+use Rattle.std.proofs.Common.{◌∷◌, ◌++◌, ap, sym, subst, ◌∙◌}
 use Rattle.std.proofs.lemmas.List.{append-nil}
-use Rattle.clif_text.specs.Cursor.{words_left}
 use Rattle.clif_text.specs.Scope.{names_of}
 use Rattle.clif_text.specs.Grammar.{IsCall}
 use Rattle.clif_text.proofs.calls.call_of.Goals as goal

@@ -1,7 +1,6 @@
 -- Each call's words are its name and what its operands took.
 use Rattle.std.proofs.Common.{List, ℕ, ◌∷◌, ◌++◌, [], ap, sym, subst, ◌∙◌}
 use Rattle.std.proofs.lemmas.List.{append_assoc}
-use Rattle.clif_text.specs.Cursor.{words_left}
 use Rattle.clif_text.specs.Grammar.{IsAnswer, IsEdge, IsLastEdge}
 use Rattle.clif_text.specs.Scope.{names_of}
 use Rattle.clif_text.proofs.calls.read_call.Goals as goal

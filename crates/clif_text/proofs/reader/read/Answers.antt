@@ -1,4 +1,4 @@
-use Rattle.std.proofs.Common.{◌≡◌, ◌<◌, refl, ap, subst, ◌∙◌, sym, length}
+use Rattle.std.proofs.Common.{refl, ap, ◌∙◌}
 use Rattle.clif_text.specs.Cursor.{texts}
 use Rattle.clif_text.proofs.Reading.{lines_more, numbered, line_here}
 use Rattle.clif_text.proofs.reader.read.Goals as goal

@@ -1,4 +1,4 @@
-use Rattle.std.proofs.Common.{inl, inr, ℕ, List, ◌++◌, ◌≡◌, ◌<◌, ap, ◌∙◌, sym, subst, arith, take, drop}
+use Rattle.std.proofs.Common.{inl, inr, ℕ, List, ◌++◌, ◌<◌, ap, ◌∙◌, sym, subst, arith, take, drop}
 use Rattle.std.proofs.lemmas.List.{take-append-drop}
 use Rattle.clif_text.specs.Words.{IsWord}
 use Rattle.clif_text.proofs.words.first_word.Goals as goal

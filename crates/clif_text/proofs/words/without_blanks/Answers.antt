@@ -1,4 +1,4 @@
-use Rattle.std.proofs.Common.{ℕ, ◌<◌, ◌≤◌, ◌≢◌, List, ◌++◌, length, get_or, take, drop, sym, ◌∙◌, ap, subst}
+use Rattle.std.proofs.Common.{ℕ, ◌<◌, ◌≤◌, ◌≢◌, List, ◌++◌, length, get_or, take, sym, ◌∙◌, ap, subst}
 use Rattle.std.proofs.lemmas.List.{take-append-drop}
 use Rattle.clif_text.specs.Words.{AllOf, kind_of}
 use Rattle.clif_text.specs.declared.words.Kind.TheVariants.{Blank}

@@ -1,4 +1,4 @@
-use Rattle.std.proofs.Common.{ℕ, List, [], ◌++◌, subst, map}
+use Rattle.std.proofs.Common.{ℕ, List, [], subst}
 use Rattle.std.proofs.lemmas.List.{append-nil}
 use Rattle.clif_text.specs.Words.{AreWords}
 use Rattle.clif_text.proofs.words.words_of.Goals as goal

@@ -1,4 +1,4 @@
-use Rattle.std.proofs.Common.{inl, inr, ap, ◌∙◌, sym, subst}
+use Rattle.std.proofs.Common.{inl, inr, ◌∙◌, sym, subst}
 use Rattle.clif_text.specs.Grammar.{IsDecimal}
 use Rattle.clif_text.proofs.args.Args.variable.Goals as goal
 use Rattle.clif_text.proofs.args.Args.variable.Goals.{in-Some, in-None+in-Some-numbered_variable}
