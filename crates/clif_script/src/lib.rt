@@ -9,6 +9,6 @@ mod script;
 #[cfg(test)]
 mod tests;
 
-pub use call::{Call, Name};
+pub use call::{Call, Edge, Name};
 pub use rows::run;
 pub use script::{ReplayError, replay};

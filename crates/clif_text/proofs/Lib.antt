@@ -1,0 +1,5 @@
+mod Left
+mod Lines
+mod Taking
+mod Reading
+mod Texts

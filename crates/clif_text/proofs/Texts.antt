@@ -1,0 +1,22 @@
+-- The texts of words: those before and behind one, and one of them.
+use Rattle.std.proofs.Common.{◌≡◌, ℕ, ◌+◌, ◌-◌, ◌<◌, List, [], ◌∷◌, ◌++◌, length, take, drop, refl, sym, ◌∙◌, ap, arith, get_or, Bor, add-one, zero, suc}
+use Rattle.std.proofs.lemmas.List.{length-drop, take-append-drop, take_all}
+use Rattle.std.proofs.Math.Seq.{drop-cons}
+use Rattle.clif_text.specs.Cursor.{texts}
+
+texts-append : (xs ys : List (Bor (List ℕ))) → texts (xs ++ ys) ≡ texts xs ++ texts ys
+texts-append [] ys = refl
+texts-append (x ∷ xs) ys = ap (λ rest. x.now ∷ rest) (texts-append xs ys)
+
+-- the words before and behind one
+pub texts_at : (words : List (Bor (List ℕ))) (n : ℕ) (d : Bor (List ℕ)) (text : List ℕ) → n < length words → (get_or words n d).now ≡ text → texts words ≡ texts (take n words) ++ (text ∷ texts (take (length words - (n + 1)) (drop (n + 1) words)))
+texts_at words n d text inside same =
+    let all : take (length words - (n + 1)) (drop (n + 1) words) ≡ drop (n + 1) words = take_all (length words - (n + 1)) (drop (n + 1) words) (omega (arith, length-drop (n + 1) words)) in
+    let here : texts (drop n words) ≡ text ∷ texts (drop (n + 1) words) = rw add-one (ap texts (drop-cons words n d inside) ∙ ap (λ (x : List ℕ). x ∷ texts (drop (suc n) words)) same) in
+    ap texts (sym (take-append-drop n words)) ∙ (texts-append (take n words) (drop n words) ∙ (ap (λ rest. texts (take n words) ++ rest) here ∙ ap (λ rest. texts (take n words) ++ (text ∷ texts rest)) (sym all)))
+
+-- the text of one of the words
+pub get_or-texts : (words : List (Bor (List ℕ))) (n : ℕ) (d : Bor (List ℕ)) → (get_or words n d).now ≡ get_or (texts words) n d.now
+get_or-texts [] n d = refl
+get_or-texts (word ∷ words) zero d = refl
+get_or-texts (word ∷ words) (suc n) d = get_or-texts words n d

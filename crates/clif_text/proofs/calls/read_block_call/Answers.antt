@@ -1,0 +1,27 @@
+-- Each call's words are its name and what its operands took.
+use Rattle.std.proofs.Common.{List, ℕ, ◌∷◌, [], ap, subst, ◌∙◌}
+use Rattle.clif_text.specs.Grammar.{IsAnswer}
+use Rattle.clif_text.specs.Scope.{names_of}
+use Rattle.clif_text.proofs.calls.read_block_call.Goals as goal
+
+pub returns-in_ok-block-in-switch_to_block : goal.returns-in_ok-block-in-switch_to_block
+returns-in_ok-block-in-switch_to_block c =
+    let one = c.in_ok-block-in-switch_to_block.ensures.ok in
+    (one.0 ∷ [], one.1, (one.0, ap (λ (head : List ℕ). head ∷ one.0 ∷ []) c.in-switch_to_block.is, one.2))
+
+pub returns-in_ok-block-in-seal_block : goal.returns-in_ok-block-in-seal_block
+returns-in_ok-block-in-seal_block c =
+    let one = c.in_ok-block-in-seal_block.ensures.ok in
+    (one.0 ∷ [], one.1, (one.0, ap (λ (head : List ℕ). head ∷ one.0 ∷ []) c.in-seal_block.is, one.2))
+
+pub returns-in_ok-block-in-set_cold_block : goal.returns-in_ok-block-in-set_cold_block
+returns-in_ok-block-in-set_cold_block c =
+    let one = c.in_ok-block-in-set_cold_block.ensures.ok in
+    (one.0 ∷ [], one.1, (one.0, ap (λ (head : List ℕ). head ∷ one.0 ∷ []) c.in-set_cold_block.is, one.2))
+
+pub returns-in_ok-block-in-insert_block_after-2 : goal.returns-in_ok-block-in-insert_block_after-2
+returns-in_ok-block-in-insert_block_after-2 c =
+    let one = c.in_ok-block-in-insert_block_after.ensures.ok in
+    let two = c.in_ok-block-in-insert_block_after-2.ensures.ok in
+    let stands = subst (λ scope. IsAnswer (names_of scope.now) two.0 c.in_ok-block-in-insert_block_after-2.field-0) c.in_ok-block-in-insert_block_after.ensures.scope two.2 in
+    (one.0 ∷ two.0 ∷ [], one.1 ∙ ap (λ rest. one.0 ∷ rest) two.1, (one.0, two.0, ap (λ (head : List ℕ). head ∷ one.0 ∷ two.0 ∷ []) c.in-insert_block_after.is, one.2, stands))

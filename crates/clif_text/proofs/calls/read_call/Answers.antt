@@ -1,0 +1,50 @@
+-- Each call's words are its name and what its operands took.
+use Rattle.std.proofs.Common.{List, ℕ, ◌∷◌, ◌++◌, [], ap, sym, subst, ◌∙◌}
+use Rattle.std.proofs.lemmas.List.{append_assoc}
+use Rattle.clif_text.specs.Grammar.{IsAnswer, IsEdge, IsLastEdge}
+use Rattle.clif_text.specs.Scope.{names_of}
+use Rattle.clif_text.proofs.calls.read_call.Goals as goal
+
+pub returns-in_ok-ty-in-declare_var : goal.returns-in_ok-ty-in-declare_var
+returns-in_ok-ty-in-declare_var c =
+    let one = c.in_ok-ty-in-declare_var.ensures.ok in
+    (one.0 ∷ [], one.1, (one.0, ap (λ (head : List ℕ). head ∷ one.0 ∷ []) c.in-declare_var.is, one.2))
+
+pub returns-in_ok-variable-in-use_var : goal.returns-in_ok-variable-in-use_var
+returns-in_ok-variable-in-use_var c =
+    let one = c.in_ok-variable-in-use_var.ensures.ok in
+    (one.0 ∷ [], one.1, (one.0, ap (λ (head : List ℕ). head ∷ one.0 ∷ []) c.in-use_var.is, one.2))
+
+pub returns-in_ok-value-in-def_var : goal.returns-in_ok-value-in-def_var
+returns-in_ok-value-in-def_var c =
+    let one = c.in_ok-variable-in-def_var.ensures.ok in
+    let two = c.in_ok-value-in-def_var.ensures.ok in
+    let stands = subst (λ scope. IsAnswer (names_of scope.now) two.0 c.in_ok-value-in-def_var.field-0) c.in_ok-variable-in-def_var.ensures.scope two.2 in
+    (one.0 ∷ two.0 ∷ [], one.1 ∙ ap (λ rest. one.0 ∷ rest) two.1, (one.0, two.0, ap (λ (head : List ℕ). head ∷ one.0 ∷ two.0 ∷ []) c.in-def_var.is, one.2, stands))
+
+pub returns-in_ok-value-in-iadd-2 : goal.returns-in_ok-value-in-iadd-2
+returns-in_ok-value-in-iadd-2 c =
+    let one = c.in_ok-value-in-iadd.ensures.ok in
+    let two = c.in_ok-value-in-iadd-2.ensures.ok in
+    let stands = subst (λ scope. IsAnswer (names_of scope.now) two.0 c.in_ok-value-in-iadd-2.field-0) c.in_ok-value-in-iadd.ensures.scope two.2 in
+    (one.0 ∷ two.0 ∷ [], one.1 ∙ ap (λ rest. one.0 ∷ rest) two.1, (one.0, two.0, ap (λ (head : List ℕ). head ∷ one.0 ∷ two.0 ∷ []) c.in-iadd.is, one.2, stands))
+
+pub returns-in_ok-value-in-isub-2 : goal.returns-in_ok-value-in-isub-2
+returns-in_ok-value-in-isub-2 c =
+    let one = c.in_ok-value-in-isub.ensures.ok in
+    let two = c.in_ok-value-in-isub-2.ensures.ok in
+    let stands = subst (λ scope. IsAnswer (names_of scope.now) two.0 c.in_ok-value-in-isub-2.field-0) c.in_ok-value-in-isub.ensures.scope two.2 in
+    (one.0 ∷ two.0 ∷ [], one.1 ∙ ap (λ rest. one.0 ∷ rest) two.1, (one.0, two.0, ap (λ (head : List ℕ). head ∷ one.0 ∷ two.0 ∷ []) c.in-isub.is, one.2, stands))
+
+pub returns-in_ok-last_edge-in-brif : goal.returns-in_ok-last_edge-in-brif
+returns-in_ok-last_edge-in-brif c =
+    let condition = c.in_ok-value-in-brif.ensures.ok in
+    let first = c.in_ok-edge-in-brif.ensures.ok in
+    let second = c.in_ok-last_edge-in-brif.ensures.ok in
+    let scope = c.in_ok-edge-in-brif.ensures.scope ∙ c.in_ok-value-in-brif.ensures.scope in
+    let one = subst (λ at. IsEdge (names_of at.now) first.0 c.in_ok-edge-in-brif.field-0) c.in_ok-value-in-brif.ensures.scope first.2 in
+    let two = subst (λ at. IsLastEdge (names_of at.now) second.0 c.in_ok-last_edge-in-brif.field-0) scope second.2 in (
+      condition.0 ∷ (first.0 ++ second.0),
+      condition.1 ∙ ap (λ rest. condition.0 ∷ rest) (first.1 ∙ (ap (λ rest. first.0 ++ rest) second.1 ∙ sym (append_assoc first.0 second.0 _))),
+      (condition.0, first.0, second.0, ap (λ (head : List ℕ). head ∷ condition.0 ∷ (first.0 ++ second.0)) c.in-brif.is, condition.2, one, two),
+    )

@@ -1,0 +1,79 @@
+-- Which words stand for which call. Source: own; docs/SCRIPTS.md describes the same format.
+use Rattle.std.specs.Prelude.{◌≡◌, ℕ, ◌⊎◌, ◌++◌, List, [], ◌∷◌, Option, Some, None, codes}
+use Rattle.std.specs.Str.Parse.{IsNumeral, digits_value}
+use Rattle.clif_types.specs.Types.{IsType}
+use Rattle.clif_types.specs.Texts.{type_text}
+use Rattle.clif_types.specs.declared.types.«Type».{«Type»}
+use Rattle.clif_script.specs.declared.call.Name.{Name}
+use Rattle.clif_script.specs.declared.call.Edge.{Edge}
+use Rattle.clif_script.specs.declared.call.Call.{Call}
+use Rattle.clif_script.specs.declared.call.Call.TheVariants as call
+
+-- what names stand for: the answer that a given name stands for, and the number of the variable that an answer is
+pub record Names : Type 0 where
+  pub given : List ℕ → Option Name
+  pub variable : Name → ℕ
+
+-- decimal digits that write the number
+pub record IsDecimal (digits : List ℕ) (number : ℕ) : Type 0 where
+  pub numeral : IsNumeral 10 digits
+  pub value : digits_value 10 digits ≡ number
+
+-- `$P.K`, with the place and the answer in decimal digits
+abbrev pub IsPlaceName : List ℕ → Name → Type 0
+IsPlaceName word name = (place answer : List ℕ) × (word ≡ codes "$" ++ (place ++ (codes "." ++ answer))) × IsDecimal place name.place × IsDecimal answer name.answer
+
+-- a word stands for an answer: by its place, or by a name that was given
+abbrev pub IsAnswer : Names → List ℕ → Name → Type 0
+IsAnswer names word name = IsPlaceName word name ⊎ (names.given word ≡ Some name)
+
+-- a word stands for the variable of this number: as the answer of a declaration, or as `varN` where no such name was given
+abbrev pub IsVariable : Names → List ℕ → ℕ → Type 0
+IsVariable names word number = ((name : Name) × IsAnswer names word name × (names.variable name ≡ number)) ⊎ ((digits : List ℕ) × (word ≡ codes "var" ++ digits) × IsDecimal digits number × (names.given word ≡ None))
+
+-- the words stand for the answers, one for one
+abbrev pub AreAnswers : Names → List (List ℕ) → List Name → Type 0
+AreAnswers names [] [] = Unit {0}
+AreAnswers names [] (answer ∷ answers) = ⊥
+AreAnswers names (word ∷ words) [] = ⊥
+AreAnswers names (word ∷ words) (answer ∷ answers) = IsAnswer names word answer × AreAnswers names words answers
+
+-- the answers in parentheses
+abbrev pub AreClosed : Names → List (List ℕ) → List Name → Type 0
+AreClosed names words answers = (inner : List (List ℕ)) × (words ≡ codes "(" ∷ (inner ++ codes ")" ∷ [])) × AreAnswers names inner answers
+
+-- the answers that end a line: in parentheses or not
+abbrev pub AreLast : Names → List (List ℕ) → List Name → Type 0
+AreLast names words answers = AreClosed names words answers ⊎ AreAnswers names words answers
+
+-- an edge: the block, and what is passed in parentheses, which may be left out where nothing is passed
+abbrev pub IsEdge : Names → List (List ℕ) → Edge → Type 0
+IsEdge names words edge = (block : List ℕ) × (passed : List (List ℕ)) × (words ≡ block ∷ passed) × IsAnswer names block edge.block × (AreClosed names passed edge.args.items ⊎ ((passed ≡ []) × (edge.args.items ≡ [])))
+
+-- an edge that ends a line: the parentheses may be left out
+abbrev pub IsLastEdge : Names → List (List ℕ) → Edge → Type 0
+IsLastEdge names words edge = (block : List ℕ) × (passed : List (List ℕ)) × (words ≡ block ∷ passed) × IsAnswer names block edge.block × AreLast names passed edge.args.items
+
+-- a type of the IR, as it is printed
+pub record IsTypeWord (word : List ℕ) (ty : «Type») : Type 0 where
+  pub text : word ≡ type_text ty
+  pub valid : IsType ty
+
+-- The words stand for the call: its name, and then what it takes, in order. Which number a word writes isn't said.
+abbrev pub IsCall : Names → List (List ℕ) → Call → Type 0
+IsCall names words call.CreateBlock = words ≡ codes "create_block" ∷ []
+IsCall names words (call.SwitchToBlock block) = (b : List ℕ) × (words ≡ codes "switch_to_block" ∷ b ∷ []) × IsAnswer names b block
+IsCall names words (call.SealBlock block) = (b : List ℕ) × (words ≡ codes "seal_block" ∷ b ∷ []) × IsAnswer names b block
+IsCall names words call.SealAllBlocks = words ≡ codes "seal_all_blocks" ∷ []
+IsCall names words (call.InsertBlockAfter block after) = (a b : List ℕ) × (words ≡ codes "insert_block_after" ∷ a ∷ b ∷ []) × IsAnswer names a block × IsAnswer names b after
+IsCall names words (call.SetColdBlock block) = (b : List ℕ) × (words ≡ codes "set_cold_block" ∷ b ∷ []) × IsAnswer names b block
+IsCall names words call.EnsureInsertedBlock = words ≡ codes "ensure_inserted_block" ∷ []
+IsCall names words (call.DeclareVar ty) = (t : List ℕ) × (words ≡ codes "declare_var" ∷ t ∷ []) × IsTypeWord t ty
+IsCall names words (call.DefVar variable value) = (a b : List ℕ) × (words ≡ codes "def_var" ∷ a ∷ b ∷ []) × IsVariable names a variable × IsAnswer names b value
+IsCall names words (call.UseVar variable) = (a : List ℕ) × (words ≡ codes "use_var" ∷ a ∷ []) × IsVariable names a variable
+IsCall names words (call.Iconst ty imm) = (t n : List ℕ) × (words ≡ (codes "iconst." ++ t) ∷ n ∷ []) × IsTypeWord t ty
+IsCall names words (call.Iadd x y) = (a b : List ℕ) × (words ≡ codes "iadd" ∷ a ∷ b ∷ []) × IsAnswer names a x × IsAnswer names b y
+IsCall names words (call.Isub x y) = (a b : List ℕ) × (words ≡ codes "isub" ∷ a ∷ b ∷ []) × IsAnswer names a x × IsAnswer names b y
+IsCall names words (call.Jump edge) = (e : List (List ℕ)) × (words ≡ codes "jump" ∷ e) × IsLastEdge names e edge
+IsCall names words (call.Brif condition first second) = (a : List ℕ) × (e f : List (List ℕ)) × (words ≡ codes "brif" ∷ a ∷ (e ++ f)) × IsAnswer names a condition × IsEdge names e first × IsLastEdge names f second
+IsCall names words (call.Return values) = (v : List (List ℕ)) × (words ≡ codes "return" ∷ v) × AreLast names v values.items

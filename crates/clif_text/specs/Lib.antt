@@ -1,0 +1,10 @@
+-- What the contracts of this crate cite.
+pub mod Words
+pub mod Cursor
+pub mod Grammar
+pub mod Scope
+pub mod Script
+pub mod Errors
+pub mod Reader
+pub mod Program
+pub mod Texts

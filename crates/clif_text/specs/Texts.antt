@@ -1,0 +1,62 @@
+-- The text of a call, as a line of a script that gives no names. Source: own; docs/SCRIPTS.md describes the format.
+use Rattle.std.specs.Prelude.{ℕ, List, [], ◌∷◌, ◌++◌, codes, flat_map}
+use Rattle.std.specs.Fmt.{decimal, signed_decimal}
+use Rattle.clif_types.specs.Texts.{type_text, call_conv_text, signature_text, user_func_name_text}
+use Rattle.clif_types.specs.Signature.{SignatureShape}
+use Rattle.clif_types.specs.declared.extname.UserFuncName.{UserFuncName}
+use Rattle.clif_types.specs.declared.target.TargetFrontendConfig.{TargetFrontendConfig}
+use Rattle.clif_types.specs.declared.target.PointerWidth.{PointerWidth}
+use Rattle.clif_types.specs.declared.target.PointerWidth.TheVariants as width
+use Rattle.clif_script.specs.declared.call.Name.{Name}
+use Rattle.clif_script.specs.declared.call.Edge.{Edge}
+use Rattle.clif_script.specs.declared.call.Call.{Call}
+use Rattle.clif_script.specs.declared.call.Call.TheVariants as call
+
+-- `$5.1`
+abbrev pub answer_text : Name → List ℕ
+answer_text name = codes "$" ++ (decimal name.place ++ (codes "." ++ decimal name.answer))
+
+-- ` $5.1 $6.1`
+abbrev pub answers_text : List Name → List ℕ
+answers_text names = flat_map (λ name. codes " " ++ answer_text name) names
+
+-- `$1.0( $5.1)`
+abbrev pub edge_text : Edge → List ℕ
+edge_text edge = answer_text edge.block ++ (codes "(" ++ (answers_text edge.args.items ++ codes ")"))
+
+-- `var0`
+abbrev pub variable_text : ℕ → List ℕ
+variable_text number = codes "var" ++ decimal number
+
+abbrev pub call_text : Call → List ℕ
+call_text call.CreateBlock = codes "create_block"
+call_text (call.SwitchToBlock block) = codes "switch_to_block " ++ answer_text block
+call_text (call.SealBlock block) = codes "seal_block " ++ answer_text block
+call_text call.SealAllBlocks = codes "seal_all_blocks"
+call_text (call.InsertBlockAfter block after) = codes "insert_block_after " ++ (answer_text block ++ (codes " " ++ answer_text after))
+call_text (call.SetColdBlock block) = codes "set_cold_block " ++ answer_text block
+call_text call.EnsureInsertedBlock = codes "ensure_inserted_block"
+call_text (call.DeclareVar ty) = codes "declare_var " ++ type_text ty
+call_text (call.DefVar variable value) = codes "def_var " ++ (variable_text variable ++ (codes " " ++ answer_text value))
+call_text (call.UseVar variable) = codes "use_var " ++ variable_text variable
+call_text (call.Iconst ty imm) = codes "iconst." ++ (type_text ty ++ (codes " " ++ signed_decimal imm))
+call_text (call.Iadd x y) = codes "iadd " ++ (answer_text x ++ (codes " " ++ answer_text y))
+call_text (call.Isub x y) = codes "isub " ++ (answer_text x ++ (codes " " ++ answer_text y))
+call_text (call.Jump edge) = codes "jump " ++ edge_text edge
+call_text (call.Brif condition first second) = codes "brif " ++ (answer_text condition ++ (codes " " ++ (edge_text first ++ (codes " " ++ edge_text second))))
+call_text (call.Return values) = codes "return" ++ answers_text values.items
+
+-- the number of bits
+abbrev pub pointer_text : PointerWidth → List ℕ
+pointer_text width.U16 = codes "16"
+pointer_text width.U32 = codes "32"
+pointer_text width.U64 = codes "64"
+
+-- the header lines
+abbrev pub header_text : UserFuncName → SignatureShape → TargetFrontendConfig → List ℕ
+header_text name signature config =
+    codes "function " ++ (user_func_name_text name ++ (codes " " ++ (signature_text signature ++ (10 ∷ (codes "pointer " ++ (pointer_text config.pointer_width ++ (10 ∷ (codes "conv " ++ (call_conv_text config.default_call_conv ++ 10 ∷ [])))))))))
+
+-- the calls, a line each
+abbrev pub calls_text : List Call → List ℕ
+calls_text calls = flat_map (λ call. call_text call ++ 10 ∷ []) calls

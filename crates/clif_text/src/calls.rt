@@ -1,0 +1,230 @@
+//! The calls that are understood: one arm each.
+ghost use Rattle.std.specs.Prelude.{◌≡◌, ◌++◌, ◌∷◌, ℕ, List, IfOk, IfSome, codes};
+ghost use Rattle.clif_text.specs.Cursor.{texts, words_left};
+ghost use Rattle.clif_text.specs.Grammar.{IsCall};
+ghost use Rattle.clif_text.specs.Scope.{names_of};
+
+use crate::args::Args;
+use crate::error::{Expected, Fault, LineError};
+use crate::scope::Scope;
+use crate::types::type_named;
+use clif_script::Call;
+use std::alloc::Global;
+
+// The calls of the format that aren't understood so far, without the type that may follow their name.
+const NOT_SUPPORTED: [&str; 69] = [
+    "declare_var_needs_stack_map",
+    "declare_value_needs_stack_map",
+    "try_use_var",
+    "try_def_var",
+    "append_block_param",
+    "append_block_params_for_function_params",
+    "append_block_params_for_function_returns",
+    "import_signature",
+    "import_function",
+    "create_sized_stack_slot",
+    "create_dynamic_stack_slot",
+    "create_global_value",
+    "block_call",
+    "create_jump_table",
+    "create_exception_table",
+    "change_jump_destination",
+    "set_srcloc",
+    "collect_debug_info",
+    "set_val_label",
+    "switch",
+    "call_memcpy",
+    "call_memmove",
+    "call_memset",
+    "call_memcmp",
+    "emit_small_memory_copy",
+    "emit_small_memset",
+    "emit_small_memory_compare",
+    "iadd_imm_s",
+    "icmp_imm_s",
+    "cursor",
+    "f16const",
+    "f32const",
+    "f64const",
+    "f128const",
+    "vconst",
+    "splat",
+    "uextend",
+    "sextend",
+    "ireduce",
+    "ineg",
+    "bnot",
+    "isplit",
+    "imul",
+    "band",
+    "bor",
+    "bxor",
+    "ishl",
+    "ushr",
+    "sshr",
+    "udiv",
+    "urem",
+    "sdiv",
+    "srem",
+    "iconcat",
+    "icmp",
+    "select",
+    "load",
+    "store",
+    "stack_addr",
+    "stack_load",
+    "stack_store",
+    "call",
+    "call_indirect",
+    "trapz",
+    "trapnz",
+    "br_table",
+    "try_call",
+    "try_call_indirect",
+    "trap",
+];
+
+// The call of this name, with what follows it; not all of that may be taken.
+fn read_call<'a>(
+    alloc: Global,
+    head: &'a str,
+    args: &mut Args<'_, 'a>,
+) -> Result<Call, LineError<'a>>
+    ensures { IfOk result (λ call. (words : List (List ℕ)) × (words_left args.old.words ≡ words ++ words_left args.new.words) × IsCall (names_of args.old.scope.now) (head.now ∷ words) call) }
+{
+    match head {
+        "declare_var" => Ok(Call::DeclareVar { ty: args.ty()? }),
+        "def_var" => Ok(Call::DefVar {
+            variable: args.variable()?,
+            value: args.value()?,
+        }),
+        "use_var" => Ok(Call::UseVar {
+            variable: args.variable()?,
+        }),
+        "iadd" => Ok(Call::Iadd {
+            x: args.value()?,
+            y: args.value()?,
+        }),
+        "isub" => Ok(Call::Isub {
+            x: args.value()?,
+            y: args.value()?,
+        }),
+        "jump" => Ok(Call::Jump {
+            destination: args.last_edge(alloc)?,
+        }),
+        "brif" => Ok(Call::Brif {
+            condition: args.value()?,
+            block_then: args.edge(alloc)?,
+            block_else: args.last_edge(alloc)?,
+        }),
+        "return" => Ok(Call::Return {
+            values: args.last_values(alloc)?,
+        }),
+        _ => read_block_call(head, args),
+    }
+}
+
+// The same for a call that makes, marks or places blocks.
+fn read_block_call<'a>(head: &'a str, args: &mut Args<'_, 'a>) -> Result<Call, LineError<'a>>
+    ensures { IfOk result (λ call. (words : List (List ℕ)) × (words_left args.old.words ≡ words ++ words_left args.new.words) × IsCall (names_of args.old.scope.now) (head.now ∷ words) call) }
+{
+    match head {
+        "create_block" => Ok(Call::CreateBlock),
+        "switch_to_block" => Ok(Call::SwitchToBlock {
+            block: args.block()?,
+        }),
+        "seal_block" => Ok(Call::SealBlock {
+            block: args.block()?,
+        }),
+        "seal_all_blocks" => Ok(Call::SealAllBlocks),
+        "insert_block_after" => Ok(Call::InsertBlockAfter {
+            block: args.block()?,
+            after: args.block()?,
+        }),
+        "set_cold_block" => Ok(Call::SetColdBlock {
+            block: args.block()?,
+        }),
+        "ensure_inserted_block" => Ok(Call::EnsureInsertedBlock),
+        _ => read_typed_call(head, args),
+    }
+}
+
+// The same for a call whose name has a type behind it, as `iconst.i32`.
+fn read_typed_call<'a>(head: &'a str, args: &mut Args<'_, 'a>) -> Result<Call, LineError<'a>>
+    ensures { IfOk result (λ call. (words : List (List ℕ)) × (words_left args.old.words ≡ words ++ words_left args.new.words) × IsCall (names_of args.old.scope.now) (head.now ∷ words) call) }
+{
+    let Some((name, suffix)) = name_and_type(head) else {
+        return Err(not_understood(head, head));
+    };
+    match name {
+        "iconst" => {
+            let Some(ty) = type_named(suffix) else {
+                return Err(LineError::wanted(Expected::Type));
+            };
+            Ok(Call::Iconst {
+                ty,
+                imm: args.number()?,
+            })
+        }
+        _ => Err(not_understood(head, name)),
+    }
+}
+
+// The name of a call, and the type behind it.
+fn name_and_type(head: &str) -> Option<(&str, &str)>
+    ensures { IfSome result (λ parts. head.now ≡ parts.0.now ++ (codes "." ++ parts.1.now)) }
+{
+    head.split_once('.')
+}
+
+// No call is read that has this name, in front of the type that may follow.
+fn not_understood<'a>(head: &'a str, name: &'a str) -> LineError<'a> {
+    if name == "iconst" {
+        LineError::wanted(Expected::Type)
+    } else if NOT_SUPPORTED.contains(&name) {
+        LineError::Fault(Fault::NotSupported(name))
+    } else {
+        LineError::Fault(Fault::UnknownCall(head))
+    }
+}
+
+/// The call that the words stand for, of which the first is its name.
+pub(crate) fn call_of<'a>(
+    alloc: Global,
+    words: &[&'a str],
+    scope: &Scope<'a>,
+) -> Result<Call, LineError<'a>>
+    ensures { IfOk result (IsCall (names_of scope.now) (texts words.now)) }
+{
+    let mut args = Args::new(words, scope);
+    let head = args.head()?;
+    let call = read_call(alloc, head, &mut args)?;
+    args.end()?;
+    Ok(call)
+}
+
+/// What a call answers, as far as names are given to it.
+#[derive(Clone, Copy, Debug)]
+pub(crate) struct Answers {
+    /// Whether it is an instruction, which `@` names.
+    pub instruction: bool,
+    /// How many names it can have, beside that of an instruction.
+    pub names: usize,
+}
+
+/// What this call answers.
+pub(crate) fn answers_of(call: &Call) -> Answers {
+    let (instruction, names) = match call {
+        Call::CreateBlock | Call::DeclareVar { .. } | Call::UseVar { .. } => (false, 1),
+        Call::SwitchToBlock { .. }
+        | Call::SealBlock { .. }
+        | Call::SealAllBlocks
+        | Call::InsertBlockAfter { .. }
+        | Call::SetColdBlock { .. }
+        | Call::EnsureInsertedBlock
+        | Call::DefVar { .. } => (false, 0),
+        Call::Iconst { .. } | Call::Iadd { .. } | Call::Isub { .. } => (true, 1),
+        Call::Jump { .. } | Call::Brif { .. } | Call::Return { .. } => (true, 0),
+    };
+    Answers { instruction, names }
+}

@@ -1,0 +1,79 @@
+//! The words of a line, one after the other.
+ghost use Rattle.std.specs.Prelude.{◌≤◌, length};
+
+use crate::error::{Expected, LineError};
+
+/// The words of a line, of which so many were taken.
+#[derive(Clone, Copy)]
+pub(crate) struct Cursor<'w, 'a> {
+    words: &'w [&'a str],
+    taken: usize,
+    ghost within: { taken ≤ length words.now },
+}
+
+#[tactic(auto, using(crate::proofs::Left::left_rules))]
+impl<'w, 'a> Cursor<'w, 'a> {
+    ghost use Rattle.std.specs.Prelude.{◌≡◌, ◌≢◌, ◌∷◌, ◌↔◌, [], IfOk, OnErr, IsOk, IsTrue, slice_get};
+    ghost use Rattle.std.specs.Bool.{OnTrue, OnFalse};
+    ghost use Rattle.std.specs.Option.{option_map};
+    ghost use Rattle.clif_text.specs.Cursor.{texts, words_left};
+
+    pub(crate) fn new(words: &'w [&'a str]) -> Cursor<'w, 'a>
+        ensures { words_left result ≡ texts words.now }
+    {
+        Cursor { words, taken: 0 }
+    }
+
+    /// Whether no word is left.
+    pub(crate) fn is_empty(&self) -> bool
+        ensures { IsTrue result ↔ (words_left self.now ≡ []) }
+    {
+        self.taken == self.words.len()
+    }
+
+    /// The next word, which stays.
+    pub(crate) fn peek(&self) -> Option<&'a str>
+        ensures { option_map (λ word. word.now) result ≡ slice_get (words_left self.now) 0 }
+    {
+        self.words.get(self.taken).copied()
+    }
+
+    /// Takes the next word, which should be what is told.
+    pub(crate) fn take(&mut self, expected: Expected) -> Result<&'a str, LineError<'a>>
+        ensures ok { IfOk result (λ word. words_left self.old ≡ word.now ∷ words_left self.new) }
+        ensures err { OnErr result (words_left self.old ≡ []) }
+    {
+        match self.words.get(self.taken) {
+            Some(word) => {
+                self.taken += 1;
+                Ok(*word)
+            }
+            None => Err(LineError::wanted(expected)),
+        }
+    }
+
+    /// Takes the next word if it is this one.
+    pub(crate) fn skips(&mut self, word: &str) -> bool
+        ensures yes { OnTrue result (words_left self.old ≡ word.now ∷ words_left self.new) }
+        ensures no { OnFalse result (words_left self.new ≡ words_left self.old) }
+    {
+        match self.words.get(self.taken) {
+            Some(next) if *next == word => {
+                self.taken += 1;
+                true
+            }
+            _ => false,
+        }
+    }
+
+    /// Nothing is left.
+    pub(crate) fn end(&self) -> Result<(), LineError<'a>>
+        ensures { IsOk result ↔ (words_left self.now ≡ []) }
+    {
+        if self.is_empty() {
+            Ok(())
+        } else {
+            Err(LineError::wanted(Expected::End))
+        }
+    }
+}

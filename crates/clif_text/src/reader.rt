@@ -1,0 +1,191 @@
+//! A script's text, read line by line.
+ghost use Rattle.std.specs.Prelude.{◌≡◌, ◌++◌, ◌∷◌, [], IfOk, IfErr, IfSome, codes};
+ghost use Rattle.clif_text.specs.Cursor.{texts};
+ghost use Rattle.clif_text.specs.Script as script;
+
+use crate::calls::{Answers, answers_of, call_of};
+use crate::error::{Expected, Fault, LineError, ReadError};
+use crate::header::{Header, is_header};
+use crate::scope::{Scope, is_name};
+use crate::words::words_of;
+use clif_script::{Call, Name};
+use clif_types::{Signature, TargetFrontendConfig, UserFuncName};
+use std::alloc::{AllocError, Global};
+
+/// What a text says.
+#[derive(Debug, Drop)]
+pub struct Script {
+    /// The function's name.
+    pub name: UserFuncName,
+    /// The function's signature.
+    pub signature: Signature,
+    /// The target.
+    pub config: TargetFrontendConfig,
+    /// The calls, in order.
+    pub calls: Vec<Call>,
+    /// For each call the number of its line; lines are numbered from 1 on.
+    pub lines: Vec<usize>,
+}
+
+// What the lines so far say.
+#[derive(Drop)]
+struct Reader<'a> {
+    alloc: Global,
+    header: Header,
+    scope: Scope<'a>,
+    calls: Vec<Call>,
+    lines: Vec<usize>,
+}
+
+impl<'a> Reader<'a> {
+    ghost use Rattle.std.specs.Prelude.{OnOk};
+    ghost use Rattle.clif_text.specs.Grammar.{IsCall, Names};
+    ghost use Rattle.clif_text.specs.Reader.{Adds, MayAdd};
+
+    fn new(alloc: Global) -> Reader<'a>
+        ensures calls { result.calls.items ≡ [] }
+        ensures lines { result.lines.items ≡ [] }
+    {
+        Reader {
+            alloc,
+            header: Header::new(),
+            scope: Scope::new(alloc),
+            calls: Vec::new(alloc),
+            lines: Vec::new(alloc),
+        }
+    }
+
+    // What the lines said.
+    fn script(self) -> Script
+        ensures calls { result.calls.items ≡ self.entry.calls.items }
+        ensures lines { result.lines.items ≡ self.entry.lines.items }
+    {
+        let config = self.header.config();
+        let Reader {
+            alloc,
+            header,
+            scope: _,
+            calls,
+            lines,
+        } = self;
+        let (name, signature) = header.function(alloc);
+        Script {
+            name,
+            signature,
+            config,
+            calls,
+            lines,
+        }
+    }
+
+    // Reads the line of this number.
+    fn line(&mut self, number: usize, line: &'a str) -> Result<(), LineError<'a>>
+        ensures { OnOk result (MayAdd line.now number self.old self.new) }
+    {
+        let words = words_of(self.alloc, line)?;
+        let words = words.as_slice();
+        if let Some((names, rest)) = parts_at_equals(words) {
+            if names.is_empty() {
+                return Err(LineError::wanted(Expected::AnswerName));
+            }
+            return self.call(number, names, rest);
+        }
+        match words.split_first() {
+            None => Ok(()),
+            Some((head, rest)) if is_header(head) => self.header.read(self.alloc, head, rest),
+            Some(_) => self.call(number, &[], words),
+        }
+    }
+
+    // Reads a call, after which its answers have these names.
+    fn call(
+        &mut self,
+        number: usize,
+        names: &[&'a str],
+        words: &[&'a str],
+    ) -> Result<(), LineError<'a>>
+        ensures { OnOk result (Adds (λ call. (names : Names) × IsCall names (texts words.now) call) number self.old self.new) }
+    {
+        let call = call_of(self.alloc, words, &self.scope)?;
+        let answers = answers_of(&call);
+        self.scope.count(matches!(call, Call::DeclareVar { .. }))?;
+        give_names(&mut self.scope, self.calls.len(), names, answers)?;
+        self.calls.push(call)?;
+        self.lines.push(number)?;
+        Ok(())
+    }
+}
+
+// Gives names to the answers of the call at a place, in order.
+fn give_names<'a>(
+    scope: &mut Scope<'a>,
+    place: usize,
+    names: &[&'a str],
+    answers: Answers,
+) -> Result<(), LineError<'a>> {
+    let mut given = 0;
+    for word in names {
+        if answers.instruction
+            && let Some(name) = word.strip_prefix('@')
+        {
+            scope.give(checked(name)?, Name { place, answer: 0 })?;
+        } else if given < answers.names {
+            let answer = given + usize::from(answers.instruction);
+            scope.give(checked(word)?, Name { place, answer })?;
+            given += 1;
+        } else {
+            return Err(LineError::Fault(Fault::TooManyNames(answers.names)));
+        }
+    }
+    Ok(())
+}
+
+// The words before the first `=` and those behind it, if there is one.
+fn parts_at_equals<'w, 'a>(words: &'w [&'a str]) -> Option<(&'w [&'a str], &'w [&'a str])>
+    ensures { IfSome result (λ parts. texts words.now ≡ texts parts.0.now ++ (codes "=" ∷ texts parts.1.now)) }
+{
+    for (index, word) in words.iter().enumerate() {
+        if *word == "=" {
+            return Some((&words[..index], &words[index + 1..]));
+        }
+    }
+    None
+}
+
+// The word, which may be given as a name.
+fn checked(word: &str) -> Result<&str, LineError<'_>> {
+    if is_name(word) {
+        Ok(word)
+    } else {
+        Err(LineError::wanted(Expected::AnswerName))
+    }
+}
+
+// The lines of a text.
+fn lines_of(alloc: Global, text: &str) -> Result<Vec<&str>, AllocError>
+    ensures { IfOk result (λ lines. texts lines.items ≡ script.lines_of text.now) }
+{
+    text.split('\n').collect(alloc)
+}
+
+/// Reads a script. The format is described in docs/SCRIPTS.md.
+///
+/// # Errors
+///
+/// `ReadError::Line` tells the first line that can't be read, and why; `ReadError::Memory` that memory was
+/// refused.
+pub fn read(alloc: Global, text: &str) -> Result<Script, ReadError<'_>>
+    ensures calls { IfOk result (λ found. script.AreCallLines text.now found.calls.items found.lines.items) }
+    ensures line { IfErr result (script.TellsLine text.now) }
+{
+    let Ok(lines) = lines_of(alloc, text) else {
+        return Err(ReadError::Memory);
+    };
+    let mut reader = Reader::new(alloc);
+    for (index, line) in lines.iter().enumerate() {
+        if let Err(error) = reader.line(index + 1, line) {
+            return Err(error.at(index + 1));
+        }
+    }
+    Ok(reader.script())
+}

@@ -1,0 +1,261 @@
+//! Scripts with the texts of their functions. The rows and the examples in the folder `examples` are these.
+#![tactic(auto)]
+
+pub const UNDEFINED_VARIABLE: &str = "\
+# A variable that is used before any assignment is zero.
+function %first () -> i32 system_v
+x = declare_var i32
+block0 = create_block
+switch_to_block block0
+before = use_var x
+seven = iconst.i32 7
+sum = iadd before seven
+def_var x sum
+after = use_var x
+return after
+seal_block block0
+";
+
+pub const UNDEFINED_VARIABLE_TEXT: &str = "\
+function %first() -> i32 system_v {
+block0:
+    v3 = iconst.i32 0
+    v0 -> v3
+    v1 = iconst.i32 7
+    v2 = iadd v0, v1  ; v0 = 0, v1 = 7
+    return v2
+}
+";
+
+pub const LOOP_SEALED_LATE: &str = "\
+# The loop's block is sealed once the branch back to it is made. x and y change in the loop and become its
+# parameters; z doesn't.
+function %reordering () system_v
+x = declare_var i32
+y = declare_var i32
+z = declare_var i32
+start = create_block
+loop = create_block
+
+switch_to_block start
+seal_block start
+zero = iconst.i32 0
+def_var x zero
+one = iconst.i32 1
+def_var y one
+two = iconst.i32 2
+def_var z two
+jump loop
+
+switch_to_block loop
+z1 = use_var z
+x1 = use_var x
+x2 = iadd x1, z1
+def_var x x2
+x3 = use_var x
+y1 = use_var y
+y2 = isub y1, x3
+def_var y y2
+jump loop
+seal_block loop
+";
+
+pub const LOOP_SEALED_LATE_TEXT: &str = "\
+function %reordering() system_v {
+block0:
+    v0 = iconst.i32 0
+    v1 = iconst.i32 1
+    v2 = iconst.i32 2
+    v3 -> v2
+    jump block1(v0, v1)  ; v0 = 0, v1 = 1
+
+block1(v4: i32, v6: i32):
+    v5 = iadd v4, v3  ; v3 = 2
+    v7 = isub v6, v5
+    jump block1(v5, v7)
+}
+";
+
+pub const DIAMOND: &str = "\
+# Each arm assigns x, and the block where they meet gets it as a parameter.
+function %diamond () -> i32 system_v
+x = declare_var i32
+entry = create_block
+left = create_block
+right = create_block
+join = create_block
+
+switch_to_block entry
+seal_block entry
+zero = iconst.i32 0
+brif zero left right
+
+switch_to_block left
+seal_block left
+one = iconst.i32 1
+def_var x one
+jump join
+
+switch_to_block right
+seal_block right
+two = iconst.i32 2
+def_var x two
+jump join
+
+switch_to_block join
+seal_block join
+value = use_var x
+return value
+";
+
+pub const DIAMOND_TEXT: &str = "\
+function %diamond() -> i32 system_v {
+block0:
+    v0 = iconst.i32 0
+    brif v0, block1, block2  ; v0 = 0
+
+block1:
+    v1 = iconst.i32 1
+    jump block3(v1)  ; v1 = 1
+
+block2:
+    v2 = iconst.i32 2
+    jump block3(v2)  ; v2 = 2
+
+block3(v3: i32):
+    return v3
+}
+";
+
+pub const NESTED_LOOPS: &str = "\
+# The inner loop counts j down from i, the outer one counts i down. The inner loop doesn't change i, so it
+# doesn't get i as a parameter.
+function %nested () -> i32 system_v
+i = declare_var i32
+j = declare_var i32
+entry = create_block
+outer = create_block
+inner = create_block
+next = create_block
+exit = create_block
+
+switch_to_block entry
+seal_block entry
+three = iconst.i32 3
+def_var i three
+jump outer
+
+switch_to_block outer
+i1 = use_var i
+def_var j i1
+jump inner
+
+switch_to_block inner
+j1 = use_var j
+minus = iconst.i32 -1
+j2 = iadd j1 minus
+def_var j j2
+brif j2 inner next
+seal_block inner
+
+switch_to_block next
+seal_block next
+i2 = use_var i
+minus = iconst.i32 -1
+i3 = iadd i2 minus
+def_var i i3
+brif i3 outer exit
+seal_block outer
+
+switch_to_block exit
+seal_block exit
+i4 = use_var i
+return i4
+";
+
+pub const NESTED_LOOPS_TEXT: &str = "\
+function %nested() -> i32 system_v {
+block0:
+    v0 = iconst.i32 3
+    jump block1(v0)  ; v0 = 3
+
+block1(v1: i32):
+    v5 -> v1
+    jump block2(v1)
+
+block2(v2: i32):
+    v3 = iconst.i32 -1
+    v4 = iadd v2, v3  ; v3 = -1
+    brif v4, block2(v4), block3
+
+block3:
+    v6 = iconst.i32 -1
+    v7 = iadd.i32 v1, v6  ; v6 = -1
+    brif v7, block1(v7), block4
+
+block4:
+    return v7
+}
+";
+
+pub const MISUSE: &str = "\
+# No branch may lead to a block that is sealed.
+block0 = create_block
+switch_to_block block0
+seal_block block0
+jump block0
+";
+
+pub const MISUSE_TEXT: &str = "\
+misuse at call 3
+line 5: jump block0
+";
+
+pub const BOTH_ARMS: &str = "\
+function %both_arms () -> i32 system_v
+x = declare_var i32
+block0 = create_block
+block1 = create_block
+block2 = create_block
+block3 = create_block
+switch_to_block block0
+five = iconst.i32 5
+def_var x five
+jump block1
+switch_to_block block1
+value = use_var x
+brif value block2 block3
+switch_to_block block2
+seal_block block2
+value = use_var x
+minus_one = iconst.i32 -1
+sum = iadd value minus_one
+def_var x sum
+value = use_var x
+brif value block1 block1
+seal_block block1
+switch_to_block block3
+seal_block block3
+value = use_var x
+return value
+seal_block block0
+";
+
+pub const BOTH_ARMS_TEXT: &str = "\
+function %both_arms() -> i32 system_v {
+block0:
+    v0 = iconst.i32 5
+    jump block1(v0)  ; v0 = 5
+
+block1(v1: i32):
+    brif v1, block2, block3
+
+block2:
+    v2 = iconst.i32 -1
+    v3 = iadd.i32 v1, v2  ; v2 = -1
+    brif v3, block1(v3), block1(v3)
+
+block3:
+    return v1
+}
+";
