@@ -3,3 +3,4 @@ mod Lines
 mod Taking
 mod Reading
 mod Texts
+mod Figures

@@ -1,5 +1,6 @@
 -- Which words stand for which call. Source: own; docs/SCRIPTS.md describes the same format.
-use Rattle.std.specs.Prelude.{◌≡◌, ℕ, ◌⊎◌, ◌++◌, List, [], ◌∷◌, Option, Some, None, codes}
+use Rattle.std.specs.Prelude.{ℤ, ◌+◌, ◌%◌, ◌^◌, ◌<◌, ◌≤◌, ◌==◌, not, filter, ◌≡◌, ℕ, ◌⊎◌, ◌++◌, List, [], ◌∷◌, Option, Some, None, codes}
+use Rattle.std.specs.Int.{cast_signed, w64}
 use Rattle.std.specs.Str.Parse.{IsNumeral, digits_value}
 use Rattle.clif_types.specs.Types.{IsType}
 use Rattle.clif_types.specs.Texts.{type_text}
@@ -59,7 +60,21 @@ pub record IsTypeWord (word : List ℕ) (ty : «Type») : Type 0 where
   pub text : word ≡ type_text ty
   pub valid : IsType ty
 
--- The words stand for the call: its name, and then what it takes, in order. Which number a word writes isn't said.
+-- the digits of a number, without the `_` among them
+abbrev pub figures : List ℕ → List ℕ
+figures digits = filter (λ c. not (c == 95)) digits
+
+-- a number without a sign: in base 16 behind `0x`, else in base 10
+abbrev pub IsMagnitude : List ℕ → ℕ → Type 0
+IsMagnitude word number = ((digits : List ℕ) × (word ≡ codes "0x" ++ digits) × IsNumeral 16 (figures digits) × (digits_value 16 (figures digits) ≡ number))
+    ⊎ (IsNumeral 10 (figures word) × (digits_value 10 (figures word) ≡ number))
+
+-- a number of 64 bits: the bits, read as signed, or `-` and a number up to 2^63, in two's complement
+abbrev pub IsNumber : List ℕ → ℤ → Type 0
+IsNumber word number = ((bits : ℕ) × (bits < 2 ^ 64) × IsMagnitude word bits × (number ≡ cast_signed w64 bits))
+    ⊎ ((digits : List ℕ) × (magnitude bits : ℕ) × (bits < 2 ^ 64) × (word ≡ codes "-" ++ digits) × IsMagnitude digits magnitude × (magnitude ≤ 2 ^ 63) × ((bits + magnitude) % 2 ^ 64 ≡ 0) × (number ≡ cast_signed w64 bits))
+
+-- The words stand for the call: its name, and then what it takes, in order.
 abbrev pub IsCall : Names → List (List ℕ) → Call → Type 0
 IsCall names words call.CreateBlock = words ≡ codes "create_block" ∷ []
 IsCall names words (call.SwitchToBlock block) = (b : List ℕ) × (words ≡ codes "switch_to_block" ∷ b ∷ []) × IsAnswer names b block
@@ -71,7 +86,7 @@ IsCall names words call.EnsureInsertedBlock = words ≡ codes "ensure_inserted_b
 IsCall names words (call.DeclareVar ty) = (t : List ℕ) × (words ≡ codes "declare_var" ∷ t ∷ []) × IsTypeWord t ty
 IsCall names words (call.DefVar variable value) = (a b : List ℕ) × (words ≡ codes "def_var" ∷ a ∷ b ∷ []) × IsVariable names a variable × IsAnswer names b value
 IsCall names words (call.UseVar variable) = (a : List ℕ) × (words ≡ codes "use_var" ∷ a ∷ []) × IsVariable names a variable
-IsCall names words (call.Iconst ty imm) = (t n : List ℕ) × (words ≡ (codes "iconst." ++ t) ∷ n ∷ []) × IsTypeWord t ty
+IsCall names words (call.Iconst ty imm) = (t n : List ℕ) × (words ≡ (codes "iconst." ++ t) ∷ n ∷ []) × IsTypeWord t ty × IsNumber n imm
 IsCall names words (call.Iadd x y) = (a b : List ℕ) × (words ≡ codes "iadd" ∷ a ∷ b ∷ []) × IsAnswer names a x × IsAnswer names b y
 IsCall names words (call.Isub x y) = (a b : List ℕ) × (words ≡ codes "isub" ∷ a ∷ b ∷ []) × IsAnswer names a x × IsAnswer names b y
 IsCall names words (call.Jump edge) = (e : List (List ℕ)) × (words ≡ codes "jump" ∷ e) × IsLastEdge names e edge

@@ -26,7 +26,7 @@ impl<'w, 'a> Args<'w, 'a> {
     ghost use Rattle.std.specs.Prelude.{◌∷◌, [], IfOk, OnOk};
     ghost use Rattle.clif_text.specs.Cursor.{texts, words_left};
     ghost use Rattle.clif_text.specs.Scope.{names_of};
-    ghost use Rattle.clif_text.specs.Grammar.{AreAnswers, AreLast, IsAnswer, IsEdge, IsLastEdge, IsTypeWord, IsVariable};
+    ghost use Rattle.clif_text.specs.Grammar.{AreAnswers, AreLast, IsAnswer, IsEdge, IsLastEdge, IsNumber, IsTypeWord, IsVariable};
 
     pub(crate) fn new(words: &'w [&'a str], scope: &'w Scope<'a>) -> Args<'w, 'a>
         ensures words { words_left result.words ≡ texts words.now }
@@ -107,7 +107,7 @@ impl<'w, 'a> Args<'w, 'a> {
     /// A number.
     pub(crate) fn number(&mut self) -> Result<i64, LineError<'a>>
         ensures scope { self.new.scope ≡ self.old.scope }
-        ensures ok { OnOk result ((word : List ℕ) × (words_left self.old.words ≡ word ∷ words_left self.new.words)) }
+        ensures ok { IfOk result (λ number. (word : List ℕ) × (words_left self.old.words ≡ word ∷ words_left self.new.words) × IsNumber word number) }
     {
         let word = self.words.take(Expected::Number)?;
         number(word).ok_or(LineError::wanted(Expected::Number))
