@@ -259,3 +259,32 @@ block3:
     return v1
 }
 ";
+
+pub const PLACED: &str = "\
+b0 = create_block
+b1 = create_block
+b2 = create_block
+switch_to_block b0
+ensure_inserted_block
+jump b1
+insert_block_after b2 b0
+set_cold_block b2
+switch_to_block b1
+jump b2
+switch_to_block b2
+return
+seal_all_blocks
+";
+
+pub const PLACED_TEXT: &str = "\
+function u0:0() fast {
+block0:
+    jump block1
+
+block2 cold:
+    return
+
+block1:
+    jump block2
+}
+";

@@ -19,6 +19,7 @@ fn rows_and_examples(rt: HostRuntime) -> Result<(), Fail> {
         (data::BOTH_ARMS, data::BOTH_ARMS_TEXT),
         (data::DIAMOND, data::DIAMOND_TEXT),
         (data::NESTED_LOOPS, data::NESTED_LOOPS_TEXT),
+        (data::PLACED, data::PLACED_TEXT),
         ("", EMPTY_TEXT),
         ("\n# nothing is called\n \t\r\n,", EMPTY_TEXT),
     ];
@@ -65,6 +66,10 @@ declare_var i8x16
 create_block
 switch_to_block $1.0
 seal_block $7.18446744073709551615
+seal_all_blocks
+insert_block_after $1.0 $2.0
+set_cold_block $1.0
+ensure_inserted_block
 def_var var3 $0.0
 use_var var4294967294
 iconst.i128 -0x8000_0000_0000_0000
@@ -84,6 +89,10 @@ declare_var i8x16
 create_block
 switch_to_block $1.0
 seal_block $7.18446744073709551615
+seal_all_blocks
+insert_block_after $1.0 $2.0
+set_cold_block $1.0
+ensure_inserted_block
 def_var var3 $0.0
 use_var var4294967294
 iconst.i128 -9223372036854775808
