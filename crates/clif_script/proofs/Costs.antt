@@ -15,6 +15,7 @@ costs-some declared call.SealAllBlocks = omega arith
 costs-some declared (call.InsertBlockAfter block after) = omega arith
 costs-some declared (call.SetColdBlock block) = omega arith
 costs-some declared call.EnsureInsertedBlock = omega arith
+costs-some declared (call.AppendBlockParam block ty) = omega arith
 costs-some declared (call.DeclareVar ty) = omega arith
 costs-some declared (call.DefVar variable value) = omega arith
 costs-some declared (call.UseVar variable) = omega arith

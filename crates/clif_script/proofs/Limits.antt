@@ -12,7 +12,7 @@ use Rattle.clif_types.specs.declared.error.BuildError.TheVariants as build
 use Rattle.clif_ir.specs.declared.inst_list.BlockEnd.TheVariants.{Back}
 use Rattle.clif_ir.specs.declared.instructions.InstructionData.{InstructionData}
 use Rattle.clif_ir.specs.Body.{Body}
-use Rattle.clif_ir.specs.Changes.{inserted_in, with_block, with_cold, with_inst, with_layout, with_layout_after}
+use Rattle.clif_ir.specs.Changes.{inserted_in, with_block, with_cold, with_inst, with_layout, with_layout_after, with_param}
 use Rattle.clif_ir.specs.Instruction.{has_result, result_types}
 use Rattle.clif_ir.specs.Reading.{stands_in}
 use Rattle.clif_ssa.specs.declared.tables.SsaBlock.{SsaBlock}
@@ -20,7 +20,7 @@ use Rattle.clif_ssa.specs.Ssa.{SsaState, no_srcloc, record_of, sealed_of, predec
 use Rattle.clif_ssa.specs.Limits.{IsFull, RecordsBelow, Takes, TakesByRecords, insts_taken, record_count, values_taken}
 use Rattle.clif_ssa.proofs.Below.{below_kept, below_defined}
 use Rattle.clif_ssa.proofs.Records.{records_stay, few_records}
-use Rattle.clif_ssa.proofs.Taking.{Takes-same, Takes-then, Takes-inserted, Takes-with_inst}
+use Rattle.clif_ssa.proofs.Taking.{Takes-same, Takes-then, Takes-inserted, Takes-with_inst, Takes-with_param}
 use Rattle.clif_simulation.specs.Carries.{DeclaredAlong}
 use Rattle.cranelift_frontend.specs.declared.builder.FunctionBuilder.{FunctionBuilder}
 use Rattle.cranelift_frontend.specs.Builder.{Appends, AppendsValue, HasCurrent, with_appended}
@@ -170,6 +170,26 @@ pub one-cold : (old new : FunctionBuilder) (block : ℕ) → new.func.now ≡ wi
 one-cold old new block function context =
     one-placed old new (with_cold old.func.now block) function (Takes-same old.func.now (with_cold old.func.now block) refl refl) (length-set old.func.now.blocks block _) refl
     (ap (λ (c : ContextState). c.ssa) context) (ap (λ (c : ContextState). c.variables) context)
+
+-- a parameter of the caller's
+pub one-param : (old new : FunctionBuilder) (block : ℕ) (ty : «Type») → new.func.now ≡ with_param old.func.now block ty → new.ctx.now ≡ old.ctx.now → IsOneCall 2 old new
+one-param old new block ty function context =
+    let f : Body = old.func.now in
+    let takes : Takes f new.func.now 2 1 = subst (λ (g : Body). Takes f g 2 1) (sym function) (Takes-with_param f block ty) in
+    let keeps = keeps-same old.ctx.now.ssa new.ctx.now.ssa (ap (λ (c : ContextState). c.ssa) context) in
+    let stay : record_count old.ctx.now.ssa ≤ record_count new.ctx.now.ssa = as-many old.ctx.now.ssa new.ctx.now.ssa keeps.0 in
+    let blocks : length new.func.now.blocks ≡ length f.blocks = ap (λ (g : Body). length g.blocks) function ∙ length-set f.blocks block _ in
+    let count : length new.ctx.now.variables ≡ length old.ctx.now.variables = ap (λ (c : ContextState). length c.variables) context in
+    record {
+      values = omega (arith, takes.values_more, stay);
+      insts = omega (arith, takes.insts_more, stay);
+      records = λ below.
+          below_kept f old.ctx.now.ssa new.ctx.now.ssa keeps.0 keeps.1 (length new.ctx.now.variables) (length new.func.now.blocks) (omega (arith, blocks))
+          (wider (length old.ctx.now.variables) (length f.blocks) (length new.ctx.now.variables) (length new.func.now.blocks) old.ctx.now.ssa (omega (arith, count)) (omega (arith, blocks)) below);
+      more = omega (arith, blocks, count);
+      name = ap (λ (g : Body). g.name) function;
+      straight = λ none. (keeps.2 none, takes-less f new.func.now 2 1 4 2 (omega arith) (omega arith) takes);
+    }
 
 -- the current block is brought into the layout
 pub one-ensured : (old new : FunctionBuilder) → HasCurrent old → IfSome old.position (λ block. new.func.now ≡ inserted_in old.func.now block)
@@ -369,6 +389,11 @@ pub nearly-full : (b : FunctionBuilder) → (length b.func.now.insts ≡ 2 ^ 32 
 nearly-full b (inl insts) below =
     let less = few b below in record { with_branches = inr (inl (omega (arith, less, insts))); straight = λ none. inr (inl (omega (arith, insts))) }
 nearly-full b (inr values) below =
+    let less = few b below in record { with_branches = inl (omega (arith, less, values)); straight = λ none. inl (omega (arith, values)) }
+
+-- there was no room for one more value
+pub nearly-full-of-values : (price : ℕ) (b : FunctionBuilder) → length b.func.now.values ≡ 2 ^ 32 - 1 → IsNearlyFull price b
+nearly-full-of-values price b values below =
     let less = few b below in record { with_branches = inl (omega (arith, less, values)); straight = λ none. inl (omega (arith, values)) }
 
 -- SCRIPTS ---------------------------------------------------------------------------------------------------------

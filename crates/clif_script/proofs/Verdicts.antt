@@ -35,6 +35,7 @@ no-refusal declared ledger call.SealAllBlocks = refl
 no-refusal declared ledger (call.InsertBlockAfter block after) = refl
 no-refusal declared ledger (call.SetColdBlock block) = refl
 no-refusal declared ledger call.EnsureInsertedBlock = refl
+no-refusal declared ledger (call.AppendBlockParam block ty) = refl
 no-refusal declared ledger (call.DeclareVar ty) = refl
 no-refusal declared ledger (call.DefVar variable value) = refl
 no-refusal declared ledger (call.UseVar variable) = refl

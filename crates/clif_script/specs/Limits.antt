@@ -11,7 +11,9 @@ use Rattle.cranelift_frontend.specs.Context.{ContextState}
 use Rattle.cranelift_frontend.specs.declared.builder.FunctionBuilder.{FunctionBuilder}
 
 -- How many values a call takes at most, beside those that are paid by new records; and no call takes more instructions.
+-- A parameter counts twice, since it may become a name of a new zero.
 abbrev pub cost_of : SignatureShape → Call → ℕ
+cost_of signature (call.AppendBlockParam block ty) = 2
 cost_of signature _ = 1
 
 -- how many calls take

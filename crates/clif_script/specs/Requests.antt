@@ -3,7 +3,7 @@ use Rattle.std.specs.Prelude.{◌≡◌, ◌<◌, ℕ, List, [], ◌∷◌, ◌+
 use Rattle.clif_ir.specs.Body.{Body}
 use Rattle.clif_meaning.specs.Name.{Name}
 use Rattle.clif_meaning.specs.Instruction.{Edge, Known}
-use Rattle.clif_meaning.specs.Request.{Request, CreateBlock, SwitchToBlock, SealBlock, SealAllBlocks, InsertBlockAfter, SetColdBlock, EnsureInsertedBlock, DeclareVar, DefVar, UseVar, Finalize, Script, AnsweredCall, script_of}
+use Rattle.clif_meaning.specs.Request.{Request, CreateBlock, SwitchToBlock, SealBlock, SealAllBlocks, InsertBlockAfter, SetColdBlock, EnsureInsertedBlock, AppendBlockParams, DeclareVar, DefVar, UseVar, Finalize, Script, AnsweredCall, script_of}
 use Rattle.clif_meaning.specs.Ledger.{Ledger, empty_ledger, ledger_after, ledger_with}
 use Rattle.clif_meaning.specs.Acceptance.{Verdict, Accepted, Misuse, Refused, iconst, iadd, isub, jump, brif, return_, verdict_from, verdict_on}
 use Rattle.clif_types.specs.Signature.{SignatureShape}
@@ -36,6 +36,7 @@ request_of signature ledger call.SealAllBlocks = SealAllBlocks
 request_of signature ledger (call.InsertBlockAfter block after) = InsertBlockAfter (name_of block) (name_of after)
 request_of signature ledger (call.SetColdBlock block) = SetColdBlock (name_of block)
 request_of signature ledger call.EnsureInsertedBlock = EnsureInsertedBlock
+request_of signature ledger (call.AppendBlockParam block ty) = AppendBlockParams (name_of block) (ty ∷ [])
 request_of signature ledger (call.DeclareVar ty) = DeclareVar ty
 request_of signature ledger (call.DefVar variable value) = DefVar variable (name_of value)
 request_of signature ledger (call.UseVar variable) = UseVar variable

@@ -19,6 +19,7 @@ use crate::make_blocks::{
     create_block, ensure_inserted_block, insert_block_after, may_seal, seal_all_blocks, seal_block,
     set_cold_block, switch_to_block,
 };
+use crate::make_parameters::append_block_param;
 use crate::script::{Answer, CallError};
 use clif_ir::{BinaryOpcode, BlockArg, Function, InstructionData, ValueDef};
 use clif_ssa::Variable;
@@ -55,6 +56,7 @@ pub(crate) fn make_call(
         }
         Call::SetColdBlock { block } => set_cold_block(builder, answers, *block),
         Call::EnsureInsertedBlock => ensure_inserted_block(builder, answers),
+        Call::AppendBlockParam { block, ty } => append_block_param(builder, answers, *block, *ty),
         Call::DeclareVar { ty } => declare_var(builder, answers, *ty),
         Call::DefVar { variable, value } => def_var(builder, answers, types, *variable, *value),
         Call::UseVar { variable } => use_var(builder, answers, types, *variable),
@@ -553,7 +555,7 @@ fn instruction_of(func: &Function, value: Value) -> Answer
 }
 
 // The answer of a call that answers this value alone.
-fn one_value(value: Value) -> Answer
+pub(crate) fn one_value(value: Value) -> Answer
     ensures { result ≡ Answer.Values value 1 }
 {
     Answer::Values {

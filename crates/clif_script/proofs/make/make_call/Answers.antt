@@ -44,6 +44,11 @@ returns-in-EnsureInsertedBlock-clause-judged c = λ declared calls ready.
     let done = c.ensure_inserted_block.ensures.judged calls (declared, ready) in
     subst (λ (x : Call). IsJudged (allows (ledger_of calls) (request_of declared (ledger_of calls) x)) c.ensure_inserted_block.result) (sym c.in-EnsureInsertedBlock.is) done
 
+pub returns-in-AppendBlockParam-clause-judged : goal.returns-in-AppendBlockParam-clause-judged
+returns-in-AppendBlockParam-clause-judged c = λ declared calls ready.
+    let done = c.append_block_param.ensures.judged calls (declared, ready) in
+    subst (λ (x : Call). IsJudged (allows (ledger_of calls) (request_of declared (ledger_of calls) x)) c.append_block_param.result) (sym c.in-AppendBlockParam.is) done
+
 pub returns-in-DeclareVar-clause-judged : goal.returns-in-DeclareVar-clause-judged
 returns-in-DeclareVar-clause-judged c = λ declared calls ready.
     let done = c.declare_var.ensures.judged calls (declared, ready) in
