@@ -1,4 +1,4 @@
-use Rattle.std.proofs.Common.{List, [], ◌∷◌, sym, ◌∙◌, refl, subst}
+use Rattle.std.proofs.Common.{[], ◌∷◌, sym, ◌∙◌, refl, subst}
 use Rattle.std.proofs.lemmas.Result.{err_from_is_err_and}
 use Rattle.clif_meaning.specs.Request.{AppendBlockParams}
 use Rattle.cranelift_frontend.specs.Context.{status_of}
