@@ -27,7 +27,7 @@ use Rattle.clif_ir.specs.Body.{Body, alias_of, alias_of_origin, follow, follow_l
 use Rattle.clif_meaning.specs.Name as meaning
 use Rattle.clif_meaning.specs.Instruction.{Known}
 use Rattle.clif_meaning.specs.SameType.{lane_number, same_lane, same_type}
-use Rattle.clif_meaning.specs.Request.{AnsweredCall, number_of, SwitchToBlock, SealBlock, DefVar, UseVar}
+use Rattle.clif_meaning.specs.Request.{AnsweredCall, number_of, AppendBlockParams, SwitchToBlock, SealBlock, DefVar, UseVar}
 use Rattle.clif_meaning.specs.Ledger.{BlockState, Ledger, begins_with, block_state, has_block, has_predecessors, has_value, is_empty, is_filled, is_pristine, is_sealed, state_has, type_of, variable_type}
 use Rattle.clif_meaning.specs.Acceptance.{allows, can_assign, can_lead, can_leave, has_argument, is_variable_type, iconst, iadd, jump, brif, return_}
 use Rattle.clif_meaning.specs.Acceptance as acceptance
@@ -52,7 +52,7 @@ use Rattle.clif_script.specs.declared.script.CallError.{CallError}
 use Rattle.clif_script.specs.declared.script.CallError.TheVariants as error
 use Rattle.clif_script.specs.Errors.{call_error_of}
 use Rattle.clif_script.specs.Requests.{edge_of, name_of}
-use Rattle.clif_script.specs.Ready.{IsReady, IsFound, IsJudged, all_values, block_of, can_define, can_seal, can_switch, can_use, instruction_answer, instruction_in, is_open, is_open_at, is_target, may_lead, value_of}
+use Rattle.clif_script.specs.Ready.{IsReady, IsFound, IsJudged, all_values, block_of, can_append, can_define, can_seal, can_switch, can_use, instruction_answer, instruction_in, is_open, is_open_at, is_target, may_lead, value_of}
 use Rattle.clif_script.proofs.ReadyLaws.{block-found, block-missing, block-there, value-exists, value-found, value-missing}
 
 -- a refusal of the builder is no misuse
@@ -197,6 +197,28 @@ seal-some calls b answers ready name block found =
     let named = named-block calls (name-number calls (ledger_of calls) b.func.now b.ctx.now b.position ready.stands.ledger) (name_of name) block names in
     let sealed = sealed-same calls b answers ready (name_of name) block named in
     rw (there, sealed) refl
+
+-- `append_block_param`
+no-state : (o : Option BlockState) (test : BlockState → Bool) → is_some o ≡ false → state_has test o ≡ false
+no-state None test is = refl
+no-state (Some state) test is = let no_way : ⊥ = cc in absurd no_way
+
+pub empty-is : (s : BlockStatus) → is_empty_status s ≡ true → s ≡ Empty
+empty-is Empty is = refl
+empty-is Partial is = let no_way : ⊥ = cc in absurd no_way
+empty-is Filled is = let no_way : ⊥ = cc in absurd no_way
+
+pub append-none : {declared : SignatureShape} (calls : List AnsweredCall) (b : FunctionBuilder) (answers : List Answer) → IsReady declared calls b answers
+    → (name : Name) (types : List «Type») → block_of answers name ≡ None → allows (ledger_of calls) (AppendBlockParams (name_of name) types) ≡ false
+append-none calls b answers ready name types missing =
+    no-state (block_state (ledger_of calls) (name_of name)) (λ (state : BlockState). state.is_pristine) (block-missing calls b answers ready name missing)
+
+pub append-some : {declared : SignatureShape} (calls : List AnsweredCall) (b : FunctionBuilder) (answers : List Answer) → IsReady declared calls b answers
+    → (name : Name) (block : ℕ) (types : List «Type») → block_of answers name ≡ Some block → allows (ledger_of calls) (AppendBlockParams (name_of name) types) ≡ can_append b block
+append-some calls b answers ready name block types found =
+    let names = block-found calls b answers ready name block found in
+    let named = named-block calls (name-number calls (ledger_of calls) b.func.now b.ctx.now b.position ready.stands.ledger) (name_of name) block names in
+    pristine-same calls b answers ready (name_of name) block named
 
 -- `declare_var`
 pub declare-same : (ty : «Type») → is_variable_type ty ≡ is_declarable ty

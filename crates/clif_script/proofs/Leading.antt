@@ -7,7 +7,7 @@ use Rattle.clif_types.specs.Signature.{SignatureShape}
 use Rattle.clif_ir.specs.Body.{Body}
 use Rattle.clif_meaning.specs.Name.{Name, same_name}
 use Rattle.clif_meaning.specs.Request.{AnsweredCall, Request, CreateBlock, number_of}
-use Rattle.clif_meaning.specs.Ledger.{BlockState, Ledger, empty_ledger, is_inserted, ledger_after, ledger_with, new_block, next_answer, sealed, with_begun_at, with_filled_at, with_layout, with_state}
+use Rattle.clif_meaning.specs.Ledger.{BlockState, Ledger, empty_ledger, is_inserted, ledger_after, ledger_with, new_block, next_answer, sealed, with_begun_at, with_filled_at, with_layout, with_parameter_types, with_state}
 use Rattle.clif_ssa.specs.Ssa.{predecessors_of}
 use Rattle.cranelift_frontend.specs.declared.builder.FunctionBuilder.{FunctionBuilder}
 use Rattle.cranelift_frontend.specs.Context.{ContextState}
@@ -106,32 +106,33 @@ alone-sealed states alone k state at =
     ap (λ (s : BlockState). s.predecessors) (sym was.2) ∙ alone k was.0 was.1
 
 -- a call that is no branch
-alone-straight : (ledger : Ledger) (c : Call) → is_straight c ≡ true → AreAlone ledger.blocks → AreAlone (ledger_with ledger (request_of ledger c)).blocks
-alone-straight ledger call.CreateBlock straight alone = λ k state at.
+alone-straight : (declared : SignatureShape) (ledger : Ledger) (c : Call) → is_straight c ≡ true → AreAlone ledger.blocks → AreAlone (ledger_with ledger (request_of declared ledger c)).blocks
+alone-straight declared ledger call.CreateBlock straight alone = λ k state at.
     elim (get-push ledger.blocks (new_block (next_answer ledger)) k state at) [
       | inl old ↦ alone k state old
       | inr last ↦ ap (λ (s : BlockState). s.predecessors) (sym last.1)
     ]
-alone-straight ledger (call.SwitchToBlock block) straight alone = alone
-alone-straight ledger (call.SealBlock block) straight alone = alone-state ledger _ (λ (state : BlockState). record state { is_sealed = true }) (λ state. refl) alone
-alone-straight ledger call.SealAllBlocks straight alone = alone-sealed ledger.blocks alone
-alone-straight ledger (call.InsertBlockAfter block after) straight alone = alone
-alone-straight ledger (call.SetColdBlock block) straight alone = alone
-alone-straight ledger call.EnsureInsertedBlock straight alone = alone-begun ledger ledger.current alone
-alone-straight ledger (call.DeclareVar ty) straight alone = alone
-alone-straight ledger (call.DefVar variable value) straight alone = alone
-alone-straight ledger (call.UseVar variable) straight alone = alone-begun ledger ledger.current alone
-alone-straight ledger (call.Iconst ty imm) straight alone = alone-begun ledger ledger.current alone
-alone-straight ledger (call.Iadd x y) straight alone = alone-begun ledger ledger.current alone
-alone-straight ledger (call.Isub x y) straight alone = alone-begun ledger ledger.current alone
-alone-straight ledger (call.Jump destination) straight alone = let no_way : ⊥ = cc in absurd no_way
-alone-straight ledger (call.Brif condition block_then block_else) straight alone = let no_way : ⊥ = cc in absurd no_way
-alone-straight ledger (call.Return values) straight alone =
+alone-straight declared ledger (call.SwitchToBlock block) straight alone = alone
+alone-straight declared ledger (call.SealBlock block) straight alone = alone-state ledger _ (λ (state : BlockState). record state { is_sealed = true }) (λ state. refl) alone
+alone-straight declared ledger call.SealAllBlocks straight alone = alone-sealed ledger.blocks alone
+alone-straight declared ledger (call.InsertBlockAfter block after) straight alone = alone
+alone-straight declared ledger (call.SetColdBlock block) straight alone = alone
+alone-straight declared ledger call.EnsureInsertedBlock straight alone = alone-begun ledger ledger.current alone
+alone-straight declared ledger (call.AppendBlockParam block ty) straight alone = alone-state ledger _ (with_parameter_types (ty ∷ [])) (λ state. refl) alone
+alone-straight declared ledger (call.DeclareVar ty) straight alone = alone
+alone-straight declared ledger (call.DefVar variable value) straight alone = alone
+alone-straight declared ledger (call.UseVar variable) straight alone = alone-begun ledger ledger.current alone
+alone-straight declared ledger (call.Iconst ty imm) straight alone = alone-begun ledger ledger.current alone
+alone-straight declared ledger (call.Iadd x y) straight alone = alone-begun ledger ledger.current alone
+alone-straight declared ledger (call.Isub x y) straight alone = alone-begun ledger ledger.current alone
+alone-straight declared ledger (call.Jump destination) straight alone = let no_way : ⊥ = cc in absurd no_way
+alone-straight declared ledger (call.Brif condition block_then block_else) straight alone = let no_way : ⊥ = cc in absurd no_way
+alone-straight declared ledger (call.Return values) straight alone =
     alone-filled (with_begun_at ledger ledger.current) (with_begun_at ledger ledger.current).current (alone-begun ledger ledger.current alone)
 
-alone-calls : (calls : List Call) (ledger : Ledger) → HasNoBranch calls → AreAlone ledger.blocks → AreAlone (fold ledger_with ledger (requests_from ledger calls)).blocks
-alone-calls [] ledger straight alone = alone
-alone-calls (c ∷ calls) ledger straight alone = alone-calls calls (ledger_with ledger (request_of ledger c)) straight.1 (alone-straight ledger c straight.0 alone)
+alone-calls : (declared : SignatureShape) (calls : List Call) (ledger : Ledger) → HasNoBranch calls → AreAlone ledger.blocks → AreAlone (fold ledger_with ledger (requests_from declared ledger calls)).blocks
+alone-calls declared [] ledger straight alone = alone
+alone-calls declared (c ∷ calls) ledger straight alone = alone-calls declared calls (ledger_with ledger (request_of declared ledger c)) straight.1 (alone-straight declared ledger c straight.0 alone)
 
 first-straight : (place : ℕ) (calls : List Call) → HasNoBranch calls → HasNoBranch (take place calls)
 first-straight zero calls straight = tt
@@ -139,11 +140,11 @@ first-straight (suc place) [] straight = tt
 first-straight (suc place) (c ∷ calls) straight = (straight.0, first-straight place calls straight.1)
 
 -- the calls that were made are no branches
-pub straight-leads : {declared : SignatureShape} (calls : List Call) (place : ℕ) (made : List AnsweredCall) (b : FunctionBuilder) → HasNoBranch calls → IsReplayed calls place made → StandsFor declared made b
+pub straight-leads : (declared : SignatureShape) (calls : List Call) (place : ℕ) (made : List AnsweredCall) (b : FunctionBuilder) → HasNoBranch calls → IsReplayed declared calls place made → StandsFor declared made b
     → NothingLeads b.ctx.now.ssa
-straight-leads calls place made b straight replayed stands =
+straight-leads declared calls place made b straight replayed stands =
     nothing-leads made (ledger_of made) b.func.now b.ctx.now b.position stands.ledger
-    (subst (λ (script : List Request). AreAlone (ledger_after script).blocks) (sym replayed.script) (alone-calls (take place calls) empty_ledger (first-straight place calls straight) none))
+    (subst (λ (script : List Request). AreAlone (ledger_after script).blocks) (sym replayed.script) (alone-calls declared (take place calls) empty_ledger (first-straight place calls straight) none))
   where
     none : AreAlone empty_ledger.blocks
     none k state at = let no_way : ⊥ = cc in absurd no_way

@@ -1,4 +1,5 @@
 pub mod Limits
+pub mod Costs
 pub mod Leading
 pub mod ReadyLaws
 pub mod Conditions

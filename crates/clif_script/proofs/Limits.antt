@@ -12,7 +12,7 @@ use Rattle.clif_types.specs.declared.error.BuildError.TheVariants as build
 use Rattle.clif_ir.specs.declared.inst_list.BlockEnd.TheVariants.{Back}
 use Rattle.clif_ir.specs.declared.instructions.InstructionData.{InstructionData}
 use Rattle.clif_ir.specs.Body.{Body}
-use Rattle.clif_ir.specs.Changes.{inserted_in, with_block, with_cold, with_inst, with_layout, with_layout_after}
+use Rattle.clif_ir.specs.Changes.{inserted_in, with_block, with_cold, with_inst, with_layout, with_layout_after, with_param}
 use Rattle.clif_ir.specs.Instruction.{has_result, result_types}
 use Rattle.clif_ir.specs.Reading.{stands_in}
 use Rattle.clif_ssa.specs.declared.tables.SsaBlock.{SsaBlock}
@@ -20,7 +20,7 @@ use Rattle.clif_ssa.specs.Ssa.{SsaState, no_srcloc, record_of, sealed_of, predec
 use Rattle.clif_ssa.specs.Limits.{IsFull, RecordsBelow, Takes, TakesByRecords, insts_taken, record_count, values_taken}
 use Rattle.clif_ssa.proofs.Below.{below_kept, below_defined}
 use Rattle.clif_ssa.proofs.Records.{records_stay, few_records}
-use Rattle.clif_ssa.proofs.Taking.{Takes-same, Takes-then, Takes-inserted, Takes-with_inst}
+use Rattle.clif_ssa.proofs.Taking.{Takes-same, Takes-then, Takes-inserted, Takes-with_inst, Takes-with_param}
 use Rattle.clif_simulation.specs.Carries.{DeclaredAlong}
 use Rattle.cranelift_frontend.specs.declared.builder.FunctionBuilder.{FunctionBuilder}
 use Rattle.cranelift_frontend.specs.Builder.{Appends, AppendsValue, HasCurrent, with_appended}
@@ -115,7 +115,7 @@ takes-less f g a b c d values insts takes =
 pub one-plain : (old new : FunctionBuilder) → Takes old.func.now new.func.now 1 1 → KeepsRecords old.ctx.now.ssa new.ctx.now.ssa
     → length old.func.now.blocks ≤ length new.func.now.blocks → length old.ctx.now.variables ≤ length new.ctx.now.variables
     → length new.func.now.blocks + length new.ctx.now.variables ≤ length old.func.now.blocks + length old.ctx.now.variables + 1
-    → new.func.now.name ≡ old.func.now.name → IsOneCall old new
+    → new.func.now.name ≡ old.func.now.name → IsOneCall 1 old new
 one-plain old new takes keeps blocks variables more name =
     let stay : record_count old.ctx.now.ssa ≤ record_count new.ctx.now.ssa = as-many old.ctx.now.ssa new.ctx.now.ssa keeps.0 in
     record {
@@ -134,14 +134,14 @@ takes-none : (f g : Body) → g ≡ f → Takes f g 1 1
 takes-none f g same = subst (λ (h : Body). Takes f h 1 1) (sym same) (takes-less f f 0 0 1 1 (omega arith) (omega arith) (Takes-same f f refl refl))
 
 pub one-same : (old new : FunctionBuilder) → new.func.now ≡ old.func.now → new.ctx.now.ssa ≡ old.ctx.now.ssa
-    → length old.ctx.now.variables ≤ length new.ctx.now.variables → length new.ctx.now.variables ≤ length old.ctx.now.variables + 1 → IsOneCall old new
+    → length old.ctx.now.variables ≤ length new.ctx.now.variables → length new.ctx.now.variables ≤ length old.ctx.now.variables + 1 → IsOneCall 1 old new
 one-same old new function same variables more =
     let blocks : length new.func.now.blocks ≡ length old.func.now.blocks = ap (λ (g : Body). length g.blocks) function in
     one-plain old new (takes-none old.func.now new.func.now function) (keeps-same old.ctx.now.ssa new.ctx.now.ssa same) (omega (arith, blocks)) variables (omega (arith, blocks, more))
     (ap (λ (g : Body). g.name) function)
 
 pub one-created : (old new : FunctionBuilder) → new.func.now ≡ with_block old.func.now → SameRecords old.ctx.now.ssa new.ctx.now.ssa → SameBlocks old.ctx.now.ssa new.ctx.now.ssa
-    → LeadsStay old.ctx.now.ssa new.ctx.now.ssa → new.ctx.now.variables ≡ old.ctx.now.variables → IsOneCall old new
+    → LeadsStay old.ctx.now.ssa new.ctx.now.ssa → new.ctx.now.variables ≡ old.ctx.now.variables → IsOneCall 1 old new
 one-created old new function records sealed leads variables =
     let f : Body = old.func.now in
     let more : length (with_block f).blocks ≡ length f.blocks + 1 = grind (arith, common_steps) in
@@ -153,7 +153,7 @@ one-created old new function records sealed leads variables =
 
 -- a call that marks a block or places it
 pub one-placed : (old new : FunctionBuilder) (g : Body) → new.func.now ≡ g → Takes old.func.now g 0 0 → length g.blocks ≡ length old.func.now.blocks
-    → g.name ≡ old.func.now.name → new.ctx.now.ssa ≡ old.ctx.now.ssa → new.ctx.now.variables ≡ old.ctx.now.variables → IsOneCall old new
+    → g.name ≡ old.func.now.name → new.ctx.now.ssa ≡ old.ctx.now.ssa → new.ctx.now.variables ≡ old.ctx.now.variables → IsOneCall 1 old new
 one-placed old new g function takes many name same variables =
     let blocks : length new.func.now.blocks ≡ length old.func.now.blocks = ap (λ (h : Body). length h.blocks) function ∙ many in
     let count : length new.ctx.now.variables ≡ length old.ctx.now.variables = ap (λ xs. length xs) variables in
@@ -161,19 +161,39 @@ one-placed old new g function takes many name same variables =
     (keeps-same old.ctx.now.ssa new.ctx.now.ssa same) (omega (arith, blocks)) (omega (arith, count)) (omega (arith, blocks, count))
     (ap (λ (h : Body). h.name) function ∙ name)
 
-pub one-laid : (old new : FunctionBuilder) (block after : ℕ) → new.func.now ≡ with_layout_after old.func.now block after → new.ctx.now ≡ old.ctx.now → IsOneCall old new
+pub one-laid : (old new : FunctionBuilder) (block after : ℕ) → new.func.now ≡ with_layout_after old.func.now block after → new.ctx.now ≡ old.ctx.now → IsOneCall 1 old new
 one-laid old new block after function context =
     one-placed old new (with_layout_after old.func.now block after) function (Takes-same old.func.now (with_layout_after old.func.now block after) refl refl) refl refl
     (ap (λ (c : ContextState). c.ssa) context) (ap (λ (c : ContextState). c.variables) context)
 
-pub one-cold : (old new : FunctionBuilder) (block : ℕ) → new.func.now ≡ with_cold old.func.now block → new.ctx.now ≡ old.ctx.now → IsOneCall old new
+pub one-cold : (old new : FunctionBuilder) (block : ℕ) → new.func.now ≡ with_cold old.func.now block → new.ctx.now ≡ old.ctx.now → IsOneCall 1 old new
 one-cold old new block function context =
     one-placed old new (with_cold old.func.now block) function (Takes-same old.func.now (with_cold old.func.now block) refl refl) (length-set old.func.now.blocks block _) refl
     (ap (λ (c : ContextState). c.ssa) context) (ap (λ (c : ContextState). c.variables) context)
 
+-- a parameter of the caller's
+pub one-param : (old new : FunctionBuilder) (block : ℕ) (ty : «Type») → new.func.now ≡ with_param old.func.now block ty → new.ctx.now ≡ old.ctx.now → IsOneCall 2 old new
+one-param old new block ty function context =
+    let f : Body = old.func.now in
+    let takes : Takes f new.func.now 2 1 = subst (λ (g : Body). Takes f g 2 1) (sym function) (Takes-with_param f block ty) in
+    let keeps = keeps-same old.ctx.now.ssa new.ctx.now.ssa (ap (λ (c : ContextState). c.ssa) context) in
+    let stay : record_count old.ctx.now.ssa ≤ record_count new.ctx.now.ssa = as-many old.ctx.now.ssa new.ctx.now.ssa keeps.0 in
+    let blocks : length new.func.now.blocks ≡ length f.blocks = ap (λ (g : Body). length g.blocks) function ∙ length-set f.blocks block _ in
+    let count : length new.ctx.now.variables ≡ length old.ctx.now.variables = ap (λ (c : ContextState). length c.variables) context in
+    record {
+      values = omega (arith, takes.values_more, stay);
+      insts = omega (arith, takes.insts_more, stay);
+      records = λ below.
+          below_kept f old.ctx.now.ssa new.ctx.now.ssa keeps.0 keeps.1 (length new.ctx.now.variables) (length new.func.now.blocks) (omega (arith, blocks))
+          (wider (length old.ctx.now.variables) (length f.blocks) (length new.ctx.now.variables) (length new.func.now.blocks) old.ctx.now.ssa (omega (arith, count)) (omega (arith, blocks)) below);
+      more = omega (arith, blocks, count);
+      name = ap (λ (g : Body). g.name) function;
+      straight = λ none. (keeps.2 none, takes-less f new.func.now 2 1 4 2 (omega arith) (omega arith) takes);
+    }
+
 -- the current block is brought into the layout
 pub one-ensured : (old new : FunctionBuilder) → HasCurrent old → IfSome old.position (λ block. new.func.now ≡ inserted_in old.func.now block)
-    → new.ctx.now.ssa ≡ old.ctx.now.ssa → new.ctx.now.variables ≡ old.ctx.now.variables → IsOneCall old new
+    → new.ctx.now.ssa ≡ old.ctx.now.ssa → new.ctx.now.variables ≡ old.ctx.now.variables → IsOneCall 1 old new
 one-ensured old new current inserted same variables =
     let here : new.func.now ≡ inserted_in old.func.now current.0 = subst (λ (o : Option ℕ). IfSome o (λ block. new.func.now ≡ inserted_in old.func.now block)) current.1 inserted in
     one-placed old new (inserted_in old.func.now current.0) here (Takes-inserted old.func.now current.0) (blocks-inserted old.func.now current.0) (name_inserted old.func.now current.0) same variables
@@ -187,7 +207,7 @@ one-ensured old new current inserted same variables =
 
 pub one-defined : (old new : FunctionBuilder) (variable block value : ℕ) → new.func.now ≡ old.func.now → Records old.ctx.now.ssa new.ctx.now.ssa variable block value
     → SameBlocks old.ctx.now.ssa new.ctx.now.ssa → SamePredecessors old.ctx.now.ssa new.ctx.now.ssa → new.ctx.now.variables ≡ old.ctx.now.variables
-    → variable < length old.ctx.now.variables → block < length old.func.now.blocks → IsOneCall old new
+    → variable < length old.ctx.now.variables → block < length old.func.now.blocks → IsOneCall 1 old new
 one-defined old new variable block value function records sealed predecessors variables declared exists =
     let takes = takes-none old.func.now new.func.now function in
     let blocks : length new.func.now.blocks ≡ length old.func.now.blocks = ap (λ (g : Body). length g.blocks) function in
@@ -208,7 +228,7 @@ one-defined old new variable block value function records sealed predecessors va
 -- in the current block
 pub one-assigned : (old new : FunctionBuilder) (variable value : ℕ) → HasCurrent old → new.func.now ≡ old.func.now
     → IfSome old.position (λ block. Records old.ctx.now.ssa new.ctx.now.ssa variable block value) → new.ctx.now.ssa.blocks ≡ old.ctx.now.ssa.blocks
-    → new.ctx.now.variables ≡ old.ctx.now.variables → variable < length old.ctx.now.variables → IsOneCall old new
+    → new.ctx.now.variables ≡ old.ctx.now.variables → variable < length old.ctx.now.variables → IsOneCall 1 old new
 one-assigned old new variable value current function records blocks variables declared =
     let here = subst (λ (o : Option ℕ). IfSome o (λ block. Records old.ctx.now.ssa new.ctx.now.ssa variable block value)) current.1 records in
     one-defined old new variable current.0 value function here
@@ -219,7 +239,7 @@ one-assigned old new variable value current function records blocks variables de
 -- a use of a variable, and a sealing: what they take is paid by records, and where nothing leads anywhere it is little
 pub one-constructed : (old new : FunctionBuilder) → TakesByRecords old.func.now old.ctx.now.ssa new.func.now new.ctx.now.ssa → KeepsRecordsBelow old new
     → length new.func.now.blocks ≡ length old.func.now.blocks → new.ctx.now.variables ≡ old.ctx.now.variables → Grows old.func.now new.func.now
-    → SamePredecessors old.ctx.now.ssa new.ctx.now.ssa → (NothingLeads old.ctx.now.ssa → Takes old.func.now new.func.now 2 1) → IsOneCall old new
+    → SamePredecessors old.ctx.now.ssa new.ctx.now.ssa → (NothingLeads old.ctx.now.ssa → Takes old.func.now new.func.now 2 1) → IsOneCall 1 old new
 one-constructed old new takes below blocks variables grows predecessors straight =
     let count : length new.ctx.now.variables ≡ length old.ctx.now.variables = ap (λ xs. length xs) variables in
     record {
@@ -279,7 +299,7 @@ made-takes old new shape ty made =
     )
 
 one-made : (old new : FunctionBuilder) (shape : InstructionData) (ty : «Type») → IsMade old new shape ty → Grows old.func.now new.func.now → KeepsRecords old.ctx.now.ssa new.ctx.now.ssa
-    → new.ctx.now.variables ≡ old.ctx.now.variables → IsOneCall old new
+    → new.ctx.now.variables ≡ old.ctx.now.variables → IsOneCall 1 old new
 one-made old new shape ty made grows keeps variables =
     let takes = made-takes old new shape ty made in
     let count : length new.ctx.now.variables ≡ length old.ctx.now.variables = ap (λ xs. length xs) variables in
@@ -293,7 +313,7 @@ kept (Err error) s t keeps = tt
 -- an instruction call that answered
 pub one-appended : {X : Type 0} (r : Result ℕ X) (old new : FunctionBuilder) (shape : InstructionData) (ty : «Type») → HasCurrent old
     → IfSome old.position (λ block. IfOk r (Appends old new block shape ty)) → OnOk r (Grows old.func.now new.func.now)
-    → IfOk r (λ inst. KeepsRecords old.ctx.now.ssa new.ctx.now.ssa) → new.ctx.now.variables ≡ old.ctx.now.variables → OnOk r (IsOneCall old new)
+    → IfOk r (λ inst. KeepsRecords old.ctx.now.ssa new.ctx.now.ssa) → new.ctx.now.variables ≡ old.ctx.now.variables → OnOk r (IsOneCall 1 old new)
 one-appended {X} (Ok inst) old new shape ty current appends grows keeps variables =
     let here : Appends old new current.0 shape ty inst =
     subst (λ (o : Option ℕ). IfSome o (λ block. IfOk {T = ℕ} {E = X} (Ok inst) (Appends old new block shape ty))) current.1 appends in
@@ -303,7 +323,7 @@ one-appended {X} (Err error) old new shape ty current appends grows keeps variab
 -- one with a value, which is no branch
 pub one-valued : {X : Type 0} (r : Result ℕ X) (old new : FunctionBuilder) (shape : InstructionData) (ty : «Type») → HasCurrent old
     → IfSome old.position (λ block. IfOk r (AppendsValue old new block shape ty)) → OnOk r (Grows old.func.now new.func.now)
-    → new.ctx.now.ssa ≡ old.ctx.now.ssa → new.ctx.now.variables ≡ old.ctx.now.variables → OnOk r (IsOneCall old new)
+    → new.ctx.now.ssa ≡ old.ctx.now.ssa → new.ctx.now.variables ≡ old.ctx.now.variables → OnOk r (IsOneCall 1 old new)
 one-valued {X} (Ok value) old new shape ty current appends grows same variables =
     let here : AppendsValue old new current.0 shape ty value =
     subst (λ (o : Option ℕ). IfSome o (λ block. IfOk {T = ℕ} {E = X} (Ok value) (AppendsValue old new block shape ty))) current.1 appends in
@@ -313,7 +333,7 @@ one-valued {X} (Err error) old new shape ty current appends grows same variables
 -- a branch
 pub one-branched : {X : Type 0} (r : Result ℕ X) (old new : FunctionBuilder) (shape : InstructionData) (ty : «Type») (targets : List ℕ) → HasCurrent old
     → IfSome old.position (λ block. IfOk r (Appends old new block shape ty)) → OnOk r (Grows old.func.now new.func.now)
-    → IfOk r (λ inst. IsDeclared old.ctx.now.ssa inst targets new.ctx.now.ssa) → new.ctx.now.variables ≡ old.ctx.now.variables → OnOk r (IsOneCall old new)
+    → IfOk r (λ inst. IsDeclared old.ctx.now.ssa inst targets new.ctx.now.ssa) → new.ctx.now.variables ≡ old.ctx.now.variables → OnOk r (IsOneCall 1 old new)
 one-branched {X} (Ok inst) old new shape ty targets current appends grows declared variables =
     one-appended {X = X} (Ok inst) old new shape ty current appends grows (keeps-declared old.ctx.now.ssa inst declared.told new.ctx.now.ssa declared.along) variables
 one-branched {X} (Err error) old new shape ty targets current appends grows declared variables = tt
@@ -325,7 +345,7 @@ few b below = few_records b.ctx.now.ssa (length b.ctx.now.variables) (length b.f
 
 -- a table is full once the call has taken what it takes
 pub nearly-taken : (old new : FunctionBuilder) → TakesByRecords old.func.now old.ctx.now.ssa new.func.now new.ctx.now.ssa → KeepsRecordsBelow old new
-    → (NothingLeads old.ctx.now.ssa → Takes old.func.now new.func.now 2 1) → IsFull new.func.now → IsNearlyFull old
+    → (NothingLeads old.ctx.now.ssa → Takes old.func.now new.func.now 2 1) → IsFull new.func.now → IsNearlyFull 1 old
 nearly-taken old new takes below straight full before = record { with_branches = with_branches full; straight = λ none. without full (straight none) }
   where
     less : record_count new.ctx.now.ssa ≤ length old.ctx.now.variables * length old.func.now.blocks
@@ -365,17 +385,23 @@ full-told-by {X} {Y} r told y e was is gives full =
     clash same = cc
 
 -- a table was full before
-pub nearly-full : (b : FunctionBuilder) → (length b.func.now.insts ≡ 2 ^ 32 - 1) ⊎ (length b.func.now.values ≡ 2 ^ 32 - 1) → IsNearlyFull b
+pub nearly-full : (b : FunctionBuilder) → (length b.func.now.insts ≡ 2 ^ 32 - 1) ⊎ (length b.func.now.values ≡ 2 ^ 32 - 1) → IsNearlyFull 1 b
 nearly-full b (inl insts) below =
     let less = few b below in record { with_branches = inr (inl (omega (arith, less, insts))); straight = λ none. inr (inl (omega (arith, insts))) }
 nearly-full b (inr values) below =
     let less = few b below in record { with_branches = inl (omega (arith, less, values)); straight = λ none. inl (omega (arith, values)) }
 
+-- there was no room for one more value
+pub nearly-full-of-values : (price : ℕ) (b : FunctionBuilder) → length b.func.now.values ≡ 2 ^ 32 - 1 → IsNearlyFull price b
+nearly-full-of-values price b values below =
+    let less = few b below in record { with_branches = inl (omega (arith, less, values)); straight = λ none. inl (omega (arith, values)) }
+
 -- SCRIPTS ---------------------------------------------------------------------------------------------------------
 
-pub within-more : (calls : ℕ) (old new : FunctionBuilder) → IsWithin calls old → IsOneCall old new → IsWithin (calls + 1) new
-within-more calls old new within one =
+pub within-more : (calls spent price : ℕ) (old new : FunctionBuilder) → 1 ≤ price → IsWithin calls spent old → IsOneCall price old new → IsWithin (calls + 1) (spent + price) new
+within-more calls spent price old new some within one =
     record {
+      paid = omega (arith, within.paid, some);
       values = omega (arith, within.values, one.values);
       insts = omega (arith, within.insts, one.insts);
       records = one.records within.records;
@@ -387,40 +413,39 @@ within-more calls old new within one =
     }
 
 -- twice a product is no more than the square of the sum
-squares : (a b m n : ℕ) → a + b ≤ m → m < n → 2 * (a * b) + m + 1 ≤ n + n * n
-squares a b m n sum less =
+squares : (a b n : ℕ) → a + b ≤ n → 2 * (a * b) ≤ n * n
+squares a b n most =
     let whole : (a + b) * (a + b) ≡ (a + b) * a + (a + b) * b = mul-add (a + b) a b in
     let first : (a + b) * a ≡ a * a + b * a = add-mul a b a in
     let second : (a + b) * b ≡ a * b + b * b = add-mul a b b in
     let turned : b * a ≡ a * b = mul_comm b a in
-    let most : a + b ≤ n = omega (arith, sum, less) in
     let square : (a + b) * (a + b) ≤ n * n = mul-le-mul most most in
-    omega (arith, whole, first, second, turned, square, less)
+    omega (arith, whole, first, second, turned, square)
 
 -- a table is nearly full only where many calls were made
-pub full-late : (made calls : ℕ) (b : FunctionBuilder) → made < calls → IsWithin made b → IsNearlyFull b → 2 ^ 32 - 1 ≤ calls + calls * calls
-full-late made calls b more within nearly = by (nearly within.records).with_branches
+pub full-late : (made calls spent price whole : ℕ) (b : FunctionBuilder) → made < calls → spent + price ≤ whole → IsWithin made spent b → IsNearlyFull price b → 2 ^ 32 - 1 ≤ whole + calls * calls
+full-late made calls spent price whole b more fits within nearly = by (nearly within.records).with_branches
   where
-    room : 2 * (length b.ctx.now.variables * length b.func.now.blocks) + made + 1 ≤ calls + calls * calls
-    room = squares (length b.ctx.now.variables) (length b.func.now.blocks) made calls (omega (arith, within.made)) more
+    room : 2 * (length b.ctx.now.variables * length b.func.now.blocks) ≤ calls * calls
+    room = squares (length b.ctx.now.variables) (length b.func.now.blocks) calls (omega (arith, within.made, more))
 
-    by : (2 ^ 32 - 1 + 2 * record_count b.ctx.now.ssa ≤ values_taken b.func.now + 1 + 2 * (length b.ctx.now.variables * length b.func.now.blocks))
-        ⊎ (2 ^ 32 - 1 + record_count b.ctx.now.ssa ≤ insts_taken b.func.now + 1 + length b.ctx.now.variables * length b.func.now.blocks)
-        ⊎ (2 ^ 32 - 1 ≤ length b.func.now.blocks) ⊎ (2 ^ 32 - 1 ≤ length b.ctx.now.variables) → 2 ^ 32 - 1 ≤ calls + calls * calls
-    by (inl values) = omega (arith, room, within.values, values)
-    by (inr (inl insts)) = omega (arith, room, within.insts, insts)
-    by (inr (inr (inl blocks))) = omega (arith, more, within.made, blocks)
-    by (inr (inr (inr variables))) = omega (arith, more, within.made, variables)
+    by : (2 ^ 32 - 1 + 2 * record_count b.ctx.now.ssa ≤ values_taken b.func.now + price + 2 * (length b.ctx.now.variables * length b.func.now.blocks))
+        ⊎ (2 ^ 32 - 1 + record_count b.ctx.now.ssa ≤ insts_taken b.func.now + price + length b.ctx.now.variables * length b.func.now.blocks)
+        ⊎ (2 ^ 32 - 1 ≤ length b.func.now.blocks) ⊎ (2 ^ 32 - 1 ≤ length b.ctx.now.variables) → 2 ^ 32 - 1 ≤ whole + calls * calls
+    by (inl values) = omega (arith, room, fits, within.values, values)
+    by (inr (inl insts)) = omega (arith, room, fits, within.insts, insts)
+    by (inr (inr (inl blocks))) = omega (arith, fits, within.paid, within.made, blocks)
+    by (inr (inr (inr variables))) = omega (arith, fits, within.paid, within.made, variables)
 
 -- and where no branch leads anywhere, where more were made
-pub full-late-straight : (made calls : ℕ) (b : FunctionBuilder) → made < calls → IsWithin made b → NothingLeads b.ctx.now.ssa → IsNearlyFull b → 2 ^ 32 - 1 ≤ 2 * calls
-full-late-straight made calls b more within none nearly = by ((nearly within.records).straight none)
+pub full-late-straight : (made spent price whole : ℕ) (b : FunctionBuilder) → spent + price ≤ whole → IsWithin made spent b → NothingLeads b.ctx.now.ssa → IsNearlyFull price b → 2 ^ 32 - 1 ≤ 2 * whole
+full-late-straight made spent price whole b fits within none nearly = by ((nearly within.records).straight none)
   where
-    little : (values_taken b.func.now ≤ 2 * made) × (insts_taken b.func.now ≤ made)
+    little : (values_taken b.func.now ≤ 2 * spent) × (insts_taken b.func.now ≤ spent)
     little = within.straight none
 
-    by : (2 ^ 32 - 1 ≤ values_taken b.func.now + 2) ⊎ (2 ^ 32 - 1 ≤ insts_taken b.func.now + 1) ⊎ (2 ^ 32 - 1 ≤ length b.func.now.blocks) ⊎ (2 ^ 32 - 1 ≤ length b.ctx.now.variables) → 2 ^ 32 - 1 ≤ 2 * calls
-    by (inl values) = omega (arith, more, little.0, values)
-    by (inr (inl insts)) = omega (arith, more, little.1, insts)
-    by (inr (inr (inl blocks))) = omega (arith, more, within.made, blocks)
-    by (inr (inr (inr variables))) = omega (arith, more, within.made, variables)
+    by : (2 ^ 32 - 1 ≤ values_taken b.func.now + 2 * price) ⊎ (2 ^ 32 - 1 ≤ insts_taken b.func.now + price) ⊎ (2 ^ 32 - 1 ≤ length b.func.now.blocks) ⊎ (2 ^ 32 - 1 ≤ length b.ctx.now.variables) → 2 ^ 32 - 1 ≤ 2 * whole
+    by (inl values) = omega (arith, fits, little.0, values)
+    by (inr (inl insts)) = omega (arith, fits, little.1, insts)
+    by (inr (inr (inl blocks))) = omega (arith, fits, within.paid, within.made, blocks)
+    by (inr (inr (inr variables))) = omega (arith, fits, within.paid, within.made, variables)

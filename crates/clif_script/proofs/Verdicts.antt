@@ -27,115 +27,116 @@ use Rattle.clif_script.specs.Ready.{IsJudged}
 use Rattle.clif_script.specs.Requests.{IsReplayed, request_of, requests_from, requests_of}
 
 -- no call of a list is `finalize`
-no-refusal : (ledger : Ledger) (c : Call) → refusal_of ledger (request_of ledger c) ≡ None
-no-refusal ledger call.CreateBlock = refl
-no-refusal ledger (call.SwitchToBlock block) = refl
-no-refusal ledger (call.SealBlock block) = refl
-no-refusal ledger call.SealAllBlocks = refl
-no-refusal ledger (call.InsertBlockAfter block after) = refl
-no-refusal ledger (call.SetColdBlock block) = refl
-no-refusal ledger call.EnsureInsertedBlock = refl
-no-refusal ledger (call.DeclareVar ty) = refl
-no-refusal ledger (call.DefVar variable value) = refl
-no-refusal ledger (call.UseVar variable) = refl
-no-refusal ledger (call.Iconst ty imm) = refl
-no-refusal ledger (call.Iadd x y) = refl
-no-refusal ledger (call.Isub x y) = refl
-no-refusal ledger (call.Jump destination) = refl
-no-refusal ledger (call.Brif condition block_then block_else) = refl
-no-refusal ledger (call.Return values) = refl
+no-refusal : (declared : SignatureShape) (ledger : Ledger) (c : Call) → refusal_of ledger (request_of declared ledger c) ≡ None
+no-refusal declared ledger call.CreateBlock = refl
+no-refusal declared ledger (call.SwitchToBlock block) = refl
+no-refusal declared ledger (call.SealBlock block) = refl
+no-refusal declared ledger call.SealAllBlocks = refl
+no-refusal declared ledger (call.InsertBlockAfter block after) = refl
+no-refusal declared ledger (call.SetColdBlock block) = refl
+no-refusal declared ledger call.EnsureInsertedBlock = refl
+no-refusal declared ledger (call.AppendBlockParam block ty) = refl
+no-refusal declared ledger (call.DeclareVar ty) = refl
+no-refusal declared ledger (call.DefVar variable value) = refl
+no-refusal declared ledger (call.UseVar variable) = refl
+no-refusal declared ledger (call.Iconst ty imm) = refl
+no-refusal declared ledger (call.Iadd x y) = refl
+no-refusal declared ledger (call.Isub x y) = refl
+no-refusal declared ledger (call.Jump destination) = refl
+no-refusal declared ledger (call.Brif condition block_then block_else) = refl
+no-refusal declared ledger (call.Return values) = refl
 
 -- the requests of a list with one more call
-requests-push : (ledger : Ledger) (calls : List Call) (c : Call)
-    → requests_from ledger (calls ++ c ∷ []) ≡ requests_from ledger calls ++ request_of (fold ledger_with ledger (requests_from ledger calls)) c ∷ []
-requests-push ledger [] c = refl
-requests-push ledger (x ∷ calls) c = ap (λ (script : List Request). request_of ledger x ∷ script) (requests-push (ledger_with ledger (request_of ledger x)) calls c)
+requests-push : (declared : SignatureShape) (ledger : Ledger) (calls : List Call) (c : Call)
+    → requests_from declared ledger (calls ++ c ∷ []) ≡ requests_from declared ledger calls ++ request_of declared (fold ledger_with ledger (requests_from declared ledger calls)) c ∷ []
+requests-push declared ledger [] c = refl
+requests-push declared ledger (x ∷ calls) c = ap (λ (script : List Request). request_of declared ledger x ∷ script) (requests-push declared (ledger_with ledger (request_of declared ledger x)) calls c)
 
 -- the rest begins with this call
-rest-begins : (calls : List Call) (place : ℕ) (c : Call) (made : List AnsweredCall) → place < length calls → c ≡ get_or calls place c → IsReplayed calls place made
-    → verdict_on (requests_of calls) ≡ verdict_from place (ledger_of made) (request_of (ledger_of made) c ∷ (requests_from (ledger_with (ledger_of made) (request_of (ledger_of made) c)) (drop (place + 1) calls) ++ Finalize ∷ []))
-rest-begins calls place c made inside is replayed =
+rest-begins : (declared : SignatureShape) (calls : List Call) (place : ℕ) (c : Call) (made : List AnsweredCall) → place < length calls → c ≡ get_or calls place c → IsReplayed declared calls place made
+    → verdict_on (requests_of declared calls) ≡ verdict_from place (ledger_of made) (request_of declared (ledger_of made) c ∷ (requests_from declared (ledger_with (ledger_of made) (request_of declared (ledger_of made) c)) (drop (place + 1) calls) ++ Finalize ∷ []))
+rest-begins declared calls place c made inside is replayed =
     replayed.rest
-    ∙ ap (λ (rest : List Call). verdict_from place (ledger_of made) (requests_from (ledger_of made) rest ++ Finalize ∷ []))
+    ∙ ap (λ (rest : List Call). verdict_from place (ledger_of made) (requests_from declared (ledger_of made) rest ++ Finalize ∷ []))
     (drop_more calls place c inside ∙ ap (λ (x : Call). x ∷ drop (place + 1) calls) (sym is))
 
 -- one that is allowed leaves the verdict to the calls behind it
-pub replayed-more : (calls : List Call) (place : ℕ) (c : Call) (made : List AnsweredCall) (numbers : List ℕ) → place < length calls → c ≡ get_or calls place c → IsReplayed calls place made
-    → allows (ledger_of made) (request_of (ledger_of made) c) ≡ true
-    → IsReplayed calls (place + 1) (made ++ record { request = request_of (ledger_of made) c; numbers = numbers } ∷ [])
-replayed-more calls place c made numbers inside is replayed allowed =
-    let request : Request = request_of (ledger_of made) c in
+pub replayed-more : (declared : SignatureShape) (calls : List Call) (place : ℕ) (c : Call) (made : List AnsweredCall) (numbers : List ℕ) → place < length calls → c ≡ get_or calls place c → IsReplayed declared calls place made
+    → allows (ledger_of made) (request_of declared (ledger_of made) c) ≡ true
+    → IsReplayed declared calls (place + 1) (made ++ record { request = request_of declared (ledger_of made) c; numbers = numbers } ∷ [])
+replayed-more declared calls place c made numbers inside is replayed allowed =
+    let request : Request = request_of declared (ledger_of made) c in
     let call : AnsweredCall = record { request = request; numbers = numbers } in
-    let next : List Request = requests_from (ledger_with (ledger_of made) request) (drop (place + 1) calls) ++ Finalize ∷ [] in
-    let first = rest-begins calls place c made inside is replayed in
+    let next : List Request = requests_from declared (ledger_with (ledger_of made) request) (drop (place + 1) calls) ++ Finalize ∷ [] in
+    let first = rest-begins declared calls place c made inside is replayed in
     let goes_on = if-no (not (allows (ledger_of made) request)) (Misuse place) (if is_some (refusal_of (ledger_of made) request) then Refused place else verdict_from (suc place) (ledger_with (ledger_of made) request) next) (ap not allowed) in
-    let fine = if-no (is_some (refusal_of (ledger_of made) request)) (Refused place) (verdict_from (suc place) (ledger_with (ledger_of made) request) next) (ap is_some (no-refusal (ledger_of made) c)) in
+    let fine = if-no (is_some (refusal_of (ledger_of made) request)) (Refused place) (verdict_from (suc place) (ledger_with (ledger_of made) request) next) (ap is_some (no-refusal declared (ledger_of made) c)) in
     let one_on : suc place ≡ place + 1 = omega arith in
     record {
       script = map_push (λ (a : AnsweredCall). a.request) made call
           ∙ ap (λ (script : List Request). script ++ request ∷ []) replayed.script
-          ∙ ap (λ (script : List Request). requests_of (take place calls) ++ request_of (ledger_after script) c ∷ []) replayed.script
-          ∙ sym (requests-push empty_ledger (take place calls) c)
-          ∙ ap (λ (x : Call). requests_of (take place calls ++ x ∷ [])) is
-          ∙ ap requests_of (sym (take_more calls place c inside));
+          ∙ ap (λ (script : List Request). requests_of declared (take place calls) ++ request_of declared (ledger_after script) c ∷ []) replayed.script
+          ∙ sym (requests-push declared empty_ledger (take place calls) c)
+          ∙ ap (λ (x : Call). requests_of declared (take place calls ++ x ∷ [])) is
+          ∙ ap (requests_of declared) (sym (take_more calls place c inside));
       rest = first ∙ goes_on ∙ fine
           ∙ ap (λ (n : ℕ). verdict_from n (ledger_with (ledger_of made) request) next) one_on
-          ∙ ap (λ (l : Ledger). verdict_from (place + 1) l (requests_from l (drop (place + 1) calls) ++ Finalize ∷ [])) (sym (ledger-more made call));
+          ∙ ap (λ (l : Ledger). verdict_from (place + 1) l (requests_from declared l (drop (place + 1) calls) ++ Finalize ∷ [])) (sym (ledger-more made call));
     }
 
 -- one that isn't allowed decides
-pub misuse-here : (calls : List Call) (place : ℕ) (c : Call) (made : List AnsweredCall) → place < length calls → c ≡ get_or calls place c → IsReplayed calls place made
-    → allows (ledger_of made) (request_of (ledger_of made) c) ≡ false → verdict_on (requests_of calls) ≡ Misuse place
-misuse-here calls place c made inside is replayed denied =
-    rest-begins calls place c made inside is replayed
+pub misuse-here : (declared : SignatureShape) (calls : List Call) (place : ℕ) (c : Call) (made : List AnsweredCall) → place < length calls → c ≡ get_or calls place c → IsReplayed declared calls place made
+    → allows (ledger_of made) (request_of declared (ledger_of made) c) ≡ false → verdict_on (requests_of declared calls) ≡ Misuse place
+misuse-here declared calls place c made inside is replayed denied =
+    rest-begins declared calls place c made inside is replayed
     ∙ ap (λ (allowed : Bool). if not allowed then Misuse place
-    else (if is_some (refusal_of (ledger_of made) (request_of (ledger_of made) c)) then Refused place
-    else verdict_from (suc place) (ledger_with (ledger_of made) (request_of (ledger_of made) c)) (requests_from (ledger_with (ledger_of made) (request_of (ledger_of made) c)) (drop (place + 1) calls) ++ Finalize ∷ []))) denied
+    else (if is_some (refusal_of (ledger_of made) (request_of declared (ledger_of made) c)) then Refused place
+    else verdict_from (suc place) (ledger_with (ledger_of made) (request_of declared (ledger_of made) c)) (requests_from declared (ledger_with (ledger_of made) (request_of declared (ledger_of made) c)) (drop (place + 1) calls) ++ Finalize ∷ []))) denied
 
 -- the error of a call that isn't allowed, and of no other, tells a misuse at its place
-pub misuse-told : (calls : List Call) (place i : ℕ) (c : Call) (made : List AnsweredCall) (refusal : CallError) (told : ReplayError) → place < length calls → c ≡ get_or calls place c → IsReplayed calls place made
-    → IsJudged (allows (ledger_of made) (request_of (ledger_of made) c)) (Err refusal) → told ≡ replay_error_at refusal place → told ≡ replay.Misuse i
-    → verdict_on (requests_of calls) ≡ Misuse i
-misuse-told calls place i c made error.Misuse told inside is replayed denied at misuse =
-    misuse-here calls place c made inside is replayed denied ∙ ap Misuse (same place i (sym at ∙ misuse))
+pub misuse-told : (declared : SignatureShape) (calls : List Call) (place i : ℕ) (c : Call) (made : List AnsweredCall) (refusal : CallError) (told : ReplayError) → place < length calls → c ≡ get_or calls place c → IsReplayed declared calls place made
+    → IsJudged (allows (ledger_of made) (request_of declared (ledger_of made) c)) (Err refusal) → told ≡ replay_error_at refusal place → told ≡ replay.Misuse i
+    → verdict_on (requests_of declared calls) ≡ Misuse i
+misuse-told declared calls place i c made error.Misuse told inside is replayed denied at misuse =
+    misuse-here declared calls place c made inside is replayed denied ∙ ap Misuse (same place i (sym at ∙ misuse))
   where
     same : (j k : ℕ) → replay.Misuse j ≡ replay.Misuse k → j ≡ k
     same j k h = cc
-misuse-told calls place i c made error.Refused told inside is replayed judged at misuse = absurd (other place i (sym at ∙ misuse))
+misuse-told declared calls place i c made error.Refused told inside is replayed judged at misuse = absurd (other place i (sym at ∙ misuse))
   where
     other : (j k : ℕ) → replay.Refused j ≡ replay.Misuse k → ⊥
     other j k h = cc
-misuse-told calls place i c made error.Memory told inside is replayed judged at misuse = absurd (other i (sym at ∙ misuse))
+misuse-told declared calls place i c made error.Memory told inside is replayed judged at misuse = absurd (other i (sym at ∙ misuse))
   where
     other : (k : ℕ) → replay.Memory ≡ replay.Misuse k → ⊥
     other k h = cc
-misuse-told calls place i c made error.Full told inside is replayed judged at misuse = absurd (other i (sym at ∙ misuse))
+misuse-told declared calls place i c made error.Full told inside is replayed judged at misuse = absurd (other i (sym at ∙ misuse))
   where
     other : (k : ℕ) → replay.Full ≡ replay.Misuse k → ⊥
     other k h = cc
 
 -- all calls were made: their script is that of the list
-pub all-replayed : (calls : List Call) (made : List AnsweredCall) → IsReplayed calls (length calls) made → script_of made ≡ requests_of calls
-all-replayed calls made replayed = replayed.script ∙ ap requests_of (take_all (length calls) calls (omega arith))
+pub all-replayed : (declared : SignatureShape) (calls : List Call) (made : List AnsweredCall) → IsReplayed declared calls (length calls) made → script_of made ≡ requests_of declared calls
+all-replayed declared calls made replayed = replayed.script ∙ ap (requests_of declared) (take_all (length calls) calls (omega arith))
 
 -- and so is what it means
-pub means-replayed : (calls : List Call) (made : List AnsweredCall) (declared : SignatureShape) (width : PointerWidth) (f : Body) → IsReplayed calls (length calls) made
-    → MeansTheSame (script_of made) declared width (view_of f) → MeansTheSame (requests_of calls) declared width (view_of f)
-means-replayed calls made declared width f replayed =
-    subst (λ (script : Script). MeansTheSame script declared width (view_of f)) (all-replayed calls made replayed)
+pub means-replayed : (declared : SignatureShape) (calls : List Call) (made : List AnsweredCall) (width : PointerWidth) (f : Body) → IsReplayed declared calls (length calls) made
+    → MeansTheSame (script_of made) declared width (view_of f) → MeansTheSame (requests_of declared calls) declared width (view_of f)
+means-replayed declared calls made width f replayed =
+    subst (λ (script : Script). MeansTheSame script declared width (view_of f)) (all-replayed declared calls made replayed)
 
 -- behind the last call `finalize` decides
-verdict-end : (calls : List Call) (made : List AnsweredCall) → IsReplayed calls (length calls) made
-    → verdict_on (requests_of calls) ≡ (if is_some (refusal_of (ledger_of made) Finalize) then Refused (length calls) else Accepted)
-verdict-end calls made replayed =
+verdict-end : (declared : SignatureShape) (calls : List Call) (made : List AnsweredCall) → IsReplayed declared calls (length calls) made
+    → verdict_on (requests_of declared calls) ≡ (if is_some (refusal_of (ledger_of made) Finalize) then Refused (length calls) else Accepted)
+verdict-end declared calls made replayed =
     replayed.rest
-    ∙ ap (λ (rest : List Call). verdict_from (length calls) (ledger_of made) (requests_from (ledger_of made) rest ++ Finalize ∷ [])) (drop_all (length calls) calls (omega arith))
+    ∙ ap (λ (rest : List Call). verdict_from (length calls) (ledger_of made) (requests_from declared (ledger_of made) rest ++ Finalize ∷ [])) (drop_all (length calls) calls (omega arith))
 
 -- `finalize` is refused where the script is
-pub verdict-refused : (calls : List Call) (made : List AnsweredCall) (r : Result (Unit {0}) FinalizeError) (e : FinalizeError) → IsReplayed calls (length calls) made
-    → RefusalAgrees made (refusal_of (ledger_of made) Finalize) r → r ≡ Err e → verdict_on (requests_of calls) ≡ Refused (length calls)
-verdict-refused calls made r e replayed agrees is =
-    verdict-end calls made replayed ∙ by (refusal_of (ledger_of made) Finalize) agrees
+pub verdict-refused : (declared : SignatureShape) (calls : List Call) (made : List AnsweredCall) (r : Result (Unit {0}) FinalizeError) (e : FinalizeError) → IsReplayed declared calls (length calls) made
+    → RefusalAgrees made (refusal_of (ledger_of made) Finalize) r → r ≡ Err e → verdict_on (requests_of declared calls) ≡ Refused (length calls)
+verdict-refused declared calls made r e replayed agrees is =
+    verdict-end declared calls made replayed ∙ by (refusal_of (ledger_of made) Finalize) agrees
   where
     by : (o : Option Refusal) → RefusalAgrees made o r → (if is_some o then Refused (length calls) else Accepted) ≡ Refused (length calls)
     by None agrees = let no_way : ⊥ = cc in absurd no_way

@@ -18,7 +18,7 @@ use Rattle.clif_ssa.specs.Tables.{is_yes}
 use Rattle.clif_ssa.specs.Ssa.{sealed_of}
 use Rattle.cranelift_frontend.specs.declared.builder.FunctionBuilder.{FunctionBuilder}
 use Rattle.cranelift_frontend.specs.Context.{ContextState, status_of}
-use Rattle.cranelift_frontend.specs.Builder.{is_filled_status, is_free}
+use Rattle.cranelift_frontend.specs.Builder.{is_empty_status, is_filled_status, is_free}
 use Rattle.clif_types.specs.Signature.{SignatureShape}
 use Rattle.cranelift_frontend.specs.Ledger.{ledger_of}
 use Rattle.cranelift_frontend.specs.StandsFor.{StandsFor}
@@ -126,6 +126,10 @@ can_switch b block = not (is_filled_status (status_of b.ctx.now block)) && is_fr
 abbrev pub can_seal : FunctionBuilder → ℕ → Bool
 can_seal b block = not (is_yes (sealed_of b.ctx.now.ssa block))
 
+-- a block may get a parameter of the caller's: nothing was made in it
+abbrev pub can_append : FunctionBuilder → ℕ → Bool
+can_append b block = is_empty_status (status_of b.ctx.now block)
+
 -- a block may be put behind another one: it isn't in the layout, and the other one is
 abbrev pub can_insert : FunctionBuilder → ℕ → ℕ → Bool
 can_insert b block after = not (stands_in block b.func.now.layout) && stands_in after b.func.now.layout
@@ -173,6 +177,7 @@ types_after call.SealAllBlocks types = types
 types_after (call.InsertBlockAfter block after) types = types
 types_after (call.SetColdBlock block) types = types
 types_after call.EnsureInsertedBlock types = types
+types_after (call.AppendBlockParam block ty) types = types
 types_after (call.DefVar variable value) types = types
 types_after (call.UseVar variable) types = types
 types_after (call.Iconst ty imm) types = types

@@ -1,9 +1,9 @@
 -- What a list of calls is as a script, and what comes of it as a verdict on that script. Own.
-use Rattle.std.specs.Prelude.{◌≡◌, ◌<◌, ℕ, List, [], ◌∷◌, ◌++◌, length, map, take, drop, Option, Some, None, Result, Ok, Err}
+use Rattle.std.specs.Prelude.{◌≡◌, ℕ, List, [], ◌∷◌, ◌++◌, map, take, drop, slice_get, Option, Some, None, Result, Ok, Err}
 use Rattle.clif_ir.specs.Body.{Body}
 use Rattle.clif_meaning.specs.Name.{Name}
 use Rattle.clif_meaning.specs.Instruction.{Edge, Known}
-use Rattle.clif_meaning.specs.Request.{Request, CreateBlock, SwitchToBlock, SealBlock, SealAllBlocks, InsertBlockAfter, SetColdBlock, EnsureInsertedBlock, DeclareVar, DefVar, UseVar, Finalize, Script, AnsweredCall, script_of}
+use Rattle.clif_meaning.specs.Request.{Request, CreateBlock, SwitchToBlock, SealBlock, SealAllBlocks, InsertBlockAfter, SetColdBlock, EnsureInsertedBlock, AppendBlockParams, DeclareVar, DefVar, UseVar, Finalize, Script, AnsweredCall, script_of}
 use Rattle.clif_meaning.specs.Ledger.{Ledger, empty_ledger, ledger_after, ledger_with}
 use Rattle.clif_meaning.specs.Acceptance.{Verdict, Accepted, Misuse, Refused, iconst, iadd, isub, jump, brif, return_, verdict_from, verdict_on}
 use Rattle.clif_types.specs.Signature.{SignatureShape}
@@ -16,7 +16,7 @@ use Rattle.clif_script.specs.declared.call.Call.{Call}
 use Rattle.clif_script.specs.declared.call.Call.TheVariants as call
 use Rattle.clif_script.specs.declared.script.ReplayError.{ReplayError}
 use Rattle.clif_script.specs.declared.script.ReplayError.TheVariants as replay
-use Rattle.clif_script.specs.Limits.{IsNearlyFullIn}
+use Rattle.clif_script.specs.Limits.{IsNearlyFullIn, cost_of}
 
 -- an answer's name: the place of the call, and the number among its answers
 abbrev pub name_of : named.Name → Name
@@ -26,38 +26,41 @@ name_of name = record { place = name.place; index = name.answer }
 abbrev pub edge_of : script.Edge → Edge Name Name
 edge_of destination = record { target = name_of destination.block; arguments = map (λ name. Known (name_of name)) destination.args.items }
 
--- the request of a call. `iadd`, `isub` and `brif` are made at the type of their first operand, which the ledger tells.
-abbrev pub request_of : Ledger → Call → Request
-request_of ledger call.CreateBlock = CreateBlock
-request_of ledger (call.SwitchToBlock block) = SwitchToBlock (name_of block)
-request_of ledger (call.SealBlock block) = SealBlock (name_of block)
-request_of ledger call.SealAllBlocks = SealAllBlocks
-request_of ledger (call.InsertBlockAfter block after) = InsertBlockAfter (name_of block) (name_of after)
-request_of ledger (call.SetColdBlock block) = SetColdBlock (name_of block)
-request_of ledger call.EnsureInsertedBlock = EnsureInsertedBlock
-request_of ledger (call.DeclareVar ty) = DeclareVar ty
-request_of ledger (call.DefVar variable value) = DefVar variable (name_of value)
-request_of ledger (call.UseVar variable) = UseVar variable
-request_of ledger (call.Iconst ty imm) = iconst ty imm
-request_of ledger (call.Iadd x y) = iadd ledger (name_of x) (name_of y)
-request_of ledger (call.Isub x y) = isub ledger (name_of x) (name_of y)
-request_of ledger (call.Jump destination) = jump (edge_of destination)
-request_of ledger (call.Brif condition block_then block_else) = brif ledger (name_of condition) (edge_of block_then) (edge_of block_else)
-request_of ledger (call.Return values) = return_ (map name_of values.items)
+-- the request of a call, on a function of this signature. `iadd`, `isub` and `brif` are made at the type of their first
+-- operand, which the ledger tells.
+abbrev pub request_of : SignatureShape → Ledger → Call → Request
+request_of signature ledger call.CreateBlock = CreateBlock
+request_of signature ledger (call.SwitchToBlock block) = SwitchToBlock (name_of block)
+request_of signature ledger (call.SealBlock block) = SealBlock (name_of block)
+request_of signature ledger call.SealAllBlocks = SealAllBlocks
+request_of signature ledger (call.InsertBlockAfter block after) = InsertBlockAfter (name_of block) (name_of after)
+request_of signature ledger (call.SetColdBlock block) = SetColdBlock (name_of block)
+request_of signature ledger call.EnsureInsertedBlock = EnsureInsertedBlock
+request_of signature ledger (call.AppendBlockParam block ty) = AppendBlockParams (name_of block) (ty ∷ [])
+request_of signature ledger (call.DeclareVar ty) = DeclareVar ty
+request_of signature ledger (call.DefVar variable value) = DefVar variable (name_of value)
+request_of signature ledger (call.UseVar variable) = UseVar variable
+request_of signature ledger (call.Iconst ty imm) = iconst ty imm
+request_of signature ledger (call.Iadd x y) = iadd ledger (name_of x) (name_of y)
+request_of signature ledger (call.Isub x y) = isub ledger (name_of x) (name_of y)
+request_of signature ledger (call.Jump destination) = jump (edge_of destination)
+request_of signature ledger (call.Brif condition block_then block_else) = brif ledger (name_of condition) (edge_of block_then) (edge_of block_else)
+request_of signature ledger (call.Return values) = return_ (map name_of values.items)
 
 -- the requests of calls, each at the ledger of the ones before it
-abbrev pub requests_from : Ledger → List Call → Script
-requests_from ledger [] = []
-requests_from ledger (call ∷ calls) = request_of ledger call ∷ requests_from (ledger_with ledger (request_of ledger call)) calls
+abbrev pub requests_from : SignatureShape → Ledger → List Call → Script
+requests_from signature ledger [] = []
+requests_from signature ledger (call ∷ calls) =
+    request_of signature ledger call ∷ requests_from signature (ledger_with ledger (request_of signature ledger call)) calls
 
-abbrev pub requests_of : List Call → Script
-requests_of calls = requests_from empty_ledger calls
+abbrev pub requests_of : SignatureShape → List Call → Script
+requests_of signature calls = requests_from signature empty_ledger calls
 
 -- the first calls of a list were made, as many as `place` says, and the verdict on the list is that on the rest
-pub record IsReplayed (calls : List Call) (place : ℕ) (made : List AnsweredCall) : Type 0 where
-  pub script : script_of made ≡ requests_of (take place calls)
-  pub rest : verdict_on (requests_of calls)
-      ≡ verdict_from place (ledger_after (script_of made)) (requests_from (ledger_after (script_of made)) (drop place calls) ++ Finalize ∷ [])
+pub record IsReplayed (signature : SignatureShape) (calls : List Call) (place : ℕ) (made : List AnsweredCall) : Type 0 where
+  pub script : script_of made ≡ requests_of signature (take place calls)
+  pub rest : verdict_on (requests_of signature calls)
+      ≡ verdict_from place (ledger_after (script_of made)) (requests_from signature (ledger_after (script_of made)) (drop place calls) ++ Finalize ∷ [])
 
 -- the verdict that a replay's answer tells; refused memory and a full table tell none
 abbrev pub verdict_of : Result Body ReplayError → Option Verdict
@@ -72,7 +75,7 @@ verdict_of (Err replay.Full) = None
 -- branch leads.
 pub record IsBuiltBy (calls : List Call) (declared : SignatureShape) (f : Body) : Type 0 where
   pub made : List AnsweredCall
-  pub script : script_of made ≡ requests_of calls
+  pub script : script_of made ≡ requests_of declared calls
   pub context : ContextState
   pub position : Option ℕ
   pub stands : StandsIn declared made f context position
@@ -82,12 +85,13 @@ pub record IsBuiltBy (calls : List Call) (declared : SignatureShape) (f : Body) 
 -- signature, with this context and current block, stands for them; and the call at that place may find a table of it full.
 pub record IsStoppedByTable (calls : List Call) (name : UserFuncName) (declared : SignatureShape) : Type 0 where
   pub place : ℕ
-  pub inside : place < length calls
+  pub call : Call
+  pub here : slice_get calls place ≡ Some call
   pub made : List AnsweredCall
-  pub replayed : IsReplayed calls place made
+  pub replayed : IsReplayed declared calls place made
   pub function : Body
   pub context : ContextState
   pub position : Option ℕ
   pub stands : StandsIn declared made function context position
   pub named : function.name ≡ name
-  pub table : IsNearlyFullIn function context
+  pub table : IsNearlyFullIn (cost_of declared call) function context

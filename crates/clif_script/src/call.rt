@@ -55,6 +55,11 @@ pub enum Call {
     },
     /// `ensure_inserted_block()`: answers nothing. There is a current block that isn't filled.
     EnsureInsertedBlock,
+    /// `append_block_param(block, ty)`: answers the value. Nothing was made in the block.
+    AppendBlockParam {
+        block: Name,
+        ty: Type,
+    },
     /// `declare_var(ty)`: answers the variable, which is numbered from 0 on. So far the type is one of I8
     /// to I64.
     DeclareVar {

@@ -4,6 +4,7 @@
 mod call;
 mod make;
 mod make_blocks;
+mod make_parameters;
 mod rows;
 mod script;
 #[cfg(test)]

@@ -10,7 +10,7 @@ ghost use Rattle.clif_meaning.specs.Name as meaning;
 ghost use Rattle.clif_meaning.specs.Instruction as instruction;
 ghost use Rattle.clif_meaning.specs.Request.{AnsweredCall, number_of, DeclareVar, DefVar, UseVar};
 ghost use Rattle.clif_meaning.specs.Acceptance.{allows, iconst, iadd, isub, jump, brif, return_};
-ghost use Rattle.clif_script.specs.Limits.{IsOneCall, IsNearlyFull};
+ghost use Rattle.clif_script.specs.Limits.{IsOneCall, IsNearlyFull, cost_of};
 ghost use Rattle.clif_script.specs.Requests.{edge_of, name_of, request_of};
 ghost use Rattle.clif_script.specs.Ready.{IsReady, IsReadyNow, IsReadyWith, IsReadyAfter, IsFound, IsJudged, AnswerExists, may_lead, block_of, value_in, value_of, all_values, instruction_answer, is_open, can_define, can_use, can_make_constant, types_after};
 
@@ -19,6 +19,7 @@ use crate::make_blocks::{
     create_block, ensure_inserted_block, insert_block_after, may_seal, seal_all_blocks, seal_block,
     set_cold_block, switch_to_block,
 };
+use crate::make_parameters::append_block_param;
 use crate::script::{Answer, CallError};
 use clif_ir::{BinaryOpcode, BlockArg, Function, InstructionData, ValueDef};
 use clif_ssa::Variable;
@@ -37,12 +38,12 @@ pub(crate) fn make_call(
     requires types { types.now ≡ builder.old.ctx.now.variables }
     requires sound { builder.old.failed ≡ false }
     ensures loans { SameLoans builder.old builder.new }
-    ensures ready { (declared : SignatureShape) (calls : List AnsweredCall) → IsReady declared calls builder.old answers.now → IfOk result (IsReadyAfter declared calls (request_of (ledger_of calls) call.now) builder.new answers.now) }
-    ensures judged { (calls : List AnsweredCall) → IsReadyWith calls builder.old answers.now → IsJudged (allows (ledger_of calls) (request_of (ledger_of calls) call.now)) result }
+    ensures ready { (declared : SignatureShape) (calls : List AnsweredCall) → IsReady declared calls builder.old answers.now → IfOk result (IsReadyAfter declared calls (request_of declared (ledger_of calls) call.now) builder.new answers.now) }
+    ensures judged { (declared : SignatureShape) (calls : List AnsweredCall) → IsReady declared calls builder.old answers.now → IsJudged (allows (ledger_of calls) (request_of declared (ledger_of calls) call.now)) result }
     ensures sound { OnOk result (builder.new.failed ≡ false) }
     ensures never_refused { result ≢ Err CallError.Refused }
-    ensures one_call { OnOk result (IsOneCall builder.old builder.new) }
-    ensures full { result ≡ Err CallError.Full → IsNearlyFull builder.old }
+    ensures one_call { OnOk result (IsOneCall (cost_of builder.old.func.now.signature call.now) builder.old builder.new) }
+    ensures full { result ≡ Err CallError.Full → IsNearlyFull (cost_of builder.old.func.now.signature call.now) builder.old }
     ensures variables { OnOk result (builder.new.ctx.now.variables ≡ types_after call.now builder.old.ctx.now.variables) }
 {
     match call {
@@ -55,6 +56,7 @@ pub(crate) fn make_call(
         }
         Call::SetColdBlock { block } => set_cold_block(builder, answers, *block),
         Call::EnsureInsertedBlock => ensure_inserted_block(builder, answers),
+        Call::AppendBlockParam { block, ty } => append_block_param(builder, answers, *block, *ty),
         Call::DeclareVar { ty } => declare_var(builder, answers, *ty),
         Call::DefVar { variable, value } => def_var(builder, answers, types, *variable, *value),
         Call::UseVar { variable } => use_var(builder, answers, types, *variable),
@@ -129,8 +131,8 @@ fn declare_var(
     ensures judged { (calls : List AnsweredCall) → IsReadyWith calls builder.old answers.now → IsJudged (allows (ledger_of calls) (DeclareVar ty)) result }
     ensures sound { OnOk result (builder.new.failed ≡ false) }
     ensures never_refused { result ≢ Err CallError.Refused }
-    ensures one_call { OnOk result (IsOneCall builder.old builder.new) }
-    ensures full { result ≡ Err CallError.Full → IsNearlyFull builder.old }
+    ensures one_call { OnOk result (IsOneCall 1 builder.old builder.new) }
+    ensures full { result ≡ Err CallError.Full → IsNearlyFull 1 builder.old }
     ensures variables { OnOk result (builder.new.ctx.now.variables ≡ builder.old.ctx.now.variables ++ ty ∷ []) }
 {
     if !is_declarable(ty) {
@@ -206,8 +208,8 @@ fn def_var(
     ensures judged { (calls : List AnsweredCall) → IsReadyWith calls builder.old answers.now → IsJudged (allows (ledger_of calls) (DefVar variable (name_of name))) result }
     ensures sound { OnOk result (builder.new.failed ≡ false) }
     ensures never_refused { result ≢ Err CallError.Refused }
-    ensures one_call { OnOk result (IsOneCall builder.old builder.new) }
-    ensures full { result ≡ Err CallError.Full → IsNearlyFull builder.old }
+    ensures one_call { OnOk result (IsOneCall 1 builder.old builder.new) }
+    ensures full { result ≡ Err CallError.Full → IsNearlyFull 1 builder.old }
     ensures variables { builder.new.ctx.now.variables ≡ builder.old.ctx.now.variables }
 {
     let Some(value) = value_named(builder.func(), answers, name) else {
@@ -238,8 +240,8 @@ fn use_var(
     ensures judged { (calls : List AnsweredCall) → IsReadyWith calls builder.old answers.now → IsJudged (allows (ledger_of calls) (UseVar variable)) result }
     ensures sound { OnOk result (builder.new.failed ≡ false) }
     ensures never_refused { result ≢ Err CallError.Refused }
-    ensures one_call { OnOk result (IsOneCall builder.old builder.new) }
-    ensures full { result ≡ Err CallError.Full → IsNearlyFull builder.old }
+    ensures one_call { OnOk result (IsOneCall 1 builder.old builder.new) }
+    ensures full { result ≡ Err CallError.Full → IsNearlyFull 1 builder.old }
     ensures variables { builder.new.ctx.now.variables ≡ builder.old.ctx.now.variables }
 {
     if !may_use(builder, types, variable) {
@@ -257,8 +259,8 @@ fn append_iconst(builder: &mut FunctionBuilder<'_>, ty: Type, imm: i64) -> Resul
     ensures appends { IfSome builder.old.position (λ block. IfOk result (AppendsValue builder.old builder.new block (InstructionData.UnaryImm imm) ty)) }
     ensures stands { (declared : SignatureShape) (calls : List AnsweredCall) → StandsFor declared calls builder.old → IfOk result (λ value. StandsFor declared (calls ++ record { request = iconst ty imm; numbers = length builder.old.func.now.insts ∷ value ∷ [] } ∷ []) builder.new) }
     ensures ssa { builder.new.ctx.now.ssa ≡ builder.old.ctx.now.ssa }
-    ensures one_call { OnOk result (IsOneCall builder.old builder.new) }
-    ensures full { result ≡ Err BuildError.Full → IsNearlyFull builder.old }
+    ensures one_call { OnOk result (IsOneCall 1 builder.old builder.new) }
+    ensures full { result ≡ Err BuildError.Full → IsNearlyFull 1 builder.old }
     ensures variables { builder.new.ctx.now.variables ≡ builder.old.ctx.now.variables }
     ensures position { builder.new.position ≡ builder.old.position }
     ensures failed { (result ≡ Err BuildError.Failed) ↔ IsTrue builder.old.failed }
@@ -276,8 +278,8 @@ fn append_iadd(builder: &mut FunctionBuilder<'_>, x: Value, y: Value) -> Result<
     ensures appends { IfSome builder.old.position (λ block. IfOk result (AppendsValue builder.old builder.new block (InstructionData.Binary BinaryOpcode.Iadd (x ∷ y ∷ [])) (value_at builder.old.func.now x).ty)) }
     ensures stands { (declared : SignatureShape) (calls : List AnsweredCall) (a b : meaning.Name) → StandsFor declared calls builder.old → NamesValue calls a x → NamesValue calls b y → IfOk result (λ value. StandsFor declared (calls ++ record { request = iadd (ledger_of calls) a b; numbers = length builder.old.func.now.insts ∷ value ∷ [] } ∷ []) builder.new) }
     ensures ssa { builder.new.ctx.now.ssa ≡ builder.old.ctx.now.ssa }
-    ensures one_call { OnOk result (IsOneCall builder.old builder.new) }
-    ensures full { result ≡ Err BuildError.Full → IsNearlyFull builder.old }
+    ensures one_call { OnOk result (IsOneCall 1 builder.old builder.new) }
+    ensures full { result ≡ Err BuildError.Full → IsNearlyFull 1 builder.old }
     ensures variables { builder.new.ctx.now.variables ≡ builder.old.ctx.now.variables }
     ensures position { builder.new.position ≡ builder.old.position }
     ensures failed { (result ≡ Err BuildError.Failed) ↔ IsTrue builder.old.failed }
@@ -295,8 +297,8 @@ fn append_isub(builder: &mut FunctionBuilder<'_>, x: Value, y: Value) -> Result<
     ensures appends { IfSome builder.old.position (λ block. IfOk result (AppendsValue builder.old builder.new block (InstructionData.Binary BinaryOpcode.Isub (x ∷ y ∷ [])) (value_at builder.old.func.now x).ty)) }
     ensures stands { (declared : SignatureShape) (calls : List AnsweredCall) (a b : meaning.Name) → StandsFor declared calls builder.old → NamesValue calls a x → NamesValue calls b y → IfOk result (λ value. StandsFor declared (calls ++ record { request = isub (ledger_of calls) a b; numbers = length builder.old.func.now.insts ∷ value ∷ [] } ∷ []) builder.new) }
     ensures ssa { builder.new.ctx.now.ssa ≡ builder.old.ctx.now.ssa }
-    ensures one_call { OnOk result (IsOneCall builder.old builder.new) }
-    ensures full { result ≡ Err BuildError.Full → IsNearlyFull builder.old }
+    ensures one_call { OnOk result (IsOneCall 1 builder.old builder.new) }
+    ensures full { result ≡ Err BuildError.Full → IsNearlyFull 1 builder.old }
     ensures variables { builder.new.ctx.now.variables ≡ builder.old.ctx.now.variables }
     ensures position { builder.new.position ≡ builder.old.position }
     ensures failed { (result ≡ Err BuildError.Failed) ↔ IsTrue builder.old.failed }
@@ -311,8 +313,8 @@ fn append_jump(builder: &mut FunctionBuilder<'_>, edge: &FoundEdge) -> Result<In
     requires leads { CanLead builder.old (record { block = edge.now.block; args = edge.now.args.items }) }
     ensures loans { SameLoans builder.old builder.new }
     ensures stands { (declared : SignatureShape) (calls : List AnsweredCall) (destination : instruction.Edge meaning.Name meaning.Name) → StandsFor declared calls builder.old → NamesEdge calls destination (record { block = edge.now.block; args = edge.now.args.items }) → IfOk result (λ inst. StandsFor declared (calls ++ record { request = jump destination; numbers = inst ∷ [] } ∷ []) builder.new) }
-    ensures one_call { OnOk result (IsOneCall builder.old builder.new) }
-    ensures full { result ≡ Err BuildError.Full → IsNearlyFull builder.old }
+    ensures one_call { OnOk result (IsOneCall 1 builder.old builder.new) }
+    ensures full { result ≡ Err BuildError.Full → IsNearlyFull 1 builder.old }
     ensures variables { builder.new.ctx.now.variables ≡ builder.old.ctx.now.variables }
     ensures failed { (result ≡ Err BuildError.Failed) ↔ IsTrue builder.old.failed }
     ensures fails { builder.new.failed ≡ is_err result }
@@ -333,8 +335,8 @@ fn append_brif(
     requires leads_else { CanLead builder.old (record { block = other.now.block; args = other.now.args.items }) }
     ensures loans { SameLoans builder.old builder.new }
     ensures stands { (declared : SignatureShape) (calls : List AnsweredCall) (c : meaning.Name) (first second : instruction.Edge meaning.Name meaning.Name) → StandsFor declared calls builder.old → NamesValue calls c condition → NamesEdge calls first (record { block = taken.now.block; args = taken.now.args.items }) → NamesEdge calls second (record { block = other.now.block; args = other.now.args.items }) → IfOk result (λ inst. StandsFor declared (calls ++ record { request = brif (ledger_of calls) c first second; numbers = inst ∷ [] } ∷ []) builder.new) }
-    ensures one_call { OnOk result (IsOneCall builder.old builder.new) }
-    ensures full { result ≡ Err BuildError.Full → IsNearlyFull builder.old }
+    ensures one_call { OnOk result (IsOneCall 1 builder.old builder.new) }
+    ensures full { result ≡ Err BuildError.Full → IsNearlyFull 1 builder.old }
     ensures variables { builder.new.ctx.now.variables ≡ builder.old.ctx.now.variables }
     ensures failed { (result ≡ Err BuildError.Failed) ↔ IsTrue builder.old.failed }
     ensures fails { builder.new.failed ≡ is_err result }
@@ -354,8 +356,8 @@ fn append_return(builder: &mut FunctionBuilder<'_>, values: &[Value]) -> Result<
     requires values_exist { EachIndex values.now (λ k. slice_index values.now k < length builder.old.func.now.values) }
     ensures loans { SameLoans builder.old builder.new }
     ensures stands { (declared : SignatureShape) (calls : List AnsweredCall) (names : List meaning.Name) → StandsFor declared calls builder.old → map (number_of calls) names ≡ map Some values.now → IfOk result (λ inst. StandsFor declared (calls ++ record { request = return_ names; numbers = inst ∷ [] } ∷ []) builder.new) }
-    ensures one_call { OnOk result (IsOneCall builder.old builder.new) }
-    ensures full { result ≡ Err BuildError.Full → IsNearlyFull builder.old }
+    ensures one_call { OnOk result (IsOneCall 1 builder.old builder.new) }
+    ensures full { result ≡ Err BuildError.Full → IsNearlyFull 1 builder.old }
     ensures variables { builder.new.ctx.now.variables ≡ builder.old.ctx.now.variables }
     ensures failed { (result ≡ Err BuildError.Failed) ↔ IsTrue builder.old.failed }
     ensures fails { builder.new.failed ≡ is_err result }
@@ -384,8 +386,8 @@ fn iconst(
     ensures judged { (calls : List AnsweredCall) → IsReadyWith calls builder.old answers.now → IsJudged (allows (ledger_of calls) (iconst ty imm)) result }
     ensures sound { OnOk result (builder.new.failed ≡ false) }
     ensures never_refused { result ≢ Err CallError.Refused }
-    ensures one_call { OnOk result (IsOneCall builder.old builder.new) }
-    ensures full { result ≡ Err CallError.Full → IsNearlyFull builder.old }
+    ensures one_call { OnOk result (IsOneCall 1 builder.old builder.new) }
+    ensures full { result ≡ Err CallError.Full → IsNearlyFull 1 builder.old }
     ensures variables { builder.new.ctx.now.variables ≡ builder.old.ctx.now.variables }
 {
     if !may_make_constant(builder, ty) {
@@ -410,8 +412,8 @@ fn iadd(
     ensures judged { (calls : List AnsweredCall) → IsReadyWith calls builder.old answers.now → IsJudged (allows (ledger_of calls) (iadd (ledger_of calls) (name_of x) (name_of y))) result }
     ensures sound { OnOk result (builder.new.failed ≡ false) }
     ensures never_refused { result ≢ Err CallError.Refused }
-    ensures one_call { OnOk result (IsOneCall builder.old builder.new) }
-    ensures full { result ≡ Err CallError.Full → IsNearlyFull builder.old }
+    ensures one_call { OnOk result (IsOneCall 1 builder.old builder.new) }
+    ensures full { result ≡ Err CallError.Full → IsNearlyFull 1 builder.old }
     ensures variables { builder.new.ctx.now.variables ≡ builder.old.ctx.now.variables }
 {
     let Some(left) = value_named(builder.func(), answers, x) else {
@@ -442,8 +444,8 @@ fn isub(
     ensures judged { (calls : List AnsweredCall) → IsReadyWith calls builder.old answers.now → IsJudged (allows (ledger_of calls) (isub (ledger_of calls) (name_of x) (name_of y))) result }
     ensures sound { OnOk result (builder.new.failed ≡ false) }
     ensures never_refused { result ≢ Err CallError.Refused }
-    ensures one_call { OnOk result (IsOneCall builder.old builder.new) }
-    ensures full { result ≡ Err CallError.Full → IsNearlyFull builder.old }
+    ensures one_call { OnOk result (IsOneCall 1 builder.old builder.new) }
+    ensures full { result ≡ Err CallError.Full → IsNearlyFull 1 builder.old }
     ensures variables { builder.new.ctx.now.variables ≡ builder.old.ctx.now.variables }
 {
     let Some(left) = value_named(builder.func(), answers, x) else {
@@ -473,8 +475,8 @@ fn jump(
     ensures judged { (calls : List AnsweredCall) → IsReadyWith calls builder.old answers.now → IsJudged (allows (ledger_of calls) (jump (edge_of destination.now))) result }
     ensures sound { OnOk result (builder.new.failed ≡ false) }
     ensures never_refused { result ≢ Err CallError.Refused }
-    ensures one_call { OnOk result (IsOneCall builder.old builder.new) }
-    ensures full { result ≡ Err CallError.Full → IsNearlyFull builder.old }
+    ensures one_call { OnOk result (IsOneCall 1 builder.old builder.new) }
+    ensures full { result ≡ Err CallError.Full → IsNearlyFull 1 builder.old }
     ensures variables { builder.new.ctx.now.variables ≡ builder.old.ctx.now.variables }
 {
     let edge = edge_named(builder, answers, destination)?;
@@ -500,8 +502,8 @@ fn brif(
     ensures judged { (calls : List AnsweredCall) → IsReadyWith calls builder.old answers.now → IsJudged (allows (ledger_of calls) (brif (ledger_of calls) (name_of condition) (edge_of block_then.now) (edge_of block_else.now))) result }
     ensures sound { OnOk result (builder.new.failed ≡ false) }
     ensures never_refused { result ≢ Err CallError.Refused }
-    ensures one_call { OnOk result (IsOneCall builder.old builder.new) }
-    ensures full { result ≡ Err CallError.Full → IsNearlyFull builder.old }
+    ensures one_call { OnOk result (IsOneCall 1 builder.old builder.new) }
+    ensures full { result ≡ Err CallError.Full → IsNearlyFull 1 builder.old }
     ensures variables { builder.new.ctx.now.variables ≡ builder.old.ctx.now.variables }
 {
     let Some(condition) = value_named(builder.func(), answers, condition) else {
@@ -529,8 +531,8 @@ fn return_(
     ensures judged { (calls : List AnsweredCall) → IsReadyWith calls builder.old answers.now → IsJudged (allows (ledger_of calls) (return_ (map name_of values.now))) result }
     ensures sound { OnOk result (builder.new.failed ≡ false) }
     ensures never_refused { result ≢ Err CallError.Refused }
-    ensures one_call { OnOk result (IsOneCall builder.old builder.new) }
-    ensures full { result ≡ Err CallError.Full → IsNearlyFull builder.old }
+    ensures one_call { OnOk result (IsOneCall 1 builder.old builder.new) }
+    ensures full { result ≡ Err CallError.Full → IsNearlyFull 1 builder.old }
     ensures variables { builder.new.ctx.now.variables ≡ builder.old.ctx.now.variables }
 {
     let values = values_named(builder.func(), answers, values)?;
@@ -553,7 +555,7 @@ fn instruction_of(func: &Function, value: Value) -> Answer
 }
 
 // The answer of a call that answers this value alone.
-fn one_value(value: Value) -> Answer
+pub(crate) fn one_value(value: Value) -> Answer
     ensures { result ≡ Answer.Values value 1 }
 {
     Answer::Values {

@@ -27,8 +27,8 @@ pub(crate) fn create_block(
     ensures judged { (calls : List AnsweredCall) → IsReadyWith calls builder.old answers.now → IsJudged (allows (ledger_of calls) CreateBlock) result }
     ensures sound { OnOk result (builder.new.failed ≡ false) }
     ensures never_refused { result ≢ Err CallError.Refused }
-    ensures one_call { OnOk result (IsOneCall builder.old builder.new) }
-    ensures full { result ≡ Err CallError.Full → IsNearlyFull builder.old }
+    ensures one_call { OnOk result (IsOneCall 1 builder.old builder.new) }
+    ensures full { result ≡ Err CallError.Full → IsNearlyFull 1 builder.old }
     ensures variables { builder.new.ctx.now.variables ≡ builder.old.ctx.now.variables }
 {
     let block = builder.create_block()?;
@@ -48,8 +48,8 @@ pub(crate) fn switch_to_block(
     ensures judged { (calls : List AnsweredCall) → IsReadyWith calls builder.old answers.now → IsJudged (allows (ledger_of calls) (SwitchToBlock (name_of name))) result }
     ensures sound { OnOk result (builder.new.failed ≡ false) }
     ensures never_refused { result ≢ Err CallError.Refused }
-    ensures one_call { OnOk result (IsOneCall builder.old builder.new) }
-    ensures full { result ≡ Err CallError.Full → IsNearlyFull builder.old }
+    ensures one_call { OnOk result (IsOneCall 1 builder.old builder.new) }
+    ensures full { result ≡ Err CallError.Full → IsNearlyFull 1 builder.old }
     ensures variables { builder.new.ctx.now.variables ≡ builder.old.ctx.now.variables }
 {
     let Some(block) = block_named(answers, name) else {
@@ -101,8 +101,8 @@ pub(crate) fn seal_block(
     ensures judged { (calls : List AnsweredCall) → IsReadyWith calls builder.old answers.now → IsJudged (allows (ledger_of calls) (SealBlock (name_of name))) result }
     ensures sound { OnOk result (builder.new.failed ≡ false) }
     ensures never_refused { result ≢ Err CallError.Refused }
-    ensures one_call { OnOk result (IsOneCall builder.old builder.new) }
-    ensures full { result ≡ Err CallError.Full → IsNearlyFull builder.old }
+    ensures one_call { OnOk result (IsOneCall 1 builder.old builder.new) }
+    ensures full { result ≡ Err CallError.Full → IsNearlyFull 1 builder.old }
     ensures variables { builder.new.ctx.now.variables ≡ builder.old.ctx.now.variables }
 {
     let Some(block) = block_named(answers, name) else {
@@ -127,8 +127,8 @@ pub(crate) fn seal_all_blocks(
     ensures judged { (calls : List AnsweredCall) → IsReadyWith calls builder.old answers.now → IsJudged (allows (ledger_of calls) SealAllBlocks) result }
     ensures sound { OnOk result (builder.new.failed ≡ false) }
     ensures never_refused { result ≢ Err CallError.Refused }
-    ensures one_call { OnOk result (IsOneCall builder.old builder.new) }
-    ensures full { result ≡ Err CallError.Full → IsNearlyFull builder.old }
+    ensures one_call { OnOk result (IsOneCall 1 builder.old builder.new) }
+    ensures full { result ≡ Err CallError.Full → IsNearlyFull 1 builder.old }
     ensures variables { builder.new.ctx.now.variables ≡ builder.old.ctx.now.variables }
 {
     builder.seal_all_blocks()?;
@@ -159,8 +159,8 @@ pub(crate) fn insert_block_after(
     ensures judged { (calls : List AnsweredCall) → IsReadyWith calls builder.old answers.now → IsJudged (allows (ledger_of calls) (InsertBlockAfter (name_of name) (name_of behind))) result }
     ensures sound { OnOk result (builder.new.failed ≡ false) }
     ensures never_refused { result ≢ Err CallError.Refused }
-    ensures one_call { OnOk result (IsOneCall builder.old builder.new) }
-    ensures full { result ≡ Err CallError.Full → IsNearlyFull builder.old }
+    ensures one_call { OnOk result (IsOneCall 1 builder.old builder.new) }
+    ensures full { result ≡ Err CallError.Full → IsNearlyFull 1 builder.old }
     ensures variables { builder.new.ctx.now.variables ≡ builder.old.ctx.now.variables }
 {
     let Some(block) = block_named(answers, name) else {
@@ -189,8 +189,8 @@ pub(crate) fn set_cold_block(
     ensures judged { (calls : List AnsweredCall) → IsReadyWith calls builder.old answers.now → IsJudged (allows (ledger_of calls) (SetColdBlock (name_of name))) result }
     ensures sound { OnOk result (builder.new.failed ≡ false) }
     ensures never_refused { result ≢ Err CallError.Refused }
-    ensures one_call { OnOk result (IsOneCall builder.old builder.new) }
-    ensures full { result ≡ Err CallError.Full → IsNearlyFull builder.old }
+    ensures one_call { OnOk result (IsOneCall 1 builder.old builder.new) }
+    ensures full { result ≡ Err CallError.Full → IsNearlyFull 1 builder.old }
     ensures variables { builder.new.ctx.now.variables ≡ builder.old.ctx.now.variables }
 {
     let Some(block) = block_named(answers, name) else {
@@ -212,8 +212,8 @@ pub(crate) fn ensure_inserted_block(
     ensures judged { (calls : List AnsweredCall) → IsReadyWith calls builder.old answers.now → IsJudged (allows (ledger_of calls) EnsureInsertedBlock) result }
     ensures sound { OnOk result (builder.new.failed ≡ false) }
     ensures never_refused { result ≢ Err CallError.Refused }
-    ensures one_call { OnOk result (IsOneCall builder.old builder.new) }
-    ensures full { result ≡ Err CallError.Full → IsNearlyFull builder.old }
+    ensures one_call { OnOk result (IsOneCall 1 builder.old builder.new) }
+    ensures full { result ≡ Err CallError.Full → IsNearlyFull 1 builder.old }
     ensures variables { builder.new.ctx.now.variables ≡ builder.old.ctx.now.variables }
 {
     if !has_current(builder) {

@@ -8,7 +8,7 @@ ghost use Rattle.clif_meaning.specs.Headline.{MeansTheSame};
 ghost use Rattle.clif_meaning.specs.Premises.{CallersEdgesMatch, PlacementPremises};
 ghost use Rattle.clif_meaning.specs.Typing.{EdgesMatch};
 ghost use Rattle.clif_meaning.specs.WellPlaced.{WellPlaced};
-ghost use Rattle.clif_script.specs.Limits.{HasNoBranch, IsWithin};
+ghost use Rattle.clif_script.specs.Limits.{HasNoBranch, IsWithin, cost};
 ghost use Rattle.clif_script.specs.Requests.{IsBuiltBy, IsReplayed, IsStoppedByTable, requests_of, verdict_of};
 ghost use Rattle.cranelift_frontend.specs.Builder.{SameLoans};
 ghost use Rattle.cranelift_frontend.specs.Context.{empty_context};
@@ -41,8 +41,8 @@ pub enum ReplayError {
     Refused(usize),
     /// Memory was refused. It prints as `no memory`.
     Memory,
-    /// A table holds 2^32 - 1 entries. So there are 2^16 calls or more, and 2^31 where none is a branch. It
-    /// prints as `table full`.
+    /// A table holds 2^32 - 1 entries. So there are 2^16 calls or more, and 2^31 where none is a branch; a call
+    /// that makes a parameter counts twice. It prints as `table full`.
     Full,
 }
 
@@ -141,18 +141,18 @@ pub fn replay(
     config: TargetFrontendConfig,
 ) -> Result<Function, ReplayError>
     requires { ctx.old ≡ empty_context }
-    ensures same_meaning { IfOk result (λ function. MeansTheSame (requests_of calls.now) signature config.pointer_width (view_of function)) }
+    ensures same_meaning { IfOk result (λ function. MeansTheSame (requests_of signature calls.now) signature config.pointer_width (view_of function)) }
     ensures built { IfOk result (λ function. IsBuiltBy calls.now signature function) }
-    ensures edges_match { IfOk result (λ function. CallersEdgesMatch (requests_of calls.now) → EdgesMatch (view_of function)) }
-    ensures well_placed { IfOk result (λ function. PlacementPremises (requests_of calls.now) signature → WellPlaced (view_of function)) }
+    ensures edges_match { IfOk result (λ function. CallersEdgesMatch (requests_of signature calls.now) → EdgesMatch (view_of function)) }
+    ensures well_placed { IfOk result (λ function. PlacementPremises (requests_of signature calls.now) signature → WellPlaced (view_of function)) }
     ensures name { IfOk result (λ function. function.name ≡ name) }
     ensures context { ctx.new ≡ empty_context }
     ensures misuse { (i : ℕ) → result ≡ Err (ReplayError.Misuse i) → i < length calls.now }
     ensures refused { (i : ℕ) → result ≡ Err (ReplayError.Refused i) → i ≡ length calls.now }
-    ensures full { result ≡ Err ReplayError.Full → 2 ^ 32 - 1 ≤ length calls.now + length calls.now * length calls.now }
-    ensures full_straight { result ≡ Err ReplayError.Full → HasNoBranch calls.now → 2 ^ 32 - 1 ≤ 2 * length calls.now }
+    ensures full { result ≡ Err ReplayError.Full → 2 ^ 32 - 1 ≤ cost signature calls.now + length calls.now * length calls.now }
+    ensures full_straight { result ≡ Err ReplayError.Full → HasNoBranch calls.now → 2 ^ 32 - 1 ≤ 2 * cost signature calls.now }
     ensures table_full { result ≡ Err ReplayError.Full → IsStoppedByTable calls.now name signature }
-    ensures verdict { result ≢ Err ReplayError.Memory → result ≢ Err ReplayError.Full → verdict_of result ≡ Some (acceptance.verdict_on (requests_of calls.now)) }
+    ensures verdict { result ≢ Err ReplayError.Memory → result ≢ Err ReplayError.Full → verdict_of result ≡ Some (acceptance.verdict_on (requests_of signature calls.now)) }
 {
     let mut func = Function::with_name_signature(alloc, name, signature);
     let mut builder = FunctionBuilder::new(&mut func, ctx);
@@ -176,16 +176,16 @@ fn make_calls(
     requires ready { StandsFor builder.old.func.now.signature [] builder.old }
     requires types { builder.old.ctx.now.variables ≡ [] }
     requires sound { builder.old.failed ≡ false }
-    requires within { IsWithin 0 builder.old }
+    requires within { IsWithin 0 0 builder.old }
     ensures loans { SameLoans builder.old builder.new }
     ensures name { OnOk result (builder.new.func.now.name ≡ builder.old.func.now.name) }
-    ensures ready { OnOk result ((made : List AnsweredCall) × StandsFor builder.old.func.now.signature made builder.new × IsReplayed calls.now (length calls.now) made) }
+    ensures ready { OnOk result ((made : List AnsweredCall) × StandsFor builder.old.func.now.signature made builder.new × IsReplayed builder.old.func.now.signature calls.now (length calls.now) made) }
     ensures sound { OnOk result (builder.new.failed ≡ false) }
     ensures misuse { (i : ℕ) → result ≡ Err (ReplayError.Misuse i) → i < length calls.now }
-    ensures judged { (i : ℕ) → result ≡ Err (ReplayError.Misuse i) → acceptance.verdict_on (requests_of calls.now) ≡ acceptance.Misuse i }
+    ensures judged { (i : ℕ) → result ≡ Err (ReplayError.Misuse i) → acceptance.verdict_on (requests_of builder.old.func.now.signature calls.now) ≡ acceptance.Misuse i }
     ensures never_refused { (i : ℕ) → result ≢ Err (ReplayError.Refused i) }
-    ensures full { result ≡ Err ReplayError.Full → 2 ^ 32 - 1 ≤ length calls.now + length calls.now * length calls.now }
-    ensures full_straight { result ≡ Err ReplayError.Full → HasNoBranch calls.now → 2 ^ 32 - 1 ≤ 2 * length calls.now }
+    ensures full { result ≡ Err ReplayError.Full → 2 ^ 32 - 1 ≤ cost builder.old.func.now.signature calls.now + length calls.now * length calls.now }
+    ensures full_straight { result ≡ Err ReplayError.Full → HasNoBranch calls.now → 2 ^ 32 - 1 ≤ 2 * cost builder.old.func.now.signature calls.now }
     ensures table_full { result ≡ Err ReplayError.Full → IsStoppedByTable calls.now builder.old.func.now.name builder.old.func.now.signature }
 {
     let mut answers = Vec::new(alloc);

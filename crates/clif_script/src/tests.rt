@@ -2,6 +2,7 @@
 //! succeed. The values are those of the printer's rules and of the builder's documented conditions.
 #![tactic(auto)]
 
+mod parameters;
 mod placements;
 mod program;
 mod refusals;

@@ -32,6 +32,7 @@ pub enum Step {
     InsertAfter((usize, usize), (usize, usize)),
     Cold(usize, usize),
     Ensure,
+    Param((usize, usize), Type),
     Declare(Type),
     Def(u8, usize, usize),
     Use(u8),
@@ -72,6 +73,10 @@ pub fn call_of(alloc: Global, step: Step) -> Result<Call, AllocError> {
             block: name(place, answer),
         },
         Step::Ensure => Call::EnsureInsertedBlock,
+        Step::Param(block, ty) => Call::AppendBlockParam {
+            block: name(block.0, block.1),
+            ty,
+        },
         Step::Declare(ty) => Call::DeclareVar { ty },
         Step::Def(number, place, answer) => Call::DefVar {
             variable: variable(number),

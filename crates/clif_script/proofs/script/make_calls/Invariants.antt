@@ -1,18 +1,18 @@
-use Rattle.std.proofs.Common.{◌≡◌, List}
+use Rattle.std.proofs.Common.{◌≡◌, List, take}
 use Rattle.std.specs.Prelude.{false}
 use Rattle.clif_meaning.specs.Request.{AnsweredCall}
 use Rattle.cranelift_frontend.specs.Builder.{SameLoans}
-use Rattle.clif_script.specs.Limits.{IsWithin}
+use Rattle.clif_script.specs.Limits.{IsWithin, cost}
 use Rattle.clif_script.specs.Ready.{IsReady}
 use Rattle.clif_script.specs.Requests.{IsReplayed}
 use Rattle.clif_script.proofs.script.make_calls.Given as goal
 
 abbrev pub invariant-loop-place : goal.invariant-loop-place
 invariant-loop-place l = record {
-  made : (made : List AnsweredCall) × IsReady l.initial.builder.func.now.signature made l.builder l.answers.items × IsReplayed l.calls l.place made;
+  made : (made : List AnsweredCall) × IsReady l.initial.builder.func.now.signature made l.builder l.answers.items × IsReplayed l.initial.builder.func.now.signature l.calls l.place made;
   types : l.types.items ≡ l.builder.ctx.now.variables;
   loans : SameLoans l.initial.builder l.builder;
   sound : l.builder.failed ≡ false;
-  within : IsWithin l.place l.builder;
+  within : IsWithin l.place (cost l.initial.builder.func.now.signature (take l.place l.calls)) l.builder;
   name : l.builder.func.now.name ≡ l.initial.builder.func.now.name;
 }
