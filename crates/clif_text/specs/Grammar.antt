@@ -83,6 +83,7 @@ IsCall names words call.SealAllBlocks = words ≡ codes "seal_all_blocks" ∷ []
 IsCall names words (call.InsertBlockAfter block after) = (a b : List ℕ) × (words ≡ codes "insert_block_after" ∷ a ∷ b ∷ []) × IsAnswer names a block × IsAnswer names b after
 IsCall names words (call.SetColdBlock block) = (b : List ℕ) × (words ≡ codes "set_cold_block" ∷ b ∷ []) × IsAnswer names b block
 IsCall names words call.EnsureInsertedBlock = words ≡ codes "ensure_inserted_block" ∷ []
+IsCall names words (call.AppendBlockParam block ty) = (b t : List ℕ) × (words ≡ codes "append_block_param" ∷ b ∷ t ∷ []) × IsAnswer names b block × IsTypeWord t ty
 IsCall names words (call.DeclareVar ty) = (t : List ℕ) × (words ≡ codes "declare_var" ∷ t ∷ []) × IsTypeWord t ty
 IsCall names words (call.DefVar variable value) = (a b : List ℕ) × (words ≡ codes "def_var" ∷ a ∷ b ∷ []) × IsVariable names a variable × IsAnswer names b value
 IsCall names words (call.UseVar variable) = (a : List ℕ) × (words ≡ codes "use_var" ∷ a ∷ []) × IsVariable names a variable

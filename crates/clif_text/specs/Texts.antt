@@ -36,6 +36,7 @@ call_text call.SealAllBlocks = codes "seal_all_blocks"
 call_text (call.InsertBlockAfter block after) = codes "insert_block_after " ++ (answer_text block ++ (codes " " ++ answer_text after))
 call_text (call.SetColdBlock block) = codes "set_cold_block " ++ answer_text block
 call_text call.EnsureInsertedBlock = codes "ensure_inserted_block"
+call_text (call.AppendBlockParam block ty) = codes "append_block_param " ++ (answer_text block ++ (codes " " ++ type_text ty))
 call_text (call.DeclareVar ty) = codes "declare_var " ++ type_text ty
 call_text (call.DefVar variable value) = codes "def_var " ++ (variable_text variable ++ (codes " " ++ answer_text value))
 call_text (call.UseVar variable) = codes "use_var " ++ variable_text variable

@@ -12,12 +12,11 @@ use clif_script::Call;
 use std::alloc::Global;
 
 // The calls of the format that aren't understood so far, without the type that may follow their name.
-const NOT_SUPPORTED: [&str; 69] = [
+const NOT_SUPPORTED: [&str; 68] = [
     "declare_var_needs_stack_map",
     "declare_value_needs_stack_map",
     "try_use_var",
     "try_def_var",
-    "append_block_param",
     "append_block_params_for_function_params",
     "append_block_params_for_function_returns",
     "import_signature",
@@ -145,6 +144,10 @@ fn read_block_call<'a>(head: &'a str, args: &mut Args<'_, 'a>) -> Result<Call, L
             block: args.block()?,
         }),
         "ensure_inserted_block" => Ok(Call::EnsureInsertedBlock),
+        "append_block_param" => Ok(Call::AppendBlockParam {
+            block: args.block()?,
+            ty: args.ty()?,
+        }),
         _ => read_typed_call(head, args),
     }
 }
@@ -215,7 +218,10 @@ pub(crate) struct Answers {
 /// What this call answers.
 pub(crate) fn answers_of(call: &Call) -> Answers {
     let (instruction, names) = match call {
-        Call::CreateBlock | Call::DeclareVar { .. } | Call::UseVar { .. } => (false, 1),
+        Call::CreateBlock
+        | Call::AppendBlockParam { .. }
+        | Call::DeclareVar { .. }
+        | Call::UseVar { .. } => (false, 1),
         Call::SwitchToBlock { .. }
         | Call::SealBlock { .. }
         | Call::SealAllBlocks

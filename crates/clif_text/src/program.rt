@@ -84,7 +84,7 @@ fn build_script<O: io::Write, E: io::Write>(
     err: &mut E,
 ) -> io::Result<u8>
     ensures status { IfOk result (λ status. status < 3) }
-    ensures accepted { IfOk result (λ status. status ≡ 0 → acceptance.verdict_on (requests_of script.calls.items) ≡ acceptance.Accepted) }
+    ensures accepted { IfOk result (λ status. status ≡ 0 → acceptance.verdict_on (requests_of script.signature script.calls.items) ≡ acceptance.Accepted) }
 {
     let Script {
         name,

@@ -70,6 +70,9 @@ impl fmt::Display for CallText<'_> {
             }
             Call::SetColdBlock { block } => write!(f, "set_cold_block {}", AnswerText(*block)),
             Call::EnsureInsertedBlock => write!(f, "ensure_inserted_block"),
+            Call::AppendBlockParam { block, ty } => {
+                write!(f, "append_block_param {} {ty}", AnswerText(*block))
+            }
             Call::DeclareVar { ty } => write!(f, "declare_var {ty}"),
             Call::DefVar { variable, value } => {
                 write!(f, "def_var {variable} {}", AnswerText(*value))

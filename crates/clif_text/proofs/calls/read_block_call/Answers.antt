@@ -25,3 +25,9 @@ returns-in_ok-block-in-insert_block_after-2 c =
     let two = c.in_ok-block-in-insert_block_after-2.ensures.ok in
     let stands = subst (λ scope. IsAnswer (names_of scope.now) two.0 c.in_ok-block-in-insert_block_after-2.field-0) c.in_ok-block-in-insert_block_after.ensures.scope two.2 in
     (one.0 ∷ two.0 ∷ [], one.1 ∙ ap (λ rest. one.0 ∷ rest) two.1, (one.0, two.0, ap (λ (head : List ℕ). head ∷ one.0 ∷ two.0 ∷ []) c.in-insert_block_after.is, one.2, stands))
+
+pub returns-in_ok-ty-in-append_block_param : goal.returns-in_ok-ty-in-append_block_param
+returns-in_ok-ty-in-append_block_param c =
+    let one = c.in_ok-block-in-append_block_param.ensures.ok in
+    let two = c.in_ok-ty-in-append_block_param.ensures.ok in
+    (one.0 ∷ two.0 ∷ [], one.1 ∙ ap (λ rest. one.0 ∷ rest) two.1, (one.0, two.0, ap (λ (head : List ℕ). head ∷ one.0 ∷ two.0 ∷ []) c.in-append_block_param.is, one.2, two.2))
