@@ -1,8 +1,8 @@
 -- A builder goes on standing for the calls where parameters of the caller's come behind those of a block; and what goes on
 -- existing then.
-use Rattle.std.proofs.Common.{◌≡◌, ◌<◌, ℕ, List, [], ◌∷◌, ◌++◌, length, refl, sym, ◌∙◌, ap, subst, arith, inl, inr, get_or, take, ◌+◌}
+use Rattle.std.proofs.Common.{◌≡◌, ◌<◌, ℕ, List, [], ◌∷◌, ◌++◌, length, refl, sym, ◌∙◌, ap, subst, arith, inl, inr, get_or, take, ◌+◌, ◌≤◌, ◌-◌, ◌^◌}
 use Rattle.std.specs.Prelude.{slice_get, Option, Some, IfOk, OnOk, Result, Ok, Err}
-use Rattle.std.proofs.lemmas.List.{map_push, take_more}
+use Rattle.std.proofs.lemmas.List.{length-append, length-map, length-take-le, map_push, take_more}
 use Rattle.std.proofs.lemmas.Option.{slice_get-map}
 use Rattle.clif_types.specs.declared.extfunc.AbiParam.{AbiParam}
 use Rattle.clif_types.specs.declared.types.«Type».{«Type»}
@@ -116,6 +116,24 @@ module _ {E : Type 0} (calls : List AnsweredCall) (f g : Body) (c : ContextState
 pub Grows-params : (f : Body) (b : ℕ) (types : List «Type») → Grows f (with_params f b types)
 Grows-params f b [] = Grows-same f f refl
 Grows-params f b (ty ∷ types) = Grows-then f (with_param f b ty) (with_params (with_param f b ty) b types) (Grows-with_param f b ty) (Grows-params (with_param f b ty) b types)
+
+-- each parameter is one more value
+values_more : (f : Body) (b : ℕ) (types : List «Type») → length (with_params f b types).values ≡ length f.values + length types
+values_more f b [] = omega arith
+values_more f b (ty ∷ types) =
+    let one : length (with_param f b ty).values ≡ length f.values + 1 = length-append f.values _ in
+    let rest = values_more (with_param f b ty) b types in
+    omega (arith, one, rest)
+
+-- no more parameters were made than there are
+pub no-room : (f g : Body) (b : ℕ) (params : List AbiParam) (index : ℕ) → index < length params → g ≡ with_params f b (types_of (take index params)) → length g.values ≡ 2 ^ 32 - 1
+    → 2 ^ 32 - 1 ≤ length f.values + length params
+no-room f g b params index inside is full =
+    let same : length g.values ≡ length (with_params f b (types_of (take index params))).values = ap (λ (h : Body). length h.values) is in
+    let more = values_more f b (types_of (take index params)) in
+    let typed : length (types_of (take index params)) ≡ length (take index params) = length-map (take index params) (λ (p : AbiParam). p.value_type) in
+    let few : length (take index params) ≡ index = length-take-le index params (omega (arith, inside)) in
+    omega (arith, same, more, typed, few, inside, full)
 
 -- each value stands for the value that it stood for
 params_resolved : (f : Body) (b : ℕ) (types : List «Type») → Firm f → b < length f.blocks → (v : ℕ) → resolved (with_params f b types) v ≡ resolved f v

@@ -1,5 +1,5 @@
 //! The builder's calls that mark blocks, bring them into the layout and give them parameters.
-ghost use Rattle.std.specs.Prelude.{◌≡◌, ◌≢◌, ◌<◌, ◌-◌, ◌^◌, ◌++◌, ◌∷◌, [], ℕ, List, IsTrue, ◌↔◌, OnOk, IfOk, IfSome, is_err, length, slice_index, EachIndex};
+ghost use Rattle.std.specs.Prelude.{◌≡◌, ◌≢◌, ◌<◌, ◌≤◌, ◌+◌, ◌-◌, ◌^◌, ◌++◌, ◌∷◌, [], ℕ, List, IsTrue, ◌↔◌, OnOk, IfOk, IfSome, is_err, length, slice_index, EachIndex};
 ghost use Rattle.cranelift_frontend.specs.Context.{status_of, begun, SetsStatus};
 ghost use Rattle.clif_ssa.specs.Ssa.{predecessors_of};
 ghost use Rattle.clif_simulation.specs.Carries.{numbers_from, with_params};
@@ -130,7 +130,7 @@ impl<'a> FunctionBuilder<'a> {
 
     /// Puts the parameters of the function behind those of a block, in which nothing was made and to which no branch leads.
     ///
-    /// They get the next numbers of values. `Full` comes where there are 2^32 - 1 values then.
+    /// They get the next numbers of values. `Full` comes where there are 2^32 - 1 values then, so there was no room for all.
     pub fn append_block_params_for_function_params(
         &mut self,
         block: Block,
@@ -143,6 +143,7 @@ impl<'a> FunctionBuilder<'a> {
         ensures context { self.new.ctx.now ≡ self.old.ctx.now }
         ensures position { self.new.position ≡ self.old.position }
         ensures full { result ≡ Err BuildError.Full → length self.new.func.now.values ≡ 2 ^ 32 - 1 }
+        ensures room { result ≡ Err BuildError.Full → 2 ^ 32 - 1 ≤ length self.old.func.now.values + length self.old.func.now.signature.params }
         ensures failed { (result ≡ Err BuildError.Failed) ↔ IsTrue self.old.failed }
         ensures unchanged { IsTrue self.old.failed → self.new ≡ self.old }
         ensures fails { self.new.failed ≡ is_err result }
@@ -163,7 +164,7 @@ impl<'a> FunctionBuilder<'a> {
 
     /// Puts what the function returns, as parameters, behind those of a block, in which nothing was made.
     ///
-    /// They get the next numbers of values. `Full` comes where there are 2^32 - 1 values then.
+    /// They get the next numbers of values. `Full` comes where there are 2^32 - 1 values then, so there was no room for all.
     pub fn append_block_params_for_function_returns(
         &mut self,
         block: Block,
@@ -175,6 +176,7 @@ impl<'a> FunctionBuilder<'a> {
         ensures context { self.new.ctx.now ≡ self.old.ctx.now }
         ensures position { self.new.position ≡ self.old.position }
         ensures full { result ≡ Err BuildError.Full → length self.new.func.now.values ≡ 2 ^ 32 - 1 }
+        ensures room { result ≡ Err BuildError.Full → 2 ^ 32 - 1 ≤ length self.old.func.now.values + length self.old.func.now.signature.returns }
         ensures failed { (result ≡ Err BuildError.Failed) ↔ IsTrue self.old.failed }
         ensures unchanged { IsTrue self.old.failed → self.new ≡ self.old }
         ensures fails { self.new.failed ≡ is_err result }
@@ -200,6 +202,7 @@ fn append_function_params(func: &mut Function, block: Block) -> Result<(), Build
     ensures ok { OnOk result (func.new ≡ with_params func.old block (types_of func.old.signature.params)) }
     ensures grows { Grows func.old func.new }
     ensures full { result ≡ Err BuildError.Full → length func.new.values ≡ 2 ^ 32 - 1 }
+    ensures room { result ≡ Err BuildError.Full → 2 ^ 32 - 1 ≤ length func.old.values + length func.old.signature.params }
     ensures never_failed { result ≢ Err BuildError.Failed }
 {
     for index in 0..func.signature().params.len() {
@@ -215,6 +218,7 @@ fn append_function_returns(func: &mut Function, block: Block) -> Result<(), Buil
     ensures ok { OnOk result (func.new ≡ with_params func.old block (types_of func.old.signature.returns)) }
     ensures grows { Grows func.old func.new }
     ensures full { result ≡ Err BuildError.Full → length func.new.values ≡ 2 ^ 32 - 1 }
+    ensures room { result ≡ Err BuildError.Full → 2 ^ 32 - 1 ≤ length func.old.values + length func.old.signature.returns }
     ensures never_failed { result ≢ Err BuildError.Failed }
 {
     for index in 0..func.signature().returns.len() {

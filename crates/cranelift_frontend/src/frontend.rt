@@ -78,6 +78,13 @@ impl<'a> FunctionBuilder<'a> {
         self.ctx.block_status(block) == BlockStatus::Empty
     }
 
+    /// Whether a branch leads to a block.
+    pub fn has_any_predecessors(&self, block: Block) -> bool
+        ensures { IsTrue result ↔ (predecessors_of self.now.ctx.now.ssa block ≢ []) }
+    {
+        self.ctx.has_any_predecessors(block)
+    }
+
     /// Whether nothing leads to the current block: the layout isn't empty, and the current block isn't
     /// its first one, is sealed, and has no predecessor.
     pub fn is_unreachable(&self) -> bool
@@ -90,7 +97,7 @@ impl<'a> FunctionBuilder<'a> {
         match self.func.entry_block() {
             None => false,
             Some(entry) => {
-                entry != block && self.is_sealed(block) && !self.ctx.has_any_predecessors(block)
+                entry != block && self.is_sealed(block) && !self.has_any_predecessors(block)
             }
         }
     }

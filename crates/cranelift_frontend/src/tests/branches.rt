@@ -237,7 +237,9 @@ fn behind(rt: HostRuntime) -> Result<(), Fail> {
     let block1 = builder.create_block()?;
     let block2 = builder.create_block()?;
     enter(&rt, &mut builder, block0);
+    assert!(rt; !builder.has_any_predecessors(block1));
     jump(&rt, &mut builder, block1)?;
+    assert!(rt; builder.has_any_predecessors(block1));
     place(&rt, &mut builder, block2, block0);
     return_constant(&rt, &mut builder, block1, 1)?;
     return_constant(&rt, &mut builder, block2, 2)?;

@@ -1,9 +1,10 @@
-use Rattle.std.proofs.Common.{◌∙◌, sym, ap, subst, arith, length, get_or, take}
+use Rattle.std.proofs.Common.{rules, ◌≡◌, ◌-◌, ◌^◌, ◌∙◌, sym, ap, subst, arith, length, get_or, take}
+use Rattle.std.proofs.lemmas.Grind.{common_steps}
 use Rattle.clif_types.specs.Signature.{SignatureShape}
 use Rattle.clif_ir.specs.Body.{Body}
 use Rattle.clif_meaning.specs.Event.{types_of}
 use Rattle.cranelift_frontend.specs.Growth.{Grows}
-use Rattle.cranelift_frontend.proofs.StandingParameters.{Grows-params, params-next, same-signature}
+use Rattle.cranelift_frontend.proofs.StandingParameters.{Grows-params, no-room, params-next, same-signature}
 use Rattle.cranelift_frontend.proofs.blocks.append_function_params.Goals as goal
 
 pub index-requires : goal.index-requires
@@ -34,6 +35,15 @@ loop-index-preserved c =
     (omega (arith, inside, end, count))
     (c.index.ensures ∙ ap (λ (s : SignatureShape). get_or s.params c.loop-index.index c.index.result.now) now)
     c.loop-index.invariant c.in_ok-append_block_param.ensures.ok
+
+pub returns-in_err-append_block_param-clause-room : goal.returns-in_err-append_block_param-clause-room
+returns-in_err-append_block_param-clause-room c = λ told.
+    let count = ap (λ (s : SignatureShape). length s.params) (c.behind-func.view_is ∙ c.signature.ensures) in
+    let inside = c.loop-index-test.true in
+    let end = c.len-index-end.ensures in
+    let full : length c.append_block_param.new.self.values ≡ 2 ^ 32 - 1 = first_of (search rules, grind (arith, common_steps)) in
+    no-room c.args.func.now c.append_block_param.new.self c.args.block c.args.func.now.signature.params c.loop-index.index (omega (arith, inside, end, count))
+    (c.in_err-append_block_param.ensures.err ∙ c.loop-index.invariant) full
 
 pub returns-clause-grows : goal.returns-clause-grows
 returns-clause-grows c =
