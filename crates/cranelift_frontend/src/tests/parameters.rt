@@ -64,7 +64,8 @@ fn function_parameters(rt: HostRuntime) -> Result<(), Fail> {
     let mut func = same(alloc)?;
     let mut builder = FunctionBuilder::new(&mut func, &mut ctx);
     let block = builder.create_block()?;
-    assert!(&rt; builder.is_pristine(block) && !builder.ctx.has_any_predecessors(block));
+    assert!(&rt; builder.is_pristine(block));
+    assert!(&rt; !builder.ctx.has_any_predecessors(block));
     builder.append_block_params_for_function_params(block)?;
     return_first(&rt, &mut builder, block)?;
     builder.finalize(CONFIG)?;
