@@ -226,7 +226,7 @@ fn return_constant(
     Ok(())
 }
 
-/// A block that was put behind the entry stays there, whichever is filled first.
+/// A block that was put behind the entry stays there, whichever is filled first. What isn't sealed is sealed at the end.
 #[test]
 fn behind(rt: HostRuntime) -> Result<(), Fail> {
     let alloc = rt.alloc();
@@ -243,63 +243,14 @@ fn behind(rt: HostRuntime) -> Result<(), Fail> {
     place(&rt, &mut builder, block2, block0);
     return_constant(&rt, &mut builder, block1, 1)?;
     return_constant(&rt, &mut builder, block2, 2)?;
-    seal(&rt, &mut builder, block0)?;
+    assert!(&rt; !builder.is_sealed(block0));
+    builder.seal_all_blocks()?;
+    assert!(&rt; builder.is_sealed(block0));
     builder.finalize(CONFIG)?;
     let shown = func.display();
     assert_eq!(rt;
         format!(in alloc; "{shown}")?.as_str(),
         "function %behind() -> i32 system_v {\nblock0:\n    jump block1\n\nblock2:\n    v1 = iconst.i32 2\n    return v1  ; v1 = 2\n\nblock1:\n    v0 = iconst.i32 1\n    return v0  ; v0 = 1\n}\n"
-    );
-    Ok(())
-}
-
-// A block that returns x, which is zero, and a loop that nothing leads to, in which x is used before it is assigned.
-fn dead_loop_blocks(
-    rt: &impl Abort,
-    builder: &mut FunctionBuilder<'_>,
-    x: Variable,
-    blocks: [Block; 3],
-) -> Result<(), BuildError>
-    requires declared { slice_get builder.old.ctx.now.variables x ≡ Some I32 }
-{
-    let [block0, block1, block2] = blocks;
-    enter(rt, builder, block0);
-    let zero = builder.ins().iconst(I32, 0)?;
-    define(rt, builder, x, zero)?;
-    let value = builder.use_var(x)?;
-    builder.ins().return_(&[value])?;
-    enter(rt, builder, block1);
-    jump(rt, builder, block2)?;
-    enter(rt, builder, block2);
-    let value = builder.use_var(x)?;
-    builder.ins().iadd(value, value)?;
-    let one = builder.ins().iconst(I32, 1)?;
-    define(rt, builder, x, one)?;
-    jump(rt, builder, block1)
-}
-
-/// All blocks are sealed at the end: in a loop that nothing leads to an alias may stand behind its uses.
-#[test]
-fn dead_loop(rt: HostRuntime) -> Result<(), Fail> {
-    let alloc = rt.alloc();
-    let mut ctx = FunctionBuilderContext::new(alloc);
-    let mut func = returning_i32(alloc, "dead_loop")?;
-    let mut builder = FunctionBuilder::new(&mut func, &mut ctx);
-    let x = builder.declare_var(I32)?;
-    let block0 = builder.create_block()?;
-    let block1 = builder.create_block()?;
-    let block2 = builder.create_block()?;
-    dead_loop_blocks(&rt, &mut builder, x, [block0, block1, block2])?;
-    assert!(&rt; !builder.is_sealed(block2));
-    builder.seal_all_blocks()?;
-    assert!(&rt;
-        builder.is_sealed(block0) && builder.is_sealed(block1) && builder.is_sealed(block2)
-    );
-    builder.finalize(CONFIG)?;
-    let shown = func.display();
-    assert_eq!(rt;
-        format!(in alloc; "{shown}")?.as_str(),
-        "function %dead_loop() -> i32 system_v {\nblock0:\n    v0 = iconst.i32 0\n    return v0  ; v0 = 0\n\nblock1:\n    jump block2\n\nblock2:\n    v2 = iadd v1, v1  ; v1 = 1, v1 = 1\n    v3 = iconst.i32 1\n    v1 -> v3\n    jump block1\n}\n"
     );
     Ok(())
 }

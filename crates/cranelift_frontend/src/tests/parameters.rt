@@ -27,6 +27,17 @@ fn same(alloc: Global) -> Result<Function, AllocError>
     Ok(Function::with_name_signature(alloc, name, signature))
 }
 
+// Puts the function's parameters behind those of a block.
+fn append_parameters(
+    rt: &impl Abort,
+    builder: &mut FunctionBuilder<'_>,
+    block: Block,
+) -> Result<(), BuildError> {
+    assert!(rt; exists(builder, block) && builder.is_pristine(block));
+    assert!(rt; !builder.ctx.has_any_predecessors(block));
+    builder.append_block_params_for_function_params(block)
+}
+
 // A block that returns its first parameter.
 fn return_first(
     rt: &impl Abort,
@@ -64,8 +75,7 @@ fn function_parameters(rt: HostRuntime) -> Result<(), Fail> {
     let mut func = same(alloc)?;
     let mut builder = FunctionBuilder::new(&mut func, &mut ctx);
     let block = builder.create_block()?;
-    assert!(&rt; builder.is_pristine(block) && !builder.ctx.has_any_predecessors(block));
-    builder.append_block_params_for_function_params(block)?;
+    append_parameters(&rt, &mut builder, block)?;
     return_first(&rt, &mut builder, block)?;
     builder.finalize(CONFIG)?;
     let shown = func.display();
