@@ -34,6 +34,7 @@ mod Setting
 pub mod RightReading
 -- With branches, beside interrupted runs.
 mod Interrupting
+mod OpenWith
 mod Bare
 mod OpenArms
 mod OpenFlow
