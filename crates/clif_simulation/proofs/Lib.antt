@@ -39,6 +39,7 @@ mod Bare
 mod OpenArms
 mod OpenFlow
 mod OpenEdges
+mod OpenFront
 mod OpenStanding
 mod OpenStepping
 pub mod OpenReading
