@@ -34,10 +34,12 @@ mod Setting
 pub mod RightReading
 -- With branches, beside interrupted runs.
 mod Interrupting
+mod OpenWith
 mod Bare
 mod OpenArms
 mod OpenFlow
 mod OpenEdges
+mod OpenFront
 mod OpenStanding
 mod OpenStepping
 pub mod OpenReading

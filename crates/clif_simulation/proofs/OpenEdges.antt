@@ -74,7 +74,7 @@ module _ (calls : List AnsweredCall) (f : Body) (s : SsaState) (consistent : IsC
   live = stands_for_itself carries.tables
 
   -- a value that waits at a block's front is among those that the block waits for
-  waits_there : (b w x : ℕ) → live w → (function.definition w).home ≡ front b → (function.definition w).kind ≡ pending x
+  pub waits_there : (b w x : ℕ) → live w → (function.definition w).home ≡ front b → (function.definition w).kind ≡ pending x
       → Contains (pending_of (sealed_of s b)) (record { variable = x; param = w })
   waits_there b w x is_live at kind = by (carries.describes.pends w x (sym (carries.describes.resolves w) ∙ is_live) kind)
     where
