@@ -34,7 +34,7 @@ fn append_parameters(
     block: Block,
 ) -> Result<(), BuildError> {
     assert!(rt; exists(builder, block) && builder.is_pristine(block));
-    assert!(rt; !builder.ctx.has_any_predecessors(block));
+    assert!(rt; !builder.has_any_predecessors(block));
     builder.append_block_params_for_function_params(block)
 }
 
