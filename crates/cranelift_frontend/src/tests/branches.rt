@@ -226,7 +226,7 @@ fn return_constant(
     Ok(())
 }
 
-/// A block that was put behind the entry stays there, whichever is filled first. What isn't sealed is sealed at the end.
+/// A block that was put behind the entry stays there, whichever is filled first.
 #[test]
 fn behind(rt: HostRuntime) -> Result<(), Fail> {
     let alloc = rt.alloc();
@@ -237,15 +237,11 @@ fn behind(rt: HostRuntime) -> Result<(), Fail> {
     let block1 = builder.create_block()?;
     let block2 = builder.create_block()?;
     enter(&rt, &mut builder, block0);
-    assert!(rt; !builder.has_any_predecessors(block1));
     jump(&rt, &mut builder, block1)?;
-    assert!(rt; builder.has_any_predecessors(block1));
     place(&rt, &mut builder, block2, block0);
     return_constant(&rt, &mut builder, block1, 1)?;
     return_constant(&rt, &mut builder, block2, 2)?;
-    assert!(&rt; !builder.is_sealed(block0));
-    builder.seal_all_blocks()?;
-    assert!(&rt; builder.is_sealed(block0));
+    seal(&rt, &mut builder, block0)?;
     builder.finalize(CONFIG)?;
     let shown = func.display();
     assert_eq!(rt;
