@@ -16,7 +16,7 @@ abbrev pub cost_of : SignatureShape → Call → ℕ
 cost_of signature (call.AppendBlockParam block ty) = 2
 cost_of signature _ = 1
 
--- how many calls take
+-- how many calls take: of calls that make no parameter, as many as there are calls
 abbrev pub cost : SignatureShape → List Call → ℕ
 cost signature [] = 0
 cost signature (call ∷ calls) = cost_of signature call + cost signature calls
