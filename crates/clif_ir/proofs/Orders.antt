@@ -223,6 +223,12 @@ put_behind-end b a (x ∷ y ∷ ys) once last =
     let other : x ≢ a = λ same. Once-head x (y ∷ ys) once (subst (λ c. Stands c (y ∷ ys)) (sym same) (Stands-last a (y ∷ ys) behind)) in
     later_put b a x (y ∷ ys) other ∙ ap (λ zs. x ∷ zs) (put_behind-end b a (y ∷ ys) (Once-tail x (y ∷ ys) once) behind)
 
+-- an entry of a list is one of the list
+pub get-below : (n k : ℕ) (xs : List ℕ) → ((j : ℕ) → j < length xs → slice_index xs j < n) → IfSome (slice_get xs k) (λ y. y < n)
+get-below n k [] below = tt
+get-below n zero (x ∷ xs) below = below 0 (omega arith)
+get-below n (suc k) (x ∷ xs) below = get-below n k xs (λ j inside. below (suc j) (omega (arith, inside)))
+
 -- what follows a number is one of the list
 pub next_in-below : (n : ℕ) (xs : List ℕ) (x : ℕ) → ((k : ℕ) → k < length xs → slice_index xs k < n) → IfSome (next_in xs x) (λ y. y < n)
 next_in-below n [] x below = tt

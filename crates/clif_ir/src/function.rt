@@ -255,6 +255,22 @@ impl Function {
         self.blocks.len()
     }
 
+    /// How many instructions there are, which are numbered from 0 on.
+    pub fn inst_count(&self) -> usize
+        ensures exact { result ≡ length self.now.insts }
+        ensures fits { result < 2 ^ 32 }
+    {
+        self.insts.len()
+    }
+
+    /// How many values there are, aliases among them, which are numbered from 0 on.
+    pub fn value_count(&self) -> usize
+        ensures exact { result ≡ length self.now.values }
+        ensures fits { result < 2 ^ 32 }
+    {
+        self.values.len()
+    }
+
     /// The allocator that the function grows by.
     pub fn allocator(&self) -> Global {
         self.alloc

@@ -1,5 +1,5 @@
 //! The order of the blocks, and of the instructions in them.
-ghost use Rattle.std.specs.Prelude.{◌≡◌, [], ◌<◌, ◌-◌, ◌↔◌, length, IsTrue, Some, slice_get, slice_index, slice_index_or, slice_set, true, ◌^◌, OnOk, OnErr};
+ghost use Rattle.std.specs.Prelude.{◌≡◌, [], ◌<◌, ◌-◌, ◌↔◌, length, IfSome, IsTrue, Some, slice_get, slice_index, slice_index_or, slice_set, true, ◌^◌, OnOk, OnErr};
 ghost use Rattle.clif_ir.specs.Body.{Body, inst_at, block_at};
 ghost use Rattle.clif_ir.specs.Changes.{inserted_in, with_cold, with_layout, with_layout_after};
 ghost use Rattle.clif_ir.specs.Consistent.{Stands};
@@ -67,7 +67,8 @@ impl Function {
     /// The first instruction of a block, if it has any.
     pub fn first_inst(&self, block: Block) -> Option<Inst>
         requires { block < length self.now.blocks }
-        ensures { result ≡ slice_get (block_at self.now block).insts 0 }
+        ensures exact { result ≡ slice_get (block_at self.now block).insts 0 }
+        ensures exists { IfSome result (λ inst. inst < length self.now.insts) }
     {
         self.blocks[block.index()].insts.get(0)
     }
@@ -75,7 +76,8 @@ impl Function {
     /// The last instruction of a block, if it has any.
     pub fn last_inst(&self, block: Block) -> Option<Inst>
         requires { block < length self.now.blocks }
-        ensures { result ≡ slice_get (block_at self.now block).insts (length (block_at self.now block).insts - 1) }
+        ensures exact { result ≡ slice_get (block_at self.now block).insts (length (block_at self.now block).insts - 1) }
+        ensures exists { IfSome result (λ inst. inst < length self.now.insts) }
     {
         let insts = &self.blocks[block.index()].insts;
         insts.get(insts.len().saturating_sub(1))
@@ -97,7 +99,8 @@ impl Function {
     /// The instruction after `inst` in its block, if `inst` isn't the last. It walks along nothing.
     pub fn next_inst(&self, inst: Inst) -> Option<Inst>
         requires { inst < length self.now.insts }
-        ensures { result ≡ next_in (block_at self.now (inst_at self.now inst).block).insts inst }
+        ensures exact { result ≡ next_in (block_at self.now (inst_at self.now inst).block).insts inst }
+        ensures exists { IfSome result (λ next. next < length self.now.insts) }
     {
         let block = self.insts[inst.index()].block;
         let place = self.inst_place(inst);
@@ -106,7 +109,8 @@ impl Function {
 
     /// The entry: the first block of the layout, if there is one.
     pub fn entry_block(&self) -> Option<Block>
-        ensures { result ≡ slice_get self.now.layout 0 }
+        ensures exact { result ≡ slice_get self.now.layout 0 }
+        ensures exists { IfSome result (λ block. block < length self.now.blocks) }
     {
         self.first_block
     }
@@ -124,7 +128,8 @@ impl Function {
     /// nothing.
     pub fn next_block(&self, block: Block) -> Option<Block>
         requires { block < length self.now.blocks }
-        ensures { result ≡ next_in self.now.layout block }
+        ensures exact { result ≡ next_in self.now.layout block }
+        ensures exists { IfSome result (λ next. next < length self.now.blocks) }
     {
         place_at(&self.block_places, block).next
     }

@@ -5,7 +5,7 @@
 //! as a word of the old one (`specs/Changes.antt`), and leaves it as it was where it answers an error.
 //! What every function keeps is one record of facts (`specs/Consistent.antt`), which
 //! [`Function::law_consistent`] gives to other crates. No contract says which text is printed but for
-//! opcodes and numbers: tests do.
+//! opcodes and numbers: the tests of `clif_ir_tests` do.
 #![tactic(auto)]
 
 pub mod block_call;
@@ -24,6 +24,3 @@ pub use function::{BlockNode, Function, InstNode, ValueDef, ValueNode, ValueOrig
 pub use instructions::{BinaryOpcode, InstructionData};
 pub use successors::Successors;
 pub use value_list::ValueList;
-
-#[cfg(test)]
-mod tests;

@@ -57,7 +57,6 @@ impl Function {
         requires { block < length self.now.blocks }
         ensures { result.now ≡ edges_of self.now (slice_get (block_at self.now block).insts (length (block_at self.now block).insts - 1)) }
     {
-        self.law_consistent();
         match self.last_inst(block) {
             Some(inst) => self.inst_data(inst).branch_destination(),
             None => &[],

@@ -7,7 +7,7 @@
 //!
 //! Nothing here takes memory or recurses: alias lines are found by a walk over the pairs of a value and
 //! its aliases. It is proved that each call is safe and ends, and tested which text it writes.
-ghost use Rattle.std.specs.Prelude.{ℕ, IfSome, ◌≡◌, ◌<◌, length, EachIndex, All, slice_index};
+ghost use Rattle.std.specs.Prelude.{ℕ, ◌≡◌, ◌<◌, length, EachIndex, All, slice_index};
 ghost use Rattle.clif_ir.specs.Consistent.{EdgeExists};
 ghost use Rattle.clif_ir.specs.Instruction.{operands, destinations};
 
@@ -41,7 +41,7 @@ fn write_function<W: fmt::Write>(f: &mut fmt::Formatter<W>, func: &Function) -> 
     let name = &func.name;
     let signature = &func.signature;
     write!(f, "function {name}{signature} {{\n")?;
-    let mut next = first_block(func);
+    let mut next = func.entry_block();
     for place in 0..func.blocks.len() {
         let Some(block) = next else {
             break;
@@ -50,26 +50,9 @@ fn write_function<W: fmt::Write>(f: &mut fmt::Formatter<W>, func: &Function) -> 
             f.write_str("\n")?;
         }
         write_block(f, func, block)?;
-        next = block_after(func, block);
+        next = func.next_block(block);
     }
     f.write_str("}\n")
-}
-
-// The first block of the layout.
-fn first_block(func: &Function) -> Option<Block>
-    ensures { IfSome result (λ block. block < length func.now.blocks) }
-{
-    func.law_consistent();
-    func.entry_block()
-}
-
-// The block after one in the layout.
-fn block_after(func: &Function, block: Block) -> Option<Block>
-    requires { block < length func.now.blocks }
-    ensures { IfSome result (λ next. next < length func.now.blocks) }
-{
-    func.law_consistent();
-    func.next_block(block)
 }
 
 fn write_block<W: fmt::Write>(

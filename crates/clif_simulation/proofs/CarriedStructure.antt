@@ -5,15 +5,20 @@ use Rattle.clif_ssa.specs.Ssa.{SsaState, sealed_of, predecessors_of}
 use Rattle.clif_ssa.specs.Tables.{is_yes, pending_of}
 use Rattle.clif_meaning.specs.Request.{AnsweredCall}
 use Rattle.clif_simulation.specs.Carries.{Carries, Holds}
-use Rattle.clif_simulation.specs.Structure.{CarryingLeavesNoParameters, CarryingMatchesEdges, HasCallersAlone}
+use Rattle.clif_simulation.specs.Structure.{CarryingLeavesNoParameters, CarryingMatchesEdges, HasCallersAlone, KeepsNoParameter, LeavesFewParameters}
 use Rattle.clif_simulation.proofs.Calls.{structured_so_far}
 use Rattle.clif_simulation.proofs.CallersAlone.{alone_few, alone_unsealed, leaves_few}
 use Rattle.clif_simulation.proofs.EdgesMatching.{edges_match}
 use Rattle.clif_simulation.proofs.Whole.{declared_types}
 
+few_parameters : (calls : List AnsweredCall) (f : Body) (s : SsaState) → Carries calls f s → LeavesFewParameters calls f s
+few_parameters calls f s carries = leaves_few calls f s carries.own (declared_types calls) (structured_so_far calls f s carries) carries.holds.parameters
+
 pub no_parameters : CarryingLeavesNoParameters
-no_parameters calls f s carries none_waits =
-    (leaves_few calls f s carries.own (declared_types calls) (structured_so_far calls f s carries) carries.holds.parameters).leaves none_waits
+no_parameters calls f s carries = (few_parameters calls f s carries).leaves
+
+pub sealed_parameters : (calls : List AnsweredCall) (f : Body) (s : SsaState) → Carries calls f s → KeepsNoParameter calls f s
+sealed_parameters calls f s carries = (few_parameters calls f s carries).keeps
 
 pub matching_edges : CarryingMatchesEdges
 matching_edges calls f s carries none_waits typed =

@@ -11,8 +11,6 @@ mod number;
 mod program;
 mod reader;
 mod scope;
-#[cfg(test)]
-mod tests;
 mod types;
 mod words;
 mod writer;

@@ -1,5 +1,5 @@
 //! The builder's calls that mark blocks, bring them into the layout and give them parameters.
-ghost use Rattle.std.specs.Prelude.{◌≡◌, ◌≢◌, ◌<◌, ◌≤◌, ◌+◌, ◌-◌, ◌^◌, ◌++◌, ◌∷◌, [], ℕ, List, IsTrue, ◌↔◌, OnOk, IfOk, IfSome, is_err, length, slice_index, EachIndex};
+ghost use Rattle.std.specs.Prelude.{◌≡◌, ◌≢◌, ◌<◌, ◌≤◌, ◌+◌, ◌-◌, ◌^◌, ◌++◌, ◌∷◌, [], ℕ, List, IsTrue, ◌↔◌, OnErr, OnOk, IfOk, IfSome, is_err, length, slice_index, EachIndex};
 ghost use Rattle.cranelift_frontend.specs.Context.{status_of, begun, SetsStatus};
 ghost use Rattle.clif_ssa.specs.Ssa.{predecessors_of};
 ghost use Rattle.clif_simulation.specs.Carries.{numbers_from, with_params};
@@ -32,22 +32,31 @@ impl<'a> FunctionBuilder<'a> {
     }
 
     /// Puts a block, which isn't in the layout, behind a block that is in it.
-    pub fn insert_block_after(&mut self, block: Block, after: Block)
+    ///
+    /// It takes no memory, so its one error is `Failed`.
+    pub fn insert_block_after(&mut self, block: Block, after: Block) -> Result<(), BuildError>
         requires exists { block < length self.old.func.now.blocks }
         requires outside { Stands block self.old.func.now.layout → ⊥ }
         requires inside { Stands after self.old.func.now.layout }
         ensures loans { SameLoans self.old self.new }
-        ensures function { self.new.func.now ≡ with_layout_after self.old.func.now block after }
+        ensures function { OnOk result (self.new.func.now ≡ with_layout_after self.old.func.now block after) }
         ensures context { self.new.ctx.now ≡ self.old.ctx.now }
         ensures position { self.new.position ≡ self.old.position }
-        ensures failed { self.new.failed ≡ self.old.failed }
-        ensures ledger { (calls : List AnsweredCall) (name behind : Name) → AgreesWithLedger calls self.old → NamesBlock calls name block → NamesBlock calls behind after → AgreesWithLedger (calls ++ record { request = InsertBlockAfter name behind; numbers = [] } ∷ []) self.new }
-        ensures stands { (signature : SignatureShape) (calls : List AnsweredCall) (name behind : Name) → StandsFor signature calls self.old → NamesBlock calls name block → NamesBlock calls behind after → StandsFor signature (calls ++ record { request = InsertBlockAfter name behind; numbers = [] } ∷ []) self.new }
-        ensures grows { Grows self.old.func.now self.new.func.now }
-        ensures remembers { (x b : ℕ) → RemembersIn x b self.old self.new }
-        ensures current { HasCurrent self.old → HasCurrent self.new }
+        ensures only_failed { OnErr result (result ≡ Err BuildError.Failed) }
+        ensures failed { (result ≡ Err BuildError.Failed) ↔ IsTrue self.old.failed }
+        ensures unchanged { IsTrue self.old.failed → self.new ≡ self.old }
+        ensures fails { self.new.failed ≡ is_err result }
+        ensures ledger { (calls : List AnsweredCall) (name behind : Name) → AgreesWithLedger calls self.old → NamesBlock calls name block → NamesBlock calls behind after → OnOk result (AgreesWithLedger (calls ++ record { request = InsertBlockAfter name behind; numbers = [] } ∷ []) self.new) }
+        ensures stands { (signature : SignatureShape) (calls : List AnsweredCall) (name behind : Name) → StandsFor signature calls self.old → NamesBlock calls name block → NamesBlock calls behind after → OnOk result (StandsFor signature (calls ++ record { request = InsertBlockAfter name behind; numbers = [] } ∷ []) self.new) }
+        ensures grows { OnOk result (Grows self.old.func.now self.new.func.now) }
+        ensures remembers { (x b : ℕ) → OnOk result (RemembersIn x b self.old self.new) }
+        ensures current { HasCurrent self.old → OnOk result (HasCurrent self.new) }
     {
+        if self.failed {
+            return Err(BuildError::Failed);
+        }
         self.func.insert_block_after(block, after);
+        Ok(())
     }
 
     /// Marks a block as cold: as one that is seldom reached.

@@ -14,7 +14,7 @@ ghost use Rattle.clif_meaning.specs.Name.{Name};
 ghost use Rattle.clif_meaning.specs.View.{view_of};
 ghost use Rattle.clif_meaning.specs.Typing.{EdgesMatch};
 ghost use Rattle.clif_meaning.specs.Premises.{CallersEdgesMatch};
-ghost use Rattle.clif_simulation.specs.Structure.{NoneWaits};
+ghost use Rattle.clif_simulation.specs.Structure.{KeepsNoParameter, NoneWaits};
 ghost use Rattle.clif_meaning.specs.Request.{AnsweredCall, script_of, CreateBlock, SwitchToBlock, SealBlock, SealAllBlocks, DeclareVar, DefVar, UseVar};
 ghost use Rattle.clif_types.specs.Signature.{SignatureShape};
 ghost use Rattle.cranelift_frontend.specs.StandsFor.{StandsFor};
@@ -181,6 +181,7 @@ impl<'a> FunctionBuilder<'a> {
         ensures fails { self.new.failed ≡ is_err result }
         ensures ledger { (calls : List AnsweredCall) (name : Name) → AgreesWithLedger calls self.old → NamesBlock calls name block → OnOk result (AgreesWithLedger (calls ++ record { request = SealBlock name; numbers = [] } ∷ []) self.new) }
         ensures stands { (signature : SignatureShape) (calls : List AnsweredCall) (name : Name) → StandsFor signature calls self.old → NamesBlock calls name block → OnOk result (StandsFor signature (calls ++ record { request = SealBlock name; numbers = [] } ∷ []) self.new) }
+        ensures parameters { (signature : SignatureShape) (calls : List AnsweredCall) → StandsFor signature calls self.new → KeepsNoParameter calls self.new.func.now self.new.ctx.now.ssa }
         ensures edges_match { (signature : SignatureShape) (calls : List AnsweredCall) → StandsFor signature calls self.new → NoneWaits self.new.ctx.now.ssa → CallersEdgesMatch (script_of calls) → EdgesMatch (view_of self.new.func.now) }
         ensures grows { OnOk result (Grows self.old.func.now self.new.func.now) }
         ensures remembers { (x b : ℕ) → OnOk result (RemembersIn x b self.old self.new) }
@@ -214,6 +215,7 @@ impl<'a> FunctionBuilder<'a> {
         ensures fails { self.new.failed ≡ is_err result }
         ensures ledger { (calls : List AnsweredCall) → AgreesWithLedger calls self.old → OnOk result (AgreesWithLedger (calls ++ record { request = SealAllBlocks; numbers = [] } ∷ []) self.new) }
         ensures stands { (signature : SignatureShape) (calls : List AnsweredCall) → StandsFor signature calls self.old → OnOk result (StandsFor signature (calls ++ record { request = SealAllBlocks; numbers = [] } ∷ []) self.new) }
+        ensures parameters { (signature : SignatureShape) (calls : List AnsweredCall) → StandsFor signature calls self.new → KeepsNoParameter calls self.new.func.now self.new.ctx.now.ssa }
         ensures edges_match { (signature : SignatureShape) (calls : List AnsweredCall) → StandsFor signature calls self.new → CallersEdgesMatch (script_of calls) → OnOk result (EdgesMatch (view_of self.new.func.now)) }
         ensures grows { OnOk result (Grows self.old.func.now self.new.func.now) }
         ensures remembers { (x b : ℕ) → OnOk result (RemembersIn x b self.old self.new) }
@@ -312,6 +314,7 @@ impl<'a> FunctionBuilder<'a> {
         ensures fails { self.new.failed ≡ is_err result }
         ensures ledger { (calls : List AnsweredCall) → AgreesWithLedger calls self.old → IfOk result (λ value. AgreesWithLedger (calls ++ record { request = UseVar variable; numbers = value ∷ [] } ∷ []) self.new) }
         ensures stands { (signature : SignatureShape) (calls : List AnsweredCall) → StandsFor signature calls self.old → IfOk result (λ value. StandsFor signature (calls ++ record { request = UseVar variable; numbers = value ∷ [] } ∷ []) self.new) }
+        ensures parameters { (signature : SignatureShape) (calls : List AnsweredCall) → StandsFor signature calls self.new → KeepsNoParameter calls self.new.func.now self.new.ctx.now.ssa }
         ensures exists { IfOk result (λ v. v < length self.new.func.now.values) }
         ensures grows { OnOk result (Grows self.old.func.now self.new.func.now) }
         ensures remembers { (x b : ℕ) → OnOk result (RemembersIn x b self.old self.new) }

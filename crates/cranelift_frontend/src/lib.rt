@@ -9,8 +9,6 @@ pub mod finalize;
 pub mod frontend;
 pub mod instructions;
 pub mod laws;
-#[cfg(test)]
-mod tests;
 
 pub use builder::FunctionBuilder;
 pub use clif_ir::{

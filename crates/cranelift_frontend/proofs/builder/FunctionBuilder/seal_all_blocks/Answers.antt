@@ -4,6 +4,7 @@ use Rattle.cranelift_frontend.proofs.SealingAll.{all_sealed, sealed_all, sealed_
 use Rattle.cranelift_frontend.proofs.Finishing.{sealed_edges}
 use Rattle.cranelift_frontend.proofs.Growing.{sealed_current, sealed_grows}
 use Rattle.cranelift_frontend.proofs.Named.{opened}
+use Rattle.clif_simulation.proofs.CarriedStructure.{sealed_parameters}
 use Rattle.cranelift_frontend.proofs.builder.FunctionBuilder.seal_all_blocks.Goals as goal
 
 pub seal_all_blocks-sealed-requires : goal.seal_all_blocks-sealed-requires
@@ -41,3 +42,9 @@ pub returns-clause-remembers : goal.returns-clause-remembers
 returns-clause-remembers c = λ x b.
     remembers_sealed c.seal_all_blocks-sealed.result x b c.args.self.now.func.now c.seal_all_blocks-sealed.new.func c.args.self.now.ctx.now c.seal_all_blocks-sealed.new.self
     (λ b. ltb b (length c.args.self.now.func.now.blocks)) c.seal_all_blocks-sealed.ensures.is_sealing
+
+pub returns-then-self-clause-parameters : goal.returns-then-self-clause-parameters
+returns-then-self-clause-parameters c = λ signature calls stands. sealed_parameters calls _ _ stands.carries
+
+pub returns-clause-parameters : goal.returns-clause-parameters
+returns-clause-parameters c = λ signature calls stands. sealed_parameters calls _ _ stands.carries

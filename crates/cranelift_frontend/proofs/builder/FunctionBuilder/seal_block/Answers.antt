@@ -5,6 +5,7 @@ use Rattle.cranelift_frontend.proofs.Standing.{standing_edges}
 use Rattle.cranelift_frontend.proofs.StandingResults.{sealed_stands}
 use Rattle.cranelift_frontend.proofs.Growing.{sealed_current, sealed_grows}
 use Rattle.cranelift_frontend.proofs.Named.{opened}
+use Rattle.clif_simulation.proofs.CarriedStructure.{sealed_parameters}
 use Rattle.cranelift_frontend.proofs.builder.FunctionBuilder.seal_block.Goals as goal
 
 pub returns-clause-ledger : goal.returns-clause-ledger
@@ -35,3 +36,9 @@ returns-clause-edges_match c = λ signature calls stands none_waits typed. stand
 pub returns-clause-remembers : goal.returns-clause-remembers
 returns-clause-remembers c = λ x b.
     remembers_sealed c.seal_block-sealed.result x b c.args.self.now.func.now c.seal_block-sealed.new.func c.args.self.now.ctx.now c.seal_block-sealed.new.self (λ b. b == c.args.block) c.seal_block-sealed.ensures.is_sealing
+
+pub returns-then-self-clause-parameters : goal.returns-then-self-clause-parameters
+returns-then-self-clause-parameters c = λ signature calls stands. sealed_parameters calls _ _ stands.carries
+
+pub returns-clause-parameters : goal.returns-clause-parameters
+returns-clause-parameters c = λ signature calls stands. sealed_parameters calls _ _ stands.carries

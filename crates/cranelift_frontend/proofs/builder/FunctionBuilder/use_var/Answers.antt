@@ -7,6 +7,7 @@ use Rattle.cranelift_frontend.proofs.Growing.{used_current, used_grows}
 use Rattle.cranelift_frontend.proofs.Named.{opened}
 use Rattle.std.specs.Prelude.{IfSome, OnOk, Option}
 use Rattle.cranelift_frontend.specs.Context.{SetsStatus, begun, status_of}
+use Rattle.clif_simulation.proofs.CarriedStructure.{sealed_parameters}
 use Rattle.cranelift_frontend.proofs.builder.FunctionBuilder.use_var.Goals as goal
 
 pub returns-clause-ledger : goal.returns-clause-ledger
@@ -42,3 +43,9 @@ returns-clause-current c =
 
 pub use_variable-used-requires-clause-named : goal.use_variable-used-requires-clause-named
 use_variable-used-requires-clause-named c = opened _ _ c.args.self.now.named
+
+pub returns-then-self-clause-parameters : goal.returns-then-self-clause-parameters
+returns-then-self-clause-parameters c = λ signature calls stands. sealed_parameters calls _ _ stands.carries
+
+pub returns-clause-parameters : goal.returns-clause-parameters
+returns-clause-parameters c = λ signature calls stands. sealed_parameters calls _ _ stands.carries

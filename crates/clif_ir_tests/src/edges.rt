@@ -1,0 +1,185 @@
+//! Branches: their edges, arguments that are appended to them, and their texts.
+#![tactic(auto)]
+
+use crate::steps::Step::{
+    Alias, Append, Brif, Create, Iadd, Iconst, Isub, Jump, LayOut, Param, ReturnOne,
+};
+use crate::steps::{made, make_all, makes};
+use crate::support::{b, has_block, prints, signature};
+use clif_ir::block_call::{BlockArg, BlockArgs, BlockCall};
+use clif_ir::function::Function;
+use clif_ir::inst_list::BlockEnd::Back;
+use clif_ir::instructions::InstructionData;
+use clif_types::types::I32;
+use clif_types::{Block, CallConv, UserFuncName, Value};
+use std::process::Abort;
+use std::test::Fail;
+
+// The row both_arms: both edges of block2's branch go to block1, and pass what one call appended.
+#[test]
+fn both_arms_row(rt: HostRuntime) -> Result<(), Fail> {
+    let steps = [
+        Create,
+        Create,
+        Create,
+        Create,
+        LayOut(0),
+        LayOut(1),
+        LayOut(2),
+        LayOut(3),
+        Iconst(0, Back, I32, 5),
+        Jump(0, 1),
+        Param(1, I32),
+        Brif(1, 1, 2, 3),
+        Iconst(2, Back, I32, -1),
+        Iadd(2, I32, 1, 2),
+        Brif(2, 3, 1, 1),
+        Append(1, 1, 0),
+        Append(5, 1, 3),
+        ReturnOne(3, 1),
+    ];
+    let text =
+        "function %sample() system_v {\nblock0:\n    v0 = iconst.i32 5\n    jump block1(v0)  ; v0 = 5\n\nblock1(v1: i32):\n    brif v1, block2, block3\n\nblock2:\n    v2 = iconst.i32 -1\n    v3 = iadd.i32 v1, v2  ; v2 = -1\n    brif v3, block1(v3), block1(v3)\n\nblock3:\n    return v1\n}\n";
+    makes(&rt, rt.alloc(), &steps, text)
+}
+
+// The row sample, as the construction leaves it: v6 was a parameter of block2.
+#[test]
+fn sample_row(rt: HostRuntime) -> Result<(), Fail> {
+    let alloc = rt.alloc();
+    let name = UserFuncName::testcase(String::from_str(alloc, "sample")?);
+    let types = signature(alloc, &[I32], &[I32], CallConv::SystemV)?;
+    let mut func = Function::with_name_signature(alloc, name, types);
+    let steps = [
+        Create,
+        Create,
+        Create,
+        Create,
+        LayOut(0),
+        LayOut(1),
+        LayOut(2),
+        LayOut(3),
+        Param(0, I32),
+        Iconst(0, Back, I32, 2),
+        Iadd(0, I32, 0, 1),
+        Jump(0, 1),
+        Param(1, I32),
+        Param(1, I32),
+        Append(2, 1, 1),
+        Append(2, 1, 2),
+        Iadd(1, I32, 3, 4),
+        Brif(1, 3, 3, 2),
+        Param(2, I32),
+        Alias(6, 0),
+        Isub(2, I32, 5, 6),
+        ReturnOne(2, 3),
+        Isub(3, I32, 3, 6),
+        Jump(3, 1),
+        Append(8, 1, 8),
+        Append(8, 1, 5),
+    ];
+    make_all(&rt, &mut func, &steps)?;
+    let text =
+        "function %sample(i32) -> i32 system_v {\nblock0(v0: i32):\n    v6 -> v0\n    v1 = iconst.i32 2\n    v2 = iadd v0, v1  ; v1 = 2\n    jump block1(v1, v2)  ; v1 = 2\n\nblock1(v3: i32, v4: i32):\n    v5 = iadd v3, v4\n    brif v3, block3, block2\n\nblock2:\n    v7 = isub.i32 v5, v6\n    return v3\n\nblock3:\n    v8 = isub.i32 v3, v6\n    jump block1(v8, v5)\n}\n";
+    prints(&rt, alloc, &func, text)
+}
+
+// The condition's type is printed where it is defined elsewhere, and the comment tells the condition first and then
+// what the edges pass. An edge to another block stays as it was.
+#[test]
+fn suffixes_and_comments(rt: HostRuntime) -> Result<(), Fail> {
+    let steps = [
+        Create,
+        Create,
+        LayOut(0),
+        LayOut(1),
+        Iconst(0, Back, I32, 5),
+        Iconst(0, Back, I32, 6),
+        Jump(0, 1),
+        Brif(1, 0, 0, 1),
+        Append(3, 1, 1),
+        Append(3, 1, 0),
+        Append(2, 0, 1),
+    ];
+    let text =
+        "function %sample() system_v {\nblock0:\n    v0 = iconst.i32 5\n    v1 = iconst.i32 6\n    jump block1\n\nblock1:\n    brif.i32 v0, block0, block1(v1, v0)  ; v0 = 5, v1 = 6, v0 = 5\n}\n";
+    makes(&rt, rt.alloc(), &steps, text)
+}
+
+#[test]
+fn arguments(rt: HostRuntime) -> Result<(), Fail> {
+    let alloc = rt.alloc();
+    let three = BlockArg::Value(Value::from_u32(3));
+    let result = BlockArg::TryCallRet(0);
+    let payload = BlockArg::TryCallExn(1);
+    assert_eq!(rt;
+        format!(in alloc; "{three} {result} {payload}")?.as_str(),
+        "v3 ret0 exn1"
+    );
+    let mut args = BlockArgs::new(alloc);
+    assert!(rt; args.as_slice().is_empty());
+    args.push(BlockArg::TryCallRet(2))?;
+    args.push(BlockArg::TryCallExn(0))?;
+    args.pop();
+    assert_eq!(rt; args.as_slice(), [BlockArg::TryCallRet(2)].as_slice());
+    let copied = BlockArgs::from_slice(alloc, args.as_slice())?;
+    assert_eq!(rt; copied.as_slice(), args.as_slice());
+    Ok(())
+}
+
+#[test]
+fn destinations(rt: HostRuntime) -> Result<(), Fail> {
+    let alloc = rt.alloc();
+    let destination = BlockCall::new(alloc, Block::from_u32(2), &[BlockArg::TryCallRet(1)])?;
+    let jump = InstructionData::Jump { destination };
+    assert!(rt; jump.is_branch() && jump.is_terminator() && !jump.has_result());
+    assert!(rt; jump.arguments().is_empty());
+    assert_eq!(rt; jump.branch_destination().len(), 1);
+    assert_eq!(rt; jump.branch_destination()[0].block, Block::from_u32(2));
+    assert_eq!(rt;
+        jump.branch_destination()[0].args.as_slice(),
+        [BlockArg::TryCallRet(1)].as_slice()
+    );
+    Ok(())
+}
+
+// Asserts to which two blocks a block leads, at most.
+fn leads_to(
+    rt: &impl Abort,
+    func: &Function,
+    block: Block,
+    first: Option<Block>,
+    second: Option<Block>,
+) {
+    assert!(rt; has_block(func, block));
+    let mut successors = func.block_successors(block);
+    assert_eq!(rt; successors.next(), first);
+    assert_eq!(rt; successors.next(), second);
+    assert_eq!(rt; successors.next(), None);
+}
+
+// The targets in printed order: none of a block that is empty or ends in no branch, and one twice where both edges go
+// to it.
+#[test]
+fn successors(rt: HostRuntime) -> Result<(), Fail> {
+    let steps = [
+        Create,
+        Create,
+        Create,
+        Create,
+        Iconst(0, Back, I32, 5),
+        Jump(0, 1),
+        Brif(1, 0, 3, 2),
+        Brif(2, 0, 1, 1),
+        Iconst(3, Back, I32, 6),
+    ];
+    let mut func = made(&rt, rt.alloc(), &steps)?;
+    let blocks = [b(&rt, 0), b(&rt, 1), b(&rt, 2), b(&rt, 3)];
+    leads_to(&rt, &func, blocks[0], Some(blocks[1]), None);
+    leads_to(&rt, &func, blocks[1], Some(blocks[3]), Some(blocks[2]));
+    leads_to(&rt, &func, blocks[2], Some(blocks[1]), Some(blocks[1]));
+    leads_to(&rt, &func, blocks[3], None, None);
+    let empty = func.create_block()?;
+    leads_to(&rt, &func, empty, None, None);
+    Ok(())
+}

@@ -1,0 +1,21 @@
+//! Tests of `clif_ir`, of what no clause says: printed texts, as the printer's rules give them, and that calls succeed.
+#![tactic(auto)]
+
+#[cfg(test)]
+mod aliases;
+#[cfg(test)]
+mod edges;
+#[cfg(test)]
+mod lists;
+#[cfg(test)]
+mod numbers;
+#[cfg(test)]
+mod steps;
+#[cfg(test)]
+mod support;
+#[cfg(test)]
+mod texts;
+#[cfg(test)]
+mod walks;
+#[cfg(test)]
+mod writers;

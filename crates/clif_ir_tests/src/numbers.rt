@@ -1,0 +1,69 @@
+//! Numbers at their borders and at each width.
+#![tactic(auto)]
+
+use crate::steps::Step::{Create, Iconst, LayOut, ReturnTwo};
+use crate::steps::makes;
+use clif_ir::immediates::{Imm64, signed_at};
+use clif_ir::inst_list::BlockEnd::Back;
+use clif_types::{Type, types};
+use std::test::Fail;
+
+/// A type, a number given to `iconst` of it, and the text of the number.
+const ROWS: [(Type, i64, &str); 31] = [
+    (types::I8, 9999, "15"),
+    (types::I8, -9999, "-15"),
+    (types::I8, 10000, "16"),
+    (types::I8, -10000, "-16"),
+    (types::I8, 127, "127"),
+    (types::I8, 128, "-128"),
+    (types::I8, 255, "-1"),
+    (types::I8, 256, "0"),
+    (types::I16, 9999, "9999"),
+    (types::I16, -9999, "-9999"),
+    (types::I16, 10000, "0x2710"),
+    (types::I16, -10000, "0xffff_ffff_ffff_d8f0"),
+    (types::I16, 40000, "0xffff_ffff_ffff_9c40"),
+    (types::I16, 65535, "-1"),
+    (types::I32, 9999, "9999"),
+    (types::I32, -9999, "-9999"),
+    (types::I32, 10000, "0x2710"),
+    (types::I32, -10000, "0xffff_ffff_ffff_d8f0"),
+    (types::I32, 65536, "0x0001_0000"),
+    (types::I32, 0x8000_0000, "0xffff_ffff_8000_0000"),
+    (types::I32, 0x1_0000_0001, "1"),
+    (types::I64, 9999, "9999"),
+    (types::I64, -9999, "-9999"),
+    (types::I64, 10000, "0x2710"),
+    (types::I64, -10000, "0xffff_ffff_ffff_d8f0"),
+    (types::I64, 0x1_0000_0000, "0x0001_0000_0000"),
+    (types::I64, i64::MIN, "0x8000_0000_0000_0000"),
+    (types::I128, 9999, "9999"),
+    (types::I128, -9999, "-9999"),
+    (types::I128, 10000, "0x2710"),
+    (types::I128, -10000, "0xffff_ffff_ffff_d8f0"),
+];
+
+#[test]
+fn widths(rt: HostRuntime) -> Result<(), Fail> {
+    let alloc = rt.alloc();
+    for (ty, number, text) in ROWS {
+        let shown = Imm64(signed_at(number, ty));
+        assert_eq!(rt; format!(in alloc; "{shown}")?.as_str(), text);
+    }
+    Ok(())
+}
+
+// In an instruction, and in the comment that repeats it.
+#[test]
+fn in_instructions(rt: HostRuntime) -> Result<(), Fail> {
+    let steps = [
+        Create,
+        LayOut(0),
+        Iconst(0, Back, types::I16, -10000),
+        Iconst(0, Back, types::I8, 10000),
+        ReturnTwo(0, 0, 1),
+    ];
+    let text =
+        "function %sample() system_v {\nblock0:\n    v0 = iconst.i16 0xffff_ffff_ffff_d8f0\n    v1 = iconst.i8 16\n    return v0, v1  ; v0 = 0xffff_ffff_ffff_d8f0, v1 = 16\n}\n";
+    makes(&rt, rt.alloc(), &steps, text)
+}

@@ -1,0 +1,125 @@
+//! Frames, headers, blocks, suffixes and comments.
+#![tactic(auto)]
+
+use crate::steps::Step::{
+    Alias, Cold, Create, Iadd, Iconst, LayOut, Param, Return, ReturnFour, ReturnOne,
+};
+use crate::steps::{make_all, makes};
+use crate::support::{prints, signature};
+use clif_ir::function::Function;
+use clif_ir::inst_list::BlockEnd::{Back, Front};
+use clif_types::types::{F64, I8, I32, I64};
+use clif_types::{CallConv, Signature, UserFuncName};
+use std::test::Fail;
+
+#[test]
+fn empty_row(rt: HostRuntime) -> Result<(), Fail> {
+    let alloc = rt.alloc();
+    let name = UserFuncName::user(0, 0);
+    let func = Function::with_name_signature(alloc, name, Signature::new(alloc, CallConv::Fast));
+    prints(&rt, alloc, &func, "function u0:0() fast {\n}\n")
+}
+
+// The calls: use x, which nothing assigned, in the unsealed block0; x = x + 7; return x; seal.
+#[test]
+fn first_row(rt: HostRuntime) -> Result<(), Fail> {
+    let alloc = rt.alloc();
+    let name = UserFuncName::testcase(String::from_str(alloc, "first")?);
+    let returns = signature(alloc, &[], &[I32], CallConv::SystemV)?;
+    let mut func = Function::with_name_signature(alloc, name, returns);
+    let steps = [
+        Create,
+        LayOut(0),
+        Param(0, I32),
+        Iconst(0, Back, I32, 7),
+        Iadd(0, I32, 0, 1),
+        ReturnOne(0, 2),
+        Iconst(0, Front, I32, 0),
+        Alias(0, 3),
+    ];
+    make_all(&rt, &mut func, &steps)?;
+    let text =
+        "function %first() -> i32 system_v {\nblock0:\n    v3 = iconst.i32 0\n    v0 -> v3\n    v1 = iconst.i32 7\n    v2 = iadd v0, v1  ; v0 = 0, v1 = 7\n    return v2\n}\n";
+    prints(&rt, alloc, &func, text)
+}
+
+#[test]
+fn signatures_and_headers(rt: HostRuntime) -> Result<(), Fail> {
+    let alloc = rt.alloc();
+    let name = UserFuncName::testcase(String::from_str(alloc, "x")?);
+    let types = signature(alloc, &[I32, I64], &[I8, F64], CallConv::Tail)?;
+    let mut func = Function::with_name_signature(alloc, name, types);
+    let steps = [Create, LayOut(0), Param(0, I32), Param(0, I64), Return(0)];
+    make_all(&rt, &mut func, &steps)?;
+    let text =
+        "function %x(i32, i64) -> i8, f64 tail {\nblock0(v0: i32, v1: i64):\n    return\n}\n";
+    prints(&rt, alloc, &func, text)
+}
+
+// A cold block says so behind its parameters.
+#[test]
+fn cold_headers(rt: HostRuntime) -> Result<(), Fail> {
+    let steps = [
+        Create,
+        Create,
+        Create,
+        LayOut(0),
+        LayOut(1),
+        LayOut(2),
+        Cold(2),
+        Cold(1),
+        Cold(1),
+        Param(1, I32),
+        Return(0),
+    ];
+    let text =
+        "function %sample() system_v {\nblock0:\n    return\n\nblock1(v0: i32) cold:\n\nblock2 cold:\n}\n";
+    makes(&rt, rt.alloc(), &steps, text)
+}
+
+// block1 comes before block0 in the layout, and block2 isn't in it. The first operand of an addition
+// tells its type: it is printed where that operand, or what it stands for, is defined elsewhere.
+#[test]
+fn blocks_and_suffixes(rt: HostRuntime) -> Result<(), Fail> {
+    let steps = [
+        Create,
+        Create,
+        Create,
+        LayOut(1),
+        LayOut(0),
+        Param(0, I64),
+        Param(1, I64),
+        Param(1, I64),
+        Param(2, I64),
+        Iadd(1, I64, 0, 1),
+        Iadd(1, I64, 1, 0),
+        Iadd(1, I64, 2, 1),
+        Iadd(0, I64, 4, 0),
+        Iadd(0, I64, 7, 7),
+        ReturnOne(0, 4),
+        Alias(2, 0),
+    ];
+    let text =
+        "function %sample() system_v {\nblock1(v1: i64):\n    v4 = iadd.i64 v0, v1\n    v5 = iadd v1, v0\n    v6 = iadd.i64 v2, v1\n\nblock0(v0: i64):\n    v2 -> v0\n    v7 = iadd.i64 v4, v0\n    v8 = iadd v7, v7\n    return v4\n}\n";
+    makes(&rt, rt.alloc(), &steps, text)
+}
+
+// Operands are printed as they are given, each with its number where it stands for a constant.
+#[test]
+fn comments(rt: HostRuntime) -> Result<(), Fail> {
+    let steps = [
+        Create,
+        LayOut(0),
+        Param(0, I8),
+        Param(0, I8),
+        Iconst(0, Back, I8, 200),
+        Alias(0, 2),
+        Iadd(0, I8, 0, 0),
+        Iadd(0, I8, 1, 2),
+        Iadd(0, I8, 1, 3),
+        ReturnFour(0, 2, 1, 0, 2),
+    ];
+    let text =
+        "function %sample() system_v {\nblock0(v1: i8):\n    v2 = iconst.i8 -56\n    v0 -> v2\n    v3 = iadd v0, v0  ; v0 = -56, v0 = -56\n    v4 = iadd v1, v2  ; v2 = -56\n    v5 = iadd v1, v3\n    return v2, v1, v0, v2  ; v2 = -56, v0 = -56, v2 = -56\n}\n";
+    makes(&rt, rt.alloc(), &steps, text)
+}

@@ -1,0 +1,74 @@
+//! Writers that refuse.
+#![tactic(auto)]
+
+use crate::steps::Step::{Alias, Create, Iadd, Iconst, LayOut, Param, ReturnTwo};
+use crate::steps::made;
+use clif_ir::function::Function;
+use clif_ir::inst_list::BlockEnd::Back;
+use clif_types::types::I32;
+use std::alloc::Global;
+use std::fmt;
+use std::fmt::Write;
+use std::process::Abort;
+use std::test::Fail;
+
+/// A writer that takes so many pieces, keeps them, and then refuses one.
+#[derive(Drop)]
+struct Refusing {
+    left: u32,
+    taken: String,
+}
+
+impl Write for Refusing {
+    fn write_str(&mut self, text: &str) -> fmt::Result {
+        if self.left == 0 {
+            return Err(fmt::Error);
+        }
+        self.left -= 1;
+        self.taken.push_str(text).map_err(|_| fmt::Error)
+    }
+}
+
+fn all_forms(rt: &impl Abort, alloc: Global) -> Result<Function, Fail> {
+    let steps = [
+        Create,
+        Create,
+        LayOut(0),
+        LayOut(1),
+        Param(0, I32),
+        Param(0, I32),
+        Iconst(0, Back, I32, 70_000),
+        Iadd(1, I32, 0, 2),
+        ReturnTwo(1, 1, 3),
+        Alias(1, 0),
+    ];
+    made(rt, alloc, &steps)
+}
+
+// A refusal at any piece is answered, and what was taken before it is the head of the whole text.
+#[test]
+fn refused_pieces(rt: HostRuntime) -> Result<(), Fail> {
+    let alloc = rt.alloc();
+    let func = all_forms(&rt, alloc)?;
+    let text =
+        "function %sample() system_v {\nblock0(v0: i32):\n    v1 -> v0\n    v2 = iconst.i32 0x0001_1170\n\nblock1:\n    v3 = iadd.i32 v0, v2  ; v2 = 0x0001_1170\n    return v1, v3\n}\n";
+    let mut refusals = 0_u32;
+    for left in 0..300_u32 {
+        let taken = String::new(alloc);
+        let mut writer = Refusing { left, taken };
+        let shown = func.display();
+        let ended = write!(writer, "{shown}");
+        let whole = writer.taken.as_str() == text;
+        assert_eq!(rt; ended.is_ok(), whole, "after {left} pieces");
+        assert!(rt;
+            text.starts_with(writer.taken.as_str()),
+            "after {left} pieces"
+        );
+        if !whole && refusals < 1000 {
+            refusals += 1;
+        }
+    }
+    assert!(rt; refusals > 20);
+    assert!(rt; refusals < 299);
+    Ok(())
+}

@@ -1,0 +1,206 @@
+//! The interpreter of scripts. It has variables and names of answers, and no aliases, slots or parameters of its own.
+#![tactic(auto)]
+
+use crate::interpreters::{End, STEPS, constant, difference, sum};
+use clif_script::{Call, Edge, Name};
+use clif_types::{EntityRef, Type, types};
+use std::alloc::{AllocError, Global};
+
+/// Bits and the type that they have.
+#[derive(Clone, Copy, Debug)]
+struct Typed {
+    ty: Type,
+    bits: u128,
+}
+
+const NOTHING: Typed = Typed {
+    ty: types::INVALID,
+    bits: 0,
+};
+
+/// What a call of a block did.
+#[derive(Drop)]
+enum Did<'a> {
+    WentOn,
+    Left(&'a Edge),
+    Ended(Vec<u128>),
+}
+
+/// A run of a script: what variables and names hold, newest last. What isn't listed is zero.
+#[derive(Drop)]
+struct Run<'a> {
+    alloc: Global,
+    calls: &'a [Call],
+    variables: Vec<Typed>,
+    names: Vec<(Name, Typed)>,
+}
+
+impl<'a> Run<'a> {
+    fn name(&self, name: Name) -> Typed {
+        let found = self.names.iter().rev().find(|given| given.0 == name);
+        found.map_or(NOTHING, |given| given.1)
+    }
+
+    fn give(&mut self, name: Name, value: Typed) -> Result<(), AllocError> {
+        self.names.push((name, value))?;
+        Ok(())
+    }
+
+    fn sum_of(&self, x: Name, y: Name) -> Typed {
+        let Typed { ty, bits } = self.name(x);
+        let bits = sum(ty, bits, self.name(y).bits);
+        Typed { ty, bits }
+    }
+
+    fn difference_of(&self, x: Name, y: Name) -> Typed {
+        let Typed { ty, bits } = self.name(x);
+        let bits = difference(ty, bits, self.name(y).bits);
+        Typed { ty, bits }
+    }
+
+    fn assign(&mut self, variable: usize, value: Typed) {
+        if let Some(held) = self.variables.get_mut(variable) {
+            *held = value;
+        }
+    }
+
+    fn all_bits(&self, names: &[Name]) -> Result<Vec<u128>, AllocError> {
+        let mut bits = Vec::new(self.alloc);
+        for name in names {
+            bits.push(self.name(*name).bits)?;
+        }
+        Ok(bits)
+    }
+
+    /// Gives bits to the parameters of a block, in the order of the calls that made them.
+    fn enter(&mut self, block: Name, bits: &[u128]) -> Result<(), AllocError> {
+        let calls = self.calls;
+        let mut left = bits.iter();
+        for (place, call) in calls.iter().enumerate() {
+            if let Call::AppendBlockParam { block: owner, ty } = call {
+                if *owner == block {
+                    let bits = left.next().copied().unwrap_or(0);
+                    self.give(Name { place, answer: 0 }, Typed { ty: *ty, bits })?;
+                }
+            }
+        }
+        Ok(())
+    }
+
+    /// What a call of the block does; its results are answers from 1 on.
+    fn step(&mut self, place: usize, call: &'a Call) -> Result<Did<'a>, AllocError> {
+        let result = Name { place, answer: 1 };
+        match call {
+            Call::UseVar { variable } => {
+                let held = self.variables.get(variable.index()).copied();
+                self.give(Name { place, answer: 0 }, held.unwrap_or(NOTHING))?;
+            }
+            Call::DefVar { variable, value } => self.assign(variable.index(), self.name(*value)),
+            Call::Iconst { ty, imm } => {
+                let bits = constant(*ty, *imm);
+                self.give(result, Typed { ty: *ty, bits })?;
+            }
+            Call::Iadd { x, y } => self.give(result, self.sum_of(*x, *y))?,
+            Call::Isub { x, y } => self.give(result, self.difference_of(*x, *y))?,
+            Call::Jump { destination } => return Ok(Did::Left(destination)),
+            Call::Brif {
+                condition,
+                block_then,
+                block_else,
+            } => {
+                let is_taken = self.name(*condition).bits != 0;
+                return Ok(Did::Left(if is_taken { block_then } else { block_else }));
+            }
+            Call::Return { values } => return Ok(Did::Ended(self.all_bits(values.as_slice())?)),
+            _ => {}
+        }
+        Ok(Did::WentOn)
+    }
+}
+
+/// The variables that the script declares, each zero.
+fn variables(alloc: Global, calls: &[Call]) -> Result<Vec<Typed>, AllocError> {
+    let mut declared = Vec::new(alloc);
+    for call in calls {
+        if let Call::DeclareVar { ty } = call {
+            declared.push(Typed { ty: *ty, bits: 0 })?;
+        }
+    }
+    Ok(declared)
+}
+
+/// Whether a call is one of the current block, which it puts into the layout.
+fn is_of_block(call: &Call) -> bool {
+    match call {
+        Call::UseVar { .. }
+        | Call::EnsureInsertedBlock
+        | Call::Iconst { .. }
+        | Call::Iadd { .. }
+        | Call::Isub { .. }
+        | Call::Jump { .. }
+        | Call::Brif { .. }
+        | Call::Return { .. } => true,
+        _ => false,
+    }
+}
+
+/// The block that is current at the first call that puts one into the layout.
+fn entry(calls: &[Call]) -> Option<Name> {
+    let mut current = None;
+    for call in calls {
+        if let Call::SwitchToBlock { block } = call {
+            current = Some(*block);
+        } else if is_of_block(call) {
+            return current;
+        }
+    }
+    None
+}
+
+/// The place of the first call from `from` on that was made while the block was current.
+fn next_place(calls: &[Call], block: Name, from: usize) -> Option<usize> {
+    let mut is_current = false;
+    for (place, call) in calls.iter().enumerate() {
+        if let Call::SwitchToBlock { block: entered } = call {
+            is_current = *entered == block;
+        } else if is_current && place >= from {
+            return Some(place);
+        }
+    }
+    None
+}
+
+/// Runs the calls of the entry, with these arguments, and of the blocks that control goes to.
+pub fn run(alloc: Global, calls: &[Call], args: &[u128]) -> Result<End, AllocError> {
+    let Some(mut block) = entry(calls) else {
+        return Ok(End::Stuck);
+    };
+    let mut state = Run {
+        alloc,
+        calls,
+        variables: variables(alloc, calls)?,
+        names: Vec::new(alloc),
+    };
+    state.enter(block, args)?;
+    let mut from = 0;
+    for _ in 0..STEPS {
+        let Some(place) = next_place(calls, block, from) else {
+            return Ok(End::Stuck);
+        };
+        from = place.saturating_add(1);
+        let Some(call) = calls.get(place) else {
+            return Ok(End::Stuck);
+        };
+        match state.step(place, call)? {
+            Did::WentOn => {}
+            Did::Left(edge) => {
+                let bits = state.all_bits(edge.args.as_slice())?;
+                state.enter(edge.block, bits.as_slice())?;
+                block = edge.block;
+                from = 0;
+            }
+            Did::Ended(bits) => return Ok(End::Returned(bits)),
+        }
+    }
+    Ok(End::Running)
+}

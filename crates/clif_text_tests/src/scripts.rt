@@ -1,0 +1,225 @@
+//! Scripts that become functions, and those that are misused.
+#![tactic(auto)]
+
+use crate::data;
+use crate::support::{MANY, built, gives};
+use clif_text::read;
+use clif_text::write;
+use std::alloc::Global;
+use std::process::Abort;
+use std::test::Fail;
+
+const EMPTY_TEXT: &str = "function u0:0() fast {\n}\n";
+
+#[test]
+fn rows_and_examples(rt: HostRuntime) -> Result<(), Fail> {
+    let rows = [
+        (data::UNDEFINED_VARIABLE, data::UNDEFINED_VARIABLE_TEXT),
+        (data::LOOP_SEALED_LATE, data::LOOP_SEALED_LATE_TEXT),
+        (data::BOTH_ARMS, data::BOTH_ARMS_TEXT),
+        (data::DIAMOND, data::DIAMOND_TEXT),
+        (data::NESTED_LOOPS, data::NESTED_LOOPS_TEXT),
+        (data::PLACED, data::PLACED_TEXT),
+        ("", EMPTY_TEXT),
+        ("\n# nothing is called\n \t\r\n,", EMPTY_TEXT),
+    ];
+    for (script, text) in rows {
+        gives(&rt, rt.alloc(), script.as_bytes(), 0, text, "")?;
+        same_when_written(&rt, rt.alloc(), script, text)?;
+    }
+    Ok(())
+}
+
+// What was written reads as calls that are written the same, and gives the same function.
+fn same_when_written(rt: &impl Abort, alloc: Global, script: &str, text: &str) -> Result<(), Fail> {
+    let written = rewritten(alloc, script)?;
+    gives(rt, alloc, written.as_bytes(), 0, text, "")?;
+    assert_eq!(rt;
+        rewritten(alloc, written.as_str())?.as_str(),
+        written.as_str()
+    );
+    Ok(())
+}
+
+// The script that its calls are written as.
+fn rewritten(alloc: Global, script: &str) -> Result<String, Fail> {
+    let Ok(read) = read(alloc, script) else {
+        return Err("no script")?;
+    };
+    Ok(write(
+        alloc,
+        &read.name,
+        &read.signature,
+        read.config,
+        read.calls.as_slice(),
+    )?)
+}
+
+// Each call as it is written.
+#[test]
+fn written(rt: HostRuntime) -> Result<(), Fail> {
+    let script = "\
+conv tail
+pointer 32
+function u1:2 (i8, f32x4) -> i64x2 i128 fast
+declare_var i8x16
+create_block
+switch_to_block $1.0
+seal_block $7.18446744073709551615
+seal_all_blocks
+insert_block_after $1.0 $2.0
+set_cold_block $1.0
+ensure_inserted_block
+def_var var3 $0.0
+use_var var4294967294
+iconst.i128 -0x8000_0000_0000_0000
+iconst.f16 0xffff_ffff_ffff_ffff
+iadd $1.2 $3.4
+isub $5.6 $7.8
+jump $1.0 $2.1
+brif $1.0 $2.0 $3.0
+brif $1.0, $2.0($3.1, $4.1), $5.0()
+return ($1.0 $2.0)
+return";
+    let written = "\
+function u1:2 (i8, f32x4) -> i64x2, i128 fast
+pointer 32
+conv tail
+declare_var i8x16
+create_block
+switch_to_block $1.0
+seal_block $7.18446744073709551615
+seal_all_blocks
+insert_block_after $1.0 $2.0
+set_cold_block $1.0
+ensure_inserted_block
+def_var var3 $0.0
+use_var var4294967294
+iconst.i128 -9223372036854775808
+iconst.f16 -1
+iadd $1.2 $3.4
+isub $5.6 $7.8
+jump $1.0( $2.1)
+brif $1.0 $2.0() $3.0()
+brif $1.0 $2.0( $3.1 $4.1) $5.0()
+return $1.0 $2.0
+return
+";
+    assert_eq!(rt; rewritten(rt.alloc(), script)?.as_str(), written);
+    Ok(())
+}
+
+// Names lead to the latest answer of that name, also of a variable, and `$P.K` to any answer.
+#[test]
+fn names(rt: HostRuntime) -> Result<(), Fail> {
+    let script = "\
+function %f () -> i32 tail
+x = declare_var i8
+x = declare_var i32
+b = create_block
+switch_to_block $2.0
+@one, one = iconst.i32 1
+def_var x $4.1
+a = use_var var1
+a = use_var $1.0
+return (a)
+seal_block b";
+    let text = "\
+function %f() -> i32 tail {
+block0:
+    v0 = iconst.i32 1
+    return v0  ; v0 = 1
+}
+";
+    gives(&rt, rt.alloc(), script.as_bytes(), 0, text, "")
+}
+
+// Variables are numbered by their declarations, wherever these stand among the calls.
+#[test]
+fn variables(rt: HostRuntime) -> Result<(), Fail> {
+    let script = "\
+b = create_block
+x = declare_var i32
+switch_to_block b
+y = declare_var i32
+one = iconst.i32 1
+def_var x one
+two = iconst.i32 2
+z = declare_var i32
+def_var y, two
+def_var z one
+u = use_var y
+return u
+seal_block b";
+    let text = "\
+function u0:0() fast {
+block0:
+    v0 = iconst.i32 1
+    v1 = iconst.i32 2
+    return v1  ; v1 = 2
+}
+";
+    gives(&rt, rt.alloc(), script.as_bytes(), 0, text, "")?;
+    let written = rewritten(rt.alloc(), script)?;
+    assert!(rt; written.contains("def_var var0 $4.1\n"));
+    assert!(rt; written.contains("def_var var1 $6.1\n"));
+    assert!(rt; written.contains("def_var var2 $4.1\n"));
+    Ok(())
+}
+
+#[test]
+fn misuses(rt: HostRuntime) -> Result<(), Fail> {
+    let rows = [
+        (data::MISUSE, data::MISUSE_TEXT),
+        // an answer that isn't there, and one of another kind
+        (
+            "\n\n  seal_block $0.0 # late  ",
+            "misuse at call 0\nline 3: seal_block $0.0 # late\n",
+        ),
+        (
+            "b = create_block\nswitch_to_block b\nuse_var b",
+            "misuse at call 2\nline 3: use_var b\n",
+        ),
+        (
+            "b = create_block\nswitch_to_block b\nuse_var $7.0",
+            "misuse at call 2\nline 3: use_var $7.0\n",
+        ),
+        (
+            "b = create_block\nswitch_to_block b\nuse_var var0",
+            "misuse at call 2\nline 3: use_var var0\n",
+        ),
+        (
+            "declare_var f32",
+            "misuse at call 0\nline 1: declare_var f32\n",
+        ),
+        // a block that isn't finished
+        (
+            "b = create_block\nswitch_to_block b\niconst.i8 1",
+            "refused at call 3\nat the end\n",
+        ),
+    ];
+    for (script, err) in rows {
+        gives(&rt, rt.alloc(), script.as_bytes(), 1, "", err)?;
+    }
+    Ok(())
+}
+
+// A refused write ends with status 1, and what was written begins the text.
+#[test]
+fn refused_writes(rt: HostRuntime) -> Result<(), Fail> {
+    let ran = built(rt.alloc(), data::DIAMOND.as_bytes(), 0, MANY)?;
+    assert_eq!(rt; ran.status, 1);
+    assert!(rt; ran.out.is_empty() && ran.err.is_empty());
+    for writes in 0..MANY {
+        let ran = built(rt.alloc(), b"\nx", MANY, writes)?;
+        assert!(rt; ran.out.is_empty());
+        let text = b"script error at line 2: unknown call: x\n";
+        assert!(rt; text.starts_with(ran.err.as_slice()));
+        if ran.status == 2 {
+            assert_eq!(rt; ran.err.as_slice(), text.as_slice());
+            return Ok(());
+        }
+        assert_eq!(rt; ran.status, 1);
+    }
+    Err("no run wrote its text")?
+}

@@ -1,0 +1,88 @@
+//! Runs of the program over writers in memory.
+#![tactic(auto)]
+
+use clif_text::build;
+use std::alloc::{AllocError, Global};
+use std::io;
+use std::io::Write;
+use std::process::Abort;
+use std::test::Fail;
+
+// Takes so many writes, and refuses each later one.
+#[derive(Drop)]
+struct Limited {
+    bytes: Vec<u8>,
+    left: usize,
+}
+
+impl Limited {
+    // The room is there from the start, so that no write is refused for want of memory.
+    fn new(alloc: Global, writes: usize) -> Result<Limited, AllocError> {
+        Ok(Limited {
+            bytes: Vec::with_capacity(alloc, 65_536)?,
+            left: writes,
+        })
+    }
+}
+
+impl Write for Limited {
+    fn write(&mut self, buf: &[u8]) -> io::Result<usize> {
+        let Some(left) = self.left.checked_sub(1) else {
+            return Err(io::Error::from(io::ErrorKind::BrokenPipe));
+        };
+        self.bytes.extend_from_slice(buf)?;
+        self.left = left;
+        Ok(buf.len())
+    }
+
+    fn flush(&mut self) -> io::Result<()> {
+        Ok(())
+    }
+}
+
+/// What a run answered and wrote.
+#[derive(Drop)]
+pub struct Outcome {
+    pub status: u8,
+    pub out: Vec<u8>,
+    pub err: Vec<u8>,
+}
+
+/// More writes than a run makes.
+pub const MANY: usize = 1_000;
+
+/// Runs the program over writers that take so many writes; where memory was refused the test itself fails.
+pub fn built(
+    alloc: Global,
+    bytes: &[u8],
+    out_writes: usize,
+    err_writes: usize,
+) -> Result<Outcome, Fail> {
+    let mut out = Limited::new(alloc, out_writes)?;
+    let mut err = Limited::new(alloc, err_writes)?;
+    let status = build(alloc, bytes, &mut out, &mut err);
+    if err.bytes.as_slice() == b"no memory\n".as_slice() && status == 1 {
+        Err("no memory")?;
+    }
+    Ok(Outcome {
+        status,
+        out: out.bytes,
+        err: err.bytes,
+    })
+}
+
+/// A script gives this status and these texts.
+pub fn gives(
+    rt: &impl Abort,
+    alloc: Global,
+    script: &[u8],
+    status: u8,
+    out: &str,
+    err: &str,
+) -> Result<(), Fail> {
+    let ran = built(alloc, script, MANY, MANY)?;
+    assert_eq!(rt; ran.err.as_slice(), err.as_bytes());
+    assert_eq!(rt; ran.out.as_slice(), out.as_bytes());
+    assert_eq!(rt; ran.status, status, "and wrote {err}");
+    Ok(())
+}
