@@ -76,7 +76,7 @@ are_declared calls x ty is = ap or_invalid is
 two_in_none : (xs : List ℕ) → xs ≡ [] → 2 ≤ length xs → ⊥
 two_in_none xs none two = absurd (omega (arith, ap (λ (ys : List ℕ). length ys) none, two))
 
-none_complete : (xs : List ℕ) → (xs ≢ [] → ⊥) → xs ≡ []
+pub none_complete : (xs : List ℕ) → (xs ≢ [] → ⊥) → xs ≡ []
 none_complete [] some = refl
 none_complete (x ∷ xs) some = absurd (some (λ none. cc))
 

@@ -8,13 +8,13 @@ pub fn carrying_means_the_same()
     ensures { CarryingMeansTheSame }
 {}
 
-/// An unfinished function that carries a list of calls, with any branches, has the bits of the names and variables of the
-/// list's program, beside each run that is interrupted at unsealed blocks.
+/// An unfinished function that carries a list of calls, with any branches and parameters of the caller's, has the bits of the
+/// names and variables of the list's program, beside each run that is interrupted at unsealed blocks.
 pub fn carrying_reads_right()
     ensures { CarryingReadsRight }
 {}
 
-/// Where no branch was made, it has them from every pair of states at the front of an unsealed entry.
+/// Where no branch and no parameter of the caller's was made, it has them from every pair of states at the front of an unsealed entry.
 pub fn carrying_reads_right_from_anywhere()
     ensures { CarryingReadsRightFromAnywhere }
 {}

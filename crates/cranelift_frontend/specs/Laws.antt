@@ -15,16 +15,17 @@ use Rattle.clif_simulation.specs.Laws.{MakesNoParameters}
 use Rattle.cranelift_frontend.specs.Context.{ContextState}
 use Rattle.cranelift_frontend.specs.StandsFor.{StandsIn}
 
--- Where the parts of a builder stand for a list of calls, they read right on runs and bits, with any branches: beside a run
--- of the list's program that is interrupted at unsealed blocks, a run of the unfinished function has the bits of the names
--- and, at a block's end so far, of the variables. So far, where no call makes a parameter of the caller's. Each function is
--- consistent (`Function::law_consistent`).
+-- Where the parts of a builder stand for a list of calls, they read right on runs and bits, with any branches and parameters of
+-- the caller's: beside a run of the list's program that is interrupted at unsealed blocks, a run of the unfinished function has
+-- the bits of the names and, at a block's end so far, of the variables. Each function is consistent
+-- (`Function::law_consistent`).
 abbrev pub StandingReadsRight : Type 0
 StandingReadsRight =
     (declared : SignatureShape) (calls : List AnsweredCall) (f : Body) (c : ContextState) (position : Option ℕ)
-    → IsConsistent f → StandsIn declared calls f c position → MakesNoParameters calls → ReadsRight calls declared f c.ssa
+    → IsConsistent f → StandsIn declared calls f c position → ReadsRight calls declared f c.ssa
 
--- Where no branch was made, they do so from every pair of states at the front of an unsealed entry.
+-- Where no branch and no parameter of the caller's was made, they do so from every pair of states at the front of an unsealed
+-- entry.
 abbrev pub StandingReadsRightFromAnywhere : Type 0
 StandingReadsRightFromAnywhere =
     (declared : SignatureShape) (calls : List AnsweredCall) (f : Body) (c : ContextState) (position : Option ℕ)

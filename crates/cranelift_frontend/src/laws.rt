@@ -10,12 +10,12 @@ pub fn uses_agree()
 {}
 
 /// The unfinished function of a builder that stands for a list of calls has the bits of the names and variables of the
-/// list's program, with any branches, beside each run that is interrupted at unsealed blocks.
+/// list's program, with any branches and parameters of the caller's, beside each run that is interrupted at unsealed blocks.
 pub fn standing_reads_right()
     ensures { StandingReadsRight }
 {}
 
-/// Where no branch was made, it has them from every pair of states at the front of an unsealed entry.
+/// Where no branch and no parameter of the caller's was made, it has them from every pair of states at the front of an unsealed entry.
 pub fn standing_reads_right_from_anywhere()
     ensures { StandingReadsRightFromAnywhere }
 {}

@@ -1,4 +1,3 @@
-use Rattle.std.proofs.Common.{refl}
 use Rattle.clif_simulation.proofs.HalfRowAlong
 use Rattle.clif_simulation.proofs.LoopAlong
 use Rattle.clif_simulation.proofs.LoopConsistent
@@ -15,7 +14,7 @@ returns c = record {
   other_constant = HalfRowAlong.other_constant;
   other_record = HalfRowAlong.other_record;
   none_waiting = HalfRowAlong.none_waiting;
-  loop_reads_right = OpenReading.reads_right loop_calls both_arms_signature loop_body loop_state LoopConsistent.row_consistent LoopRow.row_carried (λ block. refl);
+  loop_reads_right = OpenReading.reads_right loop_calls both_arms_signature loop_body loop_state LoopConsistent.row_consistent LoopRow.row_carried;
   loop_other_record = LoopAlong.other_record;
   waiting_loop_reads_right = LoopWaiting.reads_right;
   waiting_loop_none_waiting = LoopWaiting.none_waiting;
