@@ -86,6 +86,7 @@ mod LoopAlong
 mod LoopPremises
 mod SamplePremises
 mod LoopWaiting
+mod LoopPassing
 -- Further calls, and parameters of the caller's.
 pub mod Further
 pub mod Appending

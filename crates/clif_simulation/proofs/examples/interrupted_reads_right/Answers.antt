@@ -1,6 +1,7 @@
 use Rattle.clif_simulation.proofs.HalfRowAlong
 use Rattle.clif_simulation.proofs.LoopAlong
 use Rattle.clif_simulation.proofs.LoopConsistent
+use Rattle.clif_simulation.proofs.LoopPassing
 use Rattle.clif_simulation.proofs.LoopRow
 use Rattle.clif_simulation.proofs.LoopWaiting
 use Rattle.clif_simulation.proofs.OpenReading
@@ -18,4 +19,6 @@ returns c = record {
   loop_other_record = LoopAlong.other_record;
   waiting_loop_reads_right = LoopWaiting.reads_right;
   waiting_loop_none_waiting = LoopWaiting.none_waiting;
+  passing_loop_reads_right = LoopPassing.reads_right;
+  passing_loop_other_argument = LoopPassing.other_argument;
 }
