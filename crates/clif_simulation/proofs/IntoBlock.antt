@@ -10,7 +10,7 @@ use Rattle.clif_ir.specs.declared.block_call.BlockArg.{BlockArg}
 use Rattle.clif_ir.specs.declared.block_call.BlockArg.TheVariants.{Value}
 use Rattle.clif_ir.specs.declared.block_call.BlockCall.{BlockCall}
 use Rattle.clif_paths.specs.Places.{Place, Arm, Path}
-use Rattle.clif_paths.specs.State.{Program, Kind, fresh, unborn, born, pending, complete, zero_of, Definition, Function}
+use Rattle.clif_paths.specs.State.{Naming, Program, Kind, fresh, unborn, born, pending, complete, zero_of, Definition, Function}
 use Rattle.clif_paths.specs.Blocks.{front, state_of}
 use Rattle.clif_paths.proofs.PathLemmas.{dec_place}
 use Rattle.clif_paths.proofs.Executing.{function_steps, denotes-past}
@@ -42,6 +42,9 @@ use Rattle.clif_simulation.proofs.Straight.{same_block}
 
 some_is : {X : Type 0} (x y : X) → Some x ≡ Some y → x ≡ y
 some_is x y e = cc
+
+born_same : (m n : ℕ) → born m ≡ born n → m ≡ n
+born_same m n h = cc
 
 module _ (calls : List AnsweredCall) (f : Body) (s : SsaState) (consistent : IsConsistent f) (carries : Whole calls f s) (b : ℕ) where
   abbrev pub function : Function
@@ -94,6 +97,20 @@ module _ (calls : List AnsweredCall) (f : Body) (s : SsaState) (consistent : IsC
     pub parameter_defined : (x : Name) → In x parameters → function.definition (answered calls x) ≡ record { home = front b; kind = born (code x) }
     parameter_defined x there =
         ItemsAt.parameter_defined calls carries.own f s carries.tables carries.program carries.describes b B named x (in_contained parameters x there)
+
+    -- such an answer is no alias, and different ones have different answers
+    pub parameter_live : (x : Name) → In x parameters → resolved f (answered calls x) ≡ answered calls x
+    parameter_live x there =
+        let naming = parameter_named x there in
+        let born = carries.describes.born_there (code x) (not_start (carries.tables.naming (code x)).home b 0 (ap (λ (m : Naming). m.home) naming))
+        (ap (λ (m : Naming). m.origin) naming) in
+        subst (λ (v : ℕ). resolved f v ≡ v) (carries.program.parameter b B named x (in_contained parameters x there)).1 born.1
+
+    pub parameters_apart : (x y : Name) → In x parameters → In y parameters → answered calls x ≡ answered calls y → x ≡ y
+    parameters_apart x y in_x in_y same =
+        Codes.differ x y
+        (born_same (code x) (code y)
+        (ap (λ (d : Definition). d.kind) (sym (parameter_defined x in_x) ∙ ap function.definition same ∙ parameter_defined y in_y)))
 
     pub only_parameters : (x : Name) → (carries.tables.naming (code x)).home ≡ front b → In x parameters
     only_parameters x at =

@@ -11,8 +11,6 @@ use Rattle.clif_paths.specs.Places.{Place, Arm, Path}
 use Rattle.clif_paths.specs.State.{Program, Function}
 use Rattle.clif_paths.specs.Blocks.{front, sealed_at, state_of}
 use Rattle.clif_ssa.specs.declared.tables.Pending.{Pending}
-use Rattle.clif_ssa.specs.declared.tables.Sealed.{Sealed}
-use Rattle.clif_ssa.specs.declared.tables.Sealed.TheVariants.{No, Yes}
 use Rattle.clif_ssa.specs.Ssa.{SsaState, sealed_of}
 use Rattle.clif_ssa.specs.Structured.{AreFor, EdgePasses, HasParameters}
 use Rattle.clif_ssa.specs.Tables.{is_yes, pending_of}
@@ -31,15 +29,10 @@ use Rattle.clif_simulation.proofs.ItemsAt.{stands_for_itself}
 use Rattle.clif_simulation.proofs.OpenFront
 use Rattle.clif_simulation.proofs.OpenWith.{OpensWith, opened_agrees, opened_zeros}
 use Rattle.clif_simulation.proofs.Placing.{map_length}
-use Rattle.clif_simulation.proofs.Whole.{Whole, are_declared, declared_types, none_complete}
+use Rattle.clif_simulation.proofs.Whole.{Whole, are_declared, declared_types, none_complete, sealed_none}
 
 not_both : (t : Bool) → t ≡ true → t ≡ false → ⊥
 not_both t one other = cc
-
--- in a sealed block nothing waits
-sealed_none : (entry : Sealed) → is_yes entry ≡ true → pending_of entry ≡ []
-sealed_none (No waiting) is = cc
-sealed_none Yes is = refl
 
 -- there is a value for each parameter
 for_none : (f : Body) (values params : List ℕ) → AreFor f values params → params ≡ [] → values ≡ []

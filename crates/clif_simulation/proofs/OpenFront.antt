@@ -17,7 +17,6 @@ use Rattle.clif_meaning.specs.FunctionMachine.{same_value}
 use Rattle.clif_meaning.proofs.StraightLine.{nothing_contained}
 use Rattle.clif_simulation.specs.Interrupted.{values_entering}
 use Rattle.clif_simulation.specs.Tables.{answered, block_name, code, program_so_far}
-use Rattle.clif_simulation.proofs.Codes
 use Rattle.clif_simulation.proofs.Giving.{In, contained_in, in_contained, name_keeps, value_keeps, same_all}
 use Rattle.clif_simulation.proofs.Interrupting.{waiting_gets, waiting_leaves}
 use Rattle.clif_simulation.proofs.IntoBlock
@@ -37,9 +36,6 @@ pending_no_born x n h = cc
 
 born_no_zero : (n y : ℕ) → born n ≡ zero_of y → ⊥
 born_no_zero n y h = cc
-
-born_same : (m n : ℕ) → born m ≡ born n → m ≡ n
-born_same m n h = cc
 
 not_both : (t : Bool) → t ≡ true → t ≡ false → ⊥
 not_both t one other = cc
@@ -96,15 +92,9 @@ module _ (calls : List AnsweredCall) (f : Body) (s : SsaState) (consistent : IsC
             subst (λ (c : ℕ). Contains (pending_of (sealed_of s c)) (record { variable = x; param = w })) (same_block home) found.1
         by (inr none) = absurd (nothing_contained {X = Pending} (record { variable = x; param = w }) none)
 
-    apart : (m n : Name) → In m parameters → In n parameters → answered calls m ≡ answered calls n → m ≡ n
-    apart m n in_m in_n same =
-        Codes.differ m n
-        (born_same (code m) (code n)
-        (ap (λ (d : Definition). d.kind) (sym (defined_there m in_m) ∙ ap function.definition same ∙ defined_there n in_n)))
-
     gives : (n : Name) → In n parameters → after n ≡ new (answered calls n)
     gives n there =
-        same_all (answered calls) parameters mine names old n apart there as_many ∙ sym (is (answered calls n))
+        same_all (answered calls) parameters mine names old n (IntoBlock.parameters_apart calls f s consistent carries b B named) there as_many ∙ sym (is (answered calls n))
         ∙ sym (waiting_leaves waiting bits between (answered calls n)
         (λ p here e. pending_no_born p.variable (code n)
         (waits_kind p here (answered calls n) (born (code n)) (ap (λ (d : Definition). d.kind) (defined_there n there)) e)))

@@ -29,7 +29,7 @@ use Rattle.clif_meaning.specs.WellPlaced.{program_code, IsWellPlaced}
 use Rattle.clif_meaning.proofs.Stuttering.{Simulates, steps_from}
 use Rattle.clif_simulation.specs.Tables.{answered, block_name, program_so_far}
 use Rattle.clif_simulation.proofs.Whole.{Whole}
-use Rattle.clif_simulation.specs.Laws.{IsFinished, MakesNoParameters}
+use Rattle.clif_simulation.specs.Laws.{IsFinished}
 use Rattle.clif_simulation.proofs.Agreement.{Agrees, ZerosAreZero, agrees_still, zeros_agree, zeros_still}
 use Rattle.clif_simulation.proofs.IntoBlock
 use Rattle.clif_simulation.proofs.Entered.{EntersThere, entered_agrees, entered_zeros}
@@ -62,11 +62,12 @@ no_elements : {X : Type 0} (xs : List X) → length xs ≡ 0 → xs ≡ []
 no_elements [] none = refl
 no_elements (x ∷ xs) none = absurd (omega (arith, none))
 
--- none, where no block has a parameter
-pub no_arguments : (calls : List AnsweredCall) (entry : Name) (types : List «Type») (world : World) → MakesNoParameters calls → (program_so_far calls).entry ≡ Some entry
+-- none, where it has none
+pub no_arguments : (calls : List AnsweredCall) (entry : Name) (types : List «Type») (world : World) → (program_so_far calls).parameters entry ≡ []
+    → (program_so_far calls).entry ≡ Some entry
     → EntryTakes (ledger_after (script_of calls)) (program_so_far calls) types (program_so_far calls).entry → AreValues types world.arguments → world.arguments ≡ []
 no_arguments calls entry types world bare is_entry takes are =
-    no_elements world.arguments (arguments_count calls entry types world is_entry takes are ∙ ap (λ (names : List Name). length names) (bare entry))
+    no_elements world.arguments (arguments_count calls entry types world is_entry takes are ∙ ap (λ (names : List Name). length names) bare)
 
 pub none_assigned : {Place : Type 0} (same : Place → Place → Bool) (places : List Place) (values : List Bits) (old : Place → Bits) → values ≡ []
     → assigned same places values old ≡ old

@@ -12,7 +12,7 @@ use Rattle.clif_meaning.specs.Request.{AnsweredCall, script_of}
 use Rattle.clif_meaning.specs.Ledger.{ledger_after, is_filled}
 use Rattle.clif_meaning.specs.View.{view_of}
 use Rattle.clif_meaning.specs.Headline.{MeansTheSame}
-use Rattle.clif_simulation.specs.Tables.{code, block_name, program_so_far}
+use Rattle.clif_simulation.specs.Tables.{code, block_name}
 use Rattle.clif_simulation.specs.Carries.{Carries, NothingLeads}
 use Rattle.clif_simulation.specs.Reading.{ReadsRightFromAnywhere}
 use Rattle.clif_simulation.specs.Interrupted.{ReadsRight}
@@ -43,13 +43,8 @@ CarryingReadsRight =
     (calls : List AnsweredCall) (signature : SignatureShape) (f : Body) (s : SsaState)
     → IsConsistent f → Carries calls f s → ReadsRight calls signature f s
 
--- no block has a parameter that the caller made
-abbrev pub MakesNoParameters : List AnsweredCall → Type 0
-MakesNoParameters calls = (block : Name) → (program_so_far calls).parameters block ≡ []
-
--- Where no branch and no parameter of the caller's was made, it does so from every pair of states at the front of an unsealed
--- entry.
+-- Where no branch was made, it does so from every pair of states at the front of an unsealed entry.
 abbrev pub CarryingReadsRightFromAnywhere : Type 0
 CarryingReadsRightFromAnywhere =
     (calls : List AnsweredCall) (signature : SignatureShape) (f : Body) (s : SsaState)
-    → IsConsistent f → Carries calls f s → NothingLeads s → MakesNoParameters calls → ReadsRightFromAnywhere calls signature f s
+    → IsConsistent f → Carries calls f s → NothingLeads s → ReadsRightFromAnywhere calls signature f s

@@ -14,7 +14,7 @@ pub fn carrying_reads_right()
     ensures { CarryingReadsRight }
 {}
 
-/// Where no branch and no parameter of the caller's was made, it has them from every pair of states at the front of an unsealed entry.
+/// Where no branch was made, it has them from every pair of states at the front of an unsealed entry.
 pub fn carrying_reads_right_from_anywhere()
     ensures { CarryingReadsRightFromAnywhere }
 {}

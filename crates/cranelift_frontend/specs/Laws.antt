@@ -11,7 +11,6 @@ use Rattle.clif_simulation.specs.Carries.{NothingLeads}
 use Rattle.clif_simulation.specs.Structure.{NoneWaits}
 use Rattle.clif_simulation.specs.Reading.{ReadsRightFromAnywhere}
 use Rattle.clif_simulation.specs.Interrupted.{ReadsRight}
-use Rattle.clif_simulation.specs.Laws.{MakesNoParameters}
 use Rattle.cranelift_frontend.specs.Context.{ContextState}
 use Rattle.cranelift_frontend.specs.StandsFor.{StandsIn}
 
@@ -24,12 +23,11 @@ StandingReadsRight =
     (declared : SignatureShape) (calls : List AnsweredCall) (f : Body) (c : ContextState) (position : Option ℕ)
     → IsConsistent f → StandsIn declared calls f c position → ReadsRight calls declared f c.ssa
 
--- Where no branch and no parameter of the caller's was made, they do so from every pair of states at the front of an unsealed
--- entry.
+-- Where no branch was made, they do so from every pair of states at the front of an unsealed entry.
 abbrev pub StandingReadsRightFromAnywhere : Type 0
 StandingReadsRightFromAnywhere =
     (declared : SignatureShape) (calls : List AnsweredCall) (f : Body) (c : ContextState) (position : Option ℕ)
-    → IsConsistent f → StandsIn declared calls f c position → NothingLeads c.ssa → MakesNoParameters calls → ReadsRightFromAnywhere calls declared f c.ssa
+    → IsConsistent f → StandsIn declared calls f c position → NothingLeads c.ssa → ReadsRightFromAnywhere calls declared f c.ssa
 
 -- Once no parameter waits, the arguments of every edge and the parameters of its target agree, where the caller's do:
 -- edges that control never takes, and edges to the entry, are no exception.

@@ -15,7 +15,7 @@ pub fn standing_reads_right()
     ensures { StandingReadsRight }
 {}
 
-/// Where no branch and no parameter of the caller's was made, it has them from every pair of states at the front of an unsealed entry.
+/// Where no branch was made, it has them from every pair of states at the front of an unsealed entry.
 pub fn standing_reads_right_from_anywhere()
     ensures { StandingReadsRightFromAnywhere }
 {}
