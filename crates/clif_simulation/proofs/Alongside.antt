@@ -80,7 +80,7 @@ mapped_count g (x ∷ xs) = ap suc (mapped_count g xs)
 
 module _ (calls : List AnsweredCall) (f : Body) (ssa : SsaState) (consistent : IsConsistent f) (carries : CarriesUnbranched calls f ssa)
     (entry : Name) (is_entry : (program_so_far calls).entry ≡ Some entry) (placed : IsWellPlaced (program_code (program_so_far calls)))
-    (sealed : ℕ → Bool) (joins : Edges) (opens : Opens carries.tables (Entry.e calls f ssa carries entry is_entry) sealed joins)
+    (sealed : ℕ → Bool) (joins : Edges) (opens : Opens carries.whole.tables (Entry.e calls f ssa carries entry is_entry) sealed joins)
     (width : PointerWidth) (world : World) (tracked : Name → Bool) (collector : Collector)
   where
     abbrev pub left_run : ScriptRun
@@ -96,7 +96,7 @@ module _ (calls : List AnsweredCall) (f : Body) (ssa : SsaState) (consistent : I
     e = Entry.e calls f ssa carries entry is_entry
 
     abbrev pub tables : Blocks
-    tables = carries.tables
+    tables = carries.whole.tables
 
     abbrev pub program : Program
     program = (state_of tables).program
@@ -109,12 +109,12 @@ module _ (calls : List AnsweredCall) (f : Body) (ssa : SsaState) (consistent : I
     edges = Opened.edges calls f ssa carries entry is_entry placed sealed joins opens
 
     under : SoundUnder edges (state_of tables)
-    under = carries.sound.sound.under edges (Opened.allowed calls f ssa carries entry is_entry placed sealed joins opens)
+    under = carries.whole.sound.sound.under edges (Opened.allowed calls f ssa carries entry is_entry placed sealed joins opens)
 
     pub ends : (u : ℕ) → tables.function.resolve (tables.function.resolve u) ≡ tables.function.resolve u
     ends u =
-        carries.describes.resolves (tables.function.resolve u) ∙ ap (resolved f) (carries.describes.resolves u)
-        ∙ Entry.resolved_twice f u consistent ∙ sym (carries.describes.resolves u)
+        carries.whole.describes.resolves (tables.function.resolve u) ∙ ap (resolved f) (carries.whole.describes.resolves u)
+        ∙ Entry.resolved_twice f u consistent ∙ sym (carries.whole.describes.resolves u)
 
     counted : tables.count e ≡ length items
     counted = Entry.counted calls f ssa carries entry is_entry
@@ -129,7 +129,7 @@ module _ (calls : List AnsweredCall) (f : Body) (ssa : SsaState) (consistent : I
       pub names : Name → ℕ
       pub values : ℕ → ℕ
       pub agrees : Agrees any_value program function (straight e k) p.variables names values
-      pub names_are : (x : Name) (j : ℕ) → j < k → (tables.naming (code x)).home ≡ inside e (suc j) → names x ≡ p.names x
+      pub names_are : (x : Name) (i : ℕ) → i ≤ k → (tables.naming (code x)).home ≡ inside e i → names x ≡ p.names x
       pub values_are : (w i : ℕ) → i ≤ k → (function.definition w).home ≡ inside e i → values w ≡ q.values w
 
     follows : (k : ℕ) → k ≤ length items → Follows edges (straight e k)
@@ -159,25 +159,27 @@ module _ (calls : List AnsweredCall) (f : Body) (ssa : SsaState) (consistent : I
         }
 
     -- a name that was given has its value's bits
-    pub given_bits : (k : ℕ) (p : ScriptState) (q : FunctionState) → Alongside k p q → (x : Name) (j : ℕ) → j < k
-        → (tables.naming (code x)).home ≡ inside e (suc j) → tables.answer (code x) ≡ answered calls x
+    pub given_bits : (k : ℕ) (p : ScriptState) (q : FunctionState) → Alongside k p q → (x : Name) → Entry.IsEarlier calls f ssa carries entry is_entry k x
         → p.names x ≡ q.values (resolved f (answered calls x))
-    given_bits k p q a x j before home answer =
+    given_bits k p q a x earlier =
+        let i : ℕ = earlier.at in
+        let before : i ≤ k = earlier.within in
+        let home : (tables.naming (code x)).home ≡ inside e i = earlier.home in
         let v : ℕ = tables.answer (code x) in
         let u : ℕ = tables.function.resolve v in
         let holds : Holds edges program tables.function v (name (code x)) (tables.naming (code x)).home =
-        under.answers (code x) (no_start (tables.naming (code x)).home e (suc j) home) in
-        let here : Holds edges program tables.function v (name (code x)) (inside e (suc j)) =
+        under.answers (code x) (no_start (tables.naming (code x)).home e i home) in
+        let here : Holds edges program tables.function v (name (code x)) (inside e i) =
         subst (λ (place : Place). Holds edges program tables.function v (name (code x)) place) home holds in
-        let way = follows (suc j) (omega (arith, a.within, before)) in
-        let at : Found v (suc j) = found v (suc j) (omega (arith, a.within, before)) (here.there.on_every_path (straight e (suc j)) way (straight_end e (suc j))) in
+        let way = follows i (omega (arith, a.within, before)) in
+        let at : Found v i = found v i (omega (arith, a.within, before)) (here.there.on_every_path (straight e i) way (straight_end e i)) in
         let same : instances program (straight e k) (name (code x)) ≡ denotes program function (straight e k) u =
-        name_stays program e (suc j) (code x) k home (omega (arith, before))
-        ∙ sym (here.agrees (straight e (suc j)) way (straight_end e (suc j)))
+        name_stays program e i (code x) k home before
+        ∙ sym (here.agrees (straight e i) way (straight_end e i))
         ∙ sym at.same
-        ∙ sym (value_stays program function e at.i (suc j) u k at.home at.before (omega (arith, before))) in
-        let is : u ≡ resolved f (answered calls x) = carries.describes.resolves v ∙ ap (resolved f) answer in
-        sym (a.names_are x j before home) ∙ a.agrees.of_name x u tt same ∙ a.values_are u at.i (omega (arith, at.before, before)) at.home ∙ ap q.values is
+        ∙ sym (value_stays program function e at.i i u k at.home at.before before) in
+        let is : u ≡ resolved f (answered calls x) = carries.whole.describes.resolves v ∙ ap (resolved f) earlier.answer in
+        sym (a.names_are x i before home) ∙ a.agrees.of_name x u tt same ∙ a.values_are u at.i (omega (arith, at.before, before)) at.home ∙ ap q.values is
 
     -- at the end so far each record has its variable's bits
     pub recorded_bits : (k : ℕ) (p : ScriptState) (q : FunctionState) → Alongside k p q → k ≡ length items → (x v : ℕ) → record_of ssa x e ≡ Some v
@@ -186,14 +188,14 @@ module _ (calls : List AnsweredCall) (f : Body) (ssa : SsaState) (consistent : I
         let u : ℕ = tables.function.resolve v in
         let last : tables.count e ≡ k = counted ∙ sym at_end in
         let holds : Holds edges program tables.function v (variable x) (inside e (tables.count e)) =
-        under.records (inside e (tables.count e)) x v (recorded_at-last tables.count tables.recorded e x ∙ carries.describes.recorded e x ∙ is) in
+        under.records (inside e (tables.count e)) x v (recorded_at-last tables.count tables.recorded e x ∙ carries.whole.describes.recorded e x ∙ is) in
         let here : Holds edges program tables.function v (variable x) (inside e k) =
         subst (λ (c : ℕ). Holds edges program tables.function v (variable x) (inside e c)) last holds in
         let way = follows k a.within in
         let at : Found v k = found v k a.within (here.there.on_every_path (straight e k) way (straight_end e k)) in
         let same : instances program (straight e k) (variable x) ≡ denotes program function (straight e k) u =
         sym (here.agrees (straight e k) way (straight_end e k)) ∙ sym at.same in
-        a.agrees.of_variable x u tt same ∙ a.values_are u at.i at.before at.home ∙ ap q.values (carries.describes.resolves v)
+        a.agrees.of_variable x u tt same ∙ a.values_are u at.i at.before at.home ∙ ap q.values (carries.whole.describes.resolves v)
 
     -- What stands at the place of an item -----------------------------------------------------------------------------
 
@@ -212,13 +214,13 @@ module _ (calls : List AnsweredCall) (f : Body) (ssa : SsaState) (consistent : I
     gives_there : (k place : ℕ) (instruction : Instruction Name Name) (results : List Name) → slice_get items k ≡ Some (Instruct place instruction results)
         → GivesThere any_value program function (next_arm e k) (straight e k) results (answered calls)
     gives_there k place instruction results stands =
-        let g = ItemsAt.gives_there calls carries.own f ssa tables carries.program carries.describes e entry (Entry.named calls f ssa carries entry is_entry) k place instruction results stands (straight e k) in
+        let g = ItemsAt.gives_there calls carries.whole.own f ssa tables carries.whole.program carries.whole.describes e entry (Entry.named calls f ssa carries entry is_entry) k place instruction results stands (straight e k) in
         let end : (n : Name) → In n results → tables.function.resolve (answered calls n) ≡ answered calls n = λ n there.
         let home : (tables.naming (code n)).home ≡ inside e (suc k) = ap (λ (m : Naming). m.home) (g.named n there) in
-        let born_there = carries.describes.born_there (code n) (no_start (tables.naming (code n)).home e (suc k) home) (ap (λ (m : Naming). m.origin) (g.named n there)) in
+        let born_there = carries.whole.describes.born_there (code n) (no_start (tables.naming (code n)).home e (suc k) home) (ap (λ (m : Naming). m.origin) (g.named n there)) in
         let answer : tables.answer (code n) ≡ answered calls n =
         (Entry.given_at calls f ssa carries entry is_entry k (Instruct place instruction results) stands n (in_contained results n there)).1 in
-        carries.describes.resolves (answered calls n) ∙ ap (resolved f) (sym answer) ∙ born_there.1 ∙ answer in
+        carries.whole.describes.resolves (answered calls n) ∙ ap (resolved f) (sym answer) ∙ born_there.1 ∙ answer in
         let defined : (n : Name) → In n results → function.definition (answered calls n) ≡ record { home = inside e (suc k); kind = born (code n) } = λ n there.
         defined-end tables.function (answered calls n) (end n there) ∙ g.defined n there in
         record {
@@ -237,7 +239,7 @@ module _ (calls : List AnsweredCall) (f : Body) (ssa : SsaState) (consistent : I
 
     uses_there : (k x : ℕ) (used : Name) → slice_get items k ≡ Some (Use x used) → UsesThere program function (next_arm e k) x used
     uses_there k x used stands =
-        let u = ItemsAt.uses_there calls carries.own f ssa tables carries.program carries.describes e entry (Entry.named calls f ssa carries entry is_entry) k x used stands in
+        let u = ItemsAt.uses_there calls carries.whole.own f ssa tables carries.whole.program carries.whole.describes e entry (Entry.named calls f ssa carries entry is_entry) k x used stands in
         record {
           known = known k (Use x used) stands;
           unassigned = u.unassigned;
@@ -248,7 +250,7 @@ module _ (calls : List AnsweredCall) (f : Body) (ssa : SsaState) (consistent : I
 
     assigns_there : (k x : ℕ) (from : Name) → slice_get items k ≡ Some (Assign x from) → AssignsThere program function (next_arm e k) x from
     assigns_there k x from stands =
-        let u = ItemsAt.assigns_there calls carries.own f ssa tables carries.program carries.describes e entry (Entry.named calls f ssa carries entry is_entry) k x from stands in
+        let u = ItemsAt.assigns_there calls carries.whole.own f ssa tables carries.whole.program carries.whole.describes e entry (Entry.named calls f ssa carries entry is_entry) k x from stands in
         record {
           known = known k (Assign x from) stands;
           written = u.written;
@@ -269,7 +271,7 @@ module _ (calls : List AnsweredCall) (f : Body) (ssa : SsaState) (consistent : I
         holds : Holds edges program tables.function v (variable x) (inside e (suc k))
         holds =
             subst (λ (c : ℕ). Holds edges program tables.function v (variable x) (inside e c)) (counted ∙ sym at_end)
-            (under.records (inside e (tables.count e)) x v (recorded_at-last tables.count tables.recorded e x ∙ carries.describes.recorded e x ∙ is))
+            (under.records (inside e (tables.count e)) x v (recorded_at-last tables.count tables.recorded e x ∙ carries.whole.describes.recorded e x ∙ is))
 
         way : Follows edges (straight e (suc k))
         way = follows (suc k) (omega (arith, at_end))
@@ -296,13 +298,13 @@ module _ (calls : List AnsweredCall) (f : Body) (ssa : SsaState) (consistent : I
         by : (at.i ≤ k) ⊎ (at.i ≡ suc k) → p.variables x ≡ q.values (resolved f v)
         by (inl before) =
             a.agrees.of_variable x (tables.function.resolve v) tt same ∙ a.values_are (tables.function.resolve v) at.i before at.home
-            ∙ ap q.values (carries.describes.resolves v)
+            ∙ ap q.values (carries.whole.describes.resolves v)
         by (inr here) = absurd (not_given (at.home ∙ ap (inside e) here))
 
     -- Each item -------------------------------------------------------------------------------------------------------
 
-    below_or_at : (j k : ℕ) → j < suc k → (j < k) ⊎ (j ≡ k)
-    below_or_at j k below = grind arith
+    below_or_at : (i k : ℕ) → i ≤ suc k → (i ≤ k) ⊎ (i ≡ suc k)
+    below_or_at i k within = grind arith
 
     behind_item : (k : ℕ) (item : Item) (rest : List Item) → drop k items ≡ item ∷ rest → suc k ≤ length items
     behind_item k item rest here = omega (arith, place_within items k item (item_here items k item rest here))
@@ -311,11 +313,8 @@ module _ (calls : List AnsweredCall) (f : Body) (ssa : SsaState) (consistent : I
     same_values : (k : ℕ) (q : FunctionState) (values : ℕ → ℕ) → ((w : ℕ) → (function.definition w).home ≢ inside e (suc k))
         → ((w i : ℕ) → i ≤ k → (function.definition w).home ≡ inside e i → values w ≡ q.values w)
         → (w i : ℕ) → i ≤ suc k → (function.definition w).home ≡ inside e i → values w ≡ q.values w
-    same_values k q values none before w i within at = by (order i k within)
+    same_values k q values none before w i within at = by (below_or_at i k within)
       where
-        order : (i k : ℕ) → i ≤ suc k → (i ≤ k) ⊎ (i ≡ suc k)
-        order i k within = grind arith
-
         by : (i ≤ k) ⊎ (i ≡ suc k) → values w ≡ q.values w
         by (inl earlier) = before w i earlier at
         by (inr here) = absurd (none w (at ∙ ap (inside e) here))
@@ -343,16 +342,16 @@ module _ (calls : List AnsweredCall) (f : Body) (ssa : SsaState) (consistent : I
           names = assigned same_name (used ∷ []) (p.variables x ∷ []) a.names;
           values = a.values;
           agrees = used_agrees any_value program function (next_arm e k) (straight e k) x used uses p.variables a.names a.values a.agrees;
-          names_are = λ n j below home. by uses n j (below_or_at j k below) home (same_or_other n used);
+          names_are = λ n i within home. by uses n i (below_or_at i k within) home (same_or_other n used);
           values_are = same_values k q a.values uses.no_values a.values_are;
         }
       where
-        by : UsesThere program function (next_arm e k) x used → (n : Name) (j : ℕ) → (j < k) ⊎ (j ≡ k) → (tables.naming (code n)).home ≡ inside e (suc j)
+        by : UsesThere program function (next_arm e k) x used → (n : Name) (i : ℕ) → (i ≤ k) ⊎ (i ≡ suc k) → (tables.naming (code n)).home ≡ inside e i
             → ((same_name n used ≡ true) × (n ≡ used)) ⊎ ((same_name n used ≡ false) × (n ≢ used))
             → assigned same_name (used ∷ []) (p.variables x ∷ []) a.names n ≡ assigned same_name (used ∷ []) (p.variables x ∷ []) p.names n
-        by uses n j order home (inl one) = rw (one.0) refl
-        by uses n j (inl below) home (inr other) = rw (other.0) (a.names_are n j below home)
-        by uses n j (inr at) home (inr other) = absurd (other.1 (uses.only_names n (home ∙ ap (λ (i : ℕ). inside e (suc i)) at)))
+        by uses n i order home (inl one) = rw (one.0) refl
+        by uses n i (inl before) home (inr other) = rw (other.0) (a.names_are n i before home)
+        by uses n i (inr at) home (inr other) = absurd (other.1 (uses.only_names n (home ∙ ap (inside e) at)))
 
     assign_step : (k x : ℕ) (from : Name) (rest : List Item) (p : ScriptState) (q : FunctionState) → drop k items ≡ Assign x from ∷ rest → Alongside k p q
         → Alongside (suc k) (script.run_item left_run p (Assign x from) rest) q
@@ -370,19 +369,19 @@ module _ (calls : List AnsweredCall) (f : Body) (ssa : SsaState) (consistent : I
           values = a.values;
           agrees = subst (λ (bits : ℕ). Agrees any_value program function (next_arm e k ∷ straight e k) (assigned script.same_variable (x ∷ []) (bits ∷ []) p.variables) a.names a.values) is
               (assigned_agrees any_value program function (next_arm e k) (straight e k) x from assigns p.variables a.names a.values a.agrees);
-          names_are = λ n j below home. by assigns n j (below_or_at j k below) home;
+          names_are = λ n i within home. by assigns n i (below_or_at i k within) home;
           values_are = same_values k q a.values assigns.no_values a.values_are;
         }
       where
         assigned_name : slice_get items k ≡ Some (Assign x from) → a.names from ≡ p.names from
         assigned_name stands =
             let before = Entry.named_before calls f ssa carries entry is_entry placed k (Assign x from) stands from (0, omega arith, refl) in
-            a.names_are from before.0 before.1 before.2
+            a.names_are from before.at before.within before.home
 
-        by : AssignsThere program function (next_arm e k) x from → (n : Name) (j : ℕ) → (j < k) ⊎ (j ≡ k) → (tables.naming (code n)).home ≡ inside e (suc j)
+        by : AssignsThere program function (next_arm e k) x from → (n : Name) (i : ℕ) → (i ≤ k) ⊎ (i ≡ suc k) → (tables.naming (code n)).home ≡ inside e i
             → a.names n ≡ p.names n
-        by assigns n j (inl below) home = a.names_are n j below home
-        by assigns n j (inr at) home = absurd (assigns.no_names n (home ∙ ap (λ (i : ℕ). inside e (suc i)) at))
+        by assigns n i (inl before) home = a.names_are n i before home
+        by assigns n i (inr at) home = absurd (assigns.no_names n (home ∙ ap (inside e) at))
 
     -- an instruction, with numbers in place of names
     answered_placed : Instruction Name Name → List Name → Placed
@@ -407,23 +406,20 @@ module _ (calls : List AnsweredCall) (f : Body) (ssa : SsaState) (consistent : I
           names = assigned same_name results bits a.names;
           values = assigned same_value (map (answered calls) results) bits a.values;
           agrees = given_agrees any_value program function (next_arm e k) (straight e k) results (answered calls) gives p.variables a.names a.values a.agrees bits;
-          names_are = λ n j below home. name_is gives n j (below_or_at j k below) home;
-          values_are = λ w i within at. value_is gives w i (order i k within) at;
+          names_are = λ n i within home. name_is gives n i (below_or_at i k within) home;
+          values_are = λ w i within at. value_is gives w i (below_or_at i k within) at;
         }
       where
-        order : (i k : ℕ) → i ≤ suc k → (i ≤ k) ⊎ (i ≡ suc k)
-        order i k within = grind arith
-
         apart : (i j : ℕ) (h : Place) → i < j → h ≡ inside e i → h ≡ inside e j → ⊥
         apart i j h below one other = absurd (omega (arith, below, same_step (sym one ∙ other)))
 
-        name_is : GivesThere any_value program function (next_arm e k) (straight e k) results (answered calls) → (n : Name) (j : ℕ) → (j < k) ⊎ (j ≡ k)
-            → (tables.naming (code n)).home ≡ inside e (suc j) → assigned same_name results bits a.names n ≡ assigned same_name results bits p.names n
-        name_is gives n j (inl below) home =
-            let out : In n results → ⊥ = λ there. apart (suc j) (suc k) (tables.naming (code n)).home (omega (arith, below)) home (ap (λ (m : Naming). m.home) (gives.named n there)) in
-            name_keeps results bits a.names n out ∙ a.names_are n j below home ∙ sym (name_keeps results bits p.names n out)
-        name_is gives n j (inr at) home =
-            same_given_places same_name name_cases results bits a.names p.names n as_many (gives.only_names n (home ∙ ap (λ (i : ℕ). inside e (suc i)) at))
+        name_is : GivesThere any_value program function (next_arm e k) (straight e k) results (answered calls) → (n : Name) (i : ℕ) → (i ≤ k) ⊎ (i ≡ suc k)
+            → (tables.naming (code n)).home ≡ inside e i → assigned same_name results bits a.names n ≡ assigned same_name results bits p.names n
+        name_is gives n i (inl before) home =
+            let out : In n results → ⊥ = λ there. apart i (suc k) (tables.naming (code n)).home (omega (arith, before)) home (ap (λ (m : Naming). m.home) (gives.named n there)) in
+            name_keeps results bits a.names n out ∙ a.names_are n i before home ∙ sym (name_keeps results bits p.names n out)
+        name_is gives n i (inr at) home =
+            same_given_places same_name name_cases results bits a.names p.names n as_many (gives.only_names n (home ∙ ap (inside e) at))
 
         value_is : GivesThere any_value program function (next_arm e k) (straight e k) results (answered calls) → (w i : ℕ) → (i ≤ k) ⊎ (i ≡ suc k)
             → (function.definition w).home ≡ inside e i
@@ -475,8 +471,7 @@ module _ (calls : List AnsweredCall) (f : Body) (ssa : SsaState) (consistent : I
         let stands : slice_get items k ≡ Some (Instruct place instruction results) = item_here items k (Instruct place instruction results) rest here in
         let operands : map p.names instruction.operands ≡ map (value_bits right_run q) (map (answered calls) instruction.operands) =
         same_bits instruction.operands p.names (value_bits right_run q) (answered calls) (λ x there.
-        let before = Entry.named_before calls f ssa carries entry is_entry placed k (Instruct place instruction results) stands x (in_contained instruction.operands x there) in
-        given_bits k p q a x before.0 before.1 before.2 before.3) in
+        given_bits k p q a x (Entry.named_before calls f ssa carries entry is_entry placed k (Instruct place instruction results) stands x (in_contained instruction.operands x there))) in
         let outcome : Outcome = outcome_of world instruction.operation instruction.controlling (map p.names instruction.operands) p.memory in
         let same : outcome_of world instruction.operation instruction.controlling (map (value_bits right_run q) (map (answered calls) instruction.operands)) q.memory
         ≡ outcome_of world instruction.operation instruction.controlling (map p.names instruction.operands) p.memory =

@@ -13,14 +13,14 @@ use Rattle.clif_ssa.specs.Ssa.{SsaState}
 use Rattle.clif_ssa.specs.Sound.{IsEdgeInto, entry_of, has_entry}
 use Rattle.clif_meaning.specs.Name.{Name}
 use Rattle.clif_meaning.specs.Request.{AnsweredCall}
-use Rattle.clif_meaning.specs.Program.{Program, Item}
+use Rattle.clif_meaning.specs.Program.{Item}
 use Rattle.clif_meaning.specs.WellPlaced.{item_gives, item_names, program_code, IsWellPlaced, IsGivenAlong, given_on_entry}
 use Rattle.clif_meaning.proofs.StraightLine.{nothing_contained}
 use Rattle.clif_simulation.specs.Tables.{code, answered, program_so_far, block_name, origin_of}
 use Rattle.clif_simulation.specs.Laws.{IsFinished}
 use Rattle.clif_simulation.proofs.Straight.{OnlyEntry}
 use Rattle.clif_simulation.proofs.Unbranched.{none_leads, CarriesUnbranched}
-use Rattle.clif_simulation.proofs.Listed.{place_within, through_block, is_path, given_earlier, none_on_entry}
+use Rattle.clif_simulation.proofs.Listed.{place_within, through_block, is_path, given_earlier, given_entering}
 
 -- what a value stands for stands for itself
 pub resolved_twice : (f : Body) (v : ℕ) → IsConsistent f → resolved f (resolved f v) ≡ resolved f v
@@ -49,84 +49,77 @@ module _ (calls : List AnsweredCall) (f : Body) (s : SsaState) (carries : Carrie
     (entry : Name) (is_entry : (program_so_far calls).entry ≡ Some entry)
   where
     abbrev pub e : ℕ
-    e = (carries.entry.some entry is_entry).0
+    e = (carries.whole.entry.some entry is_entry).0
 
     pub found : entry_of f ≡ Some e
-    found = (carries.entry.some entry is_entry).1
+    found = (carries.whole.entry.some entry is_entry).1
 
     pub named : block_name calls e ≡ Some entry
-    named = (carries.entry.some entry is_entry).2
+    named = (carries.whole.entry.some entry is_entry).2
 
     abbrev pub items : List Item
     items = (program_so_far calls).items entry
 
-    pub counted : carries.tables.count e ≡ length items
-    counted = carries.program.counts e entry named
+    pub counted : carries.whole.tables.count e ≡ length items
+    counted = carries.whole.program.counts e entry named
 
     -- an arm that is known comes from the start, since no branch leads anywhere
-    pub joined : (arm : Arm) → carries.tables.joins arm ≡ true → arm.target ≡ front e
+    pub joined : (arm : Arm) → carries.whole.tables.joins arm ≡ true → arm.target ≡ front e
     joined arm joins =
-        let way = carries.describes.joined arm joins in
+        let way = carries.whole.describes.joined arm joins in
         by way.0 way.1 way.3
       where
-        by : (b : ℕ) → arm.target ≡ front b → ((arm.source ≡ start) × (entry_of f ≡ Some b)) ⊎ IsEdgeInto f s carries.tables b arm → arm.target ≡ front e
+        by : (b : ℕ) → arm.target ≡ front b → ((arm.source ≡ start) × (entry_of f ≡ Some b)) ⊎ IsEdgeInto f s carries.whole.tables b arm → arm.target ≡ front e
         by b target (inl enters) = target ∙ ap front (some_is b e (sym enters.1 ∙ found))
         by b target (inr edge) = absurd (none_leads s carries.nothing_leads b edge.branch edge.leads)
 
-    sealed : IsFinished calls f s → carries.tables.sealed e ≡ true
+    sealed : IsFinished calls f s → carries.whole.tables.sealed e ≡ true
     sealed finished =
-        carries.describes.sealed e ∙ ap (λ (b : Bool). b && has_entry f.layout) (finished.entry_sealed e found) ∙ begins f.layout e found
+        carries.whole.describes.sealed e ∙ ap (λ (b : Bool). b && has_entry f.layout) (finished.entry_sealed e found) ∙ begins f.layout e found
 
-    pub only_entry : IsFinished calls f s → OnlyEntry carries.tables e
+    pub only_entry : IsFinished calls f s → OnlyEntry carries.whole.tables e
     only_entry finished = record {
       joined = joined;
       sealed = sealed finished;
-      entered = carries.describes.entered e found (sealed finished);
+      entered = carries.whole.describes.entered e found (sealed finished);
     }
 
     -- What items give ---------------------------------------------------------------------------------------------------
 
     pub given_at : (k : ℕ) (item : Item) → slice_get items k ≡ Some item → (x : Name) → Contains (item_gives (Some item)) x
-        → (carries.tables.naming (code x) ≡ record { home = inside e (suc k); origin = origin_of item }) × (carries.tables.answer (code x) ≡ answered calls x)
-    given_at k item stands x there = carries.program.given e k entry item named stands x there
+        → (carries.whole.tables.naming (code x) ≡ record { home = inside e (suc k); origin = origin_of item }) × (carries.whole.tables.answer (code x) ≡ answered calls x)
+    given_at k item stands x there = carries.whole.program.given e k entry item named stands x there
 
     -- What items name ---------------------------------------------------------------------------------------------------
 
-    -- an item before this place gives the name
+    -- a parameter of the entry, and what an item before this place gives, is given at a place of the entry so far
     pub record IsEarlier (k : ℕ) (x : Name) : Type 0 where
-      pub j : ℕ
-      pub below : j < k
-      pub item : Item
-      pub stands : slice_get items j ≡ Some item
-      pub gives : Contains (item_gives (Some item)) x
+      pub at : ℕ
+      pub within : at ≤ k
+      pub home : (carries.whole.tables.naming (code x)).home ≡ inside e at
+      pub answer : carries.whole.tables.answer (code x) ≡ answered calls x
 
-    earlier_by : (k : ℕ) (x : Name) (j : ℕ) → j < k → (o : Option Item) → slice_get items j ≡ o → Contains (item_gives o) x → IsEarlier k x
-    earlier_by k x j below None stands gives = absurd (nothing_contained x gives)
-    earlier_by k x j below (Some item) stands gives = record { j = j; below = below; item = item; stands = stands; gives = gives }
+    of_item : (k : ℕ) (x : Name) (j : ℕ) → j < k → (o : Option Item) → slice_get items j ≡ o → Contains (item_gives o) x → IsEarlier k x
+    of_item k x j below None stands gives = absurd (nothing_contained x gives)
+    of_item k x j below (Some item) stands gives =
+        let there = given_at j item stands x gives in
+        record { at = suc j; within = omega (arith, below); home = ap (λ (m : Naming). m.home) there.0; answer = there.1 }
 
-    pub given_before : IsWellPlaced (program_code (program_so_far calls)) → (k : ℕ) (item : Item) → slice_get items k ≡ Some item
-        → (x : Name) → Contains (item_names (Some item)) x → IsEarlier k x
-    given_before placed k item stands x names =
-        by (placed.named (record { block = entry; index = k }) x (subst (λ (o : Option Item). Contains (item_names o) x) (sym stands) names)
-        (through_block entry k) (is_path program entry is_entry k (place_within items k item stands)))
-      where
-        program : Program
-        program = program_so_far calls
+    pub is_earlier : (k : ℕ) (x : Name)
+        → Contains ((program_so_far calls).parameters entry) x ⊎ ((j : ℕ) × (j < k) × Contains (item_gives (slice_get items j)) x) → IsEarlier k x
+    is_earlier k x (inl entering) =
+        let there = carries.whole.program.parameter e entry named x entering in
+        record { at = 0; within = omega arith; home = ap (λ (m : Naming). m.home) there.0; answer = there.1 }
+    is_earlier k x (inr found) = of_item k x found.0 found.1 (slice_get items found.0) refl found.2
 
-        none : (block : Name) → program.parameters block ≡ []
-        none = carries.bare
-
-        by : Contains (given_on_entry (program_code program) entry k) x ⊎ IsGivenAlong (program_code program) x (through_block entry k) → IsEarlier k x
-        by (inl entering) = absurd (none_on_entry program entry is_entry none x k entering)
-        by (inr along) =
-            let before = given_earlier program entry is_entry none x k along in
-            earlier_by k x before.0 before.1 (slice_get items before.0) refl before.2
-
-    -- the home of a name that an item names is strictly before, and its answer is what the builder answered
+    -- so is a name that the item at this place names
     pub named_before : IsWellPlaced (program_code (program_so_far calls)) → (k : ℕ) (item : Item) → slice_get items k ≡ Some item
-        → (x : Name) → Contains (item_names (Some item)) x
-        → (j : ℕ) × (j < k) × ((carries.tables.naming (code x)).home ≡ inside e (suc j)) × (carries.tables.answer (code x) ≡ answered calls x)
+        → (x : Name) → Contains (item_names (Some item)) x → IsEarlier k x
     named_before placed k item stands x names =
-        let before : IsEarlier k x = given_before placed k item stands x names in
-        let there = given_at before.j before.item before.stands x before.gives in
-        (before.j, before.below, ap (λ (m : Naming). m.home) there.0, there.1)
+        is_earlier k x (by (placed.named (record { block = entry; index = k }) x (subst (λ (o : Option Item). Contains (item_names o) x) (sym stands) names)
+        (through_block entry k) (is_path (program_so_far calls) entry is_entry k (place_within items k item stands))))
+      where
+        by : Contains (given_on_entry (program_code (program_so_far calls)) entry k) x ⊎ IsGivenAlong (program_code (program_so_far calls)) x (through_block entry k)
+            → Contains ((program_so_far calls).parameters entry) x ⊎ ((j : ℕ) × (j < k) × Contains (item_gives (slice_get items j)) x)
+        by (inl entering) = inl (given_entering (program_so_far calls) entry is_entry x k entering)
+        by (inr along) = given_earlier (program_so_far calls) entry is_entry x k along

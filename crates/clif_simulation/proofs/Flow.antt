@@ -201,7 +201,7 @@ module _ (calls : List AnsweredCall) (f : Body) (s : SsaState) (consistent : IsC
     pub answer : carries.tables.answer (code x) ≡ answered calls x
     pub visits : Visits (carries.tables.naming (code x)).home path
 
-  given_at_place : (path : Path) (p : Place Name) (x : Name) → WasVisited path p → (o : Option Item) → item_at calls p.block p.index ≡ o
+  pub given_at_place : (path : Path) (p : Place Name) (x : Name) → WasVisited path p → (o : Option Item) → item_at calls p.block p.index ≡ o
       → Contains (item_gives o) x → IsGivenOn path x
   given_at_place path p x was None stands gives = absurd (nothing_contained x gives)
   given_at_place path p x was (Some item) stands gives =
@@ -259,7 +259,7 @@ module _ (calls : List AnsweredCall) (f : Body) (s : SsaState) (consistent : IsC
       (placed.named (at_index B k) x (subst (λ (o : Option Item). Contains (item_names o) x) (sym stands) names))
 
   -- what is given on a path is given on a longer one
-  given_longer : (arm : Arm) (path : Path) (x : Name) → IsGivenOn path x → IsGivenOn (arm ∷ path) x
+  pub given_longer : (arm : Arm) (path : Path) (x : Name) → IsGivenOn path x → IsGivenOn (arm ∷ path) x
   given_longer arm path x on = record { given = on.given; answer = on.answer; visits = inr on.visits }
 
   -- what the edges of the item at this place pass is given on each path through it

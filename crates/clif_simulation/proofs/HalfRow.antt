@@ -44,7 +44,11 @@ items = (program_so_far answered_calls).items block0
 
 -- what was given behind so many items
 given_names : (x : Name) (k : ℕ) → k < 3 → IsGivenBefore (code_so_far answered_calls) x (behind block0 k) → (j : ℕ) × (j < k) × Contains (item_gives (slice_get items j)) x
-given_names x k within given = given_behind answered_calls (λ b. refl) block0 refl x k (omega (arith, within)) given
+given_names x k within given = by (given_behind answered_calls block0 refl x k (omega (arith, within)) given)
+  where
+    by : Contains [] x ⊎ ((j : ℕ) × (j < k) × Contains (item_gives (slice_get items j)) x) → (j : ℕ) × (j < k) × Contains (item_gives (slice_get items j)) x
+    by (inl none) = absurd (nothing_contained x none)
+    by (inr found) = found
 
 pub none_given : (x : Name) → IsGivenBefore (code_so_far answered_calls) x (behind block0 0) → ⊥
 none_given x given = by (given_names x 0 (omega arith) given)
@@ -201,7 +205,7 @@ pub reads_right : ReadsRightFromAnywhere answered_calls first_signature half_bod
 reads_right width world tracked collector fits premises = record {
   from_entry = λ block name named is_entry.
       from_entry width world tracked collector
-      (no_arguments answered_calls block0 (types_of first_signature.params) world (λ b. refl) refl premises.well_typed.entry fits.arguments) block name named;
+      (no_arguments answered_calls block0 (types_of first_signature.params) world refl refl premises.well_typed.entry fits.arguments) block name named;
   from_unsealed = λ block name named reached unsealed p q start. from width world tracked collector block name named p q start;
 }
 

@@ -17,6 +17,7 @@ mod Entry
 mod ItemsAt
 mod OwnEdges
 mod Flow
+mod IntoBlock
 mod Edges
 mod Fronts
 mod Targets
@@ -35,11 +36,10 @@ pub mod RightReading
 -- With branches, beside interrupted runs.
 mod Interrupting
 mod OpenWith
-mod Bare
 mod OpenArms
 mod OpenFlow
-mod OpenEdges
 mod OpenFront
+mod OpenEdges
 mod OpenStanding
 mod OpenStepping
 pub mod OpenReading
@@ -86,6 +86,7 @@ mod LoopAlong
 mod LoopPremises
 mod SamplePremises
 mod LoopWaiting
+mod LoopPassing
 -- Further calls, and parameters of the caller's.
 pub mod Further
 pub mod Appending

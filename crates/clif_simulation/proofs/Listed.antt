@@ -8,7 +8,7 @@ use Rattle.clif_meaning.specs.Path.{Place, IsPath}
 use Rattle.clif_meaning.specs.WellPlaced.{item_gives, program_flow, program_code, IsGivenAlong, given_on_entry}
 use Rattle.clif_simulation.specs.Tables.{program_so_far}
 use Rattle.clif_simulation.proofs.Numbers.{program_longer}
-use Rattle.clif_meaning.proofs.StraightLine.{nothing_contained, none_of}
+use Rattle.clif_meaning.proofs.StraightLine.{nothing_contained}
 
 -- Parameters of the caller's -------------------------------------------------------------------------------------
 
@@ -88,25 +88,27 @@ module _ (program : Program) (entry : Name) (is_entry : program.entry ≡ Some e
   is_path zero within = (is_entry, (refl, within))
   is_path (suc k) within = (inl (refl, omega arith, within), is_path k (omega arith))
 
-  -- nothing is given as a place of it is come to
-  pub none_on_entry : ((block : Name) → program.parameters block ≡ []) → (x : Name) (k : ℕ) → Contains (given_on_entry (program_code program) entry k) x → ⊥
-  none_on_entry none x zero there = none_of (program.parameters entry) x (none entry) there
-  none_on_entry none x (suc k) there = nothing_contained x there
+  -- what is given as a place of it is come to is a parameter of the block
+  pub given_entering : (x : Name) (k : ℕ) → Contains (given_on_entry (program_code program) entry k) x → Contains (program.parameters entry) x
+  given_entering x zero there = there
+  given_entering x (suc k) there = absurd (nothing_contained x there)
 
-  -- what is given along it is given by an item before
-  pub given_earlier : ((block : Name) → program.parameters block ≡ []) → (x : Name) (k : ℕ) → IsGivenAlong (program_code program) x (through_block entry k)
-      → (j : ℕ) × (j < k) × Contains (item_gives (slice_get (program.items entry) j)) x
-  given_earlier none x zero along = absurd along
-  given_earlier none x (suc k) along = by along (given_earlier none x k)
+  -- what is given along it is one, or an item before gives it
+  pub given_earlier : (x : Name) (k : ℕ) → IsGivenAlong (program_code program) x (through_block entry k)
+      → Contains (program.parameters entry) x ⊎ ((j : ℕ) × (j < k) × Contains (item_gives (slice_get (program.items entry) j)) x)
+  given_earlier x zero along = absurd along
+  given_earlier x (suc k) along = by along (given_earlier x k)
     where
-      later : (j : ℕ) × (j < k) × Contains (item_gives (slice_get (program.items entry) j)) x
-          → (j : ℕ) × (j < suc k) × Contains (item_gives (slice_get (program.items entry) j)) x
-      later found = (found.0, omega (arith, found.1), found.2)
+      later : Contains (program.parameters entry) x ⊎ ((j : ℕ) × (j < k) × Contains (item_gives (slice_get (program.items entry) j)) x)
+          → Contains (program.parameters entry) x ⊎ ((j : ℕ) × (j < suc k) × Contains (item_gives (slice_get (program.items entry) j)) x)
+      later (inl entering) = inl entering
+      later (inr found) = inr (found.0, omega (arith, found.1), found.2)
 
       by : Contains (item_gives (slice_get (program.items entry) k)) x
           ⊎ Contains (given_on_entry (program_code program) entry k) x ⊎ IsGivenAlong (program_code program) x (through_block entry k)
-          → (IsGivenAlong (program_code program) x (through_block entry k) → (j : ℕ) × (j < k) × Contains (item_gives (slice_get (program.items entry) j)) x)
-          → (j : ℕ) × (j < suc k) × Contains (item_gives (slice_get (program.items entry) j)) x
-      by (inl here) earlier = (k, omega arith, here)
-      by (inr (inl entering)) earlier = absurd (none_on_entry none x k entering)
+          → (IsGivenAlong (program_code program) x (through_block entry k)
+          → Contains (program.parameters entry) x ⊎ ((j : ℕ) × (j < k) × Contains (item_gives (slice_get (program.items entry) j)) x))
+          → Contains (program.parameters entry) x ⊎ ((j : ℕ) × (j < suc k) × Contains (item_gives (slice_get (program.items entry) j)) x)
+      by (inl here) earlier = inr (k, omega arith, here)
+      by (inr (inl entering)) earlier = inl (given_entering x k entering)
       by (inr (inr before)) earlier = later (earlier before)

@@ -249,7 +249,7 @@ each_items P none first second name = by (same_or_other name (block 0)) (same_or
     by (inr other) (inl two) = subst (λ (n : Name). P (items n)) (sym two.1) second
     by (inr other) (inr another) = rw (other.0, another.0) none
 
-nothing_at : (of : Option Item → List Name) → of None ≡ [] → (list : List Item) (k : ℕ) → AllByRecursion (λ item. of (Some item) ≡ []) list → of (slice_get list k) ≡ []
+pub nothing_at : (of : Option Item → List Name) → of None ≡ [] → (list : List Item) (k : ℕ) → AllByRecursion (λ item. of (Some item) ≡ []) list → of (slice_get list k) ≡ []
 nothing_at of none [] zero all = none
 nothing_at of none [] (suc k) all = none
 nothing_at of none (item ∷ list) zero all = all.0

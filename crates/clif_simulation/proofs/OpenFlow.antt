@@ -18,7 +18,7 @@ use Rattle.clif_meaning.specs.Name.{Name}
 use Rattle.clif_meaning.specs.Request.{AnsweredCall}
 use Rattle.clif_meaning.specs.Program.{Program, Item, Instruct, Use, Assign}
 use Rattle.clif_meaning.specs.Path.{Place, IsPath}
-use Rattle.clif_meaning.specs.WellPlaced.{item_names, program_code, program_flow, IsWellPlaced, IsGivenAlong, IsGivenBefore, given_on_entry}
+use Rattle.clif_meaning.specs.WellPlaced.{item_gives, item_names, item_passes, program_code, program_flow, IsWellPlaced, IsGivenAlong, IsGivenBefore, given_on_entry}
 use Rattle.clif_simulation.specs.Tables.{code, program_so_far, block_name, item_at, assigned_by}
 use Rattle.clif_simulation.specs.Reading.{code_so_far, behind}
 use Rattle.clif_simulation.proofs.Whole.{Whole}
@@ -193,6 +193,30 @@ module _ (calls : List AnsweredCall) (f : Body) (s : SsaState) (consistent : IsC
   named_before placed path b k B follows ends named item stands x names =
       given_before_item path b k B follows ends named x (place_within (program.items B) k item stands)
       (placed.named (behind B k) x (subst (λ (o : Option Item). Contains (item_names o) x) (sym stands) names))
+
+  -- what the edges of the item at this place pass is given on each path through it
+  pub passed_before : IsWellPlaced (program_code program) → (path : Path) (b k : ℕ) (B : Name) → Follows edges path → end_of path ≡ inside b (suc k)
+      → block_name calls b ≡ Some B → (item : Item) → slice_get (program.items B) k ≡ Some item → (x : Name) → Contains (item_passes (Some item)) x → IsGivenOn path x
+  passed_before placed [] b k B follows ends named item stands x passes = cc
+  passed_before placed (arm ∷ path) b k B follows ends named item stands x passes =
+      by (placed.passed (behind B k) x (subst (λ (o : Option Item). Contains (item_passes o) x) (sym stands) passes))
+    where
+      ends_before : end_of path ≡ inside b k
+      ends_before = sym follows.1 ∙ (to_item arm b k follows.0 ends).source
+
+      was : WasVisited (arm ∷ path) (behind B k)
+      was = record {
+        block = b;
+        named = named;
+        visits = inl (sym ends);
+        front = λ first. inr (Flow.ends_visits path b 0 (ends_before ∙ ap (inside b) first));
+      }
+
+      by : Contains (item_gives (item_at calls B k)) x ⊎ IsGivenBefore (program_code program) x (behind B k) → IsGivenOn (arm ∷ path) x
+      by (inl gives) = Flow.given_at_place calls f s consistent carries (arm ∷ path) (behind B k) x was (item_at calls B k) refl gives
+      by (inr before) =
+          Flow.given_longer calls f s consistent carries arm path x
+          (given_before_item path b k B follows.2 ends_before named x (place_within (program.items B) k item stands) before)
 
   -- The edges are allowed ---------------------------------------------------------------------------------------------------
 

@@ -1,10 +1,11 @@
--- At the front of an unsealed block that has parameters of the caller's: they get what is passed, name and value alike.
-use Rattle.std.proofs.Common.{◌≡◌, ℕ, Bool, true, false, List, map, length, Some, inl, inr, refl, sym, ◌∙◌, ap, subst}
+-- At the front of an unsealed block: the caller's parameters get what is passed, name and value alike, and those that wait their
+-- variables' bits.
+use Rattle.std.proofs.Common.{◌≡◌, ℕ, Bool, true, false, List, [], map, length, Some, Contains, ◌⊎◌, inl, inr, refl, sym, ◌∙◌, ap, subst}
 use Rattle.clif_ir.specs.Body.{Body}
 use Rattle.clif_ir.specs.Consistent.{IsConsistent}
 use Rattle.clif_paths.specs.Places.{Place, Arm}
-use Rattle.clif_paths.specs.State.{fresh, Kind, unborn, born, pending, complete, zero_of, Definition, Function}
-use Rattle.clif_paths.specs.Blocks.{front}
+use Rattle.clif_paths.specs.State.{fresh, Program, Kind, unborn, born, pending, complete, zero_of, Definition, Function}
+use Rattle.clif_paths.specs.Blocks.{front, state_of}
 use Rattle.clif_ssa.specs.declared.tables.Pending.{Pending}
 use Rattle.clif_ssa.specs.Ssa.{SsaState, sealed_of}
 use Rattle.clif_ssa.specs.Tables.{pending_of}
@@ -13,15 +14,13 @@ use Rattle.clif_meaning.specs.Name.{Name, same_name}
 use Rattle.clif_meaning.specs.Request.{AnsweredCall}
 use Rattle.clif_meaning.specs.Store.{assigned}
 use Rattle.clif_meaning.specs.FunctionMachine.{same_value}
+use Rattle.clif_meaning.proofs.StraightLine.{nothing_contained}
 use Rattle.clif_simulation.specs.Interrupted.{values_entering}
 use Rattle.clif_simulation.specs.Tables.{answered, block_name, code, program_so_far}
-use Rattle.clif_simulation.proofs.Codes
 use Rattle.clif_simulation.proofs.Giving.{In, contained_in, in_contained, name_keeps, value_keeps, same_all}
-use Rattle.clif_simulation.proofs.GivenNames.{given_at_front}
 use Rattle.clif_simulation.proofs.Interrupting.{waiting_gets, waiting_leaves}
-use Rattle.clif_simulation.proofs.ItemsAt
+use Rattle.clif_simulation.proofs.IntoBlock
 use Rattle.clif_simulation.proofs.ItemsAt.{not_start, stands_for_itself}
-use Rattle.clif_simulation.proofs.OpenEdges
 use Rattle.clif_simulation.proofs.OpenWith.{IsAtFront, OpensWith}
 use Rattle.clif_simulation.proofs.Straight.{same_block}
 use Rattle.clif_simulation.proofs.Whole.{Whole}
@@ -38,9 +37,6 @@ pending_no_born x n h = cc
 born_no_zero : (n y : ℕ) → born n ≡ zero_of y → ⊥
 born_no_zero n y h = cc
 
-born_same : (m n : ℕ) → born m ≡ born n → m ≡ n
-born_same m n h = cc
-
 not_both : (t : Bool) → t ≡ true → t ≡ false → ⊥
 not_both t one other = cc
 
@@ -49,13 +45,16 @@ module _ (calls : List AnsweredCall) (f : Body) (s : SsaState) (consistent : IsC
     (bits old between : ℕ → ℕ) (names : Name → ℕ) (mine : List ℕ) (as_many : length mine ≡ length ((program_so_far calls).parameters B))
     (is : (w : ℕ) → between w ≡ assigned same_value (map (answered calls) ((program_so_far calls).parameters B)) mine old w)
   where
+    abbrev program : Program
+    program = (state_of carries.tables).program
+
     abbrev function : Function
     function = carries.tables.function
 
     abbrev live : ℕ → Type 0
     live = stands_for_itself carries.tables
 
-    abbrev pub parameters : List Name
+    abbrev parameters : List Name
     parameters = (program_so_far calls).parameters B
 
     abbrev waiting : List Pending
@@ -68,7 +67,10 @@ module _ (calls : List AnsweredCall) (f : Body) (s : SsaState) (consistent : IsC
     new = values_entering waiting bits between
 
     defined_there : (n : Name) → In n parameters → function.definition (answered calls n) ≡ record { home = front b; kind = born (code n) }
-    defined_there n there = ItemsAt.parameter_defined calls carries.own f s carries.tables carries.program carries.describes b B named n (in_contained parameters n there)
+    defined_there = IntoBlock.parameter_defined calls f s consistent carries b B named
+
+    named_there : (n : Name) → In n parameters → carries.tables.naming (code n) ≡ record { home = front b; origin = fresh }
+    named_there = IntoBlock.parameter_named calls f s consistent carries b B named
 
     param_waits : (p : Pending) → In p waiting → function.definition p.param ≡ record { home = front b; kind = pending p.variable }
     param_waits p there = (carries.describes.waiting b p (in_contained waiting p there)).defined
@@ -77,15 +79,22 @@ module _ (calls : List AnsweredCall) (f : Body) (s : SsaState) (consistent : IsC
     waits_kind p there w kind of_w e =
         sym (ap (λ (d : Definition). d.kind) (param_waits p there)) ∙ ap (λ (v : ℕ). (function.definition v).kind) e ∙ of_w
 
-    apart : (m n : Name) → In m parameters → In n parameters → answered calls m ≡ answered calls n → m ≡ n
-    apart m n in_m in_n same =
-        Codes.differ m n
-        (born_same (code m) (code n)
-        (ap (λ (d : Definition). d.kind) (sym (defined_there m in_m) ∙ ap function.definition same ∙ defined_there n in_n)))
+    -- a value that waits at the front is among those that the block waits for
+    waits_there : (w x : ℕ) → live w → (function.definition w).home ≡ front b → (function.definition w).kind ≡ pending x
+        → Contains waiting (record { variable = x; param = w })
+    waits_there w x is_live at kind = by (carries.describes.pends w x (sym (carries.describes.resolves w) ∙ is_live) kind)
+      where
+        by : ((c : ℕ) × Contains (pending_of (sealed_of s c)) (record { variable = x; param = w })) ⊎ Contains {X = Pending} [] (record { variable = x; param = w })
+            → Contains (pending_of (sealed_of s b)) (record { variable = x; param = w })
+        by (inl found) =
+            let home : front found.0 ≡ front b =
+            sym (ap (λ (d : Definition). d.home) (carries.describes.waiting found.0 (record { variable = x; param = w }) found.1).defined) ∙ at in
+            subst (λ (c : ℕ). Contains (pending_of (sealed_of s c)) (record { variable = x; param = w })) (same_block home) found.1
+        by (inr none) = absurd (nothing_contained {X = Pending} (record { variable = x; param = w }) none)
 
     gives : (n : Name) → In n parameters → after n ≡ new (answered calls n)
     gives n there =
-        same_all (answered calls) parameters mine names old n apart there as_many ∙ sym (is (answered calls n))
+        same_all (answered calls) parameters mine names old n (IntoBlock.parameters_apart calls f s consistent carries b B named) there as_many ∙ sym (is (answered calls n))
         ∙ sym (waiting_leaves waiting bits between (answered calls n)
         (λ p here e. pending_no_born p.variable (code n)
         (waits_kind p here (answered calls n) (born (code n)) (ap (λ (d : Definition). d.kind) (defined_there n there)) e)))
@@ -93,40 +102,29 @@ module _ (calls : List AnsweredCall) (f : Body) (s : SsaState) (consistent : IsC
     waits_bits : (w x : ℕ) → live w → (function.definition w).home ≡ front b → (function.definition w).kind ≡ pending x → new w ≡ bits x
     waits_bits w x is_live at kind =
         waiting_gets waiting bits between w x (λ p there e. pending_same x p.variable (sym (waits_kind p there w (pending x) kind e)))
-        (contained_in waiting (record { variable = x; param = w }) (OpenEdges.waits_there calls f s consistent carries b w x is_live at kind))
+        (contained_in waiting (record { variable = x; param = w }) (waits_there w x is_live at kind))
 
     kinds : (w : ℕ) → live w → (function.definition w).home ≡ front b → (kind : Kind) → (function.definition w).kind ≡ kind → HomeFits carries.tables w kind
         → IsAtFront function parameters (answered calls) bits new w
     kinds w is_live at unborn kind fits = absurd (not_start (front b) b 0 refl (sym at ∙ fits))
-    kinds w is_live at (born n) kind fits =
-        let found = given_at_front calls carries.tables carries.program n b B named (ap (λ naming. naming.home) fits.0 ∙ at) in
-        inl (
-          found.0,
-          contained_in parameters found.0 found.2,
-          sym fits.1 ∙ ap carries.tables.answer (sym found.1) ∙ (carries.program.parameter b B named found.0 found.2).1,
-        )
+    kinds w is_live at (born n) kind fits = inl (IntoBlock.born_there calls f s consistent carries b B named w n at fits)
     kinds w is_live at (pending x) kind fits = inr (inl (x, kind, waits_bits w x is_live at kind))
     kinds w is_live at complete kind fits =
         let here : fits.0 ≡ b = same_block (sym fits.1 ∙ at) in
         absurd (not_both (carries.tables.sealed b) (ap carries.tables.sealed (sym here) ∙ fits.2) unsealed)
     kinds w is_live at (zero_of x) kind fits = inr (inr (x, kind))
 
-    only_names : (n : Name) → (carries.tables.naming (code n)).home ≡ front b → In n parameters
-    only_names n at =
-        let found = given_at_front calls carries.tables carries.program (code n) b B named at in
-        subst (λ (y : Name). In y parameters) (Codes.differ found.0 n found.1) (contained_in parameters found.0 found.2)
-
-    pub opens_with : OpensWith live (OpenEdges.program calls f s consistent carries) function arm parameters (answered calls) names after bits old new
+    pub opens_with : OpensWith live program function arm parameters (answered calls) names after bits old new
     opens_with = record {
-      unsealed = ap (λ (p : Place). (OpenEdges.program calls f s consistent carries).is_sealed p) target ∙ unsealed;
+      unsealed = ap (λ (p : Place). program.is_sealed p) target ∙ unsealed;
       unassigned = λ x. ap (λ (p : Place). carries.tables.assigned p x) target ∙ carries.program.front_assigns_nothing b x;
-      named = λ n there. (carries.program.parameter b B named n (in_contained parameters n there)).0 ∙ ap (λ (p : Place). record { home = p; origin = fresh }) (sym target);
+      named = λ n there. named_there n there ∙ ap (λ (p : Place). record { home = p; origin = fresh }) (sym target);
       defined = λ n there. defined_there n there ∙ ap (λ (p : Place). record { home = p; kind = born (code n) }) (sym target);
-      only_names = λ n at. only_names n (at ∙ target);
+      only_names = λ n at. IntoBlock.only_parameters calls f s consistent carries b B named n (at ∙ target);
       gives = gives;
       names_stay = λ n elsewhere.
           name_keeps parameters mine names n
-          (λ there. elsewhere (ap (λ naming. naming.home) (carries.program.parameter b B named n (in_contained parameters n there)).0 ∙ sym target));
+          (λ there. elsewhere (ap (λ naming. naming.home) (named_there n there) ∙ sym target));
       kinds = λ w is_live at. kinds w is_live (at ∙ target) (function.definition w).kind refl (carries.describes.homes w);
       others_stay = λ w elsewhere.
           waiting_leaves waiting bits between w

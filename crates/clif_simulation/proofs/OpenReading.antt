@@ -1,29 +1,28 @@
 -- An unfinished function that carries a list of calls reads right beside interrupted runs, with any branches.
-use Rattle.std.proofs.Common.{◌≡◌, ℕ, zero, suc, ◌+◌, ◌≤◌, ◌&&◌, Bool, true, false, List, [], ◌∷◌, ◌++◌, map, length, drop, flat_map, slice_get, Some, None, refl, sym, ◌∙◌, ap, ap₂, subst, subst₂, append_assoc, arith}
+use Rattle.std.proofs.Common.{◌≡◌, ℕ, zero, suc, ◌+◌, ◌≤◌, Bool, List, [], ◌∷◌, ◌++◌, map, length, drop, flat_map, slice_get, Some, None, refl, sym, ◌∙◌, ap, ap₂, subst, subst₂, append_assoc, arith}
 use Rattle.std.proofs.lemmas.List.{map-append}
 use Rattle.clif_types.specs.Signature.{SignatureShape}
 use Rattle.clif_types.specs.declared.target.PointerWidth.{PointerWidth}
-use Rattle.clif_ir.specs.Body.{Body, block_at, resolved}
+use Rattle.clif_ir.specs.Body.{Body, resolved}
 use Rattle.clif_ir.specs.Consistent.{IsConsistent}
 use Rattle.clif_ir.specs.declared.block_call.BlockArg.{BlockArg}
 use Rattle.clif_paths.specs.Places as paths
-use Rattle.clif_paths.specs.Places.{inside, Path, Follows}
+use Rattle.clif_paths.specs.Places.{start, inside, Path, Follows}
 use Rattle.clif_paths.specs.State.{Program, Function}
 use Rattle.clif_paths.specs.Denotation.{variable}
 use Rattle.clif_paths.specs.Blocks.{Blocks}
 use Rattle.clif_paths.specs.Sound.{Holds}
 use Rattle.clif_paths.proofs.BlockTables.{recorded_at-last}
-use Rattle.clif_ssa.specs.declared.tables.Pending.{Pending}
 use Rattle.clif_ssa.specs.Ssa.{SsaState, record_of, sealed_of}
 use Rattle.clif_ssa.specs.Tables.{is_yes, pending_of}
-use Rattle.clif_ssa.specs.Sound.{entry_of, has_entry}
-use Rattle.clif_meaning.specs.Bits.{Bits}
+use Rattle.clif_ssa.specs.Sound.{entry_of}
 use Rattle.clif_meaning.specs.Event.{types_of}
 use Rattle.clif_meaning.specs.Name.{Name, same_name}
 use Rattle.clif_meaning.specs.Request.{AnsweredCall, script_of}
 use Rattle.clif_meaning.specs.Instruction.{Edge, Instruction}
 use Rattle.clif_meaning.specs.Program.{Item, Instruct, Use, Assign}
 use Rattle.clif_meaning.specs.World.{World}
+use Rattle.clif_meaning.specs.Store.{assigned}
 use Rattle.clif_meaning.specs.Machine.{Machine, Control, At, HasReturned, HasTrapped, IsStuck, Observation, state_after}
 use Rattle.clif_meaning.specs.ScriptMachine as script
 use Rattle.clif_meaning.specs.ScriptMachine.{ScriptRun, ScriptState, script_machine}
@@ -41,22 +40,20 @@ use Rattle.clif_simulation.specs.Reading.{behind, code_so_far, IsAtEnd, Premises
 use Rattle.clif_simulation.specs.Interrupted.{Unknowns, ScriptStanding, FunctionStanding, script_edge, script_goes, script_enters, function_enters, variables_entering, values_entering, without_arguments, StandsBefore, StandsBeside, HasBeside, ReadsRight}
 use Rattle.clif_simulation.proofs.Agreement.{Agrees, ZerosAreZero, given_agrees, zeros_agree}
 use Rattle.clif_simulation.proofs.Counted.{gives_results, terminator_gives_none}
-use Rattle.clif_simulation.proofs.Entry.{resolved_twice}
+use Rattle.clif_simulation.proofs.Entry.{begins as starts_first, resolved_twice}
 use Rattle.clif_simulation.proofs.Fronts.{HasFront, has_front, placed_inst}
-use Rattle.clif_simulation.proofs.Interrupting.{interrupted_agrees, interrupted_zeros}
+use Rattle.clif_simulation.proofs.IntoBlock
 use Rattle.clif_simulation.proofs.Listed.{place_within}
 use Rattle.clif_simulation.proofs.Matching.{item_here, nothing_behind, rest_behind}
 use Rattle.clif_simulation.proofs.OpenArms
 use Rattle.clif_simulation.proofs.OpenEdges
-use Rattle.clif_simulation.proofs.OpenEdges.{sealed_none}
 use Rattle.clif_simulation.proofs.OpenFlow
 use Rattle.clif_simulation.proofs.OpenStanding
 use Rattle.clif_simulation.proofs.OpenStanding.{IsAt, Running, Gets}
 use Rattle.clif_simulation.proofs.OpenStepping
-use Rattle.clif_simulation.proofs.Starting.{no_arguments, none_assigned}
-use Rattle.clif_simulation.proofs.Stepping.{nothing_assigned}
+use Rattle.clif_simulation.proofs.Starting.{arguments_count}
 use Rattle.clif_simulation.proofs.Straight.{first_arm, next_arm}
-use Rattle.clif_simulation.specs.Laws.{MakesNoParameters}
+use Rattle.clif_simulation.proofs.TwoParts.{nothing_assigned}
 use Rattle.clif_simulation.proofs.Whole.{Whole, whole}
 
 -- Instructions, but for what their edges pass ---------------------------------------------------------------------------
@@ -108,7 +105,7 @@ module _ (calls : List AnsweredCall) (f : Body) (ssa : SsaState) (consistent : I
 
 module _ (calls : List AnsweredCall) (signature : SignatureShape) (f : Body) (ssa : SsaState) (consistent : IsConsistent f) (carries : Whole calls f ssa)
     (width : PointerWidth) (world : World) (tracked : Name → Bool) (collector : Collector)
-    (fits : IsWorldOf signature (view_of f) width world) (premises : PremisesSoFar calls signature) (bare : MakesNoParameters calls)
+    (fits : IsWorldOf signature (view_of f) width world) (premises : PremisesSoFar calls signature)
     (entry : ℕ) (entry_name : Name) (entry_named : block_name calls entry ≡ Some entry_name) (is_entry : (program_so_far calls).entry ≡ Some entry_name)
     (unknowns : Unknowns)
   where
@@ -185,7 +182,7 @@ module _ (calls : List AnsweredCall) (signature : SignatureShape) (f : Body) (ss
           subst₂ (λ (names : Name → ℕ) (values : ℕ → ℕ). Agrees live program function (next_arm b k ∷ path) p.variables names values)
           (nothing_assigned same_name results p.names) (nothing_assigned same_value (map (answered calls) results) q.values)
           (given_agrees live program function (next_arm b k) path results (answered calls)
-          (OpenStepping.gives_there calls f ssa consistent carries width world tracked collector unknowns entry entry_name signature premises.given_before premises.well_typed bare
+          (OpenStepping.gives_there calls f ssa consistent carries width world tracked collector unknowns entry entry_name signature premises.given_before premises.well_typed
           b B r.named k place instruction results stands path)
           p.variables p.names q.values r.agrees [])
 
@@ -199,7 +196,7 @@ module _ (calls : List AnsweredCall) (signature : SignatureShape) (f : Body) (ss
           let last : length (items B) ≤ suc k = nothing_behind (items B) (suc k) (rest_behind (items B) k (Instruct place instruction results) ahead here ∙ at_end.1) in
           let none : results ≡ [] = gives_results (script_of calls) B k (Instruct place instruction results) stands ∙ terminator_gives_none place instruction at_end.0 in
           recorded_bits (next_arm b k ∷ path) (suc k)
-          (OpenStepping.goes_on calls f ssa consistent carries width world tracked collector unknowns entry entry_name signature premises.given_before premises.well_typed bare
+          (OpenStepping.goes_on calls f ssa consistent carries width world tracked collector unknowns entry entry_name signature premises.given_before premises.well_typed
           b B r.named k path (Instruct place instruction results) stands r.follows r.ends)
           refl (omega (arith, last, place_within (items B) k (Instruct place instruction results) stands)) (before_end place instruction results stands none)
       records_alike (Use y used ∷ ahead) here at_end = absurd at_end
@@ -233,8 +230,8 @@ module _ (calls : List AnsweredCall) (signature : SignatureShape) (f : Body) (ss
         let there = carries.entry.some entry_name is_entry in
         there.1 ∙ ap (λ (c : ℕ). Some c) (carries.program.distinct there.0 entry entry_name there.2 entry_named)
 
-    nothing_passed : world.arguments ≡ []
-    nothing_passed = no_arguments calls entry_name (types_of signature.params) world bare is_entry premises.well_typed.entry fits.arguments
+    as_many : length world.arguments ≡ length ((program_so_far calls).parameters entry_name)
+    as_many = arguments_count calls entry_name (types_of signature.params) world is_entry premises.well_typed.entry fits.arguments
 
     abbrev p0 : ScriptState
     p0 = script.enter_block left_run (script.blank_state left_run) entry_name world.arguments
@@ -242,42 +239,32 @@ module _ (calls : List AnsweredCall) (signature : SignatureShape) (f : Body) (ss
     abbrev q0 : FunctionState
     q0 = function_machine_of.enter_block right_run (function_machine_of.blank_state right_run) entry world.arguments
 
-    no_names : (n : Name) → p0.names n ≡ 0
-    no_names n = ap (λ (names : Name → Bits). names n) (none_assigned same_name ((program_so_far calls).parameters entry_name) world.arguments (λ x. 0) nothing_passed)
-
-    no_bits : (w : ℕ) → q0.values w ≡ 0
-    no_bits w = ap (λ (values : ℕ → Bits). values w) (none_assigned same_value (block_at f entry).params world.arguments (λ u. 0) nothing_passed)
-
     abbrev first : Path
     first = first_arm entry ∷ []
+
+    -- all bits are zero at first
+    blank_agrees : Agrees live program function [] (λ x. 0) (λ n. 0) (λ w. 0)
+    blank_agrees = zeros_agree live program function [] (λ x. 0) (λ n. 0) (λ w. 0) (λ x. refl) (λ n. refl) (λ w. refl)
+
+    blank_zeros : ZerosAreZero program function [] (λ x. 0) (λ n. 0) (λ w. 0)
+    blank_zeros = record { of_variable = λ x y is. refl; of_name = λ n y is. refl; of_value = λ w y is. refl }
+
+    -- the entry's parameters that the caller made have the world's arguments
+    callers_alone : (w : ℕ) → q0.values w ≡ assigned same_value (map (answered calls) ((program_so_far calls).parameters entry_name)) world.arguments (λ v. 0) w
+    callers_alone w = IntoBlock.callers_alone calls f ssa consistent carries entry entry_name entry_named world.arguments (λ v. 0) w as_many
 
     abbrev Begins : (ℕ → ℕ) → (ℕ → ℕ) → Type 0
     Begins variables values = Agrees live program function first variables p0.names values × ZerosAreZero program function first variables p0.names values
 
     begins : Begins (variables_entering (is_yes (sealed_of ssa entry)) (unknowns 0) p0.variables) (values_entering (pending_of (sealed_of ssa entry)) (unknowns 0) q0.values)
-    begins = by (is_yes (sealed_of ssa entry)) refl
-      where
-        all_zero : (path : Path) → Agrees live program function path (λ x. 0) p0.names (λ w. 0)
-        all_zero path = zeros_agree live program function path (λ x. 0) p0.names (λ w. 0) (λ x. refl) no_names (λ w. refl)
-
-        none_set : (path : Path) → ZerosAreZero program function path (λ x. 0) p0.names (λ w. 0)
-        none_set path = record { of_variable = λ x y is. refl; of_name = λ n y is. no_names n; of_value = λ w y is. refl }
-
-        by : (t : Bool) → is_yes (sealed_of ssa entry) ≡ t
-            → Begins (variables_entering t (unknowns 0) p0.variables) (values_entering (pending_of (sealed_of ssa entry)) (unknowns 0) q0.values)
-        by true is =
-            subst (λ (ps : List Pending). Begins p0.variables (values_entering ps (unknowns 0) q0.values)) (sym (sealed_none (sealed_of ssa entry) is)) (
-              zeros_agree live program function first p0.variables p0.names q0.values (λ x. refl) no_names no_bits,
-              record { of_variable = λ x y is. refl; of_name = λ n y is. no_names n; of_value = λ w y is. no_bits w },
-            )
-        by false is =
-            let unsealed : tables.sealed entry ≡ false = carries.describes.sealed entry ∙ ap (λ (t : Bool). t && has_entry f.layout) is in
-            let opens = OpenEdges.opens_there calls f ssa consistent carries bare entry unsealed (first_arm entry) refl (unknowns 0) (λ w. 0) q0.values no_bits in (
-              interrupted_agrees live program function (first_arm entry) [] (unknowns 0) (λ w. 0)
-                  (values_entering (pending_of (sealed_of ssa entry)) (unknowns 0) q0.values) opens (λ x. 0) p0.names (all_zero []) (none_set []),
-              interrupted_zeros live program function (first_arm entry) [] (unknowns 0) (λ w. 0)
-                  (values_entering (pending_of (sealed_of ssa entry)) (unknowns 0) q0.values) opens (λ x. 0) p0.names (all_zero []) (none_set []),
-            )
+    begins =
+        OpenEdges.enters calls f ssa consistent carries entry entry_name entry_named start 0 [] (λ w. 0) (unknowns 0) (λ x. 0) (λ n. 0) blank_agrees blank_zeros
+        world.arguments as_many q0.values (λ is. callers_alone)
+        (λ is. (
+          λ w. 0,
+          OpenEdges.enters_blank calls f ssa consistent carries entry entry_name entry_named start 0 (starts_first f.layout entry found) is,
+          callers_alone,
+        ))
 
     starts : Comes left_machine.start right_machine.start
     starts =
@@ -326,13 +313,13 @@ module _ (calls : List AnsweredCall) (signature : SignatureShape) (f : Body) (ss
     met (suc n) rest on =
         let before = went_on (state_after left_machine n) (state_after left_machine n).state.control refl rest on in
         let now : IsMet n = met n before.0 before.1 in
-        let more = OpenStepping.step calls f ssa consistent carries width world tracked collector unknowns entry entry_name signature premises.given_before premises.well_typed bare
+        let more = OpenStepping.step calls f ssa consistent carries width world tracked collector unknowns entry entry_name signature premises.given_before premises.well_typed
         (state_after left_machine n) (state_after right_machine now.0) now.1 rest on in
         later (state_after left_machine (suc n)) now.0 more.0 more.1
 
     pub beside : (n : ℕ) (rest : List Item) → (state_after left_machine n).state.control ≡ At rest → HasBeside calls f ssa (state_after left_machine n) right_machine
     beside n rest on = let now : IsMet n = met n rest on in has_beside (state_after left_machine n) now.0 now.1
 
-pub reads_right : (calls : List AnsweredCall) (signature : SignatureShape) (f : Body) (ssa : SsaState) → IsConsistent f → Carries calls f ssa → MakesNoParameters calls → ReadsRight calls signature f ssa
-reads_right calls signature f ssa consistent carries bare width world tracked collector fits premises spares block name named is_entry unknowns =
-    beside calls signature f ssa consistent (whole calls f ssa consistent carries spares) width world tracked collector fits premises bare block name named is_entry unknowns
+pub reads_right : (calls : List AnsweredCall) (signature : SignatureShape) (f : Body) (ssa : SsaState) → IsConsistent f → Carries calls f ssa → ReadsRight calls signature f ssa
+reads_right calls signature f ssa consistent carries width world tracked collector fits premises spares block name named is_entry unknowns =
+    beside calls signature f ssa consistent (whole calls f ssa consistent carries spares) width world tracked collector fits premises block name named is_entry unknowns

@@ -34,14 +34,12 @@ use Rattle.clif_meaning.specs.FunctionView.{Placed}
 use Rattle.clif_meaning.specs.View.{edge_of, edges_of, argument_of}
 use Rattle.clif_meaning.specs.Premises.{WellTyped}
 use Rattle.clif_meaning.specs.Path.{Place}
-use Rattle.clif_meaning.specs.WellPlaced.{item_names, program_code, IsWellPlaced}
+use Rattle.clif_meaning.specs.WellPlaced.{item_names, passed_operands, program_code, IsWellPlaced}
 use Rattle.clif_meaning.proofs.Stuttering.{steps_from}
 use Rattle.clif_simulation.specs.Tables.{code, answered, program_so_far, block_name}
-use Rattle.clif_simulation.specs.Carries.{answered_argument, carried, own_placed}
+use Rattle.clif_simulation.specs.Carries.{carried, own_placed}
 use Rattle.clif_simulation.specs.Reading.{behind}
 use Rattle.clif_simulation.specs.Interrupted.{taken_of, Unknowns, ScriptStanding, FunctionStanding, script_edge, script_goes, script_enters, function_edge, function_goes, function_enters, variables_entering, values_entering}
-use Rattle.clif_simulation.specs.Laws.{MakesNoParameters}
-use Rattle.clif_simulation.proofs.Bare.{no_length}
 use Rattle.clif_simulation.proofs.Whole.{Whole}
 use Rattle.clif_simulation.proofs.Giving.{in_contained}
 use Rattle.clif_simulation.proofs.Agreement.{Agrees, GivesThere, UsesThere, AssignsThere, ZerosAreZero, given_agrees, used_agrees, assigned_agrees, given_zeros, used_zeros, assigned_zeros}
@@ -49,7 +47,7 @@ use Rattle.clif_simulation.proofs.Entry.{resolved_twice}
 use Rattle.clif_simulation.proofs.Fronts.{placed_inst, steps_behind}
 use Rattle.clif_simulation.proofs.ItemsAt
 use Rattle.clif_simulation.proofs.ItemsAt.{same_instance}
-use Rattle.clif_simulation.proofs.Listed.{place_within, none_mapped}
+use Rattle.clif_simulation.proofs.Listed.{place_within}
 use Rattle.clif_simulation.proofs.Matching.{first_is, rest_is, item_here, rest_behind, same_bits, IsPlain, outcome_plain}
 use Rattle.clif_simulation.proofs.OpenArms
 use Rattle.clif_simulation.proofs.OpenEdges
@@ -59,9 +57,10 @@ use Rattle.clif_simulation.proofs.OpenStanding.{IsAt, Running, Gets}
 use Rattle.clif_simulation.proofs.OwnEdges
 use Rattle.clif_simulation.proofs.OwnEdges.{last_item}
 use Rattle.clif_simulation.proofs.Placing.{at_second, contained, map_at, placed_item}
-use Rattle.clif_simulation.proofs.Stepping.{nothing_assigned}
+use Rattle.clif_simulation.proofs.Stepping.{edge_passes, same_arguments}
 use Rattle.clif_simulation.proofs.Straight.{next_arm}
 use Rattle.clif_simulation.proofs.Targets
+use Rattle.clif_simulation.proofs.TwoParts.{nothing_assigned}
 
 stuck_not_on : (rest : List Item) → ◌≡◌ {A = Control Item} IsStuck (At rest) → ⊥
 stuck_not_on rest h = cc
@@ -69,7 +68,7 @@ stuck_not_on rest h = cc
 module _ (calls : List AnsweredCall) (f : Body) (ssa : SsaState) (consistent : IsConsistent f) (carries : Whole calls f ssa)
     (width : PointerWidth) (world : World) (tracked : Name → Bool) (collector : Collector) (unknowns : Unknowns) (entry : ℕ) (entry_name : Name)
     (signature : SignatureShape) (placed : IsWellPlaced (program_code (program_so_far calls)))
-    (typed : WellTyped (ledger_after (script_of calls)) (program_so_far calls) signature) (bare : MakesNoParameters calls)
+    (typed : WellTyped (ledger_after (script_of calls)) (program_so_far calls) signature)
   where
     abbrev left_run : ScriptRun
     left_run = OpenStanding.left_run calls f ssa consistent carries width world tracked collector unknowns entry entry_name
@@ -354,19 +353,16 @@ module _ (calls : List AnsweredCall) (f : Body) (ssa : SsaState) (consistent : I
 
           -- along an edge
           module _ (n : ℕ) (edge : Edge Name Name) (is_edge : slice_get instruction.edges n ≡ Some edge) (given : List Bits) (memory : Memory) where
-            nothing_passed : edge.arguments ≡ []
-            nothing_passed =
-                no_length edge.arguments
-                (Targets.passes_as_many calls B k place instruction results stands n edge is_edge signature typed ∙ ap (λ (names : List Name). length names) (bare edge.target))
-
             abbrev d : ℕ
             d = answered calls edge.target
 
             abbrev of_function : OwnEdges.IsEdgeOf calls f ssa consistent carries i n edge
             of_function = OwnEdges.edge_in_function calls f ssa consistent carries i instruction results is n edge is_edge
 
-            none_passed : carries.own.passed i n ≡ []
-            none_passed = none_mapped argument_of (carries.own.passed i n) (of_function.passed ∙ ap (map (answered_argument calls)) nothing_passed)
+            passes_own : length (carries.own.passed i n) ≡ length ((program_so_far calls).parameters edge.target)
+            passes_own =
+                OwnEdges.passed_count calls f ssa consistent carries i n edge of_function
+                ∙ Targets.passes_as_many calls B k place instruction results stands n edge is_edge signature typed
 
             target_named : block_name calls d ≡ Some edge.target
             target_named = OwnEdges.target_named calls f ssa consistent carries B k place instruction results stands n edge is_edge
@@ -397,10 +393,6 @@ module _ (calls : List AnsweredCall) (f : Body) (ssa : SsaState) (consistent : I
                 function_machine_of.enter_block right_run (record c.state { memory = memory }) d
                 (map (argument_bits (value_bits right_run c.state) given) (map argument_of of_function.call.args))
 
-            same_names : p1.names ≡ a.state.names
-            same_names =
-                ap (λ (names : List Name). assigned same_name names (map (argument_bits a.state.names given) edge.arguments) a.state.names) (bare edge.target)
-
             abbrev along : Path
             along = next_arm b k ∷ path
 
@@ -416,33 +408,56 @@ module _ (calls : List AnsweredCall) (f : Body) (ssa : SsaState) (consistent : I
                 (nothing_assigned same_name results a.state.names) (nothing_assigned same_value (map (answered calls) results) c.state.values)
                 (given_zeros live program function (next_arm b k) path results (answered calls) (gives path) a.state.variables a.state.names c.state.values r.agrees [] r.zeros)
 
-            crossed :
-                OpenEdges.Goes calls f ssa consistent carries bare d arm refl into none_passed of_function.call of_function.stands along given c.state.values
-                (unknowns a.entries) a.state.variables a.state.names agrees_behind zeros_behind
-                (variables_entering (is_yes (sealed_of ssa d)) (unknowns a.entries) a.state.variables)
-                (values_entering (pending_of (sealed_of ssa d)) (unknowns a.entries) q1.values)
+            follows_along : Follows (OpenFlow.edges calls f ssa consistent carries) along
+            follows_along = goes_on b B r.named k path (Instruct place instruction results) stands r.follows r.ends
+
+            -- a name that the edge passes has the bits that its answer has
+            passed_agrees : (x : Name) → Contains (passed_operands instruction) x → a.state.names x ≡ value_bits right_run c.state (answered calls x)
+            passed_agrees x passes =
+                let given_on : (way : Path) → Follows (OpenFlow.edges calls f ssa consistent carries) way → end_of way ≡ inside b (suc k)
+                → OpenFlow.IsGivenOn calls f ssa consistent carries way x = λ way follows ends.
+                OpenFlow.passed_before calls f ssa consistent carries placed way b k B follows ends r.named (Instruct place instruction results) stands x passes in
+                let on = given_on along follows_along refl in
+                let holds = OpenFlow.name_holds calls f ssa consistent carries placed x (inside b (suc k)) on.given given_on in
+                let same : function.resolve (tables.answer (code x)) ≡ resolved f (answered calls x) =
+                carries.describes.resolves (tables.answer (code x)) ∙ ap (resolved f) on.answer in
+                agrees_behind.of_name x (resolved f (answered calls x))
+                (carries.describes.resolves (resolved f (answered calls x)) ∙ resolved_twice f (answered calls x) consistent)
+                (sym (holds.agrees along follows_along refl) ∙ ap (λ (v : ℕ). denotes program function along v) same)
+
+            -- the bits that the target's parameters get
+            abbrev bits_passed : List ℕ
+            bits_passed = map (argument_bits a.state.names given) edge.arguments
+
+            same_passed : bits_passed ≡ map (argument_bits (value_bits right_run c.state) given) (map argument_of (carries.own.passed i n))
+            same_passed =
+                same_arguments calls a.state.names (value_bits right_run c.state) given edge.arguments
+                (λ x known. passed_agrees x (in_contained (passed_operands instruction) x (edge_passes instruction n edge is_edge x known)))
+                ∙ ap (map (argument_bits (value_bits right_run c.state) given)) (sym of_function.passed)
+
+            abbrev held : ℕ → ℕ
+            held = variables_entering (is_yes (sealed_of ssa d)) (unknowns a.entries) a.state.variables
+
+            abbrev values_there : ℕ → ℕ
+            values_there = values_entering (pending_of (sealed_of ssa d)) (unknowns a.entries) q1.values
+
+            crossed : Agrees live program function (arm ∷ along) held p1.names values_there × ZerosAreZero program function (arm ∷ along) held p1.names values_there
             crossed =
-                OpenEdges.goes calls f ssa consistent carries bare d arm refl into none_passed of_function.call of_function.stands along given c.state.values
-                (unknowns a.entries) a.state.variables a.state.names agrees_behind zeros_behind
+                OpenEdges.goes calls f ssa consistent carries d edge.target target_named (last_place tables b) n into passes_own of_function.call of_function.stands along given
+                c.state.values (unknowns a.entries) a.state.variables a.state.names agrees_behind zeros_behind bits_passed same_passed
 
             follows_there : Follows (OpenFlow.edges calls f ssa consistent carries) (arm ∷ along)
             follows_there =
                 let last : suc k ≡ length (items B) = last_item (items B) k place instruction results n edge (carries.edges_end B) stands is_edge in (
                   OpenArms.edge_open carries.own f ssa tables carries.describes d arm refl into,
                   ap (inside b) (carries.program.counts b B r.named ∙ sym last),
-                  goes_on b B r.named k path (Instruct place instruction results) stands r.follows r.ends,
+                  follows_along,
                 )
 
             arrived : Comes (script_enters ssa unknowns d edge.target a.entries p1) (function_enters ssa unknowns d a.entries q1)
             arrived =
                 OpenStanding.arrives calls f ssa consistent carries width world tracked collector unknowns entry entry_name d edge.target target_named (arm ∷ along) follows_there refl
-                a.entries p1 q1 refl refl refl r.same_events
-                (subst (λ (names : Name → ℕ).
-                Agrees live program function (arm ∷ along) (variables_entering (is_yes (sealed_of ssa d)) (unknowns a.entries) a.state.variables) names
-                (values_entering (pending_of (sealed_of ssa d)) (unknowns a.entries) q1.values)) (sym same_names) crossed.0)
-                (subst (λ (names : Name → ℕ).
-                ZerosAreZero program function (arm ∷ along) (variables_entering (is_yes (sealed_of ssa d)) (unknowns a.entries) a.state.variables) names
-                (values_entering (pending_of (sealed_of ssa d)) (unknowns a.entries) q1.values)) (sym same_names) crossed.1)
+                a.entries p1 q1 refl refl refl r.same_events crossed.0 crossed.1
 
             pub goes_along : left_machine.next a ≡ script_goes calls ssa unknowns a (Some edge) p1
                 → right_machine.next c

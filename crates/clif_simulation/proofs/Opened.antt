@@ -1,6 +1,6 @@
 -- The one path through the entry of an unfinished function: edges that the program may still get, of which none leads
 -- into another block. They are those of tables whose entry is sealed.
-use Rattle.std.proofs.Common.{◌≡◌, ◌≢◌, ℕ, zero, suc, ◌==◌, ◌&&◌, cond, if◌then◌else◌, Bool, true, false, List, [], ◌∷◌, slice_get, Option, Some, None, refl, sym, ◌∙◌, ap, subst, arith}
+use Rattle.std.proofs.Common.{◌≡◌, ◌≢◌, ℕ, zero, suc, ◌<◌, ◌==◌, ◌&&◌, cond, if◌then◌else◌, Bool, true, false, List, [], ◌∷◌, slice_get, Option, Some, None, refl, sym, ◌∙◌, ap, subst, arith}
 use Rattle.std.proofs.lemmas.Bool.Decides.{nat_tests}
 use Rattle.std.proofs.lemmas.Bool.{eqb-true}
 use Rattle.clif_ir.specs.Body.{Body}
@@ -54,12 +54,12 @@ module _ (calls : List AnsweredCall) (f : Body) (s : SsaState) (carries : Carrie
     e = Entry.e calls f s carries entry is_entry
 
     abbrev pub tables : Blocks
-    tables = carries.tables
+    tables = carries.whole.tables
 
     -- the tables' seal of the entry is the builder's
     pub seal_is : (sealed : Bool) → is_yes (sealed_of s e) ≡ sealed → tables.sealed e ≡ sealed
     seal_is sealed is =
-        carries.describes.sealed e ∙ ap (λ (b : Bool). b && has_entry f.layout) is ∙ and_true sealed (begins f.layout e (Entry.found calls f s carries entry is_entry))
+        carries.whole.describes.sealed e ∙ ap (λ (b : Bool). b && has_entry f.layout) is ∙ and_true sealed (begins f.layout e (Entry.found calls f s carries entry is_entry))
       where
         and_true : (a : Bool) {b : Bool} → b ≡ true → (a && b) ≡ a
         and_true true is = is
@@ -74,7 +74,7 @@ module _ (calls : List AnsweredCall) (f : Body) (s : SsaState) (carries : Carrie
       only = record {
         joined = joined;
         sealed = seal_is true is;
-        entered = carries.describes.entered e (Entry.found calls f s carries entry is_entry) (seal_is true is);
+        entered = carries.whole.describes.entered e (Entry.found calls f s carries entry is_entry) (seal_is true is);
       };
       known = λ arm there. refl;
     }
@@ -135,14 +135,15 @@ module _ (calls : List AnsweredCall) (f : Body) (s : SsaState) (carries : Carrie
           by false none = cc
           by true one =
               let before = Entry.named_before calls f s carries entry is_entry placed k (Assign variable name) stands name (0, omega arith, refl) in
-              let home : (tables.naming n).home ≡ inside e (suc before.0) =
-              ap (λ (m : ℕ). (tables.naming m).home) (sym (some_is (code name) n one)) ∙ before.2 in
+              let home : (tables.naming n).home ≡ inside e before.at =
+              ap (λ (m : ℕ). (tables.naming m).home) (sym (some_is (code name) n one)) ∙ before.home in
+              let below : before.at < suc k = let within = before.within in omega (arith, within) in
               subst (λ (p : Place). StrictlyBefore edges p (inside e (suc k))) (sym home)
-              (strictly_before (opened tables sealed joins) e opens.only e (suc before.0) (suc k) (omega (arith, before.1)))
+              (strictly_before (opened tables sealed joins) e opens.only e before.at (suc k) below)
 
       at_item : (b k x n : ℕ) (o : Option Name) → block_name calls b ≡ o → tables.assigned (inside b (suc k)) x ≡ Some n
           → StrictlyBefore edges (tables.naming n).home (inside b (suc k))
-      at_item b k x n None name assigned = absurd (none_some (sym (carries.program.elsewhere_nothing b (suc k) x name) ∙ assigned))
+      at_item b k x n None name assigned = absurd (none_some (sym (carries.whole.program.elsewhere_nothing b (suc k) x name) ∙ assigned))
       at_item b k x n (Some block) name assigned = by (b == e) refl
         where
           by : (test : Bool) → (b == e) ≡ test → StrictlyBefore edges (tables.naming n).home (inside b (suc k))
@@ -153,13 +154,13 @@ module _ (calls : List AnsweredCall) (f : Body) (s : SsaState) (carries : Carrie
               let here : b ≡ e = eqb-true b e one in
               let same : block ≡ entry = some_is block entry (sym name ∙ ap (block_name calls) here ∙ Entry.named calls f s carries entry is_entry) in
               let item : assigned_by (item_at calls entry k) x ≡ Some n =
-              ap (λ (m : Name). assigned_by (item_at calls m k) x) (sym same) ∙ sym (carries.program.assigned b k block name x) ∙ assigned in
+              ap (λ (m : Name). assigned_by (item_at calls m k) x) (sym same) ∙ sym (carries.whole.program.assigned b k block name x) ∙ assigned in
               subst (λ (c : ℕ). StrictlyBefore edges (tables.naming n).home (inside c (suc k))) (sym here)
               (in_entry k x n (item_at calls entry k) refl item)
 
       at_place : (place : Place) (x n : ℕ) → tables.assigned place x ≡ Some n → StrictlyBefore edges (tables.naming n).home place
-      at_place start x n assigned = absurd (none_some (sym (carries.program.start_assigns_nothing x) ∙ assigned))
-      at_place (inside b zero) x n assigned = absurd (none_some (sym (carries.program.front_assigns_nothing b x) ∙ assigned))
+      at_place start x n assigned = absurd (none_some (sym (carries.whole.program.start_assigns_nothing x) ∙ assigned))
+      at_place (inside b zero) x n assigned = absurd (none_some (sym (carries.whole.program.front_assigns_nothing b x) ∙ assigned))
       at_place (inside b (suc k)) x n assigned = at_item b k x n (block_name calls b) refl assigned
 
       pub allowed : Allowed (state_of tables).program edges

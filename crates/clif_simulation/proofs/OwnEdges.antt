@@ -12,7 +12,7 @@ use Rattle.clif_ssa.specs.Ssa.{SsaState, predecessors_of}
 use Rattle.clif_ssa.specs.Sound.{IsZero, edges_at, edge_target}
 use Rattle.clif_meaning.specs.Name.{Name}
 use Rattle.clif_meaning.specs.Request.{AnsweredCall}
-use Rattle.clif_meaning.specs.Instruction.{Edge, Instruction}
+use Rattle.clif_meaning.specs.Instruction.{Argument, Edge, Instruction}
 use Rattle.clif_meaning.specs.Program.{Item, Instruct, Use, Assign}
 use Rattle.clif_meaning.specs.FunctionView.{Placed}
 use Rattle.clif_meaning.specs.View.{argument_of, edge_of, edges_of}
@@ -20,7 +20,7 @@ use Rattle.clif_simulation.specs.Tables.{answered, program_so_far, block_name}
 use Rattle.clif_simulation.proofs.Whole.{Whole}
 use Rattle.clif_simulation.specs.Carries.{answered_argument, answered_edge, as_passed, own_placed, EdgeEarlier, EdgesEnd, NamesEarlier}
 use Rattle.clif_simulation.proofs.Listed.{all_at, place_within}
-use Rattle.clif_simulation.proofs.Placing.{at_second, in_two, map_at, map_from, stands_at, placed_item, OfItem, of_item}
+use Rattle.clif_simulation.proofs.Placing.{at_second, in_two, map_at, map_from, map_length, stands_at, placed_item, OfItem, of_item}
 
 -- Lists -----------------------------------------------------------------------------------------------------------------
 
@@ -160,6 +160,12 @@ module _ (calls : List AnsweredCall) (f : Body) (s : SsaState) (consistent : IsC
     pub stands : slice_get (edges_at f i) k ≡ Some call
     pub target : call.block ≡ answered calls edge.target
     pub passed : map argument_of (carries.own.passed i k) ≡ map (answered_argument calls) edge.arguments
+
+  -- the caller passed as much along it
+  pub passed_count : (i k : ℕ) (edge : Edge Name Name) → IsEdgeOf i k edge → length (carries.own.passed i k) ≡ length edge.arguments
+  passed_count i k edge of_function =
+      sym (map_length argument_of (carries.own.passed i k)) ∙ ap (λ (xs : List (Argument ℕ)). length xs) of_function.passed
+      ∙ map_length (answered_argument calls) edge.arguments
 
   module _ (i : ℕ) (instruction : Instruction Name Name) (results : List Name) (is : own_placed carries.own f i ≡ placed_item calls instruction results) where
     edges_are : as_passed (carries.own.passed i) 0 (edges_of (inst_at f i).shape) ≡ map (answered_edge calls) instruction.edges

@@ -8,12 +8,11 @@ use Rattle.clif_meaning.specs.Instruction.{Edge}
 use Rattle.clif_meaning.specs.Program.{Item, Instruct, Use, Assign}
 use Rattle.clif_meaning.specs.Path.{Place, Flow, IsPath, Leads, IsReachable}
 use Rattle.clif_meaning.specs.WellPlaced.{Code, IsGivenAlong, IsGivenBefore, given_on_entry, item_targets, item_gives, program_code}
-use Rattle.clif_meaning.proofs.StraightLine.{nothing_contained, none_of}
+use Rattle.clif_meaning.proofs.StraightLine.{none_of}
 use Rattle.clif_simulation.specs.Tables.{program_so_far}
-use Rattle.clif_simulation.specs.Laws.{MakesNoParameters}
 use Rattle.clif_simulation.proofs.Unbranched.{PlainlyEarlier}
 use Rattle.clif_simulation.specs.Reading.{with_ends, code_so_far, behind}
-use Rattle.clif_simulation.proofs.Listed.{through_block, given_earlier}
+use Rattle.clif_simulation.proofs.Listed.{through_block, given_earlier, given_entering}
 
 -- where nothing leads to another block, paths stay in the entry
 in_entry : {Block : Type 0} (flow : Flow Block) → ((p : Place Block) → flow.targets p ≡ []) → (p : Place Block) (path : List (Place Block)) → IsPath flow (p ∷ path)
@@ -58,21 +57,19 @@ module _ (calls : List AnsweredCall) where
   reached_entry earlier name reached =
       in_entry (code_so_far calls).flow (λ p. leads_nowhere ((program_so_far calls).items p.block) p.index (earlier p.block)) (behind name 0) reached.0 reached.1
 
-  module _ (none : MakesNoParameters calls) (entry : Name) (is_entry : (program_so_far calls).entry ≡ Some entry) where
+  module _ (entry : Name) (is_entry : (program_so_far calls).entry ≡ Some entry) where
     is_path : (k : ℕ) → k ≤ length ((program_so_far calls).items entry) → IsPath (code_so_far calls).flow (behind entry k ∷ through_block entry k)
     is_path zero within = (is_entry, (refl, omega arith))
     is_path (suc k) within = (inl (refl, omega arith, omega (arith, within)), is_path k (omega arith))
 
-    -- what is given before a place of the entry an item before it gives
+    -- what is given before a place of the entry is a parameter of it, or an item before the place gives it
     pub given_behind : (x : Name) (k : ℕ) → k ≤ length ((program_so_far calls).items entry) → IsGivenBefore (code_so_far calls) x (behind entry k)
-        → (j : ℕ) × (j < k) × Contains (item_gives (slice_get ((program_so_far calls).items entry) j)) x
+        → Contains ((program_so_far calls).parameters entry) x ⊎ ((j : ℕ) × (j < k) × Contains (item_gives (slice_get ((program_so_far calls).items entry) j)) x)
     given_behind x k within given = by (given (through_block entry k) (is_path k within))
       where
-        none_entering : (i : ℕ) → Contains (given_on_entry (code_so_far calls) entry i) x → ⊥
-        none_entering zero there = none_of ((program_so_far calls).parameters entry) x (none entry) there
-        none_entering (suc i) there = nothing_contained x there
-
         by : Contains (given_on_entry (code_so_far calls) entry k) x ⊎ IsGivenAlong (code_so_far calls) x (through_block entry k)
-            → (j : ℕ) × (j < k) × Contains (item_gives (slice_get ((program_so_far calls).items entry) j)) x
-        by (inl entering) = absurd (none_entering k entering)
-        by (inr along) = given_earlier (program_so_far calls) entry is_entry none x k (along_same (program_code (program_so_far calls)) x (through_block entry k) along)
+            → Contains ((program_so_far calls).parameters entry) x ⊎ ((j : ℕ) × (j < k) × Contains (item_gives (slice_get ((program_so_far calls).items entry) j)) x)
+        by (inl entering) =
+            inl (given_entering (program_so_far calls) entry is_entry x k
+            (subst (λ (names : List Name). Contains names x) (given_on_entry-same (program_code (program_so_far calls)) entry k) entering))
+        by (inr along) = given_earlier (program_so_far calls) entry is_entry x k (along_same (program_code (program_so_far calls)) x (through_block entry k) along)

@@ -1,5 +1,6 @@
 -- How both machines of an unfinished function come to stand side by side at the front of the entry, and go on so.
-use Rattle.std.proofs.Common.{◌≡◌, ◌≢◌, ℕ, zero, suc, ◌≤◌, ◌%◌, ◌^◌, if◌then◌else◌, Bool, true, false, List, [], ◌∷◌, ◌++◌, length, map, drop, flat_map, slice_get, Option, Some, None, Contains, ◌⊎◌, inl, inr, refl, sym, ◌∙◌, ap, subst, arith}
+use Rattle.std.proofs.Common.{◌≡◌, ◌≢◌, ℕ, zero, suc, ◌≤◌, ◌%◌, ◌^◌, if◌then◌else◌, Bool, true, false, List, [], ◌∷◌, ◌++◌, length, map, drop, flat_map, slice_get, Some, Contains, ◌⊎◌, inl, inr, refl, sym, ◌∙◌, ap, subst, arith}
+use Rattle.std.proofs.Math.Decide.{ℕ_discrete}
 use Rattle.std.proofs.lemmas.Bool.Decides.{nat_tests}
 use Rattle.std.proofs.lemmas.List.{map-append}
 use Rattle.std.specs.List.{AllByRecursion}
@@ -7,12 +8,12 @@ use Rattle.clif_types.specs.Types.{bits_of}
 use Rattle.clif_types.specs.declared.target.PointerWidth.{PointerWidth}
 use Rattle.clif_ir.specs.Body.{Body, inst_at, block_at, resolved}
 use Rattle.clif_ir.specs.Consistent.{IsConsistent}
-use Rattle.clif_paths.specs.Places.{start, inside, same_place, Edges}
+use Rattle.clif_paths.specs.Places.{start, inside, same_place, Edges, Path}
 use Rattle.clif_paths.specs.State.{Program, Function, Kind, unborn, born, pending, complete, zero_of, Definition}
-use Rattle.clif_paths.specs.Denotation.{absent, zero, given, unknown, variable, name, instances, defined, denotes}
-use Rattle.clif_paths.specs.Blocks.{front}
+use Rattle.clif_paths.specs.Denotation.{Instance, absent, zero, given, unknown, variable, name, instances, defined, denotes}
+use Rattle.clif_paths.specs.Blocks.{front, sealed_at}
 use Rattle.clif_paths.proofs.PathLemmas.{dec_place, same_place-equal, same_place-other}
-use Rattle.clif_paths.proofs.Executing.{entered-unsealed, variable-entered, denotes-here}
+use Rattle.clif_paths.proofs.Executing.{program_steps, entered-unsealed, variable-entered, denotes-here, denotes-past}
 use Rattle.clif_ssa.specs.declared.tables.Pending.{Pending}
 use Rattle.clif_ssa.specs.Ssa.{SsaState, record_of, sealed_of}
 use Rattle.clif_ssa.specs.Tables.{is_yes, pending_of}
@@ -21,6 +22,7 @@ use Rattle.clif_meaning.specs.Bits.{Bits}
 use Rattle.clif_meaning.specs.Name.{Name}
 use Rattle.clif_meaning.specs.Request.{AnsweredCall, script_of}
 use Rattle.clif_meaning.specs.Program.{Item, Instruct, Use, Assign}
+use Rattle.clif_meaning.specs.Store.{assigned}
 use Rattle.clif_meaning.specs.World.{World}
 use Rattle.clif_meaning.specs.Machine.{Machine, Control, At, HasReturned, HasTrapped, IsStuck, Observation, state_after}
 use Rattle.clif_meaning.specs.ScriptMachine as script
@@ -29,15 +31,20 @@ use Rattle.clif_meaning.specs.FunctionMachine as function_machine_of
 use Rattle.clif_meaning.specs.FunctionMachine.{Collector, FunctionRun, FunctionState, function_machine, same_value}
 use Rattle.clif_meaning.specs.FunctionView.{Placed}
 use Rattle.clif_meaning.specs.View.{placed_of, items_of, first_type}
-use Rattle.clif_meaning.specs.WellPlaced.{item_gives, program_code, IsWellPlaced}
-use Rattle.clif_meaning.proofs.StraightLine.{nothing_contained, none_of}
-use Rattle.clif_simulation.specs.Tables.{code, answered, program_so_far}
+use Rattle.clif_meaning.specs.WellPlaced.{program_code, IsWellPlaced}
+use Rattle.clif_meaning.proofs.StraightLine.{nothing_contained}
+use Rattle.clif_simulation.specs.Tables.{code, answered, block_name, program_so_far}
 use Rattle.clif_simulation.specs.Carries.{carried}
 use Rattle.clif_simulation.specs.Reading.{starting_at, IsAtEnd, StandAlike, StartAlike, SideBySide}
 use Rattle.clif_simulation.proofs.Unbranched.{CarriesUnbranched}
-use Rattle.clif_simulation.proofs.Agreement.{any_value, zeros_agree}
+use Rattle.clif_simulation.proofs.Agreement.{any_value, Agrees, ZerosAreZero, zeros_agree}
+use Rattle.clif_simulation.proofs.Entered.{ComesAlong, EntersThere, entered_agrees, entered_zeros}
+use Rattle.clif_simulation.proofs.Giving.{In, contained_in, in_contained, value_keeps, same_all}
+use Rattle.clif_simulation.proofs.IntoBlock
+use Rattle.clif_simulation.proofs.ItemsAt.{stands_for_itself}
+use Rattle.clif_simulation.proofs.Whole.{sealed_none}
 use Rattle.clif_simulation.proofs.Straight.{first_arm, straight, same_block, absent_name, absent_value}
-use Rattle.clif_simulation.proofs.Ended.{defined-end, is-end}
+use Rattle.clif_simulation.proofs.Ended.{defined-end, denotes-end, is-end}
 use Rattle.clif_simulation.proofs.Opened.{Opens}
 use Rattle.clif_simulation.proofs.Opened
 use Rattle.clif_simulation.proofs.Counted.{gives_results, terminator_gives_none}
@@ -46,12 +53,11 @@ use Rattle.clif_simulation.proofs.Listed.{place_within}
 use Rattle.clif_simulation.proofs.Reaching
 use Rattle.clif_simulation.proofs.Fronts.{zero_placed, is_zero_placed, any_first, zero_bits}
 use Rattle.clif_simulation.proofs.Entry
-use Rattle.clif_simulation.proofs.GivenNames.{given_at_front}
 use Rattle.clif_simulation.proofs.Alongside
 
 module _ (calls : List AnsweredCall) (f : Body) (ssa : SsaState) (consistent : IsConsistent f) (carries : CarriesUnbranched calls f ssa)
     (entry : Name) (is_entry : (program_so_far calls).entry ≡ Some entry) (placed : IsWellPlaced (program_code (program_so_far calls)))
-    (sealed : ℕ → Bool) (joins : Edges) (opens : Opens carries.tables (Entry.e calls f ssa carries entry is_entry) sealed joins)
+    (sealed : ℕ → Bool) (joins : Edges) (opens : Opens carries.whole.tables (Entry.e calls f ssa carries entry is_entry) sealed joins)
     (width : PointerWidth) (world : World) (tracked : Name → Bool) (collector : Collector)
   where
     abbrev pub left_run : ScriptRun
@@ -113,13 +119,6 @@ module _ (calls : List AnsweredCall) (f : Body) (ssa : SsaState) (consistent : I
             by steps (inl same) = (steps, same)
             by steps (inr one) = (suc steps, one)
 
-        item_gives_at : (x : Name) (j : ℕ) → Contains (item_gives (slice_get items j)) x → (o : Option Item) → slice_get items j ≡ o
-            → ((carries.tables.naming (code x)).home ≡ inside e (suc j)) × (carries.tables.answer (code x) ≡ answered calls x)
-        item_gives_at x j gives None is = absurd (nothing_contained x (subst (λ (o : Option Item). Contains (item_gives o) x) is gives))
-        item_gives_at x j gives (Some item) is =
-            let there = Entry.given_at calls f ssa carries entry is_entry j item is x (subst (λ (o : Option Item). Contains (item_gives o) x) is gives) in
-            (ap (λ naming. naming.home) there.0, there.1)
-
         records_alike : (k : ℕ) (a : ScriptState) (b : FunctionState) → IsAlongside k a b → (ahead : List Item) → drop k items ≡ ahead → IsAtEnd ahead
             → (x v : ℕ) → record_of ssa x e ≡ Some v → a.variables x ≡ b.values (resolved f v)
         records_alike k a b s [] here at_end x v is =
@@ -141,10 +140,8 @@ module _ (calls : List AnsweredCall) (f : Body) (ssa : SsaState) (consistent : I
           same_memory = s.same_memory;
           same_events = s.same_events;
           names = λ x given.
-              let before = Reaching.given_behind calls carries.bare entry is_entry x k s.within given in
-              let there = item_gives_at x before.0 before.2 (slice_get items before.0) refl in
-              Alongside.given_bits calls f ssa consistent carries entry is_entry placed sealed joins opens width world tracked collector
-              k a b s x before.0 before.1 there.0 there.1;
+              Alongside.given_bits calls f ssa consistent carries entry is_entry placed sealed joins opens width world tracked collector k a b s x
+              (Entry.is_earlier calls f ssa carries entry is_entry k x (Reaching.given_behind calls entry is_entry x k s.within given));
           records = λ at_end x v is. records_alike k a b s (drop k items) refl at_end x v is;
         }
 
@@ -158,20 +155,20 @@ module _ (calls : List AnsweredCall) (f : Body) (ssa : SsaState) (consistent : I
     placed_inst : ℕ → Placed
     placed_inst inst = placed_of f (inst_at f inst)
 
-    has : HasInstructions f carries.tables e (carries.own.insts e)
-    has = carries.describes.instructions e
+    has : HasInstructions f carries.whole.tables e (carries.whole.own.insts e)
+    has = carries.whole.describes.instructions e
 
     block_items : items_of f e ≡ map placed_inst has.zeros ++ flat_map (carried calls) items
     unfolding placed_inst
     block_items =
         ap (λ (b : Bool). if b then map placed_inst (block_at f e).insts else []) (any_first f.layout e (Entry.found calls f ssa carries entry is_entry))
         ∙ ap (map placed_inst) has.in_order
-        ∙ map-append placed_inst has.zeros (carries.own.insts e)
+        ∙ map-append placed_inst has.zeros (carries.whole.own.insts e)
         ∙ ap (λ (rest : List Placed). map placed_inst has.zeros ++ rest) (carries.items e entry (Entry.named calls f ssa carries entry is_entry))
 
     -- the value is a zero's
     abbrev IsZeroValue : ℕ → Type 0
-    IsZeroValue w = (x : ℕ) × (carries.tables.function.definition w ≡ record { home = front e; kind = zero_of x })
+    IsZeroValue w = (x : ℕ) × (carries.whole.tables.function.definition w ≡ record { home = front e; kind = zero_of x })
 
     module _ (q : FunctionState) where
       abbrev right_from : Machine FunctionState Observation
@@ -184,7 +181,7 @@ module _ (calls : List AnsweredCall) (f : Body) (ssa : SsaState) (consistent : I
         pub events : state.events ≡ q.events
         pub values : (w : ℕ) → (state.values w ≡ q.values w) ⊎ ((state.values w ≡ 0) × IsZeroValue w)
 
-      zero_step : (inst : ℕ) (left : List ℕ) (state : FunctionState) → IsZero f carries.tables e inst → ZerosLeft (inst ∷ left) state
+      zero_step : (inst : ℕ) (left : List ℕ) (state : FunctionState) → IsZero f carries.whole.tables e inst → ZerosLeft (inst ∷ left) state
           → ZerosLeft left (function_machine_of.function_step right_run state)
       unfolding zero_placed placed_inst
       zero_step inst left state put z =
@@ -209,10 +206,10 @@ module _ (calls : List AnsweredCall) (f : Body) (ssa : SsaState) (consistent : I
               ⊎ (((if test then 0 % 2 ^ bits_of (first_type f (put.value ∷ [])) else state.values w) ≡ 0) × IsZeroValue w)
           by w true one before =
               let same : w ≡ put.value = grind (arith, nat_tests) in
-              inr (zero_bits (bits_of (first_type f (put.value ∷ []))), (put.variable, ap carries.tables.function.definition same ∙ put.defined))
+              inr (zero_bits (bits_of (first_type f (put.value ∷ []))), (put.variable, ap carries.whole.tables.function.definition same ∙ put.defined))
           by w false other before = before
 
-      zeros_done : (left : List ℕ) → AllByRecursion (IsZero f carries.tables e) left → (n : ℕ) → ZerosLeft left (state_after right_from n)
+      zeros_done : (left : List ℕ) → AllByRecursion (IsZero f carries.whole.tables e) left → (n : ℕ) → ZerosLeft left (state_after right_from n)
           → (m : ℕ) × ZerosLeft [] (state_after right_from m)
       zeros_done [] all n z = (n, z)
       zeros_done (inst ∷ left) all n z = zeros_done left all.1 (suc n) (zero_step inst left (state_after right_from n) all.0 z)
@@ -228,58 +225,159 @@ module _ (calls : List AnsweredCall) (f : Body) (ssa : SsaState) (consistent : I
 
     -- At the front of the entry ---------------------------------------------------------------------------------------
 
-    -- where all bits are zero
-    pub from_blank : (p : ScriptState) (q : FunctionState) → p.control ≡ At items → q.control ≡ At (items_of f e) → p.memory ≡ q.memory → p.events ≡ q.events
-        → ((x : ℕ) → p.variables x ≡ 0) → ((n : Name) → p.names n ≡ 0) → ((w : ℕ) → q.values w ≡ 0)
-        → (ahead : ℕ) × IsAlongside 0 p (state_after (starting_at (function_machine right_run) q) ahead)
-    from_blank p q script_at function_at memory events variables names values =
-        let past = past_zeros q function_at in
-        (past.0, alongside (state_after (starting_at (function_machine right_run) q) past.0) past.1)
-      where
-        alongside : (state : FunctionState) → ZerosLeft q [] state → IsAlongside 0 p state
-        alongside state z = record {
-          within = omega arith;
-          script_at = script_at;
-          function_at = z.at;
-          same_memory = memory ∙ sym z.memory;
-          same_events = events ∙ sym z.events;
-          names = p.names;
-          values = state.values;
-          agrees = zeros_agree any_value (Alongside.program calls f ssa consistent carries entry is_entry placed sealed joins opens width world tracked collector)
-              (Alongside.function calls f ssa consistent carries entry is_entry placed sealed joins opens width world tracked collector)
-              (straight e 0) p.variables p.names state.values variables names (λ w. zero_now w (z.values w));
-          names_are = λ x j below home. refl;
-          values_are = λ w i within home. refl;
-        }
+    abbrev program : Program
+    program = Alongside.program calls f ssa consistent carries entry is_entry placed sealed joins opens width world tracked collector
+
+    abbrev function : Function
+    function = Alongside.function calls f ssa consistent carries entry is_entry placed sealed joins opens width world tracked collector
+
+    abbrev parameters : List Name
+    parameters = (program_so_far calls).parameters entry
+
+    named : block_name calls e ≡ Some entry
+    named = Entry.named calls f ssa carries entry is_entry
+
+    -- as the machines start: the caller's parameters of the entry have the world's arguments, and all other bits are zero
+    module _ (as_many : length world.arguments ≡ length parameters) where
+      abbrev pub p0 : ScriptState
+      p0 = script.enter_block left_run (script.blank_state left_run) entry world.arguments
+
+      abbrev pub q0 : FunctionState
+      q0 = function_machine_of.enter_block right_run (function_machine_of.blank_state right_run) e world.arguments
+
+      abbrev values_there : ℕ → ℕ
+      values_there = assigned same_value (map (answered calls) parameters) world.arguments (λ v. 0)
+
+      same_values : (w : ℕ) → q0.values w ≡ values_there w
+      same_values w = IntoBlock.callers_alone calls f ssa consistent carries.whole e entry named world.arguments (λ v. 0) w as_many
+
+      -- where the entry isn't sealed, they start alike
+      pub starts_alike : StartAlike calls f ssa e entry p0 q0
+      starts_alike = record {
+        script_at = refl;
+        function_at = refl;
+        same_memory = refl;
+        same_events = refl;
+        waiting = λ parameter there. sym (same_values parameter.param ∙ value_keeps (answered calls) parameters world.arguments (λ v. 0) parameter.param (no_caller parameter there));
+        names = λ x given. by x (given [] (is_entry, (refl, omega arith)));
+      }
+        where
+          pending_no_born : (x n : ℕ) → pending x ≡ born n → ⊥
+          pending_no_born x n h = cc
+
+          no_caller : (parameter : Pending) → Contains (pending_of (sealed_of ssa e)) parameter → (n : Name) → In n parameters → parameter.param ≢ answered calls n
+          no_caller parameter there n among same =
+              pending_no_born parameter.variable (code n)
+              (ap (λ (d : Definition). d.kind) (sym (carries.whole.describes.waiting e parameter there).defined ∙ ap carries.whole.tables.function.definition same
+              ∙ IntoBlock.parameter_defined calls f ssa consistent carries.whole e entry named n among))
+
+          of_parameter : (x : Name) → In x parameters → p0.names x ≡ q0.values (resolved f (answered calls x))
+          of_parameter x among =
+              same_all (answered calls) parameters world.arguments (λ n. 0) (λ v. 0) x
+              (IntoBlock.parameters_apart calls f ssa consistent carries.whole e entry named) among as_many
+              ∙ sym (same_values (answered calls x))
+              ∙ ap q0.values (sym (IntoBlock.parameter_live calls f ssa consistent carries.whole e entry named x among))
+
+          by : (x : Name) → Contains parameters x ⊎ ⊥ → p0.names x ≡ q0.values (resolved f (answered calls x))
+          by x (inl there) = of_parameter x (contained_in parameters x there)
+          by x (inr none) = absurd none
+
+      -- where it is, both agree
+      module _ (is_sealed : is_yes (sealed_of ssa e) ≡ true) where
+        known : carries.whole.tables.sealed e ≡ true
+        known = Opened.seal_is calls f ssa carries entry is_entry true is_sealed
+
+        enters_live : EntersThere (stands_for_itself carries.whole.tables) program carries.whole.tables.function (first_arm e) [] parameters (answered calls) (λ w. 0) (λ w. 0)
+        enters_live =
+            IntoBlock.enters_front calls f ssa consistent carries.whole e (sealed_none (sealed_of ssa e) is_sealed) entry named
+            (λ place. sealed_at carries.whole.tables.count carries.whole.tables.sealed place) known start 0 [] (λ w. 0) (λ w. 0)
+            (λ w defined. refl) (λ w elsewhere. refl) (λ w y kind. refl) (λ w y kind. refl)
+
+        same_denoted : (path : Path) (w : ℕ) → carries.whole.tables.function.resolve w ≡ w → denotes program function path w ≡ denotes program carries.whole.tables.function path w
+        same_denoted =
+            denotes-end carries.whole.tables.function program
+            (Alongside.ends calls f ssa consistent carries entry is_entry placed sealed joins opens width world tracked collector)
+
+        comes : (w : ℕ) → Dec (carries.whole.tables.function.resolve w ≡ w)
+            → ((n : Name) × In n parameters × (w ≡ answered calls n)) ⊎ ComesAlong any_value program function (first_arm e) [] (λ v. 0) (λ v. 0) w
+        comes w (yes itself) = by (enters_live.comes w itself)
           where
-            zero_now : (w : ℕ) → (state.values w ≡ q.values w) ⊎ ((state.values w ≡ 0) × IsZeroValue w) → state.values w ≡ 0
-            zero_now w (inl same) = same ∙ values w
-            zero_now w (inr put) = put.0
+            by : ((n : Name) × In n parameters × (w ≡ answered calls n))
+                ⊎ ComesAlong (stands_for_itself carries.whole.tables) program carries.whole.tables.function (first_arm e) [] (λ v. 0) (λ v. 0) w
+                → ((n : Name) × In n parameters × (w ≡ answered calls n)) ⊎ ComesAlong any_value program function (first_arm e) [] (λ v. 0) (λ v. 0) w
+            by (inl found) = inl found
+            by (inr (inl from)) = inr (inl (from.0, tt, same_denoted (first_arm e ∷ []) w itself ∙ from.2 ∙ sym (same_denoted [] from.0 from.1), refl))
+            by (inr (inr none)) = inr (inr (none.0, same_denoted (first_arm e ∷ []) w itself ∙ none.1, refl))
+        comes w (no alias) =
+            inr (inl (w, tt, denotes-past program function (first_arm e) [] w (λ at. alias (is-end carries.whole.tables.function w e 0 at)), refl))
+
+        enters : EntersThere any_value program function (first_arm e) [] parameters (answered calls) (λ w. 0) (λ w. 0)
+        enters = record {
+          known = enters_live.known;
+          unassigned = enters_live.unassigned;
+          named = enters_live.named;
+          defined = λ n there.
+              defined-end carries.whole.tables.function (answered calls n)
+              (carries.whole.describes.resolves (answered calls n) ∙ IntoBlock.parameter_live calls f ssa consistent carries.whole e entry named n there)
+              ∙ enters_live.defined n there;
+          only_names = enters_live.only_names;
+          comes = λ w is_live. comes w (ℕ_discrete (carries.whole.tables.function.resolve w) w);
+          zeros_stay = λ w y kind. refl;
+        }
+
+        blank_agrees : Agrees any_value program function [] (λ x. 0) (λ n. 0) (λ w. 0)
+        blank_agrees = zeros_agree any_value program function [] (λ x. 0) (λ n. 0) (λ w. 0) (λ x. refl) (λ n. refl) (λ w. refl)
+
+        blank_zeros : ZerosAreZero program function [] (λ x. 0) (λ n. 0) (λ w. 0)
+        blank_zeros = record { of_variable = λ x y is. refl; of_name = λ n y is. refl; of_value = λ w y is. refl }
+
+        pub from_start : (ahead : ℕ) × IsAlongside 0 p0 (state_after (starting_at (function_machine right_run) q0) ahead)
+        from_start =
+            let past = past_zeros q0 refl in
+            (past.0, alongside (state_after (starting_at (function_machine right_run) q0) past.0) past.1)
+          where
+            alongside : (state : FunctionState) → ZerosLeft q0 [] state → IsAlongside 0 p0 state
+            alongside state z = record {
+              within = omega arith;
+              script_at = refl;
+              function_at = z.at;
+              same_memory = sym z.memory;
+              same_events = sym z.events;
+              names = p0.names;
+              values = values_there;
+              agrees = entered_agrees any_value program function (first_arm e) [] parameters (answered calls) (λ w. 0) (λ w. 0) enters (λ x. 0) (λ n. 0) blank_agrees blank_zeros
+                  world.arguments as_many;
+              names_are = λ x i within home. refl;
+              values_are = λ w i within home. by w (is-end carries.whole.tables.function w e i home) (z.values w);
+            }
+              where
+                zero_there : (w y : ℕ) → (function.definition w).kind ≡ zero_of y → values_there w ≡ 0
+                zero_there =
+                    (entered_zeros any_value program function (first_arm e) [] parameters (answered calls) (λ w. 0) (λ w. 0) enters (λ x. 0) (λ n. 0) blank_agrees blank_zeros
+                    world.arguments as_many).of_value
+
+                by : (w : ℕ) → carries.whole.tables.function.resolve w ≡ w → (state.values w ≡ q0.values w) ⊎ ((state.values w ≡ 0) × IsZeroValue w) → values_there w ≡ state.values w
+                by w itself (inl same) = sym (same_values w) ∙ sym same
+                by w itself (inr put) =
+                    zero_there w put.1.0 (ap (λ (d : Definition). d.kind) (defined-end carries.whole.tables.function w itself ∙ put.1.1)) ∙ sym put.0
 
     -- where the entry isn't sealed: variables have any bits
     module _ (unsealed : is_yes (sealed_of ssa e) ≡ false) (p : ScriptState) (q : FunctionState) (start_alike : StartAlike calls f ssa e entry p q) where
-      abbrev program : Program
-      program = Alongside.program calls f ssa consistent carries entry is_entry placed sealed joins opens width world tracked collector
-
-      abbrev function : Function
-      function = Alongside.function calls f ssa consistent carries entry is_entry placed sealed joins opens width world tracked collector
-
       variable_unknown : (x : ℕ) → instances program (straight e 0) (variable x) ≡ unknown x (straight e 0)
       variable_unknown x =
-          variable-entered program (first_arm e) [] x (carries.program.front_assigns_nothing e x)
+          variable-entered program (first_arm e) [] x (carries.whole.program.front_assigns_nothing e x)
           ∙ entered-unsealed program (first_arm e) [] x (Opened.seal_is calls f ssa carries entry is_entry false unsealed)
 
-      no_name : (n : ℕ) → (carries.tables.naming n).home ≢ front e
-      no_name n at =
-          let given = given_at_front calls carries.tables carries.program n e entry (Entry.named calls f ssa carries entry is_entry) at in
-          none_of ((program_so_far calls).parameters entry) given.0 (carries.bare entry) given.2
-
-      name_absent : (n : ℕ) → instances program (straight e 0) (name n) ≡ absent
-      name_absent n = absent_name program n (straight e 0) (λ visits. never visits)
+      name_absent : (n : Name) → (carries.whole.tables.naming (code n)).home ≢ front e → instances program (straight e 0) (name (code n)) ≡ absent
+      name_absent n elsewhere = absent_name program (code n) (straight e 0) (λ visits. never visits)
         where
-          never : ((carries.tables.naming n).home ≡ front e) ⊎ ⊥ → ⊥
-          never (inl here) = no_name n here
+          never : ((carries.whole.tables.naming (code n)).home ≡ front e) ⊎ ⊥ → ⊥
+          never (inl here) = elsewhere here
           never (inr none) = none
+
+      name_given : (n : Name) → In n parameters → instances program (straight e 0) (name (code n)) ≡ given (code n) (straight e 0)
+      name_given n there =
+          (program_steps program (first_arm e) []).given_here (code n) (IntoBlock.parameter_named calls f ssa consistent carries.whole e entry named n there)
 
       value_absent : (w : ℕ) → (function.definition w).home ≢ front e → denotes program function (straight e 0) w ≡ absent
       value_absent w elsewhere = absent_value program function w (straight e 0) (λ visits. never visits)
@@ -289,11 +387,11 @@ module _ (calls : List AnsweredCall) (f : Body) (ssa : SsaState) (consistent : I
           never (inr none) = none
 
       -- a value at the front, as the tables define it
-      at_front : (w : ℕ) → (function.definition w).home ≡ front e → (carries.tables.function.definition w).home ≡ front e
-      at_front w at = sym (ap (λ (d : Definition). d.home) (defined-end carries.tables.function w (is-end carries.tables.function w e 0 at))) ∙ at
+      at_front : (w : ℕ) → (function.definition w).home ≡ front e → (carries.whole.tables.function.definition w).home ≡ front e
+      at_front w at = sym (ap (λ (d : Definition). d.home) (defined-end carries.whole.tables.function w (is-end carries.whole.tables.function w e 0 at))) ∙ at
 
-      front_kind : (w : ℕ) → (function.definition w).home ≡ front e → (kind : Kind) → (function.definition w).kind ≡ kind → (carries.tables.function.definition w).kind ≡ kind
-      front_kind w at kind is = sym (ap (λ (d : Definition). d.kind) (defined-end carries.tables.function w (is-end carries.tables.function w e 0 at))) ∙ is
+      front_kind : (w : ℕ) → (function.definition w).home ≡ front e → (kind : Kind) → (function.definition w).kind ≡ kind → (carries.whole.tables.function.definition w).kind ≡ kind
+      front_kind w at kind is = sym (ap (λ (d : Definition). d.kind) (defined-end carries.whole.tables.function w (is-end carries.whole.tables.function w e 0 at))) ∙ is
 
       denotes_front : (w : ℕ) → (function.definition w).home ≡ front e → (kind : Kind) → (function.definition w).kind ≡ kind
           → denotes program function (straight e 0) w ≡ defined program function (first_arm e) [] (λ u. denotes program function [] u) w kind
@@ -306,11 +404,11 @@ module _ (calls : List AnsweredCall) (f : Body) (ssa : SsaState) (consistent : I
       -- a parameter at the front waits for its variable, and has its bits
       waits : (state : FunctionState) → ZerosLeft q [] state → (w x : ℕ) → (function.definition w).home ≡ front e → (function.definition w).kind ≡ pending x
           → p.variables x ≡ state.values w
-      waits state z w x at is = by (carries.describes.pends w x (sym (carries.describes.resolves w) ∙ is-end carries.tables.function w e 0 at) (front_kind w at (pending x) is)) (z.values w)
+      waits state z w x at is = by (carries.whole.describes.pends w x (sym (carries.whole.describes.resolves w) ∙ is-end carries.whole.tables.function w e 0 at) (front_kind w at (pending x) is)) (z.values w)
         where
           waiting_bits : (b : ℕ) → Contains (pending_of (sealed_of ssa b)) (record { variable = x; param = w }) → p.variables x ≡ q.values w
           waiting_bits b there =
-              let home : front b ≡ front e = sym (ap (λ (d : Definition). d.home) (carries.describes.waiting b (record { variable = x; param = w }) there).defined) ∙ at_front w at in
+              let home : front b ≡ front e = sym (ap (λ (d : Definition). d.home) (carries.whole.describes.waiting b (record { variable = x; param = w }) there).defined) ∙ at_front w at in
               start_alike.waiting (record { variable = x; param = w })
               (subst (λ (c : ℕ). Contains (pending_of (sealed_of ssa c)) (record { variable = x; param = w })) (same_block home) there)
 
@@ -329,6 +427,17 @@ module _ (calls : List AnsweredCall) (f : Body) (ssa : SsaState) (consistent : I
       -- The bits of what is at the front; zero for all else, which is absent on both sides.
       front_values : FunctionState → ℕ → ℕ
       front_values state w = if same_place (function.definition w).home (front e) then state.values w else 0
+
+      front_names : Name → ℕ
+      front_names n = if same_place (carries.whole.tables.naming (code n)).home (front e) then p.names n else 0
+
+      names_here : (n : Name) → (carries.whole.tables.naming (code n)).home ≡ front e → front_names n ≡ p.names n
+      unfolding front_names
+      names_here n at = rw (same_place-equal (carries.whole.tables.naming (code n)).home (front e) at) refl
+
+      names_elsewhere : (n : Name) → (carries.whole.tables.naming (code n)).home ≢ front e → front_names n ≡ 0
+      unfolding front_names
+      names_elsewhere n elsewhere = rw (same_place-other (carries.whole.tables.naming (code n)).home (front e) elsewhere) refl
 
       values_here : (state : FunctionState) (w : ℕ) → (function.definition w).home ≡ front e → front_values state w ≡ state.values w
       unfolding front_values
@@ -377,46 +486,97 @@ module _ (calls : List AnsweredCall) (f : Body) (ssa : SsaState) (consistent : I
               other : unknown x (straight e 0) ≡ absent → ⊥
               other h = cc
 
-      -- and no value at the front denotes nothing
-      of_name : (state : FunctionState) (n : Name) (w : ℕ)
-          → instances program (straight e 0) (name (code n)) ≡ denotes program function (straight e 0) w → 0 ≡ front_values state w
-      of_name state n w same = by (dec_place (function.definition w).home (front e))
+      fits : (w : ℕ) → (function.definition w).home ≡ front e → (kind : Kind) → (function.definition w).kind ≡ kind → HomeFits carries.whole.tables w kind
+      fits w at kind of_kind = subst (λ (k : Kind). HomeFits carries.whole.tables w k) (front_kind w at kind of_kind) (carries.whole.describes.homes w)
+
+      -- a parameter of the caller's has its answer's bits, and no other value at the front denotes it
+      of_parameter : (state : FunctionState) → ZerosLeft q [] state → (n : Name) (w : ℕ) → In n parameters → (function.definition w).home ≡ front e
+          → given (code n) (straight e 0) ≡ denotes program function (straight e 0) w → p.names n ≡ state.values w
+      of_parameter state z n w among at is = by_kind (function.definition w).kind refl (is ∙ denotes_front w at (function.definition w).kind refl)
         where
-          is : absent ≡ denotes program function (straight e 0) w
-          is = sym (name_absent (code n)) ∙ same
+          born_no_zero : (m y : ℕ) → born m ≡ zero_of y → ⊥
+          born_no_zero m y h = cc
 
-          fits : (function.definition w).home ≡ front e → (kind : Kind) → (function.definition w).kind ≡ kind → HomeFits carries.tables w kind
-          fits at kind of_kind = subst (λ (k : Kind). HomeFits carries.tables w k) (front_kind w at kind of_kind) (carries.describes.homes w)
+          answers : w ≡ answered calls n → (m : ℕ) → (function.definition w).kind ≡ born m → (state.values w ≡ q.values w) ⊎ ((state.values w ≡ 0) × IsZeroValue w) → p.names n ≡ state.values w
+          answers same m of_kind (inl stays) =
+              start_alike.names n (λ path walk. inl (in_contained parameters n among))
+              ∙ ap q.values (IntoBlock.parameter_live calls f ssa consistent carries.whole e entry named n among ∙ sym same) ∙ sym stays
+          answers same m of_kind (inr put) =
+              absurd (born_no_zero m put.1.0 (sym (front_kind w at (born m) of_kind) ∙ ap (λ (d : Definition). d.kind) put.1.1))
 
-          by_kind : (function.definition w).home ≡ front e → (kind : Kind) → (function.definition w).kind ≡ kind
+          same_given : (m : ℕ) → ◌≡◌ {A = Instance} (given (code n) (straight e 0)) (given m (straight e 0)) → code n ≡ m
+          same_given m h = cc
+
+          by_kind : (kind : Kind) → (function.definition w).kind ≡ kind
+              → given (code n) (straight e 0) ≡ defined program function (first_arm e) [] (λ u. denotes program function [] u) w kind → p.names n ≡ state.values w
+          by_kind unborn of_kind one = absurd (other one)
+            where
+              other : given (code n) (straight e 0) ≡ absent → ⊥
+              other h = cc
+          by_kind (born m) of_kind one =
+              let home = fits w at (born m) of_kind in
+              answers (sym home.1 ∙ ap carries.whole.tables.answer (sym (same_given m one))
+              ∙ (carries.whole.program.parameter e entry named n (in_contained parameters n among)).1) m of_kind (z.values w)
+          by_kind (pending y) of_kind one =
+              absurd (other (one ∙ entered-unsealed program (first_arm e) [] y (Opened.seal_is calls f ssa carries entry is_entry false unsealed)))
+            where
+              other : given (code n) (straight e 0) ≡ unknown y (straight e 0) → ⊥
+              other h = cc
+          by_kind complete of_kind one = absurd (other (one ∙ nothing_yet (function.resolve (function.argument w (first_arm e)))))
+            where
+              other : given (code n) (straight e 0) ≡ absent → ⊥
+              other h = cc
+          by_kind (zero_of y) of_kind one = absurd (other one)
+            where
+              other : given (code n) (straight e 0) ≡ zero y → ⊥
+              other h = cc
+
+      -- no value at the front denotes nothing
+      none_absent : (w : ℕ) → (function.definition w).home ≡ front e → absent ≡ denotes program function (straight e 0) w → ⊥
+      none_absent w at is = by_kind (function.definition w).kind refl (is ∙ denotes_front w at (function.definition w).kind refl)
+        where
+          by_kind : (kind : Kind) → (function.definition w).kind ≡ kind
               → absent ≡ defined program function (first_arm e) [] (λ u. denotes program function [] u) w kind → ⊥
-          by_kind at unborn of_kind one = other (sym (fits at unborn of_kind) ∙ at_front w at)
+          by_kind unborn of_kind one = other (sym (fits w at unborn of_kind) ∙ at_front w at)
             where
               other : start ≡ front e → ⊥
               other h = cc
-          by_kind at (born n) of_kind one = other one
+          by_kind (born n) of_kind one = other one
             where
               other : absent ≡ given n (straight e 0) → ⊥
               other h = cc
-          by_kind at (pending y) of_kind one = other (one ∙ entered-unsealed program (first_arm e) [] y (Opened.seal_is calls f ssa carries entry is_entry false unsealed))
+          by_kind (pending y) of_kind one = other (one ∙ entered-unsealed program (first_arm e) [] y (Opened.seal_is calls f ssa carries entry is_entry false unsealed))
             where
               other : absent ≡ unknown y (straight e 0) → ⊥
               other h = cc
-          by_kind at complete of_kind one =
-              let there : (block : ℕ) × ((carries.tables.function.definition w).home ≡ front block) × (carries.tables.sealed block ≡ true) = fits at complete of_kind in
+          by_kind complete of_kind one =
+              let there : (block : ℕ) × ((carries.whole.tables.function.definition w).home ≡ front block) × (carries.whole.tables.sealed block ≡ true) = fits w at complete of_kind in
               let here : there.0 ≡ e = same_block (sym there.1 ∙ at_front w at) in
-              not_both (sym (Opened.seal_is calls f ssa carries entry is_entry false unsealed) ∙ ap carries.tables.sealed (sym here) ∙ there.2)
+              not_both (sym (Opened.seal_is calls f ssa carries entry is_entry false unsealed) ∙ ap carries.whole.tables.sealed (sym here) ∙ there.2)
             where
               not_both : false ≡ true → ⊥
               not_both h = cc
-          by_kind at (zero_of y) of_kind one = other one
+          by_kind (zero_of y) of_kind one = other one
             where
               other : absent ≡ zero y → ⊥
               other h = cc
 
-          by : Dec ((function.definition w).home ≡ front e) → 0 ≡ front_values state w
-          by (yes at) = absurd (by_kind at (function.definition w).kind refl (is ∙ denotes_front w at (function.definition w).kind refl))
-          by (no elsewhere) = sym (values_elsewhere state w elsewhere)
+      of_name : (state : FunctionState) → ZerosLeft q [] state → (n : Name) (w : ℕ)
+          → instances program (straight e 0) (name (code n)) ≡ denotes program function (straight e 0) w → front_names n ≡ front_values state w
+      of_name state z n w same = by (dec_place (carries.whole.tables.naming (code n)).home (front e)) (dec_place (function.definition w).home (front e))
+        where
+          there : (carries.whole.tables.naming (code n)).home ≡ front e → In n parameters
+          there here = IntoBlock.only_parameters calls f ssa consistent carries.whole e entry named n here
+
+          given_no_absent : given (code n) (straight e 0) ≡ absent → ⊥
+          given_no_absent h = cc
+
+          by : Dec ((carries.whole.tables.naming (code n)).home ≡ front e) → Dec ((function.definition w).home ≡ front e) → front_names n ≡ front_values state w
+          by (yes here) (yes at) =
+              names_here n here ∙ of_parameter state z n w (there here) at (sym (name_given n (there here)) ∙ same) ∙ sym (values_here state w at)
+          by (yes here) (no elsewhere) = absurd (given_no_absent (sym (name_given n (there here)) ∙ same ∙ value_absent w elsewhere))
+          by (no other) (yes at) = absurd (none_absent w at (sym (name_absent n other) ∙ same))
+          by (no other) (no elsewhere) = names_elsewhere n other ∙ sym (values_elsewhere state w elsewhere)
 
       pub from_any : (ahead : ℕ) × IsAlongside 0 p (state_after (starting_at (function_machine right_run) q) ahead)
       from_any =
@@ -430,10 +590,10 @@ module _ (calls : List AnsweredCall) (f : Body) (ssa : SsaState) (consistent : I
             function_at = z.at;
             same_memory = start_alike.same_memory ∙ sym z.memory;
             same_events = start_alike.same_events ∙ sym z.events;
-            names = λ n. 0;
+            names = front_names;
             values = front_values state;
-            agrees = record { of_variable = λ x w is_live. of_variable state z x w; of_name = λ n w is_live. of_name state n w };
-            names_are = λ x j below home. absurd (omega (arith, below));
+            agrees = record { of_variable = λ x w is_live. of_variable state z x w; of_name = λ n w is_live. of_name state z n w };
+            names_are = λ x i within home. names_here x (home ∙ ap (inside e) (none_below i within));
             values_are = λ w i within home. values_here state w (home ∙ ap (inside e) (none_below i within));
           }
             where

@@ -1,11 +1,10 @@
 -- How both machines start: at the entry, whose parameters that the caller made have the world's arguments, after the zeros at
 -- its front, with all other bits zero.
 use Rattle.std.proofs.Common.{◌≡◌, ℕ, zero, suc, ◌+◌, ◌-◌, ◌&&◌, Bool, true, List, [], ◌∷◌, length, map, Option, Some, inl, refl, sym, ◌∙◌, ap, subst, arith}
-use Rattle.std.proofs.lemmas.List.{append-nil}
 use Rattle.clif_types.specs.declared.types.«Type».{«Type»}
 use Rattle.clif_types.specs.declared.target.PointerWidth.{PointerWidth}
 use Rattle.clif_types.specs.Signature.{SignatureShape}
-use Rattle.clif_ir.specs.Body.{Body, block_at}
+use Rattle.clif_ir.specs.Body.{Body}
 use Rattle.clif_ir.specs.Consistent.{IsConsistent}
 use Rattle.clif_paths.specs.Places.{Follows, start}
 use Rattle.clif_paths.specs.State.{Program, Function, zero_of}
@@ -30,9 +29,9 @@ use Rattle.clif_meaning.specs.WellPlaced.{program_code, IsWellPlaced}
 use Rattle.clif_meaning.proofs.Stuttering.{Simulates, steps_from}
 use Rattle.clif_simulation.specs.Tables.{answered, block_name, program_so_far}
 use Rattle.clif_simulation.proofs.Whole.{Whole}
-use Rattle.clif_simulation.specs.Laws.{IsFinished, MakesNoParameters}
+use Rattle.clif_simulation.specs.Laws.{IsFinished}
 use Rattle.clif_simulation.proofs.Agreement.{Agrees, ZerosAreZero, agrees_still, zeros_agree, zeros_still}
-use Rattle.clif_simulation.proofs.Edges
+use Rattle.clif_simulation.proofs.IntoBlock
 use Rattle.clif_simulation.proofs.Entered.{EntersThere, entered_agrees, entered_zeros}
 use Rattle.clif_simulation.proofs.Entry.{begins}
 use Rattle.clif_simulation.proofs.Fronts
@@ -40,7 +39,6 @@ use Rattle.clif_simulation.proofs.Fronts.{HasFront, has_front, placed_inst, quie
 use Rattle.clif_simulation.proofs.Placing.{map_length}
 use Rattle.clif_simulation.proofs.Straight.{arms, first_arm}
 use Rattle.clif_simulation.proofs.Stepping
-use Rattle.clif_simulation.proofs.Stepping.{nothing_assigned}
 
 -- What is passed to the entry --------------------------------------------------------------------------------------------
 
@@ -64,11 +62,12 @@ no_elements : {X : Type 0} (xs : List X) → length xs ≡ 0 → xs ≡ []
 no_elements [] none = refl
 no_elements (x ∷ xs) none = absurd (omega (arith, none))
 
--- none, where no block has a parameter
-pub no_arguments : (calls : List AnsweredCall) (entry : Name) (types : List «Type») (world : World) → MakesNoParameters calls → (program_so_far calls).entry ≡ Some entry
+-- none, where it has none
+pub no_arguments : (calls : List AnsweredCall) (entry : Name) (types : List «Type») (world : World) → (program_so_far calls).parameters entry ≡ []
+    → (program_so_far calls).entry ≡ Some entry
     → EntryTakes (ledger_after (script_of calls)) (program_so_far calls) types (program_so_far calls).entry → AreValues types world.arguments → world.arguments ≡ []
 no_arguments calls entry types world bare is_entry takes are =
-    no_elements world.arguments (arguments_count calls entry types world is_entry takes are ∙ ap (λ (names : List Name). length names) (bare entry))
+    no_elements world.arguments (arguments_count calls entry types world is_entry takes are ∙ ap (λ (names : List Name). length names) bare)
 
 pub none_assigned : {Place : Type 0} (same : Place → Place → Bool) (places : List Place) (values : List Bits) (old : Place → Bits) → values ≡ []
     → assigned same places values old ≡ old
@@ -151,7 +150,7 @@ module _ (calls : List AnsweredCall) (f : Body) (ssa : SsaState) (consistent : I
 
     enters : EntersThere live program function (first_arm e) [] of_entry (answered calls) blank_values blank_values
     enters =
-        Edges.enters_front calls f ssa consistent carries finished placed e entry named start 0 [] blank_values blank_values
+        IntoBlock.enters_front calls f ssa consistent carries e (finished.none_waits e) entry named (λ place. true) refl start 0 [] blank_values blank_values
         (λ w defined. refl) (λ w elsewhere. refl) (λ w y kind. refl) (λ w y kind. refl)
 
     blank_agrees : Agrees live program function [] left_first.variables (λ x. 0) blank_values
@@ -165,11 +164,7 @@ module _ (calls : List AnsweredCall) (f : Body) (ssa : SsaState) (consistent : I
     values_there = assigned same_value (map (answered calls) of_entry) world.arguments blank_values
 
     same_values : (v : ℕ) → right_first.values v ≡ values_there v
-    same_values v =
-        ap (λ (bits : List ℕ). assigned same_value (block_at f e).params bits blank_values v) (sym (append-nil world.arguments))
-        ∙ Edges.in_two_parts calls f ssa consistent carries finished placed e entry named (block_at f e).params world.arguments [] blank_values v refl as_many
-        ∙ ap (λ (values : ℕ → ℕ). assigned same_value (map (answered calls) of_entry) world.arguments values v)
-        (nothing_assigned same_value (Edges.others calls f ssa consistent carries finished placed e entry named) blank_values)
+    same_values v = IntoBlock.callers_alone calls f ssa consistent carries e entry named world.arguments blank_values v as_many
 
     agrees_there : Agrees live program function (first_arm e ∷ []) left_first.variables left_first.names right_first.values
     agrees_there =

@@ -1,6 +1,6 @@
 -- One step of the script's machine is matched by the function's machine: both stand before the same items of a block and
 -- agree, or ended in one way. A step along an edge is matched by that and the zeros of the block that it leads to.
-use Rattle.std.proofs.Common.{◌≡◌, ℕ, zero, suc, ◌+◌, ◌-◌, ◌<◌, ◌≤◌, nat_lt, Bool, true, List, [], ◌∷◌, ◌++◌, map, length, drop, flat_map, slice_get, Option, Some, None, Contains, ◌⊎◌, inl, inr, refl, sym, ◌∙◌, ap, ap₂, subst, subst₂, arith}
+use Rattle.std.proofs.Common.{◌≡◌, ℕ, zero, suc, ◌+◌, ◌-◌, ◌<◌, ◌≤◌, nat_lt, true, List, [], ◌∷◌, ◌++◌, map, length, drop, flat_map, slice_get, Option, Some, None, Contains, ◌⊎◌, inl, inr, refl, sym, ◌∙◌, ap, ap₂, subst, subst₂, arith}
 use Rattle.std.specs.Prelude.{IsTrue}
 use Rattle.std.proofs.lemmas.Bool.Decides.{nat_tests}
 use Rattle.clif_types.specs.Signature.{SignatureShape}
@@ -57,10 +57,11 @@ use Rattle.clif_simulation.proofs.OwnEdges
 use Rattle.clif_simulation.proofs.OwnEdges.{last_item}
 use Rattle.clif_simulation.proofs.Targets
 use Rattle.clif_simulation.proofs.Placing.{at_second, map_at, map_length, placed_item}
+use Rattle.clif_simulation.proofs.TwoParts.{nothing_assigned}
 use Rattle.clif_simulation.proofs.Matching.{script_still, function_still, observation, remaining, first_is, rest_is, item_here, rest_behind, same_bits, matched_by_one, matched_by_none, matched_by_more, SameEnd, same_ending, IsPlain, outcome_plain}
 
 -- what is passed has the same bits where the names have those of their answers
-same_arguments : (calls : List AnsweredCall) (names : Name → ℕ) (values : ℕ → ℕ) (given : List ℕ) (arguments : List (Argument Name))
+pub same_arguments : (calls : List AnsweredCall) (names : Name → ℕ) (values : ℕ → ℕ) (given : List ℕ) (arguments : List (Argument Name))
     → ((x : Name) → In x (flat_map known_argument arguments) → names x ≡ values (answered calls x))
     → map (argument_bits names given) arguments ≡ map (argument_bits values given) (map (answered_argument calls) arguments)
 same_arguments calls names values given [] same = refl
@@ -72,14 +73,9 @@ same_arguments calls names values given (CallPayload index ∷ arguments) same =
     ap (λ (rest : List ℕ). argument_bits values given (CallPayload index) ∷ rest) (same_arguments calls names values given arguments same)
 
 -- what an edge of an instruction passes the instruction passes
-edge_passes : (instruction : Instruction Name Name) (n : ℕ) (edge : Edge Name Name) → slice_get instruction.edges n ≡ Some edge
+pub edge_passes : (instruction : Instruction Name Name) (n : ℕ) (edge : Edge Name Name) → slice_get instruction.edges n ≡ Some edge
     → (x : Name) → In x (flat_map known_argument edge.arguments) → In x (passed_operands instruction)
 edge_passes instruction n edge is x known = among_all (λ (e : Edge Name Name). flat_map known_argument e.arguments) instruction.edges n edge x is known
-
--- no bits, and nothing changes
-pub nothing_assigned : {Place : Type 0} (same : Place → Place → Bool) (places : List Place) (old : Place → ℕ) → assigned same places [] old ≡ old
-nothing_assigned same [] old = refl
-nothing_assigned same (place ∷ places) old = refl
 
 module _ (calls : List AnsweredCall) (f : Body) (ssa : SsaState) (consistent : IsConsistent f) (carries : Whole calls f ssa) (finished : IsFinished calls f ssa)
     (width : PointerWidth) (world : World) (signature : SignatureShape) (placed : IsWellPlaced (program_code (program_so_far calls)))

@@ -1,5 +1,5 @@
 -- Lists in two parts: places in them, and the bits that they get.
-use Rattle.std.proofs.Common.{◌≡◌, ◌≢◌, ℕ, zero, suc, ◌+◌, ◌<◌, ◌≤◌, true, false, List, [], ◌∷◌, ◌++◌, length, map, slice_get, Option, Some, inl, inr, refl, sym, ◌∙◌, ap, arith, if◌then◌else◌}
+use Rattle.std.proofs.Common.{◌≡◌, ◌≢◌, ℕ, zero, suc, ◌+◌, ◌<◌, ◌≤◌, Bool, true, false, List, [], ◌∷◌, ◌++◌, length, map, slice_get, Option, Some, inl, inr, refl, sym, ◌∙◌, ap, arith, if◌then◌else◌}
 use Rattle.std.proofs.Math.Decide.{ℕ_discrete}
 use Rattle.std.proofs.lemmas.Bool.Decides.{nat_tests}
 use Rattle.clif_ir.specs.Consistent.{Stands}
@@ -77,6 +77,11 @@ assigned_at (p ∷ places) (b ∷ bits) old v x there is = by (ℕ_discrete p v)
         let test : same_value v p ≡ false = grind (arith, nat_tests) in
         let place : place_of v (p ∷ places) ≡ suc (place_of v places) = place_later v p places apart ∙ add_one (place_of v places) in
         rw test (later (omega (arith, there, place)) (ap (slice_get (b ∷ bits)) (sym place) ∙ is))
+
+-- no bits, and nothing changes
+pub nothing_assigned : {Place : Type 0} (same : Place → Place → Bool) (places : List Place) (old : Place → ℕ) → assigned same places [] old ≡ old
+nothing_assigned same [] old = refl
+nothing_assigned same (place ∷ places) old = refl
 
 -- a number that doesn't stand there keeps its bits
 pub assigned_elsewhere : (places bits : List ℕ) (old : ℕ → ℕ) (v : ℕ) → (Stands v places → ⊥) → assigned same_value places bits old v ≡ old v

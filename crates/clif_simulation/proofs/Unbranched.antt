@@ -1,18 +1,13 @@
 -- What holds where no branch leads to any block: a function that carries a list of calls has no branch then.
-use Rattle.std.proofs.Common.{◌≡◌, ℕ, zero, suc, List, [], ◌∷◌, ◌++◌, map, Contains, refl, sym, ◌∙◌, ap, ap₂, subst, slice_get, Option, Some, None, inl, inr, ◌⊎◌}
+use Rattle.std.proofs.Common.{◌≡◌, ℕ, zero, suc, List, [], ◌∷◌, map, Contains, refl, sym, ◌∙◌, ap, ap₂, subst, slice_get, Some, inl, inr, ◌⊎◌}
 use Rattle.std.specs.Prelude.{flat_map}
 use Rattle.std.specs.List.{AllByRecursion}
-use Rattle.clif_ir.specs.Body.{Body, inst_at, block_at}
+use Rattle.clif_ir.specs.Body.{Body, inst_at}
 use Rattle.clif_ir.specs.Instruction.{destinations}
 use Rattle.clif_ir.specs.declared.block_call.BlockCall.{BlockCall}
-use Rattle.clif_paths.specs.Blocks.{Blocks}
-use Rattle.clif_paths.specs.BlockLaws.{BlocksSound}
 use Rattle.clif_ssa.specs.Own.{Own}
-use Rattle.clif_ssa.specs.Ssa.{SsaState, predecessors_of, SamePredecessors}
-use Rattle.clif_ssa.specs.Sound.{Describes, CountsArguments, edge_target}
-use Rattle.clif_ssa.specs.SoundLaws.{IsOpen}
-use Rattle.clif_ssa.specs.Structure.{NothingStray}
-use Rattle.clif_ssa.specs.Structured.{Structured, VariableTypes}
+use Rattle.clif_ssa.specs.Ssa.{SsaState, predecessors_of}
+use Rattle.clif_ssa.specs.Sound.{edge_target}
 use Rattle.clif_meaning.specs.Instruction.{Edge}
 use Rattle.clif_meaning.specs.Name.{Name}
 use Rattle.clif_meaning.specs.Request.{AnsweredCall}
@@ -20,21 +15,14 @@ use Rattle.clif_meaning.specs.Program.{Item, Instruct, Use, Assign}
 use Rattle.clif_meaning.specs.FunctionView.{Placed}
 use Rattle.clif_meaning.specs.View.{placed_of, edge_of, edges_of}
 use Rattle.clif_meaning.proofs.StraightLine.{none_of}
-use Rattle.clif_simulation.specs.Tables.{program_so_far, block_name, IsProgramOf}
-use Rattle.clif_simulation.specs.Carries.{AreTypes, NothingLeads, HasEntry, IsEarlier, NamesEarlier, EdgeEarlier, EdgesEnd, OwnExist, OwnNamed, OwnInserted, ValuesGiven, carried, answered_edge, as_passed, own_placed}
-use Rattle.clif_simulation.specs.Laws.{MakesNoParameters}
-use Rattle.clif_simulation.proofs.Whole.{Whole, bare_own, own_bare}
-use Rattle.clif_simulation.proofs.Giving.{In, contained_in, in_contained}
+use Rattle.clif_simulation.specs.Tables.{program_so_far, block_name}
+use Rattle.clif_simulation.specs.Carries.{NothingLeads, IsEarlier, NamesEarlier, carried, answered_edge, as_passed, own_placed}
+use Rattle.clif_simulation.proofs.Whole.{Whole}
+use Rattle.clif_simulation.proofs.Giving.{In, in_contained}
 use Rattle.clif_simulation.proofs.Listed.{none_mapped}
 
 pub none_leads : (s : SsaState) → NothingLeads s → (b i : ℕ) → Contains (predecessors_of s b) i → ⊥
 none_leads s nothing b i leads = none_of (predecessors_of s b) i (nothing b) leads
-
-pub open_everywhere : (f : Body) (s : SsaState) (b : ℕ) → NothingLeads s → IsOpen f s b
-open_everywhere f s b nothing c i leads = absurd (none_leads s nothing c i leads)
-
-pub nothing_still : (s t : SsaState) → SamePredecessors s t → NothingLeads s → NothingLeads t
-nothing_still s t same nothing b = same b ∙ nothing b
 
 -- what an item names, and what it gives, was answered, and an instruction has no edges
 abbrev pub PlainlyEarlier : List AnsweredCall → Item → Type 0
@@ -51,23 +39,9 @@ PlainlyHasItems calls f own =
 
 -- a function without branches carries a list of calls
 pub record CarriesUnbranched (calls : List AnsweredCall) (f : Body) (s : SsaState) : Type 0 where
-  pub tables : Blocks
-  pub own : Own
-  pub program : IsProgramOf calls tables
-  pub items : PlainlyHasItems calls f own.insts
+  pub whole : Whole calls f s
+  pub items : PlainlyHasItems calls f whole.own.insts
   pub earlier : (name : Name) → AllByRecursion (PlainlyEarlier calls) ((program_so_far calls).items name)
-  pub own_exist : OwnExist f own.insts
-  pub own_named : OwnNamed calls own.insts
-  pub own_inserted : OwnInserted f own.insts
-  pub bare : MakesNoParameters calls
-  pub no_parameters : (block : ℕ) → own.params block ≡ []
-  pub values_given : ValuesGiven calls tables
-  pub entry : HasEntry calls f
-  pub describes : Describes own f s [] tables
-  pub sound : BlocksSound tables
-  pub counts : CountsArguments own f s tables
-  pub structured : (types : VariableTypes) → AreTypes calls types → Structured types own f s []
-  pub nothing_stray : NothingStray own.insts f s
   pub nothing_leads : NothingLeads s
 
 -- Instructions without edges ----------------------------------------------------------------------------------------------
@@ -90,11 +64,6 @@ all_without : (f : Body) (insts : List ℕ) → ((inst : ℕ) → In inst insts 
 all_without f [] none = tt
 all_without f (inst ∷ insts) none = (none inst (inl refl), all_without f insts (λ i there. none i (inr there)))
 
-without_at : (f : Body) (insts : List ℕ) → AllByRecursion HasNoEdges (map (λ inst. placed_of f (inst_at f inst)) insts) → (inst : ℕ) → In inst insts → edges_of (inst_at f inst).shape ≡ []
-without_at f [] all inst there = absurd there
-without_at f (i ∷ insts) all inst (inl here) = ap (λ (j : ℕ). edges_of (inst_at f j).shape) here ∙ all.0
-without_at f (i ∷ insts) all inst (inr there) = without_at f insts all.1 inst there
-
 of_items : (calls : List AnsweredCall) (items : List Item) → AllByRecursion (NamesEarlier calls) items → AllByRecursion HasNoEdges (flat_map (carried calls) items)
     → AllByRecursion (PlainlyEarlier calls) items
 of_items calls [] earlier without = tt
@@ -102,25 +71,6 @@ of_items calls (Instruct place instruction results ∷ items) earlier without =
     ((earlier.0.0, earlier.0.1, none_mapped (answered_edge calls) instruction.edges without.0), of_items calls items earlier.1 without.1)
 of_items calls (Use variable name ∷ items) earlier without = (earlier.0, of_items calls items earlier.1 without)
 of_items calls (Assign variable name ∷ items) earlier without = (earlier.0, of_items calls items earlier.1 without)
-
-items_without : (calls : List AnsweredCall) (items : List Item) → AllByRecursion (PlainlyEarlier calls) items → AllByRecursion HasNoEdges (flat_map (carried calls) items)
-items_without calls [] earlier = tt
-items_without calls (Instruct place instruction results ∷ items) earlier = (ap (map (answered_edge calls)) earlier.0.2, items_without calls items earlier.1)
-items_without calls (Use variable name ∷ items) earlier = items_without calls items earlier.1
-items_without calls (Assign variable name ∷ items) earlier = items_without calls items earlier.1
-
-pub names_earlier : (calls : List AnsweredCall) (items : List Item) → AllByRecursion (PlainlyEarlier calls) items → AllByRecursion (NamesEarlier calls) items
-names_earlier calls [] earlier = tt
-names_earlier calls (Instruct place instruction results ∷ items) earlier =
-    ((earlier.0.0, earlier.0.1, subst (AllByRecursion (EdgeEarlier calls)) (sym earlier.0.2) tt), names_earlier calls items earlier.1)
-names_earlier calls (Use variable name ∷ items) earlier = (earlier.0, names_earlier calls items earlier.1)
-names_earlier calls (Assign variable name ∷ items) earlier = (earlier.0, names_earlier calls items earlier.1)
-
-pub end_of_items : (calls : List AnsweredCall) (items : List Item) → AllByRecursion (PlainlyEarlier calls) items → EdgesEnd items
-end_of_items calls [] earlier = tt
-end_of_items calls (Instruct place instruction results ∷ items) earlier = (inl earlier.0.2, end_of_items calls items earlier.1)
-end_of_items calls (Use variable name ∷ items) earlier = end_of_items calls items earlier.1
-end_of_items calls (Assign variable name ∷ items) earlier = end_of_items calls items earlier.1
 
 pub no_target : (f : Body) (inst k target : ℕ) → edges_of (inst_at f inst).shape ≡ [] → edge_target f inst k ≡ Some target → ⊥
 no_target f inst k target none leads = by (destinations (inst_at f inst).shape) (none_mapped edge_of (destinations (inst_at f inst).shape) none) k leads
@@ -130,81 +80,32 @@ no_target f inst k target none leads = by (destinations (inst_at f inst).shape) 
     by [] none (suc k) leads = cc
     by (edge ∷ edges) none k leads = cc
 
--- Both ways ---------------------------------------------------------------------------------------------------------------
+-- Where no branch leads anywhere -------------------------------------------------------------------------------------------
 
-module _ (calls : List AnsweredCall) (f : Body) (s : SsaState) where
-  module _ (carries : Whole calls f s) (nothing : NothingLeads s) (bare : MakesNoParameters calls) where
-    own_without : (block inst : ℕ) → In inst (carries.own.insts block) → edges_of (inst_at f inst).shape ≡ []
-    own_without block inst there = by (destinations (inst_at f inst).shape) refl
-      where
-        by : (edges : List BlockCall) → destinations (inst_at f inst).shape ≡ edges → map edge_of (destinations (inst_at f inst).shape) ≡ []
-        by [] none = ap (map edge_of) none
-        by (edge ∷ edges) some =
-            absurd (none_leads s nothing edge.block inst (carries.declared block inst 0 edge.block (in_contained (carries.own.insts block) inst there)
-            (ap (λ (es : List BlockCall). slice_get (map (λ (e : BlockCall). e.block) es) 0) some)))
+module _ (calls : List AnsweredCall) (f : Body) (s : SsaState) (carries : Whole calls f s) (nothing : NothingLeads s) where
+  own_without : (block inst : ℕ) → In inst (carries.own.insts block) → edges_of (inst_at f inst).shape ≡ []
+  own_without block inst there = by (destinations (inst_at f inst).shape) refl
+    where
+      by : (edges : List BlockCall) → destinations (inst_at f inst).shape ≡ edges → map edge_of (destinations (inst_at f inst).shape) ≡ []
+      by [] none = ap (map edge_of) none
+      by (edge ∷ edges) some =
+          absurd (none_leads s nothing edge.block inst (carries.declared block inst 0 edge.block (in_contained (carries.own.insts block) inst there)
+          (ap (λ (es : List BlockCall). slice_get (map (λ (e : BlockCall). e.block) es) 0) some)))
 
-    pub plain_items : PlainlyHasItems calls f carries.own.insts
-    plain_items block name named = sym (all_nothing_passes carries.own f (carries.own.insts block) (own_without block)) ∙ carries.items block name named
+  pub plain_items : PlainlyHasItems calls f carries.own.insts
+  plain_items block name named = sym (all_nothing_passes carries.own f (carries.own.insts block) (own_without block)) ∙ carries.items block name named
 
-    pub plainly_earlier : (name : Name) → ((program_so_far calls).items name ≡ []) ⊎ ((block : ℕ) × (block_name calls block ≡ Some name))
-        → AllByRecursion (PlainlyEarlier calls) ((program_so_far calls).items name)
-    plainly_earlier name (inl none) = subst (AllByRecursion (PlainlyEarlier calls)) (sym none) tt
-    plainly_earlier name (inr block) =
-        of_items calls ((program_so_far calls).items name) (carries.earlier name)
-        (subst (AllByRecursion HasNoEdges) (plain_items block.0 name block.1) (all_without f (carries.own.insts block.0) (own_without block.0)))
+  pub plainly_earlier : (name : Name) → ((program_so_far calls).items name ≡ []) ⊎ ((block : ℕ) × (block_name calls block ≡ Some name))
+      → AllByRecursion (PlainlyEarlier calls) ((program_so_far calls).items name)
+  plainly_earlier name (inl none) = subst (AllByRecursion (PlainlyEarlier calls)) (sym none) tt
+  plainly_earlier name (inr block) =
+      of_items calls ((program_so_far calls).items name) (carries.earlier name)
+      (subst (AllByRecursion HasNoEdges) (plain_items block.0 name block.1) (all_without f (carries.own.insts block.0) (own_without block.0)))
 
-    abbrev pub unbranched : CarriesUnbranched calls f s
-    unbranched = record {
-      tables = carries.tables;
-      own = carries.own;
-      program = carries.program;
-      items = plain_items;
-      earlier = λ name. plainly_earlier name (carries.program.only_blocks name);
-      own_exist = carries.own_exist;
-      own_named = carries.own_named;
-      own_inserted = carries.own_inserted;
-      bare = bare;
-      no_parameters = bare_own calls carries.own carries.parameters bare;
-      values_given = carries.values_given;
-      entry = carries.entry;
-      describes = carries.describes;
-      sound = carries.sound;
-      counts = carries.counts;
-      structured = carries.structured;
-      nothing_stray = carries.nothing_stray nothing bare;
-      nothing_leads = nothing;
-    }
-
-  module _ (carries : CarriesUnbranched calls f s) where
-    pub own_plain : (block : ℕ) (o : Option Name) → block_name calls block ≡ o → (inst : ℕ) → In inst (carries.own.insts block) → edges_of (inst_at f inst).shape ≡ []
-    own_plain block None unnamed inst there = absurd (subst (In inst) (carries.own_named block unnamed) there)
-    own_plain block (Some name) named inst there =
-        without_at f (carries.own.insts block)
-        (subst (AllByRecursion HasNoEdges) (sym (carries.items block name named)) (items_without calls ((program_so_far calls).items name) (carries.earlier name))) inst there
-
-    abbrev pub branched : Whole calls f s
-    branched = record {
-      tables = carries.tables;
-      own = carries.own;
-      program = carries.program;
-      items = λ block name named.
-          all_nothing_passes carries.own f (carries.own.insts block) (own_plain block (Some name) named) ∙ carries.items block name named;
-      earlier = λ name. names_earlier calls ((program_so_far calls).items name) (carries.earlier name);
-      edges_end = λ name. end_of_items calls ((program_so_far calls).items name) (carries.earlier name);
-      own_exist = carries.own_exist;
-      own_named = carries.own_named;
-      own_inserted = carries.own_inserted;
-      declared = λ block inst k target there leads.
-          absurd (no_target f inst k target (own_plain block (block_name calls block) refl inst (contained_in (carries.own.insts block) inst there)) leads);
-      leads_own = λ target inst leads. absurd (none_leads s carries.nothing_leads target inst leads);
-      passes_first = λ target inst k leads to. absurd (none_leads s carries.nothing_leads target inst leads);
-      parameters_first = λ block. ((block_at f block).params, ap (λ (own : List ℕ). own ++ (block_at f block).params) (sym (carries.no_parameters block)));
-      parameters = own_bare calls carries.own carries.no_parameters carries.bare;
-      values_given = carries.values_given;
-      entry = carries.entry;
-      describes = carries.describes;
-      sound = carries.sound;
-      counts = carries.counts;
-      structured = carries.structured;
-      nothing_stray = λ nothing bare. carries.nothing_stray;
-    }
+  abbrev pub unbranched : CarriesUnbranched calls f s
+  unbranched = record {
+    whole = carries;
+    items = plain_items;
+    earlier = λ name. plainly_earlier name (carries.program.only_blocks name);
+    nothing_leads = nothing;
+  }

@@ -23,7 +23,6 @@ use Rattle.clif_simulation.specs.Tables.{program_so_far, block_name}
 use Rattle.clif_simulation.specs.Carries.{Carries, EdgesEnd, Holds, NothingLeads, SparesBlock, SparesEntry, answered_edge, as_passed, carried, own_placed}
 use Rattle.clif_simulation.proofs.Extending.{one_answer}
 use Rattle.clif_simulation.proofs.Listed.{none_mapped}
-use Rattle.clif_simulation.specs.Laws.{MakesNoParameters}
 use Rattle.clif_simulation.proofs.Unbranched.{CarriesUnbranched, none_leads, unbranched}
 use Rattle.clif_simulation.proofs.Values.{false_is}
 use Rattle.clif_simulation.proofs.Whole.{are_declared, declared_types, whole}
@@ -123,6 +122,6 @@ module _ (calls : List AnsweredCall) (own : Own) (f : Body) (s : SsaState) (hold
 pub spares : (calls : List AnsweredCall) (f : Body) (s : SsaState) → Carries calls f s → NothingLeads s → SparesEntry calls
 spares calls f s carries nothing = spares_nowhere calls carries.own f s carries.holds nothing
 
--- a function without branches and without parameters of the caller's that carries calls
-abbrev pub plainly : (calls : List AnsweredCall) (f : Body) (s : SsaState) → IsConsistent f → Carries calls f s → NothingLeads s → MakesNoParameters calls → CarriesUnbranched calls f s
-plainly calls f s consistent carries nothing bare = unbranched calls f s (whole calls f s consistent carries (spares calls f s carries nothing)) nothing bare
+-- a function without branches that carries calls
+abbrev pub plainly : (calls : List AnsweredCall) (f : Body) (s : SsaState) → IsConsistent f → Carries calls f s → NothingLeads s → CarriesUnbranched calls f s
+plainly calls f s consistent carries nothing = unbranched calls f s (whole calls f s consistent carries (spares calls f s carries nothing)) nothing

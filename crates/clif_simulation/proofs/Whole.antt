@@ -1,10 +1,9 @@
 -- All that a function holds which carries a list of calls, where no branch names their entry.
-use Rattle.std.proofs.Common.{◌≡◌, ◌≢◌, ℕ, zero, suc, ◌<◌, ◌≤◌, List, [], ◌∷◌, ◌++◌, length, map, refl, sym, ◌∙◌, ap, subst, arith, Option, Some, None}
-use Rattle.std.specs.Prelude.{Contains, slice_get, slice_index_or}
+use Rattle.std.proofs.Common.{true, ◌≡◌, ◌≢◌, ℕ, List, [], ◌∷◌, ◌++◌, map, refl, sym, ◌∙◌, ap, Some}
+use Rattle.std.specs.Prelude.{Contains, slice_get}
 use Rattle.std.specs.List.{AllByRecursion}
 use Rattle.clif_ir.specs.Body.{Body, block_at}
-use Rattle.clif_ir.specs.Consistent.{IsConsistent, IsOrigin}
-use Rattle.clif_ir.specs.Reading.{param_home}
+use Rattle.clif_ir.specs.Consistent.{IsConsistent}
 use Rattle.clif_ir.specs.declared.block_call.BlockArg.{BlockArg}
 use Rattle.clif_ir.specs.declared.block_call.BlockArg.TheVariants.{Value}
 use Rattle.clif_paths.specs.Blocks.{Blocks}
@@ -13,22 +12,18 @@ use Rattle.clif_ssa.specs.declared.tables.Pending.{Pending}
 use Rattle.clif_ssa.specs.declared.tables.Sealed.{Sealed}
 use Rattle.clif_ssa.specs.declared.tables.Sealed.TheVariants.{No, Yes}
 use Rattle.clif_ssa.specs.Own.{Own}
-use Rattle.clif_ssa.specs.Tables.{pending_of}
+use Rattle.clif_ssa.specs.Tables.{is_yes, pending_of}
 use Rattle.clif_ssa.specs.Ssa.{SsaState, sealed_of, predecessors_of}
 use Rattle.clif_ssa.specs.Sound.{Describes, CountsArguments, args_of, edges_at, edge_target}
-use Rattle.clif_ssa.specs.Structure.{NothingStray}
 use Rattle.clif_ssa.specs.Structured.{HasParameters, Structured, VariableTypes, waiting_of}
-use Rattle.clif_ssa.proofs.Bodies.{param_exists, param_origin}
-use Rattle.clif_ssa.proofs.Ordering.{entry_any}
 use Rattle.clif_meaning.specs.Name.{Name}
 use Rattle.clif_meaning.specs.Request.{AnsweredCall, script_of}
 use Rattle.clif_meaning.specs.Ledger.{ledger_after, or_invalid, variable_type}
 use Rattle.clif_meaning.specs.Instruction.{Edge}
 use Rattle.clif_meaning.specs.Premises.{EachItem, HasGoodTargets, IsGoodTarget}
 use Rattle.clif_meaning.specs.Program.{Item, Instruct, Use, Assign}
-use Rattle.clif_simulation.specs.Laws.{MakesNoParameters}
-use Rattle.clif_simulation.specs.Tables.{answered, block_name, callers_parameters, program_so_far, IsProgramOf}
-use Rattle.clif_simulation.specs.Carries.{AreDeclared, AreTypes, Carries, EdgesEnd, HasEntry, HasItems, Holds, LeadsOwn, NamesEarlier, NothingLeads, OwnExist, OwnInserted, OwnNamed, OwnParameters, SoundOnPaths, SparesBlock, SparesEntry, ValuesGiven}
+use Rattle.clif_simulation.specs.Tables.{program_so_far, IsProgramOf}
+use Rattle.clif_simulation.specs.Carries.{AreDeclared, AreTypes, Carries, EdgesEnd, HasEntry, HasItems, Holds, LeadsOwn, NamesEarlier, OwnExist, OwnInserted, OwnNamed, OwnParameters, SoundOnPaths, SparesBlock, SparesEntry, ValuesGiven}
 
 -- each edge of a branch that leads to a block passes what the caller passed, and then more
 abbrev pub PassesOwnFirst : Own → Body → SsaState → Type 0
@@ -62,7 +57,6 @@ pub record Whole (calls : List AnsweredCall) (f : Body) (s : SsaState) : Type 0 
   pub sound : BlocksSound tables
   pub counts : CountsArguments own f s tables
   pub structured : (types : VariableTypes) → AreTypes calls types → Structured types own f s []
-  pub nothing_stray : NothingLeads s → MakesNoParameters calls → NothingStray own.insts f s
 
 -- types that the calls declare
 abbrev pub declared_types : List AnsweredCall → VariableTypes
@@ -71,69 +65,21 @@ declared_types calls x = or_invalid (variable_type (ledger_after (script_of call
 pub are_declared : (calls : List AnsweredCall) → AreTypes calls (declared_types calls)
 are_declared calls x ty is = ap or_invalid is
 
--- Where no branch leads anywhere, nothing stays behind that isn't needed ------------------------------------------------------
+-- Lists that are empty, and parameters that wait -----------------------------------------------------------------------------
 
-two_in_none : (xs : List ℕ) → xs ≡ [] → 2 ≤ length xs → ⊥
-two_in_none xs none two = absurd (omega (arith, ap (λ (ys : List ℕ). length ys) none, two))
-
-none_complete : (xs : List ℕ) → (xs ≢ [] → ⊥) → xs ≡ []
+pub none_complete : (xs : List ℕ) → (xs ≢ [] → ⊥) → xs ≡ []
 none_complete [] some = refl
 none_complete (x ∷ xs) some = absurd (some (λ none. cc))
 
--- what stands among the parameters of those that wait
-waiting_at : (ps : List Pending) (v : ℕ) → Contains (map (λ (p : Pending). p.param) ps) v → (x : ℕ) × Contains ps (record { variable = x; param = v })
-waiting_at ps v here = by ps here.0 here.1 here.2
-  where
-    by : (ps : List Pending) (k : ℕ) → k < length (map (λ (p : Pending). p.param) ps) → slice_index_or (map (λ (p : Pending). p.param) ps) k v ≡ v
-        → (x : ℕ) × Contains ps (record { variable = x; param = v })
-    by [] k below is = absurd (omega (arith, below))
-    by (p ∷ ps) zero below is = (p.variable, (zero, omega arith, ap (λ (n : ℕ). record { variable = p.variable; param = n }) is))
-    by (p ∷ ps) (suc k) below is =
-        let found = by ps k (omega (arith, below)) is in
-        (found.0, (suc found.1.0, (let b = found.1.1 in omega (arith, b)), found.1.2))
-
--- a parameter of a block stands among those of the block
-home_contains : (f : Body) (v b : ℕ) → IsConsistent f → param_home f v ≡ Some b → Contains (block_at f b).params v
-home_contains f v b consistent home =
-    let stands = (subst (IsOrigin f v) (param_origin f v b home) (consistent.origins v (param_exists f v b home))).1 in
-    (stands.0, stands.1, entry_any (block_at f b).params stands.0 v 0 stands.1 ∙ stands.2)
+-- in a sealed block nothing waits
+pub sealed_none : (entry : Sealed) → is_yes entry ≡ true → pending_of entry ≡ []
+sealed_none (No waiting) is = cc
+sealed_none Yes is = refl
 
 -- the parameters that wait in a block, where none is being completed
 pub waiting_pending : (f : Body) (entry : Sealed) (b : ℕ) → waiting_of f entry [] b ≡ pending_of entry
 waiting_pending f (No pending) b = refl
 waiting_pending f Yes b = refl
-
--- where no block has a parameter that the caller made, it made none
-pub bare_own : (calls : List AnsweredCall) (own : Own) → OwnParameters calls own → MakesNoParameters calls → (block : ℕ) → own.params block ≡ []
-bare_own calls own parameters bare block = parameters block ∙ by (block_name calls block)
-  where
-    by : (o : Option Name) → map (answered calls) (callers_parameters calls o) ≡ []
-    by None = refl
-    by (Some name) = ap (map (answered calls)) (bare name)
-
--- and the other way round
-pub own_bare : (calls : List AnsweredCall) (own : Own) → ((block : ℕ) → own.params block ≡ []) → MakesNoParameters calls → OwnParameters calls own
-own_bare calls own none bare block = none block ∙ by (block_name calls block)
-  where
-    by : (o : Option Name) → [] ≡ map (answered calls) (callers_parameters calls o)
-    by None = refl
-    by (Some name) = sym (ap (map (answered calls)) (bare name))
-
-stray_nowhere : (types : VariableTypes) (own : Own) (f : Body) (s : SsaState) → IsConsistent f → ((block : ℕ) → own.params block ≡ [])
-    → Structured types own f s [] → NothingLeads s → NothingStray own.insts f s
-stray_nowhere types own f s consistent none structured nothing = record {
-  parameters = λ v b home.
-      let has : HasParameters own f s [] b = structured.parameters b in
-      let alone : has.complete ≡ [] = none_complete has.complete (λ some. two_in_none (predecessors_of s b) (nothing b) (has.several some).1) in
-      let params : (block_at f b).params ≡ map (λ (p : Pending). p.param) (pending_of (sealed_of s b)) =
-      has.in_order
-      ∙ ap (λ (xs : List ℕ). xs ++ (has.complete ++ map (λ (p : Pending). p.param) (waiting_of f (sealed_of s b) [] b))) (none b)
-      ∙ ap (λ (xs : List ℕ). xs ++ map (λ (p : Pending). p.param) (waiting_of f (sealed_of s b) [] b)) alone
-      ∙ ap (map (λ (p : Pending). p.param)) (waiting_pending f (sealed_of s b) b) in
-      waiting_at (pending_of (sealed_of s b)) v (subst (λ (xs : List ℕ). Contains xs v) params (home_contains f v b consistent home));
-  alias_types = structured.alias_types;
-  zeros = structured.zeros;
-}
 
 -- The whole record --------------------------------------------------------------------------------------------------------------
 
@@ -173,7 +119,6 @@ whole calls f s consistent carries spares =
       sound = paths.sound;
       counts = paths.counts;
       structured = holds.structured;
-      nothing_stray = λ nothing bare. stray_nowhere (declared_types calls) carries.own f s consistent (bare_own calls carries.own holds.parameters bare) structured nothing;
     }
 
 -- Where no target of a branch is the entry, none names the entry -------------------------------------------------------------------

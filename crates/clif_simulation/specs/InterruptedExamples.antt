@@ -1,17 +1,21 @@
 -- Worked examples of the reading beside interrupted runs: the row `first`, half built; the row `both_arms`, whose loop has
--- both arms of one branch; and a loop before its block is sealed. Own.
+-- both arms of one branch; a loop before its block is sealed; and one whose block has a parameter of the caller's too. Own.
 use Rattle.std.specs.Prelude.{ℕ, false, List, [], ◌∷◌, Some, None}
 use Rattle.clif_types.specs.declared.extname.UserFuncName.TheVariants.{Testcase}
+use Rattle.clif_ir.specs.declared.block_call.BlockArg.TheVariants.{Value}
 use Rattle.clif_ir.specs.declared.instructions.InstructionData.TheVariants.{Jump}
 use Rattle.clif_ir.specs.declared.function.ValueOrigin.TheVariants.{Param}
 use Rattle.clif_ir.specs.Body.{Body}
 use Rattle.clif_ssa.specs.declared.tables.Pending.{Pending}
 use Rattle.clif_ssa.specs.declared.tables.Sealed.TheVariants.{No, Yes}
 use Rattle.clif_ssa.specs.Ssa.{SsaState}
-use Rattle.clif_meaning.specs.Request.{CreateBlock, SwitchToBlock, SealBlock, DeclareVar, UseVar, AnsweredCall}
+use Rattle.clif_meaning.specs.Instruction.{Known, Edge}
+use Rattle.clif_meaning.specs.Name.{Name, answer_of}
+use Rattle.clif_meaning.specs.Request.{CreateBlock, SwitchToBlock, SealBlock, AppendBlockParams, AppendFunctionParams, DeclareVar, UseVar, AnsweredCall}
 use Rattle.clif_meaning.specs.Acceptance.{jump}
 use Rattle.clif_meaning.specs.Examples.{i32, first_signature}
 use Rattle.clif_meaning.specs.BranchExamples.{block, plain, both_arms_signature}
+use Rattle.clif_meaning.specs.SampleExamples.{sample_signature}
 use Rattle.clif_meaning.specs.ScriptExamples.{answered_calls}
 use Rattle.clif_simulation.specs.Interrupted.{ReadsRight}
 use Rattle.clif_simulation.specs.CarryingExamples.{edge_to, loop_calls, loop_body, loop_state}
@@ -63,6 +67,55 @@ waiting_loop_state waiting = record {
   blocks = record { predecessors = []; sealed = Yes } ∷ record { predecessors = 0 ∷ 1 ∷ []; sealed = No waiting } ∷ [];
 }
 
+-- an edge to the loop's block that passes this name
+abbrev pub into_loop : Name → Edge Name Name
+into_loop name = record { target = block 1; arguments = Known name ∷ [] }
+
+-- a loop that passes what it used on to a parameter of the caller's, while its block is unsealed
+abbrev pub passing_loop_calls : List AnsweredCall
+passing_loop_calls =
+    record { request = CreateBlock; numbers = 0 ∷ [] }
+    ∷ record { request = CreateBlock; numbers = 1 ∷ [] }
+    ∷ record { request = AppendFunctionParams (block 0) (i32 ∷ []); numbers = 0 ∷ [] }
+    ∷ record { request = AppendBlockParams (block 1) (i32 ∷ []); numbers = 1 ∷ [] }
+    ∷ record { request = DeclareVar i32; numbers = 0 ∷ [] }
+    ∷ record { request = SwitchToBlock (block 0); numbers = [] }
+    ∷ record { request = SealBlock (block 0); numbers = [] }
+    ∷ record { request = jump (into_loop (answer_of 2 0)); numbers = 0 ∷ [] }
+    ∷ record { request = SwitchToBlock (block 1); numbers = [] }
+    ∷ record { request = UseVar 0; numbers = 2 ∷ [] }
+    ∷ record { request = jump (into_loop (answer_of 9 0)); numbers = 1 ∷ [] } ∷ []
+
+-- the function so far, with this value as the argument of block1's jump:
+--     block0(v0: i32):
+--         jump block1(v0)
+--     block1(v1: i32, v2: i32):
+--         jump block1(v2)
+abbrev pub passing_loop_body_with : ℕ → Body
+passing_loop_body_with argument = record {
+  name = Testcase (112 ∷ []);
+  signature = sample_signature;
+  values =
+      record { ty = i32; origin = Param 0 } ∷ record { ty = i32; origin = Param 1 } ∷ record { ty = i32; origin = Param 1 } ∷ [];
+  insts =
+      record { shape = Jump (edge_to 1 (Value 0 ∷ [])); results = []; block = 0; srcloc = 0 }
+      ∷ record { shape = Jump (edge_to 1 (Value argument ∷ [])); results = []; block = 1; srcloc = 0 } ∷ [];
+  blocks = record { params = 0 ∷ []; insts = 0 ∷ []; is_cold = false } ∷ record { params = 1 ∷ 2 ∷ []; insts = 1 ∷ []; is_cold = false } ∷ [];
+  layout = 0 ∷ 1 ∷ [];
+}
+
+abbrev pub passing_loop_body : Body
+passing_loop_body = passing_loop_body_with 2
+
+-- the construction so far
+abbrev pub passing_loop_state : SsaState
+passing_loop_state = record {
+  records = (record { value = None; lookups = 0 } ∷ record { value = Some 2; lookups = 0 } ∷ []) ∷ [];
+  blocks =
+      record { predecessors = []; sealed = Yes }
+      ∷ record { predecessors = 0 ∷ 1 ∷ []; sealed = No (record { variable = 0; param = 2 } ∷ []) } ∷ [];
+}
+
 pub record InterruptedExamples : Type 0 where
   -- the half built row reads right; with another constant, with the constant on record for the variable, or where the
   -- parameter doesn't wait, it doesn't
@@ -76,3 +129,6 @@ pub record InterruptedExamples : Type 0 where
   -- so does the loop whose block is unsealed; where its parameter doesn't wait, it doesn't
   pub waiting_loop_reads_right : ReadsRight waiting_loop_calls both_arms_signature waiting_loop_body (waiting_loop_state (waiting_parameter ∷ []))
   pub waiting_loop_none_waiting : ReadsRight waiting_loop_calls both_arms_signature waiting_loop_body (waiting_loop_state []) → ⊥
+  -- so does the loop that passes what it used on to a parameter; where it passes the parameter itself, it doesn't
+  pub passing_loop_reads_right : ReadsRight passing_loop_calls sample_signature passing_loop_body passing_loop_state
+  pub passing_loop_other_argument : ReadsRight passing_loop_calls sample_signature (passing_loop_body_with 1) passing_loop_state → ⊥

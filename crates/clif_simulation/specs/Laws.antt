@@ -12,7 +12,7 @@ use Rattle.clif_meaning.specs.Request.{AnsweredCall, script_of}
 use Rattle.clif_meaning.specs.Ledger.{ledger_after, is_filled}
 use Rattle.clif_meaning.specs.View.{view_of}
 use Rattle.clif_meaning.specs.Headline.{MeansTheSame}
-use Rattle.clif_simulation.specs.Tables.{code, block_name, program_so_far}
+use Rattle.clif_simulation.specs.Tables.{code, block_name}
 use Rattle.clif_simulation.specs.Carries.{Carries, NothingLeads}
 use Rattle.clif_simulation.specs.Reading.{ReadsRightFromAnywhere}
 use Rattle.clif_simulation.specs.Interrupted.{ReadsRight}
@@ -36,19 +36,15 @@ CarryingMeansTheSame =
     → IsConsistent f → Carries calls f s → IsFinished calls f s
     → MeansTheSame (script_of calls) f.signature width (view_of f)
 
--- no block has a parameter that the caller made
-abbrev pub MakesNoParameters : List AnsweredCall → Type 0
-MakesNoParameters calls = (block : Name) → (program_so_far calls).parameters block ≡ []
-
--- A function that carries a list of calls reads right on runs and bits, whether it is finished or not: with any branches,
--- beside runs that are interrupted at unsealed blocks; so far, without parameters of the caller's.
+-- A function that carries a list of calls reads right on runs and bits, whether it is finished or not: with any branches and
+-- parameters of the caller's, beside runs that are interrupted at unsealed blocks.
 abbrev pub CarryingReadsRight : Type 0
 CarryingReadsRight =
     (calls : List AnsweredCall) (signature : SignatureShape) (f : Body) (s : SsaState)
-    → IsConsistent f → Carries calls f s → MakesNoParameters calls → ReadsRight calls signature f s
+    → IsConsistent f → Carries calls f s → ReadsRight calls signature f s
 
 -- Where no branch was made, it does so from every pair of states at the front of an unsealed entry.
 abbrev pub CarryingReadsRightFromAnywhere : Type 0
 CarryingReadsRightFromAnywhere =
     (calls : List AnsweredCall) (signature : SignatureShape) (f : Body) (s : SsaState)
-    → IsConsistent f → Carries calls f s → NothingLeads s → MakesNoParameters calls → ReadsRightFromAnywhere calls signature f s
+    → IsConsistent f → Carries calls f s → NothingLeads s → ReadsRightFromAnywhere calls signature f s

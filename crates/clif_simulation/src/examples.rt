@@ -11,8 +11,9 @@ pub fn half_built_reads_right()
     ensures { ReadingExamples }
 {}
 
-/// Beside interrupted runs the half built row reads right, and so do the row `both_arms`, a loop, and a loop whose block
-/// is unsealed; with another constant, another record, or a parameter that doesn't wait, they don't.
+/// Beside interrupted runs the half built row reads right, and so do the row `both_arms`, a loop, a loop whose block is
+/// unsealed, and one whose block has a parameter of the caller's too; with another constant, another record, a parameter
+/// that doesn't wait, or another argument, they don't.
 pub fn interrupted_reads_right()
     ensures { InterruptedExamples }
 {}

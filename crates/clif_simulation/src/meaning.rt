@@ -8,8 +8,8 @@ pub fn carrying_means_the_same()
     ensures { CarryingMeansTheSame }
 {}
 
-/// An unfinished function that carries a list of calls, with any branches, has the bits of the names and variables of the
-/// list's program, beside each run that is interrupted at unsealed blocks.
+/// An unfinished function that carries a list of calls, with any branches and parameters of the caller's, has the bits of the
+/// names and variables of the list's program, beside each run that is interrupted at unsealed blocks.
 pub fn carrying_reads_right()
     ensures { CarryingReadsRight }
 {}

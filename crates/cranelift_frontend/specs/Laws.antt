@@ -11,24 +11,23 @@ use Rattle.clif_simulation.specs.Carries.{NothingLeads}
 use Rattle.clif_simulation.specs.Structure.{NoneWaits}
 use Rattle.clif_simulation.specs.Reading.{ReadsRightFromAnywhere}
 use Rattle.clif_simulation.specs.Interrupted.{ReadsRight}
-use Rattle.clif_simulation.specs.Laws.{MakesNoParameters}
 use Rattle.cranelift_frontend.specs.Context.{ContextState}
 use Rattle.cranelift_frontend.specs.StandsFor.{StandsIn}
 
--- Where the parts of a builder stand for a list of calls, they read right on runs and bits, with any branches: beside a run
--- of the list's program that is interrupted at unsealed blocks, a run of the unfinished function has the bits of the names
--- and, at a block's end so far, of the variables. So far, where no call makes a parameter of the caller's. Each function is
--- consistent (`Function::law_consistent`).
+-- Where the parts of a builder stand for a list of calls, they read right on runs and bits, with any branches and parameters of
+-- the caller's: beside a run of the list's program that is interrupted at unsealed blocks, a run of the unfinished function has
+-- the bits of the names and, at a block's end so far, of the variables. Each function is consistent
+-- (`Function::law_consistent`).
 abbrev pub StandingReadsRight : Type 0
 StandingReadsRight =
     (declared : SignatureShape) (calls : List AnsweredCall) (f : Body) (c : ContextState) (position : Option ℕ)
-    → IsConsistent f → StandsIn declared calls f c position → MakesNoParameters calls → ReadsRight calls declared f c.ssa
+    → IsConsistent f → StandsIn declared calls f c position → ReadsRight calls declared f c.ssa
 
 -- Where no branch was made, they do so from every pair of states at the front of an unsealed entry.
 abbrev pub StandingReadsRightFromAnywhere : Type 0
 StandingReadsRightFromAnywhere =
     (declared : SignatureShape) (calls : List AnsweredCall) (f : Body) (c : ContextState) (position : Option ℕ)
-    → IsConsistent f → StandsIn declared calls f c position → NothingLeads c.ssa → MakesNoParameters calls → ReadsRightFromAnywhere calls declared f c.ssa
+    → IsConsistent f → StandsIn declared calls f c position → NothingLeads c.ssa → ReadsRightFromAnywhere calls declared f c.ssa
 
 -- Once no parameter waits, the arguments of every edge and the parameters of its target agree, where the caller's do:
 -- edges that control never takes, and edges to the entry, are no exception.

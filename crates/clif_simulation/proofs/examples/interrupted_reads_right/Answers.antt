@@ -1,7 +1,7 @@
-use Rattle.std.proofs.Common.{refl}
 use Rattle.clif_simulation.proofs.HalfRowAlong
 use Rattle.clif_simulation.proofs.LoopAlong
 use Rattle.clif_simulation.proofs.LoopConsistent
+use Rattle.clif_simulation.proofs.LoopPassing
 use Rattle.clif_simulation.proofs.LoopRow
 use Rattle.clif_simulation.proofs.LoopWaiting
 use Rattle.clif_simulation.proofs.OpenReading
@@ -15,8 +15,10 @@ returns c = record {
   other_constant = HalfRowAlong.other_constant;
   other_record = HalfRowAlong.other_record;
   none_waiting = HalfRowAlong.none_waiting;
-  loop_reads_right = OpenReading.reads_right loop_calls both_arms_signature loop_body loop_state LoopConsistent.row_consistent LoopRow.row_carried (λ block. refl);
+  loop_reads_right = OpenReading.reads_right loop_calls both_arms_signature loop_body loop_state LoopConsistent.row_consistent LoopRow.row_carried;
   loop_other_record = LoopAlong.other_record;
   waiting_loop_reads_right = LoopWaiting.reads_right;
   waiting_loop_none_waiting = LoopWaiting.none_waiting;
+  passing_loop_reads_right = LoopPassing.reads_right;
+  passing_loop_other_argument = LoopPassing.other_argument;
 }

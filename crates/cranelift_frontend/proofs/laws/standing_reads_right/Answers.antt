@@ -2,4 +2,4 @@ use Rattle.clif_simulation.proofs.OpenReading
 use Rattle.cranelift_frontend.proofs.laws.standing_reads_right.Goals as goal
 
 pub returns : goal.returns
-returns c = λ declared calls f context position consistent stands bare. OpenReading.reads_right calls declared f context.ssa consistent stands.carries bare
+returns c = λ declared calls f context position consistent stands. OpenReading.reads_right calls declared f context.ssa consistent stands.carries
