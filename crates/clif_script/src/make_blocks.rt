@@ -172,7 +172,7 @@ pub(crate) fn insert_block_after(
     if !may_insert(builder, block, after) {
         return Err(CallError::Misuse);
     }
-    builder.insert_block_after(block, after);
+    builder.insert_block_after(block, after)?;
     Ok(Answer::Nothing)
 }
 

@@ -1,5 +1,5 @@
 //! The builder's calls that mark blocks, bring them into the layout and give them parameters.
-ghost use Rattle.std.specs.Prelude.{◌≡◌, ◌≢◌, ◌<◌, ◌≤◌, ◌+◌, ◌-◌, ◌^◌, ◌++◌, ◌∷◌, [], ℕ, List, IsTrue, ◌↔◌, OnErr, OnOk, IfOk, IfSome, is_err, length, slice_index, EachIndex};
+ghost use Rattle.std.specs.Prelude.{◌≡◌, ◌≢◌, ◌<◌, ◌≤◌, ◌+◌, ◌-◌, ◌^◌, ◌++◌, ◌∷◌, [], ℕ, List, IsTrue, ◌↔◌, OnOk, IfOk, IfSome, is_err, length, slice_index, EachIndex};
 ghost use Rattle.cranelift_frontend.specs.Context.{status_of, begun, SetsStatus};
 ghost use Rattle.clif_ssa.specs.Ssa.{predecessors_of};
 ghost use Rattle.clif_simulation.specs.Carries.{numbers_from, with_params};
@@ -42,7 +42,8 @@ impl<'a> FunctionBuilder<'a> {
         ensures function { OnOk result (self.new.func.now ≡ with_layout_after self.old.func.now block after) }
         ensures context { self.new.ctx.now ≡ self.old.ctx.now }
         ensures position { self.new.position ≡ self.old.position }
-        ensures only_failed { OnErr result (result ≡ Err BuildError.Failed) }
+        ensures never_full { result ≢ Err BuildError.Full }
+        ensures never_memory { result ≢ Err BuildError.Memory }
         ensures failed { (result ≡ Err BuildError.Failed) ↔ IsTrue self.old.failed }
         ensures unchanged { IsTrue self.old.failed → self.new ≡ self.old }
         ensures fails { self.new.failed ≡ is_err result }

@@ -1,5 +1,6 @@
 use Rattle.std.proofs.Common.{[], sym, ◌∙◌, refl}
 use Rattle.std.specs.Prelude.{not}
+use Rattle.std.proofs.lemmas.Result.{err_from_is_err_and}
 use Rattle.std.proofs.lemmas.Bool.{and_parts, not-true, false≢true}
 use Rattle.clif_ir.specs.Reading.{stands_in}
 use Rattle.clif_ir.proofs.Reading.{Stands-from_test, test-from_Stands}
@@ -7,7 +8,8 @@ use Rattle.clif_script.specs.declared.script.Answer.TheVariants as answer
 use Rattle.clif_script.specs.Requests.{name_of}
 use Rattle.clif_script.proofs.ReadyLaws.{ready-more, block-found, block-there}
 use Rattle.clif_script.proofs.Placements.{insert-none, insert-nowhere, insert-some}
-use Rattle.clif_script.proofs.Limits.{one-laid}
+use Rattle.clif_script.proofs.Conditions.{judged-err}
+use Rattle.clif_script.proofs.Limits.{one-laid, full-told-by}
 use Rattle.clif_script.proofs.make_blocks.insert_block_after.Goals as goal
 
 pub returns-in_default-clause-judged : goal.returns-in_default-clause-judged
@@ -51,13 +53,28 @@ insert_block_after-requires-clause-inside c =
     let parts = and_parts (not (stands_in c.in-Some.block layout)) (stands_in c.in-Some-block_named.after layout) (sym c.may_insert.ensures ∙ c.if-not-may_insert.false) in
     Stands-from_test c.in-Some-block_named.after layout parts.1
 
+pub returns-in_err-insert_block_after-clause-judged : goal.returns-in_err-insert_block_after-clause-judged
+returns-in_err-insert_block_after-clause-judged c = λ calls given.
+    let ready = given.1 in
+    let p = err_from_is_err_and c.from_residual.result c.from_residual.ensures.1 in
+    judged-err _ c.from_residual.result p.0 c.in_err-insert_block_after.field-0.0 p.1 p.2
+    (insert-some calls c.args.builder.now c.args.answers.now ready c.args.name c.args.behind c.in-Some.block c.in-Some-block_named.after
+    (sym c.block_named.ensures ∙ c.in-Some.is) (sym c.block_named-2.ensures ∙ c.in-Some-block_named.is)
+    ∙ sym c.may_insert.ensures ∙ c.if-not-may_insert.false)
+
+pub returns-in_err-insert_block_after-clause-full : goal.returns-in_err-insert_block_after-clause-full
+returns-in_err-insert_block_after-clause-full c = λ full.
+    let p = err_from_is_err_and c.from_residual.result c.from_residual.ensures.1 in
+    let told = full-told-by c.insert_block_after.result c.from_residual.result p.0 c.in_err-insert_block_after.field-0.0 c.in_err-insert_block_after.was p.1 p.2 full in
+    absurd (c.insert_block_after.ensures.never_full told.0)
+
 pub returns-clause-ready : goal.returns-clause-ready
 returns-clause-ready c = λ declared calls ready.
     let old = c.args.builder.now in
     let answers = c.args.answers.now in
     let names = block-found calls old answers ready c.args.name c.in-Some.block (sym c.block_named.ensures ∙ c.in-Some.is) in
     let names_behind = block-found calls old answers ready c.args.behind c.in-Some-block_named.after (sym c.block_named-2.ensures ∙ c.in-Some-block_named.is) in
-    let stands = c.insert_block_after.ensures.stands declared calls (name_of c.args.name) (name_of c.args.behind) ready.stands names names_behind in
+    let stands = c.in_ok-insert_block_after.ensures.stands declared calls (name_of c.args.name) (name_of c.args.behind) ready.stands names names_behind in
     ([], ready-more calls _ old c.insert_block_after.new.self _ answer.Nothing ready stands (refl, refl))
 
 pub returns-clause-judged : goal.returns-clause-judged
@@ -69,5 +86,5 @@ returns-clause-judged c = λ calls given.
 
 pub returns-clause-one_call : goal.returns-clause-one_call
 returns-clause-one_call c =
-    let done = c.insert_block_after.ensures in
+    let done = c.in_ok-insert_block_after.ensures in
     one-laid c.args.builder.now c.insert_block_after.new.self c.in-Some.block c.in-Some-block_named.after done.function done.context
