@@ -1,7 +1,8 @@
 -- The tests before a call are the condition of its request in the ledger.
 use Rattle.std.proofs.Common.{◌≡◌, ◌≢◌, ℕ, zero, suc, ◌<◌, List, [], ◌∷◌, length, refl, ap, arith, sym, ◌∙◌, subst}
-use Rattle.std.specs.Prelude.{map, slice_get, Option, Some, None, option_map, is_some, IfSome, Bool, true, false, not, ◌&&◌, ◌||◌, if◌then◌else◌, ◌==◌, Err, Result, ℤ, slice_index, ◌↔◌}
+use Rattle.std.specs.Prelude.{map, slice_get, Option, Some, None, option_map, is_some, IfSome, Bool, true, false, not, ◌&&◌, ◌||◌, if◌then◌else◌, ◌==◌, Err, Result, ℤ, slice_index, ◌↔◌, IsTrue}
 use Rattle.std.specs.List.{All, list_all}
+use Rattle.std.proofs.Math.Bool.{not-not}
 use Rattle.std.proofs.lemmas.Option.{slice_get_within, get_or_from_slice_get}
 use Rattle.std.proofs.lemmas.Bool.{and_from, and_parts, and_right, not-true, eq-eqb, eqb-true, false_from_ne_true, false≢true}
 use Rattle.clif_types.specs.declared.error.BuildError.{BuildError}
@@ -27,7 +28,7 @@ use Rattle.clif_ir.specs.Body.{Body, alias_of, alias_of_origin, follow, follow_l
 use Rattle.clif_meaning.specs.Name as meaning
 use Rattle.clif_meaning.specs.Instruction.{Known}
 use Rattle.clif_meaning.specs.SameType.{lane_number, same_lane, same_type}
-use Rattle.clif_meaning.specs.Request.{AnsweredCall, number_of, AppendBlockParams, SwitchToBlock, SealBlock, DefVar, UseVar}
+use Rattle.clif_meaning.specs.Request.{AnsweredCall, number_of, AppendBlockParams, AppendFunctionParams, SwitchToBlock, SealBlock, DefVar, UseVar}
 use Rattle.clif_meaning.specs.Ledger.{BlockState, Ledger, begins_with, block_state, has_block, has_predecessors, has_value, is_empty, is_filled, is_pristine, is_sealed, state_has, type_of, variable_type}
 use Rattle.clif_meaning.specs.Acceptance.{allows, can_assign, can_lead, can_leave, has_argument, is_variable_type, iconst, iadd, jump, brif, return_}
 use Rattle.clif_meaning.specs.Acceptance as acceptance
@@ -52,7 +53,7 @@ use Rattle.clif_script.specs.declared.script.CallError.{CallError}
 use Rattle.clif_script.specs.declared.script.CallError.TheVariants as error
 use Rattle.clif_script.specs.Errors.{call_error_of}
 use Rattle.clif_script.specs.Requests.{edge_of, name_of}
-use Rattle.clif_script.specs.Ready.{IsReady, IsFound, IsJudged, all_values, block_of, can_append, can_define, can_seal, can_switch, can_use, instruction_answer, instruction_in, is_open, is_open_at, is_target, may_lead, value_of}
+use Rattle.clif_script.specs.Ready.{IsReady, IsFound, IsJudged, all_values, block_of, can_append, can_append_function_params, can_define, can_seal, can_switch, can_use, instruction_answer, instruction_in, is_open, is_open_at, is_target, may_lead, value_of}
 use Rattle.clif_script.proofs.ReadyLaws.{block-found, block-missing, block-there, value-exists, value-found, value-missing}
 
 -- a refusal of the builder is no misuse
@@ -219,6 +220,32 @@ append-some calls b answers ready name block types found =
     let names = block-found calls b answers ready name block found in
     let named = named-block calls (name-number calls (ledger_of calls) b.func.now b.ctx.now b.position ready.stands.ledger) (name_of name) block names in
     pristine-same calls b answers ready (name_of name) block named
+
+-- `append_block_params_for_function_params`
+pub alone-from : (branches : List ℕ) (has : Bool) → (IsTrue has ↔ (branches ≢ [])) → not has ≡ is_nothing branches
+alone-from [] true is = absurd (is.0 refl refl)
+alone-from [] false is = refl
+alone-from (branch ∷ branches) true is = refl
+alone-from (branch ∷ branches) false is = let there : false ≡ true = is.1 (λ same. cc) in absurd (false≢true there)
+
+pub nothing-is : (branches : List ℕ) → is_nothing branches ≡ true → branches ≡ []
+nothing-is [] is = refl
+nothing-is (branch ∷ branches) is = absurd (false≢true is)
+
+pub function-params-none : {declared : SignatureShape} (calls : List AnsweredCall) (b : FunctionBuilder) (answers : List Answer) → IsReady declared calls b answers
+    → (name : Name) (types : List «Type») → block_of answers name ≡ None → allows (ledger_of calls) (AppendFunctionParams (name_of name) types) ≡ false
+function-params-none calls b answers ready name types missing =
+    ap (λ (test : Bool). test && not (has_predecessors (ledger_of calls) (name_of name))) (append-none calls b answers ready name types missing)
+
+pub function-params-some : {declared : SignatureShape} (calls : List AnsweredCall) (b : FunctionBuilder) (answers : List Answer) → IsReady declared calls b answers
+    → (name : Name) (block : ℕ) (types : List «Type») → block_of answers name ≡ Some block
+    → allows (ledger_of calls) (AppendFunctionParams (name_of name) types) ≡ can_append_function_params b block
+function-params-some calls b answers ready name block types found =
+    let names = block-found calls b answers ready name block found in
+    let named = named-block calls (name-number calls (ledger_of calls) b.func.now b.ctx.now b.position ready.stands.ledger) (name_of name) block names in
+    ap (λ (test : Bool). test && not (has_predecessors (ledger_of calls) (name_of name))) (append-some calls b answers ready name block types found)
+    ∙ ap (λ (test : Bool). can_append b block && not test) (predecessors-same calls b answers ready (name_of name) block named)
+    ∙ ap (λ (test : Bool). can_append b block && test) (not-not (is_nothing (predecessors_of b.ctx.now.ssa block)))
 
 -- `declare_var`
 pub declare-same : (ty : «Type») → is_variable_type ty ≡ is_declarable ty

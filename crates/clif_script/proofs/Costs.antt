@@ -1,5 +1,6 @@
 -- What the calls of a script cost, one by one.
-use Rattle.std.proofs.Common.{◌≡◌, ℕ, ◌+◌, ◌<◌, ◌≤◌, List, [], ◌∷◌, ◌++◌, length, get_or, take, drop, ap, arith}
+use Rattle.std.proofs.Common.{◌≡◌, ℕ, ◌+◌, ◌*◌, ◌<◌, ◌≤◌, List, [], ◌∷◌, ◌++◌, length, get_or, take, drop, ap, arith}
+use Rattle.std.proofs.Math.Nat.{le-max_left}
 use Rattle.std.proofs.lemmas.List.{take_more, drop_more, take-append-drop}
 use Rattle.clif_types.specs.Signature.{SignatureShape}
 use Rattle.clif_script.specs.declared.call.Call.{Call}
@@ -16,6 +17,8 @@ costs-some declared (call.InsertBlockAfter block after) = omega arith
 costs-some declared (call.SetColdBlock block) = omega arith
 costs-some declared call.EnsureInsertedBlock = omega arith
 costs-some declared (call.AppendBlockParam block ty) = omega arith
+costs-some declared (call.AppendBlockParamsForFunctionParams block) = le-max_left 1 (2 * length declared.params)
+costs-some declared (call.AppendBlockParamsForFunctionReturns block) = le-max_left 1 (2 * length declared.returns)
 costs-some declared (call.DeclareVar ty) = omega arith
 costs-some declared (call.DefVar variable value) = omega arith
 costs-some declared (call.UseVar variable) = omega arith

@@ -5,6 +5,7 @@ use Rattle.std.proofs.lemmas.Option.{slice_get-map}
 use Rattle.std.proofs.lemmas.Bool.{cases_lt}
 use Rattle.clif_types.specs.Signature.{SignatureShape}
 use Rattle.clif_ir.specs.Body.{Body}
+use Rattle.clif_meaning.specs.Event.{types_of}
 use Rattle.clif_meaning.specs.Name.{Name, same_name}
 use Rattle.clif_meaning.specs.Request.{AnsweredCall, Request, CreateBlock, number_of}
 use Rattle.clif_meaning.specs.Ledger.{BlockState, Ledger, empty_ledger, is_inserted, ledger_after, ledger_with, new_block, next_answer, sealed, with_begun_at, with_filled_at, with_layout, with_parameter_types, with_state}
@@ -119,6 +120,8 @@ alone-straight declared ledger (call.InsertBlockAfter block after) straight alon
 alone-straight declared ledger (call.SetColdBlock block) straight alone = alone
 alone-straight declared ledger call.EnsureInsertedBlock straight alone = alone-begun ledger ledger.current alone
 alone-straight declared ledger (call.AppendBlockParam block ty) straight alone = alone-state ledger _ (with_parameter_types (ty ∷ [])) (λ state. refl) alone
+alone-straight declared ledger (call.AppendBlockParamsForFunctionParams block) straight alone = alone-state ledger _ (with_parameter_types (types_of declared.params)) (λ state. refl) alone
+alone-straight declared ledger (call.AppendBlockParamsForFunctionReturns block) straight alone = alone-state ledger _ (with_parameter_types (types_of declared.returns)) (λ state. refl) alone
 alone-straight declared ledger (call.DeclareVar ty) straight alone = alone
 alone-straight declared ledger (call.DefVar variable value) straight alone = alone
 alone-straight declared ledger (call.UseVar variable) straight alone = alone-begun ledger ledger.current alone

@@ -21,7 +21,7 @@ use Rattle.clif_ssa.specs.Limits.{IsFull, RecordsBelow, Takes, TakesByRecords, i
 use Rattle.clif_ssa.proofs.Below.{below_kept, below_defined}
 use Rattle.clif_ssa.proofs.Records.{records_stay, few_records}
 use Rattle.clif_ssa.proofs.Taking.{Takes-same, Takes-then, Takes-inserted, Takes-with_inst, Takes-with_param}
-use Rattle.clif_simulation.specs.Carries.{DeclaredAlong}
+use Rattle.clif_simulation.specs.Carries.{DeclaredAlong, with_params}
 use Rattle.cranelift_frontend.specs.declared.builder.FunctionBuilder.{FunctionBuilder}
 use Rattle.cranelift_frontend.specs.Builder.{Appends, AppendsValue, HasCurrent, with_appended}
 use Rattle.cranelift_frontend.specs.Construction.{IsDeclared, IsUse}
@@ -171,24 +171,40 @@ one-cold old new block function context =
     one-placed old new (with_cold old.func.now block) function (Takes-same old.func.now (with_cold old.func.now block) refl refl) (length-set old.func.now.blocks block _) refl
     (ap (λ (c : ContextState). c.ssa) context) (ap (λ (c : ContextState). c.variables) context)
 
--- a parameter of the caller's
-pub one-param : (old new : FunctionBuilder) (block : ℕ) (ty : «Type») → new.func.now ≡ with_param old.func.now block ty → new.ctx.now ≡ old.ctx.now → IsOneCall 2 old new
-one-param old new block ty function context =
+-- parameters of the caller's
+takes-params : (f : Body) (block : ℕ) (types : List «Type») → Takes f (with_params f block types) (2 * length types) (length types)
+takes-params f block [] = Takes-same f f refl refl
+takes-params f block (ty ∷ types) =
+    let one = Takes-with_param f block ty in
+    let rest = takes-params (with_param f block ty) block types in
+    record { values_more = omega (arith, one.values_more, rest.values_more); insts_more = omega (arith, one.insts_more, rest.insts_more) }
+
+blocks-params : (f : Body) (block : ℕ) (types : List «Type») → length (with_params f block types).blocks ≡ length f.blocks
+blocks-params f block [] = refl
+blocks-params f block (ty ∷ types) = blocks-params (with_param f block ty) block types ∙ length-set f.blocks block _
+
+name-params : (f : Body) (block : ℕ) (types : List «Type») → (with_params f block types).name ≡ f.name
+name-params f block [] = refl
+name-params f block (ty ∷ types) = name-params (with_param f block ty) block types
+
+pub one-params : (price : ℕ) (old new : FunctionBuilder) (block : ℕ) (types : List «Type») → 1 ≤ price → 2 * length types ≤ price
+    → new.func.now ≡ with_params old.func.now block types → new.ctx.now ≡ old.ctx.now → IsOneCall price old new
+one-params price old new block types some enough function context =
     let f : Body = old.func.now in
-    let takes : Takes f new.func.now 2 1 = subst (λ (g : Body). Takes f g 2 1) (sym function) (Takes-with_param f block ty) in
+    let takes : Takes f new.func.now (2 * length types) (length types) = subst (λ (g : Body). Takes f g (2 * length types) (length types)) (sym function) (takes-params f block types) in
     let keeps = keeps-same old.ctx.now.ssa new.ctx.now.ssa (ap (λ (c : ContextState). c.ssa) context) in
     let stay : record_count old.ctx.now.ssa ≤ record_count new.ctx.now.ssa = as-many old.ctx.now.ssa new.ctx.now.ssa keeps.0 in
-    let blocks : length new.func.now.blocks ≡ length f.blocks = ap (λ (g : Body). length g.blocks) function ∙ length-set f.blocks block _ in
+    let blocks : length new.func.now.blocks ≡ length f.blocks = ap (λ (g : Body). length g.blocks) function ∙ blocks-params f block types in
     let count : length new.ctx.now.variables ≡ length old.ctx.now.variables = ap (λ (c : ContextState). length c.variables) context in
     record {
-      values = omega (arith, takes.values_more, stay);
-      insts = omega (arith, takes.insts_more, stay);
+      values = omega (arith, takes.values_more, stay, enough);
+      insts = omega (arith, takes.insts_more, stay, enough);
       records = λ below.
           below_kept f old.ctx.now.ssa new.ctx.now.ssa keeps.0 keeps.1 (length new.ctx.now.variables) (length new.func.now.blocks) (omega (arith, blocks))
           (wider (length old.ctx.now.variables) (length f.blocks) (length new.ctx.now.variables) (length new.func.now.blocks) old.ctx.now.ssa (omega (arith, count)) (omega (arith, blocks)) below);
       more = omega (arith, blocks, count);
-      name = ap (λ (g : Body). g.name) function;
-      straight = λ none. (keeps.2 none, takes-less f new.func.now 2 1 4 2 (omega arith) (omega arith) takes);
+      name = ap (λ (g : Body). g.name) function ∙ name-params f block types;
+      straight = λ none. (keeps.2 none, takes-less f new.func.now (2 * length types) (length types) (2 * price) price (omega (arith, enough)) (omega (arith, enough)) takes);
     }
 
 -- the current block is brought into the layout
@@ -391,10 +407,10 @@ nearly-full b (inl insts) below =
 nearly-full b (inr values) below =
     let less = few b below in record { with_branches = inl (omega (arith, less, values)); straight = λ none. inl (omega (arith, values)) }
 
--- there was no room for one more value
-pub nearly-full-of-values : (price : ℕ) (b : FunctionBuilder) → length b.func.now.values ≡ 2 ^ 32 - 1 → IsNearlyFull price b
-nearly-full-of-values price b values below =
-    let less = few b below in record { with_branches = inl (omega (arith, less, values)); straight = λ none. inl (omega (arith, values)) }
+-- there was no room for so many more values
+pub nearly-full-of-values : (price : ℕ) (b : FunctionBuilder) → 2 ^ 32 - 1 ≤ length b.func.now.values + price → IsNearlyFull price b
+nearly-full-of-values price b room below =
+    let less = few b below in record { with_branches = inl (omega (arith, less, room)); straight = λ none. inl (omega (arith, room)) }
 
 -- SCRIPTS ---------------------------------------------------------------------------------------------------------
 

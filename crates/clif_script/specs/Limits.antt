@@ -1,5 +1,5 @@
 -- How many entries of a builder's tables calls take, and when a table may be full. Source: own.
-use Rattle.std.specs.Prelude.{◌≡◌, ◌≤◌, ◌⊎◌, ◌+◌, ◌*◌, ◌-◌, ◌^◌, ℕ, List, [], ◌∷◌, Bool, true, false, length}
+use Rattle.std.specs.Prelude.{◌≡◌, ◌≤◌, ◌⊎◌, ◌+◌, ◌*◌, ◌-◌, ◌^◌, max, ℕ, List, [], ◌∷◌, Bool, true, false, length}
 use Rattle.std.specs.List.{AllByRecursion}
 use Rattle.clif_types.specs.Signature.{SignatureShape}
 use Rattle.clif_ir.specs.Body.{Body}
@@ -14,6 +14,8 @@ use Rattle.cranelift_frontend.specs.declared.builder.FunctionBuilder.{FunctionBu
 -- A parameter counts twice, since it may become a name of a new zero.
 abbrev pub cost_of : SignatureShape → Call → ℕ
 cost_of signature (call.AppendBlockParam block ty) = 2
+cost_of signature (call.AppendBlockParamsForFunctionParams block) = max 1 (2 * length signature.params)
+cost_of signature (call.AppendBlockParamsForFunctionReturns block) = max 1 (2 * length signature.returns)
 cost_of signature _ = 1
 
 -- how many calls take: of calls that make no parameter, as many as there are calls

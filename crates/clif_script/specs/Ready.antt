@@ -15,10 +15,10 @@ use Rattle.clif_meaning.specs.Request.{AnsweredCall, Request}
 use Rattle.clif_meaning.specs.Ledger.{Answered, ABlock, AVariable, AValue, AnInstruction}
 use Rattle.clif_simulation.specs.Carries.{numbers_from}
 use Rattle.clif_ssa.specs.Tables.{is_yes}
-use Rattle.clif_ssa.specs.Ssa.{sealed_of}
+use Rattle.clif_ssa.specs.Ssa.{predecessors_of, sealed_of}
 use Rattle.cranelift_frontend.specs.declared.builder.FunctionBuilder.{FunctionBuilder}
 use Rattle.cranelift_frontend.specs.Context.{ContextState, status_of}
-use Rattle.cranelift_frontend.specs.Builder.{is_empty_status, is_filled_status, is_free}
+use Rattle.cranelift_frontend.specs.Builder.{is_empty_status, is_filled_status, is_free, is_nothing}
 use Rattle.clif_types.specs.Signature.{SignatureShape}
 use Rattle.cranelift_frontend.specs.Ledger.{ledger_of}
 use Rattle.cranelift_frontend.specs.StandsFor.{StandsFor}
@@ -130,6 +130,19 @@ can_seal b block = not (is_yes (sealed_of b.ctx.now.ssa block))
 abbrev pub can_append : FunctionBuilder → ℕ → Bool
 can_append b block = is_empty_status (status_of b.ctx.now block)
 
+-- it may get the function's parameters: no branch leads to it, either
+abbrev pub can_append_function_params : FunctionBuilder → ℕ → Bool
+can_append_function_params b block = can_append b block && is_nothing (predecessors_of b.ctx.now.ssa block)
+
+-- so many values whose numbers follow one another, if there is a first one
+abbrev pub values_from : Option ℕ → ℕ → Answer
+values_from None count = answer.Nothing
+values_from (Some first) count = answer.Values first count
+
+-- the last values of a block's parameters, as many as `count` says
+abbrev pub last_params : List ℕ → ℕ → Answer
+last_params params count = values_from (slice_get params (length params - count)) count
+
 -- a block may be put behind another one: it isn't in the layout, and the other one is
 abbrev pub can_insert : FunctionBuilder → ℕ → ℕ → Bool
 can_insert b block after = not (stands_in block b.func.now.layout) && stands_in after b.func.now.layout
@@ -178,6 +191,8 @@ types_after (call.InsertBlockAfter block after) types = types
 types_after (call.SetColdBlock block) types = types
 types_after call.EnsureInsertedBlock types = types
 types_after (call.AppendBlockParam block ty) types = types
+types_after (call.AppendBlockParamsForFunctionParams block) types = types
+types_after (call.AppendBlockParamsForFunctionReturns block) types = types
 types_after (call.DefVar variable value) types = types
 types_after (call.UseVar variable) types = types
 types_after (call.Iconst ty imm) types = types

@@ -1,9 +1,10 @@
 -- What a list of calls is as a script, and what comes of it as a verdict on that script. Own.
 use Rattle.std.specs.Prelude.{◌≡◌, ℕ, List, [], ◌∷◌, ◌++◌, map, take, drop, slice_get, Option, Some, None, Result, Ok, Err}
 use Rattle.clif_ir.specs.Body.{Body}
+use Rattle.clif_meaning.specs.Event.{types_of}
 use Rattle.clif_meaning.specs.Name.{Name}
 use Rattle.clif_meaning.specs.Instruction.{Edge, Known}
-use Rattle.clif_meaning.specs.Request.{Request, CreateBlock, SwitchToBlock, SealBlock, SealAllBlocks, InsertBlockAfter, SetColdBlock, EnsureInsertedBlock, AppendBlockParams, DeclareVar, DefVar, UseVar, Finalize, Script, AnsweredCall, script_of}
+use Rattle.clif_meaning.specs.Request.{Request, CreateBlock, SwitchToBlock, SealBlock, SealAllBlocks, InsertBlockAfter, SetColdBlock, EnsureInsertedBlock, AppendBlockParams, AppendFunctionParams, DeclareVar, DefVar, UseVar, Finalize, Script, AnsweredCall, script_of}
 use Rattle.clif_meaning.specs.Ledger.{Ledger, empty_ledger, ledger_after, ledger_with}
 use Rattle.clif_meaning.specs.Acceptance.{Verdict, Accepted, Misuse, Refused, iconst, iadd, isub, jump, brif, return_, verdict_from, verdict_on}
 use Rattle.clif_types.specs.Signature.{SignatureShape}
@@ -37,6 +38,8 @@ request_of signature ledger (call.InsertBlockAfter block after) = InsertBlockAft
 request_of signature ledger (call.SetColdBlock block) = SetColdBlock (name_of block)
 request_of signature ledger call.EnsureInsertedBlock = EnsureInsertedBlock
 request_of signature ledger (call.AppendBlockParam block ty) = AppendBlockParams (name_of block) (ty ∷ [])
+request_of signature ledger (call.AppendBlockParamsForFunctionParams block) = AppendFunctionParams (name_of block) (types_of signature.params)
+request_of signature ledger (call.AppendBlockParamsForFunctionReturns block) = AppendBlockParams (name_of block) (types_of signature.returns)
 request_of signature ledger (call.DeclareVar ty) = DeclareVar ty
 request_of signature ledger (call.DefVar variable value) = DefVar variable (name_of value)
 request_of signature ledger (call.UseVar variable) = UseVar variable

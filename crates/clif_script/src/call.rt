@@ -5,8 +5,9 @@ use clif_types::Type;
 /// An answer of an earlier call: which call, and which of its answers.
 ///
 /// An instruction answers its number and then its results, so answer 0 is the instruction and answer
-/// `k + 1` its result `k`. Every other call has at most answer 0. A call is misused if a name in it leads
-/// to no answer, or to one of another kind than the call takes.
+/// `k + 1` its result `k`. The two calls that append parameters by the function's signature answer these from
+/// 0 on. Every other call has at most answer 0. A call is misused if a name in it leads to no answer, or to one
+/// of another kind than the call takes.
 #[derive(Clone, Copy, Debug, PartialEq, Eq)]
 pub struct Name {
     /// The place of the call in the script, from 0 on.
@@ -59,6 +60,16 @@ pub enum Call {
     AppendBlockParam {
         block: Name,
         ty: Type,
+    },
+    /// `append_block_params_for_function_params(block)`: answers each value, in order. Nothing was made in the
+    /// block, and no branch leads to it.
+    AppendBlockParamsForFunctionParams {
+        block: Name,
+    },
+    /// `append_block_params_for_function_returns(block)`: answers each value, in order. Nothing was made in the
+    /// block.
+    AppendBlockParamsForFunctionReturns {
+        block: Name,
     },
     /// `declare_var(ty)`: answers the variable, which is numbered from 0 on. So far the type is one of I8
     /// to I64.

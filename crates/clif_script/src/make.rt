@@ -19,7 +19,10 @@ use crate::make_blocks::{
     create_block, ensure_inserted_block, insert_block_after, may_seal, seal_all_blocks, seal_block,
     set_cold_block, switch_to_block,
 };
-use crate::make_parameters::append_block_param;
+use crate::make_parameters::{
+    append_block_param, append_block_params_for_function_params,
+    append_block_params_for_function_returns,
+};
 use crate::script::{Answer, CallError};
 use clif_ir::{BinaryOpcode, BlockArg, Function, InstructionData, ValueDef};
 use clif_ssa::Variable;
@@ -57,6 +60,12 @@ pub(crate) fn make_call(
         Call::SetColdBlock { block } => set_cold_block(builder, answers, *block),
         Call::EnsureInsertedBlock => ensure_inserted_block(builder, answers),
         Call::AppendBlockParam { block, ty } => append_block_param(builder, answers, *block, *ty),
+        Call::AppendBlockParamsForFunctionParams { block } => {
+            append_block_params_for_function_params(builder, answers, *block)
+        }
+        Call::AppendBlockParamsForFunctionReturns { block } => {
+            append_block_params_for_function_returns(builder, answers, *block)
+        }
         Call::DeclareVar { ty } => declare_var(builder, answers, *ty),
         Call::DefVar { variable, value } => def_var(builder, answers, types, *variable, *value),
         Call::UseVar { variable } => use_var(builder, answers, types, *variable),

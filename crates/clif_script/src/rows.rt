@@ -15,7 +15,14 @@ use std::alloc::{AllocError, Global};
 use std::io;
 
 // The names of the rows that are built so far, in order.
-const NAMES: [&str; 4] = ["first", "reordering", "both_arms", "empty"];
+const NAMES: [&str; 6] = [
+    "first",
+    "reordering",
+    "sample",
+    "sample_late",
+    "both_arms",
+    "empty",
+];
 
 // A function that is built from a list of calls.
 #[derive(Drop)]
@@ -34,6 +41,8 @@ fn make_row(alloc: Global, name: &str) -> Result<Option<Row>, AllocError>
     match name {
         "first" => Ok(Some(first(alloc)?)),
         "reordering" => Ok(Some(reordering(alloc)?)),
+        "sample" => Ok(Some(sample(alloc, Sealing::Early)?)),
+        "sample_late" => Ok(Some(sample(alloc, Sealing::Late)?)),
         "both_arms" => Ok(Some(both_arms(alloc)?)),
         "empty" => Ok(Some(empty(alloc))),
         _ => Ok(None),
@@ -84,6 +93,28 @@ impl Row {
         Ok(())
     }
 
+    fn seal_all(&mut self) -> Result<(), AllocError> {
+        self.add(Call::SealAllBlocks)?;
+        Ok(())
+    }
+
+    // Makes a block current whose branches are all there.
+    fn begin(&mut self, block: Name, sealing: Sealing) -> Result<(), AllocError> {
+        self.switch_to(block)?;
+        match sealing {
+            Sealing::Early => self.seal(block),
+            Sealing::Late => Ok(()),
+        }
+    }
+
+    // The function's first parameter.
+    fn function_params(&mut self, block: Name) -> Result<Name, AllocError> {
+        Ok(answer(
+            self.add(Call::AppendBlockParamsForFunctionParams { block })?,
+            0,
+        ))
+    }
+
     fn constant(&mut self, imm: i64) -> Result<Name, AllocError> {
         Ok(answer(self.add(Call::Iconst { ty: I32, imm })?, 1))
     }
@@ -103,6 +134,30 @@ impl Row {
 
     fn isub(&mut self, x: Name, y: Name) -> Result<Name, AllocError> {
         Ok(answer(self.add(Call::Isub { x, y })?, 1))
+    }
+
+    fn assign_sum(
+        &mut self,
+        variable: Variable,
+        x: Variable,
+        y: Variable,
+    ) -> Result<(), AllocError> {
+        let x = self.use_var(x)?;
+        let y = self.use_var(y)?;
+        let sum = self.iadd(x, y)?;
+        self.define(variable, sum)
+    }
+
+    fn assign_difference(
+        &mut self,
+        variable: Variable,
+        x: Variable,
+        y: Variable,
+    ) -> Result<(), AllocError> {
+        let x = self.use_var(x)?;
+        let y = self.use_var(y)?;
+        let difference = self.isub(x, y)?;
+        self.define(variable, difference)
     }
 
     fn jump(&mut self, alloc: Global, block: Name) -> Result<(), AllocError> {
@@ -188,6 +243,51 @@ fn reordering(alloc: Global) -> Result<Row, AllocError> {
     row.define(y, difference)?;
     row.jump(alloc, block1)?;
     row.seal(block1)?;
+    Ok(row)
+}
+
+// When the blocks of a row are sealed: each as soon as its branches are there, or all at the end.
+#[derive(Clone, Copy, Debug, PartialEq, Eq)]
+enum Sealing {
+    Early,
+    Late,
+}
+
+// The documented example of the crate whose behaviour this one has: a loop over three variables, whose first one is
+// the function's parameter.
+fn sample(alloc: Global, sealing: Sealing) -> Result<Row, AllocError> {
+    let mut row = named(alloc, "sample")?;
+    row.signature.params.push(AbiParam::new(I32))?;
+    row.signature.returns.push(AbiParam::new(I32))?;
+    let block0 = row.create_block()?;
+    let block1 = row.create_block()?;
+    let block2 = row.create_block()?;
+    let block3 = row.create_block()?;
+    let x = row.declare(0)?;
+    let y = row.declare(1)?;
+    let z = row.declare(2)?;
+    let param = row.function_params(block0)?;
+    row.begin(block0, sealing)?;
+    row.define(x, param)?;
+    let two = row.constant(2)?;
+    row.define(y, two)?;
+    row.assign_sum(z, x, y)?;
+    row.jump(alloc, block1)?;
+    row.switch_to(block1)?;
+    row.assign_sum(z, y, z)?;
+    let value = row.use_var(y)?;
+    row.brif(alloc, value, block3, block2)?;
+    row.begin(block2, sealing)?;
+    row.assign_difference(z, z, x)?;
+    let value = row.use_var(y)?;
+    row.return_value(alloc, value)?;
+    row.begin(block3, sealing)?;
+    row.assign_difference(y, y, x)?;
+    row.jump(alloc, block1)?;
+    match sealing {
+        Sealing::Early => row.seal(block1)?,
+        Sealing::Late => row.seal_all()?,
+    }
     Ok(row)
 }
 

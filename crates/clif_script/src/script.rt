@@ -41,8 +41,8 @@ pub enum ReplayError {
     Refused(usize),
     /// Memory was refused. It prints as `no memory`.
     Memory,
-    /// A table holds 2^32 - 1 entries. So there are 2^16 calls or more, and 2^31 where none is a branch; a call
-    /// that makes a parameter counts twice. It prints as `table full`.
+    /// A table holds 2^32 - 1 entries. So there are 2^16 calls or more, and 2^31 where none is a branch, if a call
+    /// that makes parameters counts twice for each. It prints as `table full`.
     Full,
 }
 

@@ -2,9 +2,10 @@
 #![tactic(auto)]
 
 use super::support::Step::{
-    Create, Declare, Iadd, Iconst, Jump, JumpWith, Param, ReturnNone, Seal, SealAll, Switch,
+    Create, Declare, FunctionParams, FunctionReturns, Iadd, Iconst, Jump, JumpWith, Param, Return,
+    ReturnNone, Seal, SealAll, Switch,
 };
-use super::support::{F32, I32, I64, all_refuse, builds};
+use super::support::{F32, I32, I64, all_refuse, builds, builds_on};
 use crate::script::ReplayError::Misuse;
 use std::test::Fail;
 
@@ -78,6 +79,110 @@ fn of_a_sealed_block(rt: HostRuntime) -> Result<(), Fail> {
         Seal(0, 0),
     ];
     builds(&rt, rt.alloc(), &steps, text)
+}
+
+const TAKES_TWO: &str = "\
+function u0:0(i32, i64) -> i32 fast {
+block0(v0: i32, v1: i64):
+    v2 = iadd v1, v1
+    return v0
+}
+";
+
+// The parameters of the function are the answers 0, 1, .. of their call.
+#[test]
+fn parameters_of_the_function(rt: HostRuntime) -> Result<(), Fail> {
+    let steps = [
+        Create,
+        FunctionParams(0, 0),
+        Switch(0, 0),
+        Iadd((1, 1), (1, 1)),
+        Return(1, 0),
+        Seal(0, 0),
+    ];
+    builds_on(&rt, rt.alloc(), &[I32, I64], &[I32], &steps, TAKES_TWO)
+}
+
+const RETURNS_ONE: &str = "\
+function u0:0() -> i64 fast {
+block0:
+    v0 = iconst.i64 1
+    jump block1(v0)  ; v0 = 1
+
+block1(v1: i64):
+    return v1
+}
+";
+
+// A block to which a branch leads may get what the function returns.
+#[test]
+fn returned_values_of_the_function(rt: HostRuntime) -> Result<(), Fail> {
+    let alloc = rt.alloc();
+    let steps = [
+        Create,
+        Create,
+        Switch(0, 0),
+        Iconst(I64),
+        JumpWith((1, 0), (3, 1)),
+        FunctionReturns(1, 0),
+        Switch(1, 0),
+        Return(5, 0),
+        SealAll,
+    ];
+    builds_on(&rt, alloc, &[], &[I64], &steps, RETURNS_ONE)?;
+    // a function that takes and returns nothing
+    let steps = [
+        Create,
+        FunctionParams(0, 0),
+        FunctionReturns(0, 0),
+        Switch(0, 0),
+        ReturnNone,
+        Seal(0, 0),
+    ];
+    builds(
+        &rt,
+        alloc,
+        &steps,
+        "function u0:0() fast {\nblock0:\n    return\n}\n",
+    )
+}
+
+#[test]
+fn misused_parameters_of_a_signature(rt: HostRuntime) -> Result<(), Fail> {
+    all_refuse(
+        &rt,
+        rt.alloc(),
+        &[
+            // a block in which something was made
+            (
+                &[Create, Switch(0, 0), Iconst(I32), FunctionParams(0, 0)],
+                Misuse(3),
+            ),
+            (
+                &[Create, Switch(0, 0), Iconst(I32), FunctionReturns(0, 0)],
+                Misuse(3),
+            ),
+            // a block to which a branch leads
+            (
+                &[
+                    Create,
+                    Create,
+                    Switch(0, 0),
+                    Jump(1, 0),
+                    FunctionParams(1, 0),
+                ],
+                Misuse(4),
+            ),
+            // no block
+            (&[FunctionParams(0, 0)], Misuse(0)),
+            (&[Create, FunctionReturns(0, 1)], Misuse(1)),
+            // no answer, where there is no parameter
+            (
+                &[Create, FunctionParams(0, 0), Switch(0, 0), Return(1, 0)],
+                Misuse(3),
+            ),
+        ],
+    )
 }
 
 #[test]

@@ -75,7 +75,7 @@ fn run_with(
 
 const MANY: usize = 1_000;
 
-const NAMES: &str = "first\nreordering\nboth_arms\nempty\n";
+const NAMES: &str = "first\nreordering\nsample\nsample_late\nboth_arms\nempty\n";
 
 const FIRST: &str = "\
 function %first() -> i32 system_v {
@@ -101,6 +101,55 @@ block1(v4: i32, v6: i32):
     v5 = iadd v4, v3  ; v3 = 2
     v7 = isub v6, v5
     jump block1(v5, v7)
+}
+";
+
+const SAMPLE: &str = "\
+function %sample(i32) -> i32 system_v {
+block0(v0: i32):
+    v6 -> v0
+    v1 = iconst.i32 2
+    v2 = iadd v0, v1  ; v1 = 2
+    jump block1(v1, v2)  ; v1 = 2
+
+block1(v3: i32, v4: i32):
+    v5 = iadd v3, v4
+    brif v3, block3, block2
+
+block2:
+    v7 = isub.i32 v5, v6
+    return v3
+
+block3:
+    v8 = isub.i32 v3, v6
+    jump block1(v8, v5)
+}
+";
+
+const SAMPLE_LATE: &str = "\
+function %sample(i32) -> i32 system_v {
+block0(v0: i32):
+    v1 = iconst.i32 2
+    v2 = iadd v0, v1  ; v1 = 2
+    jump block1(v1, v2, v0)  ; v1 = 2
+
+block1(v3: i32, v4: i32, v14: i32):
+    v9 -> v3
+    v10 -> v3
+    v7 -> v14
+    v11 -> v14
+    v5 = iadd v3, v4
+    v6 -> v5
+    v13 -> v5
+    brif v3, block3, block2
+
+block2:
+    v8 = isub.i32 v6, v7
+    return v9
+
+block3:
+    v12 = isub.i32 v10, v11
+    jump block1(v12, v13, v11)
 }
 ";
 
@@ -144,6 +193,8 @@ fn rows(rt: HostRuntime) -> Result<(), Fail> {
     let alloc = rt.alloc();
     gives(&rt, alloc, &["first"], 0, FIRST, "")?;
     gives(&rt, alloc, &["reordering"], 0, REORDERING, "")?;
+    gives(&rt, alloc, &["sample"], 0, SAMPLE, "")?;
+    gives(&rt, alloc, &["sample_late"], 0, SAMPLE_LATE, "")?;
     gives(&rt, alloc, &["both_arms"], 0, BOTH_ARMS, "")?;
     gives(&rt, alloc, &["empty"], 0, "function u0:0() fast {\n}\n", "")?;
     gives(&rt, alloc, &[], 0, NAMES, "")

@@ -9,7 +9,7 @@ use crate::script::{ReplayError, replay};
 use clif_ir::Function;
 use clif_ssa::Variable;
 use clif_types::{
-    CallConv, LaneType, PointerWidth, Signature, TargetFrontendConfig, Type, UserFuncName,
+    AbiParam, CallConv, LaneType, PointerWidth, Signature, TargetFrontendConfig, Type, UserFuncName,
 };
 use cranelift_frontend::FunctionBuilderContext;
 use std::alloc::{AllocError, Global};
@@ -33,6 +33,8 @@ pub enum Step {
     Cold(usize, usize),
     Ensure,
     Param((usize, usize), Type),
+    FunctionParams(usize, usize),
+    FunctionReturns(usize, usize),
     Declare(Type),
     Def(u8, usize, usize),
     Use(u8),
@@ -76,6 +78,12 @@ pub fn call_of(alloc: Global, step: Step) -> Result<Call, AllocError> {
         Step::Param(block, ty) => Call::AppendBlockParam {
             block: name(block.0, block.1),
             ty,
+        },
+        Step::FunctionParams(place, answer) => Call::AppendBlockParamsForFunctionParams {
+            block: name(place, answer),
+        },
+        Step::FunctionReturns(place, answer) => Call::AppendBlockParamsForFunctionReturns {
+            block: name(place, answer),
         },
         Step::Declare(ty) => Call::DeclareVar { ty },
         Step::Def(number, place, answer) => Call::DefVar {
@@ -152,8 +160,20 @@ pub fn replayed(
     requires { ctx.old ≡ empty_context }
     ensures { ctx.new ≡ empty_context }
 {
+    replayed_on(alloc, calls, Signature::new(alloc, CallConv::Fast), ctx)
+}
+
+// The same with this signature.
+fn replayed_on(
+    alloc: Global,
+    calls: &[Call],
+    signature: Signature,
+    ctx: &mut FunctionBuilderContext,
+) -> Result<Function, ReplayError>
+    requires { ctx.old ≡ empty_context }
+    ensures { ctx.new ≡ empty_context }
+{
     let name = UserFuncName::user(0, 0);
-    let signature = Signature::new(alloc, CallConv::Fast);
     let config = TargetFrontendConfig {
         default_call_conv: CallConv::SystemV,
         pointer_width: PointerWidth::U64,
@@ -190,6 +210,29 @@ pub fn builds(rt: &impl Abort, alloc: Global, steps: &[Step], text: &str) -> Res
     assert_eq!(rt; first?.as_str(), text);
     let second = answered(rt, alloc, calls.as_slice(), &mut ctx)?;
     assert_eq!(rt; second?.as_str(), text);
+    Ok(())
+}
+
+/// The steps give a function of this text, if it takes these parameters and returns these values.
+pub fn builds_on(
+    rt: &impl Abort,
+    alloc: Global,
+    params: &[Type],
+    returns: &[Type],
+    steps: &[Step],
+    text: &str,
+) -> Result<(), Fail> {
+    let calls = calls_of(alloc, steps)?;
+    let mut ctx = FunctionBuilderContext::new(alloc);
+    let mut signature = Signature::new(alloc, CallConv::Fast);
+    for ty in params {
+        signature.params.push(AbiParam::new(*ty))?;
+    }
+    for ty in returns {
+        signature.returns.push(AbiParam::new(*ty))?;
+    }
+    let func = replayed_on(alloc, calls.as_slice(), signature, &mut ctx)?;
+    assert_eq!(rt; format!(in alloc; "{}", func.display())?.as_str(), text);
     Ok(())
 }
 

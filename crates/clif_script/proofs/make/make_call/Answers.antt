@@ -49,6 +49,16 @@ returns-in-AppendBlockParam-clause-judged c = λ declared calls ready.
     let done = c.append_block_param.ensures.judged calls (declared, ready) in
     subst (λ (x : Call). IsJudged (allows (ledger_of calls) (request_of declared (ledger_of calls) x)) c.append_block_param.result) (sym c.in-AppendBlockParam.is) done
 
+pub returns-in-AppendBlockParamsForFunctionParams-clause-judged : goal.returns-in-AppendBlockParamsForFunctionParams-clause-judged
+returns-in-AppendBlockParamsForFunctionParams-clause-judged c = λ declared calls ready.
+    let done = c.append_block_params_for_function_params.ensures.judged declared calls ready in
+    subst (λ (x : Call). IsJudged (allows (ledger_of calls) (request_of declared (ledger_of calls) x)) c.append_block_params_for_function_params.result) (sym c.in-AppendBlockParamsForFunctionParams.is) done
+
+pub returns-in-AppendBlockParamsForFunctionReturns-clause-judged : goal.returns-in-AppendBlockParamsForFunctionReturns-clause-judged
+returns-in-AppendBlockParamsForFunctionReturns-clause-judged c = λ declared calls ready.
+    let done = c.append_block_params_for_function_returns.ensures.judged declared calls ready in
+    subst (λ (x : Call). IsJudged (allows (ledger_of calls) (request_of declared (ledger_of calls) x)) c.append_block_params_for_function_returns.result) (sym c.in-AppendBlockParamsForFunctionReturns.is) done
+
 pub returns-in-DeclareVar-clause-judged : goal.returns-in-DeclareVar-clause-judged
 returns-in-DeclareVar-clause-judged c = λ declared calls ready.
     let done = c.declare_var.ensures.judged calls (declared, ready) in

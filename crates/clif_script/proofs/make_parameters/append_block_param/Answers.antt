@@ -1,4 +1,4 @@
-use Rattle.std.proofs.Common.{[], ◌∷◌, sym, ◌∙◌, refl, subst}
+use Rattle.std.proofs.Common.{[], ◌∷◌, arith, sym, ◌∙◌, refl, subst}
 use Rattle.std.proofs.lemmas.Result.{err_from_is_err_and}
 use Rattle.clif_meaning.specs.Request.{AppendBlockParams}
 use Rattle.cranelift_frontend.specs.Context.{status_of}
@@ -8,7 +8,7 @@ use Rattle.clif_script.specs.Requests.{name_of}
 use Rattle.clif_script.specs.Ready.{IsReadyAfter}
 use Rattle.clif_script.proofs.ReadyLaws.{ready-more, block-found, block-there}
 use Rattle.clif_script.proofs.Conditions
-use Rattle.clif_script.proofs.Limits.{full-told-by, one-param, nearly-full-of-values}
+use Rattle.clif_script.proofs.Limits.{full-told-by, one-params, nearly-full-of-values}
 use Rattle.clif_script.proofs.make_parameters.append_block_param.Goals as goal
 
 pub returns-in_default-clause-judged : goal.returns-in_default-clause-judged
@@ -57,10 +57,11 @@ returns-clause-judged c = λ calls given.
 
 pub returns-clause-one_call : goal.returns-clause-one_call
 returns-clause-one_call c =
-    one-param c.args.builder.now c.append_block_param.new.self c.in-Some.block c.args.ty c.in_ok-value.ensures.function c.append_block_param.ensures.context
+    one-params 2 c.args.builder.now c.append_block_param.new.self c.in-Some.block (c.args.ty ∷ []) (omega arith) (omega arith) c.in_ok-value.ensures.function c.append_block_param.ensures.context
 
 pub returns-in_err-value-clause-full : goal.returns-in_err-value-clause-full
 returns-in_err-value-clause-full c = λ full.
     let p = err_from_is_err_and c.from_residual.result c.from_residual.ensures.1 in
     let told = full-told-by c.append_block_param.result c.from_residual.result p.0 c.in_err-value.field-0.0 c.in_err-value.was p.1 p.2 full in
-    nearly-full-of-values 2 c.args.builder.now (c.append_block_param.ensures.full told.0)
+    let values = c.append_block_param.ensures.full told.0 in
+    nearly-full-of-values 2 c.args.builder.now (omega (arith, values))
