@@ -7,8 +7,6 @@ mod make_blocks;
 mod make_parameters;
 mod rows;
 mod script;
-#[cfg(test)]
-mod tests;
 
 pub use call::{Call, Edge, Name};
 pub use rows::run;

@@ -41,7 +41,7 @@ fn answers(
 ) -> Result<(), Fail> {
     let answer = End::Returned(vec![in alloc; number]?);
     let calls = text.calls.as_slice();
-    assert_eq!(rt; script::run(alloc, calls, args)?, answer, "of the script");
+    assert_eq!(rt; script::run(alloc, calls, &text.signature, args)?, answer, "of the script");
     assert_eq!(rt; function::run(alloc, func, args)?, answer, "of the function");
     Ok(())
 }

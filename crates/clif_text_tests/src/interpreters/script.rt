@@ -3,8 +3,9 @@
 
 use crate::interpreters::{End, STEPS, constant, difference, sum};
 use clif_script::{Call, Edge, Name};
-use clif_types::{EntityRef, Type, types};
+use clif_types::{AbiParam, EntityRef, Signature, Type, types};
 use std::alloc::{AllocError, Global};
+use std::slice;
 
 /// Bits and the type that they have.
 #[derive(Clone, Copy, Debug)]
@@ -31,6 +32,7 @@ enum Did<'a> {
 struct Run<'a> {
     alloc: Global,
     calls: &'a [Call],
+    signature: &'a Signature,
     variables: Vec<Typed>,
     names: Vec<(Name, Typed)>,
 }
@@ -72,16 +74,37 @@ impl<'a> Run<'a> {
         Ok(bits)
     }
 
+    /// Gives the next bits to the parameters that a call made, whose names are its answers in order.
+    fn give_each(
+        &mut self,
+        place: usize,
+        params: &[AbiParam],
+        left: &mut slice::Iter<'_, u128>,
+    ) -> Result<(), AllocError> {
+        for (answer, param) in params.iter().enumerate() {
+            let ty = param.value_type;
+            let bits = left.next().copied().unwrap_or(0);
+            self.give(Name { place, answer }, Typed { ty, bits })?;
+        }
+        Ok(())
+    }
+
     /// Gives bits to the parameters of a block, in the order of the calls that made them.
-    fn enter(&mut self, block: Name, bits: &[u128]) -> Result<(), AllocError> {
-        let calls = self.calls;
+    fn enter(&mut self, entered: Name, bits: &[u128]) -> Result<(), AllocError> {
+        let (calls, signature) = (self.calls, self.signature);
         let mut left = bits.iter();
         for (place, call) in calls.iter().enumerate() {
-            if let Call::AppendBlockParam { block: owner, ty } = call {
-                if *owner == block {
-                    let bits = left.next().copied().unwrap_or(0);
-                    self.give(Name { place, answer: 0 }, Typed { ty: *ty, bits })?;
+            match call {
+                Call::AppendBlockParam { block, ty } if *block == entered => {
+                    self.give_each(place, &[AbiParam::new(*ty)], &mut left)?;
                 }
+                Call::AppendBlockParamsForFunctionParams { block } if *block == entered => {
+                    self.give_each(place, signature.params.as_slice(), &mut left)?;
+                }
+                Call::AppendBlockParamsForFunctionReturns { block } if *block == entered => {
+                    self.give_each(place, signature.returns.as_slice(), &mut left)?;
+                }
+                _ => {}
             }
         }
         Ok(())
@@ -171,13 +194,19 @@ fn next_place(calls: &[Call], block: Name, from: usize) -> Option<usize> {
 }
 
 /// Runs the calls of the entry, with these arguments, and of the blocks that control goes to.
-pub fn run(alloc: Global, calls: &[Call], args: &[u128]) -> Result<End, AllocError> {
+pub fn run(
+    alloc: Global,
+    calls: &[Call],
+    signature: &Signature,
+    args: &[u128],
+) -> Result<End, AllocError> {
     let Some(mut block) = entry(calls) else {
         return Ok(End::Stuck);
     };
     let mut state = Run {
         alloc,
         calls,
+        signature,
         variables: variables(alloc, calls)?,
         names: Vec::new(alloc),
     };

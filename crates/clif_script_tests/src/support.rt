@@ -4,9 +4,8 @@
 ghost use Rattle.std.specs.Prelude.{◌≡◌};
 ghost use Rattle.cranelift_frontend.specs.Context.{empty_context};
 
-use crate::call::{Call, Edge, Name};
-use crate::script::{ReplayError, replay};
 use clif_ir::Function;
+use clif_script::{Call, Edge, Name, ReplayError, replay};
 use clif_ssa::Variable;
 use clif_types::{
     AbiParam, CallConv, LaneType, PointerWidth, Signature, TargetFrontendConfig, Type, UserFuncName,

@@ -1,12 +1,12 @@
 //! Scripts that mark blocks and place them in the layout.
 #![tactic(auto)]
 
-use super::support::Step::{
+use crate::support::Step::{
     Cold, Create, Declare, Def, Ensure, Iadd, Iconst, InsertAfter, Jump, ReturnNone, Seal, SealAll,
     Switch, Use,
 };
-use super::support::{I32, all_refuse, builds};
-use crate::script::ReplayError::{Misuse, Refused};
+use crate::support::{I32, all_refuse, builds};
+use clif_script::ReplayError::{Misuse, Refused};
 use std::test::Fail;
 
 const ONE_BEHIND_TWO: &str = "\

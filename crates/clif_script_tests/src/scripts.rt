@@ -1,11 +1,11 @@
 //! Scripts that become functions, and the texts of errors.
 #![tactic(auto)]
 
-use super::support::Step::{
+use crate::support::Step::{
     Create, Declare, Def, Iadd, Iconst, Return, ReturnNone, Seal, Switch, Use,
 };
-use super::support::{I32, I64, builds, call_of, calls_of, replayed};
-use crate::script::ReplayError;
+use crate::support::{I32, I64, builds, call_of, calls_of, replayed};
+use clif_script::ReplayError;
 use cranelift_frontend::FunctionBuilderContext;
 use std::test::Fail;
 

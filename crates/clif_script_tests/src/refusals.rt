@@ -1,12 +1,12 @@
 //! Scripts that are refused: which call is told, and as what.
 #![tactic(auto)]
 
-use super::support::Step::{
+use crate::support::Step::{
     Brif, Create, Declare, Def, Iadd, Iconst, Isub, Jump, JumpWith, Return, ReturnNone, Seal,
     Switch, Use,
 };
-use super::support::{F32, I32, I64, all_refuse};
-use crate::script::ReplayError::{Misuse, Refused};
+use crate::support::{F32, I32, I64, all_refuse};
+use clif_script::ReplayError::{Misuse, Refused};
 use std::test::Fail;
 
 // A block that was begun and isn't sealed, or isn't filled, is told by `finalize`.

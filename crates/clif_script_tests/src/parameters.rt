@@ -1,12 +1,12 @@
 //! Scripts whose blocks have parameters of the caller's.
 #![tactic(auto)]
 
-use super::support::Step::{
+use crate::support::Step::{
     Create, Declare, FunctionParams, FunctionReturns, Iadd, Iconst, Jump, JumpWith, Param, Return,
     ReturnNone, Seal, SealAll, Switch,
 };
-use super::support::{F32, I32, I64, all_refuse, builds, builds_on};
-use crate::script::ReplayError::Misuse;
+use crate::support::{F32, I32, I64, all_refuse, builds, builds_on};
+use clif_script::ReplayError::Misuse;
 use std::test::Fail;
 
 const LOOP: &str = "\

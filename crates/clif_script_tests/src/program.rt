@@ -1,7 +1,7 @@
 //! The program `rows` over writers: statuses, texts, and writes that are refused.
 #![tactic(auto)]
 
-use crate::rows::run;
+use clif_script::run;
 use std::alloc::{AllocError, Global};
 use std::io;
 use std::io::Write;
