@@ -20,6 +20,15 @@ added_behind line words given rest number old new are parts added = inr (record 
   stands = (added.stands.0, words, are, inr (given, rest, parts, added.stands.1));
 })
 
+-- and so is one without `=`
+pub added_alone : (line : List ℕ) (words : List (List ℕ)) (number : ℕ) (old new : Reader) → AreWords words line → Adds (λ call. (names : Names) × IsCall names words call) number old new → MayAdd line number old new
+added_alone line words number old new are added = inr (record {
+  call = added.call;
+  calls = added.calls;
+  lines = added.lines;
+  stands = (added.stands.0, words, are, inl added.stands.1);
+})
+
 zip-push : {A B : Type 0} (R : A → B → Type 0) (xs : List A) (ys : List B) (x : A) (y : B) → AllZip R xs ys → R x y → AllZip R (xs ++ x ∷ []) (ys ++ y ∷ [])
 zip-push R [] [] x y all one = (one, tt)
 zip-push R [] (b ∷ ys) x y all one = absurd all

@@ -12,13 +12,11 @@ use clif_script::Call;
 use std::alloc::Global;
 
 // The calls of the format that aren't understood so far, without the type that may follow their name.
-const NOT_SUPPORTED: [&str; 68] = [
+const NOT_SUPPORTED: [&str; 66] = [
     "declare_var_needs_stack_map",
     "declare_value_needs_stack_map",
     "try_use_var",
     "try_def_var",
-    "append_block_params_for_function_params",
-    "append_block_params_for_function_returns",
     "import_signature",
     "import_function",
     "create_sized_stack_slot",
@@ -148,6 +146,16 @@ fn read_block_call<'a>(head: &'a str, args: &mut Args<'_, 'a>) -> Result<Call, L
             block: args.block()?,
             ty: args.ty()?,
         }),
+        "append_block_params_for_function_params" => {
+            Ok(Call::AppendBlockParamsForFunctionParams {
+                block: args.block()?,
+            })
+        }
+        "append_block_params_for_function_returns" => {
+            Ok(Call::AppendBlockParamsForFunctionReturns {
+                block: args.block()?,
+            })
+        }
         _ => read_typed_call(head, args),
     }
 }
@@ -211,7 +219,8 @@ pub(crate) fn call_of<'a>(
 pub(crate) struct Answers {
     /// Whether it is an instruction, which `@` names.
     pub instruction: bool,
-    /// How many names it can have, beside that of an instruction.
+    /// How many names it can have, beside that of an instruction. How many parameters a signature has isn't known here:
+    /// its line may come later.
     pub names: usize,
 }
 
@@ -222,6 +231,8 @@ pub(crate) fn answers_of(call: &Call) -> Answers {
         | Call::AppendBlockParam { .. }
         | Call::DeclareVar { .. }
         | Call::UseVar { .. } => (false, 1),
+        Call::AppendBlockParamsForFunctionParams { .. }
+        | Call::AppendBlockParamsForFunctionReturns { .. } => (false, usize::MAX),
         Call::SwitchToBlock { .. }
         | Call::SealBlock { .. }
         | Call::SealAllBlocks

@@ -73,6 +73,14 @@ impl fmt::Display for CallText<'_> {
             Call::AppendBlockParam { block, ty } => {
                 write!(f, "append_block_param {} {ty}", AnswerText(*block))
             }
+            Call::AppendBlockParamsForFunctionParams { block } => {
+                let block = AnswerText(*block);
+                write!(f, "append_block_params_for_function_params {block}")
+            }
+            Call::AppendBlockParamsForFunctionReturns { block } => {
+                let block = AnswerText(*block);
+                write!(f, "append_block_params_for_function_returns {block}")
+            }
             Call::DeclareVar { ty } => write!(f, "declare_var {ty}"),
             Call::DefVar { variable, value } => {
                 write!(f, "def_var {variable} {}", AnswerText(*value))

@@ -260,6 +260,152 @@ block3:
 }
 ";
 
+pub const SAMPLE: &str = "\
+# A loop over three variables, of which x is the function's parameter. It doesn't change in the loop.
+function %sample (i32) -> i32 system_v
+block0 = create_block
+block1 = create_block
+block2 = create_block
+block3 = create_block
+x = declare_var i32
+y = declare_var i32
+z = declare_var i32
+first = append_block_params_for_function_params block0
+
+switch_to_block block0
+seal_block block0
+def_var x first
+two = iconst.i32 2
+def_var y two
+x0 = use_var x
+y0 = use_var y
+z0 = iadd x0 y0
+def_var z z0
+jump block1
+
+switch_to_block block1
+y1 = use_var y
+z1 = use_var z
+z2 = iadd y1 z1
+def_var z z2
+y2 = use_var y
+brif y2 block3 block2
+
+switch_to_block block2
+seal_block block2
+z3 = use_var z
+x1 = use_var x
+z4 = isub z3 x1
+def_var z z4
+y3 = use_var y
+return y3
+
+switch_to_block block3
+seal_block block3
+y4 = use_var y
+x2 = use_var x
+y5 = isub y4 x2
+def_var y y5
+jump block1
+seal_block block1
+";
+
+pub const SAMPLE_TEXT: &str = "\
+function %sample(i32) -> i32 system_v {
+block0(v0: i32):
+    v6 -> v0
+    v1 = iconst.i32 2
+    v2 = iadd v0, v1  ; v1 = 2
+    jump block1(v1, v2)  ; v1 = 2
+
+block1(v3: i32, v4: i32):
+    v5 = iadd v3, v4
+    brif v3, block3, block2
+
+block2:
+    v7 = isub.i32 v5, v6
+    return v3
+
+block3:
+    v8 = isub.i32 v3, v6
+    jump block1(v8, v5)
+}
+";
+
+pub const SAMPLE_LATE: &str = "\
+# The same with all blocks sealed at the end: x is then a parameter of the loop's block.
+function %sample (i32) -> i32 system_v
+block0 = create_block
+block1 = create_block
+block2 = create_block
+block3 = create_block
+x = declare_var i32
+y = declare_var i32
+z = declare_var i32
+first = append_block_params_for_function_params block0
+
+switch_to_block block0
+def_var x first
+two = iconst.i32 2
+def_var y two
+x0 = use_var x
+y0 = use_var y
+z0 = iadd x0 y0
+def_var z z0
+jump block1
+
+switch_to_block block1
+y1 = use_var y
+z1 = use_var z
+z2 = iadd y1 z1
+def_var z z2
+y2 = use_var y
+brif y2 block3 block2
+
+switch_to_block block2
+z3 = use_var z
+x1 = use_var x
+z4 = isub z3 x1
+def_var z z4
+y3 = use_var y
+return y3
+
+switch_to_block block3
+y4 = use_var y
+x2 = use_var x
+y5 = isub y4 x2
+def_var y y5
+jump block1
+seal_all_blocks
+";
+
+pub const SAMPLE_LATE_TEXT: &str = "\
+function %sample(i32) -> i32 system_v {
+block0(v0: i32):
+    v1 = iconst.i32 2
+    v2 = iadd v0, v1  ; v1 = 2
+    jump block1(v1, v2, v0)  ; v1 = 2
+
+block1(v3: i32, v4: i32, v14: i32):
+    v9 -> v3
+    v10 -> v3
+    v7 -> v14
+    v11 -> v14
+    v5 = iadd v3, v4
+    v6 -> v5
+    v13 -> v5
+    brif v3, block3, block2
+
+block2:
+    v8 = isub.i32 v6, v7
+    return v9
+
+block3:
+    v12 = isub.i32 v10, v11
+    jump block1(v12, v13, v11)
+}
+";
+
 pub const PLACED: &str = "\
 b0 = create_block
 b1 = create_block

@@ -16,6 +16,8 @@ fn rows_and_examples(rt: HostRuntime) -> Result<(), Fail> {
     let rows = [
         (data::UNDEFINED_VARIABLE, data::UNDEFINED_VARIABLE_TEXT),
         (data::LOOP_SEALED_LATE, data::LOOP_SEALED_LATE_TEXT),
+        (data::SAMPLE, data::SAMPLE_TEXT),
+        (data::SAMPLE_LATE, data::SAMPLE_LATE_TEXT),
         (data::BOTH_ARMS, data::BOTH_ARMS_TEXT),
         (data::DIAMOND, data::DIAMOND_TEXT),
         (data::NESTED_LOOPS, data::NESTED_LOOPS_TEXT),
@@ -70,6 +72,9 @@ seal_all_blocks
 insert_block_after $1.0 $2.0
 set_cold_block $1.0
 ensure_inserted_block
+append_block_param $1.0 f32
+append_block_params_for_function_params $1.0
+append_block_params_for_function_returns $2.0
 def_var var3 $0.0
 use_var var4294967294
 iconst.i128 -0x8000_0000_0000_0000
@@ -93,6 +98,9 @@ seal_all_blocks
 insert_block_after $1.0 $2.0
 set_cold_block $1.0
 ensure_inserted_block
+append_block_param $1.0 f32
+append_block_params_for_function_params $1.0
+append_block_params_for_function_returns $2.0
 def_var var3 $0.0
 use_var var4294967294
 iconst.i128 -9223372036854775808
@@ -131,6 +139,20 @@ block0:
     return v0  ; v0 = 1
 }
 ";
+    gives(&rt, rt.alloc(), script.as_bytes(), 0, text, "")
+}
+
+// The parameters of the function are named in order, also by a line that comes later.
+#[test]
+fn parameters(rt: HostRuntime) -> Result<(), Fail> {
+    let script = "\
+b = create_block
+x, y, z = append_block_params_for_function_params b
+switch_to_block b
+return y
+seal_block b
+function %f (i32, i64) -> i64 fast";
+    let text = "function %f(i32, i64) -> i64 fast {\nblock0(v0: i32, v1: i64):\n    return v1\n}\n";
     gives(&rt, rt.alloc(), script.as_bytes(), 0, text, "")
 }
 
@@ -187,6 +209,10 @@ fn misuses(rt: HostRuntime) -> Result<(), Fail> {
         (
             "b = create_block\nswitch_to_block b\nuse_var var0",
             "misuse at call 2\nline 3: use_var var0\n",
+        ),
+        (
+            "b = create_block\nx, y = append_block_params_for_function_returns b\nswitch_to_block b\nreturn y\nfunction %f () -> i8 fast",
+            "misuse at call 3\nline 4: return y\n",
         ),
         (
             "declare_var f32",

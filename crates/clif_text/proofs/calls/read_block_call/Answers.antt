@@ -31,3 +31,13 @@ returns-in_ok-ty-in-append_block_param c =
     let one = c.in_ok-block-in-append_block_param.ensures.ok in
     let two = c.in_ok-ty-in-append_block_param.ensures.ok in
     (one.0 ∷ two.0 ∷ [], one.1 ∙ ap (λ rest. one.0 ∷ rest) two.1, (one.0, two.0, ap (λ (head : List ℕ). head ∷ one.0 ∷ two.0 ∷ []) c.in-append_block_param.is, one.2, two.2))
+
+pub returns-in_ok-block-in-append_block_params_for_function_params : goal.returns-in_ok-block-in-append_block_params_for_function_params
+returns-in_ok-block-in-append_block_params_for_function_params c =
+    let one = c.in_ok-block-in-append_block_params_for_function_params.ensures.ok in
+    (one.0 ∷ [], one.1, (one.0, ap (λ (head : List ℕ). head ∷ one.0 ∷ []) c.in-append_block_params_for_function_params.is, one.2))
+
+pub returns-in_ok-block-in-append_block_params_for_function_returns : goal.returns-in_ok-block-in-append_block_params_for_function_returns
+returns-in_ok-block-in-append_block_params_for_function_returns c =
+    let one = c.in_ok-block-in-append_block_params_for_function_returns.ensures.ok in
+    (one.0 ∷ [], one.1, (one.0, ap (λ (head : List ℕ). head ∷ one.0 ∷ []) c.in-append_block_params_for_function_returns.is, one.2))
