@@ -16,11 +16,7 @@ use std::process::Abort;
 use std::test::Fail;
 
 // The function that a script builds.
-fn built(
-    alloc: Global,
-    text: &Script,
-    ctx: &mut FunctionBuilderContext,
-) -> Result<Function, Fail>
+fn built(alloc: Global, text: &Script, ctx: &mut FunctionBuilderContext) -> Result<Function, Fail>
     requires { ctx.old ≡ empty_context }
     ensures { ctx.new ≡ empty_context }
 {
@@ -41,8 +37,16 @@ fn answers(
 ) -> Result<(), Fail> {
     let answer = End::Returned(vec![in alloc; number]?);
     let calls = text.calls.as_slice();
-    assert_eq!(rt; script::run(alloc, calls, &text.signature, args)?, answer, "of the script");
-    assert_eq!(rt; function::run(alloc, func, args)?, answer, "of the function");
+    assert_eq!(rt;
+        script::run(alloc, calls, &text.signature, args)?,
+        answer,
+        "of the script"
+    );
+    assert_eq!(rt;
+        function::run(alloc, func, args)?,
+        answer,
+        "of the function"
+    );
     Ok(())
 }
 
@@ -71,6 +75,19 @@ fn both_arms(rt: HostRuntime) -> Result<(), Fail> {
     let mut ctx = FunctionBuilderContext::new(alloc);
     let func = built(alloc, &text, &mut ctx)?;
     answers(&rt, alloc, &text, &func, &[], 0)
+}
+
+/// The documented example of the builder, whose blocks are sealed as soon as may be: the loop goes on until 2 less some
+/// arguments is 0 modulo 2^32.
+#[test]
+fn sample(rt: HostRuntime) -> Result<(), Fail> {
+    text_answers(&rt, rt.alloc(), data::SAMPLE, &[1, 2, 0x8000_0001], 0)
+}
+
+/// The same, with all blocks sealed at the end.
+#[test]
+fn sample_late(rt: HostRuntime) -> Result<(), Fail> {
+    text_answers(&rt, rt.alloc(), data::SAMPLE_LATE, &[1, 2, 0x8000_0001], 0)
 }
 
 /// What block1 reads is named in block3: x counts down from the argument.

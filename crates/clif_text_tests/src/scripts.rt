@@ -3,8 +3,7 @@
 
 use crate::data;
 use crate::support::{MANY, built, gives};
-use clif_text::read;
-use clif_text::write;
+use clif_text::{read, write};
 use std::alloc::Global;
 use std::process::Abort;
 use std::test::Fail;

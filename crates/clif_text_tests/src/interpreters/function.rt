@@ -16,13 +16,13 @@ enum Next {
 
 /// A run of a function: the bits of the values that were given, newest last. All others are zero.
 #[derive(Drop)]
-struct Run<'a> {
+struct State<'a> {
     alloc: Global,
     func: &'a Function,
     values: Vec<(Value, u128)>,
 }
 
-impl<'a> Run<'a> {
+impl<'a> State<'a> {
     fn resolve(&self, value: Value) -> Value {
         if value.index() < self.func.value_count() {
             self.func.resolve_aliases(value)
@@ -138,7 +138,7 @@ pub fn run(alloc: Global, func: &Function, args: &[u128]) -> Result<End, AllocEr
     let Some(entry) = func.entry_block() else {
         return Ok(End::Stuck);
     };
-    let mut state = Run {
+    let mut state = State {
         alloc,
         func,
         values: Vec::new(alloc),

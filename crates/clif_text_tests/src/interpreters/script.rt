@@ -29,7 +29,7 @@ enum Did<'a> {
 
 /// A run of a script: what variables and names hold, newest last. What isn't listed is zero.
 #[derive(Drop)]
-struct Run<'a> {
+struct State<'a> {
     alloc: Global,
     calls: &'a [Call],
     signature: &'a Signature,
@@ -37,7 +37,7 @@ struct Run<'a> {
     names: Vec<(Name, Typed)>,
 }
 
-impl<'a> Run<'a> {
+impl<'a> State<'a> {
     fn name(&self, name: Name) -> Typed {
         let found = self.names.iter().rev().find(|given| given.0 == name);
         found.map_or(NOTHING, |given| given.1)
@@ -203,7 +203,7 @@ pub fn run(
     let Some(mut block) = entry(calls) else {
         return Ok(End::Stuck);
     };
-    let mut state = Run {
+    let mut state = State {
         alloc,
         calls,
         signature,
