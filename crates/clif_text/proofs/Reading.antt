@@ -1,56 +1,93 @@
 -- A line that was read, among those before it.
-use Rattle.std.proofs.Common.{◌≡◌, ℕ, ◌+◌, ◌<◌, List, [], ◌∷◌, ◌++◌, length, get_or, ap, sym, subst, ◌∙◌, inl, inr, arith, Bor}
-use Rattle.std.specs.Prelude.{codes}
-use Rattle.std.specs.List.{AllZip}
-use Rattle.clif_text.specs.declared.reader.Reader.{Reader}
+use Rattle.std.proofs.Common.{◌≡◌, ℕ, ◌+◌, ◌-◌, ◌<◌, List, [], ◌∷◌, ◌++◌, length, take, get_or, refl, ap, sym, subst, ◌∙◌, inl, inr, arith, Bor, add-one}
+use Rattle.std.proofs.Common.{◌≢◌}
+use Rattle.std.specs.Prelude.{codes, Result, Ok, Err, IfErr}
+use Rattle.std.specs.List.{All}
+use Rattle.std.proofs.lemmas.List.{length-take-le}
+use Rattle.std.proofs.Math.Seq.{take-suc}
+use Rattle.clif_script.specs.declared.call.Call.{Call}
 use Rattle.clif_text.specs.Cursor.{texts}
 use Rattle.clif_text.specs.Grammar.{Names, IsCall}
-use Rattle.clif_text.specs.Words.{AreWords}
-use Rattle.clif_text.specs.Script.{lines_of, line_at, IsLineNumber, IsCallLine, AreCallLines}
-use Rattle.clif_text.specs.Reader.{Adds, MayAdd}
+use Rattle.clif_text.specs.Words.{AreWords, HasWord}
+use Rattle.clif_text.specs.declared.error.LineError.{LineError}
+use Rattle.clif_text.specs.declared.error.LineError.TheVariants as fault
+use Rattle.clif_text.specs.Errors.{error_at}
+use Rattle.clif_text.specs.Reader.{RefusesWords}
+use Rattle.clif_text.specs.Script.{lines_of, line_at, IsLineNumber, IsHeaderWord, Said, said, SaysCall, LineSays, LinesSay, TellsLine}
 use Rattle.clif_text.proofs.Left.{length-texts}
 use Rattle.clif_text.proofs.Texts.{get_or-texts}
 
+-- the same calls and numbers
+pub same_said : (calls others : List Call) (numbers lines : List ℕ) → calls ≡ others → numbers ≡ lines → said calls numbers ≡ said others lines
+same_said calls others numbers lines e f = ap (λ c. said c numbers) e ∙ ap (λ n. said others n) f
+
 -- a call behind `=` is the line's
-pub added_behind : (line : List ℕ) (words given rest : List (List ℕ)) (number : ℕ) (old new : Reader) → AreWords words line → words ≡ given ++ codes "=" ∷ rest → Adds (λ call. (names : Names) × IsCall names rest call) number old new → MayAdd line number old new
-added_behind line words given rest number old new are parts added = inr (record {
-  call = added.call;
-  calls = added.calls;
-  lines = added.lines;
-  stands = (added.stands.0, words, are, inr (given, rest, parts, added.stands.1));
+pub says_behind : (line : List ℕ) (words given rest : List (List ℕ)) (number : ℕ) (old new : Said) → AreWords words line → words ≡ given ++ codes "=" ∷ rest → SaysCall (λ call. (names : Names) × IsCall names rest call) number old new → LineSays number line old new
+says_behind line words given rest number old new are parts says = inr (record {
+  call = says.call;
+  stands = (says.stands.0, words, are, inr (given, rest, parts, says.stands.1));
+  more = says.more;
 })
 
--- and so is one without `=`
-pub added_alone : (line : List ℕ) (words : List (List ℕ)) (number : ℕ) (old new : Reader) → AreWords words line → Adds (λ call. (names : Names) × IsCall names words call) number old new → MayAdd line number old new
-added_alone line words number old new are added = inr (record {
-  call = added.call;
-  calls = added.calls;
-  lines = added.lines;
-  stands = (added.stands.0, words, are, inl added.stands.1);
-})
+-- a header line says no call
+pub says_header : (line : List ℕ) (words : List (List ℕ)) (head : List ℕ) (rest : List (List ℕ)) (number : ℕ) (state : Said) → AreWords words line → words ≡ head ∷ rest → IsHeaderWord head → All (λ word. word ≢ codes "=") words → LineSays number line state state
+says_header line words head rest number state are parts header others = inl (inr (head, rest, subst (λ ws. AreWords ws line) parts are, header, subst (λ ws. All (λ word. word ≢ codes "=") ws) parts others), refl)
 
-zip-push : {A B : Type 0} (R : A → B → Type 0) (xs : List A) (ys : List B) (x : A) (y : B) → AllZip R xs ys → R x y → AllZip R (xs ++ x ∷ []) (ys ++ y ∷ [])
-zip-push R [] [] x y all one = (one, tt)
-zip-push R [] (b ∷ ys) x y all one = absurd all
-zip-push R (a ∷ xs) [] x y all one = absurd all
-zip-push R (a ∷ xs) (b ∷ ys) x y all one = (all.0, zip-push R xs ys x y all.1 one)
+-- the line has a word
+pub has_first : (line : List ℕ) (words : List (List ℕ)) (word : List ℕ) (rest : List (List ℕ)) → AreWords words line → words ≡ word ∷ rest → HasWord line
+has_first line words word rest are parts = record { word = word; words = rest; are = subst (λ ws. AreWords ws line) parts are }
 
--- the calls stand on their lines, after one more line
-pub lines_more : (text line : List ℕ) (number : ℕ) (old new : Reader) → AreCallLines text old.calls.items old.lines.items → IsLineNumber text number → line ≡ line_at text number → MayAdd line number old new → AreCallLines text new.calls.items new.lines.items
-lines_more text line number old new before is here (inl keeps) =
-    subst (λ calls. AreCallLines text calls new.lines.items) (sym keeps.calls) (subst (λ lines. AreCallLines text old.calls.items lines) (sym keeps.lines) before)
-lines_more text line number old new before is here (inr adds) =
-    let one : IsLineNumber text number × IsCallLine (line_at text number) adds.call = (is, subst (λ at. IsCallLine at adds.call) here adds.stands) in
-    let more = zip-push (λ call n. IsLineNumber text n × IsCallLine (line_at text n) call) old.calls.items old.lines.items adds.call number before one in
-    subst (λ calls. AreCallLines text calls new.lines.items) (sym adds.calls) (subst (λ lines. AreCallLines text (old.calls.items ++ adds.call ∷ []) lines) (sym adds.lines) more)
+pub has_one : (line : List ℕ) (words given : List (List ℕ)) (word : List ℕ) (rest : List (List ℕ)) → AreWords words line → words ≡ given ++ word ∷ rest → HasWord line
+has_one line words [] word rest are parts = has_first line words word rest are parts
+has_one line words (first ∷ given) word rest are parts = has_first line words first (given ++ word ∷ rest) are parts
+
+-- whatever it is refused for
+pub refuses_words : (line : List ℕ) (error : LineError) → HasWord line → RefusesWords line error
+refuses_words line fault.Memory has = tt
+refuses_words line (fault.Fault why) has = has
+
+pub may_refuse_words : {T : Type 0} (line : List ℕ) (result : Result T LineError) → HasWord line → IfErr result (RefusesWords line)
+may_refuse_words line (Ok value) has = tt
+may_refuse_words line (Err error) has = refuses_words line error has
+
+-- one line more at the end
+says_more : (number at : ℕ) (lines : List (List ℕ)) (line : List ℕ) (old mid new : Said) → at ≡ number + length lines → LinesSay number lines old mid → LineSays at line mid new → LinesSay number (lines ++ line ∷ []) old new
+says_more number at [] line old mid new is same one =
+    let here : at ≡ number = is ∙ omega arith in
+    (new, subst (λ n. LineSays n line old new) here (subst (λ s. LineSays at line s new) same one), refl)
+says_more number at (first ∷ lines) line old mid new is says one =
+    (says.0, says.1, says_more (number + 1) at lines line says.0 mid new (is ∙ omega arith) says.2 one)
+
+-- the line at an index, behind those before it
+pub lines_more : (text line : List ℕ) (index : ℕ) (old new : Said) → index < length (lines_of text) → line ≡ line_at text (index + 1) → LinesSay 1 (take index (lines_of text)) (said [] []) old → LineSays (index + 1) line old new → LinesSay 1 (take (index + 1) (lines_of text)) (said [] []) new
+lines_more text line index old new inside here before one =
+    let lines = lines_of text in
+    let one_more : take (index + 1) lines ≡ take index lines ++ line ∷ [] = rw add-one (take-suc lines index [] inside ∙ ap (λ l. take index lines ++ l ∷ []) (ap (λ k. get_or lines k []) (omega arith) ∙ sym here)) in
+    let at : index + 1 ≡ 1 + length (take index lines) = omega (arith, length-take-le index lines (omega arith)) in
+    subst (λ ls. LinesSay 1 ls (said [] []) new) (sym one_more) (says_more 1 (index + 1) (take index lines) line (said [] []) old new at before one)
+
+-- as many lines as the text has
+pub lines_count : (text : List ℕ) (lines : List (Bor (List ℕ))) → texts lines ≡ lines_of text → length lines ≡ length (lines_of text)
+lines_count text lines all = sym (length-texts lines) ∙ ap length all
 
 -- the line at an index, by its number
 pub numbered : (text : List ℕ) (lines : List (Bor (List ℕ))) (index : ℕ) → texts lines ≡ lines_of text → index < length lines → IsLineNumber text (index + 1)
 numbered text lines index all inside = record {
   first = omega arith;
-  last = let e : length lines ≡ length (lines_of text) = sym (length-texts lines) ∙ ap length all in omega arith;
+  last = let e : length lines ≡ length (lines_of text) = lines_count text lines all in omega arith;
 }
 
 pub line_here : (text : List ℕ) (lines : List (Bor (List ℕ))) (index : ℕ) (d : Bor (List ℕ)) → texts lines ≡ lines_of text → d.now ≡ [] → (get_or lines index d).now ≡ line_at text (index + 1)
 line_here text lines index d all none =
     get_or-texts lines index d ∙ (ap (λ e. get_or (texts lines) index e) none ∙ (ap (λ ls. get_or ls index []) all ∙ ap (λ k. get_or (lines_of text) k []) (omega arith)))
+
+-- a line that was refused, behind those that were read
+pub tells_line : (text line : List ℕ) (index : ℕ) (error : LineError) (before : Said) → IsLineNumber text (index + 1) → line ≡ line_at text (index + 1) → LinesSay 1 (take index (lines_of text)) (said [] []) before → RefusesWords line error → TellsLine text (error_at error (index + 1))
+tells_line text line index fault.Memory before within here says has = tt
+tells_line text line index (fault.Fault why) before within here says has =
+    let at : index ≡ index + 1 - 1 = omega arith in record {
+      within = within;
+      has_word = subst HasWord here has;
+      before = before;
+      read_before = subst (λ n. LinesSay 1 (take n (lines_of text)) (said [] []) before) at says;
+    }

@@ -1,7 +1,11 @@
 -- The texts of words: those before and behind one, and one of them.
-use Rattle.std.proofs.Common.{◌≡◌, ℕ, ◌+◌, ◌-◌, ◌<◌, List, [], ◌∷◌, ◌++◌, length, take, drop, refl, sym, ◌∙◌, ap, arith, get_or, Bor, add-one, zero, suc}
+use Rattle.std.proofs.Common.{◌≡◌, ◌≢◌, ℕ, ◌+◌, ◌-◌, ◌<◌, List, [], ◌∷◌, ◌++◌, length, take, drop, refl, sym, ◌∙◌, ap, arith, get_or, Bor, add-one, zero, suc, subst, false}
+use Rattle.std.specs.Prelude.{nat_eq}
+use Rattle.std.specs.List.{All}
+use Rattle.std.specs.Cmp.Lexicographic.{pointwise, other_text}
 use Rattle.std.proofs.lemmas.List.{length-drop, take-append-drop, take_all}
-use Rattle.std.proofs.Math.Seq.{drop-cons}
+use Rattle.std.proofs.lemmas.List.Elements.{All-push}
+use Rattle.std.proofs.Math.Seq.{drop-cons, take-suc}
 use Rattle.clif_text.specs.Cursor.{texts}
 
 texts-append : (xs ys : List (Bor (List ℕ))) → texts (xs ++ ys) ≡ texts xs ++ texts ys
@@ -20,3 +24,10 @@ pub get_or-texts : (words : List (Bor (List ℕ))) (n : ℕ) (d : Bor (List ℕ)
 get_or-texts [] n d = refl
 get_or-texts (word ∷ words) zero d = refl
 get_or-texts (word ∷ words) (suc n) d = get_or-texts words n d
+
+-- one more of the words is another one
+pub others_more : (text : List ℕ) (words : List (Bor (List ℕ))) (n : ℕ) (d : Bor (List ℕ)) → n < length words → All (λ word. word ≢ text) (texts (take n words)) → false ≡ pointwise nat_eq (get_or words n d).now text → All (λ word. word ≢ text) (texts (take (n + 1) words))
+others_more text words n d inside before other =
+    let word = get_or words n d in
+    let one_more : texts (take (n + 1) words) ≡ texts (take n words) ++ word.now ∷ [] = rw add-one (ap texts (take-suc words n d inside) ∙ texts-append (take n words) (word ∷ [])) in
+    subst (λ ws. All (λ w. w ≢ text) ws) (sym one_more) (All-push (λ w. w ≢ text) (texts (take n words)) word.now before (other_text word.now text other))

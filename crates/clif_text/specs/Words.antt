@@ -32,3 +32,9 @@ EndsLine text = (blanks rest : List ℕ) × (text ≡ blanks ++ rest) × AllOf B
 abbrev pub AreWords : List (List ℕ) → List ℕ → Type 0
 AreWords [] line = EndsLine line
 AreWords (word ∷ words) line = (blanks rest : List ℕ) × (line ≡ blanks ++ (word ++ rest)) × AllOf Blank blanks × IsWord word rest × AreWords words rest
+
+-- the line has a word
+pub record HasWord (line : List ℕ) : Type 0 where
+  pub word : List ℕ
+  pub words : List (List ℕ)
+  pub are : AreWords (word ∷ words) line

@@ -1,5 +1,6 @@
 //! Why a text is no script.
-ghost use Rattle.std.specs.Prelude.{Some};
+ghost use Rattle.std.specs.Prelude.{◌≡◌, Some};
+ghost use Rattle.clif_text.specs.declared.error.LineError.TheVariants as line_error;
 ghost use Rattle.clif_text.specs.Errors.{expected_text, fault_text, read_error_text};
 
 use std::alloc::{AllocError, AllocFailed};
@@ -146,12 +147,16 @@ impl<'a> From<Fault<'a>> for LineError<'a> {
 }
 
 impl From<AllocError> for LineError<'_> {
+    ghost from_gives = { λ _ error. error ≡ line_error.Memory };
+
     fn from(_error: AllocError) -> Self {
         LineError::Memory
     }
 }
 
 impl<T: Drop> From<AllocFailed<T>> for LineError<'_> {
+    ghost from_gives = { λ _ error. error ≡ line_error.Memory };
+
     fn from(_error: AllocFailed<T>) -> Self {
         LineError::Memory
     }

@@ -1,4 +1,7 @@
 //! The header lines: the function's name and signature, and the configuration.
+ghost use Rattle.std.specs.Prelude.{OnOk};
+ghost use Rattle.clif_text.specs.Script.{IsHeaderWord};
+
 use crate::cursor::Cursor;
 use crate::error::{Expected, Fault, LineError};
 use crate::number::short_decimal;
@@ -34,7 +37,9 @@ impl Header {
         alloc: Global,
         head: &'a str,
         rest: &[&'a str],
-    ) -> Result<(), LineError<'a>> {
+    ) -> Result<(), LineError<'a>>
+        ensures { OnOk result (IsHeaderWord head.now) }
+    {
         let mut words = Cursor::new(rest);
         let repeated = match head {
             "function" => {

@@ -1,5 +1,6 @@
 //! A script's text, read line by line.
-ghost use Rattle.std.specs.Prelude.{◌≡◌, ◌++◌, ◌∷◌, [], IfOk, IfErr, IfSome, codes};
+ghost use Rattle.std.specs.Prelude.{◌≡◌, ◌≢◌, ◌++◌, ◌∷◌, [], IfOk, IfErr, IfNone, IfSome, codes};
+ghost use Rattle.std.specs.List.{All};
 ghost use Rattle.clif_text.specs.Cursor.{texts};
 ghost use Rattle.clif_text.specs.Script as script;
 
@@ -40,7 +41,7 @@ struct Reader<'a> {
 impl<'a> Reader<'a> {
     ghost use Rattle.std.specs.Prelude.{OnOk};
     ghost use Rattle.clif_text.specs.Grammar.{IsCall, Names};
-    ghost use Rattle.clif_text.specs.Reader.{Adds, MayAdd};
+    ghost use Rattle.clif_text.specs.Reader.{RefusesWords, said_to};
 
     fn new(alloc: Global) -> Reader<'a>
         ensures calls { result.calls.items ≡ [] }
@@ -80,7 +81,8 @@ impl<'a> Reader<'a> {
 
     // Reads the line of this number.
     fn line(&mut self, number: usize, line: &'a str) -> Result<(), LineError<'a>>
-        ensures { OnOk result (MayAdd line.now number self.old self.new) }
+        ensures ok { OnOk result (script.LineSays number line.now (said_to self.old) (said_to self.new)) }
+        ensures err { IfErr result (RefusesWords line.now) }
     {
         let words = words_of(self.alloc, line)?;
         let words = words.as_slice();
@@ -104,7 +106,7 @@ impl<'a> Reader<'a> {
         names: &[&'a str],
         words: &[&'a str],
     ) -> Result<(), LineError<'a>>
-        ensures { OnOk result (Adds (λ call. (names : Names) × IsCall names (texts words.now) call) number self.old self.new) }
+        ensures { OnOk result (script.SaysCall (λ call. (names : Names) × IsCall names (texts words.now) call) number (said_to self.old) (said_to self.new)) }
     {
         let call = call_of(self.alloc, words, &self.scope)?;
         let answers = answers_of(&call);
@@ -142,7 +144,8 @@ fn give_names<'a>(
 
 // The words before the first `=` and those behind it, if there is one.
 fn parts_at_equals<'w, 'a>(words: &'w [&'a str]) -> Option<(&'w [&'a str], &'w [&'a str])>
-    ensures { IfSome result (λ parts. texts words.now ≡ texts parts.0.now ++ (codes "=" ∷ texts parts.1.now)) }
+    ensures some { IfSome result (λ parts. texts words.now ≡ texts parts.0.now ++ (codes "=" ∷ texts parts.1.now)) }
+    ensures none { IfNone result (All (λ word. word ≢ codes "=") (texts words.now)) }
 {
     for (index, word) in words.iter().enumerate() {
         if *word == "=" {

@@ -105,6 +105,9 @@ impl fmt::Display for CallText<'_> {
 }
 
 /// A script of these calls, for a function with this name and signature on this target.
+///
+/// The name is written as it is. So a name that is a text is read back only if it isn't empty and has no blank
+/// (a space, a comma, a tab, a carriage return or a form feed), no `(`, `)`, `=` or `#`, and no end of a line.
 pub fn write(
     alloc: Global,
     name: &UserFuncName,

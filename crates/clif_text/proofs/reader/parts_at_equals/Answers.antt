@@ -1,7 +1,10 @@
 use Rattle.std.specs.Prelude.{codes}
 use Rattle.std.specs.Cmp.Lexicographic.{same_text}
-use Rattle.clif_text.proofs.Texts.{texts_at}
+use Rattle.clif_text.proofs.Texts.{texts_at, others_more}
 use Rattle.clif_text.proofs.reader.parts_at_equals.Goals as goal
 
-pub returns-then-eq : goal.returns-then-eq
-returns-then-eq c = texts_at c.args.words.now c.loop-index.index _ (codes "=") c.loop-index-test.true (same_text _ _ c.if-eq.ensures)
+pub returns-then-eq-clause-some : goal.returns-then-eq-clause-some
+returns-then-eq-clause-some c = texts_at c.args.words.now c.loop-index.index _ (codes "=") c.loop-index-test.true (same_text _ _ c.if-eq.ensures)
+
+pub loop-index-preserved : goal.loop-index-preserved
+loop-index-preserved c = others_more (codes "=") c.args.words.now c.loop-index.index _ c.loop-index-test.true c.loop-index.invariant c.if-eq.ensures

@@ -1,13 +1,28 @@
-use Rattle.std.proofs.Common.{refl, ap, ◌∙◌}
+use Rattle.std.proofs.Common.{refl, ap, sym, subst, ◌∙◌, arith}
 use Rattle.clif_text.specs.Cursor.{texts}
-use Rattle.clif_text.proofs.Reading.{lines_more, numbered, line_here}
+use Rattle.clif_text.specs.Reader.{said_to}
+use Rattle.clif_text.specs.Script.{TellsLine}
+use Rattle.clif_text.proofs.Reading.{lines_more, lines_count, numbered, line_here, tells_line}
 use Rattle.clif_text.proofs.reader.read.Goals as goal
 
 pub loop-index-preserved : goal.loop-index-preserved
 loop-index-preserved c =
     let lines = c.deref-line-items.result.now in
     let all = ap texts c.deref-line-items.ensures.value ∙ c.in-Ok.ensures in
-    lines_more c.args.text.now _ _ c.loop-index.reader c.line.new.self c.loop-index.invariant
-    (numbered c.args.text.now lines c.loop-index.index all c.loop-index-test.true)
+    lines_more c.args.text.now _ c.loop-index.index (said_to c.loop-index.reader) (said_to c.line.new.self)
+    (omega (arith, lines_count c.args.text.now lines all, c.loop-index-test.true))
     (line_here c.args.text.now lines c.loop-index.index _ all refl)
-    c.in_default-line.ensures
+    c.loop-index.invariant
+    c.in_default-line.ensures.ok
+
+pub returns-in-Err-clause-line : goal.returns-in-Err-clause-line
+returns-in-Err-clause-line c =
+    let text = c.args.text.now in
+    let lines = c.deref-line-items.result.now in
+    let all = ap texts c.deref-line-items.ensures.value ∙ c.in-Ok.ensures in
+    let tells = tells_line text _ c.loop-index.index c.in-Err.error (said_to c.loop-index.reader)
+    (numbered text lines c.loop-index.index all c.loop-index-test.true)
+    (line_here text lines c.loop-index.index _ all refl)
+    c.loop-index.invariant
+    c.in-Err.ensures.err in
+    subst (TellsLine text) (sym c.at.ensures) tells

@@ -1,6 +1,8 @@
--- The calls so far stand on the lines so far.
-use Rattle.clif_text.specs.Script.{AreCallLines}
+-- What the lines so far said.
+use Rattle.std.proofs.Common.{take, []}
+use Rattle.clif_text.specs.Reader.{said_to}
+use Rattle.clif_text.specs.Script.{lines_of, said, LinesSay}
 use Rattle.clif_text.proofs.reader.read.Given as goal
 
 abbrev pub invariant-loop-index : goal.invariant-loop-index
-invariant-loop-index l = AreCallLines l.text l.reader.calls.items l.reader.lines.items
+invariant-loop-index l = LinesSay 1 (take l.index (lines_of l.text)) (said [] []) (said_to l.reader)
