@@ -88,7 +88,7 @@ module _ (calls : List AnsweredCall) (f : Body) (s : SsaState) (consistent : IsC
     parameters = (program_so_far calls).parameters B
 
     -- the caller's answer those of the program's block
-    own_parameters : carries.own.params b ≡ map (answered calls) parameters
+    pub own_parameters : carries.own.params b ≡ map (answered calls) parameters
     own_parameters = carries.parameters b ∙ ap (λ (o : Option Name). map (answered calls) (callers_parameters calls o)) named
 
     pub parameter_named : (x : Name) → In x parameters → carries.tables.naming (code x) ≡ record { home = front b; origin = fresh }

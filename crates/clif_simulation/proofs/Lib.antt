@@ -32,6 +32,7 @@ mod Counted
 mod Reaching
 mod Alongside
 mod Setting
+mod SoFar
 pub mod RightReading
 -- With branches, beside interrupted runs.
 mod Interrupting

@@ -16,8 +16,8 @@ use Rattle.cranelift_frontend.specs.StandsFor.{StandsIn}
 
 -- Where the parts of a builder stand for a list of calls, they read right on runs and bits, with any branches and parameters of
 -- the caller's: beside a run of the list's program that is interrupted at unsealed blocks, a run of the unfinished function has
--- the bits of the names and, at a block's end so far, of the variables. Each function is consistent
--- (`Function::law_consistent`).
+-- the bits of the names and, at a block's end so far, of the variables. Edges into unsealed or pristine blocks need not match
+-- yet. Each function is consistent (`Function::law_consistent`).
 abbrev pub StandingReadsRight : Type 0
 StandingReadsRight =
     (declared : SignatureShape) (calls : List AnsweredCall) (f : Body) (c : ContextState) (position : Option ℕ)

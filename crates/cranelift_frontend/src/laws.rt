@@ -10,7 +10,8 @@ pub fn uses_agree()
 {}
 
 /// The unfinished function of a builder that stands for a list of calls has the bits of the names and variables of the
-/// list's program, with any branches and parameters of the caller's, beside each run that is interrupted at unsealed blocks.
+/// list's program, with any branches and parameters of the caller's, beside each run that is interrupted at unsealed blocks;
+/// edges into unsealed or pristine blocks need not match yet.
 pub fn standing_reads_right()
     ensures { StandingReadsRight }
 {}
