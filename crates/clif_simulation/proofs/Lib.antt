@@ -83,6 +83,7 @@ mod LoopWrong
 mod LoopArgument
 mod LoopRow
 mod LoopConsistent
+mod EarlyJump
 mod LoopAlong
 mod LoopPremises
 mod SamplePremises

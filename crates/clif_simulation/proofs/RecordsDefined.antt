@@ -1,5 +1,5 @@
 -- What a builder recorded, and what answered uses, is defined before the ends of blocks and before the uses, on each path of
--- a finished function that carries a list of calls.
+-- a function that carries a list of calls, finished or not.
 use Rattle.std.proofs.Common.{◌≡◌, ◌⊎◌, ℕ, zero, suc, ◌+◌, ◌<◌, ◌≤◌, ◌==◌, cond, Bool, true, List, [], ◌∷◌, length, drop, slice_get, Some, None, inl, inr, refl, sym, ◌∙◌, ap, subst, arith}
 use Rattle.std.proofs.lemmas.Bool.Decides.{nat_tests}
 use Rattle.clif_ir.specs.Body.{Body, block_at, resolved}

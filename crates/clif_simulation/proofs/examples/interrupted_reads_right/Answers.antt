@@ -1,3 +1,4 @@
+use Rattle.clif_simulation.proofs.EarlyJump
 use Rattle.clif_simulation.proofs.HalfRowAlong
 use Rattle.clif_simulation.proofs.LoopAlong
 use Rattle.clif_simulation.proofs.LoopConsistent
@@ -23,4 +24,7 @@ returns c = record {
   waiting_loop_none_waiting = LoopWaiting.none_waiting;
   passing_loop_reads_right = LoopPassing.reads_right;
   passing_loop_other_argument = LoopPassing.other_argument;
+  early_jump_premises = EarlyJump.premises;
+  early_jump_settled = EarlyJump.settled;
+  early_jump_reads_right = EarlyJump.reads_right;
 }
