@@ -1,5 +1,5 @@
--- A finished function that carries a list of calls is well placed: names by the theory's conclusion on them, and what the
--- construction passes by that on the arguments of parameters.
+-- A function that carries a list of calls is well placed, finished or not: names by the theory's conclusion on them, and what
+-- the construction passes by that on the arguments of parameters.
 use Rattle.std.proofs.Common.{◌≡◌, ◌⊎◌, ℕ, zero, suc, ◌+◌, ◌<◌, List, [], ◌∷◌, ◌++◌, length, map, flat_map, slice_get, Option, Some, Contains, inl, inr, refl, sym, ◌∙◌, ap, subst, arith}
 use Rattle.std.specs.Prelude.{slice_index}
 use Rattle.std.proofs.lemmas.Option.{slice_get_within, get_or_from_slice_get}
@@ -13,43 +13,40 @@ use Rattle.clif_ir.specs.declared.block_call.BlockCall.{BlockCall}
 use Rattle.clif_ir.specs.declared.instructions.InstructionData.{InstructionData}
 use Rattle.clif_ir.proofs.Aliases.{follow-inside}
 use Rattle.clif_ir.proofs.Keeps.{leads_inside}
-use Rattle.clif_paths.specs.Places.{inside, Visits, Dominates}
+use Rattle.clif_paths.specs.Places.{inside, Edges, Visits, Dominates}
 use Rattle.clif_paths.specs.State.{Definition, home_of}
 use Rattle.clif_paths.specs.Blocks.{state_of}
 use Rattle.clif_paths.specs.Sound.{SoundUnder}
 use Rattle.clif_paths.proofs.PathLemmas.{visits_through}
-use Rattle.clif_paths.proofs.Concluding.{arms_allowed}
 use Rattle.clif_ssa.specs.Ssa.{SsaState}
-use Rattle.clif_ssa.specs.Sound.{args_of, passed_at}
+use Rattle.clif_ssa.specs.Sound.{IsCounted, args_of, passed_at, passed_count}
 use Rattle.clif_ssa.proofs.Alike.{unaliased_home}
 use Rattle.clif_ssa.proofs.Housing.{place_at}
 use Rattle.clif_ssa.proofs.Losing.{stands_home}
 use Rattle.clif_meaning.specs.Name.{Name}
-use Rattle.clif_meaning.specs.Request.{AnsweredCall, script_of}
-use Rattle.clif_meaning.specs.Ledger.{ledger_after}
+use Rattle.clif_meaning.specs.Request.{AnsweredCall}
 use Rattle.clif_meaning.specs.Instruction.{Argument, Known, CallResult, CallPayload, Edge, Instruction}
 use Rattle.clif_meaning.specs.Program.{Item, Instruct}
 use Rattle.clif_meaning.specs.FunctionView.{Placed}
 use Rattle.clif_meaning.specs.View.{argument_of, edge_of, edges_of, items_of, view_of}
-use Rattle.clif_meaning.specs.Premises.{EachItem, HasGoodTargets}
 use Rattle.clif_meaning.specs.Path.{Place, IsPath}
 use Rattle.clif_meaning.specs.WellPlaced.{function_flow, known_argument, passed_operands, item_gives, item_passes, placed_names, placed_passes, placed_gives, program_code, IsGivenBefore, IsWellPlaced, WellPlaced}
 use Rattle.clif_meaning.proofs.StraightLine.{none_of}
 use Rattle.clif_simulation.specs.Tables.{code, answered, program_so_far}
 use Rattle.clif_simulation.specs.Carries.{answered_argument}
-use Rattle.clif_simulation.specs.Laws.{IsFinished}
 use Rattle.clif_simulation.proofs.Whole.{Whole}
 use Rattle.clif_simulation.proofs.Beside
-use Rattle.clif_simulation.proofs.Edges
+use Rattle.clif_simulation.proofs.OpenArms.{open_arms}
+use Rattle.clif_simulation.proofs.OpenFlow
+use Rattle.clif_simulation.proofs.IntoBlock
 use Rattle.clif_simulation.proofs.Entry.{resolved_twice}
-use Rattle.clif_simulation.proofs.Flow
 use Rattle.clif_simulation.proofs.Flow.{IsGivenOn, at_index}
 use Rattle.clif_simulation.proofs.Giving.{In, contained_in, in_contained}
 use Rattle.clif_simulation.proofs.InLists.{among_all, in_either}
 use Rattle.clif_simulation.proofs.Listed.{none_mapped, place_within}
 use Rattle.clif_simulation.proofs.OwnEdges
 use Rattle.clif_simulation.proofs.Placing.{contained, contained_at, in_two, map_at, map_from}
-use Rattle.clif_simulation.proofs.Straight.{arms, next_arm}
+use Rattle.clif_simulation.proofs.Straight.{next_arm}
 
 -- Lists -----------------------------------------------------------------------------------------------------------------
 
@@ -125,24 +122,24 @@ no_item (y ∷ xs) k x none is = cc
 same_value : (v w : ℕ) → Some (Value v) ≡ Some (Value w) → v ≡ w
 same_value v w h = cc
 
-module _ (calls : List AnsweredCall) (f : Body) (s : SsaState) (consistent : IsConsistent f) (carries : Whole calls f s) (finished : IsFinished calls f s)
+module _ (calls : List AnsweredCall) (f : Body) (s : SsaState) (consistent : IsConsistent f) (carries : Whole calls f s)
     (placed : IsWellPlaced (program_code (program_so_far calls)))
-    (targets : EachItem (HasGoodTargets (ledger_after (script_of calls)) (program_so_far calls)) (program_so_far calls))
   where
-    -- a path along the known arms beside one of the function's places
+    -- a path along the edges so far beside one of the function's places
     abbrev pub Stood : Place ℕ → List (Place ℕ) → Name → ℕ → ℕ → Type 0
-    Stood = Beside.IsBeside calls f s consistent carries finished placed targets
+    Stood = Beside.IsBeside calls f s consistent carries
 
     abbrev pub AtOwn : Place ℕ → List (Place ℕ) → Name → Type 0
-    AtOwn = Beside.AtInstruct calls f s consistent carries finished placed targets
+    AtOwn = Beside.AtInstruct calls f s consistent carries
 
     abbrev pub IsFor : Place ℕ → List (Place ℕ) → ℕ → Type 0
-    IsFor = Beside.IsGivenFor calls f s consistent carries finished placed targets
+    IsFor = Beside.IsGivenFor calls f s consistent carries
 
-    pub under : SoundUnder (arms carries.tables) (state_of carries.tables)
-    under =
-        carries.sound.sound.under (arms carries.tables)
-        (arms_allowed (state_of carries.tables) carries.sound.sound (record { given_before = Flow.at_place calls f s consistent carries placed }))
+    abbrev edges : Edges
+    edges = open_arms f s carries.tables
+
+    pub under : SoundUnder edges (state_of carries.tables)
+    under = OpenFlow.under calls f s consistent carries placed
 
     -- What a path along the arms has come to ------------------------------------------------------------------------------------
 
@@ -153,7 +150,7 @@ module _ (calls : List AnsweredCall) (f : Body) (s : SsaState) (consistent : IsC
         by (b.given (resolved f v) (follow-inside f.values (length f.values) v (leads_inside f consistent) exists) (resolved_twice f v consistent)
         (subst (λ (w : ℕ). Visits (carries.tables.function.definition w).home b.along) (carries.describes.resolves v) visits))
       where
-        by : IsFor q path (resolved f v) ⊎ Beside.IsAhead calls f s consistent carries finished placed targets q 0 (resolved f v) → IsFor q path (resolved f v)
+        by : IsFor q path (resolved f v) ⊎ Beside.IsAhead calls f s consistent carries q 0 (resolved f v) → IsFor q path (resolved f v)
         by (inl given) = given
         by (inr ahead) = absurd (omega (arith, ahead.from, ahead.below))
 
@@ -175,18 +172,18 @@ module _ (calls : List AnsweredCall) (f : Body) (s : SsaState) (consistent : IsC
         let value = map_from (resolved f) (operands (inst_at f a.i).shape) there.0 x there.1 in
         let same : operands (inst_at f a.i).shape ≡ map (answered calls) a.item.instruction.operands = ap (λ (p : Placed). p.instruction.operands) a.is_item in
         let of_name = map_from (answered calls) a.item.instruction.operands there.0 value.0 (ap (λ (vs : List ℕ). slice_get vs there.0) (sym same) ∙ value.1) in
-        let on = Flow.named_before calls f s consistent carries placed a.is.along q.block a.j name a.is.follows a.is.ends a.is.named
+        let on = OpenFlow.named_before calls f s consistent carries placed a.is.along q.block a.j name a.is.follows a.is.ends a.is.named
         (Instruct a.item.place a.item.instruction a.item.results) a.item.stands of_name.0 (contained a.item.instruction.operands there.0 of_name.0 of_name.1) in
         subst (IsFor q path) (ap (resolved f) of_name.2 ∙ value.2) (answer_given q path name a.j a.is of_name.0 on)
 
     named : (q : Place ℕ) (x : ℕ) → Contains (placed_names (resolved f) (slice_get (items_of f q.block) q.index)) x
         → (path : List (Place ℕ)) → IsPath (function_flow (view_of f)) (q ∷ path) → IsFor q path x
     named q x names path walk =
-        let standing = Beside.beside calls f s consistent carries finished placed targets path q walk in
-        by standing.name (Beside.what_stands calls f s consistent carries finished placed targets q path standing.name standing.k standing.left standing.is
-        (Beside.within calls f s consistent carries finished placed targets path q walk))
+        let standing = Beside.beside calls f s consistent carries path q walk in
+        by standing.name (Beside.what_stands calls f s consistent carries q path standing.name standing.k standing.left standing.is
+        (Beside.within calls f s consistent carries path q walk))
       where
-        by : (name : Name) → Beside.AtZero calls f s consistent carries finished placed targets q ⊎ AtOwn q path name → IsFor q path x
+        by : (name : Name) → Beside.AtZero calls f s consistent carries q ⊎ AtOwn q path name → IsFor q path x
         by name (inl z) =
             absurd (none_of (placed_names (resolved f) (slice_get (items_of f q.block) q.index)) x
             (ap (placed_names (resolved f)) z.here ∙ ap (λ (shape : InstructionData). map (resolved f) (operands shape)) z.is_zero.shape) names)
@@ -228,7 +225,7 @@ module _ (calls : List AnsweredCall) (f : Body) (s : SsaState) (consistent : IsC
       no_results : (inst_at f a.i).results ≡ []
       no_results = consistent.edges_without_results a.i (λ none. no_item (destinations (inst_at f a.i).shape) is.n is.call none is.stands)
 
-      gives_none : (r : ℕ) → Contains ((Beside.of_function calls f s consistent carries finished placed targets).gives q) r → ⊥
+      gives_none : (r : ℕ) → Contains ((Beside.of_function calls f s consistent carries).gives q) r → ⊥
       gives_none r gives =
           none_of (placed_gives (slice_get (items_of f q.block) q.index)) r (ap placed_gives a.here ∙ no_results) gives
 
@@ -242,7 +239,7 @@ module _ (calls : List AnsweredCall) (f : Body) (s : SsaState) (consistent : IsC
       -- what the caller passed
       of_caller : slice_get (carries.own.passed a.i is.n) is.j ≡ Some (Value v) → IsFor q path (resolved f v)
       of_caller passes =
-          let edge = Beside.of_program calls f s consistent carries finished placed targets q path name a is.n is.call is.stands in
+          let edge = Beside.of_program calls f s consistent carries q path name a is.n is.call is.stands in
           let there = OwnEdges.edge_in_function calls f s consistent carries a.i a.item.instruction a.item.results a.is_item is.n edge.0 edge.1 in
           let one = name_passed calls edge.0 (carries.own.passed a.i is.n) is.j v there.passed passes in
           let passed : Contains (item_passes (Some (Instruct a.item.place a.item.instruction a.item.results))) one.0 =
@@ -257,14 +254,14 @@ module _ (calls : List AnsweredCall) (f : Body) (s : SsaState) (consistent : IsC
               absurd (none_of a.item.results x (none_mapped (answered calls) a.item.results (sym results ∙ no_results))
               (subst (λ (o : Option Item). Contains (item_gives o) x) a.item.stands gives))
           by x (inr before) =
-              Flow.given_before calls f s consistent carries a.is.along q.block a.j name a.is.follows a.is.ends a.is.named
-              (place_within ((program_so_far calls).items name) a.j (Instruct a.item.place a.item.instruction a.item.results) a.item.stands) x before
+              OpenFlow.given_before_item calls f s consistent carries a.is.along q.block a.j name a.is.follows a.is.ends a.is.named x
+              (place_within ((program_so_far calls).items name) a.j (Instruct a.item.place a.item.instruction a.item.results) a.item.stands) before
 
       -- what belongs to a parameter of a variable
       of_variable : (m : ℕ) → is.j ≡ length (carries.own.passed a.i is.n) + m → IsFor q path (resolved f v)
       of_variable m behind =
-          let leads = Beside.leads calls f s consistent carries finished placed targets q path name a is.n is.call is.stands in
-          let to = Beside.to calls f s consistent carries finished placed targets q path name a is.n is.call is.stands in
+          let leads = Beside.leads calls f s consistent carries q path name a is.n is.call is.stands in
+          let to = Beside.to calls f s consistent carries q path name a is.n is.call is.stands in
           let place : ℕ = m + length (carries.own.params d) in
           let more = carries.counts.no_more d a.i is.n leads to in
           let count = ap (λ (o : Option BlockCall). length (args_of o)) is.stands in
@@ -272,34 +269,38 @@ module _ (calls : List AnsweredCall) (f : Body) (s : SsaState) (consistent : IsC
           let w : ℕ = slice_index (block_at f d).params place in
           let home : param_home f w ≡ Some d = stands_home f consistent w d (place, below, refl) in
           let stands : place_of w (block_at f d).params ≡ place = place_at (block_at f d).params place (consistent.params_once d) below in
-          let defined = Edges.parameter_complete calls f s consistent carries finished placed d w home (omega (arith, stands)) in
-          let arm = Beside.arm calls f s consistent carries finished placed targets q path name a is.n is.call is.stands in
-          let into = Beside.into calls f s consistent carries finished placed targets q path name a is.n is.call is.stands in
+          let counted : IsCounted (carries.tables.function.definition w).kind (place_of w (block_at f d).params) (length (carries.own.params d)) (passed_count f a.i is.n)
+          (length (carries.own.passed a.i is.n)) = carries.counts.counted d a.i is.n w leads to home in
+          let reached : place_of w (block_at f d).params + length (carries.own.passed a.i is.n) < passed_count f a.i is.n + length (carries.own.params d) =
+          omega (arith, stands, behind, count, place_within is.call.args is.j (Value v) is.passes) in
+          let defined = IntoBlock.passed_complete calls f s consistent carries d w home (omega (arith, stands)) a.i is.n counted reached in
+          let arm = Beside.arm calls f s consistent carries q path name a is.n is.call is.stands in
+          let into = Beside.into calls f s consistent carries q path name a is.n is.call is.stands in
           let passes : passed_at f a.i is.n is.j ≡ Some (Value (carries.tables.function.argument w arm)) =
           carries.describes.passes d w arm into defined refl is.j (omega (arith, behind, stands)) in
           let same : carries.tables.function.argument w arm ≡ v =
           same_value (carries.tables.function.argument w arm) v (sym passes ∙ ap (λ (o : Option BlockCall). slice_get (args_of o) is.j) is.stands ∙ is.passes) in
           let itself : carries.tables.function.resolve w ≡ w = carries.describes.resolves w ∙ unaliased_home f w d home in
           let definition : carries.tables.function.definition (carries.tables.function.resolve w) ≡ carries.tables.function.definition w = ap carries.tables.function.definition itself in
-          let there : Dominates (arms carries.tables) (home_of carries.tables.function (carries.tables.function.argument (carries.tables.function.resolve w) arm)) arm.source =
+          let there : Dominates edges (home_of carries.tables.function (carries.tables.function.argument (carries.tables.function.resolve w) arm)) arm.source =
           under.arguments.at_source w arm (ap (λ (x : Definition). x.kind) (definition ∙ defined)) (ap (λ (x : Definition). x.home) (definition ∙ defined))
-          (Beside.known calls f s consistent carries finished placed targets q path name a is.n is.call is.stands) in
-          let visits = there.on_every_path (Beside.behind calls f s consistent carries finished placed targets q path name a is.n is.call is.stands)
-          (Beside.follows_behind calls f s consistent carries finished placed targets q path name a is.n is.call is.stands)
-          (ap (inside q.block) (Beside.is_last calls f s consistent carries finished placed targets q path name a is.n is.call is.stands)) in
+          (Beside.known calls f s consistent carries q path name a is.n is.call is.stands) in
+          let visits = there.on_every_path (Beside.behind calls f s consistent carries q path name a is.n is.call is.stands)
+          (Beside.follows_behind calls f s consistent carries q path name a is.n is.call is.stands)
+          (ap (inside q.block) (Beside.is_last calls f s consistent carries q path name a is.n is.call is.stands)) in
           by (subst (λ (u : ℕ). Visits (home_of carries.tables.function u) (next_arm q.block a.j ∷ a.is.along))
           (ap (λ (u : ℕ). carries.tables.function.argument u arm) itself ∙ same) visits)
         where
           by : Visits (home_of carries.tables.function v) (next_arm q.block a.j ∷ a.is.along) → IsFor q path (resolved f v)
           by (inl here) =
               absurd (gives_none (carries.tables.function.resolve v)
-              (Beside.gives_here calls f s consistent carries finished placed targets q path name a (carries.tables.function.resolve v) here))
+              (Beside.gives_here calls f s consistent carries q path name a (carries.tables.function.resolve v) here))
           by (inr before) = value_given q path name a.j a.is v exists before
 
       argument_given : IsFor q path (resolved f v)
       argument_given =
-          let leads = Beside.leads calls f s consistent carries finished placed targets q path name a is.n is.call is.stands in
-          let to = Beside.to calls f s consistent carries finished placed targets q path name a is.n is.call is.stands in
+          let leads = Beside.leads calls f s consistent carries q path name a is.n is.call is.stands in
+          let to = Beside.to calls f s consistent carries q path name a is.n is.call is.stands in
           let own_first = carries.passes_first d a.i is.n leads to in
           let args : is.call.args ≡ carries.own.passed a.i is.n ++ own_first.0 = ap args_of (sym is.stands) ∙ own_first.1 in
           by own_first.0 (in_two (carries.own.passed a.i is.n) own_first.0 is.j (Value v) (ap (λ (xs : List BlockArg). slice_get xs is.j) (sym args) ∙ is.passes))
@@ -312,11 +313,11 @@ module _ (calls : List AnsweredCall) (f : Body) (s : SsaState) (consistent : IsC
     passed : (q : Place ℕ) (x : ℕ) → Contains (placed_passes (resolved f) (slice_get (items_of f q.block) q.index)) x
         → (path : List (Place ℕ)) → IsPath (function_flow (view_of f)) (q ∷ path) → IsFor q path x
     passed q x passes path walk =
-        let standing = Beside.beside calls f s consistent carries finished placed targets path q walk in
-        by standing.name (Beside.what_stands calls f s consistent carries finished placed targets q path standing.name standing.k standing.left standing.is
-        (Beside.within calls f s consistent carries finished placed targets path q walk))
+        let standing = Beside.beside calls f s consistent carries path q walk in
+        by standing.name (Beside.what_stands calls f s consistent carries q path standing.name standing.k standing.left standing.is
+        (Beside.within calls f s consistent carries path q walk))
       where
-        by : (name : Name) → Beside.AtZero calls f s consistent carries finished placed targets q ⊎ AtOwn q path name → IsFor q path x
+        by : (name : Name) → Beside.AtZero calls f s consistent carries q ⊎ AtOwn q path name → IsFor q path x
         by name (inl z) =
             let none : edges_of (inst_at f z.i).shape ≡ [] = ap edges_of z.is_zero.shape in
             absurd (none_of (placed_passes (resolved f) (slice_get (items_of f q.block) q.index)) x

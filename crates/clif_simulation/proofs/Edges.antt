@@ -1,12 +1,11 @@
 -- Along an edge of the function: the arm is known, and each parameter gets the bits of what the arm gives it.
-use Rattle.std.proofs.Common.{◌≡◌, ℕ, ◌≤◌, ◌&&◌, Bool, true, List, length, map, slice_get, Some, Contains, refl, sym, ◌∙◌, ap}
+use Rattle.std.proofs.Common.{◌≡◌, ℕ, ◌&&◌, Bool, true, List, length, map, slice_get, Some, Contains, refl, sym, ◌∙◌, ap}
 use Rattle.std.specs.Prelude.{IsTrue}
 use Rattle.clif_ir.specs.Body.{Body, block_at, resolved}
 use Rattle.clif_ir.specs.Consistent.{IsConsistent}
-use Rattle.clif_ir.specs.Reading.{param_home, place_of}
 use Rattle.clif_ir.specs.declared.block_call.BlockCall.{BlockCall}
 use Rattle.clif_paths.specs.Places.{Arm, Path}
-use Rattle.clif_paths.specs.State.{Program, complete, zero_of, Function}
+use Rattle.clif_paths.specs.State.{Program, zero_of, Function}
 use Rattle.clif_paths.specs.Blocks.{front, last_place, state_of}
 use Rattle.clif_paths.specs.Laws.{all_sealed}
 use Rattle.clif_ssa.specs.Ssa.{SsaState, predecessors_of, sealed_of}
@@ -43,15 +42,6 @@ module _ (calls : List AnsweredCall) (f : Body) (s : SsaState) (consistent : IsC
 
     abbrev pub live : ℕ → Type 0
     live = stands_for_itself carries.tables
-
-    -- a parameter of a block that isn't a caller's is complete
-    pub parameter_complete : (b v : ℕ) → param_home f v ≡ Some b → length (carries.own.params b) ≤ place_of v (block_at f b).params
-        → function.definition v ≡ record { home = front b; kind = complete }
-    parameter_complete b v home past = IntoBlock.parameter_complete calls f s consistent carries b (finished.none_waits b) v home past
-
-    -- each parameter of a block is born as the block is entered
-    pub parameter_front : (b v : ℕ) → param_home f v ≡ Some b → (function.definition v).home ≡ front b
-    parameter_front b v home = IntoBlock.parameter_front calls f s consistent carries b (finished.none_waits b) v home
 
     -- One edge --------------------------------------------------------------------------------------------------------------
 

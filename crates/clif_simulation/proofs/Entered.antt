@@ -13,7 +13,7 @@ use Rattle.clif_meaning.specs.FunctionMachine.{same_value}
 use Rattle.clif_simulation.specs.Tables.{code}
 use Rattle.clif_simulation.proofs.Agreement.{Agrees, ZerosAreZero, too_young}
 use Rattle.clif_simulation.proofs.Codes
-use Rattle.clif_simulation.proofs.Giving.{In, name_keeps, value_keeps, same_all}
+use Rattle.clif_simulation.proofs.Giving.{In, name_keeps, value_keeps, same_all, same_given}
 
 -- What such a value is after an edge: what another was before, with its bits, or a zero without bits.
 abbrev pub ComesAlong : (ℕ → Type 0) → Program → Function → Arm → Path → (ℕ → ℕ) → (ℕ → ℕ) → ℕ → Type 0
@@ -32,6 +32,11 @@ pub record EntersThere (live : ℕ → Type 0) (program : Program) (function : F
   pub comes : (w : ℕ) → live w → ((n : Name) × In n parameters × (w ≡ answered n)) ⊎ ComesAlong live program function arm path old new w
   pub zeros_stay : (w y : ℕ) → (function.definition w).kind ≡ zero_of y → new w ≡ old w
 
+-- There are as many bits as parameters, or each parameter and its answer had the same bits.
+abbrev pub Fit : List Name → (Name → ℕ) → List ℕ → (Name → ℕ) → (ℕ → ℕ) → Type 0
+Fit parameters answered bits names values =
+    (length bits ≡ length parameters) ⊎ ((n : Name) → In n parameters → names n ≡ values (answered n))
+
 given_no_zero : (n y : ℕ) (path : Path) → ◌≡◌ {A = Instance} (given n path) (zero y) → ⊥
 given_no_zero n y path h = cc
 
@@ -41,7 +46,7 @@ born_no_zero n y h = cc
 module _ (live : ℕ → Type 0) (program : Program) (function : Function) (arm : Arm) (path : Path) (parameters : List Name) (answered : Name → ℕ) (old new : ℕ → ℕ)
     (enters : EntersThere live program function arm path parameters answered old new)
     (variables : ℕ → ℕ) (names : Name → ℕ) (agrees : Agrees live program function path variables names old)
-    (zeros : ZerosAreZero program function path variables names old) (bits : List ℕ) (as_many : length bits ≡ length parameters)
+    (zeros : ZerosAreZero program function path variables names old) (bits : List ℕ) (fit : Fit parameters answered bits names new)
   where
     abbrev pub names_there : Name → ℕ
     names_there = assigned same_name parameters bits names
@@ -81,6 +86,11 @@ module _ (live : ℕ → Type 0) (program : Program) (function : Function) (arm 
         let codes : code a ≡ code b = cc in
         Codes.differ a b codes
 
+    -- one of them and its answer get the same
+    given_alike : (n : Name) → In n parameters → Fit parameters answered bits names new → names_there n ≡ values_there (answered n)
+    given_alike n there (inl as_many) = same_all answered parameters bits names new n apart there as_many
+    given_alike n there (inr before) = same_given answered parameters bits names new n apart there (before n there)
+
     -- a variable
     variable_by : (x w : ℕ) → instances program (arm ∷ path) (variable x) ≡ denotes program function (arm ∷ path) w
         → ((n : Name) × In n parameters × (w ≡ answered n)) ⊎ ComesAlong live program function arm path old new w → variables x ≡ values_there w
@@ -100,7 +110,7 @@ module _ (live : ℕ → Type 0) (program : Program) (function : Function) (arm 
         let there : In n parameters = enters.only_names n here in
         let one : given (code n) (arm ∷ path) ≡ given (code found.0) (arm ∷ path) = sym (name_given n there) ∙ same ∙ denotes_new w found.0 found.1 found.2 in
         let codes : code found.0 ≡ code n = cc in
-        same_all answered parameters bits names new n apart there as_many
+        given_alike n there fit
         ∙ ap values_there (sym (found.2 ∙ ap answered (Codes.differ found.0 n codes)))
     name_by n w same (inl found) (no other) =
         absurd (too_young (code found.0) arm path (instances program path (name (code n))) (program_knows program path (name (code n)))

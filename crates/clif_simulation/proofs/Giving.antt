@@ -46,7 +46,7 @@ same_or_other a b = by (same_name a b) refl
 same_number : (v : ℕ) → same_value v v ≡ true
 same_number v = grind (arith, nat_tests)
 
-other_number : (v w : ℕ) → v ≢ w → same_value v w ≡ false
+pub other_number : (v w : ℕ) → v ≢ w → same_value v w ≡ false
 other_number v w ne = grind (arith, nat_tests)
 
 -- a name that isn't among them keeps its bits

@@ -12,6 +12,8 @@ use Rattle.clif_meaning.specs.Event.{Event, types_of}
 use Rattle.clif_meaning.specs.Memory.{Memory}
 use Rattle.clif_meaning.specs.Name.{Name, answer_of, same_name}
 use Rattle.clif_meaning.specs.Instruction.{Operation, Compute, Iconst}
+use Rattle.clif_meaning.specs.Request.{script_of}
+use Rattle.clif_meaning.specs.Ledger.{ledger_after}
 use Rattle.clif_meaning.specs.Program.{Item}
 use Rattle.clif_meaning.specs.World.{World}
 use Rattle.clif_meaning.specs.Machine.{Machine, Control, At, IsStuck, Observation, state_after}
@@ -31,7 +33,8 @@ use Rattle.clif_meaning.proofs.StraightLine.{nothing_contained, none_of, given_a
 use Rattle.clif_meaning.proofs.FirstRow.{one_of, first_of_one}
 use Rattle.clif_meaning.proofs.SampleWorld
 use Rattle.clif_simulation.specs.Tables.{answered, program_so_far, block_name}
-use Rattle.clif_simulation.specs.Reading.{code_so_far, behind, PremisesSoFar, script_run_so_far, function_run_so_far, starting_at, StandAlike, StartAlike, SideBySide, ReadsRightFromAnywhere}
+use Rattle.clif_simulation.proofs.SoFar.{typed_so_far}
+use Rattle.clif_simulation.specs.Reading.{code_so_far, behind, may_grow, PremisesSoFar, script_run_so_far, function_run_so_far, starting_at, StandAlike, StartAlike, SideBySide, ReadsRightFromAnywhere}
 use Rattle.clif_simulation.specs.ReadingExamples.{half_body_with, half_body, half_state_with, half_state, waiting_parameter, with_nine, first_value, with_bits}
 use Rattle.clif_simulation.proofs.Starting.{no_arguments, none_assigned}
 use Rattle.clif_simulation.proofs.Values.{false_is}
@@ -244,9 +247,10 @@ nothing_of of none all p x there =
     none_of (of (slice_get ((program_so_far answered_calls).items p.block) p.index)) x
     (nothing_at of none ((program_so_far answered_calls).items p.block) p.index (each_item (λ item. of (Some item) ≡ []) all p.block)) there
 
-pub premises : PremisesSoFar answered_calls first_signature
+pub premises : PremisesSoFar (may_grow answered_calls) answered_calls first_signature
 premises = record {
-  well_typed = record { items = each_item _ (tt, (record { made_at = refl; operands = refl; edges = tt }, tt)); entry = refl };
+  well_typed = typed_so_far (may_grow answered_calls) (ledger_after (script_of answered_calls)) (program_so_far answered_calls) first_signature
+      (record { items = each_item _ (tt, (record { made_at = refl; operands = refl; edges = tt }, tt)); entry = refl });
   given_before = record {
     named = λ q x there. absurd (nothing_of item_names refl (refl, (refl, tt)) q x there);
     passed = λ q x there. absurd (nothing_of item_passes refl (refl, (refl, tt)) q x there);

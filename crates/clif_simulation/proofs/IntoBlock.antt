@@ -17,7 +17,7 @@ use Rattle.clif_paths.proofs.Executing.{function_steps, denotes-past}
 use Rattle.clif_ssa.specs.declared.tables.Pending.{Pending}
 use Rattle.clif_ssa.specs.Ssa.{SsaState, sealed_of}
 use Rattle.clif_ssa.specs.Tables.{pending_of}
-use Rattle.clif_ssa.specs.Sound.{HomeFits, IsBehind, IsEdgeInto, IsWaiting, args_of, edges_at}
+use Rattle.clif_ssa.specs.Sound.{HomeFits, IsBehind, IsCounted, IsEdgeInto, IsWaiting, args_of, edges_at, passed_count}
 use Rattle.clif_ssa.proofs.Alike.{unaliased_home}
 use Rattle.clif_ssa.proofs.Ordering.{stands_place}
 use Rattle.clif_ssa.proofs.Losing.{stands_home, home_stands}
@@ -88,7 +88,7 @@ module _ (calls : List AnsweredCall) (f : Body) (s : SsaState) (consistent : IsC
     parameters = (program_so_far calls).parameters B
 
     -- the caller's answer those of the program's block
-    own_parameters : carries.own.params b ≡ map (answered calls) parameters
+    pub own_parameters : carries.own.params b ≡ map (answered calls) parameters
     own_parameters = carries.parameters b ∙ ap (λ (o : Option Name). map (answered calls) (callers_parameters calls o)) named
 
     pub parameter_named : (x : Name) → In x parameters → carries.tables.naming (code x) ≡ record { home = front b; origin = fresh }
@@ -155,8 +155,60 @@ module _ (calls : List AnsweredCall) (f : Body) (s : SsaState) (consistent : IsC
       let bare = ap (λ (xs : List ℕ). length xs) (carries.parameters b ∙ ap (λ (o : Option Name). map (answered calls) (callers_parameters calls o)) none) in
       absurd (omega (arith, below, bare))
 
-  order : (m n : ℕ) → (m < n) ⊎ (n ≤ m)
-  order m n = grind arith
+  -- Where some may wait -----------------------------------------------------------------------------------------------------
+
+  module _ (v : ℕ) (home : param_home f v ≡ Some b) where
+    abbrev place : ℕ
+    place = place_of v (block_at f b).params
+
+    abbrev callers : ℕ
+    callers = length (carries.own.params b)
+
+    -- a parameter that is complete is so as its block is entered
+    of_complete : (fits : HomeFits carries.tables v complete) → (function.definition v).kind ≡ complete → function.definition v ≡ record { home = front b; kind = complete }
+    of_complete fits kind =
+        let defined : function.definition v ≡ record { home = front fits.0; kind = complete } =
+        ap (λ (k : Kind). record { home = (function.definition v).home; kind = k }) kind ∙ ap (λ (p : Place). record { home = p; kind = complete }) fits.1 in
+        let same : fits.0 ≡ b = some_is fits.0 b (sym (carries.describes.complete_there fits.0 v defined) ∙ home) in
+        defined ∙ ap (λ (d : ℕ). record { home = front d; kind = complete }) same
+
+    -- one that waits is born there
+    of_pending : (x : ℕ) → (function.definition v).kind ≡ pending x → (function.definition v).home ≡ front b
+    of_pending x kind = by (carries.describes.pends v x (unaliased_home f v b home) kind)
+      where
+        by : ((c : ℕ) × Contains (pending_of (sealed_of s c)) (record { variable = x; param = v })) ⊎ Contains {X = Pending} [] (record { variable = x; param = v })
+            → (function.definition v).home ≡ front b
+        by (inl found) =
+            let waits = carries.describes.waiting found.0 (record { variable = x; param = v }) found.1 in
+            let same : found.0 ≡ b = some_is found.0 b (sym waits.parameter ∙ home) in
+            ap (λ (d : Definition). d.home) waits.defined ∙ ap front same
+        by (inr completes) = absurd (nothing_contained {X = Pending} (record { variable = x; param = v }) completes)
+
+    of_kind : (kind : Kind) → (function.definition v).kind ≡ kind → HomeFits carries.tables v kind → IsBehind kind place callers → (function.definition v).home ≡ front b
+    of_kind unborn kind fits behind = absurd behind
+    of_kind (born n) kind fits behind = let name = own_named v behind (block_name calls b) refl in own_born name.0 name.1 v behind
+    of_kind (pending x) kind fits behind = of_pending x kind
+    of_kind complete kind fits behind = ap (λ (d : Definition). d.home) (of_complete fits kind)
+    of_kind (zero_of x) kind fits behind = absurd behind
+
+    -- each parameter of the block is born as the block is entered
+    pub parameter_front : (function.definition v).home ≡ front b
+    parameter_front = of_kind (function.definition v).kind refl (carries.describes.homes v) (carries.counts.behind b v home)
+
+    -- An edge passes nothing to a parameter that waits.
+    module _ (past : callers ≤ place) (i k : ℕ) (counted : IsCounted (function.definition v).kind place callers (passed_count f i k) (length (carries.own.passed i k)))
+        (reached : place + length (carries.own.passed i k) < passed_count f i k + callers)
+      where
+        of_reached : (kind : Kind) → (function.definition v).kind ≡ kind → HomeFits carries.tables v kind → IsBehind kind place callers
+            → IsCounted kind place callers (passed_count f i k) (length (carries.own.passed i k)) → function.definition v ≡ record { home = front b; kind = complete }
+        of_reached unborn kind fits behind passes = absurd behind
+        of_reached (born n) kind fits behind passes = absurd (omega (arith, behind, past))
+        of_reached (pending x) kind fits behind passes = absurd (omega (arith, passes, reached))
+        of_reached complete kind fits behind passes = of_complete fits kind
+        of_reached (zero_of x) kind fits behind passes = absurd behind
+
+        pub passed_complete : function.definition v ≡ record { home = front b; kind = complete }
+        passed_complete = of_reached (function.definition v).kind refl (carries.describes.homes v) (carries.counts.behind b v home) counted
 
   -- Where nothing waits ---------------------------------------------------------------------------------------------------
 
@@ -178,11 +230,7 @@ module _ (calls : List AnsweredCall) (f : Body) (s : SsaState) (consistent : IsC
     is_complete v home past (born n) kind fits behind = absurd (omega (arith, behind, past))
     is_complete v home past (pending x) kind fits behind =
         absurd (none_pending v x (unaliased_home f v b home) kind (λ c waits. some_is c b (sym waits.parameter ∙ home)))
-    is_complete v home past complete kind fits behind =
-        let defined : function.definition v ≡ record { home = front fits.0; kind = complete } =
-        ap (λ (k : Kind). record { home = (function.definition v).home; kind = k }) kind ∙ ap (λ (p : Place). record { home = p; kind = complete }) fits.1 in
-        let same : fits.0 ≡ b = some_is fits.0 b (sym (carries.describes.complete_there fits.0 v defined) ∙ home) in
-        defined ∙ ap (λ (d : ℕ). record { home = front d; kind = complete }) same
+    is_complete v home past complete kind fits behind = of_complete v home fits kind
     is_complete v home past (zero_of x) kind fits behind = absurd behind
 
     -- a parameter of the block that isn't a caller's is complete
@@ -190,14 +238,6 @@ module _ (calls : List AnsweredCall) (f : Body) (s : SsaState) (consistent : IsC
         → function.definition v ≡ record { home = front b; kind = complete }
     parameter_complete v home past =
         is_complete v home past (function.definition v).kind refl (carries.describes.homes v) (carries.counts.behind b v home)
-
-    -- each parameter of the block is born as the block is entered
-    pub parameter_front : (v : ℕ) → param_home f v ≡ Some b → (function.definition v).home ≡ front b
-    parameter_front v home = by (order (place_of v (block_at f b).params) (length (carries.own.params b)))
-      where
-        by : (place_of v (block_at f b).params < length (carries.own.params b)) ⊎ (length (carries.own.params b) ≤ place_of v (block_at f b).params) → (function.definition v).home ≡ front b
-        by (inl below) = let name = own_named v below (block_name calls b) refl in own_born name.0 name.1 v below
-        by (inr past) = ap (λ (d : Definition). d.home) (parameter_complete v home past)
 
     no_zero : (v y : ℕ) → (function.definition v).kind ≡ zero_of y → Stands v others → ⊥
     no_zero v y kind there = parameter_no_zero v y (others_home v there) kind

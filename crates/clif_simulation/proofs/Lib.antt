@@ -32,6 +32,7 @@ mod Counted
 mod Reaching
 mod Alongside
 mod Setting
+mod SoFar
 pub mod RightReading
 -- With branches, beside interrupted runs.
 mod Interrupting
@@ -82,6 +83,7 @@ mod LoopWrong
 mod LoopArgument
 mod LoopRow
 mod LoopConsistent
+mod EarlyJump
 mod LoopAlong
 mod LoopPremises
 mod SamplePremises

@@ -1,5 +1,5 @@
 -- The row `both_arms`, read beside interrupted runs with another record.
-use Rattle.std.proofs.Common.{◌≡◌, ℕ, zero, suc, ◌+◌, ◌<◌, false, List, [], ◌∷◌, slice_get, Some, Contains, ◌⊎◌, inl, inr, refl, sym, ◌∙◌, subst, arith}
+use Rattle.std.proofs.Common.{◌≡◌, ℕ, zero, suc, ◌+◌, ◌<◌, false, true, List, [], ◌∷◌, slice_get, Some, Contains, ◌⊎◌, inl, inr, refl, sym, ◌∙◌, ap, subst, arith}
 use Rattle.std.specs.List.{AllByRecursion}
 use Rattle.clif_types.specs.declared.target.PointerWidth.TheVariants.{U64}
 use Rattle.clif_ir.specs.Body.{follow}
@@ -20,9 +20,10 @@ use Rattle.clif_meaning.proofs.StraightLine.{nothing_contained, none_of}
 use Rattle.clif_meaning.proofs.FirstRow.{one_of, first_of_one}
 use Rattle.clif_meaning.proofs.SampleWorld
 use Rattle.clif_simulation.specs.Tables.{program_so_far}
-use Rattle.clif_simulation.specs.Reading.{code_so_far, behind, PremisesSoFar, script_run_so_far, function_run_so_far}
-use Rattle.clif_simulation.specs.Interrupted.{Unknowns, ScriptStanding, FunctionStanding, interrupted_script, interrupted_function, StandsBeside, HasBeside, ReadsRight}
-use Rattle.clif_simulation.specs.CarryingExamples.{loop_calls, loop_body}
+use Rattle.clif_simulation.proofs.SoFar.{typed_so_far}
+use Rattle.clif_simulation.specs.Reading.{code_so_far, behind, may_grow, PremisesSoFar, script_run_so_far, function_run_so_far}
+use Rattle.clif_simulation.specs.Interrupted.{Unknowns, ScriptStanding, FunctionStanding, interrupted_script, interrupted_function, StandsBeside, HasBeside, AreOpen, ReadsRight}
+use Rattle.clif_simulation.specs.CarryingExamples.{loop_calls, loop_body, loop_state}
 use Rattle.clif_simulation.specs.InterruptedExamples.{loop_state_recording}
 use Rattle.clif_simulation.proofs.LoopProgram.{each_items_of_row, row_program}
 use Rattle.clif_simulation.proofs.LoopStructured.{spares_entry}
@@ -119,7 +120,7 @@ well_placed = record {
       (refl, (refl, (refl, tt))) (refl, (refl, tt)) (refl, (refl, (refl, (refl, (refl, tt))))) (refl, (refl, tt)) q.block)) there);
 }
 
-well_typed : WellTyped (ledger_after (script_of loop_calls)) (program_so_far loop_calls) both_arms_signature
+pub well_typed : WellTyped (ledger_after (script_of loop_calls)) (program_so_far loop_calls) both_arms_signature
 well_typed = record {
   items = each_items_of_row (AllByRecursion (IsItemWellTyped (ledger_after (script_of loop_calls)) (program_so_far loop_calls) (types_of both_arms_signature.returns))) tt
       (record { made_at = refl; operands = refl; edges = tt }, (refl, (record { made_at = refl; operands = refl; edges = (refl, tt) }, tt)))
@@ -137,8 +138,28 @@ well_typed = record {
   entry = refl;
 }
 
-pub premises : PremisesSoFar loop_calls both_arms_signature
-premises = record { well_typed = well_typed; given_before = well_placed }
+pub premises : PremisesSoFar (may_grow loop_calls) loop_calls both_arms_signature
+premises = record {
+  well_typed = typed_so_far (may_grow loop_calls) (ledger_after (script_of loop_calls)) (program_so_far loop_calls) both_arms_signature well_typed;
+  given_before = well_placed;
+}
+
+settled : (a name : Name) → Some a ≡ Some name → may_grow loop_calls a ≡ false → may_grow loop_calls name ≡ true → ⊥
+settled a name is none grows = not_both (sym none ∙ ap (may_grow loop_calls) same ∙ grows)
+  where
+    same : a ≡ name
+    same = cc
+
+    not_both : false ≡ true → ⊥
+    not_both h = cc
+
+-- each block is sealed, and something was made in it
+pub none_grows : AreOpen loop_calls loop_body loop_state (may_grow loop_calls)
+none_grows zero name named grows = absurd (settled (block 0) name named refl grows)
+none_grows (suc zero) name named grows = absurd (settled (block 1) name named refl grows)
+none_grows (suc (suc zero)) name named grows = absurd (settled (block 2) name named refl grows)
+none_grows (suc (suc (suc zero))) name named grows = absurd (settled (block 3) name named refl grows)
+none_grows (suc (suc (suc (suc number)))) name named grows = cc
 
 fits : IsWorldOf both_arms_signature (view_of loop_body) U64 SampleWorld.sample_world
 fits = record { arguments = tt; slots = record { aligned = λ s slot h. cc; accessible = λ s slot k h below. cc; within = λ s slot h. cc; apart = λ s t slot other k l h. cc } }

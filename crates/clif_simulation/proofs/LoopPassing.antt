@@ -31,7 +31,8 @@ use Rattle.clif_meaning.proofs.FirstRow.{one_of, first_of_one}
 use Rattle.clif_meaning.proofs.SampleWorld
 use Rattle.clif_simulation.specs.Carries.{SparesBlock, SparesEntry}
 use Rattle.clif_simulation.specs.Tables.{answered, block_name, program_so_far}
-use Rattle.clif_simulation.specs.Reading.{code_so_far, behind, PremisesSoFar, script_run_so_far, function_run_so_far}
+use Rattle.clif_simulation.proofs.SoFar.{typed_so_far}
+use Rattle.clif_simulation.specs.Reading.{code_so_far, behind, may_grow, PremisesSoFar, script_run_so_far, function_run_so_far}
 use Rattle.clif_simulation.specs.Interrupted.{Unknowns, ScriptStanding, FunctionStanding, interrupted_script, interrupted_function, script_edge, script_goes, function_edge, function_goes, StandsBeside, HasBeside, RunsBeside, ReadsRight}
 use Rattle.clif_simulation.specs.InterruptedExamples.{passing_loop_calls, passing_loop_body, passing_loop_body_with, passing_loop_state}
 use Rattle.clif_simulation.proofs.Giving.{same_or_other}
@@ -354,14 +355,14 @@ passed_before q x (in_the_loop here index is) path walk =
     inr (given_in_block (program_code (program_so_far passing_loop_calls)) path q 0 x walk (omega (arith, index))
     (subst (λ (b : Name). Contains (item_gives (slice_get (items b) 0)) x) (sym here) (first_of_one used x is)))
 
-premises : PremisesSoFar passing_loop_calls sample_signature
+premises : PremisesSoFar (may_grow passing_loop_calls) passing_loop_calls sample_signature
 premises = record {
-  well_typed = record {
+  well_typed = typed_so_far (may_grow passing_loop_calls) (ledger_after (script_of passing_loop_calls)) (program_so_far passing_loop_calls) sample_signature (record {
     items = each_items (AllByRecursion (IsItemWellTyped (ledger_after (script_of passing_loop_calls)) (program_so_far passing_loop_calls) (types_of sample_signature.returns))) tt
         (record { made_at = refl; operands = refl; edges = (refl, tt) }, tt)
         (tt, (record { made_at = refl; operands = refl; edges = (refl, tt) }, tt));
     entry = refl;
-  };
+  });
   given_before = record {
     named = λ q x there.
         absurd (none_of (item_names (slice_get (items q.block) q.index)) x

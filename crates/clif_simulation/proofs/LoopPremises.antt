@@ -1,5 +1,5 @@
 -- The row `both_arms` meets the premises of the theorem in every world.
-use Rattle.std.proofs.Common.{◌≡◌, ℕ, suc, Bool, false, IsTrue, List, [], ◌∷◌, Option, None, Some, refl, ap, arith}
+use Rattle.std.proofs.Common.{◌≡◌, ℕ, suc, Bool, false, IsTrue, Option, None, Some, refl, ap, arith}
 use Rattle.std.specs.List.{AllByRecursion}
 use Rattle.clif_types.specs.declared.target.PointerWidth.TheVariants.{U64}
 use Rattle.clif_types.specs.Target.{pointer_type_of}
@@ -49,7 +49,7 @@ meets world =
       targets_filled = each_items_of_row (AllByRecursion (HasGoodTargets (ledger_after both_arms_script) (program_of both_arms_script))) tt
           (tt, (tt, ((good_second, tt), tt))) (tt, ((good_third, (good_last, tt)), tt)) (tt, (tt, (tt, (tt, ((good_second, (good_second, tt)), tt))))) (tt, (tt, tt));
       tables_once = tt;
-      well_typed = LoopAlong.premises.well_typed;
+      well_typed = LoopAlong.well_typed;
       given_before = LoopAlong.premises.given_before;
       tracked_apart = each_items_of_row (AllByRecursion (KeepsTrackedApart (ledger_after both_arms_script) (is_tracked both_arms_script))) tt
           (tt, (apart _ _ refl, (tt, tt))) (apart _ _ refl, (tt, tt)) (apart _ _ refl, (tt, (tt, (apart _ _ refl, (tt, tt))))) (apart _ _ refl, (tt, tt));

@@ -28,7 +28,8 @@ use Rattle.clif_meaning.proofs.FirstRow.{one_of, first_of_one}
 use Rattle.clif_meaning.proofs.SampleWorld
 use Rattle.clif_simulation.specs.Carries.{SparesBlock, SparesEntry}
 use Rattle.clif_simulation.specs.Tables.{answered, block_name, program_so_far}
-use Rattle.clif_simulation.specs.Reading.{code_so_far, behind, PremisesSoFar, script_run_so_far, function_run_so_far}
+use Rattle.clif_simulation.proofs.SoFar.{typed_so_far}
+use Rattle.clif_simulation.specs.Reading.{code_so_far, behind, may_grow, PremisesSoFar, script_run_so_far, function_run_so_far}
 use Rattle.clif_simulation.specs.Interrupted.{Unknowns, ScriptStanding, FunctionStanding, interrupted_script, interrupted_function, script_edge, script_goes, function_edge, function_goes, StandsBeside, HasBeside, RunsBeside, ReadsRight}
 use Rattle.clif_simulation.specs.InterruptedExamples.{waiting_loop_calls, waiting_loop_body, waiting_loop_state}
 use Rattle.clif_simulation.specs.ReadingExamples.{waiting_parameter}
@@ -255,14 +256,14 @@ nothing_at of none [] (suc k) all = none
 nothing_at of none (item ∷ list) zero all = all.0
 nothing_at of none (item ∷ list) (suc k) all = nothing_at of none list k all.1
 
-premises : PremisesSoFar waiting_loop_calls both_arms_signature
+premises : PremisesSoFar (may_grow waiting_loop_calls) waiting_loop_calls both_arms_signature
 premises = record {
-  well_typed = record {
+  well_typed = typed_so_far (may_grow waiting_loop_calls) (ledger_after (script_of waiting_loop_calls)) (program_so_far waiting_loop_calls) both_arms_signature (record {
     items = each_items (AllByRecursion (IsItemWellTyped (ledger_after (script_of waiting_loop_calls)) (program_so_far waiting_loop_calls) (types_of both_arms_signature.returns))) tt
         (record { made_at = refl; operands = refl; edges = (refl, tt) }, tt)
         (tt, (record { made_at = refl; operands = refl; edges = (refl, tt) }, tt));
     entry = refl;
-  };
+  });
   given_before = record {
     named = λ q x there.
         absurd (none_of (item_names (slice_get (items q.block) q.index)) x

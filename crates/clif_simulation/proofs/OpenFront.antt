@@ -1,6 +1,6 @@
--- At the front of an unsealed block: the caller's parameters get what is passed, name and value alike, and those that wait their
--- variables' bits.
-use Rattle.std.proofs.Common.{◌≡◌, ℕ, Bool, true, false, List, [], map, length, Some, Contains, ◌⊎◌, inl, inr, refl, sym, ◌∙◌, ap, subst}
+-- At the front of an unsealed block: the caller's parameters get what is passed, name and value alike, as far as bits are passed,
+-- and those that wait their variables' bits.
+use Rattle.std.proofs.Common.{◌≡◌, ◌≢◌, ℕ, Bool, true, false, List, [], map, Some, Contains, ◌⊎◌, inl, inr, refl, sym, ◌∙◌, ap, subst}
 use Rattle.clif_ir.specs.Body.{Body}
 use Rattle.clif_ir.specs.Consistent.{IsConsistent}
 use Rattle.clif_paths.specs.Places.{Place, Arm}
@@ -17,7 +17,7 @@ use Rattle.clif_meaning.specs.FunctionMachine.{same_value}
 use Rattle.clif_meaning.proofs.StraightLine.{nothing_contained}
 use Rattle.clif_simulation.specs.Interrupted.{values_entering}
 use Rattle.clif_simulation.specs.Tables.{answered, block_name, code, program_so_far}
-use Rattle.clif_simulation.proofs.Giving.{In, contained_in, in_contained, name_keeps, value_keeps, same_all}
+use Rattle.clif_simulation.proofs.Giving.{In, contained_in, in_contained, name_keeps, value_keeps, same_given}
 use Rattle.clif_simulation.proofs.Interrupting.{waiting_gets, waiting_leaves}
 use Rattle.clif_simulation.proofs.IntoBlock
 use Rattle.clif_simulation.proofs.ItemsAt.{not_start, stands_for_itself}
@@ -42,8 +42,10 @@ not_both t one other = cc
 
 module _ (calls : List AnsweredCall) (f : Body) (s : SsaState) (consistent : IsConsistent f) (carries : Whole calls f s)
     (b : ℕ) (B : Name) (named : block_name calls b ≡ Some B) (unsealed : carries.tables.sealed b ≡ false) (arm : Arm) (target : arm.target ≡ front b)
-    (bits old between : ℕ → ℕ) (names : Name → ℕ) (mine : List ℕ) (as_many : length mine ≡ length ((program_so_far calls).parameters B))
-    (is : (w : ℕ) → between w ≡ assigned same_value (map (answered calls) ((program_so_far calls).parameters B)) mine old w)
+    (bits old between : ℕ → ℕ) (names : Name → ℕ) (mine : List ℕ)
+    (kept : (n : Name) → In n ((program_so_far calls).parameters B) → names n ≡ old (answered calls n))
+    (is : (w : ℕ) → ((p : Pending) → In p (pending_of (sealed_of s b)) → p.param ≢ w)
+    → between w ≡ assigned same_value (map (answered calls) ((program_so_far calls).parameters B)) mine old w)
   where
     abbrev program : Program
     program = (state_of carries.tables).program
@@ -92,10 +94,14 @@ module _ (calls : List AnsweredCall) (f : Body) (s : SsaState) (consistent : IsC
             subst (λ (c : ℕ). Contains (pending_of (sealed_of s c)) (record { variable = x; param = w })) (same_block home) found.1
         by (inr none) = absurd (nothing_contained {X = Pending} (record { variable = x; param = w }) none)
 
+    -- what doesn't wait here has what it has before anything is interrupted
+    stays_as : (w : ℕ) → ((p : Pending) → In p waiting → p.param ≢ w) → new w ≡ assigned same_value (map (answered calls) parameters) mine old w
+    stays_as w none = waiting_leaves waiting bits between w none ∙ is w none
+
     gives : (n : Name) → In n parameters → after n ≡ new (answered calls n)
     gives n there =
-        same_all (answered calls) parameters mine names old n (IntoBlock.parameters_apart calls f s consistent carries b B named) there as_many ∙ sym (is (answered calls n))
-        ∙ sym (waiting_leaves waiting bits between (answered calls n)
+        same_given (answered calls) parameters mine names old n (IntoBlock.parameters_apart calls f s consistent carries b B named) there (kept n there)
+        ∙ sym (stays_as (answered calls n)
         (λ p here e. pending_no_born p.variable (code n)
         (waits_kind p here (answered calls n) (born (code n)) (ap (λ (d : Definition). d.kind) (defined_there n there)) e)))
 
@@ -127,14 +133,12 @@ module _ (calls : List AnsweredCall) (f : Body) (s : SsaState) (consistent : IsC
           (λ there. elsewhere (ap (λ naming. naming.home) (named_there n there) ∙ sym target));
       kinds = λ w is_live at. kinds w is_live (at ∙ target) (function.definition w).kind refl (carries.describes.homes w);
       others_stay = λ w elsewhere.
-          waiting_leaves waiting bits between w
+          stays_as w
           (λ p there e. elsewhere (ap (λ (v : ℕ). (function.definition v).home) (sym e) ∙ ap (λ (d : Definition). d.home) (param_waits p there) ∙ sym target))
-          ∙ is w
           ∙ value_keeps (answered calls) parameters mine old w
           (λ n there e. elsewhere (ap (λ (v : ℕ). (function.definition v).home) e ∙ ap (λ (d : Definition). d.home) (defined_there n there) ∙ sym target));
       zeros_stay = λ w y kind.
-          waiting_leaves waiting bits between w (λ p there e. pending_no_zero p.variable y (waits_kind p there w (zero_of y) kind e))
-          ∙ is w
+          stays_as w (λ p there e. pending_no_zero p.variable y (waits_kind p there w (zero_of y) kind e))
           ∙ value_keeps (answered calls) parameters mine old w
           (λ n there e.
           born_no_zero (code n) y

@@ -1,5 +1,5 @@
 -- An unfinished function that carries a list of calls reads right beside interrupted runs, with any branches.
-use Rattle.std.proofs.Common.{◌≡◌, ℕ, zero, suc, ◌+◌, ◌≤◌, Bool, List, [], ◌∷◌, ◌++◌, map, length, drop, flat_map, slice_get, Some, None, refl, sym, ◌∙◌, ap, ap₂, subst, subst₂, append_assoc, arith}
+use Rattle.std.proofs.Common.{◌≡◌, ℕ, zero, suc, ◌+◌, ◌≤◌, inl, Bool, List, [], ◌∷◌, ◌++◌, map, length, drop, flat_map, slice_get, Some, None, refl, sym, ◌∙◌, ap, ap₂, subst, subst₂, append_assoc, arith}
 use Rattle.std.proofs.lemmas.List.{map-append}
 use Rattle.clif_types.specs.Signature.{SignatureShape}
 use Rattle.clif_types.specs.declared.target.PointerWidth.{PointerWidth}
@@ -37,7 +37,7 @@ use Rattle.clif_meaning.proofs.Stuttering.{steps_from, state_after-+}
 use Rattle.clif_simulation.specs.Tables.{code, answered, program_so_far, block_name}
 use Rattle.clif_simulation.specs.Carries.{as_passed, carried, own_placed, Carries}
 use Rattle.clif_simulation.specs.Reading.{behind, code_so_far, IsAtEnd, PremisesSoFar}
-use Rattle.clif_simulation.specs.Interrupted.{Unknowns, ScriptStanding, FunctionStanding, script_edge, script_goes, script_enters, function_enters, variables_entering, values_entering, without_arguments, StandsBefore, StandsBeside, HasBeside, ReadsRight}
+use Rattle.clif_simulation.specs.Interrupted.{Unknowns, ScriptStanding, FunctionStanding, script_edge, script_goes, script_enters, function_enters, variables_entering, values_entering, without_arguments, StandsBefore, StandsBeside, HasBeside, AreOpen, ReadsRightWhere}
 use Rattle.clif_simulation.proofs.Agreement.{Agrees, ZerosAreZero, given_agrees, zeros_agree}
 use Rattle.clif_simulation.proofs.Counted.{gives_results, terminator_gives_none}
 use Rattle.clif_simulation.proofs.Entry.{begins as starts_first, resolved_twice}
@@ -105,7 +105,7 @@ module _ (calls : List AnsweredCall) (f : Body) (ssa : SsaState) (consistent : I
 
 module _ (calls : List AnsweredCall) (signature : SignatureShape) (f : Body) (ssa : SsaState) (consistent : IsConsistent f) (carries : Whole calls f ssa)
     (width : PointerWidth) (world : World) (tracked : Name → Bool) (collector : Collector)
-    (fits : IsWorldOf signature (view_of f) width world) (premises : PremisesSoFar calls signature)
+    (growing : Name → Bool) (are_open : AreOpen calls f ssa growing) (fits : IsWorldOf signature (view_of f) width world) (premises : PremisesSoFar growing calls signature)
     (entry : ℕ) (entry_name : Name) (entry_named : block_name calls entry ≡ Some entry_name) (is_entry : (program_so_far calls).entry ≡ Some entry_name)
     (unknowns : Unknowns)
   where
@@ -182,7 +182,7 @@ module _ (calls : List AnsweredCall) (signature : SignatureShape) (f : Body) (ss
           subst₂ (λ (names : Name → ℕ) (values : ℕ → ℕ). Agrees live program function (next_arm b k ∷ path) p.variables names values)
           (nothing_assigned same_name results p.names) (nothing_assigned same_value (map (answered calls) results) q.values)
           (given_agrees live program function (next_arm b k) path results (answered calls)
-          (OpenStepping.gives_there calls f ssa consistent carries width world tracked collector unknowns entry entry_name signature premises.given_before premises.well_typed
+          (OpenStepping.gives_there calls f ssa consistent carries width world tracked collector unknowns entry entry_name growing are_open signature premises.given_before premises.well_typed
           b B r.named k place instruction results stands path)
           p.variables p.names q.values r.agrees [])
 
@@ -196,7 +196,7 @@ module _ (calls : List AnsweredCall) (signature : SignatureShape) (f : Body) (ss
           let last : length (items B) ≤ suc k = nothing_behind (items B) (suc k) (rest_behind (items B) k (Instruct place instruction results) ahead here ∙ at_end.1) in
           let none : results ≡ [] = gives_results (script_of calls) B k (Instruct place instruction results) stands ∙ terminator_gives_none place instruction at_end.0 in
           recorded_bits (next_arm b k ∷ path) (suc k)
-          (OpenStepping.goes_on calls f ssa consistent carries width world tracked collector unknowns entry entry_name signature premises.given_before premises.well_typed
+          (OpenStepping.goes_on calls f ssa consistent carries width world tracked collector unknowns entry entry_name growing are_open signature premises.given_before premises.well_typed
           b B r.named k path (Instruct place instruction results) stands r.follows r.ends)
           refl (omega (arith, last, place_within (items B) k (Instruct place instruction results) stands)) (before_end place instruction results stands none)
       records_alike (Use y used ∷ ahead) here at_end = absurd at_end
@@ -259,10 +259,11 @@ module _ (calls : List AnsweredCall) (signature : SignatureShape) (f : Body) (ss
     begins : Begins (variables_entering (is_yes (sealed_of ssa entry)) (unknowns 0) p0.variables) (values_entering (pending_of (sealed_of ssa entry)) (unknowns 0) q0.values)
     begins =
         OpenEdges.enters calls f ssa consistent carries entry entry_name entry_named start 0 [] (λ w. 0) (unknowns 0) (λ x. 0) (λ n. 0) blank_agrees blank_zeros
-        world.arguments as_many q0.values (λ is. callers_alone)
+        world.arguments q0.values (λ is w other. callers_alone w)
         (λ is. (
           λ w. 0,
           OpenEdges.enters_blank calls f ssa consistent carries entry entry_name entry_named start 0 (starts_first f.layout entry found) is,
+          inl as_many,
           callers_alone,
         ))
 
@@ -313,13 +314,14 @@ module _ (calls : List AnsweredCall) (signature : SignatureShape) (f : Body) (ss
     met (suc n) rest on =
         let before = went_on (state_after left_machine n) (state_after left_machine n).state.control refl rest on in
         let now : IsMet n = met n before.0 before.1 in
-        let more = OpenStepping.step calls f ssa consistent carries width world tracked collector unknowns entry entry_name signature premises.given_before premises.well_typed
+        let more = OpenStepping.step calls f ssa consistent carries width world tracked collector unknowns entry entry_name growing are_open signature premises.given_before premises.well_typed
         (state_after left_machine n) (state_after right_machine now.0) now.1 rest on in
         later (state_after left_machine (suc n)) now.0 more.0 more.1
 
     pub beside : (n : ℕ) (rest : List Item) → (state_after left_machine n).state.control ≡ At rest → HasBeside calls f ssa (state_after left_machine n) right_machine
     beside n rest on = let now : IsMet n = met n rest on in has_beside (state_after left_machine n) now.0 now.1
 
-pub reads_right : (calls : List AnsweredCall) (signature : SignatureShape) (f : Body) (ssa : SsaState) → IsConsistent f → Carries calls f ssa → ReadsRight calls signature f ssa
-reads_right calls signature f ssa consistent carries width world tracked collector fits premises spares block name named is_entry unknowns =
-    beside calls signature f ssa consistent (whole calls f ssa consistent carries spares) width world tracked collector fits premises block name named is_entry unknowns
+pub reads_right : (calls : List AnsweredCall) (signature : SignatureShape) (f : Body) (ssa : SsaState) (growing : Name → Bool)
+    → IsConsistent f → Carries calls f ssa → AreOpen calls f ssa growing → ReadsRightWhere growing calls signature f ssa
+reads_right calls signature f ssa growing consistent carries are_open width world tracked collector fits premises spares block name named is_entry unknowns =
+    beside calls signature f ssa consistent (whole calls f ssa consistent carries spares) width world tracked collector growing are_open fits premises block name named is_entry unknowns

@@ -1,10 +1,10 @@
 -- One step of the script's interrupted run that goes on is matched by the function's: both stand before the same items of a
 -- block and agree.
-use Rattle.std.proofs.Common.{◌≡◌, ℕ, suc, ◌<◌, ◌≤◌, nat_lt, Bool, true, List, [], ◌∷◌, ◌++◌, map, length, flat_map, slice_get, Option, Some, None, Contains, refl, sym, ◌∙◌, ap, ap₂, subst, subst₂, arith}
+use Rattle.std.proofs.Common.{◌≡◌, ◌⊎◌, inl, inr, ℕ, suc, ◌<◌, ◌≤◌, nat_lt, Bool, true, false, List, [], ◌∷◌, ◌++◌, map, length, flat_map, slice_get, Option, Some, None, Contains, refl, sym, ◌∙◌, ap, ap₂, subst, subst₂, arith}
 use Rattle.std.proofs.lemmas.Bool.Decides.{nat_tests}
 use Rattle.clif_types.specs.Signature.{SignatureShape}
 use Rattle.clif_types.specs.declared.target.PointerWidth.{PointerWidth}
-use Rattle.clif_ir.specs.Body.{Body, inst_at, resolved}
+use Rattle.clif_ir.specs.Body.{Body, block_at, inst_at, resolved}
 use Rattle.clif_ir.specs.Consistent.{IsConsistent}
 use Rattle.clif_ir.specs.declared.block_call.BlockCall.{BlockCall}
 use Rattle.clif_paths.specs.Places.{inside, Arm, Path, Follows, end_of}
@@ -32,14 +32,13 @@ use Rattle.clif_meaning.specs.FunctionMachine as function_machine_of
 use Rattle.clif_meaning.specs.FunctionMachine.{Collector, FunctionRun, FunctionState, value_bits, same_value}
 use Rattle.clif_meaning.specs.FunctionView.{Placed}
 use Rattle.clif_meaning.specs.View.{edge_of, edges_of, argument_of}
-use Rattle.clif_meaning.specs.Premises.{WellTyped}
 use Rattle.clif_meaning.specs.Path.{Place}
 use Rattle.clif_meaning.specs.WellPlaced.{item_names, passed_operands, program_code, IsWellPlaced}
 use Rattle.clif_meaning.proofs.Stuttering.{steps_from}
 use Rattle.clif_simulation.specs.Tables.{code, answered, program_so_far, block_name}
 use Rattle.clif_simulation.specs.Carries.{carried, own_placed}
-use Rattle.clif_simulation.specs.Reading.{behind}
-use Rattle.clif_simulation.specs.Interrupted.{taken_of, Unknowns, ScriptStanding, FunctionStanding, script_edge, script_goes, script_enters, function_edge, function_goes, function_enters, variables_entering, values_entering}
+use Rattle.clif_simulation.specs.Reading.{behind, WellTypedSoFar}
+use Rattle.clif_simulation.specs.Interrupted.{AreOpen, taken_of, Unknowns, ScriptStanding, FunctionStanding, script_edge, script_goes, script_enters, function_edge, function_goes, function_enters, variables_entering, values_entering}
 use Rattle.clif_simulation.proofs.Whole.{Whole}
 use Rattle.clif_simulation.proofs.Giving.{in_contained}
 use Rattle.clif_simulation.proofs.Agreement.{Agrees, GivesThere, UsesThere, AssignsThere, ZerosAreZero, given_agrees, used_agrees, assigned_agrees, given_zeros, used_zeros, assigned_zeros}
@@ -67,8 +66,8 @@ stuck_not_on rest h = cc
 
 module _ (calls : List AnsweredCall) (f : Body) (ssa : SsaState) (consistent : IsConsistent f) (carries : Whole calls f ssa)
     (width : PointerWidth) (world : World) (tracked : Name → Bool) (collector : Collector) (unknowns : Unknowns) (entry : ℕ) (entry_name : Name)
-    (signature : SignatureShape) (placed : IsWellPlaced (program_code (program_so_far calls)))
-    (typed : WellTyped (ledger_after (script_of calls)) (program_so_far calls) signature)
+    (growing : Name → Bool) (are_open : AreOpen calls f ssa growing) (signature : SignatureShape) (placed : IsWellPlaced (program_code (program_so_far calls)))
+    (typed : WellTypedSoFar growing (ledger_after (script_of calls)) (program_so_far calls) signature)
   where
     abbrev left_run : ScriptRun
     left_run = OpenStanding.left_run calls f ssa consistent carries width world tracked collector unknowns entry entry_name
@@ -359,13 +358,20 @@ module _ (calls : List AnsweredCall) (f : Body) (ssa : SsaState) (consistent : I
             abbrev of_function : OwnEdges.IsEdgeOf calls f ssa consistent carries i n edge
             of_function = OwnEdges.edge_in_function calls f ssa consistent carries i instruction results is n edge is_edge
 
-            passes_own : length (carries.own.passed i n) ≡ length ((program_so_far calls).parameters edge.target)
-            passes_own =
-                OwnEdges.passed_count calls f ssa consistent carries i n edge of_function
-                ∙ Targets.passes_as_many calls B k place instruction results stands n edge is_edge signature typed
-
             target_named : block_name calls d ≡ Some edge.target
             target_named = OwnEdges.target_named calls f ssa consistent carries B k place instruction results stands n edge is_edge
+
+            -- it passes as much as its target has parameters of the caller's, or that is open
+            abbrev MayPass : Type 0
+            MayPass =
+                (length (carries.own.passed i n) ≡ length ((program_so_far calls).parameters edge.target))
+                ⊎ ((is_yes (sealed_of ssa d) ≡ false) ⊎ ((block_at f d).params ≡ map (answered calls) ((program_so_far calls).parameters edge.target)))
+
+            may_pass : (t : Bool) → growing edge.target ≡ t → MayPass
+            may_pass true is_open = inr (are_open d edge.target target_named is_open)
+            may_pass false settled =
+                inl (OwnEdges.passed_count calls f ssa consistent carries i n edge of_function
+                ∙ Targets.passes_as_many_so_far calls B k place instruction results stands n edge is_edge growing signature typed settled)
 
             abbrev arm : Arm
             arm = record { source = last_place tables b; target = front d; edge = n }
@@ -443,8 +449,9 @@ module _ (calls : List AnsweredCall) (f : Body) (ssa : SsaState) (consistent : I
 
             crossed : Agrees live program function (arm ∷ along) held p1.names values_there × ZerosAreZero program function (arm ∷ along) held p1.names values_there
             crossed =
-                OpenEdges.goes calls f ssa consistent carries d edge.target target_named (last_place tables b) n into passes_own of_function.call of_function.stands along given
+                OpenEdges.goes calls f ssa consistent carries d edge.target target_named (last_place tables b) n into of_function.call of_function.stands along given
                 c.state.values (unknowns a.entries) a.state.variables a.state.names agrees_behind zeros_behind bits_passed same_passed
+                (may_pass (growing edge.target) refl)
 
             follows_there : Follows (OpenFlow.edges calls f ssa consistent carries) (arm ∷ along)
             follows_there =

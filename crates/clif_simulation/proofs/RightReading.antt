@@ -17,7 +17,7 @@ use Rattle.clif_meaning.specs.FunctionMachine.{Collector, FunctionRun, FunctionS
 use Rattle.clif_meaning.specs.View.{view_of}
 use Rattle.clif_meaning.specs.Headline.{IsWorldOf}
 use Rattle.clif_simulation.specs.Tables.{program_so_far, block_name}
-use Rattle.clif_simulation.specs.Reading.{PremisesSoFar, script_run_so_far, function_run_so_far, starting_at, SideBySide, StartAlike, RunSideBySide}
+use Rattle.clif_simulation.specs.Reading.{PremisesSoFar, may_grow, script_run_so_far, function_run_so_far, starting_at, SideBySide, StartAlike, RunSideBySide}
 use Rattle.clif_simulation.proofs.Unbranched.{CarriesUnbranched}
 use Rattle.clif_simulation.proofs.Starting.{arguments_count}
 use Rattle.clif_simulation.proofs.Reaching.{reached_entry}
@@ -27,7 +27,7 @@ use Rattle.clif_simulation.proofs.Setting
 
 module _ (calls : List AnsweredCall) (signature : SignatureShape) (f : Body) (ssa : SsaState) (consistent : IsConsistent f) (carries : CarriesUnbranched calls f ssa)
     (width : PointerWidth) (world : World) (tracked : Name → Bool) (collector : Collector)
-    (fits : IsWorldOf signature (view_of f) width world) (premises : PremisesSoFar calls signature)
+    (fits : IsWorldOf signature (view_of f) width world) (premises : PremisesSoFar (may_grow calls) calls signature)
   where
     abbrev left_run : ScriptRun
     left_run = script_run_so_far calls f world tracked

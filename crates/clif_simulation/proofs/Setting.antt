@@ -346,7 +346,7 @@ module _ (calls : List AnsweredCall) (f : Body) (ssa : SsaState) (consistent : I
               names = p0.names;
               values = values_there;
               agrees = entered_agrees any_value program function (first_arm e) [] parameters (answered calls) (λ w. 0) (λ w. 0) enters (λ x. 0) (λ n. 0) blank_agrees blank_zeros
-                  world.arguments as_many;
+                  world.arguments (inl as_many);
               names_are = λ x i within home. refl;
               values_are = λ w i within home. by w (is-end carries.whole.tables.function w e i home) (z.values w);
             }
@@ -354,7 +354,7 @@ module _ (calls : List AnsweredCall) (f : Body) (ssa : SsaState) (consistent : I
                 zero_there : (w y : ℕ) → (function.definition w).kind ≡ zero_of y → values_there w ≡ 0
                 zero_there =
                     (entered_zeros any_value program function (first_arm e) [] parameters (answered calls) (λ w. 0) (λ w. 0) enters (λ x. 0) (λ n. 0) blank_agrees blank_zeros
-                    world.arguments as_many).of_value
+                    world.arguments (inl as_many)).of_value
 
                 by : (w : ℕ) → carries.whole.tables.function.resolve w ≡ w → (state.values w ≡ q0.values w) ⊎ ((state.values w ≡ 0) × IsZeroValue w) → values_there w ≡ state.values w
                 by w itself (inl same) = sym (same_values w) ∙ sym same

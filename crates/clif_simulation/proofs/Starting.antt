@@ -170,13 +170,13 @@ module _ (calls : List AnsweredCall) (f : Body) (ssa : SsaState) (consistent : I
     agrees_there =
         agrees_still live program function (first_arm e ∷ []) left_first.variables left_first.names values_there right_first.values same_values
         (entered_agrees live program function (first_arm e) [] of_entry (answered calls) blank_values blank_values enters left_first.variables (λ x. 0) blank_agrees blank_zeros
-        world.arguments as_many)
+        world.arguments (inl as_many))
 
     zeros_there : ZerosAreZero program function (first_arm e ∷ []) left_first.variables left_first.names right_first.values
     zeros_there =
         zeros_still program function (first_arm e ∷ []) left_first.variables left_first.names values_there right_first.values same_values
         (entered_zeros live program function (first_arm e) [] of_entry (answered calls) blank_values blank_values enters left_first.variables (λ x. 0) blank_agrees blank_zeros
-        world.arguments as_many)
+        world.arguments (inl as_many))
 
     blank : (w y : ℕ) → (function.definition w).kind ≡ zero_of y → right_first.values w ≡ 0
     blank = zeros_there.of_value

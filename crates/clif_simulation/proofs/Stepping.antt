@@ -484,12 +484,12 @@ module _ (calls : List AnsweredCall) (f : Body) (ssa : SsaState) (consistent : I
             agrees_there : Agrees live program function (arm ∷ behind) p.variables p1.names q1.values
             agrees_there =
                 agrees_still live program function (arm ∷ behind) p.variables p1.names values_there q1.values same_values
-                (entered_agrees live program function arm behind of_target (answered calls) q.values old_and_theirs enters p.variables p.names agrees_behind zeros_behind bits_passed bits_count)
+                (entered_agrees live program function arm behind of_target (answered calls) q.values old_and_theirs enters p.variables p.names agrees_behind zeros_behind bits_passed (inl bits_count))
 
             zeros_there : ZerosAreZero program function (arm ∷ behind) p.variables p1.names q1.values
             zeros_there =
                 zeros_still program function (arm ∷ behind) p.variables p1.names values_there q1.values same_values
-                (entered_zeros live program function arm behind of_target (answered calls) q.values old_and_theirs enters p.variables p.names agrees_behind zeros_behind bits_passed bits_count)
+                (entered_zeros live program function arm behind of_target (answered calls) q.values old_and_theirs enters p.variables p.names agrees_behind zeros_behind bits_passed (inl bits_count))
 
             follows_there : Follows (arms tables) (arm ∷ behind)
             follows_there =

@@ -1,6 +1,6 @@
 -- What the premises say of an edge of the program: its target has its terminator, and it passes as much as that has
 -- parameters of the caller's.
-use Rattle.std.proofs.Common.{◌≡◌, ℕ, List, [], length, map, slice_get, Option, Some, sym, ◌∙◌, ap}
+use Rattle.std.proofs.Common.{◌≡◌, ℕ, Bool, false, List, [], length, map, slice_get, Option, Some, sym, ◌∙◌, ap}
 use Rattle.std.specs.Prelude.{IsTrue}
 use Rattle.std.specs.List.{AllByRecursion}
 use Rattle.clif_types.specs.Signature.{SignatureShape}
@@ -14,6 +14,7 @@ use Rattle.clif_meaning.specs.Program.{Instruct}
 use Rattle.clif_meaning.specs.Premises.{EachItem, HasGoodTargets, IsGoodTarget, IsItemWellTyped, WellTyped, parameter_types}
 use Rattle.clif_meaning.specs.Typing.{EdgeMatches, EachEdgeMatches, argument_type, call_shape}
 use Rattle.clif_simulation.specs.Tables.{program_so_far}
+use Rattle.clif_simulation.specs.Reading.{EachEdgeMatchesSoFar, EdgeMatchesSoFar, IsItemTypedSoFar, WellTypedSoFar}
 use Rattle.clif_simulation.proofs.Listed.{all_at}
 use Rattle.clif_simulation.proofs.Placing.{map_length}
 
@@ -31,6 +32,21 @@ each_matches type_of_operand parameters (Compute arithmetic) edges match_all = m
 each_matches type_of_operand parameters Jump edges match_all = match_all
 each_matches type_of_operand parameters Brif edges match_all = match_all
 each_matches type_of_operand parameters Return edges match_all = match_all
+
+-- edges that match so far
+pub each_edge_so_far : (growing : Name → Bool) (name_type : Name → «Type») (parameters : Name → List «Type») (operation : Operation) (edges : List (Edge Name Name))
+    → EachEdgeMatchesSoFar growing name_type parameters (call_shape operation) edges → AllByRecursion (EdgeMatchesSoFar growing name_type parameters [] []) edges
+each_edge_so_far growing name_type parameters (Compute arithmetic) edges matches = matches
+each_edge_so_far growing name_type parameters Jump edges matches = matches
+each_edge_so_far growing name_type parameters Brif edges matches = matches
+each_edge_so_far growing name_type parameters Return edges matches = matches
+
+pub each_matches_so_far : (growing : Name → Bool) (name_type : Name → «Type») (parameters : Name → List «Type») (operation : Operation) (edges : List (Edge Name Name))
+    → AllByRecursion (EdgeMatchesSoFar growing name_type parameters [] []) edges → EachEdgeMatchesSoFar growing name_type parameters (call_shape operation) edges
+each_matches_so_far growing name_type parameters (Compute arithmetic) edges match_all = match_all
+each_matches_so_far growing name_type parameters Jump edges match_all = match_all
+each_matches_so_far growing name_type parameters Brif edges match_all = match_all
+each_matches_so_far growing name_type parameters Return edges match_all = match_all
 
 -- the types of names
 abbrev pub name_types : List AnsweredCall → Name → «Type»
@@ -61,6 +77,16 @@ module _ (calls : List AnsweredCall) (B : Name) (k place : ℕ) (instruction : I
         matching_passes_as_many calls edge
         (all_at (EdgeMatches (name_types calls) (parameter_types ledger (program_so_far calls)) [] []) instruction.edges n edge
         (each_edge (name_types calls) (parameter_types ledger (program_so_far calls)) instruction.operation instruction.edges item.edges) is_edge)
+
+    -- and one that is well typed so far, unless its target is growing
+    pub passes_as_many_so_far : (growing : Name → Bool) (signature : SignatureShape) → WellTypedSoFar growing ledger (program_so_far calls) signature
+        → growing edge.target ≡ false → length edge.arguments ≡ length ((program_so_far calls).parameters edge.target)
+    passes_as_many_so_far growing signature typed settled =
+        let item : IsItemTypedSoFar growing ledger (program_so_far calls) (types_of signature.returns) (Instruct place instruction results) =
+        all_at (IsItemTypedSoFar growing ledger (program_so_far calls) (types_of signature.returns)) ((program_so_far calls).items B) k (Instruct place instruction results) (typed.items B) stands in
+        matching_passes_as_many calls edge
+        (all_at (EdgeMatchesSoFar growing (name_types calls) (parameter_types ledger (program_so_far calls)) [] []) instruction.edges n edge
+        (each_edge_so_far growing (name_types calls) (parameter_types ledger (program_so_far calls)) instruction.operation instruction.edges item.1) is_edge settled)
 
     pub target_filled : EachItem (HasGoodTargets ledger (program_so_far calls)) (program_so_far calls) → IsTrue (is_filled ledger edge.target)
     target_filled targets =

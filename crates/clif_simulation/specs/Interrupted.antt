@@ -1,10 +1,10 @@
 -- Interrupted runs of calls so far, with any branches: each time control enters an unsealed block, whose branches aren't
 -- all known, variables have any bits, and a parameter that waits there has its variable's; names, other values, memory and
 -- events stay. Whatever further calls make of a run at an unsealed block, it is such a run up to there. Own.
-use Rattle.std.specs.Prelude.{◌≡◌, ℕ, suc, Bool, true, false, List, [], ◌∷◌, map, flat_map, drop, Option, Some, None, slice_get}
+use Rattle.std.specs.Prelude.{◌≡◌, ◌⊎◌, ℕ, suc, Bool, true, false, List, [], ◌∷◌, map, flat_map, drop, Option, Some, None, slice_get, IsTrue}
 use Rattle.clif_types.specs.Signature.{SignatureShape}
 use Rattle.clif_types.specs.declared.target.PointerWidth.{PointerWidth}
-use Rattle.clif_ir.specs.Body.{Body, resolved}
+use Rattle.clif_ir.specs.Body.{Body, block_at, resolved}
 use Rattle.clif_ssa.specs.declared.tables.Pending.{Pending}
 use Rattle.clif_ssa.specs.Ssa.{SsaState, record_of, sealed_of}
 use Rattle.clif_ssa.specs.Tables.{is_yes, pending_of}
@@ -26,7 +26,7 @@ use Rattle.clif_meaning.specs.WellPlaced.{IsGivenBefore}
 use Rattle.clif_meaning.specs.Headline.{IsWorldOf}
 use Rattle.clif_simulation.specs.Tables.{answered, block_name, program_so_far}
 use Rattle.clif_simulation.specs.Carries.{carried, SparesEntry}
-use Rattle.clif_simulation.specs.Reading.{code_so_far, behind, PremisesSoFar, script_run_so_far, function_run_so_far, IsAtEnd}
+use Rattle.clif_simulation.specs.Reading.{code_so_far, behind, may_grow, PremisesSoFar, script_run_so_far, function_run_so_far, IsAtEnd}
 
 -- The edge that an instruction takes. No call has edges so far.
 abbrev pub taken_of : {Block Operand : Type 0} → List (Edge Block Operand) → Outcome → Option (Edge Block Operand)
@@ -164,10 +164,21 @@ RunsBeside calls f s left right block name =
     (unknowns : Unknowns) (n : ℕ) (rest : List Item) → (state_after (interrupted_script calls s unknowns block name left) n).state.control ≡ At rest
     → HasBeside calls f s (state_after (interrupted_script calls s unknowns block name left) n) (interrupted_function s unknowns block right)
 
--- In every world, whatever names are tracked and whatever the collector is: no call moves anything yet.
-abbrev pub ReadsRight : List AnsweredCall → SignatureShape → Body → SsaState → Type 0
-ReadsRight calls signature f s =
+-- Growing blocks are unsealed, or have the caller's parameters alone.
+abbrev pub AreOpen : List AnsweredCall → Body → SsaState → (Name → Bool) → Type 0
+AreOpen calls f s growing =
+    (block : ℕ) (name : Name) → block_name calls block ≡ Some name → IsTrue (growing name)
+    → (is_yes (sealed_of s block) ≡ false) ⊎ ((block_at f block).params ≡ map (answered calls) ((program_so_far calls).parameters name))
+
+-- In every world, whatever names are tracked and whatever the collector is: no call moves anything yet. Edges into growing
+-- blocks need not match.
+abbrev pub ReadsRightWhere : (Name → Bool) → List AnsweredCall → SignatureShape → Body → SsaState → Type 0
+ReadsRightWhere growing calls signature f s =
     (width : PointerWidth) (world : World) (tracked : Name → Bool) (collector : Collector)
-    → IsWorldOf signature (view_of f) width world → PremisesSoFar calls signature → SparesEntry calls
+    → IsWorldOf signature (view_of f) width world → PremisesSoFar growing calls signature → SparesEntry calls
     → (block : ℕ) (name : Name) → block_name calls block ≡ Some name → (program_so_far calls).entry ≡ Some name
     → RunsBeside calls f s (script_run_so_far calls f world tracked) (function_run_so_far calls f width world collector) block name
+
+-- those that may still grow are
+abbrev pub ReadsRight : List AnsweredCall → SignatureShape → Body → SsaState → Type 0
+ReadsRight calls signature f s = ReadsRightWhere (may_grow calls) calls signature f s

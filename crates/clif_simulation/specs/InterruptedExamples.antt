@@ -1,5 +1,6 @@
 -- Worked examples of the reading beside interrupted runs: the row `first`, half built; the row `both_arms`, whose loop has
--- both arms of one branch; a loop before its block is sealed; and one whose block has a parameter of the caller's too. Own.
+-- both arms of one branch; a loop before its block is sealed; one whose block has a parameter of the caller's too; and a jump
+-- to a block before its parameter is made. Own.
 use Rattle.std.specs.Prelude.{ℕ, false, List, [], ◌∷◌, Some, None}
 use Rattle.clif_types.specs.declared.extname.UserFuncName.TheVariants.{Testcase}
 use Rattle.clif_ir.specs.declared.block_call.BlockArg.TheVariants.{Value}
@@ -17,6 +18,7 @@ use Rattle.clif_meaning.specs.Examples.{i32, first_signature}
 use Rattle.clif_meaning.specs.BranchExamples.{block, plain, both_arms_signature}
 use Rattle.clif_meaning.specs.SampleExamples.{sample_signature}
 use Rattle.clif_meaning.specs.ScriptExamples.{answered_calls}
+use Rattle.clif_simulation.specs.Reading.{may_grow, PremisesSoFar}
 use Rattle.clif_simulation.specs.Interrupted.{ReadsRight}
 use Rattle.clif_simulation.specs.CarryingExamples.{edge_to, loop_calls, loop_body, loop_state}
 use Rattle.clif_simulation.specs.ReadingExamples.{half_body_with, half_body, half_state_with, half_state, waiting_parameter}
@@ -116,6 +118,36 @@ passing_loop_state = record {
       ∷ record { predecessors = 0 ∷ 1 ∷ []; sealed = No (record { variable = 0; param = 2 } ∷ []) } ∷ [];
 }
 
+-- a jump that passes an argument to a block before the block's parameter is made
+abbrev pub early_jump_calls : List AnsweredCall
+early_jump_calls =
+    record { request = CreateBlock; numbers = 0 ∷ [] }
+    ∷ record { request = CreateBlock; numbers = 1 ∷ [] }
+    ∷ record { request = AppendFunctionParams (block 0) (i32 ∷ []); numbers = 0 ∷ [] }
+    ∷ record { request = SwitchToBlock (block 0); numbers = [] }
+    ∷ record { request = SealBlock (block 0); numbers = [] }
+    ∷ record { request = jump (into_loop (answer_of 2 0)); numbers = 0 ∷ [] } ∷ []
+
+-- the function so far, whose block1 isn't in the layout yet:
+--     block0(v0: i32):
+--         jump block1(v0)
+abbrev pub early_jump_body : Body
+early_jump_body = record {
+  name = Testcase (101 ∷ []);
+  signature = sample_signature;
+  values = record { ty = i32; origin = Param 0 } ∷ [];
+  insts = record { shape = Jump (edge_to 1 (Value 0 ∷ [])); results = []; block = 0; srcloc = 0 } ∷ [];
+  blocks = record { params = 0 ∷ []; insts = 0 ∷ []; is_cold = false } ∷ record { params = []; insts = []; is_cold = false } ∷ [];
+  layout = 0 ∷ [];
+}
+
+-- the construction so far
+abbrev pub early_jump_state : SsaState
+early_jump_state = record {
+  records = [];
+  blocks = record { predecessors = []; sealed = Yes } ∷ record { predecessors = 0 ∷ []; sealed = No [] } ∷ [];
+}
+
 pub record InterruptedExamples : Type 0 where
   -- the half built row reads right; with another constant, with the constant on record for the variable, or where the
   -- parameter doesn't wait, it doesn't
@@ -132,3 +164,8 @@ pub record InterruptedExamples : Type 0 where
   -- so does the loop that passes what it used on to a parameter; where it passes the parameter itself, it doesn't
   pub passing_loop_reads_right : ReadsRight passing_loop_calls sample_signature passing_loop_body passing_loop_state
   pub passing_loop_other_argument : ReadsRight passing_loop_calls sample_signature (passing_loop_body_with 1) passing_loop_state → ⊥
+  -- a jump may come before its target's parameter: the premises hold so far, as they don't with no growing block, and it reads
+  -- right
+  pub early_jump_premises : PremisesSoFar (may_grow early_jump_calls) early_jump_calls sample_signature
+  pub early_jump_settled : PremisesSoFar (λ block. false) early_jump_calls sample_signature → ⊥
+  pub early_jump_reads_right : ReadsRight early_jump_calls sample_signature early_jump_body early_jump_state

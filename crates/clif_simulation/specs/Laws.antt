@@ -1,5 +1,5 @@
 -- The laws, as the contracts of this crate's functions state them.
-use Rattle.std.specs.Prelude.{◌≡◌, ℕ, true, List, [], Some, IsTrue}
+use Rattle.std.specs.Prelude.{◌≡◌, ℕ, Bool, true, List, [], Some, IsTrue}
 use Rattle.clif_types.specs.declared.target.PointerWidth.{PointerWidth}
 use Rattle.clif_types.specs.Signature.{SignatureShape}
 use Rattle.clif_ir.specs.Body.{Body}
@@ -15,7 +15,7 @@ use Rattle.clif_meaning.specs.Headline.{MeansTheSame}
 use Rattle.clif_simulation.specs.Tables.{code, block_name}
 use Rattle.clif_simulation.specs.Carries.{Carries, NothingLeads}
 use Rattle.clif_simulation.specs.Reading.{ReadsRightFromAnywhere}
-use Rattle.clif_simulation.specs.Interrupted.{ReadsRight}
+use Rattle.clif_simulation.specs.Interrupted.{AreOpen, ReadsRightWhere}
 
 -- Different names have different numbers.
 abbrev pub CodesDiffer : Type 0
@@ -37,11 +37,12 @@ CarryingMeansTheSame =
     → MeansTheSame (script_of calls) f.signature width (view_of f)
 
 -- A function that carries a list of calls reads right on runs and bits, whether it is finished or not: with any branches and
--- parameters of the caller's, beside runs that are interrupted at unsealed blocks.
+-- parameters of the caller's, beside runs that are interrupted at unsealed blocks. What edges pass into growing blocks, unsealed
+-- ones or with the caller's parameters alone, need not match these.
 abbrev pub CarryingReadsRight : Type 0
 CarryingReadsRight =
-    (calls : List AnsweredCall) (signature : SignatureShape) (f : Body) (s : SsaState)
-    → IsConsistent f → Carries calls f s → ReadsRight calls signature f s
+    (calls : List AnsweredCall) (signature : SignatureShape) (f : Body) (s : SsaState) (growing : Name → Bool)
+    → IsConsistent f → Carries calls f s → AreOpen calls f s growing → ReadsRightWhere growing calls signature f s
 
 -- Where no branch was made, it does so from every pair of states at the front of an unsealed entry.
 abbrev pub CarryingReadsRightFromAnywhere : Type 0

@@ -1,7 +1,9 @@
 -- An unfinished function, read on runs and bits: from each start both machines of the calls so far run side by side. A
 -- name's value has the name's bits then, and at a block's end so far each record has its variable's bits. It is a law
 -- of `Carries`, which speaks of paths, where no branch was made; with branches, `Interrupted` says it. Own.
-use Rattle.std.specs.Prelude.{◌≡◌, ℕ, suc, false, Bool, List, [], ◌∷◌, drop, flat_map, Some, Contains, IsTrue}
+use Rattle.std.specs.Prelude.{◌≡◌, ℕ, suc, not, ◌||◌, false, Bool, List, [], ◌∷◌, drop, flat_map, Option, Some, None, Contains, IsTrue}
+use Rattle.std.specs.List.{AllByRecursion}
+use Rattle.clif_types.specs.declared.types.«Type».{«Type»}
 use Rattle.clif_types.specs.Signature.{SignatureShape}
 use Rattle.clif_types.specs.declared.target.PointerWidth.{PointerWidth}
 use Rattle.clif_ir.specs.Body.{Body, resolved}
@@ -10,8 +12,11 @@ use Rattle.clif_ssa.specs.Ssa.{SsaState, record_of, sealed_of}
 use Rattle.clif_ssa.specs.Tables.{is_yes, pending_of}
 use Rattle.clif_meaning.specs.Name.{Name}
 use Rattle.clif_meaning.specs.Request.{AnsweredCall, script_of}
-use Rattle.clif_meaning.specs.Ledger.{ledger_after, is_terminator}
-use Rattle.clif_meaning.specs.Program.{Item, Instruct, Use, Assign}
+use Rattle.clif_meaning.specs.Ledger.{Ledger, ledger_after, is_pristine, is_sealed, is_terminator, or_invalid, type_of}
+use Rattle.clif_meaning.specs.Instruction.{Edge}
+use Rattle.clif_meaning.specs.Event.{CallShape, types_of, payload_types}
+use Rattle.clif_meaning.specs.Typing.{call_shape, EdgeMatches}
+use Rattle.clif_meaning.specs.Program.{Program, Item, Instruct, Use, Assign}
 use Rattle.clif_meaning.specs.World.{World}
 use Rattle.clif_meaning.specs.Machine.{Machine, At, Observation, state_after}
 use Rattle.clif_meaning.specs.ScriptMachine.{ScriptRun, ScriptState, script_machine}
@@ -19,7 +24,7 @@ use Rattle.clif_meaning.specs.FunctionMachine.{Collector, FunctionRun, FunctionS
 use Rattle.clif_meaning.specs.View.{view_of, block_of}
 use Rattle.clif_meaning.specs.Path.{Place, IsReachable}
 use Rattle.clif_meaning.specs.WellPlaced.{Code, IsGivenBefore, IsWellPlaced, program_code}
-use Rattle.clif_meaning.specs.Premises.{WellTyped}
+use Rattle.clif_meaning.specs.Premises.{EachItem, EntryTakes, IsItemWellTyped, parameter_types}
 use Rattle.clif_meaning.specs.Headline.{script_run, function_run, IsWorldOf}
 use Rattle.clif_simulation.specs.Tables.{answered, block_name, program_so_far}
 use Rattle.clif_simulation.specs.Carries.{carried}
@@ -35,9 +40,39 @@ code_so_far calls = with_ends (program_code (program_so_far calls))
 abbrev pub behind : Name → ℕ → Place Name
 behind block count = record { block = block; index = count }
 
--- the premises on the calls so far, on types and on the order of names
-pub record PremisesSoFar (calls : List AnsweredCall) (signature : SignatureShape) : Type 0 where
-  pub well_typed : WellTyped (ledger_after (script_of calls)) (program_so_far calls) signature
+-- A block may still get parameters of the caller's: it isn't sealed, or nothing was made in it.
+abbrev pub may_grow : List AnsweredCall → Name → Bool
+may_grow calls block = not (is_sealed (ledger_after (script_of calls)) block) || is_pristine (ledger_after (script_of calls)) block
+
+-- Edges match so far: `EachEdgeMatches`, where those into growing blocks are left out.
+abbrev pub EdgeMatchesSoFar : (Name → Bool) → (Name → «Type») → (Name → List «Type») → List «Type» → List «Type» → Edge Name Name → Type 0
+EdgeMatchesSoFar growing name_type parameter_types results payload edge =
+    growing edge.target ≡ false → EdgeMatches name_type parameter_types results payload edge
+
+abbrev pub EachEdgeMatchesSoFar : (Name → Bool) → (Name → «Type») → (Name → List «Type») → Option CallShape → List (Edge Name Name) → Type 0
+EachEdgeMatchesSoFar growing name_type parameter_types None edges = AllByRecursion (EdgeMatchesSoFar growing name_type parameter_types [] []) edges
+EachEdgeMatchesSoFar growing name_type parameter_types (Some call) [] = Unit {0}
+EachEdgeMatchesSoFar growing name_type parameter_types (Some call) (normal ∷ items) =
+    EdgeMatchesSoFar growing name_type parameter_types (types_of call.signature.returns) [] normal
+    × AllByRecursion (EdgeMatchesSoFar growing name_type parameter_types [] payload_types) items
+
+-- an item is well typed so far: without its edges it is well typed, and its edges match so far
+abbrev pub IsItemTypedSoFar : (Name → Bool) → Ledger → Program → List «Type» → Item → Type 0
+IsItemTypedSoFar growing ledger program returns (Instruct place instruction results) =
+    IsItemWellTyped ledger program returns (Instruct place (record instruction { edges = [] }) results)
+    × EachEdgeMatchesSoFar growing (λ name. or_invalid (type_of ledger name)) (parameter_types ledger program)
+    (call_shape instruction.operation) instruction.edges
+IsItemTypedSoFar growing ledger program returns (Use variable name) = Unit {0}
+IsItemTypedSoFar growing ledger program returns (Assign variable name) = IsItemWellTyped ledger program returns (Assign variable name)
+
+-- `WellTyped`, where edges into growing blocks are left out
+pub record WellTypedSoFar (growing : Name → Bool) (ledger : Ledger) (program : Program) (signature : SignatureShape) : Type 0 where
+  pub items : EachItem (IsItemTypedSoFar growing ledger program (types_of signature.returns)) program
+  pub entry : EntryTakes ledger program (types_of signature.params) program.entry
+
+-- the premises on the calls so far, on types and on the order of names, where these blocks are growing
+pub record PremisesSoFar (growing : Name → Bool) (calls : List AnsweredCall) (signature : SignatureShape) : Type 0 where
+  pub well_typed : WellTypedSoFar growing (ledger_after (script_of calls)) (program_so_far calls) signature
   pub given_before : IsWellPlaced (program_code (program_so_far calls))
 
 -- what a run of the calls so far goes by, where these names are tracked
@@ -101,5 +136,5 @@ pub record RunSideBySide (calls : List AnsweredCall) (f : Body) (s : SsaState) (
 abbrev pub ReadsRightFromAnywhere : List AnsweredCall → SignatureShape → Body → SsaState → Type 0
 ReadsRightFromAnywhere calls signature f s =
     (width : PointerWidth) (world : World) (tracked : Name → Bool) (collector : Collector)
-    → IsWorldOf signature (view_of f) width world → PremisesSoFar calls signature
+    → IsWorldOf signature (view_of f) width world → PremisesSoFar (may_grow calls) calls signature
     → RunSideBySide calls f s (script_run_so_far calls f world tracked) (function_run_so_far calls f width world collector)

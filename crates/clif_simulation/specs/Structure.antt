@@ -1,6 +1,6 @@
--- What holds of a finished function that carries a list of calls, beside what it means: its values are defined before
--- they are named, the arguments of its edges match, and a block to which at most one branch leads has no parameter of a
--- variable. Source: own.
+-- What holds of a function that carries a list of calls, beside what it means: its values are defined before they are named,
+-- and once no parameter waits the arguments of its edges match, and a block to which at most one branch leads has no parameter
+-- of a variable. Source: own.
 use Rattle.std.specs.Prelude.{◌≡◌, ℕ, ◌+◌, ◌≤◌, true, List, [], length, map, flat_map, drop, Some, Contains}
 use Rattle.std.specs.List.{AllByRecursion}
 use Rattle.clif_ir.specs.Body.{Body, block_at}
@@ -15,12 +15,10 @@ use Rattle.clif_meaning.specs.Program.{Use, program_of}
 use Rattle.clif_meaning.specs.Path.{Place}
 use Rattle.clif_meaning.specs.View.{view_of}
 use Rattle.clif_meaning.specs.Typing.{EdgesMatch}
-use Rattle.clif_meaning.specs.Ledger.{ledger_after}
-use Rattle.clif_meaning.specs.Premises.{CallersEdgesMatch, EachItem, HasGoodTargets}
+use Rattle.clif_meaning.specs.Premises.{CallersEdgesMatch}
 use Rattle.clif_meaning.specs.WellPlaced.{program_code, IsWellPlaced, WellPlaced, Records, RecordsWellPlaced}
 use Rattle.clif_simulation.specs.Tables.{answered, callers_parameters, program_so_far, block_name, item_at}
-use Rattle.clif_simulation.specs.Carries.{AreDeclared, Carries, HasItems, IsValue, NamesEarlier, NothingLeads, OwnNamed, OwnParameters, ValuesTyped, carried}
-use Rattle.clif_simulation.specs.Laws.{IsFinished}
+use Rattle.clif_simulation.specs.Carries.{AreDeclared, Carries, HasItems, IsValue, NamesEarlier, NothingLeads, OwnNamed, OwnParameters, SparesEntry, ValuesTyped, carried}
 
 -- this block's parameters are those that the caller made, in order: none is a variable's
 abbrev pub HasCallersAlone : List AnsweredCall → Body → ℕ → Type 0
@@ -83,16 +81,12 @@ CarryingMatchesEdges =
     → CallersEdgesMatch (script_of calls)
     → EdgesMatch (view_of f)
 
--- each branch of the program leads to blocks that have their terminator, and none to the entry
-abbrev pub HasFilledTargets : List AnsweredCall → Type 0
-HasFilledTargets calls = EachItem (HasGoodTargets (ledger_after (script_of calls)) (program_so_far calls)) (program_so_far calls)
-
--- Where the names of the program are given before they are named, a finished function's values are defined before they
--- are: on each path from the entry, with branches, joins and loops, and what the construction passes to parameters too.
+-- Where the names of the program are given before they are named, the function's values are defined before they are, finished
+-- or not: on each path from the entry, with branches, joins and loops, and what the construction passes to parameters too.
 abbrev pub CarryingIsWellPlaced : Type 0
 CarryingIsWellPlaced =
     (calls : List AnsweredCall) (f : Body) (s : SsaState)
-    → IsConsistent f → Carries calls f s → IsFinished calls f s → HasFilledTargets calls
+    → IsConsistent f → Carries calls f s → SparesEntry calls
     → IsWellPlaced (program_code (program_of (script_of calls)))
     → WellPlaced (view_of f)
 
@@ -117,7 +111,7 @@ pub record AreRecords (calls : List AnsweredCall) (f : Body) (s : SsaState) (rec
 abbrev pub RecordsAreWellPlaced : Type 0
 RecordsAreWellPlaced =
     (calls : List AnsweredCall) (f : Body) (s : SsaState) (records : Records)
-    → IsConsistent f → Carries calls f s → IsFinished calls f s → HasFilledTargets calls
+    → IsConsistent f → Carries calls f s → SparesEntry calls
     → IsWellPlaced (program_code (program_of (script_of calls)))
     → AreRecords calls f s records
     → RecordsWellPlaced (view_of f) records

@@ -13,7 +13,7 @@ pub fn half_built_reads_right()
 
 /// Beside interrupted runs the half built row reads right, and so do the row `both_arms`, a loop, a loop whose block is
 /// unsealed, and one whose block has a parameter of the caller's too; with another constant, another record, a parameter
-/// that doesn't wait, or another argument, they don't.
+/// that doesn't wait, or another argument, they don't. So does a jump that comes before its target's parameter.
 pub fn interrupted_reads_right()
     ensures { InterruptedExamples }
 {}

@@ -9,7 +9,8 @@ pub fn carrying_means_the_same()
 {}
 
 /// An unfinished function that carries a list of calls, with any branches and parameters of the caller's, has the bits of the
-/// names and variables of the list's program, beside each run that is interrupted at unsealed blocks.
+/// names and variables of the list's program, beside each run that is interrupted at unsealed blocks; edges need not match
+/// into blocks that are unsealed or have the caller's parameters alone.
 pub fn carrying_reads_right()
     ensures { CarryingReadsRight }
 {}

@@ -1,4 +1,4 @@
-//! What holds of a finished function that carries a list of calls, beside what it means.
+//! What holds of a function that carries a list of calls, beside what it means.
 
 ghost use Rattle.clif_simulation.specs.Structure.{CarryingIsWellPlaced, CarryingLeavesNoParameters, CarryingMatchesEdges, ConstructionLeavesFewParameters, ConstructionMatchesEdges, RecordsAreWellPlaced};
 
@@ -22,13 +22,13 @@ pub fn carrying_matches_edges()
     ensures { CarryingMatchesEdges }
 {}
 
-/// Its values are defined before they are named, where the program's names are given before: with branches, joins and
-/// loops.
+/// Its values are defined before they are named, finished or not, where the program's names are given before and no branch
+/// names the entry: with branches, joins and loops.
 pub fn carrying_is_well_placed()
     ensures { CarryingIsWellPlaced }
 {}
 
-/// What the builder recorded, and what answered uses, is defined before it counts.
+/// What the builder recorded, and what answered uses, is defined before it counts, finished or not.
 pub fn records_are_well_placed()
     ensures { RecordsAreWellPlaced }
 {}

@@ -20,6 +20,7 @@ pub mod Named
 mod Appending
 pub mod Statuses
 pub mod StandingCallers
+mod StandingOpen
 pub mod Standing
 pub mod StandingResults
 pub mod Marking

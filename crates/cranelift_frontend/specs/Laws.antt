@@ -7,8 +7,10 @@ use Rattle.clif_meaning.specs.Request.{AnsweredCall, script_of}
 use Rattle.clif_meaning.specs.View.{view_of}
 use Rattle.clif_meaning.specs.Typing.{EdgesMatch}
 use Rattle.clif_meaning.specs.Premises.{CallersEdgesMatch}
-use Rattle.clif_simulation.specs.Carries.{NothingLeads}
-use Rattle.clif_simulation.specs.Structure.{NoneWaits}
+use Rattle.clif_meaning.specs.WellPlaced.{program_code, IsWellPlaced, Records, RecordsWellPlaced, WellPlaced}
+use Rattle.clif_simulation.specs.Tables.{program_so_far}
+use Rattle.clif_simulation.specs.Carries.{NothingLeads, SparesEntry}
+use Rattle.clif_simulation.specs.Structure.{AreRecords, NoneWaits}
 use Rattle.clif_simulation.specs.Reading.{ReadsRightFromAnywhere}
 use Rattle.clif_simulation.specs.Interrupted.{ReadsRight}
 use Rattle.cranelift_frontend.specs.Context.{ContextState}
@@ -16,8 +18,8 @@ use Rattle.cranelift_frontend.specs.StandsFor.{StandsIn}
 
 -- Where the parts of a builder stand for a list of calls, they read right on runs and bits, with any branches and parameters of
 -- the caller's: beside a run of the list's program that is interrupted at unsealed blocks, a run of the unfinished function has
--- the bits of the names and, at a block's end so far, of the variables. Each function is consistent
--- (`Function::law_consistent`).
+-- the bits of the names and, at a block's end so far, of the variables. Edges into unsealed or pristine blocks need not match
+-- yet. Each function is consistent (`Function::law_consistent`).
 abbrev pub StandingReadsRight : Type 0
 StandingReadsRight =
     (declared : SignatureShape) (calls : List AnsweredCall) (f : Body) (c : ContextState) (position : Option ℕ)
@@ -35,3 +37,18 @@ abbrev pub StandingMatchesEdges : Type 0
 StandingMatchesEdges =
     (declared : SignatureShape) (calls : List AnsweredCall) (f : Body) (c : ContextState) (position : Option ℕ)
     → StandsIn declared calls f c position → NoneWaits c.ssa → CallersEdgesMatch (script_of calls) → EdgesMatch (view_of f)
+
+-- Where the names of the list's program are given before they are named, and no branch names the entry, the unfinished
+-- function's values are defined before they are named,
+abbrev pub StandingIsWellPlaced : Type 0
+StandingIsWellPlaced =
+    (declared : SignatureShape) (calls : List AnsweredCall) (f : Body) (c : ContextState) (position : Option ℕ)
+    → IsConsistent f → StandsIn declared calls f c position → SparesEntry calls → IsWellPlaced (program_code (program_so_far calls))
+    → WellPlaced (view_of f)
+
+-- and so is what the builder recorded at the ends of its blocks, and what answered uses.
+abbrev pub StandingRecordsAreWellPlaced : Type 0
+StandingRecordsAreWellPlaced =
+    (declared : SignatureShape) (calls : List AnsweredCall) (f : Body) (c : ContextState) (position : Option ℕ) (records : Records)
+    → IsConsistent f → StandsIn declared calls f c position → SparesEntry calls → IsWellPlaced (program_code (program_so_far calls))
+    → AreRecords calls f c.ssa records → RecordsWellPlaced (view_of f) records

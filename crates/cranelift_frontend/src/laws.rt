@@ -2,7 +2,7 @@
 //! are the laws.
 
 ghost use Rattle.cranelift_frontend.specs.Growth.{BuilderUsesAgree};
-ghost use Rattle.cranelift_frontend.specs.Laws.{StandingMatchesEdges, StandingReadsRight, StandingReadsRightFromAnywhere};
+ghost use Rattle.cranelift_frontend.specs.Laws.{StandingIsWellPlaced, StandingMatchesEdges, StandingReadsRight, StandingReadsRightFromAnywhere, StandingRecordsAreWellPlaced};
 
 /// Two uses of a variable in a block stand for one value, where no call between them assigns it there.
 pub fn uses_agree()
@@ -10,7 +10,8 @@ pub fn uses_agree()
 {}
 
 /// The unfinished function of a builder that stands for a list of calls has the bits of the names and variables of the
-/// list's program, with any branches and parameters of the caller's, beside each run that is interrupted at unsealed blocks.
+/// list's program, with any branches and parameters of the caller's, beside each run that is interrupted at unsealed blocks;
+/// edges into unsealed or pristine blocks need not match yet.
 pub fn standing_reads_right()
     ensures { StandingReadsRight }
 {}
@@ -24,4 +25,15 @@ pub fn standing_reads_right_from_anywhere()
 /// caller's do.
 pub fn standing_matches_edges()
     ensures { StandingMatchesEdges }
+{}
+
+/// The values of the unfinished function of a builder that stands for a list of calls are defined before they are named, where
+/// the names of the list's program are given before and no branch names the entry.
+pub fn standing_is_well_placed()
+    ensures { StandingIsWellPlaced }
+{}
+
+/// So is what the builder recorded, before the ends of its blocks, and what answered uses.
+pub fn standing_records_are_well_placed()
+    ensures { StandingRecordsAreWellPlaced }
 {}

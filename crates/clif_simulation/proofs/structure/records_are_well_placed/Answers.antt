@@ -1,7 +1,6 @@
 use Rattle.clif_simulation.proofs.RecordsDefined.{records_well_placed}
-use Rattle.clif_simulation.proofs.Whole.{spared, whole}
+use Rattle.clif_simulation.proofs.Whole.{whole}
 use Rattle.clif_simulation.proofs.structure.records_are_well_placed.Goals as goal
 
 pub returns : goal.returns
-returns c = λ calls f s records consistent carries finished targets placed.
-    records_well_placed calls f s consistent (whole calls f s consistent carries (spared calls targets)) finished placed targets records
+returns c = λ calls f s records consistent carries spares placed. records_well_placed calls f s consistent (whole calls f s consistent carries spares) placed records
