@@ -29,6 +29,14 @@ says_behind line words given rest number old new are parts says = inr (record {
   more = says.more;
 })
 
+-- and so is one without `=`
+pub says_alone : (line : List ℕ) (words : List (List ℕ)) (number : ℕ) (old new : Said) → AreWords words line → SaysCall (λ call. (names : Names) × IsCall names words call) number old new → LineSays number line old new
+says_alone line words number old new are says = inr (record {
+  call = says.call;
+  stands = (says.stands.0, words, are, inl says.stands.1);
+  more = says.more;
+})
+
 -- a header line says no call
 pub says_header : (line : List ℕ) (words : List (List ℕ)) (head : List ℕ) (rest : List (List ℕ)) (number : ℕ) (state : Said) → AreWords words line → words ≡ head ∷ rest → IsHeaderWord head → All (λ word. word ≢ codes "=") words → LineSays number line state state
 says_header line words head rest number state are parts header others = inl (inr (head, rest, subst (λ ws. AreWords ws line) parts are, header, subst (λ ws. All (λ word. word ≢ codes "=") ws) parts others), refl)

@@ -1,10 +1,11 @@
-use Rattle.std.proofs.Common.{ap, sym, subst, ◌∙◌, ◌≢◌}
+use Rattle.std.proofs.Common.{List, ℕ, ap, sym, subst, ◌∙◌, ◌≢◌, Bor}
 use Rattle.std.specs.List.{All}
 use Rattle.std.proofs.lemmas.Result.{on_ok_weaker}
 use Rattle.std.specs.Prelude.{codes}
 use Rattle.clif_text.specs.Cursor.{texts}
+use Rattle.clif_text.specs.Words.{AreWords}
 use Rattle.clif_text.specs.Reader.{said_to}
-use Rattle.clif_text.proofs.Reading.{says_behind, says_header, has_first, has_one, refuses_words, may_refuse_words}
+use Rattle.clif_text.proofs.Reading.{says_alone, says_behind, says_header, has_first, has_one, refuses_words, may_refuse_words}
 use Rattle.clif_text.proofs.reader.Reader.line.Goals as goal
 
 pub returns-in-Some-clause-ok : goal.returns-in-Some-clause-ok
@@ -37,3 +38,8 @@ pub returns-clause-err : goal.returns-clause-err
 returns-clause-err c =
     let parts = ap texts (sym c.as_slice-words.ensures.value ∙ c.in-Some-split_first.ensures.cases.0) in
     may_refuse_words c.args.line.now c.call-in-Some-2.result (has_first c.args.line.now _ c.in-Some-split_first.head.now.now (texts c.in-Some-split_first.rest.now) c.in_ok-words.ensures parts)
+
+pub returns-clause-ok : goal.returns-clause-ok
+returns-clause-ok c =
+    let are = subst (λ (words : List (Bor (List ℕ))). AreWords (texts words) c.args.line.now) (sym c.as_slice-words.ensures.value) c.in_ok-words.ensures in
+    on_ok_weaker c.call-in-Some-2.result (λ says. says_alone c.args.line.now (texts c.as_slice-words.result.now) c.args.number (said_to c.args.self.now) (said_to c.call-in-Some-2.new.self) are says) c.call-in-Some-2.ensures
