@@ -10,7 +10,7 @@ use Rattle.clif_text.proofs.reader.Reader.line.Goals as goal
 pub returns-in-Some-clause-ok : goal.returns-in-Some-clause-ok
 returns-in-Some-clause-ok c =
     let parts = ap texts (sym c.as_slice-words.ensures.value) ∙ c.in-Some.ensures.some in
-    on_ok_weaker c.call.result (λ says. says_behind c.args.line.now (texts c.in_ok-words.words.items) (texts c.in-Some.names.now) (texts c.in-Some.rest.now) c.args.number (said_to c.args.self.now) (said_to c.call.new.self) c.in_ok-words.ensures parts says) c.call.ensures
+    on_ok_weaker c.call.result (λ says. says_behind c.args.line.now (texts c.in_ok-words.words.items) (texts c.in-Some.names.now) (texts c.in-Some.rest.now) c.args.number c.args.self.now c.call.new.self c.in_ok-words.ensures parts says) c.call.ensures
 
 pub returns-then-is_empty-clause-err : goal.returns-then-is_empty-clause-err
 returns-then-is_empty-clause-err c =
@@ -26,7 +26,7 @@ pub returns-in-Some-split_first-clause-ok : goal.returns-in-Some-split_first-cla
 returns-in-Some-split_first-clause-ok c =
     let parts = ap texts (sym c.as_slice-words.ensures.value ∙ c.in-Some-split_first.ensures.cases.0) in
     let others = subst (λ ws. All (λ word. word ≢ codes "=") (texts ws)) c.as_slice-words.ensures.value c.in_default.ensures.none in
-    on_ok_weaker c.read.result (λ header. says_header c.args.line.now (texts c.in_ok-words.words.items) c.in-Some-split_first.head.now.now (texts c.in-Some-split_first.rest.now) c.args.number (said_to c.args.self.now) c.in_ok-words.ensures parts header others) c.read.ensures
+    on_ok_weaker c.read.result (λ header counted. (record { variables = counted.variables; declared = counted.declared }, says_header c.args.line.now (texts c.in_ok-words.words.items) c.in-Some-split_first.head.now.now (texts c.in-Some-split_first.rest.now) c.args.number (said_to c.args.self.now) c.in_ok-words.ensures parts header others)) c.read.ensures
 
 pub returns-in-Some-split_first-clause-err : goal.returns-in-Some-split_first-clause-err
 returns-in-Some-split_first-clause-err c =
