@@ -16,8 +16,8 @@ use Rattle.clif_text.proofs.Left.{length-texts}
 use Rattle.clif_text.proofs.Texts.{get_or-texts}
 
 -- a call behind `=` is the line's
-pub says_behind : (line : List ℕ) (words given rest : List (List ℕ)) (number : ℕ) (old new : Reader) → AreWords words line → words ≡ given ++ codes "=" ∷ rest → WordsSay given rest number old new → LineAdds line number old new
-says_behind line words given rest number old new are parts says counted =
+pub says_behind : (line : List ℕ) (words given rest : List (List ℕ)) (number : ℕ) (old new : Reader) → AreWords words line → words ≡ given ++ codes "=" ∷ rest → All (λ word. word ≢ codes "=") given → WordsSay given rest number old new → LineAdds line number old new
+says_behind line words given rest number old new are parts others says counted =
     let told = says counted in
     let one = told.1 in
     let behind : words ≡ one.names ++ codes "=" ∷ rest = parts ∙ ap (λ ns. ns ++ codes "=" ∷ rest) (sym one.stands.0) in (
@@ -25,7 +25,7 @@ says_behind line words given rest number old new are parts says counted =
       inr (record {
         call = one.call;
         names = one.names;
-        stands = (words, are, inr (rest, behind, one.stands.1));
+        stands = (words, are, inr (rest, behind, subst (λ ns. All (λ word. word ≢ codes "=") ns) (sym one.stands.0) others, one.stands.1));
         calls = one.calls;
         numbers = one.numbers;
         given = one.given;

@@ -22,9 +22,10 @@ pub record IsLineNumber (text : List ℕ) (number : ℕ) : Type 0 where
 abbrev pub line_at : List ℕ → ℕ → List ℕ
 line_at text number = slice_index_or (lines_of text) (number - 1) []
 
--- The words of the line stand for the call; where names are given to its answers, they stand in front of `=`.
+-- The words of the line stand for the call; where names are given to its answers, they stand in front of the
+-- first `=`.
 abbrev pub IsCallLine : Names → List (List ℕ) → List ℕ → Call → Type 0
-IsCallLine names given line call = (words : List (List ℕ)) × AreWords words line × (((given ≡ []) × IsCall names words call) ⊎ ((rest : List (List ℕ)) × (words ≡ given ++ codes "=" ∷ rest) × IsCall names rest call))
+IsCallLine names given line call = (words : List (List ℕ)) × AreWords words line × (((given ≡ []) × IsCall names words call) ⊎ ((rest : List (List ℕ)) × (words ≡ given ++ codes "=" ∷ rest) × All (λ word. word ≢ codes "=") given × IsCall names rest call))
 
 -- the first word of a header line
 abbrev pub IsHeaderWord : List ℕ → Type 0

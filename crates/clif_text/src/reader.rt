@@ -162,7 +162,7 @@ fn give_names<'a>(
 
 // The words before the first `=` and those behind it, if there is one.
 fn parts_at_equals<'w, 'a>(words: &'w [&'a str]) -> Option<(&'w [&'a str], &'w [&'a str])>
-    ensures some { IfSome result (λ parts. texts words.now ≡ texts parts.0.now ++ (codes "=" ∷ texts parts.1.now)) }
+    ensures some { IfSome result (λ parts. (texts words.now ≡ texts parts.0.now ++ (codes "=" ∷ texts parts.1.now)) × All (λ word. word ≢ codes "=") (texts parts.0.now)) }
     ensures none { IfNone result (All (λ word. word ≢ codes "=") (texts words.now)) }
 {
     for (index, word) in words.iter().enumerate() {
