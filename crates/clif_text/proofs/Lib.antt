@@ -3,4 +3,7 @@ mod Lines
 mod Taking
 mod Reading
 mod Texts
+mod Scopes
+mod Giving
+mod Counting
 mod Figures

@@ -1,33 +1,36 @@
 -- A line that was read, among those before it.
-use Rattle.std.proofs.Common.{◌≡◌, ℕ, ◌+◌, ◌-◌, ◌<◌, List, [], ◌∷◌, ◌++◌, length, take, get_or, refl, ap, sym, subst, ◌∙◌, inl, inr, arith, Bor, add-one}
-use Rattle.std.proofs.Common.{◌≢◌}
+use Rattle.std.proofs.Common.{◌≡◌, ◌≢◌, ℕ, ◌+◌, ◌-◌, ◌<◌, List, [], ◌∷◌, ◌++◌, length, take, get_or, refl, ap, sym, subst, ◌∙◌, inl, inr, arith, Bor, add-one}
 use Rattle.std.specs.Prelude.{codes, Result, Ok, Err, IfErr}
 use Rattle.std.specs.List.{All}
 use Rattle.std.proofs.lemmas.List.{length-take-le}
 use Rattle.std.proofs.Math.Seq.{take-suc}
-use Rattle.clif_script.specs.declared.call.Call.{Call}
+use Rattle.clif_text.specs.declared.reader.Reader.{Reader}
 use Rattle.clif_text.specs.Cursor.{texts}
-use Rattle.clif_text.specs.Grammar.{Names, IsCall}
 use Rattle.clif_text.specs.Words.{AreWords, HasWord}
 use Rattle.clif_text.specs.declared.error.LineError.{LineError}
 use Rattle.clif_text.specs.declared.error.LineError.TheVariants as fault
 use Rattle.clif_text.specs.Errors.{error_at}
-use Rattle.clif_text.specs.Reader.{RefusesWords}
-use Rattle.clif_text.specs.Script.{lines_of, line_at, IsLineNumber, IsHeaderWord, Said, said, SaysCall, LineSays, LinesSay, TellsLine}
+use Rattle.clif_text.specs.Reader.{RefusesWords, WordsSay, LineAdds}
+use Rattle.clif_text.specs.Script.{lines_of, line_at, IsLineNumber, IsHeaderWord, Said, nothing_said, LineSays, LinesSay, TellsLine}
 use Rattle.clif_text.proofs.Left.{length-texts}
 use Rattle.clif_text.proofs.Texts.{get_or-texts}
 
--- the same calls and numbers
-pub same_said : (calls others : List Call) (numbers lines : List ℕ) → calls ≡ others → numbers ≡ lines → said calls numbers ≡ said others lines
-same_said calls others numbers lines e f = ap (λ c. said c numbers) e ∙ ap (λ n. said others n) f
-
 -- a call behind `=` is the line's
-pub says_behind : (line : List ℕ) (words given rest : List (List ℕ)) (number : ℕ) (old new : Said) → AreWords words line → words ≡ given ++ codes "=" ∷ rest → SaysCall (λ call. (names : Names) × IsCall names rest call) number old new → LineSays number line old new
-says_behind line words given rest number old new are parts says = inr (record {
-  call = says.call;
-  stands = (says.stands.0, words, are, inr (given, rest, parts, says.stands.1));
-  more = says.more;
-})
+pub says_behind : (line : List ℕ) (words given rest : List (List ℕ)) (number : ℕ) (old new : Reader) → AreWords words line → words ≡ given ++ codes "=" ∷ rest → All (λ word. word ≢ codes "=") given → WordsSay given rest number old new → LineAdds line number old new
+says_behind line words given rest number old new are parts others says counted =
+    let told = says counted in
+    let one = told.1 in
+    let behind : words ≡ one.names ++ codes "=" ∷ rest = parts ∙ ap (λ ns. ns ++ codes "=" ∷ rest) (sym one.stands.0) in (
+      told.0,
+      inr (record {
+        call = one.call;
+        names = one.names;
+        stands = (words, are, inr (rest, behind, subst (λ ns. All (λ word. word ≢ codes "=") ns) (sym one.stands.0) others, one.stands.1));
+        calls = one.calls;
+        numbers = one.numbers;
+        given = one.given;
+      }),
+    )
 
 -- and so is one without `=`
 pub says_alone : (line : List ℕ) (words : List (List ℕ)) (number : ℕ) (old new : Said) → AreWords words line → SaysCall (λ call. (names : Names) × IsCall names words call) number old new → LineSays number line old new
@@ -67,12 +70,12 @@ says_more number at (first ∷ lines) line old mid new is says one =
     (says.0, says.1, says_more (number + 1) at lines line says.0 mid new (is ∙ omega arith) says.2 one)
 
 -- the line at an index, behind those before it
-pub lines_more : (text line : List ℕ) (index : ℕ) (old new : Said) → index < length (lines_of text) → line ≡ line_at text (index + 1) → LinesSay 1 (take index (lines_of text)) (said [] []) old → LineSays (index + 1) line old new → LinesSay 1 (take (index + 1) (lines_of text)) (said [] []) new
+pub lines_more : (text line : List ℕ) (index : ℕ) (old new : Said) → index < length (lines_of text) → line ≡ line_at text (index + 1) → LinesSay 1 (take index (lines_of text)) nothing_said old → LineSays (index + 1) line old new → LinesSay 1 (take (index + 1) (lines_of text)) nothing_said new
 lines_more text line index old new inside here before one =
     let lines = lines_of text in
     let one_more : take (index + 1) lines ≡ take index lines ++ line ∷ [] = rw add-one (take-suc lines index [] inside ∙ ap (λ l. take index lines ++ l ∷ []) (ap (λ k. get_or lines k []) (omega arith) ∙ sym here)) in
     let at : index + 1 ≡ 1 + length (take index lines) = omega (arith, length-take-le index lines (omega arith)) in
-    subst (λ ls. LinesSay 1 ls (said [] []) new) (sym one_more) (says_more 1 (index + 1) (take index lines) line (said [] []) old new at before one)
+    subst (λ ls. LinesSay 1 ls nothing_said new) (sym one_more) (says_more 1 (index + 1) (take index lines) line nothing_said old new at before one)
 
 -- as many lines as the text has
 pub lines_count : (text : List ℕ) (lines : List (Bor (List ℕ))) → texts lines ≡ lines_of text → length lines ≡ length (lines_of text)
@@ -90,12 +93,12 @@ line_here text lines index d all none =
     get_or-texts lines index d ∙ (ap (λ e. get_or (texts lines) index e) none ∙ (ap (λ ls. get_or ls index []) all ∙ ap (λ k. get_or (lines_of text) k []) (omega arith)))
 
 -- a line that was refused, behind those that were read
-pub tells_line : (text line : List ℕ) (index : ℕ) (error : LineError) (before : Said) → IsLineNumber text (index + 1) → line ≡ line_at text (index + 1) → LinesSay 1 (take index (lines_of text)) (said [] []) before → RefusesWords line error → TellsLine text (error_at error (index + 1))
+pub tells_line : (text line : List ℕ) (index : ℕ) (error : LineError) (before : Said) → IsLineNumber text (index + 1) → line ≡ line_at text (index + 1) → LinesSay 1 (take index (lines_of text)) nothing_said before → RefusesWords line error → TellsLine text (error_at error (index + 1))
 tells_line text line index fault.Memory before within here says has = tt
 tells_line text line index (fault.Fault why) before within here says has =
     let at : index ≡ index + 1 - 1 = omega arith in record {
       within = within;
       has_word = subst HasWord here has;
       before = before;
-      read_before = subst (λ n. LinesSay 1 (take n (lines_of text)) (said [] []) before) at says;
+      read_before = subst (λ n. LinesSay 1 (take n (lines_of text)) nothing_said before) at says;
     }

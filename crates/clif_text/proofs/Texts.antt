@@ -25,9 +25,12 @@ get_or-texts [] n d = refl
 get_or-texts (word ∷ words) zero d = refl
 get_or-texts (word ∷ words) (suc n) d = get_or-texts words n d
 
--- one more of the words is another one
+-- one more of the words
+pub texts_more : (words : List (Bor (List ℕ))) (n : ℕ) (d : Bor (List ℕ)) → n < length words → texts (take (n + 1) words) ≡ texts (take n words) ++ (get_or words n d).now ∷ []
+texts_more words n d inside = rw add-one (ap texts (take-suc words n d inside) ∙ texts-append (take n words) (get_or words n d ∷ []))
+
+-- which is another one
 pub others_more : (text : List ℕ) (words : List (Bor (List ℕ))) (n : ℕ) (d : Bor (List ℕ)) → n < length words → All (λ word. word ≢ text) (texts (take n words)) → false ≡ pointwise nat_eq (get_or words n d).now text → All (λ word. word ≢ text) (texts (take (n + 1) words))
 others_more text words n d inside before other =
     let word = get_or words n d in
-    let one_more : texts (take (n + 1) words) ≡ texts (take n words) ++ word.now ∷ [] = rw add-one (ap texts (take-suc words n d inside) ∙ texts-append (take n words) (word ∷ [])) in
-    subst (λ ws. All (λ w. w ≢ text) ws) (sym one_more) (All-push (λ w. w ≢ text) (texts (take n words)) word.now before (other_text word.now text other))
+    subst (λ ws. All (λ w. w ≢ text) ws) (sym (texts_more words n d inside)) (All-push (λ w. w ≢ text) (texts (take n words)) word.now before (other_text word.now text other))

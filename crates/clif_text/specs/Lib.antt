@@ -2,6 +2,7 @@
 pub mod Words
 pub mod Cursor
 pub mod Grammar
+pub mod Given
 pub mod Scope
 pub mod Script
 pub mod Errors

@@ -1,14 +1,36 @@
 -- What reading one line does. Source: own.
-use Rattle.std.specs.Prelude.{ℕ, List}
+use Rattle.std.specs.Prelude.{◌≡◌, ℕ, Bool, List}
 use Rattle.clif_text.specs.declared.error.LineError.{LineError}
 use Rattle.clif_text.specs.declared.error.LineError.TheVariants as error
 use Rattle.clif_text.specs.declared.reader.Reader.{Reader}
-use Rattle.clif_text.specs.Script.{Said, said}
+use Rattle.clif_text.specs.Given.{declared, variables_from, first_answer, GiveNames}
+use Rattle.clif_text.specs.Grammar.{IsCall}
+use Rattle.clif_text.specs.declared.scope.Scope.{Scope}
+use Rattle.clif_text.specs.Scope.{given_in, KeepsVariables}
+use Rattle.clif_text.specs.Script.{Said, SaysCall, LineSays}
 use Rattle.clif_text.specs.Words.{HasWord}
 
 -- what the lines so far said
 abbrev pub said_to : Reader → Said
-said_to reader = said reader.calls.items reader.lines.items
+said_to reader = record { calls = reader.calls.items; numbers = reader.lines.items; given = given_in reader.scope }
+
+-- the scope has the variables that the calls so far declare
+pub record IsCounted (reader : Reader) : Type 0 where
+  pub variables : reader.scope.variables.items ≡ variables_from 0 reader.calls.items
+  pub declared : reader.scope.declared ≡ declared reader.calls.items
+
+-- one call more, for which these words stand, and to whose answers these names are given
+abbrev pub WordsSay : List (List ℕ) → List (List ℕ) → ℕ → Reader → Reader → Type 0
+WordsSay given words number old new = IsCounted old → IsCounted new × SaysCall (λ names others call. (others ≡ given) × IsCall names words call) number (said_to old) (said_to new)
+
+-- what the line says, no call or one
+abbrev pub LineAdds : List ℕ → ℕ → Reader → Reader → Type 0
+LineAdds line number old new = IsCounted old → IsCounted new × LineSays number line (said_to old) (said_to new)
+
+-- these names were given to the answers of the call at this place
+pub record NamesAnswers (instruction : Bool) (place : ℕ) (names : List (List ℕ)) (old new : Scope) : Type 0 where
+  pub given : GiveNames instruction place (first_answer instruction) names (given_in old) (given_in new)
+  pub keeps : KeepsVariables old new
 
 -- memory was refused, or the line has a word
 abbrev pub RefusesWords : List ℕ → LineError → Type 0

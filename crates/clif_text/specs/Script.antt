@@ -1,9 +1,11 @@
 -- What a text says. Source: own; docs/SCRIPTS.md describes the same format.
-use Rattle.std.specs.Prelude.{◌≡◌, ◌≢◌, ℕ, ◌+◌, ◌-◌, ◌≤◌, ◌⊎◌, ◌++◌, List, [], ◌∷◌, length, take, codes, nat_eq, slice_index_or}
+use Rattle.std.specs.Prelude.{◌≡◌, ◌≢◌, ℕ, ◌+◌, ◌-◌, ◌≤◌, ◌⊎◌, ◌++◌, List, [], ◌∷◌, length, take, codes, nat_eq, slice_index_or, Option, None}
 use Rattle.std.specs.List.{slice_split, All}
 use Rattle.clif_script.specs.declared.call.Call.{Call}
+use Rattle.clif_script.specs.declared.call.Name.{Name}
 use Rattle.clif_text.specs.declared.error.ReadError.{ReadError}
 use Rattle.clif_text.specs.declared.error.ReadError.TheVariants as read
+use Rattle.clif_text.specs.Given.{names_behind, is_instruction, first_answer, GiveNames}
 use Rattle.clif_text.specs.Grammar.{Names, IsCall}
 use Rattle.clif_text.specs.Words.{AreWords, HasWord}
 
@@ -20,10 +22,10 @@ pub record IsLineNumber (text : List ℕ) (number : ℕ) : Type 0 where
 abbrev pub line_at : List ℕ → ℕ → List ℕ
 line_at text number = slice_index_or (lines_of text) (number - 1) []
 
--- The words of the line stand for the call, behind `=` where names are given to its answers. Which answers its
--- names stand for isn't said.
-abbrev pub IsCallLine : List ℕ → Call → Type 0
-IsCallLine line call = (names : Names) × (words : List (List ℕ)) × AreWords words line × (IsCall names words call ⊎ ((given rest : List (List ℕ)) × (words ≡ given ++ codes "=" ∷ rest) × IsCall names rest call))
+-- The words of the line stand for the call; where names are given to its answers, they stand in front of the
+-- first `=`.
+abbrev pub IsCallLine : Names → List (List ℕ) → List ℕ → Call → Type 0
+IsCallLine names given line call = (words : List (List ℕ)) × AreWords words line × (((given ≡ []) × IsCall names words call) ⊎ ((rest : List (List ℕ)) × (words ≡ given ++ codes "=" ∷ rest) × All (λ word. word ≢ codes "=") given × IsCall names rest call))
 
 -- the first word of a header line
 abbrev pub IsHeaderWord : List ℕ → Type 0
@@ -33,23 +35,29 @@ IsHeaderWord word = (word ≡ codes "function") ⊎ ((word ≡ codes "pointer") 
 abbrev pub SaysNoCall : List ℕ → Type 0
 SaysNoCall line = AreWords [] line ⊎ ((head : List ℕ) × (rest : List (List ℕ)) × AreWords (head ∷ rest) line × IsHeaderWord head × All (λ word. word ≢ codes "=") (head ∷ rest))
 
--- what lines said: the calls, in order, and for each the number of its line
+-- what lines said: the calls, in order, for each the number of its line, and what given names stand for behind them
 pub record Said : Type 0 where
   pub calls : List Call
   pub numbers : List ℕ
+  pub given : List ℕ → Option Name
 
-abbrev pub said : List Call → List ℕ → Said
-said calls numbers = record { calls = calls; numbers = numbers }
+-- no call, and no name
+abbrev pub nothing_said : Said
+nothing_said = record { calls = []; numbers = []; given = λ word. None }
 
--- one call more, of which P holds, on the line with this number
-pub record SaysCall (P : Call → Type 0) (number : ℕ) (old new : Said) : Type 0 where
+-- one call more, on the line with this number; P holds of what names stand for before it, of the names that are given
+-- to its answers, and of the call
+pub record SaysCall (P : Names → List (List ℕ) → Call → Type 0) (number : ℕ) (old new : Said) : Type 0 where
   pub call : Call
-  pub stands : P call
-  pub more : new ≡ said (old.calls ++ call ∷ []) (old.numbers ++ number ∷ [])
+  pub names : List (List ℕ)
+  pub stands : P (names_behind old.calls old.given) names call
+  pub calls : new.calls ≡ old.calls ++ call ∷ []
+  pub numbers : new.numbers ≡ old.numbers ++ number ∷ []
+  pub given : GiveNames (is_instruction call) (length old.calls) (first_answer (is_instruction call)) names old.given new.given
 
 -- the line with this number says no call, or one more
 abbrev pub LineSays : ℕ → List ℕ → Said → Said → Type 0
-LineSays number line old new = (SaysNoCall line × (new ≡ old)) ⊎ SaysCall (IsCallLine line) number old new
+LineSays number line old new = (SaysNoCall line × (new ≡ old)) ⊎ SaysCall (λ names given call. IsCallLine names given line call) number old new
 
 -- the same of all these lines, one after the other; the first has this number
 abbrev pub LinesSay : ℕ → List (List ℕ) → Said → Said → Type 0
@@ -58,14 +66,14 @@ LinesSay number (line ∷ lines) old new = (next : Said) × LineSays number line
 
 -- the lines of the text say these calls, which stand on the lines with these numbers
 abbrev pub AreCallLines : List ℕ → List Call → List ℕ → Type 0
-AreCallLines text calls numbers = LinesSay 1 (lines_of text) (said [] []) (said calls numbers)
+AreCallLines text calls numbers = (given : List ℕ → Option Name) × LinesSay 1 (lines_of text) nothing_said (record { calls = calls; numbers = numbers; given = given })
 
 -- a line that wasn't read: it has a word, and each line before it says a call or none
 pub record IsUnread (text : List ℕ) (number : ℕ) : Type 0 where
   pub within : IsLineNumber text number
   pub has_word : HasWord (line_at text number)
   pub before : Said
-  pub read_before : LinesSay 1 (take (number - 1) (lines_of text)) (said [] []) before
+  pub read_before : LinesSay 1 (take (number - 1) (lines_of text)) nothing_said before
 
 -- a refusal tells such a line
 abbrev pub TellsLine : List ℕ → ReadError → Type 0

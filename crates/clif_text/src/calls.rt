@@ -1,6 +1,7 @@
 //! The calls that are understood: one arm each.
 ghost use Rattle.std.specs.Prelude.{◌≡◌, ◌++◌, ◌∷◌, ℕ, List, IfOk, IfSome, codes};
 ghost use Rattle.clif_text.specs.Cursor.{texts, words_left};
+ghost use Rattle.clif_text.specs.Given.{is_instruction};
 ghost use Rattle.clif_text.specs.Grammar.{IsCall};
 ghost use Rattle.clif_text.specs.Scope.{names_of};
 
@@ -225,7 +226,9 @@ pub(crate) struct Answers {
 }
 
 /// What this call answers.
-pub(crate) fn answers_of(call: &Call) -> Answers {
+pub(crate) fn answers_of(call: &Call) -> Answers
+    ensures { result.instruction ≡ is_instruction call.now }
+{
     let (instruction, names) = match call {
         Call::CreateBlock
         | Call::AppendBlockParam { .. }

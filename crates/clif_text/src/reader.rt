@@ -1,7 +1,9 @@
 //! A script's text, read line by line.
-ghost use Rattle.std.specs.Prelude.{◌≡◌, ◌≢◌, ◌++◌, ◌∷◌, [], IfOk, IfErr, IfNone, IfSome, codes};
+ghost use Rattle.std.specs.Prelude.{◌≡◌, ◌≢◌, ◌++◌, ◌∷◌, [], ℕ, List, IfOk, IfErr, IfNone, IfSome, OnOk, codes, true};
 ghost use Rattle.std.specs.List.{All};
 ghost use Rattle.clif_text.specs.Cursor.{texts};
+ghost use Rattle.clif_text.specs.Given.{declares};
+ghost use Rattle.clif_text.specs.Reader.{NamesAnswers};
 ghost use Rattle.clif_text.specs.Script as script;
 
 use crate::calls::{Answers, answers_of, call_of};
@@ -39,13 +41,11 @@ struct Reader<'a> {
 }
 
 impl<'a> Reader<'a> {
-    ghost use Rattle.std.specs.Prelude.{OnOk};
-    ghost use Rattle.clif_text.specs.Grammar.{IsCall, Names};
-    ghost use Rattle.clif_text.specs.Reader.{RefusesWords, said_to};
+    ghost use Rattle.clif_text.specs.Reader.{IsCounted, LineAdds, RefusesWords, WordsSay, said_to};
 
     fn new(alloc: Global) -> Reader<'a>
-        ensures calls { result.calls.items ≡ [] }
-        ensures lines { result.lines.items ≡ [] }
+        ensures said { said_to result ≡ script.nothing_said }
+        ensures counted { IsCounted result }
     {
         Reader {
             alloc,
@@ -81,7 +81,7 @@ impl<'a> Reader<'a> {
 
     // Reads the line of this number.
     fn line(&mut self, number: usize, line: &'a str) -> Result<(), LineError<'a>>
-        ensures ok { OnOk result (script.LineSays number line.now (said_to self.old) (said_to self.new)) }
+        ensures ok { OnOk result (LineAdds line.now number self.old self.new) }
         ensures err { IfErr result (RefusesWords line.now) }
     {
         let words = words_of(self.alloc, line)?;
@@ -106,15 +106,33 @@ impl<'a> Reader<'a> {
         names: &[&'a str],
         words: &[&'a str],
     ) -> Result<(), LineError<'a>>
-        ensures { OnOk result (script.SaysCall (λ call. (names : Names) × IsCall names (texts words.now) call) number (said_to self.old) (said_to self.new)) }
+        ensures { OnOk result (WordsSay (texts names.now) (texts words.now) number self.old self.new) }
     {
         let call = call_of(self.alloc, words, &self.scope)?;
         let answers = answers_of(&call);
-        self.scope.count(matches!(call, Call::DeclareVar { .. }))?;
+        self.scope.count(declares_variable(&call))?;
         give_names(&mut self.scope, self.calls.len(), names, answers)?;
         self.calls.push(call)?;
         self.lines.push(number)?;
         Ok(())
+    }
+}
+
+fn declares_variable(call: &Call) -> bool
+    ensures { result ≡ declares call.now }
+{
+    matches!(call, Call::DeclareVar { .. })
+}
+
+// The name that the word gives to an instruction, if it has an `@` before it and the call makes one.
+fn instruction_name(word: &str, instruction: bool) -> Option<&str>
+    ensures some { IfSome result (λ name. (instruction ≡ true) × (word.now ≡ codes "@" ++ name.now)) }
+    ensures none { IfNone result ((name : List ℕ) → instruction ≡ true → word.now ≢ codes "@" ++ name) }
+{
+    if instruction {
+        word.strip_prefix('@')
+    } else {
+        None
     }
 }
 
@@ -124,12 +142,12 @@ fn give_names<'a>(
     place: usize,
     names: &[&'a str],
     answers: Answers,
-) -> Result<(), LineError<'a>> {
+) -> Result<(), LineError<'a>>
+    ensures { OnOk result (NamesAnswers answers.instruction place (texts names.now) scope.old scope.new) }
+{
     let mut given = 0;
     for word in names {
-        if answers.instruction
-            && let Some(name) = word.strip_prefix('@')
-        {
+        if let Some(name) = instruction_name(word, answers.instruction) {
             scope.give(checked(name)?, Name { place, answer: 0 })?;
         } else if given < answers.names {
             let answer = given + usize::from(answers.instruction);
@@ -144,7 +162,7 @@ fn give_names<'a>(
 
 // The words before the first `=` and those behind it, if there is one.
 fn parts_at_equals<'w, 'a>(words: &'w [&'a str]) -> Option<(&'w [&'a str], &'w [&'a str])>
-    ensures some { IfSome result (λ parts. texts words.now ≡ texts parts.0.now ++ (codes "=" ∷ texts parts.1.now)) }
+    ensures some { IfSome result (λ parts. (texts words.now ≡ texts parts.0.now ++ (codes "=" ∷ texts parts.1.now)) × All (λ word. word ≢ codes "=") (texts parts.0.now)) }
     ensures none { IfNone result (All (λ word. word ≢ codes "=") (texts words.now)) }
 {
     for (index, word) in words.iter().enumerate() {
@@ -156,7 +174,9 @@ fn parts_at_equals<'w, 'a>(words: &'w [&'a str]) -> Option<(&'w [&'a str], &'w [
 }
 
 // The word, which may be given as a name.
-fn checked(word: &str) -> Result<&str, LineError<'_>> {
+fn checked(word: &str) -> Result<&str, LineError<'_>>
+    ensures { IfOk result (λ name. name.now ≡ word.now) }
+{
     if is_name(word) {
         Ok(word)
     } else {

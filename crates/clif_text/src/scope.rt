@@ -42,11 +42,15 @@ fn may_be_named(byte: u8) -> bool {
 }
 
 impl<'a> Scope<'a> {
-    ghost use Rattle.std.specs.Prelude.{◌≡◌, IfNone};
+    ghost use Rattle.std.specs.Prelude.{◌≡◌, [], IfNone, OnOk};
     ghost use Rattle.clif_text.specs.Grammar.{IsAnswer};
-    ghost use Rattle.clif_text.specs.Scope.{given_in, names_of, variable_of};
+    ghost use Rattle.clif_text.specs.Scope.{Counts, Gives, given_in, names_of, variable_of};
 
-    pub(crate) fn new(alloc: Global) -> Scope<'a> {
+    pub(crate) fn new(alloc: Global) -> Scope<'a>
+        ensures names { result.names.entries ≡ [] }
+        ensures variables { result.variables.items ≡ [] }
+        ensures declared { result.declared ≡ 0 }
+    {
         Scope {
             names: BTreeMap::new(alloc),
             variables: Vec::new(alloc),
@@ -77,13 +81,17 @@ impl<'a> Scope<'a> {
     }
 
     /// A word names this answer from now on.
-    pub(crate) fn give(&mut self, word: &'a str, name: Name) -> Result<(), AllocError> {
+    pub(crate) fn give(&mut self, word: &'a str, name: Name) -> Result<(), AllocError>
+        ensures { OnOk result (Gives word.now name self.old self.new) }
+    {
         self.names.insert(word, name)?;
         Ok(())
     }
 
     /// One more call was read, which declares a variable or doesn't.
-    pub(crate) fn count(&mut self, declares: bool) -> Result<(), AllocError> {
+    pub(crate) fn count(&mut self, declares: bool) -> Result<(), AllocError>
+        ensures { OnOk result (Counts declares self.old self.new) }
+    {
         if declares {
             self.variables.push(Some(self.declared))?;
             self.declared += 1;

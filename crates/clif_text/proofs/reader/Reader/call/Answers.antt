@@ -1,10 +1,10 @@
-use Rattle.clif_text.specs.Scope.{names_of}
-use Rattle.clif_text.proofs.Reading.{same_said}
+use Rattle.std.proofs.Common.{◌≡◌, length, rules}
+use Rattle.clif_text.specs.Cursor.{texts}
+use Rattle.clif_text.proofs.Counting.{words_say}
 use Rattle.clif_text.proofs.reader.Reader.call.Goals as goal
 
 pub returns : goal.returns
-returns c = record {
-  call = c.in_ok-call.call;
-  stands = (names_of c.args.self.now.scope, c.in_ok-call.ensures);
-  more = same_said _ _ _ _ c.in_ok-push.ensures.items c.in_ok-push-2.ensures.items;
-}
+returns c =
+    let place : c.len.result ≡ length c.args.self.now.calls.items = search rules in
+    words_say c.args.self.now _ c.count.new.self c.in_ok-call.call (texts c.args.names.now) (texts c.args.words.now) c.args.number c.len.result c.answers_of-answers.result.instruction c.declares_variable.result
+    c.in_ok-call.ensures c.declares_variable.ensures c.in_ok-count.ensures c.answers_of-answers.ensures place c.in_ok-give_names.ensures c.in_ok-push.ensures.items c.in_ok-push-2.ensures.items

@@ -10,24 +10,24 @@ use Rattle.clif_text.proofs.reader.Reader.line.Goals as goal
 
 pub returns-in-Some-clause-ok : goal.returns-in-Some-clause-ok
 returns-in-Some-clause-ok c =
-    let parts = ap texts (sym c.as_slice-words.ensures.value) ∙ c.in-Some.ensures.some in
-    on_ok_weaker c.call.result (λ says. says_behind c.args.line.now (texts c.in_ok-words.words.items) (texts c.in-Some.names.now) (texts c.in-Some.rest.now) c.args.number (said_to c.args.self.now) (said_to c.call.new.self) c.in_ok-words.ensures parts says) c.call.ensures
+    let parts = ap texts (sym c.as_slice-words.ensures.value) ∙ c.in-Some.ensures.some.0 in
+    on_ok_weaker c.call.result (λ says. says_behind c.args.line.now (texts c.in_ok-words.words.items) (texts c.in-Some.names.now) (texts c.in-Some.rest.now) c.args.number c.args.self.now c.call.new.self c.in_ok-words.ensures parts c.in-Some.ensures.some.1 says) c.call.ensures
 
 pub returns-then-is_empty-clause-err : goal.returns-then-is_empty-clause-err
 returns-then-is_empty-clause-err c =
-    let parts = ap texts (sym c.as_slice-words.ensures.value) ∙ c.in-Some.ensures.some in
+    let parts = ap texts (sym c.as_slice-words.ensures.value) ∙ c.in-Some.ensures.some.0 in
     refuses_words c.args.line.now c.wanted.result (has_one c.args.line.now _ (texts c.in-Some.names.now) (codes "=") (texts c.in-Some.rest.now) c.in_ok-words.ensures parts)
 
 pub returns-in-Some-clause-err : goal.returns-in-Some-clause-err
 returns-in-Some-clause-err c =
-    let parts = ap texts (sym c.as_slice-words.ensures.value) ∙ c.in-Some.ensures.some in
+    let parts = ap texts (sym c.as_slice-words.ensures.value) ∙ c.in-Some.ensures.some.0 in
     may_refuse_words c.args.line.now c.call.result (has_one c.args.line.now _ (texts c.in-Some.names.now) (codes "=") (texts c.in-Some.rest.now) c.in_ok-words.ensures parts)
 
 pub returns-in-Some-split_first-clause-ok : goal.returns-in-Some-split_first-clause-ok
 returns-in-Some-split_first-clause-ok c =
     let parts = ap texts (sym c.as_slice-words.ensures.value ∙ c.in-Some-split_first.ensures.cases.0) in
     let others = subst (λ ws. All (λ word. word ≢ codes "=") (texts ws)) c.as_slice-words.ensures.value c.in_default.ensures.none in
-    on_ok_weaker c.read.result (λ header. says_header c.args.line.now (texts c.in_ok-words.words.items) c.in-Some-split_first.head.now.now (texts c.in-Some-split_first.rest.now) c.args.number (said_to c.args.self.now) c.in_ok-words.ensures parts header others) c.read.ensures
+    on_ok_weaker c.read.result (λ header counted. (record { variables = counted.variables; declared = counted.declared }, says_header c.args.line.now (texts c.in_ok-words.words.items) c.in-Some-split_first.head.now.now (texts c.in-Some-split_first.rest.now) c.args.number (said_to c.args.self.now) c.in_ok-words.ensures parts header others)) c.read.ensures
 
 pub returns-in-Some-split_first-clause-err : goal.returns-in-Some-split_first-clause-err
 returns-in-Some-split_first-clause-err c =
