@@ -33,12 +33,20 @@ says_behind line words given rest number old new are parts others says counted =
     )
 
 -- and so is one without `=`
-pub says_alone : (line : List ℕ) (words : List (List ℕ)) (number : ℕ) (old new : Said) → AreWords words line → SaysCall (λ call. (names : Names) × IsCall names words call) number old new → LineSays number line old new
-says_alone line words number old new are says = inr (record {
-  call = says.call;
-  stands = (says.stands.0, words, are, inl says.stands.1);
-  more = says.more;
-})
+pub says_alone : (line : List ℕ) (words : List (List ℕ)) (number : ℕ) (old new : Reader) → AreWords words line → WordsSay [] words number old new → LineAdds line number old new
+says_alone line words number old new are says counted =
+    let told = says counted in
+    let one = told.1 in (
+      told.0,
+      inr (record {
+        call = one.call;
+        names = one.names;
+        stands = (words, are, inl one.stands);
+        calls = one.calls;
+        numbers = one.numbers;
+        given = one.given;
+      }),
+    )
 
 -- a header line says no call
 pub says_header : (line : List ℕ) (words : List (List ℕ)) (head : List ℕ) (rest : List (List ℕ)) (number : ℕ) (state : Said) → AreWords words line → words ≡ head ∷ rest → IsHeaderWord head → All (λ word. word ≢ codes "=") words → LineSays number line state state

@@ -42,4 +42,4 @@ returns-clause-err c =
 pub returns-clause-ok : goal.returns-clause-ok
 returns-clause-ok c =
     let are = subst (λ (words : List (Bor (List ℕ))). AreWords (texts words) c.args.line.now) (sym c.as_slice-words.ensures.value) c.in_ok-words.ensures in
-    on_ok_weaker c.call-in-Some-2.result (λ says. says_alone c.args.line.now (texts c.as_slice-words.result.now) c.args.number (said_to c.args.self.now) (said_to c.call-in-Some-2.new.self) are says) c.call-in-Some-2.ensures
+    on_ok_weaker c.call-in-Some-2.result (λ says. says_alone c.args.line.now (texts c.as_slice-words.result.now) c.args.number c.args.self.now c.call-in-Some-2.new.self are says) c.call-in-Some-2.ensures
