@@ -28,7 +28,7 @@ use Rattle.clif_simulation.specs.Tables.{answered, block_name, program_so_far}
 use Rattle.clif_simulation.specs.Carries.{carried, SparesEntry}
 use Rattle.clif_simulation.specs.Reading.{code_so_far, behind, may_grow, PremisesSoFar, script_run_so_far, function_run_so_far, IsAtEnd}
 
--- The edge that an instruction takes. No call has edges so far.
+-- The edge that an instruction takes. An outside call takes none: no call of a script makes a try call so far.
 abbrev pub taken_of : {Block Operand : Type 0} → List (Edge Block Operand) → Outcome → Option (Edge Block Operand)
 taken_of edges (Gives results memory) = None
 taken_of edges (Goes edge given memory) = slice_get edges edge

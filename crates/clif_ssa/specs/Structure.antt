@@ -72,10 +72,11 @@ pub record HasNeededZeros (f : Body) (block : ℕ) (own : List ℕ) : Type 0 whe
   pub in_order : (block_at f block).insts ≡ zeros ++ own
   pub needed : AllByRecursion (IsNeededZero f) zeros
 
--- The construction has left nothing behind that isn't needed. `own` are the instructions of each block that the caller
--- made.
+-- The construction has left nothing behind that isn't needed, in a function all of whose parameters wait: where a block has a
+-- parameter of the caller's, or a complete one, this isn't so. `Structured` says it of every program. `own` are the
+-- instructions of each block that the caller made.
 pub record NothingStray (own : ℕ → List ℕ) (f : Body) (s : SsaState) : Type 0 where
-  -- each parameter of a block waits in it; no call makes a parameter of the caller's so far
+  -- each parameter of a block waits in it
   pub parameters : (v b : ℕ) → param_home f v ≡ Some b
       → (variable : ℕ) × Contains (pending_of (sealed_of s b)) (record { variable = variable; param = v })
   -- a value has the type of the one that it stands for; so a zero is of the type of the parameter in whose place it is

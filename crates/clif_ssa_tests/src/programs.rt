@@ -161,6 +161,7 @@ fn reordering(rt: HostRuntime) -> Result<(), Fail> {
         Lookups(1, 2, 1),
         Lookups(0, 0, 0),
         Lookups(0, 1, 0),
+        Lookups(0, 2, 0),
         Lookups(1, 3, 0),
     ];
     let text =

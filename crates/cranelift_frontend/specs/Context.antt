@@ -1,11 +1,9 @@
 -- What clauses see of a context, and what its calls make of it.
 -- Source: the crate's documentation of `FunctionBuilderContext`; the changes are own.
-use Rattle.std.specs.Prelude.{◌≡◌, ℕ, ◌==◌, List, [], ◌∷◌, Option, Some, None, slice_index_or, if◌then◌else◌}
+use Rattle.std.specs.Prelude.{◌≡◌, ℕ, ◌==◌, List, [], slice_index_or, if◌then◌else◌}
 use Rattle.clif_types.specs.declared.types.«Type».{«Type»}
-use Rattle.clif_ssa.specs.Ssa.{SsaState, no_state, record_of, sealed_of}
+use Rattle.clif_ssa.specs.Ssa.{SsaState, no_state}
 use Rattle.clif_ir.specs.Reading.{stands_in}
-use Rattle.clif_ssa.specs.declared.tables.Sealed.{Sealed}
-use Rattle.clif_ssa.specs.declared.tables.Sealed.TheVariants.{No, Yes}
 use Rattle.cranelift_frontend.specs.declared.context.BlockStatus.{BlockStatus}
 use Rattle.cranelift_frontend.specs.declared.context.BlockStatus.TheVariants.{Empty, Partial, Filled}
 
@@ -39,12 +37,3 @@ begun Filled = Filled
 -- something was made in these blocks, and nothing in the others
 abbrev pub Begins : ContextState → ContextState → List ℕ → Type 0
 Begins old new blocks = (b : ℕ) → status_of new b ≡ (if stands_in b blocks then begun (status_of old b) else status_of old b)
-
--- the block of the zero that a use of a variable puts: a use of one that isn't recorded in a sealed block
-abbrev pub zero_block_of : Option ℕ → Sealed → ℕ → List ℕ
-zero_block_of (Some value) sealed block = []
-zero_block_of None (No pending) block = []
-zero_block_of None Yes block = block ∷ []
-
-abbrev pub zero_blocks : SsaState → ℕ → ℕ → List ℕ
-zero_blocks s variable block = zero_block_of (record_of s variable block) (sealed_of s block) block

@@ -12,7 +12,7 @@ pub struct Name {
     pub index: usize,
 }
 
-/// A call of a script. Edges pass nothing so far, since no call makes a caller's parameter.
+/// A call of a script. Edges pass nothing: the rows that are run here have no parameters of the caller's.
 #[derive(Debug, Drop)]
 pub enum Call {
     CreateBlock,
