@@ -62,6 +62,34 @@ HasRecordsBelow b = RecordsBelow (length b.ctx.now.variables) (length b.func.now
 abbrev pub IsNearlyFull : ℕ → FunctionBuilder → Type 0
 IsNearlyFull price b = HasRecordsBelow b → IsNearlyFullIn price b.func.now b.ctx.now
 
+-- a function's table of instructions, or that of its values, is full
+abbrev pub HasFullTable : Body → Type 0
+HasFullTable f = (length f.insts ≡ 2 ^ 32 - 1) ⊎ (length f.values ≡ 2 ^ 32 - 1)
+
+-- A call may find the table that it would lengthen full: there are 2^32 - 1 blocks, variables, values or instructions, or there
+-- is no room for all its parameters. A use of a variable and a sealing may make a record of each variable in each block
+-- first. No other call lengthens a table.
+abbrev pub MayStop : Call → Body → ContextState → Type 0
+MayStop call.CreateBlock f c = length f.blocks ≡ 2 ^ 32 - 1
+MayStop (call.DeclareVar ty) f c = length c.variables ≡ 2 ^ 32 - 1
+MayStop (call.AppendBlockParam block ty) f c = length f.values ≡ 2 ^ 32 - 1
+MayStop (call.AppendBlockParamsForFunctionParams block) f c = 2 ^ 32 - 1 ≤ length f.values + length f.signature.params
+MayStop (call.AppendBlockParamsForFunctionReturns block) f c = 2 ^ 32 - 1 ≤ length f.values + length f.signature.returns
+MayStop (call.Iconst ty imm) f c = HasFullTable f
+MayStop (call.Iadd x y) f c = HasFullTable f
+MayStop (call.Isub x y) f c = HasFullTable f
+MayStop (call.Jump destination) f c = HasFullTable f
+MayStop (call.Brif condition block_then block_else) f c = HasFullTable f
+MayStop (call.Return values) f c = HasFullTable f
+MayStop (call.UseVar variable) f c = IsNearlyFullIn 1 f c
+MayStop (call.SealBlock block) f c = IsNearlyFullIn 1 f c
+MayStop call.SealAllBlocks f c = IsNearlyFullIn 1 f c
+MayStop (call.SwitchToBlock block) f c = ⊥
+MayStop (call.InsertBlockAfter block after) f c = ⊥
+MayStop (call.SetColdBlock block) f c = ⊥
+MayStop call.EnsureInsertedBlock f c = ⊥
+MayStop (call.DefVar variable value) f c = ⊥
+
 -- no call of a script is a branch
 abbrev pub is_straight : Call → Bool
 is_straight (call.Jump destination) = false

@@ -1,12 +1,12 @@
 -- What a list of calls is as a script, and what comes of it as a verdict on that script. Own.
-use Rattle.std.specs.Prelude.{◌≡◌, ℕ, List, [], ◌∷◌, ◌++◌, map, take, drop, slice_get, Option, Some, None, Result, Ok, Err}
+use Rattle.std.specs.Prelude.{◌≡◌, ℕ, List, [], ◌∷◌, ◌++◌, map, take, drop, slice_get, Option, Some, None, true, Result, Ok, Err}
 use Rattle.clif_ir.specs.Body.{Body}
 use Rattle.clif_meaning.specs.Event.{types_of}
 use Rattle.clif_meaning.specs.Name.{Name}
 use Rattle.clif_meaning.specs.Instruction.{Edge, Known}
 use Rattle.clif_meaning.specs.Request.{Request, CreateBlock, SwitchToBlock, SealBlock, SealAllBlocks, InsertBlockAfter, SetColdBlock, EnsureInsertedBlock, AppendBlockParams, AppendFunctionParams, DeclareVar, DefVar, UseVar, Finalize, Script, AnsweredCall, script_of}
 use Rattle.clif_meaning.specs.Ledger.{Ledger, empty_ledger, ledger_after, ledger_with}
-use Rattle.clif_meaning.specs.Acceptance.{Verdict, Accepted, Misuse, Refused, iconst, iadd, isub, jump, brif, return_, verdict_from, verdict_on}
+use Rattle.clif_meaning.specs.Acceptance.{Verdict, Accepted, Misuse, Refused, iconst, iadd, isub, jump, brif, return_, allows, verdict_from, verdict_on}
 use Rattle.clif_types.specs.Signature.{SignatureShape}
 use Rattle.clif_types.specs.declared.extname.UserFuncName.{UserFuncName}
 use Rattle.cranelift_frontend.specs.Context.{ContextState}
@@ -17,7 +17,7 @@ use Rattle.clif_script.specs.declared.call.Call.{Call}
 use Rattle.clif_script.specs.declared.call.Call.TheVariants as call
 use Rattle.clif_script.specs.declared.script.ReplayError.{ReplayError}
 use Rattle.clif_script.specs.declared.script.ReplayError.TheVariants as replay
-use Rattle.clif_script.specs.Limits.{IsNearlyFullIn, cost_of}
+use Rattle.clif_script.specs.Limits.{IsNearlyFullIn, MayStop, cost_of}
 
 -- an answer's name: the place of the call, and the number among its answers
 abbrev pub name_of : named.Name → Name
@@ -85,7 +85,8 @@ pub record IsBuiltBy (calls : List Call) (declared : SignatureShape) (f : Body) 
   pub parameters : LeavesNoParameter made f context.ssa
 
 -- A full table ends a list of calls: the calls before some place were made, and a builder of a function of this name and
--- signature, with this context and current block, stands for them; and the call at that place may find a table of it full.
+-- signature, with this context and current block, stands for them; and the call at that place is allowed then, and may find the
+-- table full that it would lengthen.
 pub record IsStoppedByTable (calls : List Call) (name : UserFuncName) (declared : SignatureShape) : Type 0 where
   pub place : ℕ
   pub call : Call
@@ -98,3 +99,5 @@ pub record IsStoppedByTable (calls : List Call) (name : UserFuncName) (declared 
   pub stands : StandsIn declared made function context position
   pub named : function.name ≡ name
   pub table : IsNearlyFullIn (cost_of declared call) function context
+  pub allowed : allows (ledger_after (script_of made)) (request_of declared (ledger_after (script_of made)) call) ≡ true
+  pub stops : MayStop call function context

@@ -1,5 +1,5 @@
 //! The calls of a script, each made on a builder if its condition holds.
-ghost use Rattle.std.specs.Prelude.{◌≡◌, ◌≢◌, ℕ, ◌<◌, ◌+◌, ◌++◌, ◌∷◌, [], List, map, OnOk, OnErr, IfOk, IfSome, length, slice_get, slice_index, slice_index_or, EachIndex, Some, None, nat_lt, if◌then◌else◌, Err, IsTrue, ◌↔◌, false, is_err};
+ghost use Rattle.std.specs.Prelude.{◌≡◌, ◌≢◌, ℕ, ◌<◌, ◌+◌, ◌-◌, ◌^◌, ◌++◌, ◌∷◌, [], List, map, OnOk, OnErr, IfOk, IfSome, length, slice_get, slice_index, slice_index_or, EachIndex, Some, None, nat_lt, if◌then◌else◌, Err, IsTrue, ◌↔◌, false, is_err};
 ghost use Rattle.cranelift_frontend.specs.Builder.{SameLoans, AppendsValue, CanLead, HasCurrent, is_declarable};
 ghost use Rattle.clif_types.specs.Signature.{SignatureShape};
 ghost use Rattle.cranelift_frontend.specs.Ledger.{NamesEdge, NamesValue, ledger_of};
@@ -10,7 +10,7 @@ ghost use Rattle.clif_meaning.specs.Name as meaning;
 ghost use Rattle.clif_meaning.specs.Instruction as instruction;
 ghost use Rattle.clif_meaning.specs.Request.{AnsweredCall, number_of, DeclareVar, DefVar, UseVar};
 ghost use Rattle.clif_meaning.specs.Acceptance.{allows, iconst, iadd, isub, jump, brif, return_};
-ghost use Rattle.clif_script.specs.Limits.{IsOneCall, IsNearlyFull, cost_of};
+ghost use Rattle.clif_script.specs.Limits.{HasFullTable, HasRecordsBelow, IsOneCall, IsNearlyFull, MayStop, cost_of};
 ghost use Rattle.clif_script.specs.Requests.{edge_of, name_of, request_of};
 ghost use Rattle.clif_script.specs.Ready.{IsReady, IsReadyNow, IsReadyWith, IsReadyAfter, IsFound, IsJudged, AnswerExists, may_lead, block_of, value_in, value_of, all_values, instruction_answer, is_open, can_define, can_use, can_make_constant, types_after};
 
@@ -47,6 +47,7 @@ pub(crate) fn make_call(
     ensures never_refused { result ≢ Err CallError.Refused }
     ensures one_call { OnOk result (IsOneCall (cost_of builder.old.func.now.signature call.now) builder.old builder.new) }
     ensures full { result ≡ Err CallError.Full → IsNearlyFull (cost_of builder.old.func.now.signature call.now) builder.old }
+    ensures stops { result ≡ Err CallError.Full → HasRecordsBelow builder.old → MayStop call.now builder.old.func.now builder.old.ctx.now }
     ensures variables { OnOk result (builder.new.ctx.now.variables ≡ types_after call.now builder.old.ctx.now.variables) }
 {
     match call {
@@ -142,6 +143,7 @@ fn declare_var(
     ensures never_refused { result ≢ Err CallError.Refused }
     ensures one_call { OnOk result (IsOneCall 1 builder.old builder.new) }
     ensures full { result ≡ Err CallError.Full → IsNearlyFull 1 builder.old }
+    ensures stops { result ≡ Err CallError.Full → length builder.old.ctx.now.variables ≡ 2 ^ 32 - 1 }
     ensures variables { OnOk result (builder.new.ctx.now.variables ≡ builder.old.ctx.now.variables ++ ty ∷ []) }
 {
     if !is_declarable(ty) {
@@ -219,6 +221,7 @@ fn def_var(
     ensures never_refused { result ≢ Err CallError.Refused }
     ensures one_call { OnOk result (IsOneCall 1 builder.old builder.new) }
     ensures full { result ≡ Err CallError.Full → IsNearlyFull 1 builder.old }
+    ensures never_full { result ≢ Err CallError.Full }
     ensures variables { builder.new.ctx.now.variables ≡ builder.old.ctx.now.variables }
 {
     let Some(value) = value_named(builder.func(), answers, name) else {
@@ -270,6 +273,7 @@ fn append_iconst(builder: &mut FunctionBuilder<'_>, ty: Type, imm: i64) -> Resul
     ensures ssa { builder.new.ctx.now.ssa ≡ builder.old.ctx.now.ssa }
     ensures one_call { OnOk result (IsOneCall 1 builder.old builder.new) }
     ensures full { result ≡ Err BuildError.Full → IsNearlyFull 1 builder.old }
+    ensures stops { result ≡ Err BuildError.Full → HasFullTable builder.old.func.now }
     ensures variables { builder.new.ctx.now.variables ≡ builder.old.ctx.now.variables }
     ensures position { builder.new.position ≡ builder.old.position }
     ensures failed { (result ≡ Err BuildError.Failed) ↔ IsTrue builder.old.failed }
@@ -289,6 +293,7 @@ fn append_iadd(builder: &mut FunctionBuilder<'_>, x: Value, y: Value) -> Result<
     ensures ssa { builder.new.ctx.now.ssa ≡ builder.old.ctx.now.ssa }
     ensures one_call { OnOk result (IsOneCall 1 builder.old builder.new) }
     ensures full { result ≡ Err BuildError.Full → IsNearlyFull 1 builder.old }
+    ensures stops { result ≡ Err BuildError.Full → HasFullTable builder.old.func.now }
     ensures variables { builder.new.ctx.now.variables ≡ builder.old.ctx.now.variables }
     ensures position { builder.new.position ≡ builder.old.position }
     ensures failed { (result ≡ Err BuildError.Failed) ↔ IsTrue builder.old.failed }
@@ -308,6 +313,7 @@ fn append_isub(builder: &mut FunctionBuilder<'_>, x: Value, y: Value) -> Result<
     ensures ssa { builder.new.ctx.now.ssa ≡ builder.old.ctx.now.ssa }
     ensures one_call { OnOk result (IsOneCall 1 builder.old builder.new) }
     ensures full { result ≡ Err BuildError.Full → IsNearlyFull 1 builder.old }
+    ensures stops { result ≡ Err BuildError.Full → HasFullTable builder.old.func.now }
     ensures variables { builder.new.ctx.now.variables ≡ builder.old.ctx.now.variables }
     ensures position { builder.new.position ≡ builder.old.position }
     ensures failed { (result ≡ Err BuildError.Failed) ↔ IsTrue builder.old.failed }
@@ -324,6 +330,7 @@ fn append_jump(builder: &mut FunctionBuilder<'_>, edge: &FoundEdge) -> Result<In
     ensures stands { (declared : SignatureShape) (calls : List AnsweredCall) (destination : instruction.Edge meaning.Name meaning.Name) → StandsFor declared calls builder.old → NamesEdge calls destination (record { block = edge.now.block; args = edge.now.args.items }) → IfOk result (λ inst. StandsFor declared (calls ++ record { request = jump destination; numbers = inst ∷ [] } ∷ []) builder.new) }
     ensures one_call { OnOk result (IsOneCall 1 builder.old builder.new) }
     ensures full { result ≡ Err BuildError.Full → IsNearlyFull 1 builder.old }
+    ensures stops { result ≡ Err BuildError.Full → HasFullTable builder.old.func.now }
     ensures variables { builder.new.ctx.now.variables ≡ builder.old.ctx.now.variables }
     ensures failed { (result ≡ Err BuildError.Failed) ↔ IsTrue builder.old.failed }
     ensures fails { builder.new.failed ≡ is_err result }
@@ -346,6 +353,7 @@ fn append_brif(
     ensures stands { (declared : SignatureShape) (calls : List AnsweredCall) (c : meaning.Name) (first second : instruction.Edge meaning.Name meaning.Name) → StandsFor declared calls builder.old → NamesValue calls c condition → NamesEdge calls first (record { block = taken.now.block; args = taken.now.args.items }) → NamesEdge calls second (record { block = other.now.block; args = other.now.args.items }) → IfOk result (λ inst. StandsFor declared (calls ++ record { request = brif (ledger_of calls) c first second; numbers = inst ∷ [] } ∷ []) builder.new) }
     ensures one_call { OnOk result (IsOneCall 1 builder.old builder.new) }
     ensures full { result ≡ Err BuildError.Full → IsNearlyFull 1 builder.old }
+    ensures stops { result ≡ Err BuildError.Full → HasFullTable builder.old.func.now }
     ensures variables { builder.new.ctx.now.variables ≡ builder.old.ctx.now.variables }
     ensures failed { (result ≡ Err BuildError.Failed) ↔ IsTrue builder.old.failed }
     ensures fails { builder.new.failed ≡ is_err result }
@@ -367,6 +375,7 @@ fn append_return(builder: &mut FunctionBuilder<'_>, values: &[Value]) -> Result<
     ensures stands { (declared : SignatureShape) (calls : List AnsweredCall) (names : List meaning.Name) → StandsFor declared calls builder.old → map (number_of calls) names ≡ map Some values.now → IfOk result (λ inst. StandsFor declared (calls ++ record { request = return_ names; numbers = inst ∷ [] } ∷ []) builder.new) }
     ensures one_call { OnOk result (IsOneCall 1 builder.old builder.new) }
     ensures full { result ≡ Err BuildError.Full → IsNearlyFull 1 builder.old }
+    ensures stops { result ≡ Err BuildError.Full → HasFullTable builder.old.func.now }
     ensures variables { builder.new.ctx.now.variables ≡ builder.old.ctx.now.variables }
     ensures failed { (result ≡ Err BuildError.Failed) ↔ IsTrue builder.old.failed }
     ensures fails { builder.new.failed ≡ is_err result }
@@ -397,6 +406,7 @@ fn iconst(
     ensures never_refused { result ≢ Err CallError.Refused }
     ensures one_call { OnOk result (IsOneCall 1 builder.old builder.new) }
     ensures full { result ≡ Err CallError.Full → IsNearlyFull 1 builder.old }
+    ensures stops { result ≡ Err CallError.Full → HasFullTable builder.old.func.now }
     ensures variables { builder.new.ctx.now.variables ≡ builder.old.ctx.now.variables }
 {
     if !may_make_constant(builder, ty) {
@@ -423,6 +433,7 @@ fn iadd(
     ensures never_refused { result ≢ Err CallError.Refused }
     ensures one_call { OnOk result (IsOneCall 1 builder.old builder.new) }
     ensures full { result ≡ Err CallError.Full → IsNearlyFull 1 builder.old }
+    ensures stops { result ≡ Err CallError.Full → HasFullTable builder.old.func.now }
     ensures variables { builder.new.ctx.now.variables ≡ builder.old.ctx.now.variables }
 {
     let Some(left) = value_named(builder.func(), answers, x) else {
@@ -455,6 +466,7 @@ fn isub(
     ensures never_refused { result ≢ Err CallError.Refused }
     ensures one_call { OnOk result (IsOneCall 1 builder.old builder.new) }
     ensures full { result ≡ Err CallError.Full → IsNearlyFull 1 builder.old }
+    ensures stops { result ≡ Err CallError.Full → HasFullTable builder.old.func.now }
     ensures variables { builder.new.ctx.now.variables ≡ builder.old.ctx.now.variables }
 {
     let Some(left) = value_named(builder.func(), answers, x) else {
@@ -486,6 +498,7 @@ fn jump(
     ensures never_refused { result ≢ Err CallError.Refused }
     ensures one_call { OnOk result (IsOneCall 1 builder.old builder.new) }
     ensures full { result ≡ Err CallError.Full → IsNearlyFull 1 builder.old }
+    ensures stops { result ≡ Err CallError.Full → HasFullTable builder.old.func.now }
     ensures variables { builder.new.ctx.now.variables ≡ builder.old.ctx.now.variables }
 {
     let edge = edge_named(builder, answers, destination)?;
@@ -513,6 +526,7 @@ fn brif(
     ensures never_refused { result ≢ Err CallError.Refused }
     ensures one_call { OnOk result (IsOneCall 1 builder.old builder.new) }
     ensures full { result ≡ Err CallError.Full → IsNearlyFull 1 builder.old }
+    ensures stops { result ≡ Err CallError.Full → HasFullTable builder.old.func.now }
     ensures variables { builder.new.ctx.now.variables ≡ builder.old.ctx.now.variables }
 {
     let Some(condition) = value_named(builder.func(), answers, condition) else {
@@ -542,6 +556,7 @@ fn return_(
     ensures never_refused { result ≢ Err CallError.Refused }
     ensures one_call { OnOk result (IsOneCall 1 builder.old builder.new) }
     ensures full { result ≡ Err CallError.Full → IsNearlyFull 1 builder.old }
+    ensures stops { result ≡ Err CallError.Full → HasFullTable builder.old.func.now }
     ensures variables { builder.new.ctx.now.variables ≡ builder.old.ctx.now.variables }
 {
     let values = values_named(builder.func(), answers, values)?;

@@ -1,5 +1,5 @@
 //! The calls of a script that make, mark and place blocks, each made on a builder if its condition holds.
-ghost use Rattle.std.specs.Prelude.{◌≡◌, ◌≢◌, ◌<◌, List, OnOk, IfOk, Err, length, false};
+ghost use Rattle.std.specs.Prelude.{◌≡◌, ◌≢◌, ◌<◌, ◌-◌, ◌^◌, List, OnOk, IfOk, Err, length, false};
 ghost use Rattle.cranelift_frontend.specs.Builder.{SameLoans, is_free};
 ghost use Rattle.clif_types.specs.Signature.{SignatureShape};
 ghost use Rattle.cranelift_frontend.specs.Ledger.{ledger_of};
@@ -29,6 +29,7 @@ pub(crate) fn create_block(
     ensures never_refused { result ≢ Err CallError.Refused }
     ensures one_call { OnOk result (IsOneCall 1 builder.old builder.new) }
     ensures full { result ≡ Err CallError.Full → IsNearlyFull 1 builder.old }
+    ensures stops { result ≡ Err CallError.Full → length builder.old.func.now.blocks ≡ 2 ^ 32 - 1 }
     ensures variables { builder.new.ctx.now.variables ≡ builder.old.ctx.now.variables }
 {
     let block = builder.create_block()?;
@@ -50,6 +51,7 @@ pub(crate) fn switch_to_block(
     ensures never_refused { result ≢ Err CallError.Refused }
     ensures one_call { OnOk result (IsOneCall 1 builder.old builder.new) }
     ensures full { result ≡ Err CallError.Full → IsNearlyFull 1 builder.old }
+    ensures never_full { result ≢ Err CallError.Full }
     ensures variables { builder.new.ctx.now.variables ≡ builder.old.ctx.now.variables }
 {
     let Some(block) = block_named(answers, name) else {
@@ -161,6 +163,7 @@ pub(crate) fn insert_block_after(
     ensures never_refused { result ≢ Err CallError.Refused }
     ensures one_call { OnOk result (IsOneCall 1 builder.old builder.new) }
     ensures full { result ≡ Err CallError.Full → IsNearlyFull 1 builder.old }
+    ensures never_full { result ≢ Err CallError.Full }
     ensures variables { builder.new.ctx.now.variables ≡ builder.old.ctx.now.variables }
 {
     let Some(block) = block_named(answers, name) else {
@@ -191,6 +194,7 @@ pub(crate) fn set_cold_block(
     ensures never_refused { result ≢ Err CallError.Refused }
     ensures one_call { OnOk result (IsOneCall 1 builder.old builder.new) }
     ensures full { result ≡ Err CallError.Full → IsNearlyFull 1 builder.old }
+    ensures never_full { result ≢ Err CallError.Full }
     ensures variables { builder.new.ctx.now.variables ≡ builder.old.ctx.now.variables }
 {
     let Some(block) = block_named(answers, name) else {
@@ -214,6 +218,7 @@ pub(crate) fn ensure_inserted_block(
     ensures never_refused { result ≢ Err CallError.Refused }
     ensures one_call { OnOk result (IsOneCall 1 builder.old builder.new) }
     ensures full { result ≡ Err CallError.Full → IsNearlyFull 1 builder.old }
+    ensures never_full { result ≢ Err CallError.Full }
     ensures variables { builder.new.ctx.now.variables ≡ builder.old.ctx.now.variables }
 {
     if !has_current(builder) {

@@ -1,5 +1,5 @@
 //! The calls of a script that make parameters, each made on a builder if its condition holds.
-ghost use Rattle.std.specs.Prelude.{◌≡◌, ◌≢◌, ◌<◌, ◌≤◌, ◌*◌, ◌∷◌, [], List, OnOk, IfOk, Err, false, length, max};
+ghost use Rattle.std.specs.Prelude.{◌≡◌, ◌≢◌, ◌<◌, ◌≤◌, ◌+◌, ◌*◌, ◌-◌, ◌^◌, ◌∷◌, [], List, OnOk, IfOk, Err, false, length, max};
 ghost use Rattle.clif_ir.specs.Body.{block_at};
 ghost use Rattle.clif_ssa.specs.Ssa.{predecessors_of};
 ghost use Rattle.cranelift_frontend.specs.Builder.{SameLoans, is_nothing};
@@ -34,6 +34,7 @@ pub(crate) fn append_block_param(
     ensures never_refused { result ≢ Err CallError.Refused }
     ensures one_call { OnOk result (IsOneCall 2 builder.old builder.new) }
     ensures full { result ≡ Err CallError.Full → IsNearlyFull 2 builder.old }
+    ensures stops { result ≡ Err CallError.Full → length builder.old.func.now.values ≡ 2 ^ 32 - 1 }
     ensures variables { builder.new.ctx.now.variables ≡ builder.old.ctx.now.variables }
 {
     let Some(block) = block_named(answers, name) else {
@@ -61,6 +62,7 @@ pub(crate) fn append_block_params_for_function_params(
     ensures never_refused { result ≢ Err CallError.Refused }
     ensures one_call { OnOk result (IsOneCall (max 1 (2 * length builder.old.func.now.signature.params)) builder.old builder.new) }
     ensures full { result ≡ Err CallError.Full → IsNearlyFull (max 1 (2 * length builder.old.func.now.signature.params)) builder.old }
+    ensures stops { result ≡ Err CallError.Full → 2 ^ 32 - 1 ≤ length builder.old.func.now.values + length builder.old.func.now.signature.params }
     ensures variables { builder.new.ctx.now.variables ≡ builder.old.ctx.now.variables }
 {
     let Some(block) = block_named(answers, name) else {
@@ -89,6 +91,7 @@ pub(crate) fn append_block_params_for_function_returns(
     ensures never_refused { result ≢ Err CallError.Refused }
     ensures one_call { OnOk result (IsOneCall (max 1 (2 * length builder.old.func.now.signature.returns)) builder.old builder.new) }
     ensures full { result ≡ Err CallError.Full → IsNearlyFull (max 1 (2 * length builder.old.func.now.signature.returns)) builder.old }
+    ensures stops { result ≡ Err CallError.Full → 2 ^ 32 - 1 ≤ length builder.old.func.now.values + length builder.old.func.now.signature.returns }
     ensures variables { builder.new.ctx.now.variables ≡ builder.old.ctx.now.variables }
 {
     let Some(block) = block_named(answers, name) else {

@@ -6,7 +6,7 @@ use Rattle.clif_ir.specs.declared.instructions.InstructionData.TheVariants.{Unar
 use Rattle.cranelift_frontend.specs.declared.builder.FunctionBuilder.{FunctionBuilder}
 use Rattle.cranelift_frontend.specs.Builder.{HasCurrent}
 use Rattle.cranelift_frontend.specs.StandsFor.{StandsFor}
-use Rattle.clif_script.specs.Limits.{IsOneCall}
+use Rattle.clif_script.specs.Limits.{HasFullTable, IsOneCall}
 use Rattle.clif_script.proofs.Limits.{one-valued, nearly-full}
 use Rattle.clif_script.proofs.make.append_iconst.Goals as goal
 
@@ -30,3 +30,7 @@ pub returns-clause-full : goal.returns-clause-full
 returns-clause-full c = λ full.
     nearly-full c.args.builder.now
     (subst (λ (b : FunctionBuilder). (length b.func.now.insts ≡ 2 ^ 32 - 1) ⊎ (length b.func.now.values ≡ 2 ^ 32 - 1)) c.ins.ensures.builder (c.iconst.ensures.full full))
+
+pub returns-clause-stops : goal.returns-clause-stops
+returns-clause-stops c = λ full.
+    subst (λ (b : FunctionBuilder). HasFullTable b.func.now) c.ins.ensures.builder (c.iconst.ensures.full full)

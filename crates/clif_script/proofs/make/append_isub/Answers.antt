@@ -6,7 +6,7 @@ use Rattle.clif_ir.specs.declared.instructions.BinaryOpcode.TheVariants.{Isub}
 use Rattle.clif_ir.specs.declared.instructions.InstructionData.TheVariants.{Binary}
 use Rattle.cranelift_frontend.specs.declared.builder.FunctionBuilder.{FunctionBuilder}
 use Rattle.cranelift_frontend.specs.Builder.{HasCurrent}
-use Rattle.clif_script.specs.Limits.{IsOneCall}
+use Rattle.clif_script.specs.Limits.{HasFullTable, IsOneCall}
 use Rattle.clif_script.proofs.Limits.{one-valued, nearly-full}
 use Rattle.clif_script.proofs.make.append_isub.Goals as goal
 
@@ -24,3 +24,7 @@ pub returns-clause-full : goal.returns-clause-full
 returns-clause-full c = λ full.
     nearly-full c.args.builder.now
     (subst (λ (b : FunctionBuilder). (length b.func.now.insts ≡ 2 ^ 32 - 1) ⊎ (length b.func.now.values ≡ 2 ^ 32 - 1)) c.ins.ensures.builder (c.isub.ensures.full full))
+
+pub returns-clause-stops : goal.returns-clause-stops
+returns-clause-stops c = λ full.
+    subst (λ (b : FunctionBuilder). HasFullTable b.func.now) c.ins.ensures.builder (c.isub.ensures.full full)

@@ -3,7 +3,7 @@ use Rattle.std.proofs.lemmas.Grind.{common_steps}
 use Rattle.std.specs.Prelude.{OnOk}
 use Rattle.cranelift_frontend.specs.declared.builder.FunctionBuilder.{FunctionBuilder}
 use Rattle.cranelift_frontend.specs.Builder.{HasCurrent}
-use Rattle.clif_script.specs.Limits.{IsOneCall}
+use Rattle.clif_script.specs.Limits.{HasFullTable, IsOneCall}
 use Rattle.clif_script.proofs.Limits.{one-appended, keeps-same, kept, nearly-full}
 use Rattle.clif_script.proofs.make.append_return.Goals as goal
 
@@ -21,3 +21,7 @@ pub returns-clause-full : goal.returns-clause-full
 returns-clause-full c = λ full.
     nearly-full c.args.builder.now
     (subst (λ (b : FunctionBuilder). (length b.func.now.insts ≡ 2 ^ 32 - 1) ⊎ (length b.func.now.values ≡ 2 ^ 32 - 1)) c.ins.ensures.builder (c.return_.ensures.full full))
+
+pub returns-clause-stops : goal.returns-clause-stops
+returns-clause-stops c = λ full.
+    subst (λ (b : FunctionBuilder). HasFullTable b.func.now) c.ins.ensures.builder (c.return_.ensures.full full)

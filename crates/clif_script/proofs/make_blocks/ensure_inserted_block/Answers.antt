@@ -33,6 +33,12 @@ returns-in_err-ensure_inserted_block-clause-full c = λ full.
     let told = full-told-by c.ensure_inserted_block.result c.from_residual.result p.0 c.in_err-ensure_inserted_block.field-0.0 c.in_err-ensure_inserted_block.was p.1 p.2 full in
     absurd (c.ensure_inserted_block.ensures.never_full told.0)
 
+pub returns-in_err-ensure_inserted_block-clause-never_full : goal.returns-in_err-ensure_inserted_block-clause-never_full
+returns-in_err-ensure_inserted_block-clause-never_full c = λ full.
+    let p = err_from_is_err_and c.from_residual.result c.from_residual.ensures.1 in
+    let told = full-told-by c.ensure_inserted_block.result c.from_residual.result p.0 c.in_err-ensure_inserted_block.field-0.0 c.in_err-ensure_inserted_block.was p.1 p.2 full in
+    c.ensure_inserted_block.ensures.never_full told.0
+
 pub returns-clause-ready : goal.returns-clause-ready
 returns-clause-ready c = λ declared calls ready.
     ([], ready-more calls _ c.args.builder.now c.ensure_inserted_block.new.self _ answer.Nothing ready (c.in_ok-ensure_inserted_block.ensures.stands declared calls ready.stands) (refl, refl))

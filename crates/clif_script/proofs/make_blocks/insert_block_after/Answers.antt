@@ -68,6 +68,12 @@ returns-in_err-insert_block_after-clause-full c = λ full.
     let told = full-told-by c.insert_block_after.result c.from_residual.result p.0 c.in_err-insert_block_after.field-0.0 c.in_err-insert_block_after.was p.1 p.2 full in
     absurd (c.insert_block_after.ensures.never_full told.0)
 
+pub returns-in_err-insert_block_after-clause-never_full : goal.returns-in_err-insert_block_after-clause-never_full
+returns-in_err-insert_block_after-clause-never_full c = λ full.
+    let p = err_from_is_err_and c.from_residual.result c.from_residual.ensures.1 in
+    let told = full-told-by c.insert_block_after.result c.from_residual.result p.0 c.in_err-insert_block_after.field-0.0 c.in_err-insert_block_after.was p.1 p.2 full in
+    c.insert_block_after.ensures.never_full told.0
+
 pub returns-clause-ready : goal.returns-clause-ready
 returns-clause-ready c = λ declared calls ready.
     let old = c.args.builder.now in

@@ -65,3 +65,9 @@ returns-in_err-value-clause-full c = λ full.
     let told = full-told-by c.append_block_param.result c.from_residual.result p.0 c.in_err-value.field-0.0 c.in_err-value.was p.1 p.2 full in
     let values = c.append_block_param.ensures.full told.0 in
     nearly-full-of-values 2 c.args.builder.now (omega (arith, values))
+
+pub returns-in_err-value-clause-stops : goal.returns-in_err-value-clause-stops
+returns-in_err-value-clause-stops c = λ full.
+    let p = err_from_is_err_and c.from_residual.result c.from_residual.ensures.1 in
+    let told = full-told-by c.append_block_param.result c.from_residual.result p.0 c.in_err-value.field-0.0 c.in_err-value.was p.1 p.2 full in
+    c.append_block_param.ensures.full told.0

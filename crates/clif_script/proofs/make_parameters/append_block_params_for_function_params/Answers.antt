@@ -101,3 +101,9 @@ returns-in_err-append_block_params_for_function_params-clause-full c = λ full.
     let room = c.append_block_params_for_function_params.ensures.room told.0 in
     let enough = le-max_right 1 (2 * length old.func.now.signature.params) in
     nearly-full-of-values _ old (omega (arith, room, enough))
+
+pub returns-in_err-append_block_params_for_function_params-clause-stops : goal.returns-in_err-append_block_params_for_function_params-clause-stops
+returns-in_err-append_block_params_for_function_params-clause-stops c = λ full.
+    let p = err_from_is_err_and c.from_residual.result c.from_residual.ensures.1 in
+    let told = full-told-by c.append_block_params_for_function_params.result c.from_residual.result p.0 c.in_err-append_block_params_for_function_params.field-0.0 c.in_err-append_block_params_for_function_params.was p.1 p.2 full in
+    c.append_block_params_for_function_params.ensures.room told.0

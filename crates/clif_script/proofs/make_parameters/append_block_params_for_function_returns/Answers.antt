@@ -92,3 +92,9 @@ returns-in_err-append_block_params_for_function_returns-clause-full c = λ full.
     let room = c.append_block_params_for_function_returns.ensures.room told.0 in
     let enough = le-max_right 1 (2 * length old.func.now.signature.returns) in
     nearly-full-of-values _ old (omega (arith, room, enough))
+
+pub returns-in_err-append_block_params_for_function_returns-clause-stops : goal.returns-in_err-append_block_params_for_function_returns-clause-stops
+returns-in_err-append_block_params_for_function_returns-clause-stops c = λ full.
+    let p = err_from_is_err_and c.from_residual.result c.from_residual.ensures.1 in
+    let told = full-told-by c.append_block_params_for_function_returns.result c.from_residual.result p.0 c.in_err-append_block_params_for_function_returns.field-0.0 c.in_err-append_block_params_for_function_returns.was p.1 p.2 full in
+    c.append_block_params_for_function_returns.ensures.room told.0

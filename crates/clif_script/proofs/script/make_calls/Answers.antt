@@ -3,9 +3,11 @@ use Rattle.std.proofs.lemmas.Grind.{common_steps}
 use Rattle.clif_meaning.specs.Request.{AnsweredCall}
 use Rattle.cranelift_frontend.specs.Ledger.{ledger_of}
 use Rattle.clif_script.specs.declared.script.Answer.{Answer}
-use Rattle.clif_script.specs.Ready.{IsReady}
+use Rattle.clif_script.specs.Ready.{IsJudged, IsReady}
 use Rattle.clif_script.specs.Requests.{request_of}
-use Rattle.std.specs.Prelude.{ℕ, length, Err, Result, Some}
+use Rattle.std.specs.Prelude.{ℕ, Bool, true, length, Err, Result, Some}
+use Rattle.clif_script.specs.declared.script.CallError.{CallError}
+use Rattle.clif_script.specs.declared.script.CallError.TheVariants as error
 use Rattle.clif_script.specs.declared.script.ReplayError.{ReplayError}
 use Rattle.clif_script.specs.declared.script.ReplayError.TheVariants.{Full, Misuse}
 use Rattle.std.proofs.lemmas.Option.{slice_get-get_or}
@@ -56,12 +58,19 @@ returns-in-Err-clause-judged c = λ i told.
 same-full : (e : ReplayError) → ◌≡◌ {A = Result (Unit {0}) ReplayError} (Err e) (Err Full) → e ≡ Full
 same-full e h = cc
 
+-- a call that finds a table full is allowed
+allowed-full : (e : CallError) → e ≡ error.Full → (allowed : Bool) → IsJudged allowed (Err e) → allowed ≡ true
+allowed-full e is allowed judged = subst (λ (told : CallError). IsJudged allowed (Err told)) is judged
+
 pub returns-in-Err-clause-table_full : goal.returns-in-Err-clause-table_full
 returns-in-Err-clause-table_full c = λ told.
     let invariant = c.loop-place.invariant in
     let builder = c.loop-place.builder in
     let call = c.index-calls-place.result in
-    let full = c.in-Err.ensures.full (ap Err (full-told c.in-Err.error c.loop-place.place c.at.result c.at.ensures (same-full c.at.result told))) in
+    let is_full = full-told c.in-Err.error c.loop-place.place c.at.result c.at.ensures (same-full c.at.result told) in
+    let full = c.in-Err.ensures.full (ap Err is_full) in
+    let ready = subst (λ (xs : List Answer). IsReady c.args.builder.now.func.now.signature invariant.made.0 builder xs) (sym c.as_slice.ensures.value) invariant.made.1 in
+    let judged = c.in-Err.ensures.judged c.args.builder.now.func.now.signature invariant.made.0 ready in
     record {
       place = c.loop-place.place;
       call = call;
@@ -74,6 +83,8 @@ returns-in-Err-clause-table_full c = λ told.
       stands = invariant.made.1.stands;
       named = invariant.name;
       table = subst (λ (s : SignatureShape). IsNearlyFull (cost_of s call) builder) invariant.made.1.stands.signature full invariant.within.records;
+      allowed = allowed-full c.in-Err.error is_full _ judged;
+      stops = c.in-Err.ensures.stops (ap Err is_full) invariant.within.records;
     }
 
 pub returns-in-Err-clause-full : goal.returns-in-Err-clause-full
