@@ -1,14 +1,19 @@
 //! Functions with branches that are built call by call. The texts are those of the worked rows.
 #![tactic(auto)]
 
+ghost use Rattle.std.specs.Prelude.{◌≡◌, slice_get, Some};
+
 use crate::front_end::{CONFIG, FrontEnd, function};
+use clif_types::types::I32;
 use cranelift_frontend::{Block, FunctionBuilderContext, Variable};
 use std::fmt::Write;
 use std::process::Abort;
 use std::test::Fail;
 
 // The blocks of the loop, which both arms of one branch lead back to.
-fn fill_loop(rt: &impl Abort, front_end: &mut FrontEnd<'_>, x: Variable, blocks: [Block; 4]) {
+fn fill_loop(rt: &impl Abort, front_end: &mut FrontEnd<'_>, x: Variable, blocks: [Block; 4])
+    requires { slice_get front_end.old.builder.ctx.now.variables x ≡ Some I32 }
+{
     let [block0, block1, block2, block3] = blocks;
     front_end.enter(rt, block0);
     let five = front_end.constant(rt, 5);

@@ -1,7 +1,7 @@
 //! What several tests use: a front end of variables of type I32, which makes one call at a time.
 #![tactic(auto)]
 
-ghost use Rattle.std.specs.Prelude.{◌≡◌, ◌≢◌, ◌≤◌, ◌<◌, length, slice_get, slice_index, EachIndex, IfOk, IsTrue, Some};
+ghost use Rattle.std.specs.Prelude.{◌≡◌, ◌<◌, length, slice_get, IfOk, Some};
 ghost use Rattle.clif_ir.specs.Body.{empty_body};
 ghost use Rattle.cranelift_frontend.specs.Builder.{HasCurrent};
 ghost use Rattle.cranelift_frontend.specs.Context.{empty_context};
@@ -36,16 +36,11 @@ pub fn function(alloc: Global, name: &str, params: usize) -> Result<Function, Al
     Ok(Function::with_name_signature(alloc, name, signature))
 }
 
-/// A builder, and how many variables and values there are for certain. Its methods assert what the calls ask for, and
-/// that they succeed.
+/// A builder. Its methods assert what the calls ask for, and that they succeed.
 #[derive(Drop)]
 pub struct FrontEnd<'a> {
     /// The builder, for the end of the building.
     pub builder: FunctionBuilder<'a>,
-    variables: usize,
-    values: usize,
-    ghost typed: { (x : ℕ) → x < variables → slice_get builder.ctx.now.variables x ≡ Some I32 },
-    ghost values_exist: { values ≤ length builder.func.now.values },
 }
 
 impl<'a> FrontEnd<'a> {
@@ -56,8 +51,6 @@ impl<'a> FrontEnd<'a> {
     {
         FrontEnd {
             builder: FunctionBuilder::new(func, ctx),
-            variables: 0,
-            values: 0,
         }
     }
 
@@ -77,11 +70,11 @@ impl<'a> FrontEnd<'a> {
         assert!(rt; !self.builder.is_filled(block));
     }
 
-    // Asserts that a value is among those that were answered.
+    // Asserts that a value exists.
     fn asserts_value(&self, rt: &impl Abort, value: Value)
         ensures { value < length self.now.builder.func.now.values }
     {
-        assert!(rt; value.index() < self.values);
+        assert!(rt; value.index() < self.builder.func().value_count());
     }
 
     /// Whether nothing was made in a block.
@@ -128,12 +121,16 @@ impl<'a> FrontEnd<'a> {
     }
 
     /// A new block.
-    pub fn block(&mut self, rt: &impl Abort) -> Block {
+    pub fn block(&mut self, rt: &impl Abort) -> Block
+        ensures { self.new.builder.ctx.now.variables ≡ self.old.builder.ctx.now.variables }
+    {
         self.builder.create_block().expect(rt, "a block")
     }
 
     /// Makes a block the current one, where the one that was current is filled.
-    pub fn enter(&mut self, rt: &impl Abort, block: Block) {
+    pub fn enter(&mut self, rt: &impl Abort, block: Block)
+        ensures { self.new.builder.ctx.now.variables ≡ self.old.builder.ctx.now.variables }
+    {
         self.asserts_block(rt, block);
         assert!(rt; !self.builder.is_filled(block));
         if let Some(current) = self.builder.current_block() {
@@ -143,7 +140,9 @@ impl<'a> FrontEnd<'a> {
     }
 
     /// Puts a block into the layout, behind another one.
-    pub fn place(&mut self, rt: &impl Abort, block: Block, after: Block) {
+    pub fn place(&mut self, rt: &impl Abort, block: Block, after: Block)
+        ensures { self.new.builder.ctx.now.variables ≡ self.old.builder.ctx.now.variables }
+    {
         self.asserts_block(rt, block);
         self.asserts_block(rt, after);
         assert!(rt; !self.builder.func().is_block_inserted(block));
@@ -154,41 +153,52 @@ impl<'a> FrontEnd<'a> {
     }
 
     /// Puts the current block into the layout.
-    pub fn lay_out(&mut self, rt: &impl Abort) {
+    pub fn lay_out(&mut self, rt: &impl Abort)
+        ensures { self.new.builder.ctx.now.variables ≡ self.old.builder.ctx.now.variables }
+    {
         self.asserts_current(rt);
         self.builder.ensure_inserted_block().expect(rt, "a place");
     }
 
     /// Marks a block as one that seldom runs.
-    pub fn cool(&mut self, rt: &impl Abort, block: Block) {
+    pub fn cool(&mut self, rt: &impl Abort, block: Block)
+        ensures { self.new.builder.ctx.now.variables ≡ self.old.builder.ctx.now.variables }
+    {
         self.asserts_block(rt, block);
         self.builder.set_cold_block(block);
     }
 
     /// Seals a block.
-    pub fn seal(&mut self, rt: &impl Abort, block: Block) {
+    pub fn seal(&mut self, rt: &impl Abort, block: Block)
+        ensures { self.new.builder.ctx.now.variables ≡ self.old.builder.ctx.now.variables }
+    {
         self.asserts_block(rt, block);
         assert!(rt; !self.builder.is_sealed(block));
         self.builder.seal_block(block).expect(rt, "a seal");
     }
 
     /// Seals each block.
-    pub fn seal_all(&mut self, rt: &impl Abort) {
+    pub fn seal_all(&mut self, rt: &impl Abort)
+        ensures { self.new.builder.ctx.now.variables ≡ self.old.builder.ctx.now.variables }
+    {
         self.builder.seal_all_blocks().expect(rt, "seals");
     }
 
     /// A new parameter of a block.
-    pub fn param(&mut self, rt: &impl Abort, block: Block) -> Value {
+    pub fn param(&mut self, rt: &impl Abort, block: Block) -> Value
+        ensures { self.new.builder.ctx.now.variables ≡ self.old.builder.ctx.now.variables }
+    {
         self.asserts_block(rt, block);
         assert!(rt; self.builder.is_pristine(block));
         let appended = self.builder.append_block_param(block, I32);
         let value = appended.expect(rt, "a parameter");
-        self.values = value.index() + 1;
         value
     }
 
     /// Puts the function's parameters behind those of a block.
-    pub fn function_params(&mut self, rt: &impl Abort, block: Block) {
+    pub fn function_params(&mut self, rt: &impl Abort, block: Block)
+        ensures { self.new.builder.ctx.now.variables ≡ self.old.builder.ctx.now.variables }
+    {
         self.asserts_block(rt, block);
         assert!(rt; self.builder.is_pristine(block) && !self.builder.has_any_predecessors(block));
         let appended = self.builder.append_block_params_for_function_params(block);
@@ -196,7 +206,9 @@ impl<'a> FrontEnd<'a> {
     }
 
     /// Puts parameters of the types that the function returns behind those of a block.
-    pub fn function_returns(&mut self, rt: &impl Abort, block: Block) {
+    pub fn function_returns(&mut self, rt: &impl Abort, block: Block)
+        ensures { self.new.builder.ctx.now.variables ≡ self.old.builder.ctx.now.variables }
+    {
         self.asserts_block(rt, block);
         assert!(rt; self.builder.is_pristine(block));
         let appended = self.builder.append_block_params_for_function_returns(block);
@@ -204,7 +216,9 @@ impl<'a> FrontEnd<'a> {
     }
 
     /// Ends the current block with a return of the first parameter of this block.
-    pub fn give_back_param(&mut self, rt: &impl Abort, block: Block) {
+    pub fn give_back_param(&mut self, rt: &impl Abort, block: Block)
+        ensures { self.new.builder.ctx.now.variables ≡ self.old.builder.ctx.now.variables }
+    {
         self.asserts_block(rt, block);
         let params = self.builder.block_params(block);
         assert!(rt; params.len() > 0);
@@ -214,40 +228,47 @@ impl<'a> FrontEnd<'a> {
     }
 
     /// A new variable.
-    pub fn declare(&mut self, rt: &impl Abort) -> Variable {
+    pub fn declare(&mut self, rt: &impl Abort) -> Variable
+        ensures { slice_get self.new.builder.ctx.now.variables result ≡ Some I32 }
+    {
         let variable = self.builder.declare_var(I32).expect(rt, "a variable");
-        self.variables = variable.index() + 1;
         variable
     }
 
     /// Assigns a value to a variable.
-    pub fn define(&mut self, rt: &impl Abort, variable: Variable, value: Value) {
+    pub fn define(&mut self, rt: &impl Abort, variable: Variable, value: Value)
+        requires { slice_get self.old.builder.ctx.now.variables variable ≡ Some I32 }
+        ensures { self.new.builder.ctx.now.variables ≡ self.old.builder.ctx.now.variables }
+    {
         self.asserts_current(rt);
         self.asserts_value(rt, value);
-        assert!(rt; variable.index() < self.variables);
         assert!(rt; self.builder.func().value_type(value) == I32);
         self.builder.def_var(variable, value).expect(rt, "a record");
     }
 
     /// What a variable holds.
-    pub fn read(&mut self, rt: &impl Abort, variable: Variable) -> Value {
+    pub fn read(&mut self, rt: &impl Abort, variable: Variable) -> Value
+        requires { slice_get self.old.builder.ctx.now.variables variable ≡ Some I32 }
+        ensures { self.new.builder.ctx.now.variables ≡ self.old.builder.ctx.now.variables }
+    {
         self.asserts_current(rt);
-        assert!(rt; variable.index() < self.variables);
         let value = self.builder.use_var(variable).expect(rt, "a value");
-        self.values = value.index() + 1;
         value
     }
 
     /// A constant.
-    pub fn constant(&mut self, rt: &impl Abort, imm: i64) -> Value {
+    pub fn constant(&mut self, rt: &impl Abort, imm: i64) -> Value
+        ensures { self.new.builder.ctx.now.variables ≡ self.old.builder.ctx.now.variables }
+    {
         self.asserts_current(rt);
         let value = self.builder.ins().iconst(I32, imm).expect(rt, "a constant");
-        self.values = value.index() + 1;
         value
     }
 
     /// A constant, which is built by its shape.
-    pub fn shaped_constant(&mut self, rt: &impl Abort, imm: i64) {
+    pub fn shaped_constant(&mut self, rt: &impl Abort, imm: i64)
+        ensures { self.new.builder.ctx.now.variables ≡ self.old.builder.ctx.now.variables }
+    {
         self.asserts_current(rt);
         let shape = InstructionData::UnaryImm { imm };
         let inst = self
@@ -259,27 +280,31 @@ impl<'a> FrontEnd<'a> {
     }
 
     /// The sum of two values.
-    pub fn sum(&mut self, rt: &impl Abort, x: Value, y: Value) -> Value {
+    pub fn sum(&mut self, rt: &impl Abort, x: Value, y: Value) -> Value
+        ensures { self.new.builder.ctx.now.variables ≡ self.old.builder.ctx.now.variables }
+    {
         self.asserts_current(rt);
         self.asserts_value(rt, x);
         self.asserts_value(rt, y);
         let value = self.builder.ins().iadd(x, y).expect(rt, "a sum");
-        self.values = value.index() + 1;
         value
     }
 
     /// The difference of two values.
-    pub fn difference(&mut self, rt: &impl Abort, x: Value, y: Value) -> Value {
+    pub fn difference(&mut self, rt: &impl Abort, x: Value, y: Value) -> Value
+        ensures { self.new.builder.ctx.now.variables ≡ self.old.builder.ctx.now.variables }
+    {
         self.asserts_current(rt);
         self.asserts_value(rt, x);
         self.asserts_value(rt, y);
         let value = self.builder.ins().isub(x, y).expect(rt, "a difference");
-        self.values = value.index() + 1;
         value
     }
 
     /// Ends the current block with a jump.
-    pub fn jump(&mut self, rt: &impl Abort, block: Block) {
+    pub fn jump(&mut self, rt: &impl Abort, block: Block)
+        ensures { self.new.builder.ctx.now.variables ≡ self.old.builder.ctx.now.variables }
+    {
         self.asserts_current(rt);
         self.asserts_block(rt, block);
         assert!(rt; !self.builder.is_sealed(block));
@@ -287,7 +312,9 @@ impl<'a> FrontEnd<'a> {
     }
 
     /// Ends the current block with a jump that passes a value.
-    pub fn jump_with(&mut self, rt: &impl Abort, block: Block, value: Value) {
+    pub fn jump_with(&mut self, rt: &impl Abort, block: Block, value: Value)
+        ensures { self.new.builder.ctx.now.variables ≡ self.old.builder.ctx.now.variables }
+    {
         self.asserts_current(rt);
         self.asserts_block(rt, block);
         self.asserts_value(rt, value);
@@ -303,7 +330,9 @@ impl<'a> FrontEnd<'a> {
         condition: Value,
         block_then: Block,
         block_else: Block,
-    ) {
+    )
+        ensures { self.new.builder.ctx.now.variables ≡ self.old.builder.ctx.now.variables }
+    {
         self.asserts_current(rt);
         self.asserts_value(rt, condition);
         self.asserts_block(rt, block_then);
@@ -317,7 +346,9 @@ impl<'a> FrontEnd<'a> {
     }
 
     /// Ends the current block with a return of a value.
-    pub fn give_back(&mut self, rt: &impl Abort, value: Value) {
+    pub fn give_back(&mut self, rt: &impl Abort, value: Value)
+        ensures { self.new.builder.ctx.now.variables ≡ self.old.builder.ctx.now.variables }
+    {
         self.asserts_current(rt);
         self.asserts_value(rt, value);
         let inst = self.builder.ins().return_(&[value]).expect(rt, "a return");
@@ -325,7 +356,9 @@ impl<'a> FrontEnd<'a> {
     }
 
     /// Ends the current block with a return of nothing.
-    pub fn end(&mut self, rt: &impl Abort) {
+    pub fn end(&mut self, rt: &impl Abort)
+        ensures { self.new.builder.ctx.now.variables ≡ self.old.builder.ctx.now.variables }
+    {
         self.asserts_current(rt);
         self.builder.ins().return_(&[]).expect(rt, "a return");
     }
