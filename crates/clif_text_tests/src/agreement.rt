@@ -193,7 +193,7 @@ fn order(alloc: Global, count: usize, number: usize) -> Result<Vec<usize>, Fail>
     Ok(chosen)
 }
 
-// Puts the sealing of a block, or takes it away again.
+// Puts the sealing of these blocks, in this order, at the end of a script.
 fn seal_in(text: &mut Script, blocks: &[usize]) -> Result<(), Fail> {
     for block in blocks {
         let place = FIRST_BLOCK.saturating_add(*block);
@@ -208,12 +208,12 @@ fn seal_in(text: &mut Script, blocks: &[usize]) -> Result<(), Fail> {
 fn nest_sealed_in_every_order(rt: HostRuntime) -> Result<(), Fail> {
     let alloc = rt.alloc();
     let mut text = read(alloc, NEST)?;
-    let mut ctx = FunctionBuilderContext::new(alloc);
     let made = text.calls.len();
     for number in 0..720 {
         let blocks = order(alloc, 6, number)?;
         assert_eq!(rt; blocks.len(), 6);
         seal_in(&mut text, blocks.as_slice())?;
+        let mut ctx = FunctionBuilderContext::new(alloc);
         let func = built(alloc, &text, &mut ctx)?;
         answers(&rt, alloc, &text, &func, &[], 6)?;
         text.calls.truncate(made);
