@@ -45,8 +45,8 @@ use Rattle.cranelift_frontend.proofs.LedgerNames.{IsNumbered, name-number, named
 use Rattle.cranelift_frontend.proofs.LedgerKept.{inserted-insts, inserted-values, named-value}
 use Rattle.cranelift_frontend.proofs.LedgerMade.{block-exists}
 use Rattle.cranelift_frontend.proofs.LedgerUsed.{ledger-type}
-use Rattle.clif_script.specs.declared.call.Edge.{Edge}
-use Rattle.clif_script.specs.declared.call.Name.{Name}
+use Rattle.clif_calls.specs.declared.call.Edge.{Edge}
+use Rattle.clif_calls.specs.declared.call.Name.{Name}
 use Rattle.clif_script.specs.declared.script.Answer.{Answer}
 use Rattle.clif_script.specs.declared.script.Answer.TheVariants as answer
 use Rattle.clif_script.specs.declared.script.CallError.{CallError}

@@ -12,7 +12,7 @@ use Rattle.clif_meaning.specs.Acceptance.{allows}
 use Rattle.cranelift_frontend.specs.declared.builder.FunctionBuilder.{FunctionBuilder}
 use Rattle.cranelift_frontend.specs.Ledger.{block_name, ledger_of}
 use Rattle.cranelift_frontend.proofs.LedgerNames.{IsNumbered, block-inserted, name-number, named-block, same_name-true, state-by-name}
-use Rattle.clif_script.specs.declared.call.Name.{Name}
+use Rattle.clif_calls.specs.declared.call.Name.{Name}
 use Rattle.clif_script.specs.declared.script.Answer.{Answer}
 use Rattle.clif_script.specs.Requests.{name_of}
 use Rattle.clif_script.specs.Ready.{IsReady, block_of, can_insert}

@@ -19,7 +19,7 @@ use Rattle.cranelift_frontend.proofs.LedgerLists.{get-push, get-below, map-some,
 use Rattle.cranelift_frontend.proofs.LedgerNames.{find-some, name-number, named-block, state-by-name}
 use Rattle.cranelift_frontend.proofs.LedgerKept.{ledger-more, named-value}
 use Rattle.cranelift_frontend.proofs.LedgerMade.{block-exists}
-use Rattle.clif_script.specs.declared.call.Name.{Name}
+use Rattle.clif_calls.specs.declared.call.Name.{Name}
 use Rattle.clif_script.specs.declared.script.Answer.{Answer}
 use Rattle.clif_script.specs.declared.script.Answer.TheVariants as answer
 use Rattle.clif_script.specs.Requests.{name_of}

@@ -16,8 +16,8 @@ use Rattle.cranelift_frontend.specs.declared.error.FinalizeError.TheVariants as 
 use Rattle.cranelift_frontend.specs.Ledger.{RefusalAgrees, ledger_of}
 use Rattle.cranelift_frontend.proofs.LedgerLists.{if-no}
 use Rattle.cranelift_frontend.proofs.LedgerKept.{ledger-more}
-use Rattle.clif_script.specs.declared.call.Call.{Call}
-use Rattle.clif_script.specs.declared.call.Call.TheVariants as call
+use Rattle.clif_calls.specs.declared.call.Call.{Call}
+use Rattle.clif_calls.specs.declared.call.Call.TheVariants as call
 use Rattle.clif_script.specs.declared.script.CallError.{CallError}
 use Rattle.clif_script.specs.declared.script.CallError.TheVariants as error
 use Rattle.clif_script.specs.declared.script.ReplayError.{ReplayError}

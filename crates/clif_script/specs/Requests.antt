@@ -11,10 +11,10 @@ use Rattle.clif_types.specs.Signature.{SignatureShape}
 use Rattle.clif_types.specs.declared.extname.UserFuncName.{UserFuncName}
 use Rattle.cranelift_frontend.specs.Context.{ContextState}
 use Rattle.cranelift_frontend.specs.StandsFor.{LeavesNoParameter, StandsIn}
-use Rattle.clif_script.specs.declared.call.Name as named
-use Rattle.clif_script.specs.declared.call.Edge as script
-use Rattle.clif_script.specs.declared.call.Call.{Call}
-use Rattle.clif_script.specs.declared.call.Call.TheVariants as call
+use Rattle.clif_calls.specs.declared.call.Name as named
+use Rattle.clif_calls.specs.declared.call.Edge as script
+use Rattle.clif_calls.specs.declared.call.Call.{Call}
+use Rattle.clif_calls.specs.declared.call.Call.TheVariants as call
 use Rattle.clif_script.specs.declared.script.ReplayError.{ReplayError}
 use Rattle.clif_script.specs.declared.script.ReplayError.TheVariants as replay
 use Rattle.clif_script.specs.Limits.{IsNearlyFullIn, MayStop, cost_of}

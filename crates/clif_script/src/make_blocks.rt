@@ -9,9 +9,9 @@ ghost use Rattle.clif_script.specs.Limits.{IsOneCall, IsNearlyFull};
 ghost use Rattle.clif_script.specs.Requests.{name_of};
 ghost use Rattle.clif_script.specs.Ready.{IsReady, IsReadyNow, IsReadyWith, IsReadyAfter, IsJudged, can_switch, can_seal, can_insert};
 
-use crate::call::Name;
 use crate::make::{block_named, has_current};
 use crate::script::{Answer, CallError};
+use clif_calls::Name;
 use clif_types::Block;
 use cranelift_frontend::FunctionBuilder;
 

@@ -12,9 +12,9 @@ ghost use Rattle.clif_script.specs.Limits.{IsOneCall, IsNearlyFull};
 ghost use Rattle.clif_script.specs.Requests.{name_of};
 ghost use Rattle.clif_script.specs.Ready.{IsReady, IsReadyNow, IsReadyWith, IsReadyAfter, IsJudged, can_append, can_append_function_params, last_params};
 
-use crate::call::Name;
 use crate::make::{block_named, one_value};
 use crate::script::{Answer, CallError};
+use clif_calls::Name;
 use clif_types::{Block, Type};
 use cranelift_frontend::FunctionBuilder;
 

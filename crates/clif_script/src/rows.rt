@@ -3,8 +3,8 @@
 ghost use Rattle.std.specs.Prelude.{◌≡◌, ◌<◌, ◌-◌, ◌^◌, ◌↔◌, length, string_bytes, slice_get, IfOk, IfSome, IsSome};
 ghost use Rattle.clif_script.specs.Rows.{IsRowName};
 
-use crate::call::{Call, Edge, Name};
 use crate::script::{ReplayError, replay};
+use clif_calls::{Call, Edge, Name};
 use clif_ir::Function;
 use clif_ssa::Variable;
 use clif_types::{

@@ -4,8 +4,8 @@ use Rattle.std.specs.Prelude.{if◌then◌else◌}
 use Rattle.std.specs.BTreeMap.{get_by}
 use Rattle.std.specs.Cmp.Lexicographic.{slice_cmp}
 use Rattle.std.specs.Ordering.{nat_cmp}
-use Rattle.clif_script.specs.declared.call.Call.{Call}
-use Rattle.clif_script.specs.declared.call.Name.{Name}
+use Rattle.clif_calls.specs.declared.call.Call.{Call}
+use Rattle.clif_calls.specs.declared.call.Name.{Name}
 use Rattle.clif_text.specs.declared.reader.Reader.{Reader}
 use Rattle.clif_text.specs.declared.scope.Scope.{Scope}
 use Rattle.clif_text.specs.Grammar.{Names, IsCall}

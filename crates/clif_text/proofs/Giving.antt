@@ -3,7 +3,7 @@ use Rattle.std.proofs.Common.{◌≡◌, ◌≢◌, ℕ, ◌+◌, ◌<◌, ◌�
 use mir.Val.{bool_byte}
 use Rattle.std.specs.Prelude.{codes}
 use Rattle.std.proofs.lemmas.List.{append_assoc, append-nil, take_all}
-use Rattle.clif_script.specs.declared.call.Name.{Name}
+use Rattle.clif_calls.specs.declared.call.Name.{Name}
 use Rattle.clif_text.specs.Cursor.{texts}
 use Rattle.clif_text.specs.Given.{GiveNames, GivesName, first_answer}
 use Rattle.clif_text.specs.declared.scope.Scope.{Scope}

@@ -5,7 +5,7 @@ use Rattle.std.specs.Cmp.Lexicographic.{slice_cmp}
 use Rattle.std.specs.Ordering.{nat_cmp}
 use Rattle.std.proofs.lemmas.Map.Text.{is_eq-slice_cmp}
 use Rattle.std.proofs.lemmas.Slice.Eq.{bytes_eq-Decides}
-use Rattle.clif_script.specs.declared.call.Name.{Name}
+use Rattle.clif_calls.specs.declared.call.Name.{Name}
 use Rattle.clif_text.specs.Given.{GivesName}
 
 abbrev pub by_text : Bor (List ℕ) → Bor (List ℕ) → Ordering

@@ -2,7 +2,7 @@
 use Rattle.std.proofs.Common.{◌≡◌, ℕ, List, [], ◌∷◌, ◌++◌, ap, ◌∙◌, sym, refl, subst}
 use Rattle.std.specs.Prelude.{codes}
 use Rattle.std.proofs.lemmas.List.{append_assoc, append-nil}
-use Rattle.clif_script.specs.declared.call.Name.{Name}
+use Rattle.clif_calls.specs.declared.call.Name.{Name}
 use Rattle.clif_text.specs.declared.args.Args.{Args}
 use Rattle.clif_text.specs.Cursor.{words_left}
 use Rattle.clif_text.specs.Grammar.{Names, AreAnswers, IsAnswer}

@@ -1,8 +1,8 @@
 -- What names stand for, behind the calls so far. Source: own; docs/SCRIPTS.md describes the same.
 use Rattle.std.specs.Prelude.{◌≡◌, ◌≢◌, ℕ, ◌+◌, ◌==◌, ◌⊎◌, ◌++◌, Bool, true, false, List, [], ◌∷◌, Option, Some, None, slice_get, codes, if◌then◌else◌}
-use Rattle.clif_script.specs.declared.call.Name.{Name}
-use Rattle.clif_script.specs.declared.call.Call.{Call}
-use Rattle.clif_script.specs.declared.call.Call.TheVariants as call
+use Rattle.clif_calls.specs.declared.call.Name.{Name}
+use Rattle.clif_calls.specs.declared.call.Call.{Call}
+use Rattle.clif_calls.specs.declared.call.Call.TheVariants as call
 use Rattle.clif_text.specs.Grammar.{Names}
 
 -- whether the call declares a variable

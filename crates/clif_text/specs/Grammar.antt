@@ -5,10 +5,10 @@ use Rattle.std.specs.Str.Parse.{IsNumeral, digits_value}
 use Rattle.clif_types.specs.Types.{IsType}
 use Rattle.clif_types.specs.Texts.{type_text}
 use Rattle.clif_types.specs.declared.types.«Type».{«Type»}
-use Rattle.clif_script.specs.declared.call.Name.{Name}
-use Rattle.clif_script.specs.declared.call.Edge.{Edge}
-use Rattle.clif_script.specs.declared.call.Call.{Call}
-use Rattle.clif_script.specs.declared.call.Call.TheVariants as call
+use Rattle.clif_calls.specs.declared.call.Name.{Name}
+use Rattle.clif_calls.specs.declared.call.Edge.{Edge}
+use Rattle.clif_calls.specs.declared.call.Call.{Call}
+use Rattle.clif_calls.specs.declared.call.Call.TheVariants as call
 
 -- what names stand for: the answer that a given name stands for, and the number of the variable that an answer is
 pub record Names : Type 0 where

@@ -7,5 +7,4 @@ pub mod Scope
 pub mod Script
 pub mod Errors
 pub mod Reader
-pub mod Program
 pub mod Texts

@@ -1,8 +1,8 @@
 -- What a text says. Source: own; docs/SCRIPTS.md describes the same format.
 use Rattle.std.specs.Prelude.{◌≡◌, ◌≢◌, ℕ, ◌+◌, ◌-◌, ◌≤◌, ◌⊎◌, ◌++◌, List, [], ◌∷◌, length, take, codes, nat_eq, slice_index_or, Option, None}
 use Rattle.std.specs.List.{slice_split, All}
-use Rattle.clif_script.specs.declared.call.Call.{Call}
-use Rattle.clif_script.specs.declared.call.Name.{Name}
+use Rattle.clif_calls.specs.declared.call.Call.{Call}
+use Rattle.clif_calls.specs.declared.call.Name.{Name}
 use Rattle.clif_text.specs.declared.error.ReadError.{ReadError}
 use Rattle.clif_text.specs.declared.error.ReadError.TheVariants as read
 use Rattle.clif_text.specs.Given.{names_behind, is_instruction, first_answer, GiveNames}

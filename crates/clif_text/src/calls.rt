@@ -9,7 +9,7 @@ use crate::args::Args;
 use crate::error::{Expected, Fault, LineError};
 use crate::scope::Scope;
 use crate::types::type_named;
-use clif_script::Call;
+use clif_calls::Call;
 use std::alloc::Global;
 
 // The calls of the format that aren't understood so far, without the type that may follow their name.

@@ -1,5 +1,4 @@
-//! Scripts as text: `read` makes calls of a text, `write` a text of calls, and `build` is the program
-//! `clif_build` over two writers.
+//! Scripts as text: `read` makes calls of a text, and `write` a text of calls.
 #![tactic(auto)]
 
 mod args;
@@ -8,7 +7,6 @@ mod cursor;
 mod error;
 mod header;
 mod number;
-mod program;
 mod reader;
 mod scope;
 mod types;
@@ -16,6 +14,5 @@ mod words;
 mod writer;
 
 pub use error::{Expected, Fault, ReadError};
-pub use program::build;
 pub use reader::{Script, read};
 pub use writer::{CallText, write};

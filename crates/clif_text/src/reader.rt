@@ -11,7 +11,7 @@ use crate::error::{Expected, Fault, LineError, ReadError};
 use crate::header::{Header, is_header};
 use crate::scope::{Scope, is_name};
 use crate::words::words_of;
-use clif_script::{Call, Name};
+use clif_calls::{Call, Name};
 use clif_types::{Signature, TargetFrontendConfig, UserFuncName};
 use std::alloc::{AllocError, Global};
 

@@ -2,7 +2,7 @@
 ghost use Rattle.std.specs.Prelude.{◌≡◌, ◌++◌, Some, IfOk, string_bytes};
 ghost use Rattle.clif_text.specs.Texts.{answer_text, answers_text, edge_text, call_text, calls_text, header_text};
 
-use clif_script::{Call, Edge, Name};
+use clif_calls::{Call, Edge, Name};
 use clif_types::{PointerWidth, Signature, TargetFrontendConfig, UserFuncName};
 use std::alloc::{AllocError, Global};
 use std::fmt;

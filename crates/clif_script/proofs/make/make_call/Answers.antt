@@ -3,8 +3,8 @@ use Rattle.std.proofs.lemmas.Grind.{common_steps}
 use Rattle.std.specs.Prelude.{IfOk, map}
 use Rattle.clif_meaning.specs.Acceptance.{allows, return_}
 use Rattle.cranelift_frontend.specs.Ledger.{ledger_of}
-use Rattle.clif_script.specs.declared.call.Call.{Call}
-use Rattle.clif_script.specs.declared.call.Name.{Name}
+use Rattle.clif_calls.specs.declared.call.Call.{Call}
+use Rattle.clif_calls.specs.declared.call.Name.{Name}
 use Rattle.clif_script.specs.Requests.{name_of, request_of}
 use Rattle.clif_script.specs.Ready.{IsJudged, IsReadyAfter}
 use Rattle.clif_script.proofs.make.make_call.Goals as goal

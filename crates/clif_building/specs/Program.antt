@@ -2,7 +2,7 @@
 use Rattle.std.specs.Prelude.{◌≡◌, ℕ, List}
 use Rattle.clif_meaning.specs.Acceptance as acceptance
 use Rattle.clif_types.specs.Signature.{SignatureShape}
-use Rattle.clif_script.specs.declared.call.Call.{Call}
+use Rattle.clif_calls.specs.declared.call.Call.{Call}
 use Rattle.clif_script.specs.Requests.{requests_of}
 use Rattle.clif_text.specs.Script.{AreCallLines}
 

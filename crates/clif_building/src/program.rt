@@ -2,11 +2,10 @@
 ghost use Rattle.std.specs.Prelude.{◌≡◌, ◌<◌, IfOk};
 ghost use Rattle.clif_meaning.specs.Acceptance as acceptance;
 ghost use Rattle.clif_script.specs.Requests.{requests_of};
-ghost use Rattle.clif_text.specs.Program.{IsAccepted};
+ghost use Rattle.clif_building.specs.Program.{IsAccepted};
 
-use crate::error::{Expected, Fault, ReadError};
-use crate::reader::{Script, read};
 use clif_script::{ReplayError, replay};
+use clif_text::{Expected, Fault, ReadError, Script, read};
 use cranelift_frontend::FunctionBuilderContext;
 use std::alloc::Global;
 use std::{io, str};

@@ -1,7 +1,7 @@
 //! Runs of the program over writers in memory.
 #![tactic(auto)]
 
-use clif_text::build;
+use clif_building::build;
 use std::alloc::{AllocError, Global};
 use std::io;
 use std::io::Write;

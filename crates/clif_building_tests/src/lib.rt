@@ -1,4 +1,4 @@
-//! Tests of `clif_text`, of what no clause says: texts of scripts and functions, errors, and what scripts and the functions
+//! Tests of `clif_text` and `clif_building`, of what no clause says: texts of scripts and functions, errors, and what scripts and the functions
 //! that are built of them answer when they run.
 #![tactic(auto)]
 
