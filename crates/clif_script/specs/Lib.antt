@@ -2,4 +2,3 @@ pub mod Errors
 pub mod Limits
 pub mod Ready
 pub mod Requests
-pub mod Rows

@@ -1,7 +1,7 @@
 //! The program `rows` over writers: statuses, texts, and writes that are refused.
 #![tactic(auto)]
 
-use clif_script::run;
+use clif_rows::run;
 use std::alloc::{AllocError, Global};
 use std::io;
 use std::io::Write;

@@ -1,9 +1,9 @@
 //! The rows of the program `rows`: functions that are built from a fixed list of calls, and the program
 //! itself, over two writers.
 ghost use Rattle.std.specs.Prelude.{◌≡◌, ◌<◌, ◌-◌, ◌^◌, ◌↔◌, length, string_bytes, slice_get, IfOk, IfSome, IsSome};
-ghost use Rattle.clif_script.specs.Rows.{IsRowName};
+ghost use Rattle.clif_rows.specs.Rows.{IsRowName};
 
-use crate::script::{ReplayError, replay};
+use clif_script::{ReplayError, replay};
 use clif_calls::{Call, Edge, Name};
 use clif_ir::Function;
 use clif_ssa::Variable;
