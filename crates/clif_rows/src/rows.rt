@@ -3,9 +3,9 @@
 ghost use Rattle.std.specs.Prelude.{◌≡◌, ◌<◌, ◌-◌, ◌^◌, ◌↔◌, length, string_bytes, slice_get, IfOk, IfSome, IsSome};
 ghost use Rattle.clif_rows.specs.Rows.{IsRowName};
 
-use clif_script::{ReplayError, replay};
 use clif_calls::{Call, Edge, Name};
 use clif_ir::Function;
+use clif_script::{ReplayError, replay};
 use clif_ssa::Variable;
 use clif_types::{
     AbiParam, CallConv, LaneType, PointerWidth, Signature, TargetFrontendConfig, Type, UserFuncName,
@@ -24,12 +24,14 @@ const NAMES: [&str; 6] = [
     "empty",
 ];
 
-// A function that is built from a list of calls.
+// A function that is built from a list of calls, while the list is made. Where memory is refused the list is of no use, and
+// `finished` says so.
 #[derive(Drop)]
 struct Row {
     name: UserFuncName,
     signature: Signature,
     calls: Vec<Call>,
+    is_refused: bool,
 }
 
 const I32: Type = Type::Lane(LaneType::I32);
@@ -49,15 +51,6 @@ fn make_row(alloc: Global, name: &str) -> Result<Option<Row>, AllocError>
     }
 }
 
-// A row whose name is `%` and this text, with the convention `system_v`.
-fn named(alloc: Global, name: &str) -> Result<Row, AllocError> {
-    Ok(Row {
-        name: UserFuncName::testcase(String::from_str(alloc, name)?),
-        signature: Signature::new(alloc, CallConv::SystemV),
-        calls: Vec::new(alloc),
-    })
-}
-
 // Answer `answer` of the call at `place`.
 fn answer(place: usize, answer: usize) -> Name {
     Name { place, answer }
@@ -66,128 +59,129 @@ fn answer(place: usize, answer: usize) -> Name {
 // The calls of a row, one after the other. Each answers the name of what it answers: of the result, where it is
 // an instruction that has one.
 impl Row {
-    fn add(&mut self, call: Call) -> Result<usize, AllocError> {
-        let place = self.calls.len();
-        self.calls.push(call)?;
-        Ok(place)
+    fn new(alloc: Global, name: UserFuncName, conv: CallConv) -> Row {
+        Row {
+            name,
+            signature: Signature::new(alloc, conv),
+            calls: Vec::new(alloc),
+            is_refused: false,
+        }
     }
 
-    fn declare(&mut self, number: usize) -> Result<Variable, AllocError>
+    // A row whose name is `%` and this text, with the convention `system_v`, which answers one value of 32 bits.
+    fn named(alloc: Global, name: &str) -> Result<Row, AllocError> {
+        let name = UserFuncName::testcase(String::from_str(alloc, name)?);
+        let mut row = Row::new(alloc, name, CallConv::SystemV);
+        row.is_refused = row.signature.returns.push(AbiParam::new(I32)).is_err();
+        Ok(row)
+    }
+
+    fn finished(self) -> Result<Row, AllocError> {
+        if self.is_refused {
+            return Err(AllocError);
+        }
+        Ok(self)
+    }
+
+    fn add(&mut self, call: Call) -> usize {
+        let place = self.calls.len();
+        self.is_refused |= self.calls.push(call).is_err();
+        place
+    }
+
+    fn declare(&mut self, number: usize) -> Variable
         requires { number < 2 ^ 32 - 1 }
     {
-        self.add(Call::DeclareVar { ty: I32 })?;
-        Ok(Variable::new(number))
+        self.add(Call::DeclareVar { ty: I32 });
+        Variable::new(number)
     }
 
-    fn create_block(&mut self) -> Result<Name, AllocError> {
-        Ok(answer(self.add(Call::CreateBlock)?, 0))
+    fn create_block(&mut self) -> Name {
+        answer(self.add(Call::CreateBlock), 0)
     }
 
-    fn switch_to(&mut self, block: Name) -> Result<(), AllocError> {
-        self.add(Call::SwitchToBlock { block })?;
-        Ok(())
+    fn switch_to(&mut self, block: Name) {
+        self.add(Call::SwitchToBlock { block });
     }
 
-    fn seal(&mut self, block: Name) -> Result<(), AllocError> {
-        self.add(Call::SealBlock { block })?;
-        Ok(())
+    fn seal(&mut self, block: Name) {
+        self.add(Call::SealBlock { block });
     }
 
-    fn seal_all(&mut self) -> Result<(), AllocError> {
-        self.add(Call::SealAllBlocks)?;
-        Ok(())
+    fn seal_all(&mut self) {
+        self.add(Call::SealAllBlocks);
     }
 
     // Makes a block current whose branches are all there.
-    fn begin(&mut self, block: Name, sealing: Sealing) -> Result<(), AllocError> {
-        self.switch_to(block)?;
+    fn begin(&mut self, block: Name, sealing: Sealing) {
+        self.switch_to(block);
         match sealing {
             Sealing::Early => self.seal(block),
-            Sealing::Late => Ok(()),
+            Sealing::Late => {}
         }
     }
 
     // The function's first parameter.
-    fn function_params(&mut self, block: Name) -> Result<Name, AllocError> {
-        Ok(answer(
-            self.add(Call::AppendBlockParamsForFunctionParams { block })?,
+    fn function_params(&mut self, block: Name) -> Name {
+        answer(
+            self.add(Call::AppendBlockParamsForFunctionParams { block }),
             0,
-        ))
+        )
     }
 
-    fn constant(&mut self, imm: i64) -> Result<Name, AllocError> {
-        Ok(answer(self.add(Call::Iconst { ty: I32, imm })?, 1))
+    fn constant(&mut self, imm: i64) -> Name {
+        answer(self.add(Call::Iconst { ty: I32, imm }), 1)
     }
 
-    fn use_var(&mut self, variable: Variable) -> Result<Name, AllocError> {
-        Ok(answer(self.add(Call::UseVar { variable })?, 0))
+    fn use_var(&mut self, variable: Variable) -> Name {
+        answer(self.add(Call::UseVar { variable }), 0)
     }
 
-    fn define(&mut self, variable: Variable, value: Name) -> Result<(), AllocError> {
-        self.add(Call::DefVar { variable, value })?;
-        Ok(())
+    fn define(&mut self, variable: Variable, value: Name) {
+        self.add(Call::DefVar { variable, value });
     }
 
-    fn iadd(&mut self, x: Name, y: Name) -> Result<Name, AllocError> {
-        Ok(answer(self.add(Call::Iadd { x, y })?, 1))
+    fn iadd(&mut self, x: Name, y: Name) -> Name {
+        answer(self.add(Call::Iadd { x, y }), 1)
     }
 
-    fn isub(&mut self, x: Name, y: Name) -> Result<Name, AllocError> {
-        Ok(answer(self.add(Call::Isub { x, y })?, 1))
+    fn isub(&mut self, x: Name, y: Name) -> Name {
+        answer(self.add(Call::Isub { x, y }), 1)
     }
 
-    fn assign_sum(
-        &mut self,
-        variable: Variable,
-        x: Variable,
-        y: Variable,
-    ) -> Result<(), AllocError> {
-        let x = self.use_var(x)?;
-        let y = self.use_var(y)?;
-        let sum = self.iadd(x, y)?;
-        self.define(variable, sum)
+    fn assign_sum(&mut self, variable: Variable, x: Variable, y: Variable) {
+        let x = self.use_var(x);
+        let y = self.use_var(y);
+        let sum = self.iadd(x, y);
+        self.define(variable, sum);
     }
 
-    fn assign_difference(
-        &mut self,
-        variable: Variable,
-        x: Variable,
-        y: Variable,
-    ) -> Result<(), AllocError> {
-        let x = self.use_var(x)?;
-        let y = self.use_var(y)?;
-        let difference = self.isub(x, y)?;
-        self.define(variable, difference)
+    fn assign_difference(&mut self, variable: Variable, x: Variable, y: Variable) {
+        let x = self.use_var(x);
+        let y = self.use_var(y);
+        let difference = self.isub(x, y);
+        self.define(variable, difference);
     }
 
-    fn jump(&mut self, alloc: Global, block: Name) -> Result<(), AllocError> {
+    fn jump(&mut self, alloc: Global, block: Name) {
         let destination = edge(alloc, block);
-        self.add(Call::Jump { destination })?;
-        Ok(())
+        self.add(Call::Jump { destination });
     }
 
-    fn brif(
-        &mut self,
-        alloc: Global,
-        condition: Name,
-        block_then: Name,
-        block_else: Name,
-    ) -> Result<(), AllocError> {
+    fn brif(&mut self, alloc: Global, condition: Name, block_then: Name, block_else: Name) {
         let block_then = edge(alloc, block_then);
         let block_else = edge(alloc, block_else);
         self.add(Call::Brif {
             condition,
             block_then,
             block_else,
-        })?;
-        Ok(())
+        });
     }
 
-    fn return_value(&mut self, alloc: Global, value: Name) -> Result<(), AllocError> {
+    fn return_value(&mut self, alloc: Global, value: Name) {
         let mut values = Vec::new(alloc);
-        values.push(value)?;
-        self.add(Call::Return { values })?;
-        Ok(())
+        self.is_refused |= values.push(value).is_err();
+        self.add(Call::Return { values });
     }
 }
 
@@ -201,49 +195,49 @@ fn edge(alloc: Global, block: Name) -> Edge {
 
 // A use of a variable before its block is sealed, a sum, and its return.
 fn first(alloc: Global) -> Result<Row, AllocError> {
-    let mut row = named(alloc, "first")?;
-    row.signature.returns.push(AbiParam::new(I32))?;
-    let x = row.declare(0)?;
-    let block = row.create_block()?;
-    row.switch_to(block)?;
-    let old = row.use_var(x)?;
-    let seven = row.constant(7)?;
-    let sum = row.iadd(old, seven)?;
-    row.define(x, sum)?;
-    let value = row.use_var(x)?;
-    row.return_value(alloc, value)?;
-    row.seal(block)?;
-    Ok(row)
+    let mut row = Row::named(alloc, "first")?;
+    let x = row.declare(0);
+    let block = row.create_block();
+    row.switch_to(block);
+    let old = row.use_var(x);
+    let seven = row.constant(7);
+    let sum = row.iadd(old, seven);
+    row.define(x, sum);
+    let value = row.use_var(x);
+    row.return_value(alloc, value);
+    row.seal(block);
+    row.finished()
 }
 
 // A loop whose block is sealed after it: a parameter that turns out to be one value is another name of it, and
 // the others keep their order.
 fn reordering(alloc: Global) -> Result<Row, AllocError> {
-    let mut row = named(alloc, "reordering")?;
-    let x = row.declare(0)?;
-    let y = row.declare(1)?;
-    let z = row.declare(2)?;
-    let block0 = row.create_block()?;
-    let block1 = row.create_block()?;
-    row.switch_to(block0)?;
-    row.seal(block0)?;
+    let name = UserFuncName::testcase(String::from_str(alloc, "reordering")?);
+    let mut row = Row::new(alloc, name, CallConv::SystemV);
+    let x = row.declare(0);
+    let y = row.declare(1);
+    let z = row.declare(2);
+    let block0 = row.create_block();
+    let block1 = row.create_block();
+    row.switch_to(block0);
+    row.seal(block0);
     for (variable, imm) in [(x, 0), (y, 1), (z, 2)] {
-        let value = row.constant(imm)?;
-        row.define(variable, value)?;
+        let value = row.constant(imm);
+        row.define(variable, value);
     }
-    row.jump(alloc, block1)?;
-    row.switch_to(block1)?;
-    let z_value = row.use_var(z)?;
-    let x_value = row.use_var(x)?;
-    let sum = row.iadd(x_value, z_value)?;
-    row.define(x, sum)?;
-    let x_value = row.use_var(x)?;
-    let y_value = row.use_var(y)?;
-    let difference = row.isub(y_value, x_value)?;
-    row.define(y, difference)?;
-    row.jump(alloc, block1)?;
-    row.seal(block1)?;
-    Ok(row)
+    row.jump(alloc, block1);
+    row.switch_to(block1);
+    let z_value = row.use_var(z);
+    let x_value = row.use_var(x);
+    let sum = row.iadd(x_value, z_value);
+    row.define(x, sum);
+    let x_value = row.use_var(x);
+    let y_value = row.use_var(y);
+    let difference = row.isub(y_value, x_value);
+    row.define(y, difference);
+    row.jump(alloc, block1);
+    row.seal(block1);
+    row.finished()
 }
 
 // When the blocks of a row are sealed: each as soon as its branches are there, or all at the end.
@@ -256,81 +250,75 @@ enum Sealing {
 // The documented example of the crate whose behaviour this one has: a loop over three variables, whose first one is
 // the function's parameter.
 fn sample(alloc: Global, sealing: Sealing) -> Result<Row, AllocError> {
-    let mut row = named(alloc, "sample")?;
-    row.signature.params.push(AbiParam::new(I32))?;
-    row.signature.returns.push(AbiParam::new(I32))?;
-    let block0 = row.create_block()?;
-    let block1 = row.create_block()?;
-    let block2 = row.create_block()?;
-    let block3 = row.create_block()?;
-    let x = row.declare(0)?;
-    let y = row.declare(1)?;
-    let z = row.declare(2)?;
-    let param = row.function_params(block0)?;
-    row.begin(block0, sealing)?;
-    row.define(x, param)?;
-    let two = row.constant(2)?;
-    row.define(y, two)?;
-    row.assign_sum(z, x, y)?;
-    row.jump(alloc, block1)?;
-    row.switch_to(block1)?;
-    row.assign_sum(z, y, z)?;
-    let value = row.use_var(y)?;
-    row.brif(alloc, value, block3, block2)?;
-    row.begin(block2, sealing)?;
-    row.assign_difference(z, z, x)?;
-    let value = row.use_var(y)?;
-    row.return_value(alloc, value)?;
-    row.begin(block3, sealing)?;
-    row.assign_difference(y, y, x)?;
-    row.jump(alloc, block1)?;
+    let mut row = Row::named(alloc, "sample")?;
+    row.is_refused |= row.signature.params.push(AbiParam::new(I32)).is_err();
+    let block0 = row.create_block();
+    let block1 = row.create_block();
+    let block2 = row.create_block();
+    let block3 = row.create_block();
+    let x = row.declare(0);
+    let y = row.declare(1);
+    let z = row.declare(2);
+    let param = row.function_params(block0);
+    row.begin(block0, sealing);
+    row.define(x, param);
+    let two = row.constant(2);
+    row.define(y, two);
+    row.assign_sum(z, x, y);
+    row.jump(alloc, block1);
+    row.switch_to(block1);
+    row.assign_sum(z, y, z);
+    let value = row.use_var(y);
+    row.brif(alloc, value, block3, block2);
+    row.begin(block2, sealing);
+    row.assign_difference(z, z, x);
+    let value = row.use_var(y);
+    row.return_value(alloc, value);
+    row.begin(block3, sealing);
+    row.assign_difference(y, y, x);
+    row.jump(alloc, block1);
     match sealing {
-        Sealing::Early => row.seal(block1)?,
-        Sealing::Late => row.seal_all()?,
+        Sealing::Early => row.seal(block1),
+        Sealing::Late => row.seal_all(),
     }
-    Ok(row)
+    row.finished()
 }
 
 // A loop that both arms of one branch lead back to.
 fn both_arms(alloc: Global) -> Result<Row, AllocError> {
-    let mut row = named(alloc, "both_arms")?;
-    row.signature.returns.push(AbiParam::new(I32))?;
-    let x = row.declare(0)?;
-    let block0 = row.create_block()?;
-    let block1 = row.create_block()?;
-    let block2 = row.create_block()?;
-    let block3 = row.create_block()?;
-    row.switch_to(block0)?;
-    let five = row.constant(5)?;
-    row.define(x, five)?;
-    row.jump(alloc, block1)?;
-    row.switch_to(block1)?;
-    let value = row.use_var(x)?;
-    row.brif(alloc, value, block2, block3)?;
-    row.switch_to(block2)?;
-    row.seal(block2)?;
-    let value = row.use_var(x)?;
-    let minus_one = row.constant(-1)?;
-    let sum = row.iadd(value, minus_one)?;
-    row.define(x, sum)?;
-    let value = row.use_var(x)?;
-    row.brif(alloc, value, block1, block1)?;
-    row.seal(block1)?;
-    row.switch_to(block3)?;
-    row.seal(block3)?;
-    let value = row.use_var(x)?;
-    row.return_value(alloc, value)?;
-    row.seal(block0)?;
-    Ok(row)
+    let mut row = Row::named(alloc, "both_arms")?;
+    let x = row.declare(0);
+    let block0 = row.create_block();
+    let block1 = row.create_block();
+    let block2 = row.create_block();
+    let block3 = row.create_block();
+    row.switch_to(block0);
+    let five = row.constant(5);
+    row.define(x, five);
+    row.jump(alloc, block1);
+    row.switch_to(block1);
+    let value = row.use_var(x);
+    row.brif(alloc, value, block2, block3);
+    row.switch_to(block2);
+    row.seal(block2);
+    let value = row.use_var(x);
+    let minus_one = row.constant(-1);
+    let sum = row.iadd(value, minus_one);
+    row.define(x, sum);
+    let value = row.use_var(x);
+    row.brif(alloc, value, block1, block1);
+    row.seal(block1);
+    row.switch_to(block3);
+    row.seal(block3);
+    let value = row.use_var(x);
+    row.return_value(alloc, value);
+    row.seal(block0);
+    row.finished()
 }
 
 // No calls.
 fn empty(alloc: Global) -> Row {
-    Row {
-        name: UserFuncName::user(0, 0),
-        signature: Signature::new(alloc, CallConv::Fast),
-        calls: Vec::new(alloc),
-    }
+    Row::new(alloc, UserFuncName::user(0, 0), CallConv::Fast)
 }
 
 /// The program `rows NAME`: builds the function of the row that the argument names, for pointers of 64
@@ -430,6 +418,7 @@ fn build(alloc: Global, row: Row) -> Result<Function, ReplayError> {
         name,
         signature,
         calls,
+        ..
     } = row;
     let config = TargetFrontendConfig {
         default_call_conv: CallConv::SystemV,
