@@ -32,6 +32,21 @@ fn next_number(len: usize) -> Result<u32, BuildError>
     Ok(len as u32)
 }
 
+// The number of the next value, for which it makes room in the table.
+fn next_value(values: &mut Vec<ValueNode>) -> Result<Value, BuildError>
+    ensures ok { IfOk result (λ v. v ≡ length values.old.items) }
+    ensures few { OnOk result (length values.old.items < 2 ^ 32 - 1) }
+    ensures room { OnOk result (vec_len values.new < vec_capacity values.new) }
+    ensures same { values.new.items ≡ values.old.items }
+    ensures full { result ≡ Err BuildError.Full → TABLE_LIMIT ≤ length values.old.items }
+    ensures at_limit { TABLE_LIMIT ≤ length values.old.items → result ≡ Err BuildError.Full }
+    ensures never_failed { result ≢ Err BuildError.Failed }
+{
+    let number = next_number(values.len())?;
+    values.reserve(1)?;
+    Ok(Value::from_u32(number))
+}
+
 // The list of `count` numbers of values, from `first` on.
 #[tactic(auto, using(crate::proofs::Changes::range_with_len_more))]
 fn numbered_results(alloc: Global, first: usize, count: usize) -> Result<ValueList, BuildError>
@@ -174,8 +189,7 @@ impl Function {
         ensures never_failed { result ≢ Err BuildError.Failed }
         ensures err { OnErr result (self.new ≡ self.old) }
     {
-        let value = Value::from_u32(next_number(self.values.len())?);
-        self.values.reserve(1)?;
+        let value = next_value(&mut self.values)?;
         self.blocks[block.index()].params.push(value)?;
         let origin = ValueOrigin::Param(block);
         self.values.push_reserved(ValueNode { ty, origin });
