@@ -16,3 +16,4 @@ pub mod KeepsCold
 pub mod Orders
 pub mod Links
 pub mod Linking
+pub mod KeepsWhole

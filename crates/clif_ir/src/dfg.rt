@@ -3,12 +3,12 @@
 //! Each call first makes room and then changes, so that after an error the function is as it was. The
 //! errors are `Memory`, where memory was refused, and `Full`, which comes exactly where a table that
 //! the call grows holds 2^32 - 1 entries already.
-ghost use Rattle.std.specs.Prelude.{◌≡◌, ◌≢◌, [], ◌∷◌, ◌++◌, length, ◌+◌, ◌-◌, ◌^◌, ◌≤◌, ◌<◌, ◌⊎◌, ℕ, true, slice_index, EachIndex, vec_len, vec_capacity, All, IfOk, OnOk, OnErr};
-ghost use Rattle.clif_ir.specs.Body.{Body, value_at, block_at, resolved};
+ghost use Rattle.std.specs.Prelude.{◌≡◌, ◌≢◌, [], ◌∷◌, ◌++◌, length, ◌+◌, ◌-◌, ◌^◌, ◌≤◌, ◌<◌, ◌⊎◌, ℕ, true, slice_index, slice_index_or, slice_set, EachIndex, vec_len, vec_capacity, All, IfOk, OnOk, OnErr};
+ghost use Rattle.clif_ir.specs.Body.{Body, value_at, block_at, empty_block, resolved};
 ghost use Rattle.clif_ir.specs.Consistent.{Stands, EdgeExists};
 ghost use Rattle.clif_ir.specs.Instruction.{operands, destinations, has_result, result_types};
 ghost use Rattle.clif_ir.specs.Whole.{next_slot, placed_at};
-ghost use Rattle.clif_ir.specs.Changes.{with_block, with_param, with_inst, with_branch_argument, with_alias, home_of, result_nodes};
+ghost use Rattle.clif_ir.specs.Changes.{with_block, with_param, with_inst, with_branch_argument, with_alias, home_of, put_at, result_nodes};
 ghost use Rattle.std.specs.List.{range_with_len};
 
 use crate::function::{BlockNode, BlockPlace, Function, InstNode, ValueNode, ValueOrigin};
@@ -32,6 +32,21 @@ fn next_number(len: usize) -> Result<u32, BuildError>
     Ok(len as u32)
 }
 
+// The number of the next value, for which it makes room in the table.
+fn next_value(values: &mut Vec<ValueNode>) -> Result<Value, BuildError>
+    ensures ok { IfOk result (λ v. v ≡ length values.old.items) }
+    ensures few { OnOk result (length values.old.items < 2 ^ 32 - 1) }
+    ensures room { OnOk result (vec_len values.new < vec_capacity values.new) }
+    ensures same { values.new.items ≡ values.old.items }
+    ensures full { result ≡ Err BuildError.Full → TABLE_LIMIT ≤ length values.old.items }
+    ensures at_limit { TABLE_LIMIT ≤ length values.old.items → result ≡ Err BuildError.Full }
+    ensures never_failed { result ≢ Err BuildError.Failed }
+{
+    let number = next_number(values.len())?;
+    values.reserve(1)?;
+    Ok(Value::from_u32(number))
+}
+
 // The list of `count` numbers of values, from `first` on.
 #[tactic(auto, using(crate::proofs::Changes::range_with_len_more))]
 fn numbered_results(alloc: Global, first: usize, count: usize) -> Result<ValueList, BuildError>
@@ -46,6 +61,37 @@ fn numbered_results(alloc: Global, first: usize, count: usize) -> Result<ValueLi
     Ok(results)
 }
 
+// Makes room in the tables for an instruction with so many results, and makes the list of these.
+fn room_for_inst(
+    alloc: Global,
+    values: &mut Vec<ValueNode>,
+    insts: &mut Vec<InstNode>,
+    slots: &mut Vec<u64>,
+    count: usize,
+) -> Result<ValueList, BuildError>
+    requires { count ≤ 1 }
+    ensures ok { IfOk result (λ l. l ≡ range_with_len (length values.old.items) count) }
+    ensures few_values { OnOk result (length values.old.items < 2 ^ 32 - 1) }
+    ensures few_insts { OnOk result (length insts.old.items < 2 ^ 32 - 1) }
+    ensures room_for_values { OnOk result (vec_len values.new + count ≤ vec_capacity values.new) }
+    ensures room_for_inst { OnOk result (vec_len insts.new < vec_capacity insts.new) }
+    ensures room_for_slot { OnOk result (vec_len slots.new < vec_capacity slots.new) }
+    ensures same_values { values.new.items ≡ values.old.items }
+    ensures same_insts { insts.new.items ≡ insts.old.items }
+    ensures same_slots { slots.new.items ≡ slots.old.items }
+    ensures full { result ≡ Err BuildError.Full → (TABLE_LIMIT ≤ length insts.old.items) ⊎ (TABLE_LIMIT ≤ length values.old.items) }
+    ensures insts_at_limit { TABLE_LIMIT ≤ length insts.old.items → result ≡ Err BuildError.Full }
+    ensures values_at_limit { TABLE_LIMIT ≤ length values.old.items → result ≡ Err BuildError.Full }
+    ensures never_failed { result ≢ Err BuildError.Failed }
+{
+    next_number(insts.len())?;
+    let first = next_number(values.len())?;
+    values.reserve(count)?;
+    insts.reserve(1)?;
+    slots.reserve(1)?;
+    numbered_results(alloc, first as usize, count)
+}
+
 // Puts the results of `inst` into the table of values, which has room for them.
 #[tactic(auto, using(crate::proofs::Changes::result_nodes_more))]
 fn push_result_nodes(values: &mut Vec<ValueNode>, inst: Inst, types: &[Type])
@@ -57,6 +103,21 @@ fn push_result_nodes(values: &mut Vec<ValueNode>, inst: Inst, types: &[Type])
         let origin = ValueOrigin::Result(inst, place as u32);
         values.push_reserved(ValueNode { ty: *ty, origin });
     }
+}
+
+// Puts an instruction at one end of `block`.
+fn put_inst(
+    blocks: &mut [BlockNode],
+    block: Block,
+    end: BlockEnd,
+    inst: Inst,
+) -> Result<(), BuildError>
+    requires { block < length blocks.old }
+    ensures ok { OnOk result (blocks.new ≡ slice_set blocks.old block (record (slice_index_or blocks.old block empty_block) { insts = put_at end inst (slice_index_or blocks.old block empty_block).insts })) }
+    ensures err { OnErr result (blocks.new ≡ blocks.old) }
+    ensures only_memory { OnErr result (result ≡ Err BuildError.Memory) }
+{
+    blocks[block.index()].insts.put(end, inst)
 }
 
 // The slot of an instruction that is put at an end of a block of `len` instructions, of which `front`
@@ -128,8 +189,7 @@ impl Function {
         ensures never_failed { result ≢ Err BuildError.Failed }
         ensures err { OnErr result (self.new ≡ self.old) }
     {
-        let value = Value::from_u32(next_number(self.values.len())?);
-        self.values.reserve(1)?;
+        let value = next_value(&mut self.values)?;
         self.blocks[block.index()].params.push(value)?;
         let origin = ValueOrigin::Param(block);
         self.values.push_reserved(ValueNode { ty, origin });
@@ -162,17 +222,19 @@ impl Function {
         ensures never_failed { result ≢ Err BuildError.Failed }
         ensures err { OnErr result (self.new ≡ self.old) }
     {
-        let inst = Inst::from_u32(next_number(self.insts.len())?);
-        let first = next_number(self.values.len())?;
         let own = [ctrl_type];
         let types: &[Type] = if shape.has_result() { &own } else { &[] };
-        self.values.reserve(types.len())?;
-        self.insts.reserve(1)?;
-        self.inst_slots.reserve(1)?;
-        let results = numbered_results(self.alloc, first as usize, types.len())?;
+        let results = room_for_inst(
+            self.alloc,
+            &mut self.values,
+            &mut self.insts,
+            &mut self.inst_slots,
+            types.len(),
+        )?;
+        let inst = Inst::new(self.insts.len());
         let place = self.block_places[block.index()];
         let slot = next_slot(end, place.front, self.blocks[block.index()].insts.len());
-        self.blocks[block.index()].insts.put(end, inst)?;
+        put_inst(&mut self.blocks, block, end, inst)?;
         // From here on nothing can fail.
         self.block_places[block.index()] = placed_at(end, place);
         self.inst_slots.push_reserved(slot);

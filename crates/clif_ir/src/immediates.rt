@@ -20,6 +20,14 @@ fn centred(half: u64, low: u64) -> i64
     }
 }
 
+// The power of two with an exponent below 64.
+fn power_of_two(exponent: u32) -> u64
+    requires { exponent < 64 }
+    ensures { result ≡ 2 ^ exponent }
+{
+    1 << exponent
+}
+
 /// The number that the low bits of `imm` mean as a signed number of the width of `ty`.
 ///
 /// A width of 64 bits or more, or none, keeps the number.
@@ -30,7 +38,10 @@ pub fn signed_at(imm: i64, ty: Type) -> i64
     if bits == 0 || bits >= 64 {
         return imm;
     }
-    centred(1 << (bits - 1), imm.cast_unsigned() % (1 << bits))
+    centred(
+        power_of_two(bits - 1),
+        imm.cast_unsigned() % power_of_two(bits),
+    )
 }
 
 /// A 64-bit number as it is printed: decimal from -9999 to 9999; else `0x` and its bits in groups of

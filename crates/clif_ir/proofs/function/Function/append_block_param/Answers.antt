@@ -1,4 +1,4 @@
-use Rattle.std.proofs.Common.{rules, arith}
+use Rattle.std.proofs.Common.{arith}
 use Rattle.std.proofs.lemmas.Grind.{common_steps}
 use Rattle.clif_ir.specs.Changes.{with_param}
 use Rattle.clif_ir.specs.Whole.{body_of}
@@ -13,9 +13,9 @@ use Rattle.clif_ir.proofs.function.Function.append_block_param.Goals as goal
 pub invariant_of-self-2 : goal.invariant_of-self-2
 invariant_of-self-2 c = record {
   linked = c.self.invariant.linked;
-  listed = listed_push _ _ (record { ty = c.args.ty; origin = Param c.args.block }) _ (first_of (search rules, grind (arith, common_steps))) refl c.self.invariant.listed;
-  consistent = consistent_at (with_param (body_of c.self.inside) c.args.block c.args.ty) _ (first_of (search rules, grind (arith, common_steps)))
+  listed = listed_push _ _ (record { ty = c.args.ty; origin = Param c.args.block }) _ (grind (arith, common_steps)) refl c.self.invariant.listed;
+  consistent = consistent_at (with_param (body_of c.self.inside) c.args.block c.args.ty) _ (grind (arith, common_steps))
       (with_param_consistent _ _ _ c.self.invariant.consistent (grind (arith, common_steps)) (grind (arith, common_steps)));
-  placed = placed_with (with_param (body_of c.self.inside) c.args.block c.args.ty) _ _ _ _ _ (first_of (search rules, grind (arith, common_steps))) (first_of (search rules, grind (arith, common_steps))) (first_of (search rules, grind (arith, common_steps)))
+  placed = placed_with (with_param (body_of c.self.inside) c.args.block c.args.ty) _ _ _ _ _ (grind (arith, common_steps)) (grind (arith, common_steps)) (grind (arith, common_steps))
       (with_param_placed _ _ _ _ _ (grind (arith, common_steps)) c.self.invariant.placed);
 }

@@ -1,4 +1,4 @@
-use Rattle.std.proofs.Common.{rules, arith}
+use Rattle.std.proofs.Common.{arith}
 use Rattle.std.proofs.lemmas.Grind.{common_steps}
 use Rattle.clif_ir.specs.Changes.{with_branch_argument}
 use Rattle.clif_ir.specs.Whole.{body_of}
@@ -11,8 +11,8 @@ pub invariant_of-self-2 : goal.invariant_of-self-2
 invariant_of-self-2 c = record {
   linked = c.self.invariant.linked;
   listed = c.self.invariant.listed;
-  consistent = consistent_at (with_branch_argument (body_of c.self.inside) c.args.inst c.args.block c.args.value) _ (first_of (search rules, grind (arith, common_steps)))
+  consistent = consistent_at (with_branch_argument (body_of c.self.inside) c.args.inst c.args.block c.args.value) _ (grind (arith, common_steps))
       (with_branch_argument_consistent _ _ _ _ c.self.invariant.consistent (grind (arith, common_steps)) (grind (arith, common_steps)));
-  placed = placed_with (with_branch_argument (body_of c.self.inside) c.args.inst c.args.block c.args.value) _ _ _ _ _ (first_of (search rules, grind (arith, common_steps))) (first_of (search rules, grind (arith, common_steps))) (first_of (search rules, grind (arith, common_steps)))
+  placed = placed_with (with_branch_argument (body_of c.self.inside) c.args.inst c.args.block c.args.value) _ _ _ _ _ (grind (arith, common_steps)) (grind (arith, common_steps)) (grind (arith, common_steps))
       (with_branch_argument_placed _ _ _ _ _ _ c.self.invariant.placed);
 }

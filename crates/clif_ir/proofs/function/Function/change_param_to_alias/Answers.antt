@@ -1,4 +1,4 @@
-use Rattle.std.proofs.Common.{◌≡◌, ◌≢◌, ap, sym, subst, rules, arith}
+use Rattle.std.proofs.Common.{◌≡◌, ◌≢◌, ap, sym, subst, arith}
 use Rattle.std.proofs.lemmas.Grind.{common_steps}
 use Rattle.clif_ir.specs.declared.function.ValueOrigin.TheVariants.{Param, Alias}
 use Rattle.std.proofs.Common.{refl}
@@ -20,10 +20,10 @@ invariant_of-self-2 c =
     record {
       linked = c.self.invariant.linked;
       listed = listed_alias_with c.self.inside.values.items _ c.args.param c.resolve_aliases-target.result
-          (record { ty = c.index_mut-2.result.now.ty; origin = Alias c.resolve_aliases-target.result }) _ _ _ c.in_ok-insert.ensures.keys (first_of (search rules, grind (arith, common_steps)))
+          (record { ty = c.index_mut-2.result.now.ty; origin = Alias c.resolve_aliases-target.result }) _ _ _ c.in_ok-insert.ensures.keys (grind (arith, common_steps))
           (exact_pairs _ _ exact_unsigned exact_unsigned) (grind (arith, common_steps)) (ap alias_of_origin param) refl c.self.invariant.listed;
-      consistent = consistent_at (with_alias (body_of c.self.inside) c.args.param c.args.original) _ (first_of (search rules, grind (arith, common_steps)))
+      consistent = consistent_at (with_alias (body_of c.self.inside) c.args.param c.args.original) _ (grind (arith, common_steps))
           (with_alias_consistent _ _ _ _ c.self.invariant.consistent (grind (arith, common_steps)) param (grind (arith, common_steps)) apart);
-      placed = placed_with (with_alias (body_of c.self.inside) c.args.param c.args.original) _ _ _ _ _ (first_of (search rules, grind (arith, common_steps))) (first_of (search rules, grind (arith, common_steps))) (first_of (search rules, grind (arith, common_steps)))
+      placed = placed_with (with_alias (body_of c.self.inside) c.args.param c.args.original) _ _ _ _ _ (grind (arith, common_steps)) (grind (arith, common_steps)) (grind (arith, common_steps))
           (with_alias_placed _ _ _ _ _ _ c.self.invariant.consistent (grind (arith, common_steps)) param c.self.invariant.placed);
     }

@@ -1,7 +1,7 @@
-use Rattle.std.proofs.Common.{rules, arith, ◌∙◌, ◌≡◌, ◌<◌, length, ap, sym, subst}
+use Rattle.std.proofs.Common.{rules, ◌∙◌, ◌≡◌, ◌<◌, length, ap, sym, subst}
 use Rattle.std.specs.Prelude.{slice_index_or}
 use Rattle.std.specs.Vec.{with_items}
-use Rattle.std.proofs.lemmas.Grind.{common_steps}
+use Rattle.std.proofs.lemmas.List.{with_items_is, places}
 use Rattle.clif_ir.specs.declared.function.BlockPlace.{BlockPlace}
 use Rattle.clif_ir.specs.Body.{Body}
 use Rattle.clif_ir.specs.Changes.{with_layout_after}
@@ -12,7 +12,7 @@ use Rattle.clif_ir.proofs.function.Function.insert_block_after.Goals as goal
 
 pub invariant_of-self : goal.invariant_of-self
 invariant_of-self c =
-    let kept : (with_items c.self.inside.block_places c.link_after.new.places).items ≡ c.link_after.new.places = first_of (search rules, grind (arith, common_steps)) in
+    let kept : (with_items c.self.inside.block_places c.link_after.new.places).items ≡ c.link_after.new.places = with_items_is c.self.inside.block_places c.link_after.new.places (search (rules, places)) in
     let there : IsOrdered (body_of c.self.inside) _ _ _ _ _ = ordered_read _ _ _ _ (with_items c.self.inside.block_places c.link_after.new.places).items _ _ c.last_after-self-inside.result
     (kept ∙ c.link_after.ensures ∙ ap (λ ps. linked_after ps c.args.block c.args.after) c.deref_mut.ensures.value)
     (c.last_after-self-inside.ensures ∙ ap (λ (p : BlockPlace). last_after c.self.inside.last_block p.next c.args.block) (c.place_at-next.ensures ∙ ap (λ ps. slice_index_or ps c.args.after no_place) c.deref.ensures.value))
@@ -30,7 +30,7 @@ invariant_of-self c =
 
 pub returns : goal.returns
 returns c =
-    let kept : (with_items c.self.inside.block_places c.link_after.new.places).items ≡ c.link_after.new.places = first_of (search rules, grind (arith, common_steps)) in
+    let kept : (with_items c.self.inside.block_places c.link_after.new.places).items ≡ c.link_after.new.places = with_items_is c.self.inside.block_places c.link_after.new.places (search (rules, places)) in
     let there : IsOrdered (body_of c.self.inside) _ _ _ _ _ = ordered_read _ _ _ _ (with_items c.self.inside.block_places c.link_after.new.places).items _ _ c.last_after-self-inside.result
     (kept ∙ c.link_after.ensures ∙ ap (λ ps. linked_after ps c.args.block c.args.after) c.deref_mut.ensures.value)
     (c.last_after-self-inside.ensures ∙ ap (λ (p : BlockPlace). last_after c.self.inside.last_block p.next c.args.block) (c.place_at-next.ensures ∙ ap (λ ps. slice_index_or ps c.args.after no_place) c.deref.ensures.value))

@@ -1,4 +1,4 @@
-use Rattle.std.proofs.Common.{rules, arith, ◌≡◌, subst, sym, ap, ◌∙◌, ◌<◌, length, set}
+use Rattle.std.proofs.Common.{arith, ◌≡◌, subst, sym, ap, ◌∙◌, ◌<◌, length, set}
 use Rattle.std.specs.Prelude.{EachIndex, All, slice_index, slice_index_or}
 use Rattle.clif_ir.specs.Consistent.{EdgeExists}
 use Rattle.clif_ir.specs.Body.{Body, resolved}
@@ -7,39 +7,34 @@ use Rattle.clif_ir.specs.Changes.{with_inst}
 use Rattle.clif_ir.specs.Instruction.{operands, destinations, result_types}
 use Rattle.clif_ir.specs.Whole.{body_of, chain, no_place, placed_at}
 use Rattle.clif_ir.proofs.KeepsListed.{listed_results}
-use Rattle.clif_ir.proofs.Keeps.{consistent_at}
 use Rattle.clif_ir.proofs.KeepsInst.{with_inst_consistent, branch-result_types, length-result_types-le, with_inst-unaliased}
-use Rattle.clif_ir.proofs.KeepsPlaces.{placed_with, with_inst_placed, with_inst_linked, with_inst_chained, front_fits}
-use Rattle.clif_ir.proofs.Links.{linked_with}
+use Rattle.clif_ir.proofs.KeepsPlaces.{with_inst_placed, with_inst_linked, with_inst_chained, front_fits}
+use Rattle.clif_ir.proofs.KeepsWhole.{whole_with}
 use Rattle.clif_ir.proofs.function.Function.insert_inst.Goals as goal
 
 pub invariant_of-self-2 : goal.invariant_of-self-2
 invariant_of-self-2 c =
     let chained : chain (length (set c.self.inside.block_places.items c.args.block (placed_at c.args.end (slice_index_or c.self.inside.block_places.items c.args.block no_place)))) (set c.self.inside.block_places.items c.args.block (placed_at c.args.end (slice_index_or c.self.inside.block_places.items c.args.block no_place))) c.self.inside.first_block ≡ (body_of c.self.inside).layout =
     with_inst_chained (body_of c.self.inside) _ _ _ _ c.args.block c.args.end (grind (arith, common_steps)) c.self.invariant.consistent c.self.invariant.placed c.self.invariant.linked in
-    record {
-      linked = linked_with (body_of c.self.inside).layout _ _ _ _ _ (first_of (search rules, grind (arith, common_steps, chained))) (first_of (search rules, grind (arith, common_steps)))
-          (with_inst_linked _ c.self.inside.block_places.items _ _ c.args.block c.args.end (grind (arith, common_steps)) c.self.invariant.linked);
-      listed = listed_results c.self.inside.values.items _ (length c.self.inside.insts.items) (result_types c.args.shape c.args.ctrl_type) _ (first_of (search rules, grind (arith, common_steps))) c.self.invariant.listed;
-      consistent = consistent_at (with_inst (body_of c.self.inside) c.args.block c.args.end c.args.shape (result_types c.args.shape c.args.ctrl_type) c.args.srcloc) _ (first_of (search rules, grind (arith, common_steps, chained)))
-          (with_inst_consistent _ _ _ _ _ _ c.self.invariant.consistent (grind (arith, common_steps)) (subst (λ (f : Body). EachIndex (operands c.args.shape) (λ k. slice_index (operands c.args.shape) k < length f.values)) (sym c.self.view_is) c.requires.operands_exist) (subst (λ (f : Body). All (EdgeExists f) (destinations c.args.shape)) (sym c.self.view_is) c.requires.edges_exist) (branch-result_types c.args.shape c.args.ctrl_type) (grind (arith, common_steps)) (grind (arith, common_steps, length-result_types-le c.args.shape c.args.ctrl_type)));
-      placed = placed_with (with_inst (body_of c.self.inside) c.args.block c.args.end c.args.shape (result_types c.args.shape c.args.ctrl_type) c.args.srcloc) _ _ _ _ _ (first_of (search rules, grind (arith, common_steps, chained))) (first_of (search rules, grind (arith, common_steps))) (first_of (search rules, grind (arith, common_steps)))
-          (with_inst_placed _ _ _ _ _ _ _ _ (grind (arith, common_steps)) c.self.invariant.consistent c.self.invariant.placed);
-    }
+    whole_with (with_inst (body_of c.self.inside) c.args.block c.args.end c.args.shape (result_types c.args.shape c.args.ctrl_type) c.args.srcloc) _ _ _ (grind (arith, common_steps, chained)) (grind (arith, common_steps)) (grind (arith, common_steps))
+    (with_inst_consistent _ _ _ _ _ _ c.self.invariant.consistent (grind (arith, common_steps)) (subst (λ (f : Body). EachIndex (operands c.args.shape) (λ k. slice_index (operands c.args.shape) k < length f.values)) (sym c.self.view_is) c.requires.operands_exist) (subst (λ (f : Body). All (EdgeExists f) (destinations c.args.shape)) (sym c.self.view_is) c.requires.edges_exist) (branch-result_types c.args.shape c.args.ctrl_type) (grind (arith, common_steps)) (grind (arith, common_steps, length-result_types-le c.args.shape c.args.ctrl_type)))
+    (with_inst_placed (body_of c.self.inside) c.args.block c.args.end c.args.shape (result_types c.args.shape c.args.ctrl_type) c.args.srcloc c.self.inside.inst_slots.items c.self.inside.block_places.items (grind (arith, common_steps)) c.self.invariant.consistent c.self.invariant.placed)
+    (with_inst_linked (body_of c.self.inside).layout c.self.inside.block_places.items c.self.inside.first_block c.self.inside.last_block c.args.block c.args.end (grind (arith, common_steps)) c.self.invariant.linked)
+    (listed_results c.self.inside.values.items _ (length c.self.inside.insts.items) (result_types c.args.shape c.args.ctrl_type) _ (grind (arith, common_steps)) c.self.invariant.listed)
 
 pub next_slot-slot-requires-clause-room : goal.next_slot-slot-requires-clause-room
 next_slot-slot-requires-clause-room c =
-    front_fits (body_of c.self.inside) _ _ c.args.block c.index.result c.in_ok-next_number.field-0 c.index-place.result.now c.self.invariant.placed (grind (arith, common_steps)) (first_of (search rules, grind (arith, common_steps))) (first_of (search rules, grind (arith, common_steps))) (first_of (search rules, grind (arith, common_steps))) (first_of (search rules, grind (arith, common_steps)))
+    front_fits (body_of c.self.inside) _ _ c.args.block c.index.result (length c.self.inside.insts.items) c.index-place.result.now c.self.invariant.placed (grind (arith, common_steps)) (grind (arith, common_steps)) (grind (arith, common_steps)) (grind (arith, common_steps)) (grind (arith, common_steps))
 
 pub placed_at-requires : goal.placed_at-requires
 placed_at-requires c =
-    front_fits (body_of c.self.inside) _ _ c.args.block c.index.result c.in_ok-next_number.field-0 c.index-place.result.now c.self.invariant.placed (grind (arith, common_steps)) (first_of (search rules, grind (arith, common_steps))) (first_of (search rules, grind (arith, common_steps))) (first_of (search rules, grind (arith, common_steps))) (first_of (search rules, grind (arith, common_steps)))
+    front_fits (body_of c.self.inside) _ _ c.args.block c.index.result (length c.self.inside.insts.items) c.index-place.result.now c.self.invariant.placed (grind (arith, common_steps)) (grind (arith, common_steps)) (grind (arith, common_steps)) (grind (arith, common_steps)) (grind (arith, common_steps))
 
 pub returns-clause-ok : goal.returns-clause-ok
 returns-clause-ok c =
     let chained : chain (length (set c.self.inside.block_places.items c.args.block (placed_at c.args.end (slice_index_or c.self.inside.block_places.items c.args.block no_place)))) (set c.self.inside.block_places.items c.args.block (placed_at c.args.end (slice_index_or c.self.inside.block_places.items c.args.block no_place))) c.self.inside.first_block ≡ (body_of c.self.inside).layout =
     with_inst_chained (body_of c.self.inside) _ _ _ _ c.args.block c.args.end (grind (arith, common_steps)) c.self.invariant.consistent c.self.invariant.placed c.self.invariant.linked in
-    sym (first_of (search rules, grind (arith, common_steps, chained)))
+    sym (grind (arith, common_steps, chained))
     ∙ ap (λ f. with_inst f c.args.block c.args.end c.args.shape (result_types c.args.shape c.args.ctrl_type) c.args.srcloc) c.self.view_is
 
 pub returns-clause-unaliased : goal.returns-clause-unaliased

@@ -1,4 +1,4 @@
-use Rattle.std.proofs.Common.{rules, arith, ◌∙◌, ◌≡◌, ◌<◌, [], length, ap, sym, subst, refl}
+use Rattle.std.proofs.Common.{arith, ◌∙◌, ◌≡◌, ◌<◌, [], length, ap, sym, subst, refl}
 use Rattle.std.specs.Prelude.{slice_index_or, slice_set, true, Some}
 use Rattle.std.specs.Vec.{with_items}
 use Rattle.std.proofs.lemmas.Grind.{common_steps}
@@ -11,7 +11,7 @@ use Rattle.clif_ir.proofs.function.Function.insert_only_block.Goals as goal
 
 pub invariant_of-self : goal.invariant_of-self
 invariant_of-self c =
-    let kept : (with_items c.self.inside.block_places c.mark_inserted.new.places).items ≡ c.mark_inserted.new.places = first_of (search rules, grind (arith, common_steps)) in
+    let kept : (with_items c.self.inside.block_places c.mark_inserted.new.places).items ≡ c.mark_inserted.new.places = grind (arith, common_steps) in
     let there : IsOrdered (body_of c.self.inside) _ _ _ _ _ = ordered_read _ _ _ _ (with_items c.self.inside.block_places c.mark_inserted.new.places).items _ _ _
     (kept ∙ c.mark_inserted.ensures ∙ ap (λ ps. slice_set ps c.args.block (record (slice_index_or ps c.args.block no_place) { is_inserted = true })) c.deref_mut.ensures.value) refl
     (ordered_only (body_of c.self.inside) c.self.inside.inst_slots.items c.self.inside.block_places.items c.self.inside.first_block c.self.inside.last_block c.args.block
@@ -27,7 +27,7 @@ invariant_of-self c =
 
 pub returns : goal.returns
 returns c =
-    let kept : (with_items c.self.inside.block_places c.mark_inserted.new.places).items ≡ c.mark_inserted.new.places = first_of (search rules, grind (arith, common_steps)) in
+    let kept : (with_items c.self.inside.block_places c.mark_inserted.new.places).items ≡ c.mark_inserted.new.places = grind (arith, common_steps) in
     let there : IsOrdered (body_of c.self.inside) _ _ _ _ _ = ordered_read _ _ _ _ (with_items c.self.inside.block_places c.mark_inserted.new.places).items _ _ _
     (kept ∙ c.mark_inserted.ensures ∙ ap (λ ps. slice_set ps c.args.block (record (slice_index_or ps c.args.block no_place) { is_inserted = true })) c.deref_mut.ensures.value) refl
     (ordered_only (body_of c.self.inside) c.self.inside.inst_slots.items c.self.inside.block_places.items c.self.inside.first_block c.self.inside.last_block c.args.block

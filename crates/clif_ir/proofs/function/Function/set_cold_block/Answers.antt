@@ -1,4 +1,4 @@
-use Rattle.std.proofs.Common.{rules, arith}
+use Rattle.std.proofs.Common.{arith}
 use Rattle.std.proofs.lemmas.Grind.{common_steps}
 use Rattle.clif_ir.specs.Changes.{with_cold}
 use Rattle.clif_ir.specs.Whole.{body_of}
@@ -11,8 +11,8 @@ pub invariant_of-self : goal.invariant_of-self
 invariant_of-self c = record {
   linked = c.self.invariant.linked;
   listed = c.self.invariant.listed;
-  consistent = consistent_at (with_cold (body_of c.self.inside) c.args.block) _ (first_of (search rules, grind (arith, common_steps)))
+  consistent = consistent_at (with_cold (body_of c.self.inside) c.args.block) _ (grind (arith, common_steps))
       (with_cold_consistent _ _ c.self.invariant.consistent (grind (arith, common_steps)));
-  placed = placed_with (with_cold (body_of c.self.inside) c.args.block) _ _ _ _ _ (first_of (search rules, grind (arith, common_steps))) (first_of (search rules, grind (arith, common_steps))) (first_of (search rules, grind (arith, common_steps)))
+  placed = placed_with (with_cold (body_of c.self.inside) c.args.block) _ _ _ _ _ (grind (arith, common_steps)) (grind (arith, common_steps)) (grind (arith, common_steps))
       (with_cold_placed _ _ _ _ (grind (arith, common_steps)) c.self.invariant.placed);
 }
