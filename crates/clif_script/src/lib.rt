@@ -2,6 +2,7 @@
 #![tactic(auto)]
 
 mod call;
+mod laws;
 mod make;
 mod make_blocks;
 mod make_parameters;
