@@ -22,8 +22,8 @@ use Rattle.clif_ir.specs.declared.block_call.BlockArg.{BlockArg}
 use Rattle.clif_ir.specs.declared.block_call.BlockArg.TheVariants as arg
 use Rattle.clif_ir.specs.declared.inst_list.BlockEnd.TheVariants.{Back}
 use Rattle.clif_ir.specs.declared.instructions.InstructionData.{InstructionData}
-use Rattle.clif_ir.specs.Reading.{def_of}
-use Rattle.clif_ir.specs.Changes.{inserted_in, with_inst}
+use Rattle.clif_ir.specs.Reading.{def_of, stands_in}
+use Rattle.clif_ir.specs.Changes.{inserted_in, with_inst, with_layout}
 use Rattle.clif_ir.specs.Body.{Body, alias_of, alias_of_origin, follow, follow_link, no_value, resolved, value_at}
 use Rattle.clif_meaning.specs.Name as meaning
 use Rattle.clif_meaning.specs.Instruction.{Known}
@@ -39,12 +39,7 @@ use Rattle.cranelift_frontend.specs.declared.context.BlockStatus.TheVariants.{Em
 use Rattle.cranelift_frontend.specs.declared.builder.FunctionBuilder.{FunctionBuilder}
 use Rattle.cranelift_frontend.specs.Context.{status_of}
 use Rattle.cranelift_frontend.specs.Builder.{AppendsValue, CanLead, HasCurrent, is_declarable, is_elsewhere, is_empty_status, is_filled_status, is_free, is_free_at, is_nothing, may_be_left}
-use Rattle.cranelift_frontend.specs.Ledger.{BlockAgrees, NamesArguments, NamesEdge, block_name, ledger_of}
-use Rattle.cranelift_frontend.proofs.LedgerLists.{get-last, map-some, name-of-none, name-of-some, some-is}
-use Rattle.cranelift_frontend.proofs.LedgerNames.{IsNumbered, name-number, named-block, same-block, state-by-name}
-use Rattle.cranelift_frontend.proofs.LedgerKept.{inserted-insts, inserted-values, named-value}
-use Rattle.cranelift_frontend.proofs.LedgerMade.{block-exists}
-use Rattle.cranelift_frontend.proofs.LedgerUsed.{ledger-type}
+use Rattle.cranelift_frontend.specs.Ledger.{NamesArguments, NamesEdge, block_name, ledger_of}
 use Rattle.clif_calls.specs.declared.call.Edge.{Edge}
 use Rattle.clif_calls.specs.declared.call.Name.{Name}
 use Rattle.clif_script.specs.declared.script.Answer.{Answer}
@@ -54,7 +49,8 @@ use Rattle.clif_script.specs.declared.script.CallError.TheVariants as error
 use Rattle.clif_script.specs.Errors.{call_error_of}
 use Rattle.clif_script.specs.Requests.{edge_of, name_of}
 use Rattle.clif_script.specs.Ready.{IsReady, IsFound, IsJudged, all_values, block_of, can_append, can_append_function_params, can_define, can_seal, can_switch, can_use, instruction_answer, instruction_in, is_open, is_open_at, is_target, may_lead, value_of}
-use Rattle.clif_script.proofs.ReadyLaws.{block-found, block-missing, block-there, value-exists, value-found, value-missing}
+use Rattle.clif_script.proofs.Options.{get-last, map-some, name-of-none, name-of-some, some-is}
+use Rattle.clif_script.proofs.ReadyLaws.{block-found, block-missing, block-there, read, value-exists, value-found, value-missing}
 
 -- a refusal of the builder is no misuse
 pub judged-from : (allowed : Bool) (e : BuildError) → allowed ≡ true → IsJudged allowed (Err (call_error_of e))
@@ -62,34 +58,22 @@ judged-from allowed build.Memory is = tt
 judged-from allowed build.Full is = is
 judged-from allowed build.Failed is = is
 
--- the state of a block of the ledger, by its name
-record Stated (calls : List AnsweredCall) (b : FunctionBuilder) (name : meaning.Name) (block : ℕ) : Type 0 where
-  pub state : BlockState
-  pub found : block_state (ledger_of calls) name ≡ Some state
-  pub agrees : BlockAgrees calls b.ctx.now block state
-
-stated : {declared : SignatureShape} (calls : List AnsweredCall) (b : FunctionBuilder) (answers : List Answer) → IsReady declared calls b answers
-    → (name : meaning.Name) (block : ℕ) → block_name (ledger_of calls) block ≡ Some name → Stated calls b name block
-stated calls b answers ready name block named =
-    let state = state-by-name calls (ledger_of calls) (name-number calls (ledger_of calls) b.func.now b.ctx.now b.position ready.stands.ledger) block name named in
-    record { state = state.0; found = state.3; agrees = ready.stands.ledger.blocks block state.0 state.1 }
-
 filled-same : {declared : SignatureShape} (calls : List AnsweredCall) (b : FunctionBuilder) (answers : List Answer) → IsReady declared calls b answers
     → (name : meaning.Name) (block : ℕ) → block_name (ledger_of calls) block ≡ Some name → is_filled (ledger_of calls) name ≡ is_filled_status (status_of b.ctx.now block)
 filled-same calls b answers ready name block named =
-    let s = stated calls b answers ready name block named in
+    let s = (read calls b answers ready).state block name named in
     ap (state_has (λ (state : BlockState). state.is_filled)) s.found ∙ s.agrees.is_filled
 
 pristine-same : {declared : SignatureShape} (calls : List AnsweredCall) (b : FunctionBuilder) (answers : List Answer) → IsReady declared calls b answers
     → (name : meaning.Name) (block : ℕ) → block_name (ledger_of calls) block ≡ Some name → is_pristine (ledger_of calls) name ≡ is_empty_status (status_of b.ctx.now block)
 pristine-same calls b answers ready name block named =
-    let s = stated calls b answers ready name block named in
+    let s = (read calls b answers ready).state block name named in
     ap (state_has (λ (state : BlockState). state.is_pristine)) s.found ∙ s.agrees.is_pristine
 
 sealed-same : {declared : SignatureShape} (calls : List AnsweredCall) (b : FunctionBuilder) (answers : List Answer) → IsReady declared calls b answers
     → (name : meaning.Name) (block : ℕ) → block_name (ledger_of calls) block ≡ Some name → is_sealed (ledger_of calls) name ≡ is_yes (sealed_of b.ctx.now.ssa block)
 sealed-same calls b answers ready name block named =
-    let s = stated calls b answers ready name block named in
+    let s = (read calls b answers ready).state block name named in
     ap (state_has (λ (state : BlockState). state.is_sealed)) s.found ∙ s.agrees.is_sealed
 
 -- names are as many as their numbers
@@ -103,7 +87,7 @@ predecessors-same : {declared : SignatureShape} (calls : List AnsweredCall) (b :
     → (name : meaning.Name) (block : ℕ) → block_name (ledger_of calls) block ≡ Some name
     → has_predecessors (ledger_of calls) name ≡ not (is_nothing (predecessors_of b.ctx.now.ssa block))
 predecessors-same calls b answers ready name block named =
-    let s = stated calls b answers ready name block named in
+    let s = (read calls b answers ready).state block name named in
     ap (state_has (λ (state : BlockState). not (is_empty state.predecessors))) s.found
     ∙ ap not (same-empty calls s.state.predecessors (predecessors_of b.ctx.now.ssa block) s.agrees.predecessors)
 
@@ -122,24 +106,21 @@ open-same calls b answers ready = by b.position refl
         ∙ ap (λ (o : Option ℕ). is_open_at o b.ctx.now) (sym at)
 
 -- the first block of the layout, by name and by number
-elsewhere-same : (calls : List AnsweredCall) (ledger : Ledger) → IsNumbered calls ledger → (block : ℕ) (name : meaning.Name) → block_name ledger block ≡ Some name
+elsewhere-same : (ledger : Ledger) (block : ℕ) (name : meaning.Name) → ((k : ℕ) (x : meaning.Name) → block_name ledger k ≡ Some x → meaning.same_name x name ≡ (k == block))
     → (names : List meaning.Name) (numbers : List ℕ) → map Some names ≡ map (block_name ledger) numbers
     → (not (is_empty names) && not (begins_with names name)) ≡ is_elsewhere numbers block
-elsewhere-same calls ledger numbered block name named [] [] same = refl
-elsewhere-same calls ledger numbered block name named [] (k ∷ numbers) same = let no_way : ⊥ = cc in absurd no_way
-elsewhere-same calls ledger numbered block name named (x ∷ names) [] same = let no_way : ⊥ = cc in absurd no_way
-elsewhere-same calls ledger numbered block name named (x ∷ names) (k ∷ numbers) same =
+elsewhere-same ledger block name test [] [] same = refl
+elsewhere-same ledger block name test [] (k ∷ numbers) same = let no_way : ⊥ = cc in absurd no_way
+elsewhere-same ledger block name test (x ∷ names) [] same = let no_way : ⊥ = cc in absurd no_way
+elsewhere-same ledger block name test (x ∷ names) (k ∷ numbers) same =
     let here : block_name ledger k ≡ Some x = cc in
-    ap not (same-block calls ledger numbered k block x name here named)
+    ap not (test k x here)
 
 -- whether the current block may be left
 pub leave-same : {declared : SignatureShape} (calls : List AnsweredCall) (b : FunctionBuilder) (answers : List Answer) → IsReady declared calls b answers
     → can_leave (ledger_of calls) (ledger_of calls).current ≡ is_free b
 leave-same calls b answers ready = by b.position refl
   where
-    numbered : IsNumbered calls (ledger_of calls)
-    numbered = name-number calls (ledger_of calls) b.func.now b.ctx.now b.position ready.stands.ledger
-
     cases : (away sealed nothing : Bool) (s : BlockStatus)
         → ((((away && sealed) && not (not nothing)) || is_empty_status s) || is_filled_status s) ≡ (may_be_left s || ((away && sealed) && nothing))
     cases true true true Empty = refl
@@ -165,7 +146,7 @@ leave-same calls b answers ready = by b.position refl
         let pristine = pristine-same calls b answers ready current.0 block current.2 in
         let sealed = sealed-same calls b answers ready current.0 block current.2 in
         let alone = predecessors-same calls b answers ready current.0 block current.2 in
-        let away = elsewhere-same calls (ledger_of calls) numbered block current.0 current.2 (ledger_of calls).layout b.func.now.layout ready.stands.ledger.layout in
+        let away = elsewhere-same (ledger_of calls) block current.0 (λ k x here. (read calls b answers ready).same k block x current.0 here current.2) (ledger_of calls).layout b.func.now.layout ready.stands.ledger.layout in
         ap (can_leave (ledger_of calls)) current.1
         ∙ rw (filled, pristine, sealed, alone, away) (cases (is_elsewhere b.func.now.layout block) (is_yes (sealed_of b.ctx.now.ssa block)) (is_nothing (predecessors_of b.ctx.now.ssa block)) (status_of b.ctx.now block))
         ∙ ap (λ (o : Option ℕ). is_free_at o b.func.now b.ctx.now) (sym at)
@@ -180,7 +161,7 @@ pub switch-some : {declared : SignatureShape} (calls : List AnsweredCall) (b : F
 switch-some calls b answers ready name block found =
     let names = block-found calls b answers ready name block found in
     let there = names.is_block in
-    let named = named-block calls (name-number calls (ledger_of calls) b.func.now b.ctx.now b.position ready.stands.ledger) (name_of name) block names in
+    let named = (read calls b answers ready).named (name_of name) block names in
     let filled = filled-same calls b answers ready (name_of name) block named in
     let leaves = leave-same calls b answers ready in
     rw (there, filled, leaves) refl
@@ -195,7 +176,7 @@ pub seal-some : {declared : SignatureShape} (calls : List AnsweredCall) (b : Fun
 seal-some calls b answers ready name block found =
     let names = block-found calls b answers ready name block found in
     let there = names.is_block in
-    let named = named-block calls (name-number calls (ledger_of calls) b.func.now b.ctx.now b.position ready.stands.ledger) (name_of name) block names in
+    let named = (read calls b answers ready).named (name_of name) block names in
     let sealed = sealed-same calls b answers ready (name_of name) block named in
     rw (there, sealed) refl
 
@@ -218,7 +199,7 @@ pub append-some : {declared : SignatureShape} (calls : List AnsweredCall) (b : F
     → (name : Name) (block : ℕ) (types : List «Type») → block_of answers name ≡ Some block → allows (ledger_of calls) (AppendBlockParams (name_of name) types) ≡ can_append b block
 append-some calls b answers ready name block types found =
     let names = block-found calls b answers ready name block found in
-    let named = named-block calls (name-number calls (ledger_of calls) b.func.now b.ctx.now b.position ready.stands.ledger) (name_of name) block names in
+    let named = (read calls b answers ready).named (name_of name) block names in
     pristine-same calls b answers ready (name_of name) block named
 
 -- `append_block_params_for_function_params`
@@ -242,7 +223,7 @@ pub function-params-some : {declared : SignatureShape} (calls : List AnsweredCal
     → allows (ledger_of calls) (AppendFunctionParams (name_of name) types) ≡ can_append_function_params b block
 function-params-some calls b answers ready name block types found =
     let names = block-found calls b answers ready name block found in
-    let named = named-block calls (name-number calls (ledger_of calls) b.func.now b.ctx.now b.position ready.stands.ledger) (name_of name) block names in
+    let named = (read calls b answers ready).named (name_of name) block names in
     ap (λ (test : Bool). test && not (has_predecessors (ledger_of calls) (name_of name))) (append-some calls b answers ready name block types found)
     ∙ ap (λ (test : Bool). can_append b block && not test) (predecessors-same calls b answers ready (name_of name) block named)
     ∙ ap (λ (test : Bool). can_append b block && test) (not-not (is_nothing (predecessors_of b.ctx.now.ssa block)))
@@ -283,7 +264,7 @@ define-none calls b answers ready variable name missing =
 pub define-undeclared : {declared : SignatureShape} (calls : List AnsweredCall) (b : FunctionBuilder) (answers : List Answer) → IsReady declared calls b answers
     → (variable : ℕ) (name : meaning.Name) → slice_get b.ctx.now.variables variable ≡ None → allows (ledger_of calls) (DefVar variable name) ≡ false
 define-undeclared calls b answers ready variable name missing =
-    let none : variable_type (ledger_of calls) variable ≡ None = ledger-type calls (ledger_of calls) b.func.now b.ctx.now b.position ready.stands.ledger variable ∙ missing in
+    let none : variable_type (ledger_of calls) variable ≡ None = (read calls b answers ready).variable variable ∙ missing in
     and_right _ _ (ap (λ (o : Option «Type»). can_assign o (type_of (ledger_of calls) name)) none ∙ no-variable-assigned (type_of (ledger_of calls) name))
 
 -- the ledger's type of a value is the function's
@@ -291,7 +272,7 @@ value-type-same : {declared : SignatureShape} (calls : List AnsweredCall) (b : F
     → (name : Name) (value : ℕ) → value_of b.func.now answers name ≡ Some value → type_of (ledger_of calls) (name_of name) ≡ Some (value_at b.func.now value).ty
 value-type-same calls b answers ready name value found =
     let names = value-found calls b answers ready name value found in
-    let typed = named-value calls (ledger_of calls) b.func.now b.ctx.now b.position ready.stands.ledger (name_of name) value names.number names.is_value in
+    let typed = (read calls b answers ready).value (name_of name) value names in
     let node = map-some (λ (n : ValueNode). n.ty) (slice_get b.func.now.values value) typed.0 typed.2 in
     typed.1 ∙ ap Some (sym (ap (λ (n : ValueNode). n.ty) (get_or_from_slice_get b.func.now.values value node.0 no_value node.1) ∙ node.2))
 
@@ -301,7 +282,7 @@ pub define-some : {declared : SignatureShape} (calls : List AnsweredCall) (b : F
 define-some calls b answers ready variable name value ty found declared =
     let opens = open-same calls b answers ready in
     let of_value = value-type-same calls b answers ready name value found in
-    let of_variable : variable_type (ledger_of calls) variable ≡ Some ty = ledger-type calls (ledger_of calls) b.func.now b.ctx.now b.position ready.stands.ledger variable ∙ declared in
+    let of_variable : variable_type (ledger_of calls) variable ≡ Some ty = (read calls b answers ready).variable variable ∙ declared in
     rw (opens, of_variable, of_value) refl
 
 -- `use_var`
@@ -309,7 +290,7 @@ pub use-same : {declared : SignatureShape} (calls : List AnsweredCall) (b : Func
     → (variable : ℕ) → allows (ledger_of calls) (UseVar variable) ≡ can_use b b.ctx.now.variables variable
 use-same calls b answers ready variable =
     let opens = open-same calls b answers ready in
-    let of_variable = ledger-type calls (ledger_of calls) b.func.now b.ctx.now b.position ready.stands.ledger variable in
+    let of_variable = (read calls b answers ready).variable variable in
     rw (opens, of_variable) refl
 
 -- `iconst`
@@ -402,7 +383,7 @@ has-current calls b answers ready opens = by b.position refl opens
     by None at is = let no_way : ⊥ = cc in absurd no_way
     by (Some block) at is =
         let current = name-of-some (block_name (ledger_of calls)) (ledger_of calls).current block (ready.stands.ledger.current ∙ ap (option_map (block_name (ledger_of calls))) at) in
-        (block, at, block-exists calls (ledger_of calls) b.func.now b.ctx.now b.position ready.stands.ledger block current.0 current.2, not_filled (status_of b.ctx.now block) is)
+        (block, at, (read calls b answers ready).exists block current.0 current.2, not_filled (status_of b.ctx.now block) is)
 
 -- a refusal of the builder, told as that of a call
 pub judged-err : (allowed : Bool) (r : Result Answer CallError) (y : CallError) (e : BuildError) → r ≡ Err y → y ≡ call_error_of e → allowed ≡ true → IsJudged allowed r
@@ -510,6 +491,21 @@ follow-stays : (steps : ℕ) (values : List ValueNode) (v : ℕ) → alias_of va
 unfolding follow
 follow-stays zero values v none = refl
 follow-stays (suc steps) values v none = ap (λ (o : Option ℕ). follow_link o (follow steps values) v) none
+
+-- a block that enters the layout leaves the tables of values and of instructions
+inserted-values : (f : Body) (b : ℕ) → length (inserted_in f b).values ≡ length f.values
+inserted-values f b = by (stands_in b f.layout)
+  where
+    by : (there : Bool) → length (if there then f else with_layout f b).values ≡ length f.values
+    by true = refl
+    by false = refl
+
+inserted-insts : (f : Body) (b : ℕ) → length (inserted_in f b).insts ≡ length f.insts
+inserted-insts f b = by (stands_in b f.layout)
+  where
+    by : (there : Bool) → length (if there then f else with_layout f b).insts ≡ length f.insts
+    by true = refl
+    by false = refl
 
 -- the new value of an instruction is its result
 pub new-instruction : (f g : Body) (block : ℕ) (form : InstructionData) (ty : «Type») → g ≡ with_inst (inserted_in f block) block Back form (ty ∷ []) no_srcloc

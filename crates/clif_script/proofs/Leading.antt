@@ -14,12 +14,12 @@ use Rattle.cranelift_frontend.specs.declared.builder.FunctionBuilder.{FunctionBu
 use Rattle.cranelift_frontend.specs.Context.{ContextState}
 use Rattle.cranelift_frontend.specs.Ledger.{LedgerAgrees, ledger_of}
 use Rattle.cranelift_frontend.specs.StandsFor.{NothingLeads, StandsFor}
-use Rattle.cranelift_frontend.proofs.LedgerLists.{get-below, get-push, map-some}
-use Rattle.cranelift_frontend.proofs.LedgerKept.{ledger-more}
 use Rattle.clif_calls.specs.declared.call.Call.{Call}
 use Rattle.clif_calls.specs.declared.call.Call.TheVariants as call
 use Rattle.clif_script.specs.Limits.{HasNoBranch, is_straight}
 use Rattle.clif_script.specs.Requests.{IsReplayed, request_of, requests_from}
+use Rattle.clif_script.proofs.Options.{get-below, get-push, map-some}
+use Rattle.clif_script.proofs.ReadyLaws.{ledger-more}
 
 -- no block of the ledger has a predecessor
 abbrev pub AreAlone : List BlockState → Type 0

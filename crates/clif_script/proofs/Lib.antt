@@ -1,3 +1,4 @@
+pub mod Options
 pub mod Limits
 pub mod Costs
 pub mod Leading

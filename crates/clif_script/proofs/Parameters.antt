@@ -1,14 +1,14 @@
 -- What the calls answer that append parameters by a signature: the last parameters of their block.
-use Rattle.std.proofs.Common.{◌≡◌, ◌≢◌, ◌<◌, ◌≤◌, ◌+◌, ◌-◌, ℕ, suc, List, [], ◌∷◌, ◌++◌, length, refl, sym, ◌∙◌, ap, subst, arith, ◌⊎◌, inl, inr, append_assoc, length-append}
+use Rattle.std.proofs.Common.{◌≡◌, ◌<◌, ◌≤◌, ◌+◌, ◌-◌, ℕ, suc, List, [], ◌∷◌, ◌++◌, length, refl, sym, ◌∙◌, ap, subst, arith, append_assoc, length-append, get_or-set_same}
 use Rattle.std.specs.Prelude.{map, slice_get, Option}
 use Rattle.std.proofs.lemmas.List.{append-nil, length-map}
 use Rattle.std.proofs.lemmas.Grind.{common_steps}
 use Rattle.clif_types.specs.declared.types.«Type».{«Type»}
 use Rattle.clif_types.specs.declared.extfunc.AbiParam.{AbiParam}
 use Rattle.clif_types.specs.Signature.{SignatureShape}
-use Rattle.clif_ir.specs.Body.{Body, block_at}
+use Rattle.clif_ir.specs.declared.function.BlockNode.{BlockNode}
+use Rattle.clif_ir.specs.Body.{Body, block_at, empty_block}
 use Rattle.clif_ir.specs.Changes.{with_param}
-use Rattle.clif_ssa.proofs.Parameters.{param_params}
 use Rattle.clif_meaning.specs.Event.{types_of}
 use Rattle.clif_meaning.specs.Request.{AnsweredCall, Request}
 use Rattle.clif_meaning.specs.Ledger.{AValue, Answered, answers_to}
@@ -20,6 +20,12 @@ use Rattle.clif_script.specs.declared.script.Answer.{Answer}
 use Rattle.clif_script.specs.Ready.{AnswerIs, IsReady, IsReadyAfter, last_params, values_from}
 use Rattle.clif_script.proofs.ReadyLaws.{ready-more}
 
+-- the new parameter is the last one of its block
+one-more : (f : Body) (b : ℕ) (ty : «Type») → b < length f.blocks → (block_at (with_param f b ty) b).params ≡ (block_at f b).params ++ length f.values ∷ []
+one-more f b ty there =
+    ap (λ (node : BlockNode). node.params)
+    (get_or-set_same f.blocks b (record (block_at f b) { params = (block_at f b).params ++ length f.values ∷ [] }) empty_block there)
+
 -- the numbers of a block's parameters, and behind them those of the new ones
 params-there : (f : Body) (b : ℕ) (types : List «Type») → b < length f.blocks
     → (block_at (with_params f b types) b).params ≡ (block_at f b).params ++ numbers_from (length f.values) types
@@ -29,18 +35,12 @@ params-there f b (ty ∷ types) there =
     let still : b < length g.blocks = grind (arith, common_steps) in
     let more : length g.values ≡ suc (length f.values) = length-append f.values _ ∙ next (length f.values) in
     params-there g b types still
-    ∙ ap (λ (params : List ℕ). params ++ numbers_from (length g.values) types) (by (param_params f b ty there b))
+    ∙ ap (λ (params : List ℕ). params ++ numbers_from (length g.values) types) (one-more f b ty there)
     ∙ ap (λ (n : ℕ). ((block_at f b).params ++ length f.values ∷ []) ++ numbers_from n types) more
     ∙ append_assoc (block_at f b).params (length f.values ∷ []) (numbers_from (suc (length f.values)) types)
   where
     next : (n : ℕ) → n + 1 ≡ suc n
     next n = omega arith
-
-    by : ((b ≡ b) × ((block_at (with_param f b ty) b).params ≡ (block_at f b).params ++ length f.values ∷ []))
-        ⊎ ((b ≢ b) × ((block_at (with_param f b ty) b).params ≡ (block_at f b).params))
-        → (block_at (with_param f b ty) b).params ≡ (block_at f b).params ++ length f.values ∷ []
-    by (inl here) = here.1
-    by (inr apart) = absurd (apart.0 refl)
 
 count-numbers : (n : ℕ) (types : List «Type») → length (numbers_from n types) ≡ length types
 count-numbers n [] = refl

@@ -1,9 +1,11 @@
 -- The tests before a call that marks a block or places it are the condition of its request in the ledger.
-use Rattle.std.proofs.Common.{◌≡◌, ℕ, List, [], ◌∷◌, refl, ap, sym, ◌∙◌}
-use Rattle.std.specs.Prelude.{map, Some, None, is_some, Bool, true, false, not, ◌&&◌}
+use Rattle.std.proofs.Common.{◌≡◌, ℕ, suc, arith, get_or, List, [], ◌∷◌, refl, ap, sym, ◌∙◌}
+use Rattle.std.specs.Prelude.{map, Some, None, is_some, Bool, true, false, not, ◌&&◌, ◌||◌, ◌==◌}
 use Rattle.std.specs.List.{list_any}
-use Rattle.std.proofs.lemmas.Bool.{false_from_ne_true, false≢true}
+use Rattle.std.proofs.lemmas.Bool.{and_parts, eq-eqb, eqb-true, false_from_ne_true, false≢true}
 use Rattle.clif_types.specs.Signature.{SignatureShape}
+use Rattle.std.proofs.lemmas.List.Folds.{list_any_at}
+use Rattle.clif_ir.specs.Consistent.{Stands}
 use Rattle.clif_ir.specs.Reading.{stands_in}
 use Rattle.clif_meaning.specs.Name as meaning
 use Rattle.clif_meaning.specs.Request.{AnsweredCall, InsertBlockAfter, SetColdBlock}
@@ -11,12 +13,29 @@ use Rattle.clif_meaning.specs.Ledger.{Ledger, has_block, is_inserted}
 use Rattle.clif_meaning.specs.Acceptance.{allows}
 use Rattle.cranelift_frontend.specs.declared.builder.FunctionBuilder.{FunctionBuilder}
 use Rattle.cranelift_frontend.specs.Ledger.{block_name, ledger_of}
-use Rattle.cranelift_frontend.proofs.LedgerNames.{IsNumbered, block-inserted, name-number, named-block, same_name-true, state-by-name}
 use Rattle.clif_calls.specs.declared.call.Name.{Name}
 use Rattle.clif_script.specs.declared.script.Answer.{Answer}
 use Rattle.clif_script.specs.Requests.{name_of}
 use Rattle.clif_script.specs.Ready.{IsReady, block_of, can_insert}
-use Rattle.clif_script.proofs.ReadyLaws.{block-found, block-missing}
+use Rattle.clif_script.proofs.ReadyLaws.{block-found, block-missing, read}
+
+-- a number stands in a list where the test says so
+pub Stands-from_test : (x : ℕ) (xs : List ℕ) → stands_in x xs ≡ true → Stands x xs
+Stands-from_test x [] test = let no_way : ⊥ = cc in absurd no_way
+Stands-from_test x (y ∷ xs) test = by (Stands-from_test x xs) (y == x) refl test
+  where
+    by : (stands_in x xs ≡ true → Stands x xs) → (here : Bool) → (y == x) ≡ here → (here || stands_in x xs) ≡ true → Stands x (y ∷ xs)
+    by later true is test = (0, omega arith, eqb-true y x is)
+    by later false is test = let there : Stands x xs = later test in (suc there.0, omega (arith, there.1), there.2)
+
+pub test-from_Stands : (x : ℕ) (xs : List ℕ) → Stands x xs → stands_in x xs ≡ true
+test-from_Stands x xs here = list_any_at (λ y. y == x) xs here.0 0 here.1 (eq-eqb (get_or xs here.0 0) x here.2)
+
+-- names that are the same by the test are equal
+same_name-true : (a b : meaning.Name) → meaning.same_name a b ≡ true → a ≡ b
+same_name-true a b same =
+    let parts = and_parts (a.place == b.place) (a.index == b.index) same in
+    ap (λ (n : ℕ). meaning.answer_of n a.index) (eqb-true a.place b.place parts.0) ∙ ap (λ (n : ℕ). meaning.answer_of b.place n) (eqb-true a.index b.index parts.1)
 
 -- a name in the layout is that of a block
 named-in : (ledger : Ledger) (name : meaning.Name) (names : List meaning.Name) (numbers : List ℕ) → map Some names ≡ map (block_name ledger) numbers
@@ -37,19 +56,17 @@ named-in ledger name (x ∷ names) (k ∷ numbers) same there =
 inserted-missing : {declared : SignatureShape} (calls : List AnsweredCall) (b : FunctionBuilder) (answers : List Answer) → IsReady declared calls b answers
     → (name : Name) → block_of answers name ≡ None → is_inserted (ledger_of calls) (name_of name) ≡ false
 inserted-missing calls b answers ready name missing =
-    let numbered : IsNumbered calls (ledger_of calls) = name-number calls (ledger_of calls) b.func.now b.ctx.now b.position ready.stands.ledger in
     false_from_ne_true (is_inserted (ledger_of calls) (name_of name)) (λ there.
     let block = named-in (ledger_of calls) (name_of name) (ledger_of calls).layout b.func.now.layout ready.stands.ledger.layout there in
-    let state = state-by-name calls (ledger_of calls) numbered block.0 (name_of name) block.1 in
-    false≢true (sym (block-missing calls b answers ready name missing) ∙ ap is_some state.3))
+    let state = (read calls b answers ready).state block.0 (name_of name) block.1 in
+    false≢true (sym (block-missing calls b answers ready name missing) ∙ ap is_some state.found))
 
 -- one that leads to a block is where the block is
 inserted-found : {declared : SignatureShape} (calls : List AnsweredCall) (b : FunctionBuilder) (answers : List Answer) → IsReady declared calls b answers
     → (name : Name) (block : ℕ) → block_of answers name ≡ Some block → is_inserted (ledger_of calls) (name_of name) ≡ stands_in block b.func.now.layout
 inserted-found calls b answers ready name block found =
-    let numbered : IsNumbered calls (ledger_of calls) = name-number calls (ledger_of calls) b.func.now b.ctx.now b.position ready.stands.ledger in
-    block-inserted calls (ledger_of calls) numbered b.func.now.layout ready.stands.ledger.layout block (name_of name)
-    (named-block calls numbered (name_of name) block (block-found calls b answers ready name block found))
+    let r = read calls b answers ready in
+    r.inserted block (name_of name) (r.named (name_of name) block (block-found calls b answers ready name block found))
 
 -- `insert_block_after`
 pub insert-none : {declared : SignatureShape} (calls : List AnsweredCall) (b : FunctionBuilder) (answers : List Answer) → IsReady declared calls b answers

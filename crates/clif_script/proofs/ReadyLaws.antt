@@ -1,29 +1,38 @@
 -- What names lead to, where the builder agrees with the ledger of the calls.
 use Rattle.std.proofs.Common.{◌≡◌, ℕ, zero, suc, ◌+◌, ◌-◌, ◌<◌, List, [], ◌∷◌, ◌++◌, length, refl, ap, arith, sym, ◌∙◌, subst, ◌⊎◌, inl, inr, length-append}
-use Rattle.std.specs.Prelude.{map, slice_get, slice_index_or, Option, Some, None, option_map, option_and_then, is_some, IfSome, Bool, true, false, nat_lt, if◌then◌else◌, ◌==◌}
+use Rattle.std.specs.Prelude.{fold, map, slice_get, slice_index_or, Option, Some, None, option_map, option_and_then, is_some, IfSome, Bool, true, false, nat_lt, if◌then◌else◌, ◌==◌}
 use Rattle.std.proofs.lemmas.Option.{slice_get_within, slice_get_past, same_Some, none-some, get_or_from_slice_get, slice_get-map}
 use Rattle.std.proofs.lemmas.Bool.{cases_lt, ne_eqb, false_from_ne_true, false≢true, ltb-true, lt-ltb}
-use Rattle.std.proofs.lemmas.List.{length-map}
+use Rattle.std.proofs.lemmas.List.{length-map, map_push}
+use Rattle.std.proofs.lemmas.List.Sums.{fold-append}
 use Rattle.clif_types.specs.declared.types.«Type».{«Type»}
 use Rattle.clif_types.specs.Signature.{SignatureShape}
 use Rattle.clif_ir.specs.declared.function.InstNode.{InstNode}
 use Rattle.clif_ir.specs.declared.function.ValueNode.{ValueNode}
 use Rattle.clif_ir.specs.Body.{inst_at, no_inst}
-use Rattle.clif_meaning.specs.Request.{AnsweredCall, number_of}
-use Rattle.clif_meaning.specs.Ledger.{Answered, ABlock, AVariable, AValue, AnInstruction, BlockState, Ledger, answer_at, answers_to, block_state, has_block, has_value, type_of, value_answer_type}
+use Rattle.clif_meaning.specs.Request.{AnsweredCall, number_of, script_of}
+use Rattle.clif_meaning.specs.Ledger.{Answered, ABlock, AVariable, AValue, AnInstruction, Ledger, answer_at, answers_to, empty_ledger, has_block, ledger_with, has_value, type_of, value_answer_type}
 use Rattle.clif_simulation.specs.Carries.{numbers_from}
 use Rattle.cranelift_frontend.specs.declared.builder.FunctionBuilder.{FunctionBuilder}
 use Rattle.cranelift_frontend.specs.StandsFor.{StandsFor}
 use Rattle.cranelift_frontend.specs.Ledger.{AnswersAgree, ResultsFollow, NamesBlock, NamesValue, block_name, value_type, ledger_of}
-use Rattle.cranelift_frontend.proofs.LedgerLists.{get-push, get-below, map-some, some-is, if-no, name-of-some}
-use Rattle.cranelift_frontend.proofs.LedgerNames.{find-some, name-number, named-block, state-by-name}
-use Rattle.cranelift_frontend.proofs.LedgerKept.{ledger-more, named-value}
-use Rattle.cranelift_frontend.proofs.LedgerMade.{block-exists}
+use Rattle.cranelift_frontend.specs.LedgerLaws.{IsReadByNumber}
 use Rattle.clif_calls.specs.declared.call.Name.{Name}
 use Rattle.clif_script.specs.declared.script.Answer.{Answer}
 use Rattle.clif_script.specs.declared.script.Answer.TheVariants as answer
 use Rattle.clif_script.specs.Requests.{name_of}
 use Rattle.clif_script.specs.Ready.{AnswerIs, AnswerExists, IsReady, block_in, block_of, value_in, value_of}
+use Rattle.clif_script.proofs.Options.{get-push, get-below, map-some, some-is, if-no, name-of-some}
+
+-- what the ledger says of a name, the builder says of its number
+pub read : {declared : SignatureShape} (calls : List AnsweredCall) (b : FunctionBuilder) (answers : List Answer) → IsReady declared calls b answers → IsReadByNumber calls b.func.now b.ctx.now
+read calls b answers ready = ready.laws.ledger calls b.func.now b.ctx.now b.position ready.stands.ledger
+
+-- the ledger with one more call
+pub ledger-more : (calls : List AnsweredCall) (call : AnsweredCall) → ledger_of (calls ++ call ∷ []) ≡ ledger_with (ledger_of calls) call.request
+ledger-more calls call =
+    ap (fold ledger_with empty_ledger) (map_push (λ (c : AnsweredCall). c.request) calls call)
+    ∙ fold-append ledger_with empty_ledger (script_of calls) (call.request ∷ [])
 
 -- a number that isn't 0
 past : {X : Type 0} (k : ℕ) (x y : X) → (if suc k == 0 then x else y) ≡ y
@@ -116,8 +125,7 @@ block-found calls b answers ready name block found = by (slice_get answers name.
         let answered : slice_get e.given 0 ≡ Some ABlock = ap (λ (xs : List Answered). slice_get xs 0) e.is.0 in
         let named : block_name (ledger_of calls) x ≡ Some (record { place = name.place; index = 0 }) = e.agree.each 0 ABlock x answered (ap (λ (xs : List ℕ). slice_get xs 0) e.is.1) in
         let here : block_name (ledger_of calls) x ≡ Some (name_of name) = named ∙ ap (λ (n : ℕ). Some (name_of (record { place = name.place; answer = n }))) (sym is) in
-        let state = state-by-name calls (ledger_of calls) (name-number calls (ledger_of calls) b.func.now b.ctx.now b.position ready.stands.ledger) x (name_of name) here in
-        record { number = number ∙ found; is_block = ap is_some state.3 }
+        record { number = number ∙ found; is_block = ap is_some ((read calls b answers ready).state x (name_of name) here).found }
     by_block x at (suc k) is found = absurd (none-some block (sym (past k (Some x) None) ∙ found))
 
     by : (o : Option Answer) → slice_get answers name.place ≡ o → block_in name.answer o ≡ Some block → NamesBlock calls (name_of name) block
@@ -133,10 +141,8 @@ pub block-missing : {declared : SignatureShape} (calls : List AnsweredCall) (b :
     → (name : Name) → block_of answers name ≡ None → has_block (ledger_of calls) (name_of name) ≡ false
 block-missing calls b answers ready name missing =
     false_from_ne_true (has_block (ledger_of calls) (name_of name)) (λ there.
-    let state = some-is (block_state (ledger_of calls) (name_of name)) there in
-    let found = find-some (ledger_of calls).blocks (name_of name) state.0 state.1 in
-    let named : block_name (ledger_of calls) found.0 ≡ Some (name_of name) = ap (option_map (λ (s : BlockState). s.block)) found.1 ∙ ap Some found.2 in
-    by (slice_get answers name.place) refl missing (ready.stands.ledger.block_answers found.0 (name_of name) named))
+    let found = (read calls b answers ready).numbered (name_of name) there in
+    by (slice_get answers name.place) refl missing (ready.stands.ledger.block_answers found.0 (name_of name) found.1))
   where
     by_block : (x : ℕ) (index : ℕ) → index ≡ 0 → (if index == 0 then Some x else None) ≡ None → ⊥
     by_block x zero is missing = none-some x (sym missing)
@@ -336,7 +342,7 @@ pub value-exists : {declared : SignatureShape} (calls : List AnsweredCall) (b : 
     → (name : Name) (value : ℕ) → value_of b.func.now answers name ≡ Some value → value < length b.func.now.values
 value-exists calls b answers ready name value found =
     let names = value-found calls b answers ready name value found in
-    let typed = named-value calls (ledger_of calls) b.func.now b.ctx.now b.position ready.stands.ledger (name_of name) value names.number names.is_value in
+    let typed = (read calls b answers ready).value (name_of name) value names in
     let node = map-some (λ (n : ValueNode). n.ty) (slice_get b.func.now.values value) typed.0 typed.2 in
     slice_get_within b.func.now.values value node.0 node.1
 
@@ -345,8 +351,8 @@ pub block-there : {declared : SignatureShape} (calls : List AnsweredCall) (b : F
     → (name : Name) (block : ℕ) → block_of answers name ≡ Some block → block < length b.func.now.blocks
 block-there calls b answers ready name block found =
     let names = block-found calls b answers ready name block found in
-    let named = named-block calls (name-number calls (ledger_of calls) b.func.now b.ctx.now b.position ready.stands.ledger) (name_of name) block names in
-    block-exists calls (ledger_of calls) b.func.now b.ctx.now b.position ready.stands.ledger block (name_of name) named
+    let r = read calls b answers ready in
+    r.exists block (name_of name) (r.named (name_of name) block names)
 
 -- the current block exists
 pub current-exists : {declared : SignatureShape} (calls : List AnsweredCall) (b : FunctionBuilder) (answers : List Answer) → IsReady declared calls b answers → IfSome b.position (λ block. block < length b.func.now.blocks)
@@ -356,7 +362,7 @@ current-exists calls b answers ready = by b.position refl
     by None at = tt
     by (Some block) at =
         let current = name-of-some (block_name (ledger_of calls)) (ledger_of calls).current block (ready.stands.ledger.current ∙ ap (option_map (block_name (ledger_of calls))) at) in
-        block-exists calls (ledger_of calls) b.func.now b.ctx.now b.position ready.stands.ledger block current.0 current.2
+        (read calls b answers ready).exists block current.0 current.2
 
 -- one more call was answered
 pub ready-more : {declared : SignatureShape} (calls : List AnsweredCall) (call : AnsweredCall) (old new : FunctionBuilder) (answers : List Answer) (a : Answer)
@@ -364,6 +370,7 @@ pub ready-more : {declared : SignatureShape} (calls : List AnsweredCall) (call :
     → IsReady declared (calls ++ call ∷ []) new (answers ++ a ∷ [])
 ready-more calls call old new answers a ready stands is =
     record {
+      laws = ready.laws;
       stands = stands;
       count = length-append answers (a ∷ []) ∙ ap (λ (n : ℕ). n + 1) ready.count ∙ sym (length-append calls (call ∷ []));
       answered = answered;
@@ -402,7 +409,3 @@ ready-more calls call old new answers a ready stands is =
                     ]
               ]
         ]
-
--- nothing was called
-pub ready-empty : {declared : SignatureShape} (b : FunctionBuilder) → StandsFor declared [] b → IsReady declared [] b []
-ready-empty b stands = record { stands = stands; count = refl; answered = λ place x other given at_answer at_call at_given. absurd (none-some x at_answer) }

@@ -14,8 +14,6 @@ use Rattle.clif_meaning.specs.Acceptance as refusal
 use Rattle.cranelift_frontend.specs.declared.error.FinalizeError.{FinalizeError}
 use Rattle.cranelift_frontend.specs.declared.error.FinalizeError.TheVariants as ending
 use Rattle.cranelift_frontend.specs.Ledger.{RefusalAgrees, ledger_of}
-use Rattle.cranelift_frontend.proofs.LedgerLists.{if-no}
-use Rattle.cranelift_frontend.proofs.LedgerKept.{ledger-more}
 use Rattle.clif_calls.specs.declared.call.Call.{Call}
 use Rattle.clif_calls.specs.declared.call.Call.TheVariants as call
 use Rattle.clif_script.specs.declared.script.CallError.{CallError}
@@ -25,6 +23,8 @@ use Rattle.clif_script.specs.declared.script.ReplayError.TheVariants as replay
 use Rattle.clif_script.specs.Errors.{replay_error_at}
 use Rattle.clif_script.specs.Ready.{IsJudged}
 use Rattle.clif_script.specs.Requests.{IsReplayed, request_of, requests_from, requests_of}
+use Rattle.clif_script.proofs.Options.{if-no}
+use Rattle.clif_script.proofs.ReadyLaws.{ledger-more}
 
 -- no call of a list is `finalize`
 no-refusal : (declared : SignatureShape) (ledger : Ledger) (c : Call) → refusal_of ledger (request_of declared ledger c) ≡ None

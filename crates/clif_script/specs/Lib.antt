@@ -1,3 +1,4 @@
+pub mod Laws
 pub mod Errors
 pub mod Limits
 pub mod Ready

@@ -22,6 +22,7 @@ use Rattle.cranelift_frontend.specs.Builder.{is_empty_status, is_filled_status, 
 use Rattle.clif_types.specs.Signature.{SignatureShape}
 use Rattle.cranelift_frontend.specs.Ledger.{ledger_of}
 use Rattle.cranelift_frontend.specs.StandsFor.{StandsFor}
+use Rattle.clif_script.specs.Laws.{BuilderLaws}
 use Rattle.clif_calls.specs.declared.call.Edge.{Edge}
 use Rattle.clif_calls.specs.declared.call.Name.{Name}
 use Rattle.clif_calls.specs.declared.call.Call.{Call}
@@ -41,8 +42,10 @@ AnswerIs (answer.Values first count) answered numbers =
 AnswerIs (answer.Inst i) answered numbers =
     (types : List «Type») × (results : List ℕ) × (answered ≡ AnInstruction ∷ map AValue types) × (numbers ≡ i ∷ results)
 
--- the builder stands for these calls, on a function of this signature, and these are their answers
+-- the builder stands for these calls, on a function of this signature, and these are their answers; and the laws of the
+-- crates below are known
 pub record IsReady (declared : SignatureShape) (calls : List AnsweredCall) (b : FunctionBuilder) (answers : List Answer) : Type 0 where
+  pub laws : BuilderLaws
   pub stands : StandsFor declared calls b
   pub count : length answers ≡ length calls
   pub answered : (place : ℕ) (answer : Answer) (call : AnsweredCall) (answered : List Answered)

@@ -1,6 +1,7 @@
 //! Scripts: lists of builder calls that are made in order.
 #![tactic(auto)]
 
+mod laws;
 mod make;
 mod make_blocks;
 mod make_parameters;

@@ -14,6 +14,8 @@ ghost use Rattle.clif_script.specs.Limits.{HasFullTable, HasRecordsBelow, IsOneC
 ghost use Rattle.clif_script.specs.Requests.{edge_of, name_of, request_of};
 ghost use Rattle.clif_script.specs.Ready.{IsReady, IsReadyNow, IsReadyWith, IsReadyAfter, IsFound, IsJudged, AnswerExists, may_lead, block_of, value_in, value_of, all_values, instruction_answer, is_open, can_define, can_use, can_make_constant, types_after};
 
+use clif_calls::{Call, Edge, Name};
+use crate::laws::table_laws;
 use crate::make_blocks::{
     create_block, ensure_inserted_block, insert_block_after, may_seal, seal_all_blocks, seal_block,
     set_cold_block, switch_to_block,
@@ -23,7 +25,6 @@ use crate::make_parameters::{
     append_block_params_for_function_returns,
 };
 use crate::script::{Answer, CallError};
-use clif_calls::{Call, Edge, Name};
 use clif_ir::{BinaryOpcode, BlockArg, Function, InstructionData, ValueDef};
 use clif_ssa::Variable;
 use clif_types::{Block, BuildError, EntityRef, Inst, LaneType, Type, Value};
@@ -279,6 +280,7 @@ fn append_iconst(builder: &mut FunctionBuilder<'_>, ty: Type, imm: i64) -> Resul
     ensures failed { (result ≡ Err BuildError.Failed) ↔ IsTrue builder.old.failed }
     ensures fails { builder.new.failed ≡ is_err result }
 {
+    table_laws();
     builder.ins().iconst(ty, imm)
 }
 
@@ -299,6 +301,7 @@ fn append_iadd(builder: &mut FunctionBuilder<'_>, x: Value, y: Value) -> Result<
     ensures failed { (result ≡ Err BuildError.Failed) ↔ IsTrue builder.old.failed }
     ensures fails { builder.new.failed ≡ is_err result }
 {
+    table_laws();
     builder.ins().iadd(x, y)
 }
 
@@ -319,6 +322,7 @@ fn append_isub(builder: &mut FunctionBuilder<'_>, x: Value, y: Value) -> Result<
     ensures failed { (result ≡ Err BuildError.Failed) ↔ IsTrue builder.old.failed }
     ensures fails { builder.new.failed ≡ is_err result }
 {
+    table_laws();
     builder.ins().isub(x, y)
 }
 
@@ -335,6 +339,7 @@ fn append_jump(builder: &mut FunctionBuilder<'_>, edge: &FoundEdge) -> Result<In
     ensures failed { (result ≡ Err BuildError.Failed) ↔ IsTrue builder.old.failed }
     ensures fails { builder.new.failed ≡ is_err result }
 {
+    table_laws();
     builder.ins().jump(edge.block, edge.args.as_slice())
 }
 
@@ -358,6 +363,7 @@ fn append_brif(
     ensures failed { (result ≡ Err BuildError.Failed) ↔ IsTrue builder.old.failed }
     ensures fails { builder.new.failed ≡ is_err result }
 {
+    table_laws();
     builder.ins().brif(
         condition,
         taken.block,
@@ -380,6 +386,7 @@ fn append_return(builder: &mut FunctionBuilder<'_>, values: &[Value]) -> Result<
     ensures failed { (result ≡ Err BuildError.Failed) ↔ IsTrue builder.old.failed }
     ensures fails { builder.new.failed ≡ is_err result }
 {
+    table_laws();
     builder.ins().return_(values)
 }
 

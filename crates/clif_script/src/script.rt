@@ -14,8 +14,9 @@ ghost use Rattle.cranelift_frontend.specs.Builder.{SameLoans};
 ghost use Rattle.cranelift_frontend.specs.Context.{empty_context};
 ghost use Rattle.clif_script.specs.Errors.{call_error_of, replay_error_at, call_memory, replay_memory, replay_error_text};
 
-use crate::make::make_call;
 use clif_calls::Call;
+use crate::laws::builder_laws;
+use crate::make::make_call;
 use clif_ir::Function;
 use clif_ssa::Variable;
 use clif_types::{
@@ -188,6 +189,7 @@ fn make_calls(
     ensures full_straight { result ≡ Err ReplayError.Full → HasNoBranch calls.now → 2 ^ 32 - 1 ≤ 2 * cost builder.old.func.now.signature calls.now }
     ensures table_full { result ≡ Err ReplayError.Full → IsStoppedByTable calls.now builder.old.func.now.name builder.old.func.now.signature }
 {
+    builder_laws();
     let mut answers = Vec::new(alloc);
     let mut types = Vec::new(alloc);
     for (place, call) in calls.iter().enumerate() {

@@ -6,3 +6,4 @@ pub mod Ledger
 pub mod Growth
 pub mod StandsFor
 pub mod Laws
+pub mod LedgerLaws

@@ -3,6 +3,7 @@
 
 ghost use Rattle.cranelift_frontend.specs.Growth.{BuilderUsesAgree};
 ghost use Rattle.cranelift_frontend.specs.Laws.{StandingIsWellPlaced, StandingMatchesEdges, StandingReadsRight, StandingReadsRightFromAnywhere, StandingRecordsAreWellPlaced};
+ghost use Rattle.cranelift_frontend.specs.LedgerLaws.{LedgerIsReadByNumber};
 
 /// Two uses of a variable in a block stand for one value, where no call between them assigns it there.
 pub fn uses_agree()
@@ -36,4 +37,10 @@ pub fn standing_is_well_placed()
 /// So is what the builder recorded, before the ends of its blocks, and what answered uses.
 pub fn standing_records_are_well_placed()
     ensures { StandingRecordsAreWellPlaced }
+{}
+
+/// What a ledger that agrees with a builder says of names, the builder says of their numbers: of blocks and their states,
+/// of the layout, and of the types of values and variables.
+pub fn ledger_is_read_by_number()
+    ensures { LedgerIsReadByNumber }
 {}

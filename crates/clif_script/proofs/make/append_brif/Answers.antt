@@ -13,13 +13,13 @@ returns-clause-one_call c =
     let current : HasCurrent here = subst HasCurrent (sym c.ins.ensures.builder) c.requires.current in
     let after : FunctionBuilder = c.brif.new.self in
     let done = c.brif.ensures in
-    let one : OnOk c.brif.result (IsOneCall 1 here after) = one-branched c.brif.result here after _ _ _ current done.appends done.grows done.declares done.variables in
+    let one : OnOk c.brif.result (IsOneCall 1 here after) = one-branched c.table_laws.ensures c.brif.result here after _ _ _ current done.appends done.grows done.declares done.variables in
     let from : OnOk c.brif.result (IsOneCall 1 c.args.builder.now after) = subst (λ (b : FunctionBuilder). OnOk c.brif.result (IsOneCall 1 b after)) c.ins.ensures.builder one in
     first_of (search rules, grind (arith, common_steps))
 
 pub returns-clause-full : goal.returns-clause-full
 returns-clause-full c = λ full.
-    nearly-full c.args.builder.now
+    nearly-full c.table_laws.ensures c.args.builder.now
     (subst (λ (b : FunctionBuilder). (length b.func.now.insts ≡ 2 ^ 32 - 1) ⊎ (length b.func.now.values ≡ 2 ^ 32 - 1)) c.ins.ensures.builder (c.brif.ensures.full full))
 
 pub returns-clause-stops : goal.returns-clause-stops

@@ -16,13 +16,13 @@ returns-clause-one_call c =
     let current : HasCurrent here = subst HasCurrent (sym c.ins.ensures.builder) c.requires.current in
     let after : FunctionBuilder = c.iadd.new.self in
     let done = c.iadd.ensures in
-    let one : OnOk c.iadd.result (IsOneCall 1 here after) = one-valued c.iadd.result here after (Binary Iadd (c.args.x ∷ c.args.y ∷ [])) ((value_at here.func.now c.args.x).ty) current done.appends done.grows done.ssa done.variables in
+    let one : OnOk c.iadd.result (IsOneCall 1 here after) = one-valued c.table_laws.ensures c.iadd.result here after (Binary Iadd (c.args.x ∷ c.args.y ∷ [])) ((value_at here.func.now c.args.x).ty) current done.appends done.grows done.ssa done.variables in
     let from : OnOk c.iadd.result (IsOneCall 1 c.args.builder.now after) = subst (λ (b : FunctionBuilder). OnOk c.iadd.result (IsOneCall 1 b after)) c.ins.ensures.builder one in
     first_of (search rules, grind (arith, common_steps))
 
 pub returns-clause-full : goal.returns-clause-full
 returns-clause-full c = λ full.
-    nearly-full c.args.builder.now
+    nearly-full c.table_laws.ensures c.args.builder.now
     (subst (λ (b : FunctionBuilder). (length b.func.now.insts ≡ 2 ^ 32 - 1) ⊎ (length b.func.now.values ≡ 2 ^ 32 - 1)) c.ins.ensures.builder (c.iadd.ensures.full full))
 
 pub returns-clause-stops : goal.returns-clause-stops

@@ -98,5 +98,5 @@ returns-clause-one_call c =
     let declared = ap (λ (types : List «Type»). slice_get types c.args.variable) (sym c.requires.types) ∙ sym c.type_of.ensures ∙ c.in-Some-type_of.is in
     let holds : c.may_define.result ≡ true = first_of (search rules, grind (arith, common_steps)) in
     let current = Conditions.has-current c.requires.ready.1 old c.args.answers.now c.requires.ready.2 (and_parts _ _ (sym c.may_define.ensures ∙ holds)).0 in
-    one-assigned old new c.args.variable c.in-Some.value current done.function done.records done.sealed done.variables
+    one-assigned c.requires.ready.2.laws.tables old new c.args.variable c.in-Some.value current done.function done.records done.sealed done.variables
     (slice_get_within old.ctx.now.variables c.args.variable c.in-Some-type_of.ty declared)

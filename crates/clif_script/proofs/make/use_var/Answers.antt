@@ -77,4 +77,4 @@ returns-in_err-value-clause-full c = λ full.
     let done = c.use_var.ensures in
     let p = err_from_is_err_and c.from_residual.result c.from_residual.ensures.1 in
     let told = full-told-by c.use_var.result c.from_residual.result p.0 c.in_err-value.field-0.0 c.in_err-value.was p.1 p.2 full in
-    nearly-taken old c.use_var.new.self (done.takes_by_records told.1) done.below (λ none. done.takes (local-here old c.args.variable none) told.1) (done.full told.0)
+    nearly-taken c.requires.ready.2.laws.tables old c.use_var.new.self (done.takes_by_records told.1) done.below (λ none. done.takes (local-here old c.args.variable none) told.1) (done.full told.0)

@@ -17,5 +17,5 @@ returns-clause-one_call c =
     let ready = c.requires.ready in
     let records : SameRecords c.args.builder.now.ctx.now.ssa c.create_block.new.self.ctx.now.ssa =
     λ v b. ap (λ (rows : List (List Cell)). record_of (record { records = rows; blocks = [] }) v b) done.records in
-    one-created c.args.builder.now c.create_block.new.self done.function records done.sealed
+    one-created c.requires.ready.2.laws.tables c.args.builder.now c.create_block.new.self done.function records done.sealed
     (leads-created ready.1 (c.in_ok-block.block ∷ []) c.args.builder.now c.create_block.new.self ready.2.stands (done.stands ready.0 ready.1 ready.2.stands)) done.variables

@@ -54,4 +54,4 @@ returns-clause-one_call c =
     let holds : c.has_current.result ≡ true = first_of (search rules, grind (arith, common_steps)) in
     let current = has-current c.requires.ready.1 c.args.builder.now c.args.answers.now c.requires.ready.2 (sym c.has_current.ensures ∙ holds) in
     let done = c.in_ok-ensure_inserted_block.ensures in
-    one-ensured c.args.builder.now c.ensure_inserted_block.new.self current done.function done.ssa done.variables
+    one-ensured c.requires.ready.2.laws.tables c.args.builder.now c.ensure_inserted_block.new.self current done.function done.ssa done.variables

@@ -3,11 +3,10 @@ use Rattle.std.specs.Prelude.{not}
 use Rattle.std.proofs.lemmas.Result.{err_from_is_err_and}
 use Rattle.std.proofs.lemmas.Bool.{and_parts, not-true, false≢true}
 use Rattle.clif_ir.specs.Reading.{stands_in}
-use Rattle.clif_ir.proofs.Reading.{Stands-from_test, test-from_Stands}
 use Rattle.clif_script.specs.declared.script.Answer.TheVariants as answer
 use Rattle.clif_script.specs.Requests.{name_of}
 use Rattle.clif_script.proofs.ReadyLaws.{ready-more, block-found, block-there}
-use Rattle.clif_script.proofs.Placements.{insert-none, insert-nowhere, insert-some}
+use Rattle.clif_script.proofs.Placements.{insert-none, insert-nowhere, insert-some, Stands-from_test, test-from_Stands}
 use Rattle.clif_script.proofs.Conditions.{judged-err}
 use Rattle.clif_script.proofs.Limits.{one-laid, full-told-by}
 use Rattle.clif_script.proofs.make_blocks.insert_block_after.Goals as goal
@@ -93,4 +92,4 @@ returns-clause-judged c = λ calls given.
 pub returns-clause-one_call : goal.returns-clause-one_call
 returns-clause-one_call c =
     let done = c.in_ok-insert_block_after.ensures in
-    one-laid c.args.builder.now c.insert_block_after.new.self c.in-Some.block c.in-Some-block_named.after done.function done.context
+    one-laid c.requires.ready.2.laws.tables c.args.builder.now c.insert_block_after.new.self c.in-Some.block c.in-Some-block_named.after done.function done.context

@@ -31,5 +31,5 @@ returns-in_err-seal_all_blocks-clause-full c = λ full.
     let done = c.seal_all_blocks.ensures in
     let p = err_from_is_err_and c.from_residual.result c.from_residual.ensures.1 in
     let told = full-told-by c.seal_all_blocks.result c.from_residual.result p.0 c.in_err-seal_all_blocks.field-0.0 c.in_err-seal_all_blocks.was p.1 p.2 full in
-    nearly-taken old new (done.takes_by_records told.1) done.below
+    nearly-taken c.requires.ready.2.laws.tables old new (done.takes_by_records told.1) done.below
     (λ none. takes-less old.func.now new.func.now 0 0 2 1 (omega arith) (omega arith) (done.takes none told.1)) (done.full told.0)

@@ -26,4 +26,4 @@ returns-clause-judged c = λ calls given.
 
 pub returns-clause-one_call : goal.returns-clause-one_call
 returns-clause-one_call c =
-    one-cold c.args.builder.now c.set_cold_block.new.self c.in-Some.block c.set_cold_block.ensures.function c.set_cold_block.ensures.context
+    one-cold c.requires.ready.2.laws.tables c.args.builder.now c.set_cold_block.new.self c.in-Some.block c.set_cold_block.ensures.function c.set_cold_block.ensures.context

@@ -57,14 +57,14 @@ returns-clause-judged c = λ calls given.
 
 pub returns-clause-one_call : goal.returns-clause-one_call
 returns-clause-one_call c =
-    one-params 2 c.args.builder.now c.append_block_param.new.self c.in-Some.block (c.args.ty ∷ []) (omega arith) (omega arith) c.in_ok-value.ensures.function c.append_block_param.ensures.context
+    one-params c.requires.ready.2.laws.tables 2 c.args.builder.now c.append_block_param.new.self c.in-Some.block (c.args.ty ∷ []) (omega arith) (omega arith) c.in_ok-value.ensures.function c.append_block_param.ensures.context
 
 pub returns-in_err-value-clause-full : goal.returns-in_err-value-clause-full
 returns-in_err-value-clause-full c = λ full.
     let p = err_from_is_err_and c.from_residual.result c.from_residual.ensures.1 in
     let told = full-told-by c.append_block_param.result c.from_residual.result p.0 c.in_err-value.field-0.0 c.in_err-value.was p.1 p.2 full in
     let values = c.append_block_param.ensures.full told.0 in
-    nearly-full-of-values 2 c.args.builder.now (omega (arith, values))
+    nearly-full-of-values c.requires.ready.2.laws.tables 2 c.args.builder.now (omega (arith, values))
 
 pub returns-in_err-value-clause-stops : goal.returns-in_err-value-clause-stops
 returns-in_err-value-clause-stops c = λ full.

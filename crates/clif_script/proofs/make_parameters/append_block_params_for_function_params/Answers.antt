@@ -90,7 +90,7 @@ returns-clause-one_call c =
     let params = old.func.now.signature.params in
     let many = length-map params (λ (p : AbiParam). p.value_type) in
     let enough = le-max_right 1 (2 * length params) in
-    one-params _ old c.append_block_params_for_function_params.new.self c.in-Some.block (types_of params) (le-max_left 1 (2 * length params)) (omega (arith, many, enough))
+    one-params c.requires.ready.2.laws.tables _ old c.append_block_params_for_function_params.new.self c.in-Some.block (types_of params) (le-max_left 1 (2 * length params)) (omega (arith, many, enough))
     c.in_ok-append_block_params_for_function_params.ensures.function c.append_block_params_for_function_params.ensures.context
 
 pub returns-in_err-append_block_params_for_function_params-clause-full : goal.returns-in_err-append_block_params_for_function_params-clause-full
@@ -100,7 +100,7 @@ returns-in_err-append_block_params_for_function_params-clause-full c = λ full.
     let told = full-told-by c.append_block_params_for_function_params.result c.from_residual.result p.0 c.in_err-append_block_params_for_function_params.field-0.0 c.in_err-append_block_params_for_function_params.was p.1 p.2 full in
     let room = c.append_block_params_for_function_params.ensures.room told.0 in
     let enough = le-max_right 1 (2 * length old.func.now.signature.params) in
-    nearly-full-of-values _ old (omega (arith, room, enough))
+    nearly-full-of-values c.requires.ready.2.laws.tables _ old (omega (arith, room, enough))
 
 pub returns-in_err-append_block_params_for_function_params-clause-stops : goal.returns-in_err-append_block_params_for_function_params-clause-stops
 returns-in_err-append_block_params_for_function_params-clause-stops c = λ full.

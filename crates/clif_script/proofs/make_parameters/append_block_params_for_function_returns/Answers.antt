@@ -81,7 +81,7 @@ returns-clause-one_call c =
     let returns = old.func.now.signature.returns in
     let many = length-map returns (λ (p : AbiParam). p.value_type) in
     let enough = le-max_right 1 (2 * length returns) in
-    one-params _ old c.append_block_params_for_function_returns.new.self c.in-Some.block (types_of returns) (le-max_left 1 (2 * length returns)) (omega (arith, many, enough))
+    one-params c.requires.ready.2.laws.tables _ old c.append_block_params_for_function_returns.new.self c.in-Some.block (types_of returns) (le-max_left 1 (2 * length returns)) (omega (arith, many, enough))
     c.in_ok-append_block_params_for_function_returns.ensures.function c.append_block_params_for_function_returns.ensures.context
 
 pub returns-in_err-append_block_params_for_function_returns-clause-full : goal.returns-in_err-append_block_params_for_function_returns-clause-full
@@ -91,7 +91,7 @@ returns-in_err-append_block_params_for_function_returns-clause-full c = λ full.
     let told = full-told-by c.append_block_params_for_function_returns.result c.from_residual.result p.0 c.in_err-append_block_params_for_function_returns.field-0.0 c.in_err-append_block_params_for_function_returns.was p.1 p.2 full in
     let room = c.append_block_params_for_function_returns.ensures.room told.0 in
     let enough = le-max_right 1 (2 * length old.func.now.signature.returns) in
-    nearly-full-of-values _ old (omega (arith, room, enough))
+    nearly-full-of-values c.requires.ready.2.laws.tables _ old (omega (arith, room, enough))
 
 pub returns-in_err-append_block_params_for_function_returns-clause-stops : goal.returns-in_err-append_block_params_for_function_returns-clause-stops
 returns-in_err-append_block_params_for_function_returns-clause-stops c = λ full.

@@ -1,0 +1,36 @@
+-- What a ledger says by names, where it agrees with a builder, as this crate's law functions state it. Own.
+use Rattle.std.specs.Prelude.{◌≡◌, ℕ, ◌<◌, ◌==◌, List, length, slice_get, Option, Some, true}
+use Rattle.clif_types.specs.declared.types.«Type».{«Type»}
+use Rattle.clif_ir.specs.Body.{Body}
+use Rattle.clif_ir.specs.Reading.{stands_in}
+use Rattle.clif_meaning.specs.Name.{Name, same_name}
+use Rattle.clif_meaning.specs.Request.{AnsweredCall}
+use Rattle.clif_meaning.specs.Ledger.{BlockState, block_state, has_block, is_inserted, type_of, variable_type}
+use Rattle.cranelift_frontend.specs.Context.{ContextState}
+use Rattle.cranelift_frontend.specs.Ledger.{BlockAgrees, LedgerAgrees, NamesBlock, NamesValue, block_name, ledger_of, value_type}
+
+-- the state that the ledger finds by a block's name is that of the block with this number
+pub record IsStateOf (calls : List AnsweredCall) (c : ContextState) (block : ℕ) (name : Name) : Type 0 where
+  pub state : BlockState
+  pub found : block_state (ledger_of calls) name ≡ Some state
+  pub agrees : BlockAgrees calls c block state
+
+-- What the ledger of the calls says of a name, this function and this context say of the name's number.
+pub record IsReadByNumber (calls : List AnsweredCall) (f : Body) (c : ContextState) : Type 0 where
+  -- a block exists, has one name, and is in the layout where its name is
+  pub exists : (block : ℕ) (name : Name) → block_name (ledger_of calls) block ≡ Some name → block < length f.blocks
+  pub state : (block : ℕ) (name : Name) → block_name (ledger_of calls) block ≡ Some name → IsStateOf calls c block name
+  pub same : (j k : ℕ) (a b : Name) → block_name (ledger_of calls) j ≡ Some a → block_name (ledger_of calls) k ≡ Some b → same_name a b ≡ (j == k)
+  pub inserted : (block : ℕ) (name : Name) → block_name (ledger_of calls) block ≡ Some name → is_inserted (ledger_of calls) name ≡ stands_in block f.layout
+  -- a name of a block is that of a block of the ledger, and it is the one with the name's number
+  pub numbered : (name : Name) → has_block (ledger_of calls) name ≡ true → (block : ℕ) × (block_name (ledger_of calls) block ≡ Some name)
+  pub named : (name : Name) (block : ℕ) → NamesBlock calls name block → block_name (ledger_of calls) block ≡ Some name
+  -- a value has one type, by its name and by its number, and so has a variable
+  pub value : (name : Name) (value : ℕ) → NamesValue calls name value → (ty : «Type») × (type_of (ledger_of calls) name ≡ Some ty) × (value_type f value ≡ Some ty)
+  pub variable : (variable : ℕ) → variable_type (ledger_of calls) variable ≡ slice_get c.variables variable
+  pub variable_count : length (ledger_of calls).variables ≡ length c.variables
+
+-- It is so where the ledger agrees with a builder's parts.
+abbrev pub LedgerIsReadByNumber : Type 0
+LedgerIsReadByNumber =
+    (calls : List AnsweredCall) (f : Body) (c : ContextState) (position : Option ℕ) → LedgerAgrees calls (ledger_of calls) f c position → IsReadByNumber calls f c
