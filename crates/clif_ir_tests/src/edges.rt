@@ -107,15 +107,18 @@ fn suffixes_and_comments(rt: HostRuntime) -> Result<(), Fail> {
 }
 
 #[test]
-fn arguments(rt: HostRuntime) -> Result<(), Fail> {
-    let alloc = rt.alloc();
+fn argument_texts(rt: HostRuntime) -> Result<(), Fail> {
     let three = BlockArg::Value(Value::from_u32(3));
     let result = BlockArg::TryCallRet(0);
     let payload = BlockArg::TryCallExn(1);
-    assert_eq!(rt;
-        format!(in alloc; "{three} {result} {payload}")?.as_str(),
-        "v3 ret0 exn1"
-    );
+    let text = format!(in rt.alloc(); "{three} {result} {payload}")?;
+    assert_eq!(rt; text.as_str(), "v3 ret0 exn1");
+    Ok(())
+}
+
+#[test]
+fn arguments(rt: HostRuntime) -> Result<(), Fail> {
+    let alloc = rt.alloc();
     let mut args = BlockArgs::new(alloc);
     assert!(rt; args.as_slice().is_empty());
     args.push(BlockArg::TryCallRet(2))?;

@@ -69,18 +69,28 @@ fn conditions(rt: HostRuntime) -> Result<(), Fail> {
 }
 
 #[test]
-fn names(rt: HostRuntime) -> Result<(), Fail> {
+fn testcase_names(rt: HostRuntime) -> Result<(), Fail> {
     let alloc = rt.alloc();
-    prints(&rt, alloc, &UserExternalName::new(0, 0), "u0:0")?;
     let name = TestcaseName::new(String::from_str(alloc, "sample")?);
     assert_eq!(rt; name.as_str(), "sample");
     let copy = name.clone()?;
     assert!(rt; copy == name);
     assert!(rt; copy != TestcaseName::new(String::from_str(alloc, "simple")?));
-    prints(&rt, alloc, &copy, "%sample")?;
+    prints(&rt, alloc, &copy, "%sample")
+}
+
+#[test]
+fn names_of_functions(rt: HostRuntime) -> Result<(), Fail> {
+    let alloc = rt.alloc();
     prints(&rt, alloc, &UserFuncName::user(1, 2).clone()?, "u1:2")?;
     let sample = UserFuncName::testcase(String::from_str(alloc, "sample")?);
-    prints(&rt, alloc, &sample.clone()?, "%sample")?;
+    prints(&rt, alloc, &sample.clone()?, "%sample")
+}
+
+#[test]
+fn external_names(rt: HostRuntime) -> Result<(), Fail> {
+    let alloc = rt.alloc();
+    prints(&rt, alloc, &UserExternalName::new(0, 0), "u0:0")?;
     prints(&rt, alloc, &ExternalName::user(3, 4).clone()?, "u3:4")?;
     let callee = ExternalName::testcase(String::from_str(alloc, "g")?);
     prints(&rt, alloc, &callee.clone()?, "%g")?;
