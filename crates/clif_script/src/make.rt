@@ -14,7 +14,6 @@ ghost use Rattle.clif_script.specs.Limits.{HasFullTable, HasRecordsBelow, IsOneC
 ghost use Rattle.clif_script.specs.Requests.{edge_of, name_of, request_of};
 ghost use Rattle.clif_script.specs.Ready.{IsReady, IsReadyNow, IsReadyWith, IsReadyAfter, IsFound, IsJudged, AnswerExists, may_lead, block_of, value_in, value_of, all_values, instruction_answer, is_open, can_define, can_use, can_make_constant, types_after};
 
-use clif_calls::{Call, Edge, Name};
 use crate::laws::table_laws;
 use crate::make_blocks::{
     create_block, ensure_inserted_block, insert_block_after, may_seal, seal_all_blocks, seal_block,
@@ -25,6 +24,7 @@ use crate::make_parameters::{
     append_block_params_for_function_returns,
 };
 use crate::script::{Answer, CallError};
+use clif_calls::{Call, Edge, Name};
 use clif_ir::{BinaryOpcode, BlockArg, Function, InstructionData, ValueDef};
 use clif_ssa::Variable;
 use clif_types::{Block, BuildError, EntityRef, Inst, LaneType, Type, Value};

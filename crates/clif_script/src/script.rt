@@ -14,9 +14,9 @@ ghost use Rattle.cranelift_frontend.specs.Builder.{SameLoans};
 ghost use Rattle.cranelift_frontend.specs.Context.{empty_context};
 ghost use Rattle.clif_script.specs.Errors.{call_error_of, replay_error_at, call_memory, replay_memory, replay_error_text};
 
-use clif_calls::Call;
 use crate::laws::builder_laws;
 use crate::make::make_call;
+use clif_calls::Call;
 use clif_ir::Function;
 use clif_ssa::Variable;
 use clif_types::{
