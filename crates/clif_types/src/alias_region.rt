@@ -5,8 +5,8 @@ ghost use Rattle.std.specs.Prelude.{◌≡◌, ◌<◌, ◌++◌, Some, IfSome, 
 ghost use Rattle.std.specs.Fmt.{decimal};
 ghost use Rattle.clif_types.specs.AliasRegions.{place_of};
 
-use crate::entities::tables::AliasRegion;
 use crate::error::BuildError;
+use clif_entities::tables::AliasRegion;
 use std::alloc::Global;
 use std::fmt;
 use std::marker::Model;

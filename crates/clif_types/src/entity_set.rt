@@ -6,8 +6,8 @@ ghost use Rattle.std.specs.Iterator.{YieldsFirstBy, item_count};
 ghost use Rattle.std.specs.List.Sorted.{IsStrictlyIncreasing};
 ghost use Rattle.clif_types.specs.EntitySet.{has, with_member, marked_from};
 
-use crate::entity::EntityRef;
 use crate::error::BuildError;
+use clif_entities::entity::EntityRef;
 use std::alloc::Global;
 use std::marker::{Model, PhantomData};
 

@@ -6,9 +6,9 @@ ghost use Rattle.std.specs.Fmt.{WritesOnOk};
 ghost use Rattle.clif_types.specs.Texts.{abi_param_text, types_text, returns_text, signature_text, ext_func_text};
 
 use crate::call_conv::CallConv;
-use crate::entities::tables::SigRef;
 use crate::extname::ExternalName;
 use crate::types::Type;
+use clif_entities::tables::SigRef;
 use std::alloc::{AllocError, Global};
 use std::fmt;
 use std::marker::Model;

@@ -4,8 +4,6 @@
 pub mod alias_region;
 pub mod call_conv;
 pub mod condcodes;
-pub mod entities;
-pub mod entity;
 pub mod entity_set;
 pub mod error;
 pub mod extfunc;
@@ -23,12 +21,11 @@ pub mod types;
 
 pub use alias_region::{AliasRegionData, AliasRegionSet};
 pub use call_conv::CallConv;
-pub use condcodes::IntCC;
-pub use entities::code::{Block, ExceptionTable, Inst, JumpTable, Value};
-pub use entities::tables::{
-    AliasRegion, Constant, DynamicStackSlot, FuncRef, GlobalValue, SigRef, StackSlot, ValueLabel,
+pub use clif_entities::{
+    AliasRegion, Block, Constant, DynamicStackSlot, EntityRef, ExceptionTable, FuncRef,
+    GlobalValue, Inst, JumpTable, SigRef, StackSlot, Value, ValueLabel,
 };
-pub use entity::EntityRef;
+pub use condcodes::IntCC;
 pub use entity_set::EntitySet;
 pub use error::BuildError;
 pub use extfunc::{AbiParam, ExtFuncData, Signature};

@@ -4,7 +4,7 @@
 ghost use Rattle.std.specs.Prelude.{◌≡◌, Some, None, true, false};
 ghost use Rattle.clif_types.specs.Texts.{mem_flags_text};
 
-use crate::entities::tables::AliasRegion;
+use clif_entities::tables::AliasRegion;
 use std::fmt;
 use std::marker::Model;
 

@@ -4,8 +4,8 @@
 ghost use Rattle.std.specs.Prelude.{Some};
 ghost use Rattle.clif_types.specs.Texts.{stack_map_entry_text};
 
-use crate::entities::tables::StackSlot;
 use crate::types::Type;
+use clif_entities::tables::StackSlot;
 use std::fmt;
 
 /// A value that a collector finds, and may move, while a call runs. It prints as `i32 @ ss0+0`.

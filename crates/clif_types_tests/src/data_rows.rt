@@ -4,7 +4,6 @@
 use clif_types::alias_region::{AliasRegionData, AliasRegionSet};
 use clif_types::call_conv::CallConv;
 use clif_types::condcodes::IntCC;
-use clif_types::entities::tables::{AliasRegion, SigRef, StackSlot};
 use clif_types::error::BuildError;
 use clif_types::extfunc::{AbiParam, ExtFuncData, Signature};
 use clif_types::extname::{ExternalName, TestcaseName, UserExternalName, UserFuncName};
@@ -16,7 +15,7 @@ use clif_types::stackmap::UserStackMapEntry;
 use clif_types::stackslot::{DynamicStackSlotData, StackSlotData};
 use clif_types::target::{PointerWidth, TargetFrontendConfig};
 use clif_types::trapcode::TrapCode;
-use clif_types::types;
+use clif_types::{AliasRegion, SigRef, StackSlot, types};
 use std::alloc::{AllocError, Global};
 use std::fmt;
 use std::fmt::{Display, Write};

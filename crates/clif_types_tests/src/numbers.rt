@@ -1,12 +1,11 @@
 //! Numbers and sets of them.
 #![tactic(auto)]
 
-use clif_types::entities::code::{Block, ExceptionTable, Inst, JumpTable, Value};
-use clif_types::entities::tables::{
-    AliasRegion, Constant, DynamicStackSlot, FuncRef, GlobalValue, SigRef, StackSlot, ValueLabel,
-};
-use clif_types::entity::EntityRef;
 use clif_types::entity_set::EntitySet;
+use clif_types::{
+    AliasRegion, Block, Constant, DynamicStackSlot, EntityRef, ExceptionTable, FuncRef,
+    GlobalValue, Inst, JumpTable, SigRef, StackSlot, Value, ValueLabel,
+};
 use std::alloc::Global;
 use std::fmt::{Debug, Display};
 use std::process::Abort;
