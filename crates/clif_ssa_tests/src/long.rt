@@ -1,78 +1,101 @@
 //! Look-ups over many blocks: each block is asked a bounded number of times.
 #![tactic(auto)]
 
-use super::support::{Fixture, var};
-use clif_types::Block;
+use super::facts::Fact::{Lookups, ParamAt, Params, Resolves};
+use super::steps::Step::{Brif, Create, Define, Goes, Iconst, Is, Leads, Seal, SealAll, Use};
+use super::steps::make_all;
+use super::support::Fixture;
+use std::alloc::Global;
 use std::process::Abort;
 use std::test::Fail;
 
 // A chain of blocks, each sealed with the one before it as its only predecessor: the variable is assigned
 // in the first and used in the last. No look-up in predecessors begins, since the walk goes along the
 // chain, and all blocks know the value then.
-fn uses_along(rt: &impl Abort, made: &mut Fixture, count: usize) -> Result<(), Fail> {
-    let x = var(0);
-    let first = made.block(rt)?;
-    let _told = made.seal(first)?;
-    let value = made.iconst(rt, first, 5)?;
-    made.define(rt, first, x, value)?;
-    let mut last = first;
-    for _ in 0..count {
-        let next = made.block(rt)?;
-        let _jump = made.goes(rt, last, next)?;
-        let _told = made.seal(next)?;
-        last = next;
+fn uses_along(rt: &impl Abort, alloc: Global, count: u32) -> Result<(), Fail> {
+    let mut made = Fixture::new(alloc);
+    make_all(
+        rt,
+        &mut made,
+        &[Create, Seal(0, 0), Iconst(0, 5), Define(0, 0, 0)],
+    )?;
+    for last in 0..count {
+        let next = last + 1;
+        make_all(rt, &mut made, &[Create, Goes(last, next), Seal(next, 0)])?;
     }
-    assert_eq!(rt; made.uses(rt, last, x)?, value);
-    assert_eq!(rt; made.lookups(x, last), 0);
-    Ok(())
+    make_all(rt, &mut made, &[Use(count, 0, 0), Is(Lookups(count, 0, 0))])
 }
 
 /// A use at the end of a long chain, and one at the end of a chain twice as long.
 #[test]
 fn chains(rt: HostRuntime) -> Result<(), Fail> {
     for count in [50_000, 100_000] {
-        let mut made = Fixture::new(rt.alloc());
-        uses_along(&rt, &mut made, count)?;
+        uses_along(&rt, rt.alloc(), count)?;
     }
     Ok(())
 }
 
-// Puts a diamond below a block, and answers the block in which its arms meet.
-fn diamond(rt: &impl Abort, made: &mut Fixture, top: Block) -> Result<Block, Fail> {
-    let left = made.block(rt)?;
-    let right = made.block(rt)?;
-    let bottom = made.block(rt)?;
-    let condition = made.iconst(rt, top, 1)?;
-    let branch = made.brif(rt, top, condition, [left, right])?;
-    made.leads(rt, left, branch)?;
-    made.leads(rt, right, branch)?;
-    let _jump = made.goes(rt, left, bottom)?;
-    let _jump = made.goes(rt, right, bottom)?;
-    Ok(bottom)
+// Puts one more diamond below so many: in the block above it a constant and a branch by that, and in each
+// arm a jump to the block in which the arms meet.
+fn diamond(rt: &impl Abort, made: &mut Fixture, number: u32) -> Result<(), Fail> {
+    assert!(rt; number < 100_000);
+    let top = 3 * number;
+    let [left, right, bottom] = [top + 1, top + 2, top + 3];
+    // The first instruction is the one above all diamonds, and each diamond has four.
+    let branch = 4 * number + 2;
+    let steps = [
+        Create,
+        Create,
+        Create,
+        Iconst(top, 1),
+        Brif(top, number + 1, left, right),
+        Leads(left, branch),
+        Leads(right, branch),
+        Goes(left, bottom),
+        Goes(right, bottom),
+    ];
+    make_all(rt, made, &steps)
+}
+
+// Uses the variable below all diamonds, and seals all blocks then: the parameter that the use made stands
+// for the value above them.
+fn uses_last(rt: &impl Abort, made: &mut Fixture, count: u32) -> Result<(), Fail> {
+    assert!(rt; count < 100_000);
+    let last = 3 * count;
+    // Behind the value above all diamonds, and the one of each diamond.
+    let used = count + 1;
+    let steps = [
+        Use(last, 0, used),
+        Is(Params(last, 1)),
+        Is(ParamAt(last, 0, used)),
+        SealAll(0),
+        Is(Resolves(used, 0)),
+    ];
+    make_all(rt, made, &steps)
+}
+
+// In the block below a diamond one look-up began, and it has no parameter.
+fn looked_once(rt: &impl Abort, made: &mut Fixture, number: u32) -> Result<(), Fail> {
+    assert!(rt; number < 100_000);
+    let bottom = 3 * number + 3;
+    make_all(
+        rt,
+        made,
+        &[Is(Lookups(bottom, 0, 1)), Is(Params(bottom, 0))],
+    )
 }
 
 // Diamonds below each other, which are sealed when all are made: the variable is assigned above them and
-// used below. In each block where arms meet one look-up began, and in the arms none.
-fn uses_below(rt: &impl Abort, made: &mut Fixture, count: usize) -> Result<(), Fail> {
-    let x = var(0);
-    let top = made.block(rt)?;
-    let value = made.iconst(rt, top, 5)?;
-    made.define(rt, top, x, value)?;
-    let mut bottoms = Vec::new(made.allocator());
-    let mut last = top;
-    for _ in 0..count {
-        last = diamond(rt, made, last)?;
-        bottoms.push(last)?;
+// used below. In each block where arms meet one look-up began.
+fn uses_below(rt: &impl Abort, alloc: Global, count: u32) -> Result<(), Fail> {
+    let mut made = Fixture::new(alloc);
+    make_all(rt, &mut made, &[Create, Iconst(0, 5), Define(0, 0, 0)])?;
+    for number in 0..count {
+        diamond(rt, &mut made, number)?;
     }
-    let used = made.uses(rt, last, x)?;
-    assert_eq!(rt; made.params(rt, last), [used].as_slice());
-    let told = made.seal_all()?;
-    assert!(rt; told.instructions_added_to_blocks.is_empty());
-    assert_eq!(rt; made.resolved(rt, used), value);
-    assert_eq!(rt; bottoms.len(), count);
-    for bottom in bottoms.iter() {
-        assert_eq!(rt; made.lookups(x, *bottom), 1);
-        assert!(rt; made.params(rt, *bottom).is_empty());
+    uses_last(rt, &mut made, count)?;
+    for number in 0..count {
+        looked_once(rt, &mut made, number)?;
     }
     Ok(())
 }
@@ -81,8 +104,7 @@ fn uses_below(rt: &impl Abort, made: &mut Fixture, count: usize) -> Result<(), F
 #[test]
 fn diamonds(rt: HostRuntime) -> Result<(), Fail> {
     for count in [5_000, 10_000] {
-        let mut made = Fixture::new(rt.alloc());
-        uses_below(&rt, &mut made, count)?;
+        uses_below(&rt, rt.alloc(), count)?;
     }
     Ok(())
 }

@@ -1,11 +1,12 @@
 //! The branches that lead to a block, and sealing.
 #![tactic(auto)]
 
+use super::facts::Fact::{HasAny, IsLast, IsSealed, Params, ToldAt};
 use super::steps::Step::{
-    Create, Define, Goes, Iconst, Jump, Leads, LeadsInPlace, Params, ReturnOne, Seal, SealAll, Use,
+    Ask, Create, Define, Goes, Iconst, Is, Jump, Leads, LeadsInPlace, ReturnOne, Seal, SealAll, Use,
 };
-use super::steps::makes;
-use super::support::{Fixture, var};
+use super::steps::{makes, runs};
+use clif_types::types::I32;
 use std::test::Fail;
 
 /// A branch that doesn't lead to a block any more: the look-up goes to the others, in the order in which
@@ -58,65 +59,67 @@ fn removed_once(rt: HostRuntime) -> Result<(), Fail> {
 /// known has none.
 #[test]
 fn has_any(rt: HostRuntime) -> Result<(), Fail> {
-    let mut made = Fixture::new(rt.alloc());
-    let block0 = made.block(&rt)?;
-    let block1 = made.block(&rt)?;
-    let jump = made.jump(&rt, block0, block1)?;
-    assert!(rt; !made.has_any_predecessors(block0) && !made.has_any_predecessors(block1));
-    made.leads(&rt, block1, jump)?;
-    assert!(rt; !made.has_any_predecessors(block0) && made.has_any_predecessors(block1));
-    Ok(())
+    let steps = [
+        Create,
+        Create,
+        Jump(0, 1),
+        Is(HasAny(0, false)),
+        Is(HasAny(1, false)),
+        Leads(1, 0),
+        Is(HasAny(0, false)),
+        Is(HasAny(1, true)),
+    ];
+    runs(&rt, rt.alloc(), &steps)
 }
 
 /// The branch that was declared last at a block is known, as long as no other was declared there.
 #[test]
 fn last(rt: HostRuntime) -> Result<(), Fail> {
-    let mut made = Fixture::new(rt.alloc());
-    let block0 = made.block(&rt)?;
-    let block1 = made.block(&rt)?;
-    let block2 = made.block(&rt)?;
-    let first = made.jump(&rt, block0, block2)?;
-    let second = made.jump(&rt, block1, block2)?;
-    assert!(rt; !made.is_last_predecessor(block2, first));
-    made.leads(&rt, block2, first)?;
-    assert!(rt;
-        made.is_last_predecessor(block2, first) && !made.is_last_predecessor(block2, second)
-    );
-    made.leads(&rt, block2, second)?;
-    assert!(rt;
-        !made.is_last_predecessor(block2, first) && made.is_last_predecessor(block2, second)
-    );
-    assert!(rt; !made.is_last_predecessor(block1, second));
-    Ok(())
+    let steps = [
+        Create,
+        Create,
+        Create,
+        Jump(0, 2),
+        Jump(1, 2),
+        Is(IsLast(2, 0, false)),
+        Leads(2, 0),
+        Is(IsLast(2, 0, true)),
+        Is(IsLast(2, 1, false)),
+        Leads(2, 1),
+        Is(IsLast(2, 0, false)),
+        Is(IsLast(2, 1, true)),
+        Is(IsLast(1, 1, false)),
+    ];
+    runs(&rt, rt.alloc(), &steps)
 }
 
 /// All blocks are sealed by rising number, but for those that are sealed; the zeros are told in that
 /// order.
 #[test]
 fn seals_all(rt: HostRuntime) -> Result<(), Fail> {
-    let mut made = Fixture::new(rt.alloc());
-    let block0 = made.block(&rt)?;
-    let block1 = made.block(&rt)?;
-    let block2 = made.block(&rt)?;
-    let block3 = made.block(&rt)?;
-    for block in [block3, block1, block0, block2] {
-        let _value = made.uses(&rt, block, var(0))?;
-    }
-    let _value = made.uses(&rt, block0, var(1))?;
-    let told = made.seal(block1)?;
-    assert_eq!(rt;
-        told.instructions_added_to_blocks.as_slice(),
-        [block1].as_slice()
-    );
-    let told = made.seal_all()?;
-    assert_eq!(rt;
-        told.instructions_added_to_blocks.as_slice(),
-        [block0, block0, block2, block3].as_slice()
-    );
-    for block in [block0, block1, block2, block3] {
-        assert!(rt; made.is_sealed(block));
-    }
-    Ok(())
+    let steps = [
+        Create,
+        Create,
+        Create,
+        Create,
+        Ask(3, 0, I32),
+        Ask(1, 0, I32),
+        Ask(0, 0, I32),
+        Ask(2, 0, I32),
+        Ask(0, 1, I32),
+        Seal(1, 1),
+        Is(ToldAt(0, 1)),
+        SealAll(4),
+        Is(ToldAt(0, 0)),
+        Is(ToldAt(1, 0)),
+        Is(ToldAt(2, 2)),
+        Is(ToldAt(3, 3)),
+        Is(IsSealed(0, true)),
+        Is(IsSealed(1, true)),
+        Is(IsSealed(2, true)),
+        Is(IsSealed(3, true)),
+    ];
+    runs(&rt, rt.alloc(), &steps)
 }
 
 /// Two values come to a block, one from each arm: the parameter stays, and each arm passes its value, the
@@ -135,7 +138,7 @@ fn two_values(rt: HostRuntime) -> Result<(), Fail> {
         Goes(0, 2),
         SealAll(0),
         Use(2, 0, 2),
-        Params(2, 1),
+        Is(Params(2, 1)),
         ReturnOne(2, 2),
     ];
     let text =

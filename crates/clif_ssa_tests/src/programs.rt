@@ -1,9 +1,9 @@
 //! Programs whose variables are assigned before they are used.
 #![tactic(auto)]
 
+use super::facts::Fact::{Lookups, Params, Resolves};
 use super::steps::Step::{
-    Brif, Create, Define, Iadd, Iconst, Isub, Jump, Leads, Lookups, Params, Resolves, ReturnOne,
-    Seal, Use,
+    Brif, Create, Define, Iadd, Iconst, Is, Isub, Jump, Leads, ReturnOne, Seal, Use,
 };
 use super::steps::makes;
 use std::test::Fail;
@@ -66,7 +66,7 @@ fn sequence_of_blocks(rt: HostRuntime) -> Result<(), Fail> {
         Use(2, 1, 1),
         Iadd(2, 0, 1),
         Define(2, 1, 6),
-        Params(2, 0),
+        Is(Params(2, 0)),
     ];
     let text =
         "function u0:0() fast {\nblock0:\n    v0 = iconst.i32 1\n    v4 -> v0\n    v1 = iconst.i32 2\n    v5 -> v1\n    v2 = iadd v0, v1  ; v0 = 1, v1 = 2\n    brif v1, block2, block1  ; v1 = 2\n\nblock1:\n    v3 = iadd.i32 v0, v2  ; v0 = 1\n    jump block2\n\nblock2:\n    v6 = iadd.i32 v0, v1  ; v0 = 1, v1 = 2\n}\n";
@@ -116,8 +116,8 @@ fn program_with_loop(rt: HostRuntime) -> Result<(), Fail> {
         Jump(3, 1),
         Leads(1, 9),
         Seal(1, 0),
-        Params(1, 2),
-        Resolves(6, 0),
+        Is(Params(1, 2)),
+        Is(Resolves(6, 0)),
     ];
     let text =
         "function u0:0() fast {\nblock0:\n    v0 = iconst.i32 1\n    v6 -> v0\n    v1 = iconst.i32 2\n    v2 = iadd v0, v1  ; v0 = 1, v1 = 2\n    jump block1(v2, v1)  ; v1 = 2\n\nblock1(v3: i32, v4: i32):\n    v5 = iadd v3, v4\n    brif v4, block3, block2\n\nblock2:\n    v7 = isub.i32 v5, v6  ; v6 = 1\n    return v4\n\nblock3:\n    v8 = isub.i32 v4, v6  ; v6 = 1\n    jump block1(v5, v8)\n}\n";
@@ -142,27 +142,27 @@ fn reordering(rt: HostRuntime) -> Result<(), Fail> {
         Leads(1, 3),
         Use(1, 2, 3),
         Use(1, 0, 4),
-        Params(1, 2),
+        Is(Params(1, 2)),
         Iadd(1, 4, 3),
         Define(1, 0, 5),
         Use(1, 0, 5),
         Use(1, 1, 6),
-        Params(1, 3),
+        Is(Params(1, 3)),
         Isub(1, 6, 5),
         Define(1, 1, 7),
         Jump(1, 1),
         Leads(1, 6),
-        Lookups(1, 1, 0),
+        Is(Lookups(1, 1, 0)),
         Seal(1, 0),
-        Params(1, 2),
-        Resolves(3, 2),
-        Lookups(1, 0, 1),
-        Lookups(1, 1, 1),
-        Lookups(1, 2, 1),
-        Lookups(0, 0, 0),
-        Lookups(0, 1, 0),
-        Lookups(0, 2, 0),
-        Lookups(1, 3, 0),
+        Is(Params(1, 2)),
+        Is(Resolves(3, 2)),
+        Is(Lookups(1, 0, 1)),
+        Is(Lookups(1, 1, 1)),
+        Is(Lookups(1, 2, 1)),
+        Is(Lookups(0, 0, 0)),
+        Is(Lookups(0, 1, 0)),
+        Is(Lookups(0, 2, 0)),
+        Is(Lookups(1, 3, 0)),
     ];
     let text =
         "function u0:0() fast {\nblock0:\n    v0 = iconst.i32 0\n    v1 = iconst.i32 1\n    v2 = iconst.i32 2\n    v3 -> v2\n    jump block1(v0, v1)  ; v0 = 0, v1 = 1\n\nblock1(v4: i32, v6: i32):\n    v5 = iadd v4, v3  ; v3 = 2\n    v7 = isub v6, v5\n    jump block1(v5, v7)\n}\n";

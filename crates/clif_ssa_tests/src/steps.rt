@@ -1,16 +1,19 @@
 //! Functions and builders that are made by tables of steps.
 #![tactic(auto)]
 
-use super::support::{Fixture, var};
-use clif_ir::BinaryOpcode;
-use clif_types::{Block, Inst, Value, types};
+use super::facts::{Fact, holds};
+use super::support::{Fixture, b, i, v};
+use clif_ir::{BinaryOpcode, BlockCall, InstructionData, ValueList};
+use clif_types::{Type, Value, types};
 use std::alloc::Global;
 use std::process::Abort;
 use std::test::Fail;
 
 /// A step, where blocks, values, instructions and variables are told by their numbers.
-#[derive(Clone, Copy, Debug)]
+#[derive(Clone, Copy)]
 pub enum Step {
+    /// Makes a block known, which isn't in the layout yet.
+    Declare,
     /// Makes a block known, and puts it at the end of the layout.
     Create,
     /// Puts a constant at the end of a block.
@@ -33,35 +36,34 @@ pub enum Step {
     Leads(u32, u32),
     /// Declares that two instructions lead to a block, and takes the first entry of the first of them back.
     LeadsInPlace(u32, u32, u32),
-    /// Assigns, in a block, to a variable a value.
+    /// Assigns a value to a variable in a block.
     Define(u32, u8, u32),
-    /// Uses, in a block, a variable, which has this value.
+    /// Uses a variable of type I32 in a block, and finds a value.
     Use(u32, u8, u32),
+    /// Uses a variable of a type in a block, whatever value it finds.
+    Ask(u32, u8, Type),
     /// Seals a block, and puts so many zeros.
     Seal(u32, usize),
     /// Seals all blocks, and puts so many zeros.
     SealAll(usize),
-    /// So many look-ups of a variable in the predecessors of a block began.
-    Lookups(u32, u8, u32),
-    /// A block has so many parameters.
-    Params(u32, usize),
-    /// A value stands for a value.
-    Resolves(u32, u32),
+    /// Finds that a fact holds.
+    Is(Fact),
 }
 
-fn b(rt: &impl Abort, number: u32) -> Block {
-    assert!(rt; number < 1000);
-    Block::from_u32(number)
+fn declare(made: &mut Fixture) -> Result<(), Fail> {
+    made.declare()?;
+    Ok(())
 }
 
-fn v(rt: &impl Abort, number: u32) -> Value {
-    assert!(rt; number < 1000);
-    Value::from_u32(number)
+fn create(rt: &impl Abort, made: &mut Fixture) -> Result<(), Fail> {
+    let block = made.declare()?;
+    made.lay_out(rt, block)
 }
 
-fn i(rt: &impl Abort, number: u32) -> Inst {
-    assert!(rt; number < 1000);
-    Inst::from_u32(number)
+fn iconst(rt: &impl Abort, made: &mut Fixture, block: u32, imm: i64) -> Result<(), Fail> {
+    let shape = InstructionData::UnaryImm { imm };
+    made.insert(rt, block, shape, types::I32)?;
+    Ok(())
 }
 
 fn binary(
@@ -69,10 +71,22 @@ fn binary(
     made: &mut Fixture,
     block: u32,
     opcode: BinaryOpcode,
-    args: [u32; 2],
+    args: [Value; 2],
 ) -> Result<(), Fail> {
-    let _value = made.binary(rt, b(rt, block), opcode, [v(rt, args[0]), v(rt, args[1])])?;
+    let shape = InstructionData::Binary { opcode, args };
+    made.insert(rt, block, shape, types::I32)?;
     Ok(())
+}
+
+fn jump(rt: &impl Abort, made: &mut Fixture, block: u32, target: u32) -> Result<u32, Fail> {
+    let destination = BlockCall::new(made.allocator(), b(rt, target), &[])?;
+    let shape = InstructionData::Jump { destination };
+    made.insert(rt, block, shape, Type::Invalid)
+}
+
+fn goes(rt: &impl Abort, made: &mut Fixture, block: u32, target: u32) -> Result<(), Fail> {
+    let inst = jump(rt, made, block, target)?;
+    made.leads(rt, b(rt, target), i(rt, inst))
 }
 
 fn brif(
@@ -82,98 +96,103 @@ fn brif(
     arg: u32,
     targets: [u32; 2],
 ) -> Result<(), Fail> {
-    let _inst = made.brif(
-        rt,
-        b(rt, block),
-        v(rt, arg),
-        [b(rt, targets[0]), b(rt, targets[1])],
-    )?;
+    let taken = BlockCall::new(made.allocator(), b(rt, targets[0]), &[])?;
+    let other = BlockCall::new(made.allocator(), b(rt, targets[1]), &[])?;
+    let shape = InstructionData::Brif {
+        arg: v(rt, arg),
+        blocks: [taken, other],
+    };
+    made.insert(rt, block, shape, Type::Invalid)?;
     Ok(())
 }
 
-fn has(
+fn ret(rt: &impl Abort, made: &mut Fixture, block: u32, values: &[Value]) -> Result<(), Fail> {
+    let args = ValueList::from_slice(made.allocator(), values)?;
+    let shape = InstructionData::MultiAry { args };
+    made.insert(rt, block, shape, Type::Invalid)?;
+    Ok(())
+}
+
+fn finds(
     rt: &impl Abort,
     made: &mut Fixture,
     block: u32,
     variable: u8,
     value: u32,
 ) -> Result<(), Fail> {
-    let (found, _told) = made.uses_type(rt, b(rt, block), var(variable), types::I32)?;
-    assert_eq!(rt; found.as_u32(), value);
+    let found = made.uses(rt, block, variable, types::I32)?;
+    assert!(rt; found == value);
     Ok(())
 }
 
 fn seal(rt: &impl Abort, made: &mut Fixture, block: u32, zeros: usize) -> Result<(), Fail> {
-    let told = made.seal(b(rt, block))?;
-    assert_eq!(rt; told.instructions_added_to_blocks.len(), zeros);
+    made.seal(b(rt, block))?;
+    assert!(rt; made.told_count() == zeros);
     Ok(())
 }
 
 fn seal_all(rt: &impl Abort, made: &mut Fixture, zeros: usize) -> Result<(), Fail> {
-    let told = made.seal_all()?;
-    assert_eq!(rt; told.instructions_added_to_blocks.len(), zeros);
+    made.seal_all()?;
+    assert!(rt; made.told_count() == zeros);
     Ok(())
 }
 
 fn make(rt: &impl Abort, made: &mut Fixture, step: Step) -> Result<(), Fail> {
     match step {
-        Step::Create => {
-            let _block = made.block(rt)?;
-            Ok(())
+        Step::Declare => declare(made),
+        Step::Create => create(rt, made),
+        Step::Iconst(block, imm) => iconst(rt, made, block, imm),
+        Step::Iadd(block, x, y) => {
+            binary(rt, made, block, BinaryOpcode::Iadd, [v(rt, x), v(rt, y)])
         }
-        Step::Iconst(block, imm) => {
-            let _value = made.iconst(rt, b(rt, block), imm)?;
-            Ok(())
+        Step::Isub(block, x, y) => {
+            binary(rt, made, block, BinaryOpcode::Isub, [v(rt, x), v(rt, y)])
         }
-        Step::Iadd(block, x, y) => binary(rt, made, block, BinaryOpcode::Iadd, [x, y]),
-        Step::Isub(block, x, y) => binary(rt, made, block, BinaryOpcode::Isub, [x, y]),
         Step::Jump(block, target) => {
-            let _inst = made.jump(rt, b(rt, block), b(rt, target))?;
+            jump(rt, made, block, target)?;
             Ok(())
         }
-        Step::Goes(block, target) => {
-            let _inst = made.goes(rt, b(rt, block), b(rt, target))?;
-            Ok(())
-        }
+        Step::Goes(block, target) => goes(rt, made, block, target),
         Step::Brif(block, x, taken, other) => brif(rt, made, block, x, [taken, other]),
-        Step::Return(block) => made.ret(rt, b(rt, block), &[]),
-        Step::ReturnOne(block, x) => made.ret(rt, b(rt, block), &[v(rt, x)]),
+        Step::Return(block) => ret(rt, made, block, &[]),
+        Step::ReturnOne(block, x) => ret(rt, made, block, &[v(rt, x)]),
         Step::Leads(block, inst) => made.leads(rt, b(rt, block), i(rt, inst)),
-        Step::LeadsInPlace(block, removed, other) => made.leads_in_place(
-            rt,
-            b(rt, block),
-            i(rt, removed),
-            i(rt, other),
-        ),
-        Step::Define(block, variable, value) => made.define(
-            rt,
-            b(rt, block),
-            var(variable),
-            v(rt, value),
-        ),
-        Step::Use(block, variable, value) => has(rt, made, block, variable, value),
+        Step::LeadsInPlace(block, removed, other) => {
+            made.leads_in_place(rt, b(rt, block), i(rt, removed), i(rt, other))
+        }
+        Step::Define(block, variable, value) => made.define(rt, block, variable, value),
+        Step::Use(block, variable, value) => finds(rt, made, block, variable, value),
+        Step::Ask(block, variable, ty) => {
+            made.uses(rt, block, variable, ty)?;
+            Ok(())
+        }
         Step::Seal(block, zeros) => seal(rt, made, block, zeros),
         Step::SealAll(zeros) => seal_all(rt, made, zeros),
-        Step::Lookups(block, variable, count) => {
-            assert_eq!(rt; made.lookups(var(variable), b(rt, block)), count);
-            Ok(())
-        }
-        Step::Params(block, count) => {
-            assert_eq!(rt; made.params(rt, b(rt, block)).len(), count);
-            Ok(())
-        }
-        Step::Resolves(x, y) => {
-            assert_eq!(rt; made.resolved(rt, v(rt, x)), v(rt, y));
+        Step::Is(fact) => {
+            assert!(rt; holds(rt, made, fact));
             Ok(())
         }
     }
 }
 
-/// Makes the steps in order, and asserts the text of the function then.
+/// Makes the steps in order.
+pub fn make_all(rt: &impl Abort, made: &mut Fixture, steps: &[Step]) -> Result<(), Fail> {
+    for step in steps.iter() {
+        make(rt, made, *step)?;
+    }
+    Ok(())
+}
+
+/// Makes the steps in order, from nothing.
+pub fn runs(rt: &impl Abort, alloc: Global, steps: &[Step]) -> Result<(), Fail> {
+    let mut made = Fixture::new(alloc);
+    make_all(rt, &mut made, steps)
+}
+
+/// Makes the steps in order, from nothing, and asserts the text of the function then.
 pub fn makes(rt: &impl Abort, alloc: Global, steps: &[Step], text: &str) -> Result<(), Fail> {
     let mut made = Fixture::new(alloc);
-    for step in steps.iter() {
-        make(rt, &mut made, *step)?;
-    }
-    made.prints(rt, text)
+    make_all(rt, &mut made, steps)?;
+    assert!(rt; made.prints(text)?);
+    Ok(())
 }

@@ -1,15 +1,16 @@
-//! What several tests use: a function and a builder that are made together.
+//! What the steps are made on: a function and a builder, whose blocks, values, instructions and variables are told by
+//! their numbers.
 #![tactic(auto)]
 
-ghost use Rattle.std.specs.Prelude.{◌≤◌, ◌<◌, length, IsTrue, EachIndex, All, OnOk, slice_index};
+ghost use Rattle.std.specs.Prelude.{◌≡◌, ◌<◌, length, IsTrue, EachIndex, All, OnOk, slice_index};
 ghost use Rattle.clif_ir.specs.Consistent.{EdgeExists};
 ghost use Rattle.clif_ssa.specs.Ssa.{Declares, NamesExist};
 
 use clif_ir::inst_list::BlockEnd;
-use clif_ir::{BinaryOpcode, BlockCall, Function, InstructionData, ValueList};
+use clif_ir::{BlockCall, Function, InstructionData};
 use clif_ssa::{SSABuilder, SideEffects, Variable};
 use clif_types::{
-    Block, CallConv, EntityRef, Inst, Signature, SourceLoc, Type, UserFuncName, Value, types,
+    Block, CallConv, EntityRef, Inst, Signature, SourceLoc, Type, UserFuncName, Value,
 };
 use std::alloc::Global;
 use std::fmt::Write;
@@ -19,11 +20,34 @@ use std::test::Fail;
 /// The source place that the tests give to every instruction.
 const PLACE: u32 = 17;
 
-// Whether these values are among the first `count`, which exist.
-fn has_operands(func: &Function, count: usize, args: &[Value]) -> bool
-    requires { count ≤ length func.now.values }
+/// The block with this number, which may not exist.
+pub fn b(rt: &impl Abort, number: u32) -> Block {
+    assert!(rt; number < u32::MAX);
+    Block::from_u32(number)
+}
+
+/// The value with this number, which may not exist.
+pub fn v(rt: &impl Abort, number: u32) -> Value {
+    assert!(rt; number < u32::MAX);
+    Value::from_u32(number)
+}
+
+/// The instruction with this number, which may not exist.
+pub fn i(rt: &impl Abort, number: u32) -> Inst {
+    assert!(rt; number < u32::MAX);
+    Inst::from_u32(number)
+}
+
+// The variable with this number.
+fn var(number: u8) -> Variable {
+    Variable::from_u32(u32::from(number))
+}
+
+// Whether these values exist.
+fn has_operands(func: &Function, args: &[Value]) -> bool
     ensures { IsTrue result → EachIndex args.now (λ k. slice_index args.now k < length func.now.values) }
 {
+    let count = func.value_count();
     args.iter().all(|value| value.index() < count)
 }
 
@@ -44,15 +68,11 @@ fn has_edges(func: &Function, edges: &[BlockCall]) -> bool
 /// calls ask for.
 #[derive(Drop)]
 pub struct Fixture {
-    alloc: Global,
     func: Function,
     ssa: SSABuilder,
-    // One more than the greatest number of a value, and of an instruction, that was answered.
-    values: usize,
-    insts: usize,
+    // What the last use, or the last sealing, did beside its answer.
+    told: SideEffects,
     ghost named: { NamesExist func ssa },
-    ghost values_exist: { values ≤ length func.values },
-    ghost insts_exist: { insts ≤ length func.insts },
 }
 
 impl Fixture {
@@ -61,155 +81,71 @@ impl Fixture {
         let signature = Signature::new(alloc, CallConv::Fast);
         let func = Function::with_name_signature(alloc, UserFuncName::user(0, 0), signature);
         Fixture {
-            alloc,
             func,
             ssa: SSABuilder::new(alloc),
-            values: 0,
-            insts: 0,
+            told: SideEffects::new(alloc),
         }
     }
 
-    /// Makes a block known, which isn't in the layout yet.
-    pub fn bare_block(&mut self) -> Result<Block, Fail> {
-        let block = self.func.create_block()?;
-        self.ssa.declare_block(block)?;
-        Ok(block)
+    /// The allocator that the function grows by.
+    pub fn allocator(&self) -> Global {
+        self.func.allocator()
     }
 
-    /// Makes a block known, and puts it at the end of the layout.
-    pub fn block(&mut self, rt: &impl Abort) -> Result<Block, Fail> {
-        let block = self.bare_block()?;
-        self.asserts_block(rt, block);
-        self.func.ensure_block_inserted(block)?;
-        Ok(block)
-    }
-
-    // Asserts that a block exists.
-    fn asserts_block(&self, rt: &impl Abort, block: Block)
-        ensures { block < length self.now.func.blocks }
+    // The block with this number, which exists.
+    fn block(&self, rt: &impl Abort, number: u32) -> Block
+        ensures { result < length self.now.func.blocks }
     {
+        let block = b(rt, number);
         assert!(rt; block.index() < self.func.block_count());
+        block
     }
 
-    // Asserts that a value is among those that were answered.
-    fn asserts_value(&self, rt: &impl Abort, value: Value)
-        ensures { value < length self.now.func.values }
+    // The value with this number, which exists.
+    fn value(&self, rt: &impl Abort, number: u32) -> Value
+        ensures { result < length self.now.func.values }
     {
-        assert!(rt; value.index() < self.values);
+        let value = v(rt, number);
+        assert!(rt; value.index() < self.func.value_count());
+        value
     }
 
-    // Asserts that an instruction is among those that were answered.
+    // Asserts that an instruction exists.
     fn asserts_inst(&self, rt: &impl Abort, inst: Inst)
         ensures { inst < length self.now.func.insts }
     {
-        assert!(rt; inst.index() < self.insts);
+        assert!(rt; inst.index() < self.func.inst_count());
     }
 
-    // Puts an instruction at the end of a block.
-    fn insert(
+    /// Makes a block known, which isn't in the layout yet, and answers its number.
+    pub fn declare(&mut self) -> Result<u32, Fail> {
+        let block = self.func.create_block()?;
+        self.ssa.declare_block(block)?;
+        Ok(block.as_u32())
+    }
+
+    /// Puts a block at the end of the layout.
+    pub fn lay_out(&mut self, rt: &impl Abort, block: u32) -> Result<(), Fail> {
+        let block = self.block(rt, block);
+        self.func.ensure_block_inserted(block)?;
+        Ok(())
+    }
+
+    /// Puts an instruction at the end of a block, and answers its number.
+    pub fn insert(
         &mut self,
         rt: &impl Abort,
-        block: Block,
+        block: u32,
         shape: InstructionData,
         ty: Type,
-    ) -> Result<Inst, Fail> {
-        self.asserts_block(rt, block);
-        assert!(rt; has_operands(&self.func, self.values, shape.arguments()));
+    ) -> Result<u32, Fail> {
+        let block = self.block(rt, block);
+        assert!(rt; has_operands(&self.func, shape.arguments()));
         assert!(rt; has_edges(&self.func, shape.branch_destination()));
         let inst = self
             .func
             .insert_inst(block, BlockEnd::Back, shape, ty, SourceLoc::new(PLACE))?;
-        self.insts = inst.index() + 1;
-        Ok(inst)
-    }
-
-    // The one result of an instruction.
-    fn result_of(&mut self, rt: &impl Abort, inst: Inst) -> Value {
-        self.asserts_inst(rt, inst);
-        let results = self.func.inst_results(inst);
-        assert!(rt; results.len() == 1);
-        let value = results[0];
-        self.values = value.index() + 1;
-        value
-    }
-
-    /// Puts a constant at the end of a block.
-    pub fn iconst(&mut self, rt: &impl Abort, block: Block, imm: i64) -> Result<Value, Fail> {
-        let shape = InstructionData::UnaryImm { imm };
-        let inst = self.insert(rt, block, shape, types::I32)?;
-        Ok(self.result_of(rt, inst))
-    }
-
-    /// Puts a sum or a difference at the end of a block.
-    pub fn binary(
-        &mut self,
-        rt: &impl Abort,
-        block: Block,
-        opcode: BinaryOpcode,
-        args: [Value; 2],
-    ) -> Result<Value, Fail> {
-        let shape = InstructionData::Binary { opcode, args };
-        let inst = self.insert(rt, block, shape, types::I32)?;
-        Ok(self.result_of(rt, inst))
-    }
-
-    /// Puts a sum at the end of a block.
-    pub fn iadd(
-        &mut self,
-        rt: &impl Abort,
-        block: Block,
-        x: Value,
-        y: Value,
-    ) -> Result<Value, Fail> {
-        self.binary(rt, block, BinaryOpcode::Iadd, [x, y])
-    }
-
-    /// Puts a difference at the end of a block.
-    pub fn isub(
-        &mut self,
-        rt: &impl Abort,
-        block: Block,
-        x: Value,
-        y: Value,
-    ) -> Result<Value, Fail> {
-        self.binary(rt, block, BinaryOpcode::Isub, [x, y])
-    }
-
-    /// Puts a jump at the end of a block. It isn't declared.
-    pub fn jump(&mut self, rt: &impl Abort, block: Block, target: Block) -> Result<Inst, Fail> {
-        let destination = BlockCall::new(self.alloc, target, &[])?;
-        self.insert(
-            rt,
-            block,
-            InstructionData::Jump { destination },
-            Type::Invalid,
-        )
-    }
-
-    /// Puts a branch by a value at the end of a block. It isn't declared.
-    pub fn brif(
-        &mut self,
-        rt: &impl Abort,
-        block: Block,
-        arg: Value,
-        targets: [Block; 2],
-    ) -> Result<Inst, Fail> {
-        let taken = BlockCall::new(self.alloc, targets[0], &[])?;
-        let other = BlockCall::new(self.alloc, targets[1], &[])?;
-        let blocks = [taken, other];
-        self.insert(
-            rt,
-            block,
-            InstructionData::Brif { arg, blocks },
-            Type::Invalid,
-        )
-    }
-
-    /// Puts a return at the end of a block.
-    pub fn ret(&mut self, rt: &impl Abort, block: Block, values: &[Value]) -> Result<(), Fail> {
-        let args = ValueList::from_slice(self.alloc, values)?;
-        let _inst = self.insert(rt, block, InstructionData::MultiAry { args }, Type::Invalid)?;
-        Ok(())
+        Ok(inst.as_u32())
     }
 
     /// Declares that a branch leads to a block.
@@ -220,13 +156,6 @@ impl Fixture {
         assert!(rt; !self.ssa.is_sealed(block));
         self.ssa.declare_block_predecessor(block, inst)?;
         Ok(())
-    }
-
-    /// Puts a jump at the end of a block, and declares that it leads to its target.
-    pub fn goes(&mut self, rt: &impl Abort, block: Block, target: Block) -> Result<Inst, Fail> {
-        let inst = self.jump(rt, block, target)?;
-        self.leads(rt, target, inst)?;
-        Ok(inst)
     }
 
     /// Declares that two branches lead to a block, and takes back the first entry of the first of them.
@@ -244,105 +173,97 @@ impl Fixture {
         Ok(())
     }
 
-    /// Whether any branch leads to a block.
-    pub fn has_any_predecessors(&self, block: Block) -> bool {
-        self.ssa.has_any_predecessors(block)
-    }
-
-    /// Whether a branch is the one that was declared last at a block.
-    pub fn is_last_predecessor(&self, block: Block, inst: Inst) -> bool {
-        self.ssa.is_last_predecessor(block, inst)
-    }
-
     /// Assigns a value to a variable.
     pub fn define(
         &mut self,
         rt: &impl Abort,
-        block: Block,
-        variable: Variable,
-        value: Value,
+        block: u32,
+        variable: u8,
+        value: u32,
     ) -> Result<(), Fail> {
-        self.asserts_value(rt, value);
-        self.ssa.def_var(variable, value, block)?;
+        let value = self.value(rt, value);
+        self.ssa.def_var(var(variable), value, b(rt, block))?;
         Ok(())
     }
 
-    /// Uses a variable of this type, and answers what the call did beside its answer, too.
-    pub fn uses_type(
-        &mut self,
-        rt: &impl Abort,
-        block: Block,
-        variable: Variable,
-        ty: Type,
-    ) -> Result<(Value, SideEffects), Fail> {
-        self.asserts_block(rt, block);
-        let (value, told) = self.ssa.use_var(&mut self.func, variable, ty, block)?;
-        if self.values <= value.index() {
-            self.values = value.index() + 1;
-        }
-        Ok((value, told))
-    }
-
-    /// Uses a variable of type I32.
+    /// Uses a variable of this type, and answers the number of its value.
     pub fn uses(
         &mut self,
         rt: &impl Abort,
-        block: Block,
-        variable: Variable,
-    ) -> Result<Value, Fail> {
-        let (value, _told) = self.uses_type(rt, block, variable, types::I32)?;
-        Ok(value)
+        block: u32,
+        variable: u8,
+        ty: Type,
+    ) -> Result<u32, Fail> {
+        let block = self.block(rt, block);
+        let (value, told) = self.ssa.use_var(&mut self.func, var(variable), ty, block)?;
+        self.told = told;
+        Ok(value.as_u32())
     }
 
     /// Seals a block.
-    pub fn seal(&mut self, block: Block) -> Result<SideEffects, Fail> {
-        let told = self.ssa.seal_block(block, &mut self.func)?;
-        Ok(told)
+    pub fn seal(&mut self, block: Block) -> Result<(), Fail> {
+        self.told = self.ssa.seal_block(block, &mut self.func)?;
+        Ok(())
     }
 
     /// Seals all blocks.
-    pub fn seal_all(&mut self) -> Result<SideEffects, Fail> {
-        let told = self.ssa.seal_all_blocks(&mut self.func)?;
-        Ok(told)
+    pub fn seal_all(&mut self) -> Result<(), Fail> {
+        self.told = self.ssa.seal_all_blocks(&mut self.func)?;
+        Ok(())
+    }
+
+    /// How many zeros the last use, or the last sealing, put.
+    pub fn told_count(&self) -> usize {
+        self.told.instructions_added_to_blocks.len()
+    }
+
+    /// The block into which the zero at this place among them was put.
+    pub fn told(&self, rt: &impl Abort, place: usize) -> u32 {
+        assert!(rt; place < self.told.instructions_added_to_blocks.len());
+        self.told.instructions_added_to_blocks[place].as_u32()
+    }
+
+    /// Whether any branch leads to a block.
+    pub fn has_any_predecessors(&self, rt: &impl Abort, block: u32) -> bool {
+        self.ssa.has_any_predecessors(b(rt, block))
+    }
+
+    /// Whether a branch is the one that was declared last at a block.
+    pub fn is_last_predecessor(&self, rt: &impl Abort, block: u32, inst: u32) -> bool {
+        self.ssa.is_last_predecessor(b(rt, block), i(rt, inst))
     }
 
     /// Whether a block is sealed.
-    pub fn is_sealed(&self, block: Block) -> bool {
-        self.ssa.is_sealed(block)
+    pub fn is_sealed(&self, rt: &impl Abort, block: u32) -> bool {
+        self.ssa.is_sealed(b(rt, block))
     }
 
     /// How many look-ups of a variable in the predecessors of a block began.
-    pub fn lookups(&self, variable: Variable, block: Block) -> u32 {
-        self.ssa.lookups(variable, block)
+    pub fn lookups(&self, rt: &impl Abort, variable: u8, block: u32) -> u32 {
+        self.ssa.lookups(var(variable), b(rt, block))
     }
 
-    /// The parameters of a block.
-    pub fn params(&self, rt: &impl Abort, block: Block) -> &[Value] {
-        self.asserts_block(rt, block);
-        self.func.block_params(block)
+    /// How many parameters a block has.
+    pub fn param_count(&self, rt: &impl Abort, block: u32) -> usize {
+        self.func.block_params(self.block(rt, block)).len()
+    }
+
+    /// The parameter of a block at this place.
+    pub fn param(&self, rt: &impl Abort, block: u32, place: usize) -> u32 {
+        let params = self.func.block_params(self.block(rt, block));
+        assert!(rt; place < params.len());
+        params[place].as_u32()
     }
 
     /// The value that a value stands for.
-    pub fn resolved(&self, rt: &impl Abort, value: Value) -> Value {
-        self.asserts_value(rt, value);
-        self.func.resolve_aliases(value)
+    pub fn resolved(&self, rt: &impl Abort, value: u32) -> u32 {
+        self.func.resolve_aliases(self.value(rt, value)).as_u32()
     }
 
-    /// The allocator that the function grows by.
-    pub fn allocator(&self) -> Global {
-        self.alloc
-    }
-
-    /// Asserts the text of the function.
-    pub fn prints(&self, rt: &impl Abort, text: &str) -> Result<(), Fail> {
+    /// Whether the function has this text.
+    pub fn prints(&self, text: &str) -> Result<bool, Fail> {
         let shown = self.func.display();
-        let found = format!(in self.alloc; "{shown}")?;
-        assert_eq!(rt; found.as_str(), text);
-        Ok(())
+        let found = format!(in self.func.allocator(); "{shown}")?;
+        Ok(found.as_str() == text)
     }
-}
-
-/// The variable with this number.
-pub fn var(number: u8) -> Variable {
-    Variable::from_u32(u32::from(number))
 }

@@ -1,77 +1,73 @@
 //! Variables that are used and never assigned.
 #![tactic(auto)]
 
+use super::facts::Fact::{ParamAt, Params, Resolves, Told, ToldAt};
 use super::steps::Step::{
-    Brif, Create, Define, Goes, Iconst, Jump, Leads, Params, Resolves, Return, ReturnOne, Seal,
+    Ask, Brif, Create, Declare, Define, Goes, Iconst, Is, Jump, Leads, Return, ReturnOne, Seal,
     SealAll, Use,
 };
 use super::steps::makes;
-use super::support::{Fixture, var};
-use clif_types::{Type, types};
+use clif_types::types::{I8, I32, I64};
 use std::test::Fail;
 
 /// Variables of several types: a zero of each type is put, before those that are there.
 #[test]
 fn undef(rt: HostRuntime) -> Result<(), Fail> {
-    let mut made = Fixture::new(rt.alloc());
-    let block0 = made.bare_block()?;
-    let _told = made.seal(block0)?;
-    let of: [(u8, Type); 3] = [(0, types::I32), (1, types::I64), (2, types::I8)];
-    for (number, ty) in of {
-        let (_value, told) = made.uses_type(&rt, block0, var(number), ty)?;
-        assert_eq!(rt;
-            told.instructions_added_to_blocks.as_slice(),
-            [block0].as_slice()
-        );
-    }
-    assert!(rt; made.params(&rt, block0).is_empty());
-    made.prints(
-        &rt,
-        "function u0:0() fast {\nblock0:\n    v5 = iconst.i8 0\n    v4 -> v5\n    v3 = iconst.i64 0\n    v2 -> v3\n    v1 = iconst.i32 0\n    v0 -> v1\n}\n",
-    )
+    let steps = [
+        Declare,
+        Seal(0, 0),
+        Ask(0, 0, I32),
+        Is(Told(1)),
+        Is(ToldAt(0, 0)),
+        Ask(0, 1, I64),
+        Is(Told(1)),
+        Is(ToldAt(0, 0)),
+        Ask(0, 2, I8),
+        Is(Told(1)),
+        Is(ToldAt(0, 0)),
+        Is(Params(0, 0)),
+    ];
+    let text =
+        "function u0:0() fast {\nblock0:\n    v5 = iconst.i8 0\n    v4 -> v5\n    v3 = iconst.i64 0\n    v2 -> v3\n    v1 = iconst.i32 0\n    v0 -> v1\n}\n";
+    makes(&rt, rt.alloc(), &steps, text)
 }
 
 /// A use in the sealed entry puts a zero at once, and only the first use does.
 #[test]
 fn undef_in_entry(rt: HostRuntime) -> Result<(), Fail> {
-    let mut made = Fixture::new(rt.alloc());
-    let block0 = made.bare_block()?;
-    let _told = made.seal(block0)?;
-    assert!(rt; made.params(&rt, block0).is_empty());
-    let (value, told) = made.uses_type(&rt, block0, var(0), types::I32)?;
-    assert_eq!(rt;
-        told.instructions_added_to_blocks.as_slice(),
-        [block0].as_slice()
-    );
-    let (again, told) = made.uses_type(&rt, block0, var(0), types::I32)?;
-    assert!(rt; told.instructions_added_to_blocks.is_empty());
-    assert_eq!(rt; made.resolved(&rt, again), made.resolved(&rt, value));
-    assert!(rt; made.params(&rt, block0).is_empty());
-    made.prints(
-        &rt,
-        "function u0:0() fast {\nblock0:\n    v1 = iconst.i32 0\n    v0 -> v1\n}\n",
-    )
+    let steps = [
+        Declare,
+        Seal(0, 0),
+        Is(Params(0, 0)),
+        Use(0, 0, 1),
+        Is(Told(1)),
+        Is(ToldAt(0, 0)),
+        Use(0, 0, 0),
+        Is(Told(0)),
+        Is(Resolves(0, 1)),
+        Is(Resolves(1, 1)),
+        Is(Params(0, 0)),
+    ];
+    let text = "function u0:0() fast {\nblock0:\n    v1 = iconst.i32 0\n    v0 -> v1\n}\n";
+    makes(&rt, rt.alloc(), &steps, text)
 }
 
 /// A use in the entry makes a parameter while that isn't sealed, and a zero of it then.
 #[test]
 fn undef_in_entry_sealed_after(rt: HostRuntime) -> Result<(), Fail> {
-    let mut made = Fixture::new(rt.alloc());
-    let block0 = made.bare_block()?;
-    assert!(rt; made.params(&rt, block0).is_empty());
-    let value = made.uses(&rt, block0, var(0))?;
-    assert_eq!(rt; made.params(&rt, block0), [value].as_slice());
-    let told = made.seal(block0)?;
-    assert_eq!(rt;
-        told.instructions_added_to_blocks.as_slice(),
-        [block0].as_slice()
-    );
-    assert!(rt; made.params(&rt, block0).is_empty());
-    assert!(rt; made.seal(block0)?.instructions_added_to_blocks.is_empty());
-    made.prints(
-        &rt,
-        "function u0:0() fast {\nblock0:\n    v1 = iconst.i32 0\n    v0 -> v1\n}\n",
-    )
+    let steps = [
+        Declare,
+        Is(Params(0, 0)),
+        Use(0, 0, 0),
+        Is(Params(0, 1)),
+        Is(ParamAt(0, 0, 0)),
+        Seal(0, 1),
+        Is(ToldAt(0, 0)),
+        Is(Params(0, 0)),
+        Seal(0, 0),
+    ];
+    let text = "function u0:0() fast {\nblock0:\n    v1 = iconst.i32 0\n    v0 -> v1\n}\n";
+    makes(&rt, rt.alloc(), &steps, text)
 }
 
 /// A block that nothing but itself leads to, by both edges of its branch.
@@ -132,8 +128,8 @@ fn reassign_with_predecessor_loop(rt: HostRuntime) -> Result<(), Fail> {
         Define(2, 0, 2),
         Goes(2, 1),
         SealAll(0),
-        Resolves(1, 2),
-        Params(2, 0),
+        Is(Resolves(1, 2)),
+        Is(Params(2, 0)),
     ];
     let text =
         "function u0:0() fast {\nblock0:\n    v0 = iconst.i32 0\n    return\n\nblock1:\n    jump block2\n\nblock2:\n    v2 = iconst.i32 1\n    v1 -> v2\n    jump block1\n}\n";

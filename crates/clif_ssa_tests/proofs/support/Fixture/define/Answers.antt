@@ -26,15 +26,17 @@ recorded f s t x b v (Ok a) inside is same named y c w at =
     written (y == x && c == b) v w (length f.values) (record_of s y c) inside (named.recorded y c w) (sym (is y c) ∙ at)
 recorded f s t x b v (Err e) inside is same named y c w at = named.recorded y c w (sym (same y c) ∙ at)
 
-pub invariant_of-self-clause-named : goal.invariant_of-self-clause-named
-invariant_of-self-clause-named g c =
+pub invariant_of-self : goal.invariant_of-self
+invariant_of-self g c =
     let made = c.args.self.now in
     let f = made.func in
     let t = c.def_var.new.self in
     let same : t.blocks ≡ made.ssa.blocks = c.def_var.ensures.blocks in
     record {
-      recorded = recorded f made.ssa t c.args.variable c.args.block c.args.value c.def_var.result c.asserts_value.ensures
-          c.def_var.ensures.ok c.def_var.ensures.err made.named;
-      leading = λ b i here. made.named.leading b i (subst (λ (blocks : List SsaBlock). Contains (predecessors_at blocks b) i) same here);
-      waiting = λ b p here. made.named.waiting b p (subst (λ (blocks : List SsaBlock). Contains (pending_of (sealed_at blocks b)) p) same here);
+      named = record {
+        recorded = recorded f made.ssa t c.var.result c.b.result c.value-value.result c.def_var.result c.value-value.ensures
+            c.def_var.ensures.ok c.def_var.ensures.err made.named;
+        leading = λ b i here. made.named.leading b i (subst (λ (blocks : List SsaBlock). Contains (predecessors_at blocks b) i) same here);
+        waiting = λ b p here. made.named.waiting b p (subst (λ (blocks : List SsaBlock). Contains (pending_of (sealed_at blocks b)) p) same here);
+      };
     }

@@ -30,16 +30,18 @@ leading f s t b i (Ok a) inside is same named c j here =
 leading f s t b i (Err e) inside is same named c j here =
     named.leading c j (subst (λ (branches : List ℕ). Contains branches j) (same c) here)
 
-pub invariant_of-self-clause-named : goal.invariant_of-self-clause-named
-invariant_of-self-clause-named g c =
+pub invariant_of-self : goal.invariant_of-self
+invariant_of-self g c =
     let made = c.args.self.now in
     let f = made.func in
     let t = c.declare_block_predecessor.new.self in
     let same : t.records ≡ made.ssa.records = c.declare_block_predecessor.ensures.records in
     record {
-      recorded = λ x b v is. made.named.recorded x b v (subst (λ rows. record_at rows x b ≡ Some v) same is);
-      leading = leading f made.ssa t c.args.block c.args.inst c.declare_block_predecessor.result c.asserts_inst.ensures
-          c.declare_block_predecessor.ensures.ok c.declare_block_predecessor.ensures.err made.named;
-      waiting = λ b p here.
-          made.named.waiting b p (subst (λ entry. Contains (pending_of entry) p) (c.declare_block_predecessor.ensures.blocks b) here);
+      named = record {
+        recorded = λ x b v is. made.named.recorded x b v (subst (λ rows. record_at rows x b ≡ Some v) same is);
+        leading = leading f made.ssa t c.args.block c.args.inst c.declare_block_predecessor.result c.asserts_inst.ensures
+            c.declare_block_predecessor.ensures.ok c.declare_block_predecessor.ensures.err made.named;
+        waiting = λ b p here.
+            made.named.waiting b p (subst (λ entry. Contains (pending_of entry) p) (c.declare_block_predecessor.ensures.blocks b) here);
+      };
     }

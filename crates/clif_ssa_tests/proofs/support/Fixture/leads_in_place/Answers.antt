@@ -32,7 +32,7 @@ removed-named f s t b i removes records blocks named = record {
   waiting = λ c p here. named.waiting c p (subst (λ entry. Contains (pending_of entry) p) (blocks c) here);
 }
 
-pub invariant_of-self-clause-named : goal.invariant_of-self-clause-named
-invariant_of-self-clause-named g c =
+pub invariant_of-self : goal.invariant_of-self
+invariant_of-self g c =
     let done = c.remove_block_predecessor.ensures in
-    removed-named _ _ _ _ _ done.removed done.records done.blocks c.leads-2.new.self.named
+    record { named = removed-named _ _ _ _ _ done.removed done.records done.blocks c.leads-2.new.self.named }

@@ -1,0 +1,20 @@
+-- What the builder names still exists once the function has more.
+use Rattle.std.proofs.Common.{◌≡◌, ◌≤◌, length, arith, subst}
+use Rattle.std.specs.Prelude.{Some, Contains}
+use Rattle.clif_ir.specs.Body.{Body}
+use Rattle.clif_ssa.specs.Tables.{record_at, pending_of}
+use Rattle.clif_ssa.specs.Ssa.{SsaState, SamePredecessors, SameBlocks, NamesExist}
+
+-- values and instructions stay, and maybe more are made
+pub record Grows (f g : Body) : Type 0 where
+  pub values : length f.values ≤ length g.values
+  pub insts : length f.insts ≤ length g.insts
+
+-- more exists, and the same is named
+pub same-named : (f g : Body) (s t : SsaState) → Grows f g → t.records ≡ s.records → SamePredecessors s t → SameBlocks s t
+    → NamesExist f s → NamesExist g t
+same-named f g s t grows records leading blocks named = record {
+  recorded = λ x b v is. omega (arith, named.recorded x b v (subst (λ rows. record_at rows x b ≡ Some v) records is), grows.values);
+  leading = λ b i here. omega (arith, named.leading b i (subst (λ branches. Contains branches i) (leading b) here), grows.insts);
+  waiting = λ b p here. omega (arith, named.waiting b p (subst (λ entry. Contains (pending_of entry) p) (blocks b) here), grows.values);
+}

@@ -1,0 +1,43 @@
+//! What is so once some steps are made.
+#![tactic(auto)]
+
+use super::support::Fixture;
+use std::process::Abort;
+
+/// A fact, where blocks, values, instructions and variables are told by their numbers.
+#[derive(Clone, Copy)]
+pub enum Fact {
+    /// So many look-ups of a variable in the predecessors of a block began.
+    Lookups(u32, u8, u32),
+    /// A block has so many parameters.
+    Params(u32, usize),
+    /// The parameter of a block at a place is a value.
+    ParamAt(u32, usize, u32),
+    /// A value stands for a value.
+    Resolves(u32, u32),
+    /// Whether any branch leads to a block.
+    HasAny(u32, bool),
+    /// Whether an instruction is the one that was declared last at a block.
+    IsLast(u32, u32, bool),
+    /// Whether a block is sealed.
+    IsSealed(u32, bool),
+    /// The last use, or the last sealing, put so many zeros.
+    Told(usize),
+    /// The zero at a place among them was put into a block.
+    ToldAt(usize, u32),
+}
+
+/// Whether a fact holds.
+pub fn holds(rt: &impl Abort, made: &Fixture, fact: Fact) -> bool {
+    match fact {
+        Fact::Lookups(block, variable, count) => made.lookups(rt, variable, block) == count,
+        Fact::Params(block, count) => made.param_count(rt, block) == count,
+        Fact::ParamAt(block, place, value) => made.param(rt, block, place) == value,
+        Fact::Resolves(value, original) => made.resolved(rt, value) == original,
+        Fact::HasAny(block, has_any) => made.has_any_predecessors(rt, block) == has_any,
+        Fact::IsLast(block, inst, is_last) => made.is_last_predecessor(rt, block, inst) == is_last,
+        Fact::IsSealed(block, is_sealed) => made.is_sealed(rt, block) == is_sealed,
+        Fact::Told(count) => made.told_count() == count,
+        Fact::ToldAt(place, block) => made.told(rt, place) == block,
+    }
+}
