@@ -12,3 +12,5 @@ mod front_end;
 mod parameters;
 #[cfg(test)]
 mod refusals;
+#[cfg(test)]
+mod steps;

@@ -1,11 +1,11 @@
 //! What `finalize` refuses.
 #![tactic(auto)]
 
-use crate::front_end::{CONFIG, FrontEnd, function};
-use cranelift_frontend::{Block, FinalizeError, FunctionBuilderContext, Inst, VERSION};
-use std::alloc::Global;
+use crate::steps::Operand::Constant;
+use crate::steps::Step::{Create, Enter, Make, NoCurrent, Seal};
+use crate::steps::built;
+use cranelift_frontend::{Block, FinalizeError, Inst, VERSION};
 use std::fmt::Write;
-use std::process::Abort;
 use std::test::Fail;
 
 /// The texts of the refusals, as upstream's panics are worded.
@@ -35,38 +35,18 @@ fn texts(rt: HostRuntime) -> Result<(), Fail> {
     Ok(())
 }
 
-// A builder's only instruction is a constant; its block is sealed where this is asked.
-fn unfinished(
-    rt: &impl Abort,
-    alloc: Global,
-    seals: bool,
-) -> Result<Result<(), FinalizeError>, Fail> {
-    let mut ctx = FunctionBuilderContext::new(alloc);
-    let mut func = function(alloc, "unfinished", 0)?;
-    let mut front_end = FrontEnd::new(&mut func, &mut ctx);
-    let block = front_end.block(rt);
-    assert!(rt; front_end.current_block().is_none());
-    front_end.enter(rt, block);
-    let _one = front_end.constant(rt, 1);
-    if seals {
-        front_end.seal(rt, block);
-    }
-    let finished = front_end.builder.finalize(CONFIG);
-    assert!(rt; ctx.is_empty());
-    Ok(finished)
-}
-
 /// A block that has an instruction is sealed and filled when the building ends, or it is named.
 #[test]
 fn unfinished_blocks(rt: HostRuntime) -> Result<(), Fail> {
     let block = Block::from_u32(0);
-    assert_eq!(rt;
-        unfinished(&rt, rt.alloc(), false)?,
-        Err(FinalizeError::Unsealed(block))
-    );
-    assert_eq!(rt;
-        unfinished(&rt, rt.alloc(), true)?,
-        Err(FinalizeError::Unfilled(block))
-    );
+    let unsealed = [Create, NoCurrent, Enter(0), Make(Constant(1))];
+    let unfilled = [Create, NoCurrent, Enter(0), Make(Constant(1)), Seal(0)];
+    for (steps, error) in [
+        (unsealed.as_slice(), FinalizeError::Unsealed(block)),
+        (unfilled.as_slice(), FinalizeError::Unfilled(block)),
+    ] {
+        let answer = built(&rt, rt.alloc(), "unfinished", 0, steps)?;
+        assert_eq!(rt; answer.err(), Some(error));
+    }
     Ok(())
 }
