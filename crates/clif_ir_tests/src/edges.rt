@@ -1,17 +1,17 @@
 //! Branches: their edges, arguments that are appended to them, and their texts.
 #![tactic(auto)]
 
+use crate::facts::Fact::Successors;
 use crate::steps::Step::{
-    Alias, Append, Brif, Create, Iadd, Iconst, Isub, Jump, LayOut, Param, ReturnOne,
+    Alias, Append, Brif, Create, Iadd, Iconst, Is, Isub, Jump, LayOut, Param, ReturnOne,
 };
-use crate::steps::{made, make_all, makes};
-use crate::support::{b, has_block, prints, signature};
+use crate::steps::{makes, makes_of, runs};
+use crate::support::typed;
 use clif_ir::block_call::{BlockArg, BlockArgs, BlockCall};
-use clif_ir::function::Function;
 use clif_ir::inst_list::BlockEnd::Back;
 use clif_ir::instructions::InstructionData;
 use clif_types::types::I32;
-use clif_types::{Block, CallConv, UserFuncName, Value};
+use clif_types::{Block, CallConv, Value};
 use std::process::Abort;
 use std::test::Fail;
 
@@ -46,10 +46,7 @@ fn both_arms_row(rt: HostRuntime) -> Result<(), Fail> {
 // The row sample, as the construction leaves it: v6 was a parameter of block2.
 #[test]
 fn sample_row(rt: HostRuntime) -> Result<(), Fail> {
-    let alloc = rt.alloc();
-    let name = UserFuncName::testcase(String::from_str(alloc, "sample")?);
-    let types = signature(alloc, &[I32], &[I32], CallConv::SystemV)?;
-    let mut func = Function::with_name_signature(alloc, name, types);
+    let func = typed(rt.alloc(), "sample", &[I32], &[I32], CallConv::SystemV)?;
     let steps = [
         Create,
         Create,
@@ -78,10 +75,9 @@ fn sample_row(rt: HostRuntime) -> Result<(), Fail> {
         Append(8, 1, 8),
         Append(8, 1, 5),
     ];
-    make_all(&rt, &mut func, &steps)?;
     let text =
         "function %sample(i32) -> i32 system_v {\nblock0(v0: i32):\n    v6 -> v0\n    v1 = iconst.i32 2\n    v2 = iadd v0, v1  ; v1 = 2\n    jump block1(v1, v2)  ; v1 = 2\n\nblock1(v3: i32, v4: i32):\n    v5 = iadd v3, v4\n    brif v3, block3, block2\n\nblock2:\n    v7 = isub.i32 v5, v6\n    return v3\n\nblock3:\n    v8 = isub.i32 v3, v6\n    jump block1(v8, v5)\n}\n";
-    prints(&rt, alloc, &func, text)
+    makes_of(&rt, func, &steps, text)
 }
 
 // The condition's type is printed where it is defined elsewhere, and the comment tells the condition first and then
@@ -112,53 +108,47 @@ fn argument_texts(rt: HostRuntime) -> Result<(), Fail> {
     let result = BlockArg::TryCallRet(0);
     let payload = BlockArg::TryCallExn(1);
     let text = format!(in rt.alloc(); "{three} {result} {payload}")?;
-    assert_eq!(rt; text.as_str(), "v3 ret0 exn1");
+    assert!(rt; text.as_str() == "v3 ret0 exn1");
     Ok(())
+}
+
+// Asserts that a list has one argument, this one.
+fn has_one(rt: &impl Abort, args: &BlockArgs, arg: BlockArg) {
+    let found = args.as_slice();
+    assert!(rt; found.len() == 1);
+    assert!(rt; found[0] == arg);
 }
 
 #[test]
 fn arguments(rt: HostRuntime) -> Result<(), Fail> {
-    let alloc = rt.alloc();
-    let mut args = BlockArgs::new(alloc);
+    let mut args = BlockArgs::new(rt.alloc());
     assert!(rt; args.as_slice().is_empty());
     args.push(BlockArg::TryCallRet(2))?;
     args.push(BlockArg::TryCallExn(0))?;
     args.pop();
-    assert_eq!(rt; args.as_slice(), [BlockArg::TryCallRet(2)].as_slice());
-    let copied = BlockArgs::from_slice(alloc, args.as_slice())?;
-    assert_eq!(rt; copied.as_slice(), args.as_slice());
+    has_one(&rt, &args, BlockArg::TryCallRet(2));
+    let copied = BlockArgs::from_slice(rt.alloc(), args.as_slice())?;
+    has_one(&rt, &copied, BlockArg::TryCallRet(2));
     Ok(())
+}
+
+// Asserts that an instruction has one edge, which passes one argument.
+fn leads_by_one(rt: &impl Abort, shape: &InstructionData, block: Block, arg: BlockArg) {
+    let edges = shape.branch_destination();
+    assert!(rt; edges.len() == 1);
+    assert!(rt; edges[0].block == block);
+    has_one(rt, &edges[0].args, arg);
 }
 
 #[test]
 fn destinations(rt: HostRuntime) -> Result<(), Fail> {
-    let alloc = rt.alloc();
-    let destination = BlockCall::new(alloc, Block::from_u32(2), &[BlockArg::TryCallRet(1)])?;
+    let argument = BlockArg::TryCallRet(1);
+    let destination = BlockCall::new(rt.alloc(), Block::from_u32(2), &[argument])?;
     let jump = InstructionData::Jump { destination };
     assert!(rt; jump.is_branch() && jump.is_terminator() && !jump.has_result());
     assert!(rt; jump.arguments().is_empty());
-    assert_eq!(rt; jump.branch_destination().len(), 1);
-    assert_eq!(rt; jump.branch_destination()[0].block, Block::from_u32(2));
-    assert_eq!(rt;
-        jump.branch_destination()[0].args.as_slice(),
-        [BlockArg::TryCallRet(1)].as_slice()
-    );
+    leads_by_one(&rt, &jump, Block::from_u32(2), argument);
     Ok(())
-}
-
-// Asserts to which two blocks a block leads, at most.
-fn leads_to(
-    rt: &impl Abort,
-    func: &Function,
-    block: Block,
-    first: Option<Block>,
-    second: Option<Block>,
-) {
-    assert!(rt; has_block(func, block));
-    let mut successors = func.block_successors(block);
-    assert_eq!(rt; successors.next(), first);
-    assert_eq!(rt; successors.next(), second);
-    assert_eq!(rt; successors.next(), None);
 }
 
 // The targets in printed order: none of a block that is empty or ends in no branch, and one twice where both edges go
@@ -175,14 +165,12 @@ fn successors(rt: HostRuntime) -> Result<(), Fail> {
         Brif(1, 0, 3, 2),
         Brif(2, 0, 1, 1),
         Iconst(3, Back, I32, 6),
+        Is(Successors(0, Some(1), None)),
+        Is(Successors(1, Some(3), Some(2))),
+        Is(Successors(2, Some(1), Some(1))),
+        Is(Successors(3, None, None)),
+        Create,
+        Is(Successors(4, None, None)),
     ];
-    let mut func = made(&rt, rt.alloc(), &steps)?;
-    let blocks = [b(&rt, 0), b(&rt, 1), b(&rt, 2), b(&rt, 3)];
-    leads_to(&rt, &func, blocks[0], Some(blocks[1]), None);
-    leads_to(&rt, &func, blocks[1], Some(blocks[3]), Some(blocks[2]));
-    leads_to(&rt, &func, blocks[2], Some(blocks[1]), Some(blocks[1]));
-    leads_to(&rt, &func, blocks[3], None, None);
-    let empty = func.create_block()?;
-    leads_to(&rt, &func, empty, None, None);
-    Ok(())
+    runs(&rt, rt.alloc(), &steps)
 }

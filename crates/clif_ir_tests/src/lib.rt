@@ -6,6 +6,8 @@ mod aliases;
 #[cfg(test)]
 mod edges;
 #[cfg(test)]
+mod facts;
+#[cfg(test)]
 mod lists;
 #[cfg(test)]
 mod numbers;

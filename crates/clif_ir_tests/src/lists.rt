@@ -1,57 +1,88 @@
 //! Lists of values and of instructions.
 #![tactic(auto)]
 
+use crate::support::{i, v};
 use clif_ir::inst_list::{BlockEnd, InstList};
 use clif_ir::instructions::{BinaryOpcode, InstructionData};
 use clif_ir::value_list::ValueList;
-use clif_types::{BuildError, Inst, Value};
+use clif_types::Value;
+use std::process::Abort;
 use std::test::Fail;
+
+fn has_values(rt: &impl Abort, list: &ValueList, count: usize) {
+    assert!(rt; list.as_slice().len() == count);
+}
+
+fn copies(rt: &impl Abort, list: &ValueList, copy: &ValueList) {
+    assert!(rt; list.as_slice() == copy.as_slice());
+}
+
+// Takes a value away that stands at this place first.
+fn removes(rt: &impl Abort, list: &mut ValueList, value: Value, place: usize) {
+    assert!(rt; list.as_slice().contains(&value));
+    assert!(rt; list.place_of(value) == place);
+    list.remove(value);
+}
 
 #[test]
 fn values(rt: HostRuntime) -> Result<(), Fail> {
     let mut list = ValueList::new(rt.alloc());
-    assert_eq!(rt; list.as_slice().len(), 0);
+    has_values(&rt, &list, 0);
     for number in [5, 3, 5, 8, 2, 9] {
-        list.push(Value::from_u32(number))?;
+        list.push(v(&rt, number))?;
     }
-    let three = Value::from_u32(3);
-    assert_eq!(rt; list.as_slice().len(), 6);
+    has_values(&rt, &list, 6);
     let same = ValueList::from_slice(rt.alloc(), list.as_slice())?;
-    assert_eq!(rt; same.as_slice(), list.as_slice());
-    assert!(rt; list.as_slice().contains(&three));
-    assert_eq!(rt; list.place_of(three), 1);
-    list.remove(three);
-    assert_eq!(rt; list.as_slice().len(), 5);
+    copies(&rt, &same, &list);
+    removes(&rt, &mut list, v(&rt, 3), 1);
+    has_values(&rt, &list, 5);
     Ok(())
 }
 
-#[test]
-fn instructions_at_both_ends(rt: HostRuntime) -> Result<(), BuildError> {
-    let mut list = InstList::new(rt.alloc());
-    list.put(BlockEnd::Back, Inst::from_u32(4))?;
-    list.put(BlockEnd::Front, Inst::from_u32(7))?;
-    list.put(BlockEnd::Back, Inst::from_u32(1))?;
-    assert_eq!(rt; list.len(), 3);
-    assert_eq!(rt; list.get(0), Some(Inst::from_u32(7)));
-    assert_eq!(rt; list.get(1), Some(Inst::from_u32(4)));
-    assert_eq!(rt; list.get(2), Some(Inst::from_u32(1)));
-    assert_eq!(rt; list.get(3), None);
+fn put(rt: &impl Abort, list: &mut InstList, end: BlockEnd, number: u32) -> Result<(), Fail> {
+    list.put(end, i(rt, number))?;
     Ok(())
+}
+
+// Asserts which instruction stands at an index.
+fn has_at(rt: &impl Abort, list: &InstList, index: usize, number: Option<u32>) {
+    let expected = match number {
+        Some(number) => Some(i(rt, number)),
+        None => None,
+    };
+    assert!(rt; list.get(index) == expected);
+}
+
+#[test]
+fn instructions_at_both_ends(rt: HostRuntime) -> Result<(), Fail> {
+    let mut list = InstList::new(rt.alloc());
+    put(&rt, &mut list, BlockEnd::Back, 4)?;
+    put(&rt, &mut list, BlockEnd::Front, 7)?;
+    put(&rt, &mut list, BlockEnd::Back, 1)?;
+    assert!(rt; list.len() == 3);
+    has_at(&rt, &list, 0, Some(7));
+    has_at(&rt, &list, 1, Some(4));
+    has_at(&rt, &list, 2, Some(1));
+    has_at(&rt, &list, 3, None);
+    Ok(())
+}
+
+// Asserts the arguments of an instruction that has a result, or else ends a block.
+fn is_of(rt: &impl Abort, shape: &InstructionData, args: &[Value], has_result: bool) {
+    assert!(rt; shape.arguments() == args);
+    assert!(rt; shape.has_result() == has_result);
+    assert!(rt; shape.is_terminator() != has_result);
 }
 
 #[test]
 fn shapes(rt: HostRuntime) -> Result<(), Fail> {
-    let alloc = rt.alloc();
-    let args = [Value::from_u32(1), Value::from_u32(2)];
+    let args = [v(&rt, 1), v(&rt, 2)];
     let opcode = BinaryOpcode::Iadd;
-    assert_eq!(rt; format!(in alloc; "{opcode}")?.as_str(), "iadd");
-    let sum = InstructionData::Binary { opcode, args };
-    assert_eq!(rt; sum.arguments(), args.as_slice());
-    assert!(rt; sum.has_result() && !sum.is_terminator());
+    assert!(rt; format!(in rt.alloc(); "{opcode}")?.as_str() == "iadd");
+    is_of(&rt, &InstructionData::Binary { opcode, args }, &args, true);
     let returned = InstructionData::MultiAry {
-        args: ValueList::from_slice(alloc, &args)?,
+        args: ValueList::from_slice(rt.alloc(), &args)?,
     };
-    assert_eq!(rt; returned.arguments(), args.as_slice());
-    assert!(rt; !returned.has_result() && returned.is_terminator());
+    is_of(&rt, &returned, &args, false);
     Ok(())
 }

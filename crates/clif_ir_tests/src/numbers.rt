@@ -6,6 +6,8 @@ use crate::steps::makes;
 use clif_ir::immediates::{Imm64, signed_at};
 use clif_ir::inst_list::BlockEnd::Back;
 use clif_types::{Type, types};
+use std::alloc::Global;
+use std::process::Abort;
 use std::test::Fail;
 
 /// A type, a number given to `iconst` of it, and the text of the number.
@@ -43,12 +45,17 @@ const ROWS: [(Type, i64, &str); 31] = [
     (types::I128, -10000, "0xffff_ffff_ffff_d8f0"),
 ];
 
+fn shows(rt: &impl Abort, alloc: Global, ty: Type, number: i64, text: &str) -> Result<(), Fail> {
+    let shown = Imm64(signed_at(number, ty));
+    let found = format!(in alloc; "{shown}")?;
+    assert!(rt; found.as_str() == text);
+    Ok(())
+}
+
 #[test]
 fn widths(rt: HostRuntime) -> Result<(), Fail> {
-    let alloc = rt.alloc();
-    for (ty, number, text) in ROWS {
-        let shown = Imm64(signed_at(number, ty));
-        assert_eq!(rt; format!(in alloc; "{shown}")?.as_str(), text);
+    for (ty, number, text) in ROWS.iter() {
+        shows(&rt, rt.alloc(), *ty, *number, text)?;
     }
     Ok(())
 }

@@ -1,22 +1,22 @@
 //! Functions that are made by tables of steps, where the conditions of each call are asserted.
 #![tactic(auto)]
 
+use crate::facts::{Fact, holds};
 use crate::support::{
-    PLACE, b, has_block, has_edges, has_inst, has_operands, has_value, i, is_param, prints, sample,
-    v,
+    PLACE, b, block_of, has_edges, has_operands, inst_of, is_param, prints, sample, v, value_of,
 };
 use clif_ir::block_call::BlockCall;
 use clif_ir::function::Function;
 use clif_ir::inst_list::BlockEnd;
 use clif_ir::instructions::{BinaryOpcode, InstructionData};
 use clif_ir::value_list::ValueList;
-use clif_types::{Block, Inst, SourceLoc, Type, Value};
+use clif_types::{SourceLoc, Type, Value};
 use std::alloc::Global;
 use std::process::Abort;
 use std::test::Fail;
 
 /// A step in the making of a function, where blocks and values are told by their numbers.
-#[derive(Clone, Copy, Debug)]
+#[derive(Clone, Copy)]
 pub enum Step {
     /// Makes a block.
     Create,
@@ -24,6 +24,8 @@ pub enum Step {
     LayOut(u32),
     /// Puts a block behind a block of the layout.
     LayOutAfter(u32, u32),
+    /// Puts a block at the end of the layout, unless it is in the layout.
+    Ensure(u32),
     /// Marks a block as cold.
     Cold(u32),
     /// Puts a parameter at the end of those of a block.
@@ -51,29 +53,45 @@ pub enum Step {
     ReturnFour(u32, u32, u32, u32, u32),
     /// Makes a parameter another name of a value.
     Alias(u32, u32),
+    /// Finds that a fact holds.
+    Is(Fact),
 }
 
-fn lay_out(rt: &impl Abort, func: &mut Function, block: Block) -> Result<(), Fail> {
-    assert!(rt; has_block(func, block));
+fn create(func: &mut Function) -> Result<(), Fail> {
+    func.create_block()?;
+    Ok(())
+}
+
+fn lay_out(rt: &impl Abort, func: &mut Function, block: u32) -> Result<(), Fail> {
+    let block = block_of(rt, func, block);
     assert!(rt; !func.is_block_inserted(block));
     func.append_block(block)?;
     Ok(())
 }
 
-fn lay_out_after(rt: &impl Abort, func: &mut Function, block: Block, after: Block) {
-    assert!(rt; has_block(func, block) && has_block(func, after));
+fn lay_out_after(rt: &impl Abort, func: &mut Function, block: u32, after: u32) -> Result<(), Fail> {
+    let block = block_of(rt, func, block);
+    let after = block_of(rt, func, after);
     assert!(rt; !func.is_block_inserted(block));
     assert!(rt; func.is_block_inserted(after));
     func.insert_block_after(block, after);
+    Ok(())
 }
 
-fn cold(rt: &impl Abort, func: &mut Function, block: Block) {
-    assert!(rt; has_block(func, block));
+fn ensure(rt: &impl Abort, func: &mut Function, block: u32) -> Result<(), Fail> {
+    let block = block_of(rt, func, block);
+    func.ensure_block_inserted(block)?;
+    Ok(())
+}
+
+fn cold(rt: &impl Abort, func: &mut Function, block: u32) -> Result<(), Fail> {
+    let block = block_of(rt, func, block);
     func.set_cold_block(block);
+    Ok(())
 }
 
-fn param(rt: &impl Abort, func: &mut Function, block: Block, ty: Type) -> Result<(), Fail> {
-    assert!(rt; has_block(func, block));
+fn param(rt: &impl Abort, func: &mut Function, block: u32, ty: Type) -> Result<(), Fail> {
+    let block = block_of(rt, func, block);
     func.append_block_param(block, ty)?;
     Ok(())
 }
@@ -81,12 +99,12 @@ fn param(rt: &impl Abort, func: &mut Function, block: Block, ty: Type) -> Result
 fn insert(
     rt: &impl Abort,
     func: &mut Function,
-    block: Block,
+    block: u32,
     end: BlockEnd,
     shape: InstructionData,
     ty: Type,
 ) -> Result<(), Fail> {
-    assert!(rt; has_block(func, block));
+    let block = block_of(rt, func, block);
     assert!(rt; has_operands(func, shape.arguments()));
     assert!(rt; has_edges(func, shape.branch_destination()));
     func.insert_inst(block, end, shape, ty, SourceLoc::new(PLACE))?;
@@ -96,7 +114,7 @@ fn insert(
 fn binary(
     rt: &impl Abort,
     func: &mut Function,
-    block: Block,
+    block: u32,
     opcode: BinaryOpcode,
     ty: Type,
     args: [Value; 2],
@@ -105,8 +123,8 @@ fn binary(
     insert(rt, func, block, BlockEnd::Back, shape, ty)
 }
 
-fn jump(rt: &impl Abort, func: &mut Function, block: Block, target: Block) -> Result<(), Fail> {
-    let destination = BlockCall::new(func.allocator(), target, &[])?;
+fn jump(rt: &impl Abort, func: &mut Function, block: u32, target: u32) -> Result<(), Fail> {
+    let destination = BlockCall::new(func.allocator(), b(rt, target), &[])?;
     let shape = InstructionData::Jump { destination };
     insert(rt, func, block, BlockEnd::Back, shape, Type::Invalid)
 }
@@ -114,39 +132,41 @@ fn jump(rt: &impl Abort, func: &mut Function, block: Block, target: Block) -> Re
 fn brif(
     rt: &impl Abort,
     func: &mut Function,
-    block: Block,
-    arg: Value,
-    targets: [Block; 2],
+    block: u32,
+    arg: u32,
+    targets: [u32; 2],
 ) -> Result<(), Fail> {
-    let taken = BlockCall::new(func.allocator(), targets[0], &[])?;
-    let other = BlockCall::new(func.allocator(), targets[1], &[])?;
-    let blocks = [taken, other];
-    let shape = InstructionData::Brif { arg, blocks };
+    let taken = BlockCall::new(func.allocator(), b(rt, targets[0]), &[])?;
+    let other = BlockCall::new(func.allocator(), b(rt, targets[1]), &[])?;
+    let shape = InstructionData::Brif {
+        arg: v(rt, arg),
+        blocks: [taken, other],
+    };
     insert(rt, func, block, BlockEnd::Back, shape, Type::Invalid)
 }
 
 fn append(
     rt: &impl Abort,
     func: &mut Function,
-    inst: Inst,
-    block: Block,
-    value: Value,
+    inst: u32,
+    block: u32,
+    value: u32,
 ) -> Result<(), Fail> {
-    assert!(rt; has_inst(func, inst));
-    assert!(rt; has_value(func, value));
-    func.append_branch_argument(inst, block, value)?;
+    let inst = inst_of(rt, func, inst);
+    let value = value_of(rt, func, value);
+    func.append_branch_argument(inst, b(rt, block), value)?;
     Ok(())
 }
 
-fn ret(rt: &impl Abort, func: &mut Function, block: Block, values: &[Value]) -> Result<(), Fail> {
+fn ret(rt: &impl Abort, func: &mut Function, block: u32, values: &[Value]) -> Result<(), Fail> {
     let args = ValueList::from_slice(func.allocator(), values)?;
     let shape = InstructionData::MultiAry { args };
     insert(rt, func, block, BlockEnd::Back, shape, Type::Invalid)
 }
 
-fn alias(rt: &impl Abort, func: &mut Function, param: Value, original: Value) -> Result<(), Fail> {
-    assert!(rt; has_value(func, param));
-    assert!(rt; has_value(func, original));
+fn alias(rt: &impl Abort, func: &mut Function, param: u32, original: u32) -> Result<(), Fail> {
+    let param = value_of(rt, func, param);
+    let original = value_of(rt, func, original);
     assert!(rt; is_param(func, param));
     assert!(rt; func.resolve_aliases(original) != param);
     func.change_param_to_alias(param, original)?;
@@ -155,46 +175,38 @@ fn alias(rt: &impl Abort, func: &mut Function, param: Value, original: Value) ->
 
 fn make(rt: &impl Abort, func: &mut Function, step: Step) -> Result<(), Fail> {
     match step {
-        Step::Create => {
-            func.create_block()?;
-            Ok(())
-        }
-        Step::LayOut(block) => lay_out(rt, func, b(rt, block)),
-        Step::LayOutAfter(block, after) => {
-            lay_out_after(rt, func, b(rt, block), b(rt, after));
-            Ok(())
-        }
-        Step::Cold(block) => {
-            cold(rt, func, b(rt, block));
-            Ok(())
-        }
-        Step::Param(block, ty) => param(rt, func, b(rt, block), ty),
+        Step::Create => create(func),
+        Step::LayOut(block) => lay_out(rt, func, block),
+        Step::LayOutAfter(block, after) => lay_out_after(rt, func, block, after),
+        Step::Ensure(block) => ensure(rt, func, block),
+        Step::Cold(block) => cold(rt, func, block),
+        Step::Param(block, ty) => param(rt, func, block, ty),
         Step::Iconst(block, end, ty, imm) => {
-            let shape = InstructionData::UnaryImm { imm };
-            insert(rt, func, b(rt, block), end, shape, ty)
+            insert(rt, func, block, end, InstructionData::UnaryImm { imm }, ty)
         }
         Step::Iadd(block, ty, x, y) => {
             let args = [v(rt, x), v(rt, y)];
-            binary(rt, func, b(rt, block), BinaryOpcode::Iadd, ty, args)
+            binary(rt, func, block, BinaryOpcode::Iadd, ty, args)
         }
         Step::Isub(block, ty, x, y) => {
             let args = [v(rt, x), v(rt, y)];
-            binary(rt, func, b(rt, block), BinaryOpcode::Isub, ty, args)
+            binary(rt, func, block, BinaryOpcode::Isub, ty, args)
         }
-        Step::Jump(block, target) => jump(rt, func, b(rt, block), b(rt, target)),
-        Step::Brif(block, x, taken, other) => {
-            let targets = [b(rt, taken), b(rt, other)];
-            brif(rt, func, b(rt, block), v(rt, x), targets)
-        }
-        Step::Append(inst, block, x) => append(rt, func, i(rt, inst), b(rt, block), v(rt, x)),
-        Step::Return(block) => ret(rt, func, b(rt, block), &[]),
-        Step::ReturnOne(block, x) => ret(rt, func, b(rt, block), &[v(rt, x)]),
-        Step::ReturnTwo(block, x, y) => ret(rt, func, b(rt, block), &[v(rt, x), v(rt, y)]),
+        Step::Jump(block, target) => jump(rt, func, block, target),
+        Step::Brif(block, x, taken, other) => brif(rt, func, block, x, [taken, other]),
+        Step::Append(inst, block, x) => append(rt, func, inst, block, x),
+        Step::Return(block) => ret(rt, func, block, &[]),
+        Step::ReturnOne(block, x) => ret(rt, func, block, &[v(rt, x)]),
+        Step::ReturnTwo(block, x, y) => ret(rt, func, block, &[v(rt, x), v(rt, y)]),
         Step::ReturnFour(block, x, y, z, w) => {
             let values = [v(rt, x), v(rt, y), v(rt, z), v(rt, w)];
-            ret(rt, func, b(rt, block), &values)
+            ret(rt, func, block, &values)
         }
-        Step::Alias(x, y) => alias(rt, func, v(rt, x), v(rt, y)),
+        Step::Alias(x, y) => alias(rt, func, x, y),
+        Step::Is(fact) => {
+            assert!(rt; holds(rt, func, fact));
+            Ok(())
+        }
     }
 }
 
@@ -206,15 +218,23 @@ pub fn make_all(rt: &impl Abort, func: &mut Function, steps: &[Step]) -> Result<
     Ok(())
 }
 
-/// The function `%sample` that the steps make.
-pub fn made(rt: &impl Abort, alloc: Global, steps: &[Step]) -> Result<Function, Fail> {
-    let mut func = sample(alloc)?;
+/// Makes the steps in order on the function `%sample`.
+pub fn runs(rt: &impl Abort, alloc: Global, steps: &[Step]) -> Result<(), Fail> {
+    make_all(rt, &mut sample(alloc)?, steps)
+}
+
+/// Makes the steps in order, and asserts the text of the function then.
+pub fn makes_of(
+    rt: &impl Abort,
+    mut func: Function,
+    steps: &[Step],
+    text: &str,
+) -> Result<(), Fail> {
     make_all(rt, &mut func, steps)?;
-    Ok(func)
+    prints(rt, &func, text)
 }
 
 /// Asserts the text of the function `%sample` that the steps make.
 pub fn makes(rt: &impl Abort, alloc: Global, steps: &[Step], text: &str) -> Result<(), Fail> {
-    let func = made(rt, alloc, steps)?;
-    prints(rt, alloc, &func, text)
+    makes_of(rt, sample(alloc)?, steps, text)
 }

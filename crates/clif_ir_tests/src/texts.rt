@@ -4,8 +4,8 @@
 use crate::steps::Step::{
     Alias, Cold, Create, Iadd, Iconst, LayOut, Param, Return, ReturnFour, ReturnOne,
 };
-use crate::steps::{make_all, makes};
-use crate::support::{prints, signature};
+use crate::steps::{makes, makes_of};
+use crate::support::{prints, typed};
 use clif_ir::function::Function;
 use clif_ir::inst_list::BlockEnd::{Back, Front};
 use clif_types::types::{F64, I8, I32, I64};
@@ -17,16 +17,13 @@ fn empty_row(rt: HostRuntime) -> Result<(), Fail> {
     let alloc = rt.alloc();
     let name = UserFuncName::user(0, 0);
     let func = Function::with_name_signature(alloc, name, Signature::new(alloc, CallConv::Fast));
-    prints(&rt, alloc, &func, "function u0:0() fast {\n}\n")
+    prints(&rt, &func, "function u0:0() fast {\n}\n")
 }
 
 // The calls: use x, which nothing assigned, in the unsealed block0; x = x + 7; return x; seal.
 #[test]
 fn first_row(rt: HostRuntime) -> Result<(), Fail> {
-    let alloc = rt.alloc();
-    let name = UserFuncName::testcase(String::from_str(alloc, "first")?);
-    let returns = signature(alloc, &[], &[I32], CallConv::SystemV)?;
-    let mut func = Function::with_name_signature(alloc, name, returns);
+    let func = typed(rt.alloc(), "first", &[], &[I32], CallConv::SystemV)?;
     let steps = [
         Create,
         LayOut(0),
@@ -37,23 +34,18 @@ fn first_row(rt: HostRuntime) -> Result<(), Fail> {
         Iconst(0, Front, I32, 0),
         Alias(0, 3),
     ];
-    make_all(&rt, &mut func, &steps)?;
     let text =
         "function %first() -> i32 system_v {\nblock0:\n    v3 = iconst.i32 0\n    v0 -> v3\n    v1 = iconst.i32 7\n    v2 = iadd v0, v1  ; v0 = 0, v1 = 7\n    return v2\n}\n";
-    prints(&rt, alloc, &func, text)
+    makes_of(&rt, func, &steps, text)
 }
 
 #[test]
 fn signatures_and_headers(rt: HostRuntime) -> Result<(), Fail> {
-    let alloc = rt.alloc();
-    let name = UserFuncName::testcase(String::from_str(alloc, "x")?);
-    let types = signature(alloc, &[I32, I64], &[I8, F64], CallConv::Tail)?;
-    let mut func = Function::with_name_signature(alloc, name, types);
+    let func = typed(rt.alloc(), "x", &[I32, I64], &[I8, F64], CallConv::Tail)?;
     let steps = [Create, LayOut(0), Param(0, I32), Param(0, I64), Return(0)];
-    make_all(&rt, &mut func, &steps)?;
     let text =
         "function %x(i32, i64) -> i8, f64 tail {\nblock0(v0: i32, v1: i64):\n    return\n}\n";
-    prints(&rt, alloc, &func, text)
+    makes_of(&rt, func, &steps, text)
 }
 
 // A cold block says so behind its parameters.

@@ -2,7 +2,8 @@
 #![tactic(auto)]
 
 use crate::steps::Step::{Alias, Create, Iadd, Iconst, LayOut, Param, ReturnTwo};
-use crate::steps::made;
+use crate::steps::make_all;
+use crate::support::sample;
 use clif_ir::function::Function;
 use clif_ir::inst_list::BlockEnd::Back;
 use clif_types::types::I32;
@@ -42,29 +43,33 @@ fn all_forms(rt: &impl Abort, alloc: Global) -> Result<Function, Fail> {
         ReturnTwo(1, 1, 3),
         Alias(1, 0),
     ];
-    made(rt, alloc, &steps)
+    let mut func = sample(alloc)?;
+    make_all(rt, &mut func, &steps)?;
+    Ok(func)
 }
 
-// A refusal at any piece is answered, and what was taken before it is the head of the whole text.
+// Prints into a writer that takes so many pieces, and answers whether it refused one: then the call says so, and what
+// was taken before is the head of the whole text.
+fn refuses(rt: &impl Abort, func: &Function, text: &str, left: u32) -> bool {
+    let taken = String::new(func.allocator());
+    let mut writer = Refusing { left, taken };
+    let shown = func.display();
+    let ended = write!(writer, "{shown}");
+    let whole = writer.taken.as_str() == text;
+    assert!(rt; ended.is_ok() == whole);
+    assert!(rt; text.starts_with(writer.taken.as_str()));
+    !whole
+}
+
+// A refusal at any piece is answered.
 #[test]
 fn refused_pieces(rt: HostRuntime) -> Result<(), Fail> {
-    let alloc = rt.alloc();
-    let func = all_forms(&rt, alloc)?;
+    let func = all_forms(&rt, rt.alloc())?;
     let text =
         "function %sample() system_v {\nblock0(v0: i32):\n    v1 -> v0\n    v2 = iconst.i32 0x0001_1170\n\nblock1:\n    v3 = iadd.i32 v0, v2  ; v2 = 0x0001_1170\n    return v1, v3\n}\n";
     let mut refusals = 0_u32;
     for left in 0..300_u32 {
-        let taken = String::new(alloc);
-        let mut writer = Refusing { left, taken };
-        let shown = func.display();
-        let ended = write!(writer, "{shown}");
-        let whole = writer.taken.as_str() == text;
-        assert_eq!(rt; ended.is_ok(), whole, "after {left} pieces");
-        assert!(rt;
-            text.starts_with(writer.taken.as_str()),
-            "after {left} pieces"
-        );
-        if !whole && refusals < 1000 {
+        if refuses(&rt, &func, text, left) && refusals < 1000 {
             refusals += 1;
         }
     }
