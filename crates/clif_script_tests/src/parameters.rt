@@ -5,7 +5,8 @@ use crate::support::Step::{
     Create, Declare, FunctionParams, FunctionReturns, Iadd, Iconst, Jump, JumpWith, Param, Return,
     ReturnNone, Seal, SealAll, Switch,
 };
-use crate::support::{F32, I32, I64, all_refuse, builds, builds_on};
+use crate::support::{F32, I32, I64, Step, all_refuse, builds, builds_on};
+use clif_script::ReplayError;
 use clif_script::ReplayError::Misuse;
 use std::test::Fail;
 
@@ -147,79 +148,75 @@ fn returned_values_of_the_function(rt: HostRuntime) -> Result<(), Fail> {
     )
 }
 
+const MISUSED_PARAMETERS_OF_A_SIGNATURE: [(&[Step], ReplayError); 6] = [
+    // a block in which something was made
+    (
+        &[Create, Switch(0, 0), Iconst(I32), FunctionParams(0, 0)],
+        Misuse(3),
+    ),
+    (
+        &[Create, Switch(0, 0), Iconst(I32), FunctionReturns(0, 0)],
+        Misuse(3),
+    ),
+    // a block to which a branch leads
+    (
+        &[
+            Create,
+            Create,
+            Switch(0, 0),
+            Jump(1, 0),
+            FunctionParams(1, 0),
+        ],
+        Misuse(4),
+    ),
+    // no block
+    (&[FunctionParams(0, 0)], Misuse(0)),
+    (&[Create, FunctionReturns(0, 1)], Misuse(1)),
+    // no answer, where there is no parameter
+    (
+        &[Create, FunctionParams(0, 0), Switch(0, 0), Return(1, 0)],
+        Misuse(3),
+    ),
+];
+
 #[test]
 fn misused_parameters_of_a_signature(rt: HostRuntime) -> Result<(), Fail> {
-    all_refuse(
-        &rt,
-        rt.alloc(),
-        &[
-            // a block in which something was made
-            (
-                &[Create, Switch(0, 0), Iconst(I32), FunctionParams(0, 0)],
-                Misuse(3),
-            ),
-            (
-                &[Create, Switch(0, 0), Iconst(I32), FunctionReturns(0, 0)],
-                Misuse(3),
-            ),
-            // a block to which a branch leads
-            (
-                &[
-                    Create,
-                    Create,
-                    Switch(0, 0),
-                    Jump(1, 0),
-                    FunctionParams(1, 0),
-                ],
-                Misuse(4),
-            ),
-            // no block
-            (&[FunctionParams(0, 0)], Misuse(0)),
-            (&[Create, FunctionReturns(0, 1)], Misuse(1)),
-            // no answer, where there is no parameter
-            (
-                &[Create, FunctionParams(0, 0), Switch(0, 0), Return(1, 0)],
-                Misuse(3),
-            ),
-        ],
-    )
+    all_refuse(&rt, rt.alloc(), &MISUSED_PARAMETERS_OF_A_SIGNATURE)
 }
+
+const MISUSED_PARAMETERS: [(&[Step], ReplayError); 8] = [
+    // a block in which something was made, or that is filled
+    (
+        &[Create, Switch(0, 0), Iconst(I32), Param((0, 0), I32)],
+        Misuse(3),
+    ),
+    (
+        &[Create, Switch(0, 0), ReturnNone, Param((0, 0), I32)],
+        Misuse(3),
+    ),
+    // no block: no such call, no such answer, another kind
+    (&[Param((0, 0), I32)], Misuse(0)),
+    (&[Create, Param((0, 1), I32)], Misuse(1)),
+    (&[Declare(I32), Param((0, 0), I32)], Misuse(1)),
+    (&[Create, Param((0, 0), I32), Param((1, 0), I32)], Misuse(2)),
+    // a parameter is answer 0 of its call, and no other
+    (
+        &[
+            Create,
+            Create,
+            Param((1, 0), I32),
+            Switch(0, 0),
+            JumpWith((1, 0), (2, 1)),
+        ],
+        Misuse(4),
+    ),
+    (
+        &[Create, Create, Param((1, 0), I32), Switch(0, 0), Jump(2, 0)],
+        Misuse(4),
+    ),
+];
 
 #[test]
 fn misused_parameters(rt: HostRuntime) -> Result<(), Fail> {
-    all_refuse(
-        &rt,
-        rt.alloc(),
-        &[
-            // a block in which something was made, or that is filled
-            (
-                &[Create, Switch(0, 0), Iconst(I32), Param((0, 0), I32)],
-                Misuse(3),
-            ),
-            (
-                &[Create, Switch(0, 0), ReturnNone, Param((0, 0), I32)],
-                Misuse(3),
-            ),
-            // no block: no such call, no such answer, another kind
-            (&[Param((0, 0), I32)], Misuse(0)),
-            (&[Create, Param((0, 1), I32)], Misuse(1)),
-            (&[Declare(I32), Param((0, 0), I32)], Misuse(1)),
-            (&[Create, Param((0, 0), I32), Param((1, 0), I32)], Misuse(2)),
-            // a parameter is answer 0 of its call, and no other
-            (
-                &[
-                    Create,
-                    Create,
-                    Param((1, 0), I32),
-                    Switch(0, 0),
-                    JumpWith((1, 0), (2, 1)),
-                ],
-                Misuse(4),
-            ),
-            (
-                &[Create, Create, Param((1, 0), I32), Switch(0, 0), Jump(2, 0)],
-                Misuse(4),
-            ),
-        ],
-    )
+    all_refuse(&rt, rt.alloc(), &MISUSED_PARAMETERS)
 }

@@ -5,7 +5,8 @@ use crate::support::Step::{
     Cold, Create, Declare, Def, Ensure, Iadd, Iconst, InsertAfter, Jump, ReturnNone, Seal, SealAll,
     Switch, Use,
 };
-use crate::support::{I32, all_refuse, builds};
+use crate::support::{I32, Step, all_refuse, builds};
+use clif_script::ReplayError;
 use clif_script::ReplayError::{Misuse, Refused};
 use std::test::Fail;
 
@@ -180,90 +181,86 @@ fn sealed_at_once(rt: HostRuntime) -> Result<(), Fail> {
     builds(&rt, rt.alloc(), &steps, DEAD_LOOP)
 }
 
+const MISUSED_INSERTIONS: [(&[Step], ReplayError); 6] = [
+    // a block that is in the layout: by what was made in it, or by an insertion
+    (
+        &[
+            Create,
+            Switch(0, 0),
+            ReturnNone,
+            InsertAfter((0, 0), (0, 0)),
+        ],
+        Misuse(3),
+    ),
+    (
+        &[
+            Create,
+            Create,
+            Switch(0, 0),
+            ReturnNone,
+            InsertAfter((1, 0), (0, 0)),
+            InsertAfter((1, 0), (0, 0)),
+        ],
+        Misuse(5),
+    ),
+    // behind a block that isn't in it
+    (&[Create, Create, InsertAfter((1, 0), (0, 0))], Misuse(2)),
+    // a variable, an instruction and nothing where a block is named
+    (
+        &[
+            Declare(I32),
+            Create,
+            Switch(1, 0),
+            ReturnNone,
+            InsertAfter((0, 0), (1, 0)),
+        ],
+        Misuse(4),
+    ),
+    (
+        &[
+            Create,
+            Create,
+            Switch(0, 0),
+            ReturnNone,
+            InsertAfter((1, 0), (3, 0)),
+        ],
+        Misuse(4),
+    ),
+    (
+        &[
+            Create,
+            Create,
+            Switch(0, 0),
+            ReturnNone,
+            InsertAfter((1, 0), (9, 0)),
+        ],
+        Misuse(4),
+    ),
+];
+
 #[test]
 fn misused_insertions(rt: HostRuntime) -> Result<(), Fail> {
-    all_refuse(
-        &rt,
-        rt.alloc(),
-        &[
-            // a block that is in the layout: by what was made in it, or by an insertion
-            (
-                &[
-                    Create,
-                    Switch(0, 0),
-                    ReturnNone,
-                    InsertAfter((0, 0), (0, 0)),
-                ],
-                Misuse(3),
-            ),
-            (
-                &[
-                    Create,
-                    Create,
-                    Switch(0, 0),
-                    ReturnNone,
-                    InsertAfter((1, 0), (0, 0)),
-                    InsertAfter((1, 0), (0, 0)),
-                ],
-                Misuse(5),
-            ),
-            // behind a block that isn't in it
-            (&[Create, Create, InsertAfter((1, 0), (0, 0))], Misuse(2)),
-            // a variable, an instruction and nothing where a block is named
-            (
-                &[
-                    Declare(I32),
-                    Create,
-                    Switch(1, 0),
-                    ReturnNone,
-                    InsertAfter((0, 0), (1, 0)),
-                ],
-                Misuse(4),
-            ),
-            (
-                &[
-                    Create,
-                    Create,
-                    Switch(0, 0),
-                    ReturnNone,
-                    InsertAfter((1, 0), (3, 0)),
-                ],
-                Misuse(4),
-            ),
-            (
-                &[
-                    Create,
-                    Create,
-                    Switch(0, 0),
-                    ReturnNone,
-                    InsertAfter((1, 0), (9, 0)),
-                ],
-                Misuse(4),
-            ),
-        ],
-    )
+    all_refuse(&rt, rt.alloc(), &MISUSED_INSERTIONS)
 }
+
+const MISUSED_MARKS: [(&[Step], ReplayError); 9] = [
+    (&[Cold(0, 0)], Misuse(0)),
+    (&[Declare(I32), Cold(0, 0)], Misuse(1)),
+    (&[Create, Cold(0, 1)], Misuse(1)),
+    // in no block, in one that isn't current, and in one that is filled
+    (&[Ensure], Misuse(0)),
+    (&[Create, Ensure], Misuse(1)),
+    (&[Create, Switch(0, 0), ReturnNone, Ensure], Misuse(3)),
+    // the block is begun, so it isn't left, and has to be finished
+    (
+        &[Create, Create, Switch(0, 0), Ensure, Switch(1, 0)],
+        Misuse(4),
+    ),
+    (&[Create, Switch(0, 0), Ensure], Refused(3)),
+    (&[Create, Switch(0, 0), Ensure, Seal(0, 0)], Refused(4)),
+];
 
 #[test]
 fn misused_marks(rt: HostRuntime) -> Result<(), Fail> {
-    all_refuse(
-        &rt,
-        rt.alloc(),
-        &[
-            (&[Cold(0, 0)], Misuse(0)),
-            (&[Declare(I32), Cold(0, 0)], Misuse(1)),
-            (&[Create, Cold(0, 1)], Misuse(1)),
-            // in no block, in one that isn't current, and in one that is filled
-            (&[Ensure], Misuse(0)),
-            (&[Create, Ensure], Misuse(1)),
-            (&[Create, Switch(0, 0), ReturnNone, Ensure], Misuse(3)),
-            // the block is begun, so it isn't left, and has to be finished
-            (
-                &[Create, Create, Switch(0, 0), Ensure, Switch(1, 0)],
-                Misuse(4),
-            ),
-            (&[Create, Switch(0, 0), Ensure], Refused(3)),
-            (&[Create, Switch(0, 0), Ensure, Seal(0, 0)], Refused(4)),
-        ],
-    )
+    all_refuse(&rt, rt.alloc(), &MISUSED_MARKS)
 }

@@ -188,69 +188,98 @@ fn gives(
     Ok(())
 }
 
+const EMPTY: &str = "function u0:0() fast {\n}\n";
+
 #[test]
 fn rows(rt: HostRuntime) -> Result<(), Fail> {
     let alloc = rt.alloc();
-    gives(&rt, alloc, &["first"], 0, FIRST, "")?;
-    gives(&rt, alloc, &["reordering"], 0, REORDERING, "")?;
-    gives(&rt, alloc, &["sample"], 0, SAMPLE, "")?;
-    gives(&rt, alloc, &["sample_late"], 0, SAMPLE_LATE, "")?;
-    gives(&rt, alloc, &["both_arms"], 0, BOTH_ARMS, "")?;
-    gives(&rt, alloc, &["empty"], 0, "function u0:0() fast {\n}\n", "")?;
+    for (name, text) in [
+        ("first", FIRST),
+        ("reordering", REORDERING),
+        ("sample", SAMPLE),
+        ("sample_late", SAMPLE_LATE),
+        ("both_arms", BOTH_ARMS),
+        ("empty", EMPTY),
+    ] {
+        gives(&rt, alloc, &[name], 0, text, "")?;
+    }
     gives(&rt, alloc, &[], 0, NAMES, "")
 }
 
 #[test]
 fn unknown_rows(rt: HostRuntime) -> Result<(), Fail> {
-    let alloc = rt.alloc();
-    gives(&rt, alloc, &["First"], 2, "", "unknown row: First\n")?;
-    gives(&rt, alloc, &["first "], 2, "", "unknown row: first \n")?;
-    gives(&rt, alloc, &["firs"], 2, "", "unknown row: firs\n")?;
-    gives(&rt, alloc, &[""], 2, "", "unknown row: \n")
+    for (name, told) in [
+        ("First", "unknown row: First\n"),
+        ("first ", "unknown row: first \n"),
+        ("firs", "unknown row: firs\n"),
+        ("", "unknown row: \n"),
+    ] {
+        gives(&rt, rt.alloc(), &[name], 2, "", told)?;
+    }
+    Ok(())
 }
+
+const USAGE: &str = "usage: rows [NAME]\n";
 
 #[test]
 fn too_many_arguments(rt: HostRuntime) -> Result<(), Fail> {
     let alloc = rt.alloc();
-    gives(
-        &rt,
-        alloc,
-        &["first", "empty"],
-        2,
-        "",
-        "usage: rows [NAME]\n",
-    )?;
-    gives(
-        &rt,
-        alloc,
-        &["x", "", "first"],
-        2,
-        "",
-        "usage: rows [NAME]\n",
-    )
+    gives(&rt, alloc, &["first", "empty"], 2, "", USAGE)?;
+    gives(&rt, alloc, &["x", "", "first"], 2, "", USAGE)
 }
 
-// With each write to `out` refused in turn the status is 1, until all writes are taken; what was
-// written begins the text, and nothing is told.
+// Where a run writes its text.
+#[derive(Clone, Copy)]
+enum Writer {
+    Out,
+    Err,
+}
+
+// One run that takes so many writes to this writer gives this status if it wrote this text, and else 1
+// after the beginning of the text. It writes nothing to the other one. The answer is whether it wrote the text.
+fn writes_text(
+    rt: &impl Abort,
+    alloc: Global,
+    args: &[&str],
+    writer: Writer,
+    writes: usize,
+    text: &str,
+) -> Result<bool, Fail> {
+    let (ended, out_writes, err_writes) = match writer {
+        Writer::Out => (0, writes, MANY),
+        Writer::Err => (2, MANY, writes),
+    };
+    let ran = run_with(alloc, args, out_writes, err_writes)?;
+    let (written, other) = match writer {
+        Writer::Out => (ran.out.as_slice(), ran.err.as_slice()),
+        Writer::Err => (ran.err.as_slice(), ran.out.as_slice()),
+    };
+    assert!(rt; other.is_empty(), "after {writes} writes");
+    assert!(rt;
+        text.as_bytes().starts_with(written),
+        "after {writes} writes"
+    );
+    if ran.status == ended {
+        assert!(rt; writes > 0);
+        assert_eq!(rt; written, text.as_bytes());
+        return Ok(true);
+    }
+    assert_eq!(rt; ran.status, 1, "after {writes} writes");
+    Ok(false)
+}
+
+// Each write is refused in turn, until all writes are taken.
 fn stops_at_each_write(
     rt: &impl Abort,
     alloc: Global,
     args: &[&str],
+    writer: Writer,
     text: &str,
 ) -> Result<(), Fail> {
     for writes in 0..MANY {
-        let ran = run_with(alloc, args, writes, MANY)?;
-        assert!(rt; ran.err.is_empty(), "after {writes} writes with {args:?}");
-        assert!(rt;
-            text.as_bytes().starts_with(ran.out.as_slice()),
-            "after {writes} writes with {args:?}"
-        );
-        if ran.status == 0 {
-            assert!(rt; writes > 0);
-            assert_eq!(rt; ran.out.as_slice(), text.as_bytes());
+        if writes_text(rt, alloc, args, writer, writes, text)? {
             return Ok(());
         }
-        assert_eq!(rt; ran.status, 1, "after {writes} writes with {args:?}");
     }
     Err("no run wrote its text")?
 }
@@ -258,39 +287,16 @@ fn stops_at_each_write(
 #[test]
 fn refused_output(rt: HostRuntime) -> Result<(), Fail> {
     let alloc = rt.alloc();
-    stops_at_each_write(&rt, alloc, &[], NAMES)?;
-    stops_at_each_write(&rt, alloc, &["both_arms"], BOTH_ARMS)?;
-    stops_at_each_write(&rt, alloc, &["first"], FIRST)?;
-    stops_at_each_write(&rt, alloc, &["empty"], "function u0:0() fast {\n}\n")
-}
-
-// The same for writes to `err`, after which the status is 2.
-fn stops_at_each_telling(
-    rt: &impl Abort,
-    alloc: Global,
-    args: &[&str],
-    text: &str,
-) -> Result<(), Fail> {
-    for writes in 0..MANY {
-        let ran = run_with(alloc, args, MANY, writes)?;
-        assert!(rt; ran.out.is_empty(), "after {writes} writes with {args:?}");
-        assert!(rt;
-            text.as_bytes().starts_with(ran.err.as_slice()),
-            "after {writes} writes with {args:?}"
-        );
-        if ran.status == 2 {
-            assert!(rt; writes > 0);
-            assert_eq!(rt; ran.err.as_slice(), text.as_bytes());
-            return Ok(());
-        }
-        assert_eq!(rt; ran.status, 1, "after {writes} writes with {args:?}");
+    stops_at_each_write(&rt, alloc, &[], Writer::Out, NAMES)?;
+    for (name, text) in [("both_arms", BOTH_ARMS), ("first", FIRST), ("empty", EMPTY)] {
+        stops_at_each_write(&rt, alloc, &[name], Writer::Out, text)?;
     }
-    Err("no run wrote its text")?
+    Ok(())
 }
 
 #[test]
 fn refused_errors(rt: HostRuntime) -> Result<(), Fail> {
     let alloc = rt.alloc();
-    stops_at_each_telling(&rt, alloc, &["loop"], "unknown row: loop\n")?;
-    stops_at_each_telling(&rt, alloc, &["a", "b"], "usage: rows [NAME]\n")
+    stops_at_each_write(&rt, alloc, &["loop"], Writer::Err, "unknown row: loop\n")?;
+    stops_at_each_write(&rt, alloc, &["a", "b"], Writer::Err, USAGE)
 }

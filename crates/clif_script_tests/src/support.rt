@@ -22,7 +22,7 @@ pub const I64: Type = Type::Lane(LaneType::I64);
 pub const F32: Type = Type::Lane(LaneType::F32);
 
 /// A call, where (place, answer) is a name; each constant is 1.
-#[derive(Clone, Copy, Debug)]
+#[derive(Clone, Copy)]
 pub enum Step {
     Create,
     Switch(usize, usize),
@@ -235,31 +235,32 @@ pub fn builds_on(
     Ok(())
 }
 
-/// The steps are answered by this error, and then a script without calls, with the same context, by its
-/// text.
-pub fn refuses(
+// The steps of this row are answered by this error, and then a script without calls, with the same context, by its
+// text.
+fn refuses(
     rt: &impl Abort,
     alloc: Global,
+    row: usize,
     steps: &[Step],
     error: ReplayError,
 ) -> Result<(), Fail> {
     let calls = calls_of(alloc, steps)?;
     let mut ctx = FunctionBuilderContext::new(alloc);
     let answer = answered(rt, alloc, calls.as_slice(), &mut ctx)?;
-    assert_eq!(rt; answer.err(), Some(error), "of {steps:?}");
+    assert_eq!(rt; answer.err(), Some(error), "in row {row}");
     let next = answered(rt, alloc, &[], &mut ctx)?;
     assert_eq!(rt; next?.as_str(), "function u0:0() fast {\n}\n");
     Ok(())
 }
 
-/// The same for each script of a table.
+/// The steps of each row are answered by its error, and leave the context as new.
 pub fn all_refuse(
     rt: &impl Abort,
     alloc: Global,
     rows: &[(&[Step], ReplayError)],
 ) -> Result<(), Fail> {
-    for row in rows.iter() {
-        refuses(rt, alloc, row.0, row.1)?;
+    for (row, (steps, error)) in rows.iter().enumerate() {
+        refuses(rt, alloc, row, steps, *error)?;
     }
     Ok(())
 }
