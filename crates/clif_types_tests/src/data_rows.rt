@@ -1,7 +1,7 @@
 //! Plain data: makers, readers and texts.
 #![tactic(auto)]
 
-use crate::support::{Datum, all_show, copies, prints};
+use crate::support::{Datum, all_show, copies, prints, shows};
 use clif_types::alias_region::{AliasRegionData, AliasRegionSet};
 use clif_types::call_conv::CallConv;
 use clif_types::condcodes::IntCC;
@@ -44,7 +44,7 @@ fn words(rt: HostRuntime) -> Result<(), Fail> {
 
 fn is_called(rt: &impl Abort, alloc: Global, condition: IntCC, text: &str) -> Result<(), Fail> {
     assert!(rt; condition.to_static_str() == text);
-    prints(rt, alloc, &condition, text)
+    shows(rt, alloc, Datum::Condition(condition), text)
 }
 
 #[test]
@@ -71,21 +71,32 @@ fn testcase(alloc: Global, text: &str) -> Result<TestcaseName, AllocError> {
     Ok(TestcaseName::new(String::from_str(alloc, text)?))
 }
 
+// Asserts that a copy of a name is the same name.
+fn is_copied(rt: &impl Abort, name: &TestcaseName) -> Result<TestcaseName, Fail> {
+    let copy = name.clone()?;
+    assert!(rt; copy == *name);
+    Ok(copy)
+}
+
+fn differs(rt: &impl Abort, name: &TestcaseName, other: TestcaseName) {
+    assert!(rt; *name != other);
+}
+
 #[test]
 fn testcase_names(rt: HostRuntime) -> Result<(), Fail> {
     let name = testcase(rt.alloc(), "sample")?;
     assert!(rt; name.as_str() == "sample");
-    let copy = name.clone()?;
-    assert!(rt; copy == name);
-    assert!(rt; copy != testcase(rt.alloc(), "simple")?);
+    let copy = is_copied(&rt, &name)?;
+    differs(&rt, &copy, testcase(rt.alloc(), "simple")?);
     prints(&rt, rt.alloc(), &copy, "%sample")
 }
 
 #[test]
 fn names_of_functions(rt: HostRuntime) -> Result<(), Fail> {
-    copies(&rt, rt.alloc(), &UserFuncName::user(1, 2), "u1:2")?;
-    let sample = UserFuncName::testcase(String::from_str(rt.alloc(), "sample")?);
-    copies(&rt, rt.alloc(), &sample, "%sample")
+    let alloc = rt.alloc();
+    copies(&rt, alloc, UserFuncName::user(1, 2), "u1:2")?;
+    let sample = UserFuncName::testcase(String::from_str(alloc, "sample")?);
+    copies(&rt, alloc, sample, "%sample")
 }
 
 // The external name `%NAME`.
@@ -97,10 +108,10 @@ fn external(alloc: Global, name: &str) -> Result<ExternalName, AllocError> {
 fn external_names(rt: HostRuntime) -> Result<(), Fail> {
     let alloc = rt.alloc();
     prints(&rt, alloc, &UserExternalName::new(0, 0), "u0:0")?;
-    copies(&rt, alloc, &ExternalName::user(3, 4), "u3:4")?;
-    copies(&rt, alloc, &external(alloc, "g")?, "%g")?;
+    copies(&rt, alloc, ExternalName::user(3, 4), "u3:4")?;
+    copies(&rt, alloc, external(alloc, "g")?, "%g")?;
     let memcpy = ExternalName::LibCall(LibCall::Memcpy);
-    copies(&rt, alloc, &memcpy, "%Memcpy")
+    copies(&rt, alloc, memcpy, "%Memcpy")
 }
 
 fn push_types(list: &mut Vec<AbiParam>, types: &[types::Type]) -> Result<(), AllocError> {
@@ -133,7 +144,7 @@ fn signs(
     text: &str,
 ) -> Result<(), Fail> {
     let made = signature(alloc, params, returns, call_conv)?;
-    copies(rt, alloc, &made, text)
+    copies(rt, alloc, made, text)
 }
 
 #[test]
@@ -171,7 +182,7 @@ fn calls(
         colocated,
         patchable,
     };
-    copies(rt, alloc, &callee, text)
+    copies(rt, alloc, callee, text)
 }
 
 #[test]
@@ -181,7 +192,7 @@ fn callees(rt: HostRuntime) -> Result<(), Fail> {
     calls(&rt, alloc, true, false, "colocated %g sig0")?;
     calls(&rt, alloc, true, true, "colocated patchable %g sig0")?;
     let symbol = GlobalValueData::Symbol(external(alloc, "name")?);
-    copies(&rt, alloc, &symbol, "symbol %name")?;
+    copies(&rt, alloc, symbol, "symbol %name")?;
     prints(&rt, alloc, &GlobalValueData::VMContext, "vmctx")
 }
 
@@ -220,8 +231,7 @@ fn flags(rt: HostRuntime) -> Result<(), Fail> {
     let none = MemFlagsData::new();
     let mut aligned = none;
     aligned.set_aligned();
-    assert!(rt; aligned.aligned());
-    assert!(rt; !aligned.notrap());
+    assert!(rt; aligned.aligned() && !aligned.notrap());
     let mut trusted = aligned;
     trusted.set_notrap();
     assert!(rt; trusted == MemFlagsData::trusted());

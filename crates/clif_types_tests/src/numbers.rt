@@ -1,6 +1,7 @@
 //! Numbers and sets of them.
 #![tactic(auto)]
 
+use crate::support::{debugs, prints};
 use clif_types::entities::code::{Block, ExceptionTable, Inst, JumpTable, Value};
 use clif_types::entities::tables::{
     AliasRegion, Constant, DynamicStackSlot, FuncRef, GlobalValue, SigRef, StackSlot, ValueLabel,
@@ -38,9 +39,8 @@ fn names<K: EntityRef + Display + Debug>(
 ) -> Result<(), Fail> {
     let third = K::new(3);
     assert!(rt; third.index() == 3);
-    assert!(rt; format!(in alloc; "{third}")?.as_str() == text);
-    assert!(rt; format!(in alloc; "{third:?}")?.as_str() == text);
-    Ok(())
+    prints(rt, alloc, &third, text)?;
+    debugs(rt, alloc, &third, text)
 }
 
 fn names_kind(rt: &impl Abort, alloc: Global, kind: Kind, text: &str) -> Result<(), Fail> {
@@ -156,8 +156,7 @@ fn has_members(
     text: &str,
 ) -> Result<(), Fail> {
     let members = set.iter().collect::<Vec<Block>>(alloc)?;
-    assert!(rt; format!(in alloc; "{members:?}")?.as_str() == text);
-    Ok(())
+    debugs(rt, alloc, &members, text)
 }
 
 /// A set through its whole life, with each member inserted out of order.

@@ -2,14 +2,16 @@
 #![tactic(auto)]
 
 use clif_types::call_conv::CallConv;
+use clif_types::condcodes::IntCC;
 use clif_types::error::BuildError;
 use clif_types::libcall::LibCall;
 use clif_types::memflags::MemFlagsData;
 use clif_types::stackmap::UserStackMapEntry;
 use clif_types::stackslot::{DynamicStackSlotData, StackSlotData};
 use clif_types::trapcode::TrapCode;
+use clif_types::types::{LaneType, Type};
 use std::alloc::Global;
-use std::fmt::Display;
+use std::fmt::{Debug, Display};
 use std::process::Abort;
 use std::test::Fail;
 
@@ -24,6 +26,11 @@ pub enum Datum {
     DynamicStackSlot(DynamicStackSlotData),
     StackMapEntry(UserStackMapEntry),
     MemFlags(MemFlagsData),
+    Condition(IntCC),
+    Type(Type),
+    /// The same, by its `Debug`.
+    DebugType(Type),
+    LaneType(LaneType),
 }
 
 /// Asserts the text of a value.
@@ -38,14 +45,21 @@ pub fn prints<T: Display>(
     Ok(())
 }
 
+/// Asserts the text of a value by its `Debug`.
+pub fn debugs<T: Debug>(rt: &impl Abort, alloc: Global, value: &T, text: &str) -> Result<(), Fail> {
+    let found = format!(in alloc; "{value:?}")?;
+    assert!(rt; found.as_str() == text);
+    Ok(())
+}
+
 /// Asserts the text of a value, and of its copy.
 pub fn copies<T: Display + Clone>(
     rt: &impl Abort,
     alloc: Global,
-    value: &T,
+    value: T,
     text: &str,
 ) -> Result<(), Fail> {
-    prints(rt, alloc, value, text)?;
+    prints(rt, alloc, &value, text)?;
     prints(rt, alloc, &value.clone()?, text)
 }
 
@@ -60,6 +74,10 @@ pub fn shows(rt: &impl Abort, alloc: Global, datum: Datum, text: &str) -> Result
         Datum::DynamicStackSlot(value) => prints(rt, alloc, &value, text),
         Datum::StackMapEntry(value) => prints(rt, alloc, &value, text),
         Datum::MemFlags(value) => prints(rt, alloc, &value, text),
+        Datum::Condition(value) => prints(rt, alloc, &value, text),
+        Datum::Type(value) => prints(rt, alloc, &value, text),
+        Datum::DebugType(value) => debugs(rt, alloc, &value, text),
+        Datum::LaneType(value) => prints(rt, alloc, &value, text),
     }
 }
 

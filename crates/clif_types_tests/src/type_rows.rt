@@ -1,20 +1,15 @@
 //! Types: their widths, their lanes and their texts.
 #![tactic(auto)]
 
+use crate::support::{Datum, all_show};
 use clif_types::types;
 use clif_types::types::{LaneCount, LaneType, Type};
-use std::alloc::Global;
 use std::process::Abort;
 use std::test::Fail;
 
-fn is_wide(rt: &impl Abort, ty: Type, bits: u32, bytes: u32) {
-    assert!(rt; ty.bits() == bits);
-    assert!(rt; ty.bytes() == bytes);
-}
-
-fn has_lanes(rt: &impl Abort, ty: Type, lanes: u32, lane: Type) {
-    assert!(rt; ty.lane_count() == lanes);
-    assert!(rt; ty.lane_type() == lane);
+fn is_wide(rt: &impl Abort, ty: Type, bits: u32, bytes: u32, lanes: u32, lane: Type) {
+    assert!(rt; ty.bits() == bits && ty.bytes() == bytes);
+    assert!(rt; ty.lane_count() == lanes && ty.lane_type() == lane);
 }
 
 /// The widths, lanes and texts that Cranelift documents.
@@ -30,8 +25,7 @@ fn widths(rt: HostRuntime) {
         (types::I8X64, 512, 64, 64, types::I8),
     ];
     for (ty, bits, bytes, lanes, lane) in rows.iter() {
-        is_wide(&rt, *ty, *bits, *bytes);
-        has_lanes(&rt, *ty, *lanes, *lane);
+        is_wide(&rt, *ty, *bits, *bytes, *lanes, *lane);
     }
     assert!(rt; LaneType::F16.bits() == 16);
     assert!(rt; LaneCount::ThirtyTwo.lanes() == 32);
@@ -108,28 +102,25 @@ fn bounds(rt: HostRuntime) {
     is_bounded(&rt, types::I128, true, 1 << 127, u128::MAX >> 1);
 }
 
-fn shows(rt: &impl Abort, alloc: Global, ty: Type, shown: &str, debug: &str) -> Result<(), Fail> {
-    assert!(rt; format!(in alloc; "{ty}")?.as_str() == shown);
-    assert!(rt; format!(in alloc; "{ty:?}")?.as_str() == debug);
-    Ok(())
-}
-
 /// Texts, and Cranelift's `Debug`.
 #[test]
 fn texts(rt: HostRuntime) -> Result<(), Fail> {
     let rows = [
-        (types::I8, "i8", "types::I8"),
-        (types::I128, "i128", "types::I128"),
-        (types::F32, "f32", "types::F32"),
-        (types::I8X16, "i8x16", "types::I8X16"),
-        (types::F32X4, "f32x4", "types::F32X4"),
-        (types::I8X64, "i8x64", "types::I8X64"),
-        (types::INVALID, "types::INVALID", "types::INVALID"),
+        (Datum::Type(types::I8), "i8"),
+        (Datum::DebugType(types::I8), "types::I8"),
+        (Datum::Type(types::I128), "i128"),
+        (Datum::DebugType(types::I128), "types::I128"),
+        (Datum::Type(types::F32), "f32"),
+        (Datum::DebugType(types::F32), "types::F32"),
+        (Datum::Type(types::I8X16), "i8x16"),
+        (Datum::DebugType(types::I8X16), "types::I8X16"),
+        (Datum::Type(types::F32X4), "f32x4"),
+        (Datum::DebugType(types::F32X4), "types::F32X4"),
+        (Datum::Type(types::I8X64), "i8x64"),
+        (Datum::DebugType(types::I8X64), "types::I8X64"),
+        (Datum::Type(types::INVALID), "types::INVALID"),
+        (Datum::DebugType(types::INVALID), "types::INVALID"),
+        (Datum::LaneType(LaneType::F16), "f16"),
     ];
-    for (ty, shown, debug) in rows.iter() {
-        shows(&rt, rt.alloc(), *ty, shown, debug)?;
-    }
-    let lane = LaneType::F16;
-    assert!(rt; format!(in rt.alloc(); "{lane}")?.as_str() == "f16");
-    Ok(())
+    all_show(&rt, rt.alloc(), &rows)
 }
