@@ -1,6 +1,7 @@
 //! Plain data: makers, readers and texts.
 #![tactic(auto)]
 
+use crate::support::{Datum, all_show, copies, prints, shows};
 use clif_types::alias_region::{AliasRegionData, AliasRegionSet};
 use clif_types::call_conv::CallConv;
 use clif_types::condcodes::IntCC;
@@ -18,87 +19,98 @@ use clif_types::trapcode::TrapCode;
 use clif_types::{AliasRegion, SigRef, StackSlot, types};
 use std::alloc::{AllocError, Global};
 use std::fmt;
-use std::fmt::{Display, Write};
+use std::fmt::Write;
 use std::process::Abort;
 use std::test::Fail;
 
-fn prints<T: Display>(rt: &impl Abort, alloc: Global, value: &T, text: &str) -> Result<(), Fail> {
-    assert_eq!(rt; format!(in alloc; "{value}")?.as_str(), text);
-    Ok(())
-}
-
 #[test]
 fn words(rt: HostRuntime) -> Result<(), Fail> {
-    let alloc = rt.alloc();
-    prints(&rt, alloc, &CallConv::Fast, "fast")?;
-    prints(&rt, alloc, &CallConv::SystemV, "system_v")?;
-    prints(&rt, alloc, &CallConv::Tail, "tail")?;
-    prints(&rt, alloc, &TrapCode::User(7), "user7")?;
-    prints(&rt, alloc, &TrapCode::IntegerOverflow, "int_ovf")?;
-    prints(&rt, alloc, &TrapCode::DivisionByZero, "int_divz")?;
-    prints(&rt, alloc, &TrapCode::HeapOutOfBounds, "heap_oob")?;
-    prints(&rt, alloc, &LibCall::Memmove, "Memmove")?;
-    prints(&rt, alloc, &BuildError::Memory, "no memory")?;
-    prints(&rt, alloc, &BuildError::Full, "table full")?;
-    prints(&rt, alloc, &BuildError::Failed, "failed before")
+    let rows = [
+        (Datum::CallConv(CallConv::Fast), "fast"),
+        (Datum::CallConv(CallConv::SystemV), "system_v"),
+        (Datum::CallConv(CallConv::Tail), "tail"),
+        (Datum::TrapCode(TrapCode::User(7)), "user7"),
+        (Datum::TrapCode(TrapCode::IntegerOverflow), "int_ovf"),
+        (Datum::TrapCode(TrapCode::DivisionByZero), "int_divz"),
+        (Datum::TrapCode(TrapCode::HeapOutOfBounds), "heap_oob"),
+        (Datum::LibCall(LibCall::Memmove), "Memmove"),
+        (Datum::BuildError(BuildError::Memory), "no memory"),
+        (Datum::BuildError(BuildError::Full), "table full"),
+        (Datum::BuildError(BuildError::Failed), "failed before"),
+    ];
+    all_show(&rt, rt.alloc(), &rows)
+}
+
+fn is_called(rt: &impl Abort, alloc: Global, condition: IntCC, text: &str) -> Result<(), Fail> {
+    assert!(rt; condition.to_static_str() == text);
+    shows(rt, alloc, Datum::Condition(condition), text)
 }
 
 #[test]
 fn conditions(rt: HostRuntime) -> Result<(), Fail> {
-    let all = [
-        IntCC::Equal,
-        IntCC::NotEqual,
-        IntCC::SignedLessThan,
-        IntCC::SignedGreaterThanOrEqual,
-        IntCC::SignedGreaterThan,
-        IntCC::SignedLessThanOrEqual,
-        IntCC::UnsignedLessThan,
-        IntCC::UnsignedGreaterThanOrEqual,
-        IntCC::UnsignedGreaterThan,
-        IntCC::UnsignedLessThanOrEqual,
+    let rows = [
+        (IntCC::Equal, "eq"),
+        (IntCC::NotEqual, "ne"),
+        (IntCC::SignedLessThan, "slt"),
+        (IntCC::SignedGreaterThanOrEqual, "sge"),
+        (IntCC::SignedGreaterThan, "sgt"),
+        (IntCC::SignedLessThanOrEqual, "sle"),
+        (IntCC::UnsignedLessThan, "ult"),
+        (IntCC::UnsignedGreaterThanOrEqual, "uge"),
+        (IntCC::UnsignedGreaterThan, "ugt"),
+        (IntCC::UnsignedLessThanOrEqual, "ule"),
     ];
-    let texts = [
-        "eq", "ne", "slt", "sge", "sgt", "sle", "ult", "uge", "ugt", "ule",
-    ];
-    for (condition, text) in all.into_iter().zip(texts) {
-        assert_eq!(rt; condition.to_static_str(), text);
-        prints(&rt, rt.alloc(), &condition, text)?;
+    for (condition, text) in rows.iter() {
+        is_called(&rt, rt.alloc(), *condition, text)?;
     }
     Ok(())
 }
 
+fn testcase(alloc: Global, text: &str) -> Result<TestcaseName, AllocError> {
+    Ok(TestcaseName::new(String::from_str(alloc, text)?))
+}
+
+// Asserts that a copy of a name is the same name.
+fn is_copied(rt: &impl Abort, name: &TestcaseName) -> Result<TestcaseName, Fail> {
+    let copy = name.clone()?;
+    assert!(rt; copy == *name);
+    Ok(copy)
+}
+
+fn differs(rt: &impl Abort, name: &TestcaseName, other: TestcaseName) {
+    assert!(rt; *name != other);
+}
+
 #[test]
 fn testcase_names(rt: HostRuntime) -> Result<(), Fail> {
-    let alloc = rt.alloc();
-    let name = TestcaseName::new(String::from_str(alloc, "sample")?);
-    assert_eq!(rt; name.as_str(), "sample");
-    let copy = name.clone()?;
-    assert!(rt; copy == name);
-    assert!(rt; copy != TestcaseName::new(String::from_str(alloc, "simple")?));
-    prints(&rt, alloc, &copy, "%sample")
+    let name = testcase(rt.alloc(), "sample")?;
+    assert!(rt; name.as_str() == "sample");
+    let copy = is_copied(&rt, &name)?;
+    differs(&rt, &copy, testcase(rt.alloc(), "simple")?);
+    prints(&rt, rt.alloc(), &copy, "%sample")
 }
 
 #[test]
 fn names_of_functions(rt: HostRuntime) -> Result<(), Fail> {
     let alloc = rt.alloc();
-    prints(&rt, alloc, &UserFuncName::user(1, 2).clone()?, "u1:2")?;
+    copies(&rt, alloc, UserFuncName::user(1, 2), "u1:2")?;
     let sample = UserFuncName::testcase(String::from_str(alloc, "sample")?);
-    prints(&rt, alloc, &sample.clone()?, "%sample")
+    copies(&rt, alloc, sample, "%sample")
+}
+
+// The external name `%NAME`.
+fn external(alloc: Global, name: &str) -> Result<ExternalName, AllocError> {
+    Ok(ExternalName::testcase(String::from_str(alloc, name)?))
 }
 
 #[test]
 fn external_names(rt: HostRuntime) -> Result<(), Fail> {
     let alloc = rt.alloc();
     prints(&rt, alloc, &UserExternalName::new(0, 0), "u0:0")?;
-    prints(&rt, alloc, &ExternalName::user(3, 4).clone()?, "u3:4")?;
-    let callee = ExternalName::testcase(String::from_str(alloc, "g")?);
-    prints(&rt, alloc, &callee.clone()?, "%g")?;
-    prints(
-        &rt,
-        alloc,
-        &ExternalName::LibCall(LibCall::Memcpy).clone()?,
-        "%Memcpy",
-    )
+    copies(&rt, alloc, ExternalName::user(3, 4), "u3:4")?;
+    copies(&rt, alloc, external(alloc, "g")?, "%g")?;
+    let memcpy = ExternalName::LibCall(LibCall::Memcpy);
+    copies(&rt, alloc, memcpy, "%Memcpy")
 }
 
 fn push_types(list: &mut Vec<AbiParam>, types: &[types::Type]) -> Result<(), AllocError> {
@@ -121,88 +133,128 @@ fn signature(
     Ok(signature)
 }
 
+// Asserts the text of the signature of these parameters and returns.
+fn signs(
+    rt: &impl Abort,
+    alloc: Global,
+    params: &[types::Type],
+    returns: &[types::Type],
+    call_conv: CallConv,
+    text: &str,
+) -> Result<(), Fail> {
+    let made = signature(alloc, params, returns, call_conv)?;
+    copies(rt, alloc, made, text)
+}
+
 #[test]
 fn signatures(rt: HostRuntime) -> Result<(), Fail> {
     let alloc = rt.alloc();
-    let empty = signature(alloc, &[], &[], CallConv::Fast)?;
-    prints(&rt, alloc, &empty, "() fast")?;
-    let one = signature(alloc, &[types::I32], &[], CallConv::SystemV)?;
-    prints(&rt, alloc, &one, "(i32) system_v")?;
+    signs(&rt, alloc, &[], &[], CallConv::Fast, "() fast")?;
+    let one = [types::I32];
+    signs(&rt, alloc, &one, &[], CallConv::SystemV, "(i32) system_v")?;
     let pointers = [types::I64, types::I64, types::I64];
-    let copy = signature(alloc, &pointers, &[types::I64], CallConv::SystemV)?;
-    prints(
+    let copy = "(i64, i64, i64) -> i64 system_v";
+    signs(
         &rt,
         alloc,
-        &copy.clone()?,
-        "(i64, i64, i64) -> i64 system_v",
+        &pointers,
+        &[types::I64],
+        CallConv::SystemV,
+        copy,
     )?;
     let vectors = [types::I8X16, types::I8X16, types::F32X4];
-    let undefined = signature(alloc, &[], &vectors, CallConv::SystemV)?;
-    prints(&rt, alloc, &undefined, "() -> i8x16, i8x16, f32x4 system_v")
+    let undefined = "() -> i8x16, i8x16, f32x4 system_v";
+    signs(&rt, alloc, &[], &vectors, CallConv::SystemV, undefined)
+}
+
+// Asserts the text of a callee `%g`.
+fn calls(
+    rt: &impl Abort,
+    alloc: Global,
+    colocated: bool,
+    patchable: bool,
+    text: &str,
+) -> Result<(), Fail> {
+    let callee = ExtFuncData {
+        name: external(alloc, "g")?,
+        signature: SigRef::from_u32(0),
+        colocated,
+        patchable,
+    };
+    copies(rt, alloc, callee, text)
 }
 
 #[test]
 fn callees(rt: HostRuntime) -> Result<(), Fail> {
     let alloc = rt.alloc();
-    let mut callee = ExtFuncData {
-        name: ExternalName::testcase(String::from_str(alloc, "g")?),
-        signature: SigRef::from_u32(0),
-        colocated: false,
-        patchable: false,
-    };
-    prints(&rt, alloc, &callee, "%g sig0")?;
-    callee.colocated = true;
-    prints(&rt, alloc, &callee, "colocated %g sig0")?;
-    callee.patchable = true;
-    prints(&rt, alloc, &callee.clone()?, "colocated patchable %g sig0")?;
-    let symbol = GlobalValueData::Symbol(ExternalName::testcase(String::from_str(alloc, "name")?));
-    prints(&rt, alloc, &symbol.clone()?, "symbol %name")?;
+    calls(&rt, alloc, false, false, "%g sig0")?;
+    calls(&rt, alloc, true, false, "colocated %g sig0")?;
+    calls(&rt, alloc, true, true, "colocated patchable %g sig0")?;
+    let symbol = GlobalValueData::Symbol(external(alloc, "name")?);
+    copies(&rt, alloc, symbol, "symbol %name")?;
     prints(&rt, alloc, &GlobalValueData::VMContext, "vmctx")
 }
 
 #[test]
 fn slots(rt: HostRuntime) -> Result<(), Fail> {
-    let alloc = rt.alloc();
     let slot = StackSlotData::new(4, 2);
-    assert_eq!(rt; slot.size(), 4);
-    assert_eq!(rt; slot.align_shift(), 2);
-    assert_eq!(rt; slot.align(), 4);
-    prints(&rt, alloc, &slot, "explicit_slot 4, align = 4")?;
-    prints(&rt, alloc, &StackSlotData::new(3, 0), "explicit_slot 3")?;
-    prints(
-        &rt,
-        alloc,
-        &StackSlotData::new(8, 31),
-        "explicit_slot 8, align = 2147483648",
-    )?;
-    prints(
-        &rt,
-        alloc,
-        &DynamicStackSlotData { dyn_ty: 0 },
-        "explicit_dynamic_slot dt0",
-    )?;
+    assert!(rt; slot.size() == 4);
+    assert!(rt; slot.align_shift() == 2);
+    assert!(rt; slot.align() == 4);
     let entry = UserStackMapEntry {
         ty: types::I64,
         slot: StackSlot::from_u32(1),
         offset: 0,
     };
-    prints(&rt, alloc, &entry, "i64 @ ss1+0")
+    let rows = [
+        (Datum::StackSlot(slot), "explicit_slot 4, align = 4"),
+        (
+            Datum::StackSlot(StackSlotData::new(3, 0)),
+            "explicit_slot 3",
+        ),
+        (
+            Datum::StackSlot(StackSlotData::new(8, 31)),
+            "explicit_slot 8, align = 2147483648",
+        ),
+        (
+            Datum::DynamicStackSlot(DynamicStackSlotData { dyn_ty: 0 }),
+            "explicit_dynamic_slot dt0",
+        ),
+        (Datum::StackMapEntry(entry), "i64 @ ss1+0"),
+    ];
+    all_show(&rt, rt.alloc(), &rows)
 }
 
 #[test]
 fn flags(rt: HostRuntime) -> Result<(), Fail> {
-    let alloc = rt.alloc();
-    let mut flags = MemFlagsData::new();
-    prints(&rt, alloc, &flags, "")?;
-    flags.set_aligned();
-    prints(&rt, alloc, &flags, " aligned")?;
-    assert!(rt; flags.aligned());
-    assert!(rt; !flags.notrap());
-    flags.set_notrap();
-    assert_eq!(rt; flags, MemFlagsData::trusted());
-    assert_eq!(rt; flags.alias_region(), None);
-    flags.set_alias_region(Some(AliasRegion::from_u32(0)));
-    prints(&rt, alloc, &flags, " notrap aligned region0")
+    let none = MemFlagsData::new();
+    let mut aligned = none;
+    aligned.set_aligned();
+    assert!(rt; aligned.aligned() && !aligned.notrap());
+    let mut trusted = aligned;
+    trusted.set_notrap();
+    assert!(rt; trusted == MemFlagsData::trusted());
+    assert!(rt; trusted.alias_region() == None);
+    trusted.set_alias_region(Some(AliasRegion::from_u32(0)));
+    let rows = [
+        (Datum::MemFlags(none), ""),
+        (Datum::MemFlags(aligned), " aligned"),
+        (Datum::MemFlags(trusted), " notrap aligned region0"),
+    ];
+    all_show(&rt, rt.alloc(), &rows)
+}
+
+// Puts an alias region into a set, and asserts its number.
+fn inserts(rt: &impl Abort, set: &mut AliasRegionSet, region: AliasRegionData, number: u32) {
+    let inserted = set.insert(region);
+    assert!(rt; number < 1000);
+    assert!(rt; inserted == Ok(AliasRegion::from_u32(number)));
+}
+
+// Asserts which alias region has a number.
+fn has_region(rt: &impl Abort, set: &AliasRegionSet, number: u32, region: Option<AliasRegionData>) {
+    assert!(rt; number < 1000);
+    assert!(rt; set.get(AliasRegion::from_u32(number)) == region);
 }
 
 #[test]
@@ -210,37 +262,37 @@ fn regions(rt: HostRuntime) -> Result<(), Fail> {
     let mut set = AliasRegionSet::new(rt.alloc());
     let seventh = AliasRegionData { user_id: 7 };
     let eighth = AliasRegionData { user_id: 8 };
-    assert_eq!(rt; set.insert(seventh), Ok(AliasRegion::from_u32(0)));
-    assert_eq!(rt; set.insert(eighth), Ok(AliasRegion::from_u32(1)));
-    assert_eq!(rt; set.insert(seventh), Ok(AliasRegion::from_u32(0)));
-    assert_eq!(rt; set.as_slice().len(), 2);
-    assert_eq!(rt; set.get(AliasRegion::from_u32(1)), Some(eighth));
-    assert_eq!(rt; set.get(AliasRegion::from_u32(2)), None);
-    assert_eq!(rt; set.refusal(), None);
+    inserts(&rt, &mut set, seventh, 0);
+    inserts(&rt, &mut set, eighth, 1);
+    inserts(&rt, &mut set, seventh, 0);
+    assert!(rt; set.as_slice().len() == 2);
+    has_region(&rt, &set, 1, Some(eighth));
+    has_region(&rt, &set, 2, None);
+    assert!(rt; set.refusal() == None);
     prints(&rt, rt.alloc(), &seventh, "user 7")
 }
 
 #[test]
 fn places(rt: HostRuntime) {
-    assert_eq!(rt; SourceLoc::new(5).bits(), 5);
+    assert!(rt; SourceLoc::new(5).bits() == 5);
     assert!(rt; SourceLoc::new(4_294_967_295).is_default());
     assert!(rt; !SourceLoc::new(0).is_default());
 }
 
+fn points(rt: &impl Abort, pointer_width: PointerWidth, ty: types::Type) {
+    let target = TargetFrontendConfig {
+        default_call_conv: CallConv::SystemV,
+        pointer_width,
+        page_size_align_log2: 12,
+    };
+    assert!(rt; target.pointer_type() == ty);
+}
+
 #[test]
 fn pointers(rt: HostRuntime) {
-    for (pointer_width, ty) in [
-        (PointerWidth::U16, types::I16),
-        (PointerWidth::U32, types::I32),
-        (PointerWidth::U64, types::I64),
-    ] {
-        let target = TargetFrontendConfig {
-            default_call_conv: CallConv::SystemV,
-            pointer_width,
-            page_size_align_log2: 12,
-        };
-        assert_eq!(rt; target.pointer_type(), ty);
-    }
+    points(&rt, PointerWidth::U16, types::I16);
+    points(&rt, PointerWidth::U32, types::I32);
+    points(&rt, PointerWidth::U64, types::I64);
 }
 
 /// A writer that takes a few pieces and then refuses.
@@ -259,20 +311,18 @@ impl Write for Refusing {
     }
 }
 
+// Whether a signature can be written into a writer that takes so many pieces.
+fn fits(signature: &Signature, left: u32) -> bool {
+    write!(Refusing { left }, "{signature}").is_ok()
+}
+
 #[test]
 fn refused_writes(rt: HostRuntime) -> Result<(), Fail> {
-    let copy = signature(
-        rt.alloc(),
-        &[types::I64, types::I64],
-        &[types::I64],
-        CallConv::SystemV,
-    )?;
+    let pointers = [types::I64, types::I64];
+    let copy = signature(rt.alloc(), &pointers, &[types::I64], CallConv::SystemV)?;
     for left in 0..5 {
-        assert!(rt;
-            write!(Refusing { left }, "{copy}").is_err(),
-            "after {left} writes"
-        );
+        assert!(rt; !fits(&copy, left));
     }
-    assert!(rt; write!(Refusing { left: 100 }, "{copy}").is_ok());
+    assert!(rt; fits(&copy, 100));
     Ok(())
 }

@@ -7,4 +7,6 @@ mod data_rows;
 #[cfg(test)]
 mod numbers;
 #[cfg(test)]
+mod support;
+#[cfg(test)]
 mod type_rows;
