@@ -181,35 +181,41 @@ fn replayed_on(
     replay(alloc, calls, name, signature, ctx, config)
 }
 
-// The text or the refusal of a replay, after which the context is empty; where memory was refused the
-// test itself fails.
-fn answered(
+fn has_text(rt: &impl Abort, alloc: Global, func: &Function, text: &str) -> Result<(), Fail> {
+    assert_eq!(rt; format!(in alloc; "{}", func.display())?.as_str(), text);
+    Ok(())
+}
+
+// The calls give a function of this text, after which the context is empty.
+fn gives(
     rt: &impl Abort,
     alloc: Global,
     calls: &[Call],
     ctx: &mut FunctionBuilderContext,
-) -> Result<Result<String, ReplayError>, Fail>
+    text: &str,
+) -> Result<(), Fail>
     requires { ctx.old ≡ empty_context }
     ensures { ctx.new ≡ empty_context }
 {
     let built = replayed(alloc, calls, ctx);
     assert!(rt; ctx.is_empty());
-    match built {
-        Ok(func) => Ok(Ok(format!(in alloc; "{}", func.display())?)),
-        Err(ReplayError::Memory) => Err(ReplayError::Memory)?,
-        Err(error) => Ok(Err(error)),
-    }
+    has_text(rt, alloc, &built?, text)
 }
 
 /// The steps give a function of this text, and again with the same context.
 pub fn builds(rt: &impl Abort, alloc: Global, steps: &[Step], text: &str) -> Result<(), Fail> {
     let calls = calls_of(alloc, steps)?;
     let mut ctx = FunctionBuilderContext::new(alloc);
-    let first = answered(rt, alloc, calls.as_slice(), &mut ctx)?;
-    assert_eq!(rt; first?.as_str(), text);
-    let second = answered(rt, alloc, calls.as_slice(), &mut ctx)?;
-    assert_eq!(rt; second?.as_str(), text);
-    Ok(())
+    gives(rt, alloc, calls.as_slice(), &mut ctx, text)?;
+    gives(rt, alloc, calls.as_slice(), &mut ctx, text)
+}
+
+fn abi_params(alloc: Global, types: &[Type]) -> Result<Vec<AbiParam>, AllocError> {
+    let mut params = Vec::new(alloc);
+    for ty in types.iter() {
+        params.push(AbiParam::new(*ty))?;
+    }
+    Ok(params)
 }
 
 /// The steps give a function of this text, if it takes these parameters and returns these values.
@@ -222,16 +228,35 @@ pub fn builds_on(
     text: &str,
 ) -> Result<(), Fail> {
     let calls = calls_of(alloc, steps)?;
+    let signature = Signature {
+        params: abi_params(alloc, params)?,
+        returns: abi_params(alloc, returns)?,
+        call_conv: CallConv::Fast,
+    };
     let mut ctx = FunctionBuilderContext::new(alloc);
-    let mut signature = Signature::new(alloc, CallConv::Fast);
-    for ty in params {
-        signature.params.push(AbiParam::new(*ty))?;
+    let built = replayed_on(alloc, calls.as_slice(), signature, &mut ctx);
+    has_text(rt, alloc, &built?, text)
+}
+
+// The calls of this row are answered by this error, after which the context is empty; where memory was refused
+// the test itself fails.
+fn refused(
+    rt: &impl Abort,
+    alloc: Global,
+    row: usize,
+    calls: &[Call],
+    ctx: &mut FunctionBuilderContext,
+    error: ReplayError,
+) -> Result<(), Fail>
+    requires { ctx.old ≡ empty_context }
+    ensures { ctx.new ≡ empty_context }
+{
+    let answer = replayed(alloc, calls, ctx).err();
+    assert!(rt; ctx.is_empty());
+    if answer == Some(ReplayError::Memory) {
+        Err(ReplayError::Memory)?;
     }
-    for ty in returns {
-        signature.returns.push(AbiParam::new(*ty))?;
-    }
-    let func = replayed_on(alloc, calls.as_slice(), signature, &mut ctx)?;
-    assert_eq!(rt; format!(in alloc; "{}", func.display())?.as_str(), text);
+    assert_eq!(rt; answer, Some(error), "in row {row}");
     Ok(())
 }
 
@@ -246,11 +271,8 @@ fn refuses(
 ) -> Result<(), Fail> {
     let calls = calls_of(alloc, steps)?;
     let mut ctx = FunctionBuilderContext::new(alloc);
-    let answer = answered(rt, alloc, calls.as_slice(), &mut ctx)?;
-    assert_eq!(rt; answer.err(), Some(error), "in row {row}");
-    let next = answered(rt, alloc, &[], &mut ctx)?;
-    assert_eq!(rt; next?.as_str(), "function u0:0() fast {\n}\n");
-    Ok(())
+    refused(rt, alloc, row, calls.as_slice(), &mut ctx, error)?;
+    gives(rt, alloc, &[], &mut ctx, "function u0:0() fast {\n}\n")
 }
 
 /// The steps of each row are answered by its error, and leave the context as new.
