@@ -51,6 +51,11 @@ pub mod CountedOnce
 pub mod Answered
 pub mod Structuring
 pub mod StructuredSteps
+pub mod Steps
+pub mod LocalSteps
+pub mod SealSteps
+pub mod LeavesSteps
+pub mod LookSteps
 pub mod StructuredEnds
 pub mod StructuredMachine
 pub mod StructuredFinish

@@ -8,6 +8,7 @@ pub mod Incoming
 pub mod Running
 pub mod Sealing
 pub mod Limits
+pub mod Steps
 pub mod LimitLaws
 pub mod Sound
 pub mod SoundLaws

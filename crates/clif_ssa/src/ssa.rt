@@ -14,8 +14,9 @@ ghost use Rattle.clif_ssa.specs.SoundLaws.{DescribesSoundly, IsOpen};
 ghost use Rattle.clif_ssa.specs.Structure.{HasRecordOf, LooksOnce, LosesWaiting, NothingStray, Remembers};
 ghost use Rattle.clif_ssa.specs.Structured.{HasType, Structured, VariableTypes};
 ghost use Rattle.clif_ssa.specs.LookUp.{branch_block, no_look_up, LooksUp, MakesCall, UsesVariable, CompletesParameter};
-ghost use Rattle.clif_ssa.specs.Running.{stage, found, with_call, CallsFit, CompletesAll, CountsOnce, MakesAll, ToComplete};
+ghost use Rattle.clif_ssa.specs.Running.{stage, found, with_call, CallsFit, CompletesAll, MakesAll, ToComplete};
 ghost use Rattle.clif_ssa.specs.Sealing.{SealsBelow, SealsOne, SealsLocally, SealsByLookUp};
+ghost use Rattle.clif_ssa.specs.Steps.{SealKeeps, SealMakes, StepEnds, StepKeeps, StepLeaves, UsesLocally};
 ghost use Rattle.clif_ssa.specs.Within.{HoldsBranches, HoldsWaiting, StaysWithin};
 ghost use Rattle.clif_ssa.specs.Ssa.{no_state, record_of, sealed_of, predecessors_of, lookups_of, completed, completing_blocks, CountsEach, CountsLookup, Declares, HasMore, IsLocal, Named, NamesExist, Records, KnowsNoMore, RecordsStay, Removes, SamePredecessors, SameBlocks, SameLookups, SameRecords, SealedStays, Seals, Waits, Zeroes};
 
@@ -260,36 +261,12 @@ impl SSABuilder {
     ) -> Result<(Value, SideEffects), BuildError>
         requires exists { block < length func.old.blocks }
         requires unrecorded { record_of self.old variable block ≡ None }
-        ensures counts_none { is_yes (sealed_of self.old block) ≡ false → OnOk result (SameLookups self.old self.new) }
-        ensures counts_one { is_yes (sealed_of self.old block) ≡ true → OnOk result (CountsLookup self.old self.new variable block) }
-        ensures once { CountsOnce self.old self.new }
-        ensures waits { is_yes (sealed_of self.old block) ≡ false → OnOk result (Waits self.old self.new func.old func.new variable ty block) × IfOk result (λ r. (r.0 ≡ length func.old.values) × (r.1.instructions_added_to_blocks.items ≡ [])) }
-        ensures zero { is_yes (sealed_of self.old block) ≡ true → OnOk result (Zeroes self.old self.new func.old func.new variable ty block) × IfOk result (λ r. (r.0 ≡ length func.old.values + 1) × (r.1.instructions_added_to_blocks.items ≡ block ∷ [])) }
-        ensures predecessors { SamePredecessors self.old self.new }
-        ensures stay { RecordsStay self.old self.new }
-        ensures flags { SealedStays self.old self.new }
-        ensures no_more { KnowsNoMore self.old self.new (length func.old.blocks) }
-        ensures more { HasMore func.old func.new }
-        ensures constructs { OnlyConstructs func.old func.new }
-        ensures tells { IfOk result (λ r. TellsZeros func.old func.new r.1.instructions_added_to_blocks.items) }
-        ensures names { NamesExist func.old self.old → NamesExist func.new self.new }
-        ensures err { OnErr result (SameBlocks self.old self.new) }
-        ensures full { result ≡ Err BuildError.Full → IsFull func.new }
-        ensures takes { result ≢ Err BuildError.Memory → Takes func.old func.new 2 1 }
-        ensures takes_by_records { result ≢ Err BuildError.Memory → TakesByRecords func.old self.old func.new self.new }
-        ensures below { StaysBelowFor variable func.old self.old self.new }
-        ensures never_failed { result ≢ Err BuildError.Failed }
+        ensures used { UsesLocally variable ty block func.old self.old func.new self.new result }
+        ensures keeps { StepKeeps variable func.old self.old func.new self.new }
+        ensures ends { StepEnds func.old self.old func.new self.new result }
     {
-        let mut side_effects = SideEffects::new(self.alloc);
-        let param = func.append_block_param(block, ty)?;
-        self.tables.record(variable, block, param)?;
-        if self.tables.is_sealed(block) {
-            self.tables.count_lookup(variable, block)?;
-            let zero = replace_by_zero(func, param, &mut side_effects)?;
-            return Ok((zero, side_effects));
-        }
-        self.tables.wait(block, variable, param)?;
-        Ok((param, side_effects))
+        self.tables
+            .use_locally(self.alloc, func, variable, ty, block)
     }
 
     // Looks a variable up in a block.
@@ -304,19 +281,9 @@ impl SSABuilder {
         requires exists { block < length func.old.blocks }
         requires named { NamesExist func.old self.old }
         ensures looks { OnOk result (LooksUp variable ty block (stage func.old self.old look_up.old) (stage func.new self.new look_up.new)) }
-        ensures predecessors { SamePredecessors self.old self.new }
-        ensures stay { RecordsStay self.old self.new }
-        ensures flags { SealedStays self.old self.new }
-        ensures no_more { KnowsNoMore self.old self.new (length func.old.blocks) }
-        ensures more { HasMore func.old func.new }
-        ensures constructs { OnlyConstructs func.old func.new }
+        ensures keeps { StepKeeps variable func.old self.old func.new self.new }
         ensures tells { OnOk result (TellsMore func.old func.new look_up.old.zeros look_up.new.zeros) }
-        ensures names { NamesExist func.new self.new }
-        ensures once { CountsOnce self.old self.new }
-        ensures full { result ≡ Err BuildError.Full → IsFull func.new }
-        ensures takes_by_records { result ≢ Err BuildError.Memory → TakesByRecords func.old self.old func.new self.new }
-        ensures below { StaysBelowFor variable func.old self.old self.new }
-        ensures never_failed { result ≢ Err BuildError.Failed }
+        ensures ends { StepEnds func.old self.old func.new self.new result }
     {
         func.law_consistent();
         let reached = self.tables.walk(func, variable, block, &mut self.passed)?;
@@ -338,20 +305,10 @@ impl SSABuilder {
         requires named { NamesExist func.old self.old }
         requires calls_fit { CallsFit func.old self.old look_up.old }
         ensures made { IfOk result (λ v. MakesAll variable ty (stage func.old self.old look_up.old) v (stage func.new self.new look_up.new)) }
-        ensures predecessors { SamePredecessors self.old self.new }
-        ensures stay { RecordsStay self.old self.new }
-        ensures flags { SealedStays self.old self.new }
-        ensures no_more { KnowsNoMore self.old self.new (length func.old.blocks) }
-        ensures more { HasMore func.old func.new }
-        ensures constructs { OnlyConstructs func.old func.new }
+        ensures keeps { StepKeeps variable func.old self.old func.new self.new }
         ensures tells { OnOk result (TellsMore func.old func.new look_up.old.zeros look_up.new.zeros) }
-        ensures names { NamesExist func.new self.new }
-        ensures once { CountsOnce self.old self.new }
         ensures exists { IfOk result (λ v. v < length func.new.values) }
-        ensures full { result ≡ Err BuildError.Full → IsFull func.new }
-        ensures takes_by_records { result ≢ Err BuildError.Memory → TakesByRecords func.old self.old func.new self.new }
-        ensures below { StaysBelowFor variable func.old self.old self.new }
-        ensures never_failed { result ≢ Err BuildError.Failed }
+        ensures ends { StepEnds func.old self.old func.new self.new result }
     {
         while let Some(call) = look_up.next_call() {
             self.make_call(func, variable, ty, call, look_up)?;
@@ -372,19 +329,9 @@ impl SSABuilder {
         requires calls_fit { CallsFit func.old self.old (with_call call look_up.old) }
         ensures made { OnOk result (MakesCall variable ty (stage func.old self.old (with_call call look_up.old)) (stage func.new self.new look_up.new)) }
         ensures fits { OnOk result (CallsFit func.new self.new look_up.new) }
-        ensures predecessors { SamePredecessors self.old self.new }
-        ensures stay { RecordsStay self.old self.new }
-        ensures flags { SealedStays self.old self.new }
-        ensures no_more { KnowsNoMore self.old self.new (length func.old.blocks) }
-        ensures more { HasMore func.old func.new }
-        ensures constructs { OnlyConstructs func.old func.new }
+        ensures keeps { StepKeeps variable func.old self.old func.new self.new }
         ensures tells { OnOk result (TellsMore func.old func.new look_up.old.zeros look_up.new.zeros) }
-        ensures names { NamesExist func.new self.new }
-        ensures once { CountsOnce self.old self.new }
-        ensures full { result ≡ Err BuildError.Full → IsFull func.new }
-        ensures takes_by_records { result ≢ Err BuildError.Memory → TakesByRecords func.old self.old func.new self.new }
-        ensures below { StaysBelowFor variable func.old self.old self.new }
-        ensures never_failed { result ≢ Err BuildError.Failed }
+        ensures ends { StepEnds func.old self.old func.new self.new result }
     {
         match call {
             Call::UseVar(branch) => {
@@ -414,19 +361,11 @@ impl SSABuilder {
         requires idle { (look_up.old.calls ≡ []) × (look_up.old.results ≡ []) }
         ensures completes { OnOk result (CompletesParameter waiting.variable (value_at func.old waiting.param).ty waiting.param block (stage func.old self.old look_up.old) (stage func.new self.new look_up.new)) }
         ensures idle { OnOk result ((look_up.new.calls ≡ []) × (look_up.new.results ≡ [])) }
-        ensures predecessors { SamePredecessors self.old self.new }
-        ensures stay { RecordsStay self.old self.new }
-        ensures flags { SealedStays self.old self.new }
-        ensures no_more { KnowsNoMore self.old self.new (length func.old.blocks) }
-        ensures more { HasMore func.old func.new }
-        ensures constructs { OnlyConstructs func.old func.new }
+        ensures leaves { StepLeaves func.old self.old func.new self.new }
         ensures tells { OnOk result (TellsMore func.old func.new look_up.old.zeros look_up.new.zeros) }
-        ensures names { NamesExist func.new self.new }
         ensures looks_once { (rest : List Pending) → ToComplete self.old block (waiting ∷ rest) → ToComplete self.new block rest }
-        ensures full { result ≡ Err BuildError.Full → IsFull func.new }
-        ensures takes_by_records { result ≢ Err BuildError.Memory → TakesByRecords func.old self.old func.new self.new }
         ensures below { StaysBelowFor waiting.variable func.old self.old self.new }
-        ensures never_failed { result ≢ Err BuildError.Failed }
+        ensures ends { StepEnds func.old self.old func.new self.new result }
     {
         let Pending { variable, param } = waiting;
         let ty = func.value_type(param);
@@ -447,19 +386,11 @@ impl SSABuilder {
         requires params_exist { (p : Pending) → Contains waiting.now p → p.param < length func.old.values }
         requires idle { (look_up.old.calls ≡ []) × (look_up.old.results ≡ []) }
         ensures completes { OnOk result (CompletesAll block waiting.now (stage func.old self.old look_up.old) (stage func.new self.new look_up.new)) }
-        ensures predecessors { SamePredecessors self.old self.new }
-        ensures stay { RecordsStay self.old self.new }
-        ensures flags { SealedStays self.old self.new }
-        ensures no_more { KnowsNoMore self.old self.new (length func.old.blocks) }
-        ensures more { HasMore func.old func.new }
-        ensures constructs { OnlyConstructs func.old func.new }
+        ensures leaves { StepLeaves func.old self.old func.new self.new }
         ensures tells { OnOk result (TellsMore func.old func.new look_up.old.zeros look_up.new.zeros) }
-        ensures names { NamesExist func.new self.new }
         ensures looks_once { ToComplete self.old block waiting.now → LooksOnce self.new }
-        ensures full { result ≡ Err BuildError.Full → IsFull func.new }
-        ensures takes_by_records { result ≢ Err BuildError.Memory → TakesByRecords func.old self.old func.new self.new }
         ensures below { (variables blocks : ℕ) → length func.old.blocks ≤ blocks → ((p : Pending) → Contains waiting.now p → p.variable < variables) → RecordsBelow variables blocks self.old → RecordsBelow variables blocks self.new }
-        ensures never_failed { result ≢ Err BuildError.Failed }
+        ensures ends { StepEnds func.old self.old func.new self.new result }
     {
         for pending in waiting.iter() {
             self.complete_parameter(func, block, *pending, look_up)?;
@@ -503,23 +434,9 @@ impl SSABuilder {
         func: &mut Function,
     ) -> Result<SideEffects, BuildError>
         requires named { Named func.old self.old }
-        ensures sealed { OnOk result (SealsOne self.old self.new block) }
-        ensures err { OnErr result (SealedStays self.old self.new ⊎ SealsOne self.old self.new block) }
-        ensures local { predecessors_of self.old block ≡ [] → SealsLocally func.old self.old func.new self.new block result }
-        ensures completes { predecessors_of self.old block ≢ [] → IfOk result (λ r. SealsByLookUp func.old self.old func.new self.new block r.instructions_added_to_blocks.items) }
-        ensures looks_once { LooksOnce self.old → LooksOnce self.new }
-        ensures predecessors { SamePredecessors self.old self.new }
-        ensures stay { RecordsStay self.old self.new }
-        ensures no_more { block < length func.old.blocks → KnowsNoMore self.old self.new (length func.old.blocks) }
-        ensures more { HasMore func.old func.new }
-        ensures constructs { OnlyConstructs func.old func.new }
-        ensures tells { IfOk result (λ r. TellsZeros func.old func.new r.instructions_added_to_blocks.items) }
-        ensures names { NamesExist func.old self.old → NamesExist func.new self.new }
-        ensures full { result ≡ Err BuildError.Full → IsFull func.new }
-        ensures takes { predecessors_of self.old block ≡ [] → result ≢ Err BuildError.Memory → Takes func.old func.new 0 0 }
-        ensures takes_by_records { result ≢ Err BuildError.Memory → TakesByRecords func.old self.old func.new self.new }
-        ensures below { StaysBelow func.old self.old self.new }
-        ensures never_failed { result ≢ Err BuildError.Failed }
+        ensures makes { SealMakes block func.old self.old func.new self.new result }
+        ensures keeps { SealKeeps block func.old self.old func.new self.new }
+        ensures ends { StepEnds func.old self.old func.new self.new result }
     {
         let waiting = self.tables.seal(block)?;
         if !self.tables.has_any_predecessors(block) {

@@ -1,20 +1,23 @@
 //! What the construction knows, and the changes that a look-up makes of it.
-ghost use Rattle.std.specs.Prelude.{◌≡◌, ◌≢◌, ◌<◌, ◌≤◌, ◌+◌, ◌↔◌, ◌++◌, ◌∷◌, ◌==◌, ◌&&◌, ◌⊎◌, [], ℕ, IsTrue, length, Some, None, true, false, ◌^◌, OnOk, OnErr, IfOk, IfSome, if◌then◌else◌};
+ghost use Rattle.std.specs.Prelude.{◌≡◌, ◌≢◌, ◌<◌, ◌≤◌, ◌+◌, ◌↔◌, ◌++◌, ◌∷◌, ◌==◌, ◌&&◌, ◌⊎◌, [], ℕ, IsTrue, length, Some, None, true, false, OnOk, OnErr, IfOk, IfSome, if◌then◌else◌};
 ghost use Rattle.clif_ir.specs.Changes.{with_param};
 ghost use Rattle.clif_ir.specs.Consistent.{Stands};
 ghost use Rattle.clif_ir.specs.Reading.{stands_in};
-ghost use Rattle.clif_ssa.specs.Constructs.{OnlyConstructs, TellsMore};
-ghost use Rattle.clif_ssa.specs.Limits.{IsFull, StaysBelowFor, TakesByRecords};
+ghost use Rattle.clif_ssa.specs.Constructs.{TellsMore};
+ghost use Rattle.clif_ssa.specs.Limits.{Takes};
 ghost use Rattle.clif_ssa.specs.Tables.{is_yes, pending_of};
 ghost use Rattle.clif_ssa.specs.declared.tables.Sealed.{Sealed};
-ghost use Rattle.clif_ssa.specs.Ssa.{no_state, Declares, Removes, Seals, record_of, sealed_of, predecessors_of, lookups_of, Named, NamesExist, HasMore, SealedStays, Records, RecordsStay, KnowsNoMore, SameRecords, SameBlocks, SamePredecessors, SameLookups, CountsLookup};
-ghost use Rattle.clif_ssa.specs.Running.{stage, CountsOnce, Got};
+ghost use Rattle.clif_ssa.specs.Ssa.{no_state, Declares, Removes, Seals, record_of, sealed_of, predecessors_of, lookups_of, Named, Records, KnowsNoMore, SameRecords, SameBlocks, SamePredecessors, SameLookups, CountsLookup};
+ghost use Rattle.clif_ssa.specs.Running.{stage, Got};
+ghost use Rattle.clif_ssa.specs.Steps.{StepKeeps, StepEnds, UsesLocally};
 ghost use Rattle.clif_ssa.specs.LookUp.{single_predecessor, WalksTo, before_first, Copies, calls_for};
 
 use crate::look_up::LookUp;
 use crate::passed::PassedBlocks;
+use crate::side_effects::SideEffects;
 use crate::tables::{BlockTable, PendingList, VariableTable};
 use crate::variable::Variable;
+use crate::zeros::replace_by_zero;
 use clif_ir::Function;
 use clif_types::{Block, BuildError, Inst, Type, Value};
 use std::alloc::Global;
@@ -301,7 +304,56 @@ impl SsaTables {
         look_up.begin(self.blocks.predecessors(block), param, block)
     }
 
-    #[tactic(auto, using(crate::proofs::Naming::naming_rules))]
+    // Appends a parameter for a variable to a block that doesn't record it, and records it.
+    fn new_parameter(
+        &mut self,
+        func: &mut Function,
+        variable: Variable,
+        ty: Type,
+        block: Block,
+    ) -> Result<Value, BuildError>
+        requires exists { block < length func.old.blocks }
+        requires unrecorded { record_of self.old variable block ≡ None }
+        ensures number { IfOk result (λ v. v ≡ length func.old.values) }
+        ensures function { OnOk result (func.new ≡ with_param func.old block ty) }
+        ensures records { OnOk result (Records self.old self.new variable block (length func.old.values)) }
+        ensures blocks { self.new.blocks ≡ self.old.blocks }
+        ensures lookups { SameLookups self.old self.new }
+        ensures takes { result ≢ Err BuildError.Memory → Takes func.old func.new 2 1 }
+        ensures keeps { StepKeeps variable func.old self.old func.new self.new }
+        ensures ends { StepEnds func.old self.old func.new self.new result }
+    {
+        let param = func.append_block_param(block, ty)?;
+        self.record(variable, block, param)?;
+        Ok(param)
+    }
+
+    /// The value of a variable that isn't recorded in a block which is unsealed or has no predecessors.
+    pub(crate) fn use_locally(
+        &mut self,
+        alloc: Global,
+        func: &mut Function,
+        variable: Variable,
+        ty: Type,
+        block: Block,
+    ) -> Result<(Value, SideEffects), BuildError>
+        requires exists { block < length func.old.blocks }
+        requires unrecorded { record_of self.old variable block ≡ None }
+        ensures used { UsesLocally variable ty block func.old self.old func.new self.new result }
+        ensures keeps { StepKeeps variable func.old self.old func.new self.new }
+        ensures ends { StepEnds func.old self.old func.new self.new result }
+    {
+        let param = self.new_parameter(func, variable, ty, block)?;
+        let mut side_effects = SideEffects::new(alloc);
+        if self.is_sealed(block) {
+            self.count_lookup(variable, block)?;
+            let zero = replace_by_zero(func, param, &mut side_effects)?;
+            return Ok((zero, side_effects));
+        }
+        self.wait(block, variable, param)?;
+        Ok((param, side_effects))
+    }
+
     /// Appends a parameter for a variable to a block that doesn't record it, and records it. In an
     /// unsealed block it waits, and is a result; in a sealed one the look-up in its predecessors begins.
     pub(crate) fn add_parameter(
@@ -314,33 +366,18 @@ impl SsaTables {
     ) -> Result<Value, BuildError>
         requires exists { block < length func.old.blocks }
         requires unrecorded { record_of self.old variable block ≡ None }
-        ensures number { IfOk result (λ v. v ≡ length func.old.values) }
-        ensures function { OnOk result (func.new ≡ with_param func.old block ty) }
-        ensures records { OnOk result (Records self.old self.new variable block (length func.old.values)) }
-        ensures predecessors { SamePredecessors self.old self.new }
-        ensures waits { is_yes (sealed_of self.old block) ≡ false → OnOk result (((b : ℕ) → sealed_of self.new b ≡ (if b == block then Sealed.No (pending_of (sealed_of self.old b) ++ record { variable = variable; param = length func.old.values } ∷ []) else sealed_of self.old b)) × SameLookups self.old self.new × (look_up.new ≡ record look_up.old { results = length func.old.values ∷ look_up.old.results })) }
-        ensures begins { is_yes (sealed_of self.old block) ≡ true → OnOk result (SameBlocks self.old self.new × CountsLookup self.old self.new variable block × (look_up.new ≡ record look_up.old { calls = calls_for (predecessors_of self.old block) (length func.old.values) block ++ look_up.old.calls })) }
-        ensures stay { RecordsStay self.old self.new }
-        ensures flags { SealedStays self.old self.new }
-        ensures no_more { KnowsNoMore self.old self.new (length func.old.blocks) }
-        ensures more { HasMore func.old func.new }
-        ensures constructs { OnlyConstructs func.old func.new }
+        ensures got { IfOk result (λ v. Got variable ty block v (stage func.old self.old look_up.old) (stage func.new self.new look_up.new)) }
+        ensures keeps { StepKeeps variable func.old self.old func.new self.new }
         ensures tells { OnOk result (TellsMore func.old func.new look_up.old.zeros look_up.new.zeros) }
-        ensures named { NamesExist func.old self.old → NamesExist func.new self.new }
-        ensures once { CountsOnce self.old self.new }
-        ensures full { result ≡ Err BuildError.Full → IsFull func.new }
-        ensures takes_by_records { result ≢ Err BuildError.Memory → TakesByRecords func.old self.old func.new self.new }
-        ensures below { StaysBelowFor variable func.old self.old self.new }
-        ensures never_failed { result ≢ Err BuildError.Failed }
+        ensures ends { StepEnds func.old self.old func.new self.new result }
     {
-        let param = func.append_block_param(block, ty)?;
-        self.variables.set(variable, block, param)?;
-        if self.blocks.is_sealed(block) {
+        let param = self.new_parameter(func, variable, ty, block)?;
+        if self.is_sealed(block) {
             self.begin_look_up(variable, param, block, look_up)?;
             return Ok(param);
         }
         look_up.push_result(param)?;
-        self.blocks.wait(block, variable, param)?;
+        self.wait(block, variable, param)?;
         Ok(param)
     }
 
@@ -354,20 +391,10 @@ impl SsaTables {
         look_up: &mut LookUp,
     ) -> Result<Value, BuildError>
         requires exists { block < length func.old.blocks }
-        ensures got { IfOk result (λ r. Got variable ty block r (stage func.old self.old look_up.old) (stage func.new self.new look_up.new)) }
-        ensures predecessors { SamePredecessors self.old self.new }
-        ensures stay { RecordsStay self.old self.new }
-        ensures flags { SealedStays self.old self.new }
-        ensures no_more { KnowsNoMore self.old self.new (length func.old.blocks) }
-        ensures more { HasMore func.old func.new }
-        ensures constructs { OnlyConstructs func.old func.new }
+        ensures got { IfOk result (λ v. Got variable ty block v (stage func.old self.old look_up.old) (stage func.new self.new look_up.new)) }
+        ensures keeps { StepKeeps variable func.old self.old func.new self.new }
         ensures tells { OnOk result (TellsMore func.old func.new look_up.old.zeros look_up.new.zeros) }
-        ensures names { NamesExist func.old self.old → NamesExist func.new self.new }
-        ensures once { CountsOnce self.old self.new }
-        ensures full { result ≡ Err BuildError.Full → IsFull func.new }
-        ensures takes_by_records { result ≢ Err BuildError.Memory → TakesByRecords func.old self.old func.new self.new }
-        ensures below { StaysBelowFor variable func.old self.old self.new }
-        ensures never_failed { result ≢ Err BuildError.Failed }
+        ensures ends { StepEnds func.old self.old func.new self.new result }
     {
         if let Some(value) = self.record_at(variable, block) {
             look_up.push_result(value)?;

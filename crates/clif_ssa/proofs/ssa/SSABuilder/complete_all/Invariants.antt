@@ -1,9 +1,10 @@
 use Rattle.std.proofs.Common.{◌≡◌, ℕ, ◌<◌, ◌≤◌, [], length, drop}
 use Rattle.std.specs.Prelude.{Contains}
 use Rattle.clif_ssa.specs.declared.tables.Pending.{Pending}
-use Rattle.clif_ssa.specs.Constructs.{OnlyConstructs, TellsMore}
+use Rattle.clif_ssa.specs.Constructs.{TellsMore}
 use Rattle.clif_ssa.specs.Limits.{RecordsBelow, TakesByRecords}
-use Rattle.clif_ssa.specs.Ssa.{KnowsNoMore, SamePredecessors, RecordsStay, SealedStays, HasMore, NamesExist}
+use Rattle.clif_ssa.specs.Ssa.{NamesExist}
+use Rattle.clif_ssa.specs.Steps.{StepLeaves}
 use Rattle.clif_ssa.specs.LookUp.{Stage}
 use Rattle.clif_ssa.specs.Running.{stage, CompletesAll, ToComplete}
 use Rattle.clif_ssa.proofs.ssa.SSABuilder.complete_all.Given as goal
@@ -14,13 +15,8 @@ invariant-loop-pending l = record {
       → CompletesAll l.block l.waiting (stage l.initial.func l.initial.self l.initial.look_up) n;
   idle : (l.look_up.calls ≡ []) × (l.look_up.results ≡ []);
   named : NamesExist l.func l.self;
-  same : SamePredecessors l.initial.self l.self;
-  stay : RecordsStay l.initial.self l.self;
-  flags : SealedStays l.initial.self l.self;
-  more : HasMore l.initial.func l.func;
+  leaves : StepLeaves l.initial.func l.initial.self l.func l.self;
   once : ToComplete l.initial.self l.block l.waiting → ToComplete l.self l.block (drop l.pending-index l.waiting);
-  no_more : KnowsNoMore l.initial.self l.self (length l.initial.func.blocks);
-  constructs : OnlyConstructs l.initial.func l.func;
   tells : TellsMore l.initial.func l.func l.initial.look_up.zeros l.look_up.zeros;
   takes : TakesByRecords l.initial.func l.initial.self l.func l.self;
   below : (variables blocks : ℕ) → length l.initial.func.blocks ≤ blocks → ((p : Pending) → Contains l.waiting p → p.variable < variables)

@@ -1,20 +1,15 @@
-use Rattle.std.proofs.Common.{ap, refl, ◌∙◌}
+use Rattle.std.proofs.Common.{ap, refl}
 use Rattle.clif_ssa.specs.Tables.{sealed_at, predecessors_at}
 use Rattle.clif_ssa.proofs.CountedOnce.{once_completes, once_follows}
 use Rattle.clif_ssa.proofs.Naming.{has_more}
 use Rattle.clif_ssa.proofs.Local.{named-same}
 use Rattle.clif_ssa.proofs.Waited.{begun-fits}
-use Rattle.clif_ssa.proofs.Constructing.{constructs_none}
+use Rattle.clif_ssa.proofs.LeavesSteps.{leaves_from, leaves_kept, leaves_then}
+use Rattle.clif_ssa.proofs.Steps.{ends_as, ends_memory, ends_ok, ends_then, ends_took}
 use Rattle.std.proofs.lemmas.Result.{err_from_is_err_and}
 use Rattle.clif_ssa.proofs.TakingByRecords.{none_lost, by_records_then, by_records_same}
 use Rattle.clif_ssa.proofs.Below.{below_then, below_same}
 use Rattle.clif_ssa.proofs.ssa.SSABuilder.complete_parameter.Goals as goal
-
-pub returns-in_err-begin_look_up-clause-names : goal.returns-in_err-begin_look_up-clause-names
-returns-in_err-begin_look_up-clause-names c =
-    named-same c.args.func.now c.args.func.now c.self.inside.tables c.begin_look_up.new.self (has_more c.args.func.now)
-    (λ b. ap (λ blocks. predecessors_at blocks b) c.begin_look_up.ensures.blocks) c.begin_look_up.ensures.records (λ b. ap (λ blocks. sealed_at blocks b) c.begin_look_up.ensures.blocks)
-    (rw (c.self.view_is) c.requires.named)
 
 pub make_calls-requires-clause-named : goal.make_calls-requires-clause-named
 make_calls-requires-clause-named c =
@@ -27,12 +22,6 @@ make_calls-requires-clause-calls_fit c =
     begun-fits c.args.func.now c.self.inside.tables c.begin_look_up.new.self c.args.look_up.now c.begin_look_up.new.look_up c.args.waiting.param c.args.block
     (rw (c.self.view_is) c.requires.named) (λ b. ap (λ blocks. predecessors_at blocks b) c.begin_look_up.ensures.blocks) c.requires.param_exists
     c.requires.idle.0 c.requires.idle.1 c.in_ok-begin_look_up.ensures.look_up
-
-pub returns-in_err-_value-clause-stay : goal.returns-in_err-_value-clause-stay
-returns-in_err-_value-clause-stay c = rw (← c.self.view_is) (λ x b v is. c.make_calls.ensures.stay x b v (c.begin_look_up.ensures.records x b ∙ is))
-
-pub returns-clause-stay : goal.returns-clause-stay
-returns-clause-stay c = rw (← c.self.view_is) (λ x b v is. c.make_calls.ensures.stay x b v (c.begin_look_up.ensures.records x b ∙ is))
 
 -- ONCE ------------------------------------------------------------------------------------------------------------
 
@@ -48,7 +37,7 @@ pub returns-in_err-_value-clause-looks_once : goal.returns-in_err-_value-clause-
 returns-in_err-_value-clause-looks_once c =
     rw (← c.self.view_is)
     (λ rest before.
-    once_follows c.begin_look_up.new.self c.make_calls.new.self c.args.block rest c.make_calls.ensures.once c.make_calls.ensures.flags
+    once_follows c.begin_look_up.new.self c.make_calls.new.self c.args.block rest c.make_calls.ensures.keeps.once c.make_calls.ensures.keeps.flags
     (once_completes c.self.inside.tables c.begin_look_up.new.self c.args.block c.args.waiting rest c.begin_look_up.ensures.records (λ b. ap (λ blocks. sealed_at blocks b) c.begin_look_up.ensures.blocks)
     c.begin_look_up.ensures.counts before))
 
@@ -56,29 +45,9 @@ pub returns-clause-looks_once : goal.returns-clause-looks_once
 returns-clause-looks_once c =
     rw (← c.self.view_is)
     (λ rest before.
-    once_follows c.begin_look_up.new.self c.make_calls.new.self c.args.block rest c.make_calls.ensures.once c.make_calls.ensures.flags
+    once_follows c.begin_look_up.new.self c.make_calls.new.self c.args.block rest c.make_calls.ensures.keeps.once c.make_calls.ensures.keeps.flags
     (once_completes c.self.inside.tables c.begin_look_up.new.self c.args.block c.args.waiting rest c.begin_look_up.ensures.records (λ b. ap (λ blocks. sealed_at blocks b) c.begin_look_up.ensures.blocks)
     c.begin_look_up.ensures.counts before))
-
-pub returns-in_err-begin_look_up-clause-constructs : goal.returns-in_err-begin_look_up-clause-constructs
-returns-in_err-begin_look_up-clause-constructs c = constructs_none c.args.func.now
-
--- HOW MUCH IS TAKEN -----------------------------------------------------------------------------------------------
-
-pub returns-in_err-_value-clause-takes_by_records : goal.returns-in_err-_value-clause-takes_by_records
-returns-in_err-_value-clause-takes_by_records c = λ not_memory.
-    let p = err_from_is_err_and c.from_residual-in_err-_value.result c.from_residual-in_err-_value.ensures.1 in
-    rw (← c.self.view_is)
-    (by_records_then c.args.func.now c.self.inside.tables c.args.func.now c.begin_look_up.new.self c.make_calls.new.func c.make_calls.new.self
-    (by_records_same c.args.func.now c.args.func.now c.self.inside.tables c.begin_look_up.new.self refl (none_lost c.self.inside.tables c.begin_look_up.new.self c.begin_look_up.ensures.records))
-    (c.in_err-_value.ensures.takes_by_records (λ memory. not_memory (cc))))
-
-pub returns-clause-takes_by_records : goal.returns-clause-takes_by_records
-returns-clause-takes_by_records c = λ not_memory.
-    rw (← c.self.view_is)
-    (by_records_then c.args.func.now c.self.inside.tables c.args.func.now c.begin_look_up.new.self c.make_calls.new.func c.make_calls.new.self
-    (by_records_same c.args.func.now c.args.func.now c.self.inside.tables c.begin_look_up.new.self refl (none_lost c.self.inside.tables c.begin_look_up.new.self c.begin_look_up.ensures.records))
-    (c.in_ok-_value.ensures.takes_by_records (λ memory. cc)))
 
 -- WHERE RECORDS ARE -----------------------------------------------------------------------------------------------
 
@@ -90,10 +59,76 @@ pub returns-in_err-_value-clause-below : goal.returns-in_err-_value-clause-below
 returns-in_err-_value-clause-below c =
     rw (← c.self.view_is)
     (below_then c.args.waiting.variable c.args.func.now c.args.func.now c.self.inside.tables c.begin_look_up.new.self c.make_calls.new.self (has_more c.args.func.now)
-    (below_same c.args.waiting.variable c.args.func.now c.self.inside.tables c.begin_look_up.new.self c.begin_look_up.ensures.records (λ b. ap (λ blocks. sealed_at blocks b) c.begin_look_up.ensures.blocks)) c.make_calls.ensures.below)
+    (below_same c.args.waiting.variable c.args.func.now c.self.inside.tables c.begin_look_up.new.self c.begin_look_up.ensures.records (λ b. ap (λ blocks. sealed_at blocks b) c.begin_look_up.ensures.blocks)) c.make_calls.ensures.keeps.below)
 
 pub returns-clause-below : goal.returns-clause-below
 returns-clause-below c =
     rw (← c.self.view_is)
     (below_then c.args.waiting.variable c.args.func.now c.args.func.now c.self.inside.tables c.begin_look_up.new.self c.make_calls.new.self (has_more c.args.func.now)
-    (below_same c.args.waiting.variable c.args.func.now c.self.inside.tables c.begin_look_up.new.self c.begin_look_up.ensures.records (λ b. ap (λ blocks. sealed_at blocks b) c.begin_look_up.ensures.blocks)) c.make_calls.ensures.below)
+    (below_same c.args.waiting.variable c.args.func.now c.self.inside.tables c.begin_look_up.new.self c.begin_look_up.ensures.records (λ b. ap (λ blocks. sealed_at blocks b) c.begin_look_up.ensures.blocks)) c.make_calls.ensures.keeps.below)
+
+-- WHAT IS LEFT, AND HOW IT ENDS -----------------------------------------------------------------------------------
+
+pub returns-in_err-begin_look_up-clause-completes : goal.returns-in_err-begin_look_up-clause-completes
+returns-in_err-begin_look_up-clause-completes c =
+    let p = err_from_is_err_and c.from_residual.result c.from_residual.ensures.1 in
+    rw p.1 tt
+
+pub returns-in_err-_value-clause-completes : goal.returns-in_err-_value-clause-completes
+returns-in_err-_value-clause-completes c =
+    let p = err_from_is_err_and c.from_residual-in_err-_value.result c.from_residual-in_err-_value.ensures.1 in
+    rw p.1 tt
+
+pub returns-in_err-begin_look_up-clause-idle : goal.returns-in_err-begin_look_up-clause-idle
+returns-in_err-begin_look_up-clause-idle c =
+    let p = err_from_is_err_and c.from_residual.result c.from_residual.ensures.1 in
+    rw p.1 tt
+
+pub returns-in_err-_value-clause-idle : goal.returns-in_err-_value-clause-idle
+returns-in_err-_value-clause-idle c =
+    let p = err_from_is_err_and c.from_residual-in_err-_value.result c.from_residual-in_err-_value.ensures.1 in
+    rw p.1 tt
+
+pub returns-in_err-begin_look_up-clause-tells : goal.returns-in_err-begin_look_up-clause-tells
+returns-in_err-begin_look_up-clause-tells c =
+    let p = err_from_is_err_and c.from_residual.result c.from_residual.ensures.1 in
+    rw p.1 tt
+
+pub returns-in_err-_value-clause-tells : goal.returns-in_err-_value-clause-tells
+returns-in_err-_value-clause-tells c =
+    let p = err_from_is_err_and c.from_residual-in_err-_value.result c.from_residual-in_err-_value.ensures.1 in
+    rw p.1 tt
+
+pub returns-in_err-begin_look_up-clause-leaves : goal.returns-in_err-begin_look_up-clause-leaves
+returns-in_err-begin_look_up-clause-leaves c =
+    rw (← c.self.view_is) (leaves_kept c.args.func.now c.self.inside.tables c.begin_look_up.new.self c.begin_look_up.ensures.records c.begin_look_up.ensures.blocks)
+
+pub returns-in_err-begin_look_up-clause-ends : goal.returns-in_err-begin_look_up-clause-ends
+returns-in_err-begin_look_up-clause-ends c =
+    let p = err_from_is_err_and c.from_residual.result c.from_residual.ensures.1 in
+    rw (p.1, p.2)
+    (rw (← c.self.view_is) (ends_memory c.args.func.now c.self.inside.tables c.args.func.now c.begin_look_up.new.self c.in_err-begin_look_up.field-0.0 c.in_err-begin_look_up.ensures.only_memory))
+
+pub returns-in_err-_value-clause-leaves : goal.returns-in_err-_value-clause-leaves
+returns-in_err-_value-clause-leaves c =
+    rw (← c.self.view_is)
+    (leaves_then c.args.func.now c.self.inside.tables c.args.func.now c.begin_look_up.new.self c.make_calls.new.func c.make_calls.new.self (leaves_kept c.args.func.now c.self.inside.tables c.begin_look_up.new.self c.begin_look_up.ensures.records c.begin_look_up.ensures.blocks)
+    (leaves_from c.args.waiting.variable c.args.func.now c.begin_look_up.new.self c.make_calls.new.func c.make_calls.new.self c.make_calls.ensures.keeps))
+
+pub returns-in_err-_value-clause-ends : goal.returns-in_err-_value-clause-ends
+returns-in_err-_value-clause-ends c =
+    let p = err_from_is_err_and c.from_residual-in_err-_value.result c.from_residual-in_err-_value.ensures.1 in
+    rw (p.1, p.2)
+    (rw (← c.self.view_is)
+    (ends_then c.args.func.now c.self.inside.tables c.args.func.now c.begin_look_up.new.self c.make_calls.new.func c.make_calls.new.self _ (by_records_same c.args.func.now c.args.func.now c.self.inside.tables c.begin_look_up.new.self refl (none_lost c.self.inside.tables c.begin_look_up.new.self c.begin_look_up.ensures.records)) (ends_as c.args.func.now c.begin_look_up.new.self c.make_calls.new.func c.make_calls.new.self c.in_err-_value.field-0.0 c.in_err-_value.ensures.ends)))
+
+pub returns-clause-leaves : goal.returns-clause-leaves
+returns-clause-leaves c =
+    rw (← c.self.view_is)
+    (leaves_then c.args.func.now c.self.inside.tables c.args.func.now c.begin_look_up.new.self c.make_calls.new.func c.make_calls.new.self (leaves_kept c.args.func.now c.self.inside.tables c.begin_look_up.new.self c.begin_look_up.ensures.records c.begin_look_up.ensures.blocks)
+    (leaves_from c.args.waiting.variable c.args.func.now c.begin_look_up.new.self c.make_calls.new.func c.make_calls.new.self c.make_calls.ensures.keeps))
+
+pub returns-clause-ends : goal.returns-clause-ends
+returns-clause-ends c =
+    rw (← c.self.view_is)
+    (ends_ok c.args.func.now c.self.inside.tables c.make_calls.new.func c.make_calls.new.self _ (by_records_then c.args.func.now c.self.inside.tables c.args.func.now c.begin_look_up.new.self c.make_calls.new.func c.make_calls.new.self (by_records_same c.args.func.now c.args.func.now c.self.inside.tables c.begin_look_up.new.self refl (none_lost c.self.inside.tables c.begin_look_up.new.self c.begin_look_up.ensures.records)) (ends_took c.args.func.now c.begin_look_up.new.self c.make_calls.new.func c.make_calls.new.self c.in_ok-_value._value c.in_ok-_value.ensures.ends)))

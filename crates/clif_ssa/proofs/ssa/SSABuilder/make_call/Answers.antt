@@ -5,9 +5,8 @@ use Rattle.clif_ssa.specs.declared.look_up.Call.TheVariants.{UseVar, FinishPrede
 use Rattle.clif_ssa.specs.Ssa.{predecessors_of}
 use Rattle.clif_ssa.specs.LookUp.{LooksUp}
 use Rattle.clif_ssa.specs.Running.{stage, CallExists, CallsFit, with_call}
-use Rattle.clif_ssa.proofs.Naming.{named-more}
 use Rattle.clif_ssa.proofs.Calling.{look-fits, finish-fits, popped-look, both_ok, on_ok', same_block, leading-each}
-use Rattle.clif_ssa.proofs.TakingByRecords.{by_records_kept}
+use Rattle.clif_ssa.proofs.Steps.{ends_zeros, keeps_grown}
 use Rattle.clif_ssa.proofs.ssa.SSABuilder.make_call.Goals as goal
 
 pub inst_block-requires : goal.inst_block-requires
@@ -39,7 +38,7 @@ returns-in-Some-clause-fits c =
     on_ok' c.look_up_in.result
     (λ looks.
     look-fits c.args.variable c.args.ty c.in-Some.block (stage c.args.func.now c.args.self.now c.args.look_up.now) (stage c.look_up_in.new.func c.look_up_in.new.self c.look_up_in.new.look_up)
-    looks c.requires.named c.look_up_in.ensures.more c.look_up_in.ensures.predecessors (popped-look c.args.func.now c.args.self.now c.in-UseVar.branch c.args.look_up.now fits))
+    looks c.requires.named c.look_up_in.ensures.keeps.more c.look_up_in.ensures.keeps.predecessors (popped-look c.args.func.now c.args.self.now c.in-UseVar.branch c.args.look_up.now fits))
     c.look_up_in.ensures.looks
 
 pub returns-in-FinishPredecessorsLookup-clause-fits :
@@ -54,11 +53,6 @@ returns-in-FinishPredecessorsLookup-clause-fits c =
     (stage c.finish_look_up.new.func c.args.self.now c.finish_look_up.new.look_up) finishes c.finish_look_up.ensures.more exist fits))
     (c.finish_look_up.ensures.ok c.args.self.now same) c.finish_look_up.ensures.exist
 
-pub returns-in-FinishPredecessorsLookup-clause-names :
-    goal.returns-in-FinishPredecessorsLookup-clause-names
-returns-in-FinishPredecessorsLookup-clause-names c =
-    (named-more c.args.func.now c.finish_look_up.new.func c.args.self.now c.args.self.now c.finish_look_up.ensures.more (λ b. refl) (λ x b v is. inl is) (λ b p here. inl here) c.requires.named)
-
 pub returns-in-Some-clause-made : goal.returns-in-Some-clause-made
 returns-in-Some-clause-made c =
     let same : (inst_at c.args.func.now c.in-UseVar.branch).block ≡ c.in-Some.block = same_block (sym c.inst_block.ensures ∙ c.in-Some.is) in
@@ -72,10 +66,26 @@ returns-in-Some-clause-made c =
     }))
     c.look_up_in.ensures.looks
 
-pub returns-in-FinishPredecessorsLookup-clause-takes_by_records :
-    goal.returns-in-FinishPredecessorsLookup-clause-takes_by_records
-returns-in-FinishPredecessorsLookup-clause-takes_by_records c = λ not_memory.
-    by_records_kept c.args.func.now c.args.self.now c.finish_look_up.new.func c.args.self.now (c.finish_look_up.ensures.takes not_memory) (λ x b none. none)
+pub returns-in-Some-clause-keeps : goal.returns-in-Some-clause-keeps
+returns-in-Some-clause-keeps c =
+    c.look_up_in.ensures.keeps
 
-pub returns-in-FinishPredecessorsLookup-clause-below : goal.returns-in-FinishPredecessorsLookup-clause-below
-returns-in-FinishPredecessorsLookup-clause-below c = λ variables blocks small fits before. before
+pub returns-in-Some-clause-tells : goal.returns-in-Some-clause-tells
+returns-in-Some-clause-tells c =
+    c.look_up_in.ensures.tells
+
+pub returns-in-Some-clause-ends : goal.returns-in-Some-clause-ends
+returns-in-Some-clause-ends c =
+    c.look_up_in.ensures.ends
+
+pub returns-in-FinishPredecessorsLookup-clause-keeps : goal.returns-in-FinishPredecessorsLookup-clause-keeps
+returns-in-FinishPredecessorsLookup-clause-keeps c =
+    keeps_grown c.args.variable c.args.func.now c.finish_look_up.new.func c.args.self.now c.finish_look_up.ensures.more c.finish_look_up.ensures.constructs
+
+pub returns-in-FinishPredecessorsLookup-clause-tells : goal.returns-in-FinishPredecessorsLookup-clause-tells
+returns-in-FinishPredecessorsLookup-clause-tells c =
+    c.finish_look_up.ensures.tells
+
+pub returns-in-FinishPredecessorsLookup-clause-ends : goal.returns-in-FinishPredecessorsLookup-clause-ends
+returns-in-FinishPredecessorsLookup-clause-ends c =
+    ends_zeros c.args.func.now c.finish_look_up.new.func c.args.self.now c.finish_look_up.result c.finish_look_up.ensures.full c.finish_look_up.ensures.takes c.finish_look_up.ensures.never_failed

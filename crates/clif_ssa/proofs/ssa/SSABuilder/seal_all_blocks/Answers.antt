@@ -17,10 +17,10 @@ use Rattle.clif_ssa.proofs.Below.{stays_below_then}
 use Rattle.clif_ssa.proofs.ssa.SSABuilder.seal_all_blocks.Goals as goal
 
 pub returns-in_err-told-clause-stay : goal.returns-in_err-told-clause-stay
-returns-in_err-told-clause-stay c = λ x b v is. c.seal_one_block.ensures.stay x b v (c.loop-number.invariant.stay x b v is)
+returns-in_err-told-clause-stay c = λ x b v is. c.seal_one_block.ensures.keeps.stay x b v (c.loop-number.invariant.stay x b v is)
 
 pub returns-in_err-append-clause-stay : goal.returns-in_err-append-clause-stay
-returns-in_err-append-clause-stay c = λ x b v is. c.seal_one_block.ensures.stay x b v (c.loop-number.invariant.stay x b v is)
+returns-in_err-append-clause-stay c = λ x b v is. c.seal_one_block.ensures.keeps.stay x b v (c.loop-number.invariant.stay x b v is)
 
 pub loop-number-init : goal.loop-number-init
 loop-number-init c = record {
@@ -49,77 +49,77 @@ pub loop-number-preserved : goal.loop-number-preserved
 loop-number-preserved c =
     let number : c.new-block.result ≡ c.loop-number.number = first_of (search rules, grind (arith, common_steps)) in
     let seals : SealsOne c.loop-number.self c.seal_one_block.new.self c.loop-number.number =
-    subst (λ k. SealsOne c.loop-number.self c.seal_one_block.new.self k) number c.in_ok-told.ensures.sealed in
+    subst (λ k. SealsOne c.loop-number.self c.seal_one_block.new.self k) number c.in_ok-told.ensures.makes.sealed in
     let inside : c.loop-number.number < length c.args.func.now.blocks = first_of (search rules, grind (arith, common_steps)) in
     record {
       sealed = sealed-below c.loop-number.self c.seal_one_block.new.self c.loop-number.number c.loop-number.invariant.sealed seals;
-      below = stays_below_then c.args.func.now c.loop-number.func c.args.self.now c.loop-number.self c.seal_one_block.new.self c.loop-number.invariant.more c.loop-number.invariant.below c.seal_one_block.ensures.below;
+      below = stays_below_then c.args.func.now c.loop-number.func c.args.self.now c.loop-number.self c.seal_one_block.new.self c.loop-number.invariant.more c.loop-number.invariant.below c.seal_one_block.ensures.keeps.below;
       takes_none = λ none.
           Takes-then c.args.func.now c.loop-number.func c.seal_one_block.new.func 0 0 0 0 (c.loop-number.invariant.takes_none none)
-          (c.in_ok-told.ensures.takes (c.loop-number.invariant.same c.new-block.result ∙ none c.new-block.result) (λ memory. cc));
+          (c.in_ok-told.ensures.makes.takes (c.loop-number.invariant.same c.new-block.result ∙ none c.new-block.result) (λ memory. cc));
       takes = by_records_then c.args.func.now c.args.self.now c.loop-number.func c.loop-number.self c.seal_one_block.new.func c.seal_one_block.new.self c.loop-number.invariant.takes
-          (c.in_ok-told.ensures.takes_by_records (λ memory. cc));
-      named = named-kept c.loop-number.func c.seal_one_block.new.func c.loop-number.self c.seal_one_block.new.self c.seal_one_block.ensures.predecessors c.seal_one_block.ensures.names
+          (c.in_ok-told.ensures.ends.takes_by_records (λ memory. cc));
+      named = named-kept c.loop-number.func c.seal_one_block.new.func c.loop-number.self c.seal_one_block.new.self c.seal_one_block.ensures.keeps.predecessors c.seal_one_block.ensures.keeps.names
           c.loop-number.invariant.named;
       sealed_stays = λ b is.
-          still-sealed c.loop-number.self c.seal_one_block.new.self c.new-block.result (inr c.in_ok-told.ensures.sealed) b (c.loop-number.invariant.sealed_stays b is);
+          still-sealed c.loop-number.self c.seal_one_block.new.self c.new-block.result (inr c.in_ok-told.ensures.makes.sealed) b (c.loop-number.invariant.sealed_stays b is);
       others = λ b above.
           other-same c.loop-number.self c.seal_one_block.new.self c.loop-number.number (inr seals) b (omega (arith, inside, above)) ∙ c.loop-number.invariant.others b above;
       in_turn =
           subst (λ told. SealsBelow c.args.func.now c.args.self.now (c.loop-number.number + 1) c.seal_one_block.new.func c.seal_one_block.new.self told) (sym c.in_ok-append.ensures.ok)
           (next_sealed c.loop-number.invariant.in_turn
           (subst (λ k. SealsWith c.loop-number.func c.loop-number.self c.seal_one_block.new.func c.seal_one_block.new.self k c.in_ok-told.told) number (record {
-            predecessors = c.seal_one_block.ensures.predecessors;
-            local = c.in_ok-told.ensures.local;
-            completes = c.in_ok-told.ensures.completes;
+            predecessors = c.seal_one_block.ensures.keeps.predecessors;
+            local = c.in_ok-told.ensures.makes.local;
+            completes = c.in_ok-told.ensures.makes.completes;
           })));
-      once = λ once. c.seal_one_block.ensures.looks_once (c.loop-number.invariant.once once);
-      names = λ named. c.seal_one_block.ensures.names (c.loop-number.invariant.names named);
-      same = λ b. c.seal_one_block.ensures.predecessors b ∙ c.loop-number.invariant.same b;
-      stay = λ x b v is. c.seal_one_block.ensures.stay x b v (c.loop-number.invariant.stay x b v is);
-      more = more-then c.args.func.now c.loop-number.func c.seal_one_block.new.func c.loop-number.invariant.more c.seal_one_block.ensures.more;
+      once = λ once. c.seal_one_block.ensures.keeps.looks_once (c.loop-number.invariant.once once);
+      names = λ named. c.seal_one_block.ensures.keeps.names (c.loop-number.invariant.names named);
+      same = λ b. c.seal_one_block.ensures.keeps.predecessors b ∙ c.loop-number.invariant.same b;
+      stay = λ x b v is. c.seal_one_block.ensures.keeps.stay x b v (c.loop-number.invariant.stay x b v is);
+      more = more-then c.args.func.now c.loop-number.func c.seal_one_block.new.func c.loop-number.invariant.more c.seal_one_block.ensures.keeps.more;
       no_more = λ fits.
           no_more-sealed c.loop-number.self c.seal_one_block.new.self (length c.args.func.now.blocks) (length c.loop-number.func.blocks) c.new-block.result (length c.args.func.now.blocks)
-          (omega (arith, number, inside)) (omega arith) c.loop-number.invariant.more.blocks (c.loop-number.invariant.no_more fits) c.seal_one_block.ensures.no_more;
-      constructs = constructs_then c.args.func.now c.loop-number.func c.seal_one_block.new.func c.loop-number.invariant.constructs c.seal_one_block.ensures.constructs;
+          (omega (arith, number, inside)) (omega arith) c.loop-number.invariant.more.blocks (c.loop-number.invariant.no_more fits) c.seal_one_block.ensures.keeps.no_more;
+      constructs = constructs_then c.args.func.now c.loop-number.func c.seal_one_block.new.func c.loop-number.invariant.constructs c.seal_one_block.ensures.keeps.constructs;
       tells =
-          tells_more_then c.args.func.now c.loop-number.func c.seal_one_block.new.func _ _ _ c.seal_one_block.ensures.constructs c.loop-number.invariant.tells
-          (_, c.in_ok-append.ensures.ok, c.in_ok-told.ensures.tells);
+          tells_more_then c.args.func.now c.loop-number.func c.seal_one_block.new.func _ _ _ c.seal_one_block.ensures.keeps.constructs c.loop-number.invariant.tells
+          (_, c.in_ok-append.ensures.ok, c.in_ok-told.ensures.makes.tells);
       keeps = λ own tables both.
           keeps_then own tables c.loop-number.func c.seal_one_block.new.func c.loop-number.self c.seal_one_block.new.self (c.loop-number.invariant.keeps own tables both)
           (λ blocks described.
           seal_keeps own c.loop-number.func c.seal_one_block.new.func c.loop-number.self c.seal_one_block.new.self blocks c.new-block.result (Ok c.in_ok-told.told)
-          c.law_consistent.ensures described c.seal_one_block.ensures.predecessors c.in_ok-told.ensures.local c.in_ok-told.ensures.completes);
+          c.law_consistent.ensures described c.seal_one_block.ensures.keeps.predecessors c.in_ok-told.ensures.makes.local c.in_ok-told.ensures.makes.completes);
       remembers = λ x b.
           remembers_then x b c.args.func.now c.loop-number.func c.seal_one_block.new.func c.args.self.now c.loop-number.self c.seal_one_block.new.self (c.loop-number.invariant.remembers x b)
           (seal_remembers x b c.loop-number.func c.seal_one_block.new.func c.loop-number.self c.seal_one_block.new.self c.new-block.result (Ok c.in_ok-told.told)
-          c.law_consistent.ensures c.loop-number.invariant.named c.seal_one_block.ensures.stay c.in_ok-told.ensures.local c.in_ok-told.ensures.completes);
+          c.law_consistent.ensures c.loop-number.invariant.named c.seal_one_block.ensures.keeps.stay c.in_ok-told.ensures.makes.local c.in_ok-told.ensures.makes.completes);
       structured = λ types own before.
           seal_structured types own c.loop-number.func c.seal_one_block.new.func c.loop-number.self c.seal_one_block.new.self c.new-block.result (Ok c.in_ok-told.told)
-          c.law_consistent.ensures (c.loop-number.invariant.structured types own before) c.seal_one_block.ensures.predecessors c.in_ok-told.ensures.local c.in_ok-told.ensures.completes;
+          c.law_consistent.ensures (c.loop-number.invariant.structured types own before) c.seal_one_block.ensures.keeps.predecessors c.in_ok-told.ensures.makes.local c.in_ok-told.ensures.makes.completes;
     }
 
 -- AFTER AN ERROR --------------------------------------------------------------------------------------------------
 
 pub returns-in_err-told-clause-sealed_stays : goal.returns-in_err-told-clause-sealed_stays
 returns-in_err-told-clause-sealed_stays c = λ b is.
-    still-sealed c.loop-number.self c.seal_one_block.new.self c.new-block.result c.in_err-told.ensures.err b (c.loop-number.invariant.sealed_stays b is)
+    still-sealed c.loop-number.self c.seal_one_block.new.self c.new-block.result c.in_err-told.ensures.makes.err b (c.loop-number.invariant.sealed_stays b is)
 
 pub returns-in_err-append-clause-sealed_stays : goal.returns-in_err-append-clause-sealed_stays
 returns-in_err-append-clause-sealed_stays c = λ b is.
-    still-sealed c.loop-number.self c.seal_one_block.new.self c.new-block.result (inr c.in_ok-told.ensures.sealed) b (c.loop-number.invariant.sealed_stays b is)
+    still-sealed c.loop-number.self c.seal_one_block.new.self c.new-block.result (inr c.in_ok-told.ensures.makes.sealed) b (c.loop-number.invariant.sealed_stays b is)
 
 pub returns-in_err-told-clause-others : goal.returns-in_err-told-clause-others
 returns-in_err-told-clause-others c = λ b above.
     let number : c.new-block.result ≡ c.loop-number.number = first_of (search rules, grind (arith, common_steps)) in
     let inside : c.loop-number.number < length c.args.func.now.blocks = first_of (search rules, grind (arith, common_steps)) in
-    other-same c.loop-number.self c.seal_one_block.new.self c.new-block.result c.in_err-told.ensures.err b (omega (arith, number, inside, above)) ∙ c.loop-number.invariant.others b above
+    other-same c.loop-number.self c.seal_one_block.new.self c.new-block.result c.in_err-told.ensures.makes.err b (omega (arith, number, inside, above)) ∙ c.loop-number.invariant.others b above
 
 pub returns-in_err-append-clause-others : goal.returns-in_err-append-clause-others
 returns-in_err-append-clause-others c = λ b above.
     let number : c.new-block.result ≡ c.loop-number.number = first_of (search rules, grind (arith, common_steps)) in
     let inside : c.loop-number.number < length c.args.func.now.blocks = first_of (search rules, grind (arith, common_steps)) in
-    other-same c.loop-number.self c.seal_one_block.new.self c.new-block.result (inr c.in_ok-told.ensures.sealed) b (omega (arith, number, inside, above)) ∙ c.loop-number.invariant.others b above
+    other-same c.loop-number.self c.seal_one_block.new.self c.new-block.result (inr c.in_ok-told.ensures.makes.sealed) b (omega (arith, number, inside, above)) ∙ c.loop-number.invariant.others b above
 
 pub returns-clause-others : goal.returns-clause-others
 returns-clause-others c = c.loop-number.invariant.others
@@ -130,7 +130,7 @@ returns-in_err-told-clause-no_more c =
     let inside : c.loop-number.number < length c.args.func.now.blocks = first_of (search rules, grind (arith, common_steps)) in
     λ fits.
     no_more-sealed c.loop-number.self c.seal_one_block.new.self (length c.args.func.now.blocks) (length c.loop-number.func.blocks) c.new-block.result (length c.args.func.now.blocks)
-    (omega (arith, number, inside)) (omega arith) c.loop-number.invariant.more.blocks (c.loop-number.invariant.no_more fits) c.seal_one_block.ensures.no_more
+    (omega (arith, number, inside)) (omega arith) c.loop-number.invariant.more.blocks (c.loop-number.invariant.no_more fits) c.seal_one_block.ensures.keeps.no_more
 
 pub returns-in_err-append-clause-no_more : goal.returns-in_err-append-clause-no_more
 returns-in_err-append-clause-no_more c =
@@ -138,7 +138,7 @@ returns-in_err-append-clause-no_more c =
     let inside : c.loop-number.number < length c.args.func.now.blocks = first_of (search rules, grind (arith, common_steps)) in
     λ fits.
     no_more-sealed c.loop-number.self c.seal_one_block.new.self (length c.args.func.now.blocks) (length c.loop-number.func.blocks) c.new-block.result (length c.args.func.now.blocks)
-    (omega (arith, number, inside)) (omega arith) c.loop-number.invariant.more.blocks (c.loop-number.invariant.no_more fits) c.seal_one_block.ensures.no_more
+    (omega (arith, number, inside)) (omega arith) c.loop-number.invariant.more.blocks (c.loop-number.invariant.no_more fits) c.seal_one_block.ensures.keeps.no_more
 
 pub returns-clause-no_more : goal.returns-clause-no_more
 returns-clause-no_more c = c.loop-number.invariant.no_more
@@ -147,21 +147,21 @@ pub returns-clause-sealed_stays : goal.returns-clause-sealed_stays
 returns-clause-sealed_stays c = c.loop-number.invariant.sealed_stays
 
 pub returns-in_err-told-clause-looks_once : goal.returns-in_err-told-clause-looks_once
-returns-in_err-told-clause-looks_once c = λ once. c.seal_one_block.ensures.looks_once (c.loop-number.invariant.once once)
+returns-in_err-told-clause-looks_once c = λ once. c.seal_one_block.ensures.keeps.looks_once (c.loop-number.invariant.once once)
 
 pub returns-in_err-append-clause-looks_once : goal.returns-in_err-append-clause-looks_once
-returns-in_err-append-clause-looks_once c = λ once. c.seal_one_block.ensures.looks_once (c.loop-number.invariant.once once)
+returns-in_err-append-clause-looks_once c = λ once. c.seal_one_block.ensures.keeps.looks_once (c.loop-number.invariant.once once)
 
 pub returns-clause-looks_once : goal.returns-clause-looks_once
 returns-clause-looks_once c = c.loop-number.invariant.once
 
 pub returns-in_err-told-clause-constructs : goal.returns-in_err-told-clause-constructs
 returns-in_err-told-clause-constructs c =
-    constructs_then c.args.func.now c.loop-number.func c.seal_one_block.new.func c.loop-number.invariant.constructs c.seal_one_block.ensures.constructs
+    constructs_then c.args.func.now c.loop-number.func c.seal_one_block.new.func c.loop-number.invariant.constructs c.seal_one_block.ensures.keeps.constructs
 
 pub returns-in_err-append-clause-constructs : goal.returns-in_err-append-clause-constructs
 returns-in_err-append-clause-constructs c =
-    constructs_then c.args.func.now c.loop-number.func c.seal_one_block.new.func c.loop-number.invariant.constructs c.seal_one_block.ensures.constructs
+    constructs_then c.args.func.now c.loop-number.func c.seal_one_block.new.func c.loop-number.invariant.constructs c.seal_one_block.ensures.keeps.constructs
 
 pub returns-clause-constructs : goal.returns-clause-constructs
 returns-clause-constructs c = c.loop-number.invariant.constructs
@@ -181,7 +181,7 @@ pub returns-in_err-told-clause-takes : goal.returns-in_err-told-clause-takes
 returns-in_err-told-clause-takes c = λ none not_memory.
     let p = err_from_is_err_and c.from_residual.result c.from_residual.ensures.1 in
     Takes-then c.args.func.now c.loop-number.func c.seal_one_block.new.func 0 0 0 0 (c.loop-number.invariant.takes_none none)
-    (c.in_err-told.ensures.takes (c.loop-number.invariant.same c.new-block.result ∙ none c.new-block.result) (λ memory. not_memory (cc)))
+    (c.in_err-told.ensures.makes.takes (c.loop-number.invariant.same c.new-block.result ∙ none c.new-block.result) (λ memory. not_memory (cc)))
 
 pub returns-clause-takes : goal.returns-clause-takes
 returns-clause-takes c = λ none not_memory. c.loop-number.invariant.takes_none none
@@ -190,7 +190,7 @@ pub returns-in_err-told-clause-takes_by_records : goal.returns-in_err-told-claus
 returns-in_err-told-clause-takes_by_records c = λ not_memory.
     let p = err_from_is_err_and c.from_residual.result c.from_residual.ensures.1 in
     by_records_then c.args.func.now c.args.self.now c.loop-number.func c.loop-number.self c.seal_one_block.new.func c.seal_one_block.new.self c.loop-number.invariant.takes
-    (c.in_err-told.ensures.takes_by_records (λ memory. not_memory (cc)))
+    (c.in_err-told.ensures.ends.takes_by_records (λ memory. not_memory (cc)))
 
 pub returns-clause-takes_by_records : goal.returns-clause-takes_by_records
 returns-clause-takes_by_records c = λ not_memory. c.loop-number.invariant.takes
@@ -200,14 +200,137 @@ returns-clause-takes_by_records c = λ not_memory. c.loop-number.invariant.takes
 pub returns-in_err-told-clause-below :
     goal.returns-in_err-told-clause-below
 returns-in_err-told-clause-below c =
-    stays_below_then c.args.func.now c.loop-number.func c.args.self.now c.loop-number.self c.seal_one_block.new.self c.loop-number.invariant.more c.loop-number.invariant.below c.seal_one_block.ensures.below
+    stays_below_then c.args.func.now c.loop-number.func c.args.self.now c.loop-number.self c.seal_one_block.new.self c.loop-number.invariant.more c.loop-number.invariant.below c.seal_one_block.ensures.keeps.below
 
 pub returns-in_err-append-clause-below :
     goal.returns-in_err-append-clause-below
 returns-in_err-append-clause-below c =
-    stays_below_then c.args.func.now c.loop-number.func c.args.self.now c.loop-number.self c.seal_one_block.new.self c.loop-number.invariant.more c.loop-number.invariant.below c.seal_one_block.ensures.below
+    stays_below_then c.args.func.now c.loop-number.func c.args.self.now c.loop-number.self c.seal_one_block.new.self c.loop-number.invariant.more c.loop-number.invariant.below c.seal_one_block.ensures.keeps.below
 
 pub returns-clause-below :
     goal.returns-clause-below
 returns-clause-below c =
     c.loop-number.invariant.below
+
+-- WHERE NOTHING IS ANSWERED, AND WHAT IS PASSED ON ----------------------------------------------------------------
+
+pub returns-in_err-told-clause-sealed : goal.returns-in_err-told-clause-sealed
+returns-in_err-told-clause-sealed c =
+    let p = err_from_is_err_and c.from_residual.result c.from_residual.ensures.1 in
+    rw p.1 tt
+
+pub returns-in_err-told-clause-in_turn : goal.returns-in_err-told-clause-in_turn
+returns-in_err-told-clause-in_turn c =
+    let p = err_from_is_err_and c.from_residual.result c.from_residual.ensures.1 in
+    rw p.1 tt
+
+pub returns-in_err-told-clause-tells : goal.returns-in_err-told-clause-tells
+returns-in_err-told-clause-tells c =
+    let p = err_from_is_err_and c.from_residual.result c.from_residual.ensures.1 in
+    rw p.1 tt
+
+pub returns-in_err-told-clause-keeps : goal.returns-in_err-told-clause-keeps
+returns-in_err-told-clause-keeps c =
+    let p = err_from_is_err_and c.from_residual.result c.from_residual.ensures.1 in
+    λ own tables both. rw p.1 tt
+
+pub returns-in_err-told-clause-remembers : goal.returns-in_err-told-clause-remembers
+returns-in_err-told-clause-remembers c =
+    let p = err_from_is_err_and c.from_residual.result c.from_residual.ensures.1 in
+    λ x b. rw p.1 tt
+
+pub returns-in_err-told-clause-structured : goal.returns-in_err-told-clause-structured
+returns-in_err-told-clause-structured c =
+    let p = err_from_is_err_and c.from_residual.result c.from_residual.ensures.1 in
+    λ types own before. rw p.1 tt
+
+pub returns-in_err-told-clause-within : goal.returns-in_err-told-clause-within
+returns-in_err-told-clause-within c =
+    let p = err_from_is_err_and c.from_residual.result c.from_residual.ensures.1 in
+    λ holds branches waiting. rw p.1 tt
+
+pub returns-in_err-told-clause-predecessors : goal.returns-in_err-told-clause-predecessors
+returns-in_err-told-clause-predecessors c = λ b. c.seal_one_block.ensures.keeps.predecessors b ∙ c.loop-number.invariant.same b
+
+pub returns-in_err-told-clause-more : goal.returns-in_err-told-clause-more
+returns-in_err-told-clause-more c =
+    more-then c.args.func.now c.loop-number.func c.seal_one_block.new.func c.loop-number.invariant.more c.seal_one_block.ensures.keeps.more
+
+pub returns-in_err-told-clause-names : goal.returns-in_err-told-clause-names
+returns-in_err-told-clause-names c = λ named. c.seal_one_block.ensures.keeps.names (c.loop-number.invariant.names named)
+
+pub returns-in_err-append-clause-sealed : goal.returns-in_err-append-clause-sealed
+returns-in_err-append-clause-sealed c =
+    let p = err_from_is_err_and c.from_residual-in_err-append.result c.from_residual-in_err-append.ensures.1 in
+    rw p.1 tt
+
+pub returns-in_err-append-clause-in_turn : goal.returns-in_err-append-clause-in_turn
+returns-in_err-append-clause-in_turn c =
+    let p = err_from_is_err_and c.from_residual-in_err-append.result c.from_residual-in_err-append.ensures.1 in
+    rw p.1 tt
+
+pub returns-in_err-append-clause-tells : goal.returns-in_err-append-clause-tells
+returns-in_err-append-clause-tells c =
+    let p = err_from_is_err_and c.from_residual-in_err-append.result c.from_residual-in_err-append.ensures.1 in
+    rw p.1 tt
+
+pub returns-in_err-append-clause-keeps : goal.returns-in_err-append-clause-keeps
+returns-in_err-append-clause-keeps c =
+    let p = err_from_is_err_and c.from_residual-in_err-append.result c.from_residual-in_err-append.ensures.1 in
+    λ own tables both. rw p.1 tt
+
+pub returns-in_err-append-clause-remembers : goal.returns-in_err-append-clause-remembers
+returns-in_err-append-clause-remembers c =
+    let p = err_from_is_err_and c.from_residual-in_err-append.result c.from_residual-in_err-append.ensures.1 in
+    λ x b. rw p.1 tt
+
+pub returns-in_err-append-clause-structured : goal.returns-in_err-append-clause-structured
+returns-in_err-append-clause-structured c =
+    let p = err_from_is_err_and c.from_residual-in_err-append.result c.from_residual-in_err-append.ensures.1 in
+    λ types own before. rw p.1 tt
+
+pub returns-in_err-append-clause-within : goal.returns-in_err-append-clause-within
+returns-in_err-append-clause-within c =
+    let p = err_from_is_err_and c.from_residual-in_err-append.result c.from_residual-in_err-append.ensures.1 in
+    λ holds branches waiting. rw p.1 tt
+
+pub returns-in_err-append-clause-predecessors : goal.returns-in_err-append-clause-predecessors
+returns-in_err-append-clause-predecessors c = λ b. c.seal_one_block.ensures.keeps.predecessors b ∙ c.loop-number.invariant.same b
+
+pub returns-in_err-append-clause-more : goal.returns-in_err-append-clause-more
+returns-in_err-append-clause-more c =
+    more-then c.args.func.now c.loop-number.func c.seal_one_block.new.func c.loop-number.invariant.more c.seal_one_block.ensures.keeps.more
+
+pub returns-in_err-append-clause-names : goal.returns-in_err-append-clause-names
+returns-in_err-append-clause-names c = λ named. c.seal_one_block.ensures.keeps.names (c.loop-number.invariant.names named)
+
+pub returns-in_err-told-clause-full : goal.returns-in_err-told-clause-full
+returns-in_err-told-clause-full c =
+    let p = err_from_is_err_and c.from_residual.result c.from_residual.ensures.1 in
+    rw (p.1, p.2) c.in_err-told.ensures.ends.full
+
+pub returns-in_err-told-clause-never_failed : goal.returns-in_err-told-clause-never_failed
+returns-in_err-told-clause-never_failed c =
+    let p = err_from_is_err_and c.from_residual.result c.from_residual.ensures.1 in
+    rw (p.1, p.2) c.in_err-told.ensures.ends.never_failed
+
+pub returns-clause-predecessors : goal.returns-clause-predecessors
+returns-clause-predecessors c = c.loop-number.invariant.same
+
+pub returns-clause-stay : goal.returns-clause-stay
+returns-clause-stay c = c.loop-number.invariant.stay
+
+pub returns-clause-more : goal.returns-clause-more
+returns-clause-more c = c.loop-number.invariant.more
+
+pub returns-clause-names : goal.returns-clause-names
+returns-clause-names c = c.loop-number.invariant.names
+
+pub returns-clause-keeps : goal.returns-clause-keeps
+returns-clause-keeps c = c.loop-number.invariant.keeps
+
+pub returns-clause-remembers : goal.returns-clause-remembers
+returns-clause-remembers c = c.loop-number.invariant.remembers
+
+pub returns-clause-structured : goal.returns-clause-structured
+returns-clause-structured c = c.loop-number.invariant.structured

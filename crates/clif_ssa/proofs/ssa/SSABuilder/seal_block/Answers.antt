@@ -7,30 +7,83 @@ use Rattle.clif_ssa.proofs.ssa.SSABuilder.seal_block.Goals as goal
 pub returns-clause-keeps : goal.returns-clause-keeps
 returns-clause-keeps c = λ own tables both.
     seal_keeps own c.args.func.now c.seal_one_block-told.new.func c.args.self.now c.seal_one_block-told.new.self tables c.args.block c.seal_one_block-told.result
-    c.law_consistent.ensures both c.seal_one_block-told.ensures.predecessors c.seal_one_block-told.ensures.local c.seal_one_block-told.ensures.completes
+    c.law_consistent.ensures both c.seal_one_block-told.ensures.keeps.predecessors c.seal_one_block-told.ensures.makes.local c.seal_one_block-told.ensures.makes.completes
 
 pub returns-clause-remembers : goal.returns-clause-remembers
 returns-clause-remembers c = λ x b.
     seal_remembers x b c.args.func.now c.seal_one_block-told.new.func c.args.self.now c.seal_one_block-told.new.self c.args.block c.seal_one_block-told.result
-    c.law_consistent.ensures c.requires.named c.seal_one_block-told.ensures.stay c.seal_one_block-told.ensures.local c.seal_one_block-told.ensures.completes
+    c.law_consistent.ensures c.requires.named c.seal_one_block-told.ensures.keeps.stay c.seal_one_block-told.ensures.makes.local c.seal_one_block-told.ensures.makes.completes
 
 pub returns-clause-parameters : goal.returns-clause-parameters
 returns-clause-parameters c = λ alone.
     seal_loses c.args.func.now c.seal_one_block-told.new.func c.args.self.now c.seal_one_block-told.new.self c.args.block c.seal_one_block-told.result
-    c.law_consistent.ensures c.law_consistent-2.ensures (c.seal_one_block-told.ensures.local alone)
+    c.law_consistent.ensures c.law_consistent-2.ensures (c.seal_one_block-told.ensures.makes.local alone)
 
 pub returns-clause-nothing_stray : goal.returns-clause-nothing_stray
 returns-clause-nothing_stray c = λ own alone before.
     seal_leaves own c.args.func.now c.seal_one_block-told.new.func c.args.self.now c.seal_one_block-told.new.self c.args.block c.seal_one_block-told.result
-    c.law_consistent.ensures (c.seal_one_block-told.ensures.local alone) before
+    c.law_consistent.ensures (c.seal_one_block-told.ensures.makes.local alone) before
 
 pub returns-clause-structured : goal.returns-clause-structured
 returns-clause-structured c = λ types own before.
     seal_structured types own c.args.func.now c.seal_one_block-told.new.func c.args.self.now c.seal_one_block-told.new.self c.args.block c.seal_one_block-told.result
-    c.law_consistent.ensures before c.seal_one_block-told.ensures.predecessors c.seal_one_block-told.ensures.local c.seal_one_block-told.ensures.completes
+    c.law_consistent.ensures before c.seal_one_block-told.ensures.keeps.predecessors c.seal_one_block-told.ensures.makes.local c.seal_one_block-told.ensures.makes.completes
 
 pub returns-clause-within : goal.returns-clause-within
 returns-clause-within c = λ holds branches waiting.
     seal_within holds c.args.func.now c.seal_one_block-told.new.func c.args.self.now c.seal_one_block-told.new.self c.args.block c.seal_one_block-told.result
     (leads_of holds c.args.func.now c.args.self.now c.requires.named branches) waiting
-    c.seal_one_block-told.ensures.predecessors c.seal_one_block-told.ensures.local c.seal_one_block-told.ensures.completes
+    c.seal_one_block-told.ensures.keeps.predecessors c.seal_one_block-told.ensures.makes.local c.seal_one_block-told.ensures.makes.completes
+
+-- WHAT IS PASSED ON -----------------------------------------------------------------------------------------------
+
+pub returns-clause-sealed : goal.returns-clause-sealed
+returns-clause-sealed c = c.seal_one_block-told.ensures.makes.sealed
+
+pub returns-clause-err : goal.returns-clause-err
+returns-clause-err c = c.seal_one_block-told.ensures.makes.err
+
+pub returns-clause-local : goal.returns-clause-local
+returns-clause-local c = c.seal_one_block-told.ensures.makes.local
+
+pub returns-clause-completes : goal.returns-clause-completes
+returns-clause-completes c = c.seal_one_block-told.ensures.makes.completes
+
+pub returns-clause-looks_once : goal.returns-clause-looks_once
+returns-clause-looks_once c = c.seal_one_block-told.ensures.keeps.looks_once
+
+pub returns-clause-predecessors : goal.returns-clause-predecessors
+returns-clause-predecessors c = c.seal_one_block-told.ensures.keeps.predecessors
+
+pub returns-clause-stay : goal.returns-clause-stay
+returns-clause-stay c = c.seal_one_block-told.ensures.keeps.stay
+
+pub returns-clause-no_more : goal.returns-clause-no_more
+returns-clause-no_more c = c.seal_one_block-told.ensures.keeps.no_more
+
+pub returns-clause-more : goal.returns-clause-more
+returns-clause-more c = c.seal_one_block-told.ensures.keeps.more
+
+pub returns-clause-constructs : goal.returns-clause-constructs
+returns-clause-constructs c = c.seal_one_block-told.ensures.keeps.constructs
+
+pub returns-clause-tells : goal.returns-clause-tells
+returns-clause-tells c = c.seal_one_block-told.ensures.makes.tells
+
+pub returns-clause-names : goal.returns-clause-names
+returns-clause-names c = c.seal_one_block-told.ensures.keeps.names
+
+pub returns-clause-full : goal.returns-clause-full
+returns-clause-full c = c.seal_one_block-told.ensures.ends.full
+
+pub returns-clause-takes : goal.returns-clause-takes
+returns-clause-takes c = c.seal_one_block-told.ensures.makes.takes
+
+pub returns-clause-takes_by_records : goal.returns-clause-takes_by_records
+returns-clause-takes_by_records c = c.seal_one_block-told.ensures.ends.takes_by_records
+
+pub returns-clause-below : goal.returns-clause-below
+returns-clause-below c = c.seal_one_block-told.ensures.keeps.below
+
+pub returns-clause-never_failed : goal.returns-clause-never_failed
+returns-clause-never_failed c = c.seal_one_block-told.ensures.ends.never_failed

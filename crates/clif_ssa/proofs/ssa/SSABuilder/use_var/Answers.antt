@@ -1,10 +1,11 @@
-use Rattle.std.proofs.Common.{rules, ◌≡◌, ◌≢◌, Some, None, true, [], refl, sym, subst, arith}
+use Rattle.std.proofs.Common.{rules, ◌≡◌, ◌≢◌, Some, None, true, [], ◌∙◌, refl, sym, subst, arith}
 use Rattle.std.proofs.lemmas.Grind.{common_steps}
 use Rattle.clif_ssa.specs.Tables.{is_yes}
 use Rattle.clif_ssa.specs.Ssa.{record_of, sealed_of, predecessors_of}
 use Rattle.clif_ssa.specs.Running.{stage}
 use Rattle.clif_ssa.specs.Structured.{HasType}
 use Rattle.clif_ssa.proofs.Calling.{look-fits}
+use Rattle.clif_ssa.proofs.Naming.{more-then}
 use Rattle.clif_ssa.proofs.Answered.{use_recorded}
 use Rattle.clif_ssa.proofs.Constructing.{constructs_none, constructs_then}
 use Rattle.clif_ssa.proofs.Recorded.{local_recorded}
@@ -29,25 +30,30 @@ returns-then-is_local-clause-keeps c = λ own tables both.
     let none : record_of c.args.self.now c.args.variable c.args.block ≡ None = search rules in
     let alone : is_yes (sealed_of c.args.self.now c.args.block) ≡ true → predecessors_of c.args.self.now c.args.block ≡ [] = rw (← c.self.view_is) (c.if-is_local.ensures.yes refl) in
     local_use own c.args.func.now c.use_locally.new.func c.args.self.now c.use_locally.new.self tables c.args.variable c.args.ty c.args.block c.use_locally.result
-    c.law_consistent.ensures both c.requires.exists none alone c.use_locally.ensures.predecessors c.use_locally.ensures.waits c.use_locally.ensures.zero
+    c.law_consistent.ensures both c.requires.exists none alone c.use_locally.ensures.keeps.predecessors c.use_locally.ensures.used.waits c.use_locally.ensures.used.zero
 
 pub look_up_in-requires-clause-named : goal.look_up_in-requires-clause-named
 look_up_in-requires-clause-named c =
     let some : predecessors_of c.args.self.now c.args.block ≢ [] = rw (← c.self.view_is) ((c.if-is_local.ensures.no refl).1) in
     c.requires.named (something_leads c.args.self.now c.args.block some)
 
+pub make_calls-requires-clause-named : goal.make_calls-requires-clause-named
+make_calls-requires-clause-named c =
+    let some : predecessors_of c.args.self.now c.args.block ≢ [] = rw (← c.self.view_is) ((c.if-is_local.ensures.no refl).1) in
+    c.look_up_in.ensures.keeps.names (c.requires.named (something_leads c.args.self.now c.args.block some))
+
 pub make_calls-requires-clause-calls_fit : goal.make_calls-requires-clause-calls_fit
 make_calls-requires-clause-calls_fit c =
     let some : predecessors_of c.args.self.now c.args.block ≢ [] = rw (← c.self.view_is) ((c.if-is_local.ensures.no refl).1) in
     look-fits c.args.variable c.args.ty c.args.block (stage c.args.func.now c.args.self.now c.new-look_up.result) (stage c.look_up_in.new.func c.look_up_in.new.self c.look_up_in.new.look_up)
-    c.in_ok-look_up_in.ensures.looks (c.requires.named (something_leads c.args.self.now c.args.block some)) c.look_up_in.ensures.more c.look_up_in.ensures.predecessors
+    c.in_ok-look_up_in.ensures.looks (c.requires.named (something_leads c.args.self.now c.args.block some)) c.look_up_in.ensures.keeps.more c.look_up_in.ensures.keeps.predecessors
     (popped_nothing c.args.func.now c.args.self.now c.new-look_up.result c.new-look_up.ensures)
 
 pub returns-in_err-value-clause-stay : goal.returns-in_err-value-clause-stay
-returns-in_err-value-clause-stay c = λ x b v is. c.make_calls.ensures.stay x b v (c.look_up_in.ensures.stay x b v is)
+returns-in_err-value-clause-stay c = λ x b v is. c.make_calls.ensures.keeps.stay x b v (c.look_up_in.ensures.keeps.stay x b v is)
 
 pub returns-clause-stay : goal.returns-clause-stay
-returns-clause-stay c = λ x b v is. c.make_calls.ensures.stay x b v (c.look_up_in.ensures.stay x b v is)
+returns-clause-stay c = λ x b v is. c.make_calls.ensures.keeps.stay x b v (c.look_up_in.ensures.keeps.stay x b v is)
 
 pub returns-clause-keeps : goal.returns-clause-keeps
 returns-clause-keeps c = λ own tables both.
@@ -66,14 +72,14 @@ pub returns-then-is_local-clause-recorded : goal.returns-then-is_local-clause-re
 returns-then-is_local-clause-recorded c =
     let none : record_of c.args.self.now c.args.variable c.args.block ≡ None = search rules in
     local_recorded c.args.func.now c.use_locally.new.func c.args.self.now c.use_locally.new.self c.args.variable c.args.ty c.args.block c.use_locally.result
-    c.law_consistent.ensures c.requires.exists none c.use_locally.ensures.waits c.use_locally.ensures.zero
+    c.law_consistent.ensures c.requires.exists none c.use_locally.ensures.used.waits c.use_locally.ensures.used.zero
 
 pub returns-clause-recorded : goal.returns-clause-recorded
 returns-clause-recorded c =
     let some : predecessors_of c.args.self.now c.args.block ≢ [] = rw (← c.self.view_is) ((c.if-is_local.ensures.no refl).1) in
     use_recorded c.args.variable c.args.ty c.args.block c.args.func.now c.look_up_in.new.func c.make_calls.new.func c.args.self.now c.look_up_in.new.self c.make_calls.new.self
     _ c.look_up_in.new.look_up c.make_calls.new.look_up c.in_ok-value.value c.new-look_up.ensures
-    c.law_consistent.ensures (c.requires.named (something_leads c.args.self.now c.args.block some)) c.in_ok-look_up_in.ensures.looks c.in_ok-value.ensures.made c.make_calls.ensures.stay
+    c.law_consistent.ensures (c.requires.named (something_leads c.args.self.now c.args.block some)) c.in_ok-look_up_in.ensures.looks c.in_ok-value.ensures.made c.make_calls.ensures.keeps.stay
 
 -- REMEMBERS -------------------------------------------------------------------------------------------------------
 
@@ -84,13 +90,13 @@ pub returns-then-is_local-clause-remembers : goal.returns-then-is_local-clause-r
 returns-then-is_local-clause-remembers c = λ x b.
     let none : record_of c.args.self.now c.args.variable c.args.block ≡ None = search rules in
     local_remembers c.args.func.now c.use_locally.new.func c.args.self.now c.use_locally.new.self c.args.variable c.args.ty c.args.block x b c.use_locally.result
-    c.law_consistent.ensures c.requires.exists none c.use_locally.ensures.waits c.use_locally.ensures.zero
+    c.law_consistent.ensures c.requires.exists none c.use_locally.ensures.used.waits c.use_locally.ensures.used.zero
 
 pub returns-clause-remembers : goal.returns-clause-remembers
 returns-clause-remembers c = λ x b.
     let some : predecessors_of c.args.self.now c.args.block ≢ [] = rw (← c.self.view_is) ((c.if-is_local.ensures.no refl).1) in
     record {
-      recorded = λ v is. c.make_calls.ensures.stay x b v (c.look_up_in.ensures.stay x b v is);
+      recorded = λ v is. c.make_calls.ensures.keeps.stay x b v (c.look_up_in.ensures.keeps.stay x b v is);
       alike =
           use_alike c.args.variable c.args.ty c.args.block c.args.func.now c.look_up_in.new.func c.make_calls.new.func c.args.self.now c.look_up_in.new.self c.make_calls.new.self
           _ c.look_up_in.new.look_up c.make_calls.new.look_up c.in_ok-value.value c.new-look_up.ensures
@@ -104,14 +110,14 @@ returns-then-is_local-clause-parameters c = λ is_local sealed b.
     let none : record_of c.args.self.now c.args.variable c.args.block ≡ None = search rules in
     on_ok c.use_locally.result _ _ (λ used. used.params sealed b)
     (local_leaves (λ d. []) c.args.func.now c.use_locally.new.func c.args.self.now c.use_locally.new.self c.args.variable c.args.ty c.args.block c.use_locally.result
-    c.law_consistent.ensures c.requires.exists none c.use_locally.ensures.waits c.use_locally.ensures.zero)
+    c.law_consistent.ensures c.requires.exists none c.use_locally.ensures.used.waits c.use_locally.ensures.used.zero)
 
 pub returns-then-is_local-clause-nothing_stray : goal.returns-then-is_local-clause-nothing_stray
 returns-then-is_local-clause-nothing_stray c = λ own is_local before.
     let none : record_of c.args.self.now c.args.variable c.args.block ≡ None = search rules in
     on_ok c.use_locally.result _ _ (λ used. used.stray before)
     (local_leaves own c.args.func.now c.use_locally.new.func c.args.self.now c.use_locally.new.self c.args.variable c.args.ty c.args.block c.use_locally.result
-    c.law_consistent.ensures c.requires.exists none c.use_locally.ensures.waits c.use_locally.ensures.zero)
+    c.law_consistent.ensures c.requires.exists none c.use_locally.ensures.used.waits c.use_locally.ensures.used.zero)
 
 pub returns-clause-parameters : goal.returns-clause-parameters
 returns-clause-parameters c = λ is_local sealed b.
@@ -133,11 +139,11 @@ returns-in-Some-clause-constructs c = constructs_none c.args.func.now
 
 pub returns-in_err-value-clause-constructs : goal.returns-in_err-value-clause-constructs
 returns-in_err-value-clause-constructs c =
-    constructs_then c.args.func.now c.look_up_in.new.func c.make_calls.new.func c.look_up_in.ensures.constructs c.make_calls.ensures.constructs
+    constructs_then c.args.func.now c.look_up_in.new.func c.make_calls.new.func c.look_up_in.ensures.keeps.constructs c.make_calls.ensures.keeps.constructs
 
 pub returns-clause-constructs : goal.returns-clause-constructs
 returns-clause-constructs c =
-    constructs_then c.args.func.now c.look_up_in.new.func c.make_calls.new.func c.look_up_in.ensures.constructs c.make_calls.ensures.constructs
+    constructs_then c.args.func.now c.look_up_in.new.func c.make_calls.new.func c.look_up_in.ensures.keeps.constructs c.make_calls.ensures.keeps.constructs
 
 -- STRUCTURED ------------------------------------------------------------------------------------------------------
 
@@ -150,7 +156,7 @@ pub returns-then-is_local-clause-structured : goal.returns-then-is_local-clause-
 returns-then-is_local-clause-structured c = λ types own same before.
     let none : record_of c.args.self.now c.args.variable c.args.block ≡ None = search rules in
     local_structured types own c.args.func.now c.use_locally.new.func c.args.self.now c.use_locally.new.self c.args.variable c.args.ty c.args.block c.use_locally.result
-    c.law_consistent.ensures same before c.requires.exists none c.use_locally.ensures.predecessors c.use_locally.ensures.waits c.use_locally.ensures.zero
+    c.law_consistent.ensures same before c.requires.exists none c.use_locally.ensures.keeps.predecessors c.use_locally.ensures.used.waits c.use_locally.ensures.used.zero
 
 pub returns-clause-structured : goal.returns-clause-structured
 returns-clause-structured c = λ types own same before.
@@ -166,7 +172,7 @@ returns-in-Some-clause-within c = λ holds branches held. same_within holds c.ar
 pub returns-then-is_local-clause-within : goal.returns-then-is_local-clause-within
 returns-then-is_local-clause-within c = λ holds branches held.
     local_within holds c.args.func.now c.use_locally.new.func c.args.self.now c.use_locally.new.self c.args.variable c.args.ty c.args.block c.use_locally.result
-    held c.use_locally.ensures.waits c.use_locally.ensures.zero
+    held c.use_locally.ensures.used.waits c.use_locally.ensures.used.zero
 
 pub returns-clause-within : goal.returns-clause-within
 returns-clause-within c = λ holds branches held.
@@ -184,12 +190,12 @@ pub returns-in_err-value-clause-takes_by_records : goal.returns-in_err-value-cla
 returns-in_err-value-clause-takes_by_records c = λ not_memory.
     let p = err_from_is_err_and c.from_residual-in_err-value.result c.from_residual-in_err-value.ensures.1 in
     by_records_then c.args.func.now c.args.self.now c.look_up_in.new.func c.look_up_in.new.self c.make_calls.new.func c.make_calls.new.self
-    (c.in_ok-look_up_in.ensures.takes_by_records (λ memory. cc)) (c.in_err-value.ensures.takes_by_records (λ memory. not_memory (cc)))
+    (c.in_ok-look_up_in.ensures.ends.takes_by_records (λ memory. cc)) (c.in_err-value.ensures.ends.takes_by_records (λ memory. not_memory (cc)))
 
 pub returns-clause-takes_by_records : goal.returns-clause-takes_by_records
 returns-clause-takes_by_records c = λ not_memory.
     by_records_then c.args.func.now c.args.self.now c.look_up_in.new.func c.look_up_in.new.self c.make_calls.new.func c.make_calls.new.self
-    (c.in_ok-look_up_in.ensures.takes_by_records (λ memory. cc)) (c.in_ok-value.ensures.takes_by_records (λ memory. cc))
+    (c.in_ok-look_up_in.ensures.ends.takes_by_records (λ memory. cc)) (c.in_ok-value.ensures.ends.takes_by_records (λ memory. cc))
 
 -- WHERE RECORDS ARE -----------------------------------------------------------------------------------------------
 
@@ -198,8 +204,106 @@ returns-in-Some-clause-below c = λ variables blocks small fits before. before
 
 pub returns-in_err-value-clause-below : goal.returns-in_err-value-clause-below
 returns-in_err-value-clause-below c =
-    below_then c.args.variable c.args.func.now c.look_up_in.new.func c.args.self.now c.look_up_in.new.self c.make_calls.new.self c.look_up_in.ensures.more c.look_up_in.ensures.below c.make_calls.ensures.below
+    below_then c.args.variable c.args.func.now c.look_up_in.new.func c.args.self.now c.look_up_in.new.self c.make_calls.new.self c.look_up_in.ensures.keeps.more c.look_up_in.ensures.keeps.below c.make_calls.ensures.keeps.below
 
 pub returns-clause-below : goal.returns-clause-below
 returns-clause-below c =
-    below_then c.args.variable c.args.func.now c.look_up_in.new.func c.args.self.now c.look_up_in.new.self c.make_calls.new.self c.look_up_in.ensures.more c.look_up_in.ensures.below c.make_calls.ensures.below
+    below_then c.args.variable c.args.func.now c.look_up_in.new.func c.args.self.now c.look_up_in.new.self c.make_calls.new.self c.look_up_in.ensures.keeps.more c.look_up_in.ensures.keeps.below c.make_calls.ensures.keeps.below
+
+-- WHAT IS PASSED ON -----------------------------------------------------------------------------------------------
+
+pub returns-then-is_local-clause-predecessors : goal.returns-then-is_local-clause-predecessors
+returns-then-is_local-clause-predecessors c = c.use_locally.ensures.keeps.predecessors
+
+pub returns-then-is_local-clause-stay : goal.returns-then-is_local-clause-stay
+returns-then-is_local-clause-stay c = c.use_locally.ensures.keeps.stay
+
+pub returns-then-is_local-clause-flags : goal.returns-then-is_local-clause-flags
+returns-then-is_local-clause-flags c = c.use_locally.ensures.keeps.flags
+
+pub returns-then-is_local-clause-no_more : goal.returns-then-is_local-clause-no_more
+returns-then-is_local-clause-no_more c = c.use_locally.ensures.keeps.no_more
+
+pub returns-then-is_local-clause-more : goal.returns-then-is_local-clause-more
+returns-then-is_local-clause-more c = c.use_locally.ensures.keeps.more
+
+pub returns-then-is_local-clause-constructs : goal.returns-then-is_local-clause-constructs
+returns-then-is_local-clause-constructs c = c.use_locally.ensures.keeps.constructs
+
+pub returns-then-is_local-clause-names : goal.returns-then-is_local-clause-names
+returns-then-is_local-clause-names c = c.use_locally.ensures.keeps.names
+
+pub returns-then-is_local-clause-below : goal.returns-then-is_local-clause-below
+returns-then-is_local-clause-below c = c.use_locally.ensures.keeps.below
+
+pub returns-then-is_local-clause-tells : goal.returns-then-is_local-clause-tells
+returns-then-is_local-clause-tells c = c.use_locally.ensures.used.tells
+
+pub returns-then-is_local-clause-full : goal.returns-then-is_local-clause-full
+returns-then-is_local-clause-full c = c.use_locally.ensures.ends.full
+
+pub returns-then-is_local-clause-takes_by_records : goal.returns-then-is_local-clause-takes_by_records
+returns-then-is_local-clause-takes_by_records c = c.use_locally.ensures.ends.takes_by_records
+
+pub returns-then-is_local-clause-never_failed : goal.returns-then-is_local-clause-never_failed
+returns-then-is_local-clause-never_failed c = c.use_locally.ensures.ends.never_failed
+
+pub returns-then-is_local-clause-looks_once : goal.returns-then-is_local-clause-looks_once
+returns-then-is_local-clause-looks_once c = c.use_locally.ensures.keeps.once.looks_once
+
+pub returns-in_err-look_up_in-clause-predecessors : goal.returns-in_err-look_up_in-clause-predecessors
+returns-in_err-look_up_in-clause-predecessors c = c.look_up_in.ensures.keeps.predecessors
+
+pub returns-in_err-look_up_in-clause-stay : goal.returns-in_err-look_up_in-clause-stay
+returns-in_err-look_up_in-clause-stay c = c.look_up_in.ensures.keeps.stay
+
+pub returns-in_err-look_up_in-clause-flags : goal.returns-in_err-look_up_in-clause-flags
+returns-in_err-look_up_in-clause-flags c = c.look_up_in.ensures.keeps.flags
+
+pub returns-in_err-look_up_in-clause-no_more : goal.returns-in_err-look_up_in-clause-no_more
+returns-in_err-look_up_in-clause-no_more c = c.look_up_in.ensures.keeps.no_more
+
+pub returns-in_err-look_up_in-clause-more : goal.returns-in_err-look_up_in-clause-more
+returns-in_err-look_up_in-clause-more c = c.look_up_in.ensures.keeps.more
+
+pub returns-in_err-look_up_in-clause-constructs : goal.returns-in_err-look_up_in-clause-constructs
+returns-in_err-look_up_in-clause-constructs c = c.look_up_in.ensures.keeps.constructs
+
+pub returns-in_err-look_up_in-clause-names : goal.returns-in_err-look_up_in-clause-names
+returns-in_err-look_up_in-clause-names c = c.look_up_in.ensures.keeps.names
+
+pub returns-in_err-look_up_in-clause-below : goal.returns-in_err-look_up_in-clause-below
+returns-in_err-look_up_in-clause-below c = c.look_up_in.ensures.keeps.below
+
+pub returns-in_err-look_up_in-clause-looks_once : goal.returns-in_err-look_up_in-clause-looks_once
+returns-in_err-look_up_in-clause-looks_once c = c.look_up_in.ensures.keeps.once.looks_once
+
+pub returns-in_err-value-clause-predecessors : goal.returns-in_err-value-clause-predecessors
+returns-in_err-value-clause-predecessors c = λ b. c.make_calls.ensures.keeps.predecessors b ∙ c.look_up_in.ensures.keeps.predecessors b
+
+pub returns-in_err-value-clause-flags : goal.returns-in_err-value-clause-flags
+returns-in_err-value-clause-flags c = λ b. c.make_calls.ensures.keeps.flags b ∙ c.look_up_in.ensures.keeps.flags b
+
+pub returns-in_err-value-clause-names : goal.returns-in_err-value-clause-names
+returns-in_err-value-clause-names c = λ named. c.make_calls.ensures.keeps.names (c.look_up_in.ensures.keeps.names named)
+
+pub returns-in_err-value-clause-looks_once : goal.returns-in_err-value-clause-looks_once
+returns-in_err-value-clause-looks_once c = λ once. c.make_calls.ensures.keeps.once.looks_once (c.look_up_in.ensures.keeps.once.looks_once once)
+
+pub returns-in_err-value-clause-more : goal.returns-in_err-value-clause-more
+returns-in_err-value-clause-more c = more-then c.args.func.now c.look_up_in.new.func c.make_calls.new.func c.look_up_in.ensures.keeps.more c.make_calls.ensures.keeps.more
+
+pub returns-clause-predecessors : goal.returns-clause-predecessors
+returns-clause-predecessors c = λ b. c.make_calls.ensures.keeps.predecessors b ∙ c.look_up_in.ensures.keeps.predecessors b
+
+pub returns-clause-flags : goal.returns-clause-flags
+returns-clause-flags c = λ b. c.make_calls.ensures.keeps.flags b ∙ c.look_up_in.ensures.keeps.flags b
+
+pub returns-clause-names : goal.returns-clause-names
+returns-clause-names c = λ named. c.make_calls.ensures.keeps.names (c.look_up_in.ensures.keeps.names named)
+
+pub returns-clause-looks_once : goal.returns-clause-looks_once
+returns-clause-looks_once c = λ once. c.make_calls.ensures.keeps.once.looks_once (c.look_up_in.ensures.keeps.once.looks_once once)
+
+pub returns-clause-more : goal.returns-clause-more
+returns-clause-more c = more-then c.args.func.now c.look_up_in.new.func c.make_calls.new.func c.look_up_in.ensures.keeps.more c.make_calls.ensures.keeps.more

@@ -1,129 +1,128 @@
-use Rattle.std.proofs.Common.{rules, ◌≡◌, length}
-use Rattle.std.specs.Prelude.{None}
-use Rattle.clif_ssa.specs.Ssa.{record_of}
-use Rattle.clif_ssa.proofs.CountedOnce.{counts_self, once_kept, once_recorded, once_waits, once_begins}
-use Rattle.clif_ssa.proofs.Naming.{param-named, param-named-waits}
-use Rattle.clif_ssa.proofs.Constructing.{constructs_same}
-use Rattle.clif_ssa.proofs.Constructed.{param_made}
-use Rattle.clif_ssa.proofs.TakingByRecords.{by_records_param, by_records_same}
-use Rattle.clif_ssa.proofs.Below.{below_same, below_recorded, below_waits}
+use Rattle.std.proofs.Common.{◌∙◌, ap, sym}
+use Rattle.std.proofs.lemmas.Result.{err_from_is_err_and}
+use Rattle.clif_ssa.specs.LookUp.{LookUpState}
+use Rattle.clif_ssa.specs.Tables.{is_yes, sealed_at, record_at}
+use Rattle.clif_ssa.proofs.LocalSteps.{param_tells}
+use Rattle.clif_ssa.proofs.Steps.{ends_as, ends_memory, ends_ok, got_begun, got_waiting, keeps_begun, keeps_not_waiting, keeps_waits, took_kept}
 use Rattle.clif_ssa.proofs.ssa_tables.SsaTables.add_parameter.Goals as goal
 
-pub returns-in_err-begin_look_up-clause-named : goal.returns-in_err-begin_look_up-clause-named
-returns-in_err-begin_look_up-clause-named c named =
-    param-named c.args.func.now c.append_block_param.new.self c.args.self.now c.begin_look_up.new.self c.args.variable c.args.block c.args.ty
-    (search rules) (λ y b. search rules) (λ b. search rules) (λ b. search rules) named
+-- NO PARAMETER IS MADE --------------------------------------------------------------------------------------------
 
-pub returns-in_err-push_result-clause-named : goal.returns-in_err-push_result-clause-named
-returns-in_err-push_result-clause-named c named =
-    param-named c.args.func.now c.append_block_param.new.self c.args.self.now _ c.args.variable c.args.block c.args.ty
-    (search rules) (λ y b. search rules) (λ b. search rules) (λ b. search rules) named
+pub returns-in_err-param-clause-got : goal.returns-in_err-param-clause-got
+returns-in_err-param-clause-got c =
+    let p = err_from_is_err_and c.from_residual.result c.from_residual.ensures.1 in
+    rw p.1 tt
 
-pub returns-in_err-wait-clause-named : goal.returns-in_err-wait-clause-named
-returns-in_err-wait-clause-named c named =
-    param-named c.args.func.now c.append_block_param.new.self c.args.self.now _ c.args.variable c.args.block c.args.ty
-    (search rules) (λ y b. search rules) (λ b. search rules) (λ b. search rules) named
+pub returns-in_err-param-clause-tells : goal.returns-in_err-param-clause-tells
+returns-in_err-param-clause-tells c =
+    let p = err_from_is_err_and c.from_residual.result c.from_residual.ensures.1 in
+    rw p.1 tt
 
-pub returns-then-is_sealed-clause-named : goal.returns-then-is_sealed-clause-named
-returns-then-is_sealed-clause-named c named =
-    param-named c.args.func.now c.append_block_param.new.self c.args.self.now _ c.args.variable c.args.block c.args.ty
-    (search rules) (λ y b. search rules) (λ b. search rules) (λ b. search rules) named
+pub returns-in_err-param-clause-keeps : goal.returns-in_err-param-clause-keeps
+returns-in_err-param-clause-keeps c =
+    c.new_parameter.ensures.keeps
 
-pub returns-clause-named : goal.returns-clause-named
-returns-clause-named c named =
-    param-named-waits c.args.func.now c.append_block_param.new.self c.args.self.now _ c.args.variable c.args.block c.args.ty
-    (search rules) (λ y b. search rules) (λ b. search rules) (λ b. search rules) named
+pub returns-in_err-param-clause-ends : goal.returns-in_err-param-clause-ends
+returns-in_err-param-clause-ends c =
+    let p = err_from_is_err_and c.from_residual.result c.from_residual.ensures.1 in
+    rw (p.1, p.2)
+    (ends_as c.args.func.now c.args.self.now c.new_parameter.new.func c.new_parameter.new.self c.in_err-param.field-0.0 c.in_err-param.ensures.ends)
 
--- ONCE ------------------------------------------------------------------------------------------------------------
+-- THE BLOCK IS SEALED ---------------------------------------------------------------------------------------------
 
-pub returns-in_err-param-clause-once : goal.returns-in_err-param-clause-once
-returns-in_err-param-clause-once c = counts_self _
+pub returns-in_err-begin_look_up-clause-got : goal.returns-in_err-begin_look_up-clause-got
+returns-in_err-begin_look_up-clause-got c =
+    let p = err_from_is_err_and c.from_residual-in_err-begin_look_up.result c.from_residual-in_err-begin_look_up.ensures.1 in
+    rw p.1 tt
 
-pub returns-in_err-set-clause-once : goal.returns-in_err-set-clause-once
-returns-in_err-set-clause-once c = once_kept c.args.self.now _ (λ x b none. (let same : record_of c.args.self.now x b ≡ None = search rules in same)) (λ x b. search rules) (λ b. search rules)
+pub returns-in_err-begin_look_up-clause-tells : goal.returns-in_err-begin_look_up-clause-tells
+returns-in_err-begin_look_up-clause-tells c =
+    let p = err_from_is_err_and c.from_residual-in_err-begin_look_up.result c.from_residual-in_err-begin_look_up.ensures.1 in
+    rw p.1 tt
 
-pub returns-in_err-begin_look_up-clause-once : goal.returns-in_err-begin_look_up-clause-once
-returns-in_err-begin_look_up-clause-once c =
-    once_begins c.args.self.now c.begin_look_up.new.self c.args.variable c.args.block (length c.args.func.now.values) c.requires.unrecorded (search rules) (λ y b. search rules) (λ b. search rules) (search rules)
+pub returns-in_err-begin_look_up-clause-keeps : goal.returns-in_err-begin_look_up-clause-keeps
+returns-in_err-begin_look_up-clause-keeps c =
+    keeps_begun c.args.variable c.args.func.now c.new_parameter.new.func c.args.self.now c.new_parameter.new.self c.begin_look_up.new.self c.args.block c.args.ty c.requires.exists c.requires.unrecorded (ap (λ known. is_yes (sealed_at known c.args.block)) (sym c.new_parameter.ensures.blocks) ∙ sym c.if-is_sealed.ensures) c.in_ok-param.ensures.function c.in_ok-param.ensures.records c.new_parameter.ensures.blocks c.new_parameter.ensures.lookups c.begin_look_up.ensures.records c.begin_look_up.ensures.blocks c.begin_look_up.ensures.counts
 
-pub returns-in_err-push_result-clause-once : goal.returns-in_err-push_result-clause-once
-returns-in_err-push_result-clause-once c =
-    once_recorded c.args.self.now _ c.args.variable c.args.block (length c.args.func.now.values) (λ y b. search rules) (λ y b. search rules) (λ b. search rules)
+pub returns-in_err-begin_look_up-clause-ends : goal.returns-in_err-begin_look_up-clause-ends
+returns-in_err-begin_look_up-clause-ends c =
+    let p = err_from_is_err_and c.from_residual-in_err-begin_look_up.result c.from_residual-in_err-begin_look_up.ensures.1 in
+    rw (p.1, p.2)
+    (ends_memory c.args.func.now c.args.self.now c.new_parameter.new.func c.begin_look_up.new.self c.in_err-begin_look_up.field-0.0 c.in_err-begin_look_up.ensures.only_memory)
 
-pub returns-in_err-wait-clause-once : goal.returns-in_err-wait-clause-once
-returns-in_err-wait-clause-once c =
-    once_recorded c.args.self.now _ c.args.variable c.args.block (length c.args.func.now.values) (λ y b. search rules) (λ y b. search rules) (λ b. search rules)
+pub returns-then-is_sealed-clause-got : goal.returns-then-is_sealed-clause-got
+returns-then-is_sealed-clause-got c =
+    got_begun c.args.variable c.args.ty c.args.block c.in_ok-param.param c.args.func.now c.new_parameter.new.func c.args.self.now c.new_parameter.new.self c.begin_look_up.new.self c.args.look_up.now c.begin_look_up.new.look_up c.requires.unrecorded (ap (λ known. is_yes (sealed_at known c.args.block)) (sym c.new_parameter.ensures.blocks) ∙ sym c.if-is_sealed.ensures) c.in_ok-param.ensures.number c.in_ok-param.ensures.function c.in_ok-param.ensures.records
+    c.new_parameter.ensures.blocks c.new_parameter.ensures.lookups c.begin_look_up.ensures.records c.begin_look_up.ensures.blocks c.in_ok-begin_look_up.ensures.counted c.in_ok-begin_look_up.ensures.look_up
 
-pub returns-then-is_sealed-clause-once : goal.returns-then-is_sealed-clause-once
-returns-then-is_sealed-clause-once c =
-    once_begins c.args.self.now c.begin_look_up.new.self c.args.variable c.args.block (length c.args.func.now.values) c.requires.unrecorded (search rules) (λ y b. search rules) (λ b. search rules) (search rules)
+pub returns-then-is_sealed-clause-keeps : goal.returns-then-is_sealed-clause-keeps
+returns-then-is_sealed-clause-keeps c =
+    keeps_begun c.args.variable c.args.func.now c.new_parameter.new.func c.args.self.now c.new_parameter.new.self c.begin_look_up.new.self c.args.block c.args.ty c.requires.exists c.requires.unrecorded (ap (λ known. is_yes (sealed_at known c.args.block)) (sym c.new_parameter.ensures.blocks) ∙ sym c.if-is_sealed.ensures) c.in_ok-param.ensures.function c.in_ok-param.ensures.records c.new_parameter.ensures.blocks c.new_parameter.ensures.lookups c.begin_look_up.ensures.records c.begin_look_up.ensures.blocks c.begin_look_up.ensures.counts
 
-pub returns-clause-once : goal.returns-clause-once
-returns-clause-once c =
-    once_waits c.args.self.now _ c.args.variable c.args.block (length c.args.func.now.values) c.requires.unrecorded (λ y b. search rules) (λ y b. search rules) (λ b. search rules) (search rules)
+pub returns-then-is_sealed-clause-tells : goal.returns-then-is_sealed-clause-tells
+returns-then-is_sealed-clause-tells c =
+    param_tells c.args.func.now c.new_parameter.new.func c.args.block c.args.ty c.args.look_up.now c.begin_look_up.new.look_up c.in_ok-param.ensures.function (ap (λ (l : LookUpState). l.zeros) c.in_ok-begin_look_up.ensures.look_up)
 
-pub returns-in_err-param-clause-constructs : goal.returns-in_err-param-clause-constructs
-returns-in_err-param-clause-constructs c = constructs_same c.args.func.now c.append_block_param.new.self c.in_err-param.ensures.err
+pub returns-then-is_sealed-clause-ends : goal.returns-then-is_sealed-clause-ends
+returns-then-is_sealed-clause-ends c =
+    ends_ok c.args.func.now c.args.self.now c.new_parameter.new.func c.begin_look_up.new.self _ (took_kept c.args.func.now c.new_parameter.new.func c.args.self.now c.new_parameter.new.self c.begin_look_up.new.self c.in_ok-param.param c.in_ok-param.ensures.ends c.begin_look_up.ensures.records)
 
-pub returns-in_err-set-clause-constructs : goal.returns-in_err-set-clause-constructs
-returns-in_err-set-clause-constructs c = param_made c.args.func.now c.append_block_param.new.self c.args.block c.args.ty c.in_ok-param.ensures.ok
+-- THE BLOCK IS UNSEALED -------------------------------------------------------------------------------------------
 
-pub returns-in_err-begin_look_up-clause-constructs : goal.returns-in_err-begin_look_up-clause-constructs
-returns-in_err-begin_look_up-clause-constructs c = param_made c.args.func.now c.append_block_param.new.self c.args.block c.args.ty c.in_ok-param.ensures.ok
+pub returns-in_err-push_result-clause-got : goal.returns-in_err-push_result-clause-got
+returns-in_err-push_result-clause-got c =
+    let p = err_from_is_err_and c.from_residual-in_err-push_result.result c.from_residual-in_err-push_result.ensures.1 in
+    rw p.1 tt
 
-pub returns-then-is_sealed-clause-constructs : goal.returns-then-is_sealed-clause-constructs
-returns-then-is_sealed-clause-constructs c = param_made c.args.func.now c.append_block_param.new.self c.args.block c.args.ty c.in_ok-param.ensures.ok
+pub returns-in_err-push_result-clause-tells : goal.returns-in_err-push_result-clause-tells
+returns-in_err-push_result-clause-tells c =
+    let p = err_from_is_err_and c.from_residual-in_err-push_result.result c.from_residual-in_err-push_result.ensures.1 in
+    rw p.1 tt
 
-pub returns-in_err-push_result-clause-constructs : goal.returns-in_err-push_result-clause-constructs
-returns-in_err-push_result-clause-constructs c = param_made c.args.func.now c.append_block_param.new.self c.args.block c.args.ty c.in_ok-param.ensures.ok
+pub returns-in_err-push_result-clause-keeps : goal.returns-in_err-push_result-clause-keeps
+returns-in_err-push_result-clause-keeps c =
+    c.new_parameter.ensures.keeps
 
-pub returns-in_err-wait-clause-constructs : goal.returns-in_err-wait-clause-constructs
-returns-in_err-wait-clause-constructs c = param_made c.args.func.now c.append_block_param.new.self c.args.block c.args.ty c.in_ok-param.ensures.ok
+pub returns-in_err-push_result-clause-ends : goal.returns-in_err-push_result-clause-ends
+returns-in_err-push_result-clause-ends c =
+    let p = err_from_is_err_and c.from_residual-in_err-push_result.result c.from_residual-in_err-push_result.ensures.1 in
+    rw (p.1, p.2)
+    (ends_memory c.args.func.now c.args.self.now c.new_parameter.new.func c.new_parameter.new.self c.in_err-push_result.field-0.0 c.in_err-push_result.ensures.only_memory)
 
-pub returns-clause-constructs : goal.returns-clause-constructs
-returns-clause-constructs c = param_made c.args.func.now c.append_block_param.new.self c.args.block c.args.ty c.in_ok-param.ensures.ok
+pub returns-in_err-wait-clause-got : goal.returns-in_err-wait-clause-got
+returns-in_err-wait-clause-got c =
+    let p = err_from_is_err_and c.from_residual-in_err-wait.result c.from_residual-in_err-wait.ensures.1 in
+    rw p.1 tt
 
--- HOW MUCH IS TAKEN -----------------------------------------------------------------------------------------------
+pub returns-in_err-wait-clause-tells : goal.returns-in_err-wait-clause-tells
+returns-in_err-wait-clause-tells c =
+    let p = err_from_is_err_and c.from_residual-in_err-wait.result c.from_residual-in_err-wait.ensures.1 in
+    rw p.1 tt
 
-pub returns-in_err-param-clause-takes_by_records : goal.returns-in_err-param-clause-takes_by_records
-returns-in_err-param-clause-takes_by_records c = λ not_memory.
-    by_records_same c.args.func.now c.append_block_param.new.self c.args.self.now _ c.in_err-param.ensures.err (λ x b none. none)
+pub returns-in_err-wait-clause-keeps : goal.returns-in_err-wait-clause-keeps
+returns-in_err-wait-clause-keeps c =
+    keeps_not_waiting c.args.variable c.args.func.now c.new_parameter.new.func c.args.self.now c.new_parameter.new.self c.wait.new.self c.args.block c.requires.exists c.new_parameter.ensures.keeps c.wait.ensures.records c.in_err-wait.ensures.err c.wait.ensures.predecessors c.wait.ensures.no_more
 
-pub returns-then-is_sealed-clause-takes_by_records : goal.returns-then-is_sealed-clause-takes_by_records
-returns-then-is_sealed-clause-takes_by_records c = λ not_memory.
-    by_records_param c.args.func.now c.append_block_param.new.self c.args.self.now _ c.args.variable c.args.block (length c.args.func.now.values) c.args.ty
-    c.in_ok-param.ensures.ok (λ y b. search rules) c.requires.unrecorded
+pub returns-in_err-wait-clause-ends : goal.returns-in_err-wait-clause-ends
+returns-in_err-wait-clause-ends c =
+    let p = err_from_is_err_and c.from_residual-in_err-wait.result c.from_residual-in_err-wait.ensures.1 in
+    rw (p.1, p.2)
+    (ends_memory c.args.func.now c.args.self.now c.new_parameter.new.func c.wait.new.self c.in_err-wait.field-0.0 c.in_err-wait.ensures.only_memory)
 
-pub returns-clause-takes_by_records : goal.returns-clause-takes_by_records
-returns-clause-takes_by_records c = λ not_memory.
-    by_records_param c.args.func.now c.append_block_param.new.self c.args.self.now _ c.args.variable c.args.block (length c.args.func.now.values) c.args.ty
-    c.in_ok-param.ensures.ok (λ y b. search rules) c.requires.unrecorded
+pub returns-clause-got : goal.returns-clause-got
+returns-clause-got c =
+    got_waiting c.args.variable c.args.ty c.args.block c.in_ok-param.param c.args.func.now c.new_parameter.new.func c.args.self.now c.new_parameter.new.self c.wait.new.self c.args.look_up.now c.push_result.new.self c.requires.unrecorded (ap (λ known. is_yes (sealed_at known c.args.block)) (sym c.new_parameter.ensures.blocks) ∙ sym c.if-is_sealed.ensures) c.in_ok-param.ensures.number c.in_ok-param.ensures.function c.in_ok-param.ensures.records
+    c.new_parameter.ensures.blocks c.new_parameter.ensures.lookups c.wait.ensures.records c.in_ok-wait.ensures.ok c.wait.ensures.predecessors c.in_ok-push_result.ensures.ok
 
--- WHERE RECORDS ARE -----------------------------------------------------------------------------------------------
+pub returns-clause-keeps : goal.returns-clause-keeps
+returns-clause-keeps c =
+    keeps_waits c.args.variable c.args.func.now c.new_parameter.new.func c.args.self.now c.new_parameter.new.self c.wait.new.self c.args.block c.in_ok-param.param c.args.ty c.requires.exists c.requires.unrecorded (ap (λ known. is_yes (sealed_at known c.args.block)) (sym c.new_parameter.ensures.blocks) ∙ sym c.if-is_sealed.ensures) c.in_ok-param.ensures.number c.in_ok-param.ensures.function c.in_ok-param.ensures.records c.new_parameter.ensures.blocks c.new_parameter.ensures.lookups
+    c.wait.ensures.records c.in_ok-wait.ensures.ok c.wait.ensures.predecessors c.wait.ensures.no_more
 
-pub returns-in_err-param-clause-below : goal.returns-in_err-param-clause-below
-returns-in_err-param-clause-below c = λ variables blocks small fits before. before
+pub returns-clause-tells : goal.returns-clause-tells
+returns-clause-tells c =
+    param_tells c.args.func.now c.new_parameter.new.func c.args.block c.args.ty c.args.look_up.now c.push_result.new.self c.in_ok-param.ensures.function (ap (λ (l : LookUpState). l.zeros) c.in_ok-push_result.ensures.ok)
 
-pub returns-in_err-set-clause-below : goal.returns-in_err-set-clause-below
-returns-in_err-set-clause-below c =
-    below_same c.args.variable c.args.func.now c.args.self.now _ (λ y b. search rules) (λ b. search rules)
-
-pub returns-in_err-begin_look_up-clause-below : goal.returns-in_err-begin_look_up-clause-below
-returns-in_err-begin_look_up-clause-below c =
-    below_recorded c.args.func.now c.args.self.now _ c.args.variable c.args.block (length c.args.func.now.values) c.requires.exists (λ y b. search rules) (λ b. search rules)
-
-pub returns-in_err-push_result-clause-below : goal.returns-in_err-push_result-clause-below
-returns-in_err-push_result-clause-below c =
-    below_recorded c.args.func.now c.args.self.now _ c.args.variable c.args.block (length c.args.func.now.values) c.requires.exists (λ y b. search rules) (λ b. search rules)
-
-pub returns-in_err-wait-clause-below : goal.returns-in_err-wait-clause-below
-returns-in_err-wait-clause-below c =
-    below_recorded c.args.func.now c.args.self.now _ c.args.variable c.args.block (length c.args.func.now.values) c.requires.exists (λ y b. search rules) (λ b. search rules)
-
-pub returns-then-is_sealed-clause-below : goal.returns-then-is_sealed-clause-below
-returns-then-is_sealed-clause-below c =
-    below_recorded c.args.func.now c.args.self.now _ c.args.variable c.args.block (length c.args.func.now.values) c.requires.exists (λ y b. search rules) (λ b. search rules)
-
-pub returns-clause-below : goal.returns-clause-below
-returns-clause-below c =
-    below_waits c.args.func.now c.args.self.now _ c.args.variable c.args.block (length c.args.func.now.values) c.requires.exists (λ y b. search rules) (λ b. search rules)
+pub returns-clause-ends : goal.returns-clause-ends
+returns-clause-ends c =
+    ends_ok c.args.func.now c.args.self.now c.new_parameter.new.func c.wait.new.self _ (took_kept c.args.func.now c.new_parameter.new.func c.args.self.now c.new_parameter.new.self c.wait.new.self c.in_ok-param.param c.in_ok-param.ensures.ends (λ y b. ap (λ rows. record_at rows y b) c.wait.ensures.records))

@@ -1,36 +1,48 @@
-use Rattle.std.proofs.Common.{rules, ◌≡◌}
-use Rattle.std.specs.Prelude.{None}
-use Rattle.clif_ssa.specs.Ssa.{record_of}
-use Rattle.clif_ssa.proofs.Calling.{added}
-use Rattle.clif_ssa.proofs.CountedOnce.{counts_self}
-use Rattle.clif_ssa.proofs.Constructing.{constructs_none}
+use Rattle.std.proofs.lemmas.Result.{err_from_is_err_and}
+use Rattle.clif_ssa.proofs.Steps.{ends_memory, ends_ok, keeps_none}
 use Rattle.clif_ssa.proofs.TakingByRecords.{by_records_none}
 use Rattle.clif_ssa.proofs.ssa_tables.SsaTables.record_or_parameter.Goals as goal
 
+pub returns-in_err-push_result-clause-got : goal.returns-in_err-push_result-clause-got
+returns-in_err-push_result-clause-got c =
+    let p = err_from_is_err_and c.from_residual.result c.from_residual.ensures.1 in
+    rw p.1 tt
+
+pub returns-in_err-push_result-clause-tells : goal.returns-in_err-push_result-clause-tells
+returns-in_err-push_result-clause-tells c =
+    let p = err_from_is_err_and c.from_residual.result c.from_residual.ensures.1 in
+    rw p.1 tt
+
+pub returns-in_err-push_result-clause-keeps : goal.returns-in_err-push_result-clause-keeps
+returns-in_err-push_result-clause-keeps c =
+    keeps_none c.args.variable c.args.func.now c.args.self.now
+
+pub returns-in_err-push_result-clause-ends : goal.returns-in_err-push_result-clause-ends
+returns-in_err-push_result-clause-ends c =
+    let p = err_from_is_err_and c.from_residual.result c.from_residual.ensures.1 in
+    rw (p.1, p.2)
+    (ends_memory c.args.func.now c.args.self.now c.args.func.now c.args.self.now c.in_err-push_result.field-0.0 c.in_err-push_result.ensures.only_memory)
+
+pub returns-in-Some-clause-keeps : goal.returns-in-Some-clause-keeps
+returns-in-Some-clause-keeps c =
+    keeps_none c.args.variable c.args.func.now c.args.self.now
+
+pub returns-in-Some-clause-ends : goal.returns-in-Some-clause-ends
+returns-in-Some-clause-ends c =
+    ends_ok c.args.func.now c.args.self.now c.args.func.now c.args.self.now _ (by_records_none c.args.func.now c.args.self.now)
+
 pub returns-clause-got : goal.returns-clause-got
 returns-clause-got c =
-    let none : record_of c.args.self.now c.args.variable c.args.block ≡ None = search rules in
-    added c.args.variable c.args.ty c.args.block c.args.func.now c.add_parameter.new.func c.args.self.now c.add_parameter.new.self c.args.look_up.now c.add_parameter.new.look_up
-    c.add_parameter.result none c.add_parameter.ensures.number c.add_parameter.ensures.function c.add_parameter.ensures.records c.add_parameter.ensures.predecessors
-    c.add_parameter.ensures.waits c.add_parameter.ensures.begins
+    c.add_parameter.ensures.got
 
-pub returns-in_err-push_result-clause-once : goal.returns-in_err-push_result-clause-once
-returns-in_err-push_result-clause-once c = counts_self _
+pub returns-clause-keeps : goal.returns-clause-keeps
+returns-clause-keeps c =
+    c.add_parameter.ensures.keeps
 
-pub returns-in-Some-clause-once : goal.returns-in-Some-clause-once
-returns-in-Some-clause-once c = counts_self _
+pub returns-clause-tells : goal.returns-clause-tells
+returns-clause-tells c =
+    c.add_parameter.ensures.tells
 
-pub returns-in_err-push_result-clause-constructs : goal.returns-in_err-push_result-clause-constructs
-returns-in_err-push_result-clause-constructs c = constructs_none c.args.func.now
-
-pub returns-in-Some-clause-constructs : goal.returns-in-Some-clause-constructs
-returns-in-Some-clause-constructs c = constructs_none c.args.func.now
-
-pub returns-in-Some-clause-takes_by_records : goal.returns-in-Some-clause-takes_by_records
-returns-in-Some-clause-takes_by_records c = λ not_memory. by_records_none c.args.func.now c.args.self.now
-
-pub returns-in_err-push_result-clause-below : goal.returns-in_err-push_result-clause-below
-returns-in_err-push_result-clause-below c = λ variables blocks small fits before. before
-
-pub returns-in-Some-clause-below : goal.returns-in-Some-clause-below
-returns-in-Some-clause-below c = λ variables blocks small fits before. before
+pub returns-clause-ends : goal.returns-clause-ends
+returns-clause-ends c =
+    c.add_parameter.ensures.ends

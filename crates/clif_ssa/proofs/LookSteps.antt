@@ -1,0 +1,54 @@
+-- What a look-up in a block keeps, and how it ends.
+use Rattle.std.proofs.Common.{◌≡◌, ℕ, ◌<◌, true, List, length, refl, ap, arith, ◌∙◌, ◌⊎◌}
+use Rattle.std.specs.Prelude.{Some, Result, Ok, Err, OnOk, OnErr}
+use Rattle.clif_types.specs.declared.error.BuildError.{BuildError}
+use Rattle.clif_types.specs.declared.error.BuildError.TheVariants.{Memory}
+use Rattle.clif_types.specs.declared.types.«Type».{«Type»}
+use Rattle.clif_ir.specs.Body.{Body}
+use Rattle.clif_ir.specs.Consistent.{IsConsistent}
+use Rattle.clif_ir.specs.Reading.{stands_in}
+use Rattle.clif_ssa.specs.Limits.{TakesByRecords}
+use Rattle.clif_ssa.specs.LookUp.{Stage, before_first, Copies, IsWalk, LooksUp, WalksTo}
+use Rattle.clif_ssa.specs.Running.{stage, Got}
+use Rattle.clif_ssa.specs.Ssa.{SsaState, record_of, NamesExist, SameBlocks, SameLookups}
+use Rattle.clif_ssa.specs.Steps.{StepKeeps, StepEnds}
+use Rattle.clif_ssa.specs.Tables.{is_yes, predecessors_at, sealed_at}
+use Rattle.clif_ssa.proofs.Below.{below_copied, below_then}
+use Rattle.clif_ssa.proofs.CountedOnce.{counts_then, once_kept}
+use Rattle.clif_ssa.proofs.Making.{looked-named, looked-stay, looks_up}
+use Rattle.clif_ssa.proofs.Steps.{ends_memory, ends_ok, known_same}
+use Rattle.clif_ssa.proofs.TakingByRecords.{NoneLost, by_records_same, by_records_then}
+use Rattle.clif_ssa.proofs.Waited.{no_more-then}
+
+-- what was found or made is copied to the blocks that were passed
+pub keeps_looked : (x : ℕ) (f : Body) (s : SsaState) (g : Body) (t u : SsaState) (block reached value : ℕ) (passed : List ℕ) → IsConsistent f → NamesExist f s
+    → block < length f.blocks → IsWalk f s x block passed reached → value < length g.values → StepKeeps x f s g t → u.blocks ≡ t.blocks → SameLookups t u
+    → ((y b v : ℕ) → record_of u y b ≡ Some v → (record_of t y b ≡ Some v) ⊎ (v ≡ value))
+    → ((y b : ℕ) → (record_of u y b ≡ record_of t y b) ⊎ ((y ≡ x) × (stands_in b passed ≡ true))) → NoneLost t u → StepKeeps x f s g u
+keeps_looked x f s g t u block reached value passed known named there walk exists keeps blocks lookups recorded others kept =
+    let sealed : SameBlocks t u = λ b. ap (λ all. sealed_at all b) blocks in
+    record {
+      predecessors = λ b. ap (λ all. predecessors_at all b) blocks ∙ keeps.predecessors b;
+      stay = looked-stay f s t u x block reached passed walk keeps.stay others;
+      flags = λ b. ap is_yes (sealed b) ∙ keeps.flags b;
+      no_more = no_more-then s t u (length f.blocks) (length f.blocks) refl keeps.no_more (known_same t u (length f.blocks) blocks);
+      more = keeps.more;
+      constructs = keeps.constructs;
+      names = λ before. looked-named g t u value exists blocks recorded (keeps.names before);
+      once = counts_then s t u keeps.once (once_kept t u kept lookups sealed);
+      below = below_then x f g s t u keeps.more keeps.below
+          (λ variables bound small fits before.
+          below_copied f s t u x passed block reached known named there walk others sealed variables bound small (omega (arith, (keeps.more).blocks, fits)) before);
+    }
+
+pub looked_copied : (x : ℕ) (ty : «Type») (block : ℕ) (passed : List ℕ) (reached value : ℕ) (m n : Stage) (t : SsaState) {A E : Type 0} (answer : Result A E)
+    → WalksTo m.function m.state x block passed reached → reached < length m.function.blocks → Got x ty reached value m n
+    → OnOk answer (Copies n.state t x value (before_first reached passed)) → t.blocks ≡ n.state.blocks → SameLookups n.state t
+    → OnOk answer (LooksUp x ty block m (stage n.function t n.look_up))
+looked_copied x ty block passed reached value m n t (Ok a) walks exists got copies blocks lookups = looks_up x ty block passed reached value m n t walks exists got copies blocks lookups
+looked_copied x ty block passed reached value m n t (Err e) walks exists got copies blocks lookups = tt
+
+pub ends_copied : (f : Body) (s : SsaState) (g : Body) (t u : SsaState) {A : Type 0} (answer : Result A BuildError) → TakesByRecords f s g t → NoneLost t u
+    → OnErr answer (answer ≡ Err Memory) → StepEnds f s g u answer
+ends_copied f s g t u (Ok a) takes kept memory = ends_ok f s g u a (by_records_then f s g t g u takes (by_records_same g g t u refl kept))
+ends_copied f s g t u (Err e) takes kept memory = ends_memory f s g u e memory
