@@ -6,9 +6,10 @@ ghost use Rattle.cranelift_frontend.specs.Context.{empty_context};
 
 use crate::data;
 use crate::interpreters::{End, function, script};
+use crate::support::script_of;
 use clif_ir::Function;
 use clif_script::{Call, Name, replay};
-use clif_text::{Script, read};
+use clif_text::Script;
 use clif_types::EntityRef;
 use cranelift_frontend::FunctionBuilderContext;
 use std::alloc::Global;
@@ -27,7 +28,7 @@ fn built(alloc: Global, text: &Script, ctx: &mut FunctionBuilderContext) -> Resu
 }
 
 // A script and its function answer this number where they get these arguments.
-fn answers(
+fn both_answer(
     rt: &impl Abort,
     alloc: Global,
     text: &Script,
@@ -37,57 +38,58 @@ fn answers(
 ) -> Result<(), Fail> {
     let answer = End::Returned(vec![in alloc; number]?);
     let calls = text.calls.as_slice();
-    assert_eq!(rt;
-        script::run(alloc, calls, &text.signature, args)?,
-        answer,
-        "of the script"
-    );
-    assert_eq!(rt;
-        function::run(alloc, func, args)?,
-        answer,
-        "of the function"
-    );
+    assert!(rt; script::run(alloc, calls, &text.signature, args)? == answer);
+    assert!(rt; function::run(alloc, func, args)? == answer);
     Ok(())
 }
 
-// The same of a script's text, and of each of these arguments.
+// The same of each of these lists of arguments.
+fn answers(
+    rt: &impl Abort,
+    alloc: Global,
+    text: &Script,
+    rows: &[&[u128]],
+    number: u128,
+) -> Result<(), Fail> {
+    let mut ctx = FunctionBuilderContext::new(alloc);
+    let func = built(alloc, text, &mut ctx)?;
+    for args in rows {
+        both_answer(rt, alloc, text, &func, args, number)?;
+    }
+    Ok(())
+}
+
+// The same of a script's text.
 fn text_answers(
     rt: &impl Abort,
     alloc: Global,
     text: &str,
-    args: &[u128],
+    rows: &[&[u128]],
     number: u128,
 ) -> Result<(), Fail> {
-    let text = read(alloc, text)?;
-    let mut ctx = FunctionBuilderContext::new(alloc);
-    let func = built(alloc, &text, &mut ctx)?;
-    for arg in args {
-        answers(rt, alloc, &text, &func, &[*arg], number)?;
-    }
-    Ok(())
+    answers(rt, alloc, &script_of(alloc, text)?, rows, number)
 }
 
 /// A loop whose branch goes back by both of its arms.
 #[test]
 fn both_arms(rt: HostRuntime) -> Result<(), Fail> {
-    let alloc = rt.alloc();
-    let text = read(alloc, data::BOTH_ARMS)?;
-    let mut ctx = FunctionBuilderContext::new(alloc);
-    let func = built(alloc, &text, &mut ctx)?;
-    answers(&rt, alloc, &text, &func, &[], 0)
+    text_answers(&rt, rt.alloc(), data::BOTH_ARMS, &[&[]], 0)
 }
+
+/// The argument of the documented example, in each of its runs.
+const SAMPLE_ARGUMENTS: [&[u128]; 3] = [&[1], &[2], &[0x8000_0001]];
 
 /// The documented example of the builder, whose blocks are sealed as soon as may be: the loop goes on until 2 less some
 /// arguments is 0 modulo 2^32.
 #[test]
 fn sample(rt: HostRuntime) -> Result<(), Fail> {
-    text_answers(&rt, rt.alloc(), data::SAMPLE, &[1, 2, 0x8000_0001], 0)
+    text_answers(&rt, rt.alloc(), data::SAMPLE, &SAMPLE_ARGUMENTS, 0)
 }
 
 /// The same, with all blocks sealed at the end.
 #[test]
 fn sample_late(rt: HostRuntime) -> Result<(), Fail> {
-    text_answers(&rt, rt.alloc(), data::SAMPLE_LATE, &[1, 2, 0x8000_0001], 0)
+    text_answers(&rt, rt.alloc(), data::SAMPLE_LATE, &SAMPLE_ARGUMENTS, 0)
 }
 
 /// What block1 reads is named in block3: x counts down from the argument.
@@ -119,10 +121,12 @@ seal_block block3
 return reading
 ";
 
+const NAMED_LATER_ARGUMENTS: [&[u128]; 4] = [&[0], &[1], &[3], &[40]];
+
 /// A reading that is named in a later block.
 #[test]
 fn named_later(rt: HostRuntime) -> Result<(), Fail> {
-    text_answers(&rt, rt.alloc(), NAMED_LATER, &[0, 1, 3, 40], 0)
+    text_answers(&rt, rt.alloc(), NAMED_LATER, &NAMED_LATER_ARGUMENTS, 0)
 }
 
 /// Two loops, one in the other: the inner one counts y down from x, the outer one x from 3, and `total` counts the turns
@@ -203,20 +207,29 @@ fn seal_in(text: &mut Script, blocks: &[usize]) -> Result<(), Fail> {
     Ok(())
 }
 
-/// The nest of two loops, whose blocks are sealed at the end, in each of the 720 orders: 3 + 2 + 1 turns.
+// The nest of two loops, with the blocks sealed in this order: 3 + 2 + 1 turns. The calls are left as they were.
+fn nest_answers(
+    rt: &impl Abort,
+    alloc: Global,
+    text: &mut Script,
+    blocks: &[usize],
+) -> Result<(), Fail> {
+    let made = text.calls.len();
+    seal_in(text, blocks)?;
+    answers(rt, alloc, text, &[&[]], 6)?;
+    text.calls.truncate(made);
+    Ok(())
+}
+
+/// The nest of two loops, whose blocks are sealed at the end, in each of the 720 orders.
 #[test]
 fn nest_sealed_in_every_order(rt: HostRuntime) -> Result<(), Fail> {
     let alloc = rt.alloc();
-    let mut text = read(alloc, NEST)?;
-    let made = text.calls.len();
+    let mut text = script_of(alloc, NEST)?;
     for number in 0..720 {
         let blocks = order(alloc, 6, number)?;
-        assert_eq!(rt; blocks.len(), 6);
-        seal_in(&mut text, blocks.as_slice())?;
-        let mut ctx = FunctionBuilderContext::new(alloc);
-        let func = built(alloc, &text, &mut ctx)?;
-        answers(&rt, alloc, &text, &func, &[], 6)?;
-        text.calls.truncate(made);
+        assert!(rt; blocks.len() == 6);
+        nest_answers(&rt, alloc, &mut text, blocks.as_slice())?;
     }
     Ok(())
 }

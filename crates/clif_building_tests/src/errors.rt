@@ -16,98 +16,102 @@ fn faults(rt: &impl Abort, alloc: Global, rows: &[(&str, &str)]) -> Result<(), F
     Ok(())
 }
 
+const CALLS: [(&str, &str); 27] = [
+    ("jmp b", "unknown call: jmp"),
+    ("iadd.i32 $0.0 $0.0", "unknown call: iadd.i32"),
+    ("(", "unknown call: ("),
+    ("x =", "expected a call"),
+    ("= create_block", "expected a name"),
+    ("create_block b", "expected the end of the line"),
+    ("seal_block", "expected a block"),
+    ("seal_block (b)", "expected a block"),
+    ("seal_block $0", "expected a block"),
+    ("seal_block $0.18446744073709551616", "expected a block"),
+    ("seal_block $+1.0", "expected a block"),
+    ("seal_block c", "unknown name: c"),
+    ("declare_var", "expected a type"),
+    ("declare_var i7", "expected a type"),
+    ("declare_var i128x8", "expected a type"),
+    ("use_var", "expected a variable"),
+    ("use_var var4294967295", "expected a variable"),
+    ("use_var y", "unknown name: y"),
+    ("iconst 1", "expected a type"),
+    ("iconst.i32", "expected a number of 64 bits"),
+    (
+        "iconst.i32 18446744073709551616",
+        "expected a number of 64 bits",
+    ),
+    (
+        "iconst.i32 -9223372036854775809",
+        "expected a number of 64 bits",
+    ),
+    ("iconst.i32 0x_", "expected a number of 64 bits"),
+    ("iadd $0.0", "expected a value"),
+    ("jump b($0.0", "expected a value or )"),
+    ("jump b($0.0) $0.0", "expected the end of the line"),
+    ("return )", "expected a value"),
+];
+
 #[test]
 fn of_calls(rt: HostRuntime) -> Result<(), Fail> {
-    let rows = [
-        ("jmp b", "unknown call: jmp"),
-        ("iadd.i32 $0.0 $0.0", "unknown call: iadd.i32"),
-        ("(", "unknown call: ("),
-        ("x =", "expected a call"),
-        ("= create_block", "expected a name"),
-        ("create_block b", "expected the end of the line"),
-        ("seal_block", "expected a block"),
-        ("seal_block (b)", "expected a block"),
-        ("seal_block $0", "expected a block"),
-        ("seal_block $0.18446744073709551616", "expected a block"),
-        ("seal_block $+1.0", "expected a block"),
-        ("seal_block c", "unknown name: c"),
-        ("declare_var", "expected a type"),
-        ("declare_var i7", "expected a type"),
-        ("declare_var i128x8", "expected a type"),
-        ("use_var", "expected a variable"),
-        ("use_var var4294967295", "expected a variable"),
-        ("use_var y", "unknown name: y"),
-        ("iconst 1", "expected a type"),
-        ("iconst.i32", "expected a number of 64 bits"),
-        (
-            "iconst.i32 18446744073709551616",
-            "expected a number of 64 bits",
-        ),
-        (
-            "iconst.i32 -9223372036854775809",
-            "expected a number of 64 bits",
-        ),
-        ("iconst.i32 0x_", "expected a number of 64 bits"),
-        ("iadd $0.0", "expected a value"),
-        ("jump b($0.0", "expected a value or )"),
-        ("jump b($0.0) $0.0", "expected the end of the line"),
-        ("return )", "expected a value"),
-    ];
-    faults(&rt, rt.alloc(), &rows)
+    faults(&rt, rt.alloc(), &CALLS)
 }
+
+const NAMES: [(&str, &str); 8] = [
+    ("1 = create_block", "expected a name"),
+    (".a = create_block", "expected a name"),
+    ("@a = create_block", "expected a name"),
+    ("é = create_block", "expected a name"),
+    ("a, b = create_block", "expected at most 1 name"),
+    ("@a, b, c = iconst.i8 1", "expected at most 1 name"),
+    ("a = seal_block b", "expected no names"),
+    ("@a, b = return", "expected no names"),
+];
 
 #[test]
 fn of_names(rt: HostRuntime) -> Result<(), Fail> {
-    let rows = [
-        ("1 = create_block", "expected a name"),
-        (".a = create_block", "expected a name"),
-        ("@a = create_block", "expected a name"),
-        ("é = create_block", "expected a name"),
-        ("a, b = create_block", "expected at most 1 name"),
-        ("@a, b, c = iconst.i8 1", "expected at most 1 name"),
-        ("a = seal_block b", "expected no names"),
-        ("@a, b = return", "expected no names"),
-    ];
-    faults(&rt, rt.alloc(), &rows)
+    faults(&rt, rt.alloc(), &NAMES)
 }
+
+const HEADER_LINES: [(&str, &str); 15] = [
+    ("region slot", "not supported yet: region"),
+    ("pointer", "expected 16, 32 or 64"),
+    ("pointer 8", "expected 16, 32 or 64"),
+    ("pointer 16 bits", "expected the end of the line"),
+    ("conv cold", "expected a convention"),
+    ("function", "expected the name of a function"),
+    ("function %", "expected the name of a function"),
+    (
+        "function u0:4294967296 () fast",
+        "expected the name of a function",
+    ),
+    ("function %f", "expected ("),
+    ("function %f (i32", "expected a type or )"),
+    ("function %f (i32) i32", "expected -> or a convention"),
+    ("function %f () ->", "expected a type"),
+    ("function %f () -> fast", "expected a type"),
+    ("function %f () -> i32", "expected a type or a convention"),
+    ("function %f () fast fast", "expected the end of the line"),
+];
 
 #[test]
 fn of_header_lines(rt: HostRuntime) -> Result<(), Fail> {
-    let rows = [
-        ("region slot", "not supported yet: region"),
-        ("pointer", "expected 16, 32 or 64"),
-        ("pointer 8", "expected 16, 32 or 64"),
-        ("pointer 16 bits", "expected the end of the line"),
-        ("conv cold", "expected a convention"),
-        ("function", "expected the name of a function"),
-        ("function %", "expected the name of a function"),
-        (
-            "function u0:4294967296 () fast",
-            "expected the name of a function",
-        ),
-        ("function %f", "expected ("),
-        ("function %f (i32", "expected a type or )"),
-        ("function %f (i32) i32", "expected -> or a convention"),
-        ("function %f () ->", "expected a type"),
-        ("function %f () -> fast", "expected a type"),
-        ("function %f () -> i32", "expected a type or a convention"),
-        ("function %f () fast fast", "expected the end of the line"),
-    ];
-    faults(&rt, rt.alloc(), &rows)?;
+    faults(&rt, rt.alloc(), &HEADER_LINES)?;
     let twice = "function %f () fast\nconv fast\nfunction %f () fast";
     let err = "script error at line 3: expected no second line: function\n";
     gives(&rt, rt.alloc(), twice.as_bytes(), 2, "", err)
 }
 
+const CALLS_TO_COME: [(&str, &str); 3] = [
+    ("switch x b 1:c", "not supported yet: switch"),
+    ("x = load.i32 notrap p", "not supported yet: load"),
+    ("call f (x)", "not supported yet: call"),
+];
+
 // Each call of the format that isn't understood so far.
 #[test]
 fn of_calls_to_come(rt: HostRuntime) -> Result<(), Fail> {
-    let rows = [
-        ("switch x b 1:c", "not supported yet: switch"),
-        ("x = load.i32 notrap p", "not supported yet: load"),
-        ("call f (x)", "not supported yet: call"),
-    ];
-    faults(&rt, rt.alloc(), &rows)
+    faults(&rt, rt.alloc(), &CALLS_TO_COME)
 }
 
 #[test]

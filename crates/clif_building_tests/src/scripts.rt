@@ -2,58 +2,54 @@
 #![tactic(auto)]
 
 use crate::data;
-use crate::support::{MANY, built, gives};
-use clif_text::{read, write};
+use crate::support::{MANY, built, gives, script_of};
+use clif_text::write;
 use std::alloc::Global;
 use std::process::Abort;
 use std::test::Fail;
 
 const EMPTY_TEXT: &str = "function u0:0() fast {\n}\n";
 
+const ROWS_AND_EXAMPLES: [(&str, &str); 10] = [
+    (data::UNDEFINED_VARIABLE, data::UNDEFINED_VARIABLE_TEXT),
+    (data::LOOP_SEALED_LATE, data::LOOP_SEALED_LATE_TEXT),
+    (data::SAMPLE, data::SAMPLE_TEXT),
+    (data::SAMPLE_LATE, data::SAMPLE_LATE_TEXT),
+    (data::BOTH_ARMS, data::BOTH_ARMS_TEXT),
+    (data::DIAMOND, data::DIAMOND_TEXT),
+    (data::NESTED_LOOPS, data::NESTED_LOOPS_TEXT),
+    (data::PLACED, data::PLACED_TEXT),
+    ("", EMPTY_TEXT),
+    ("\n# nothing is called\n \t\r\n,", EMPTY_TEXT),
+];
+
 #[test]
 fn rows_and_examples(rt: HostRuntime) -> Result<(), Fail> {
-    let rows = [
-        (data::UNDEFINED_VARIABLE, data::UNDEFINED_VARIABLE_TEXT),
-        (data::LOOP_SEALED_LATE, data::LOOP_SEALED_LATE_TEXT),
-        (data::SAMPLE, data::SAMPLE_TEXT),
-        (data::SAMPLE_LATE, data::SAMPLE_LATE_TEXT),
-        (data::BOTH_ARMS, data::BOTH_ARMS_TEXT),
-        (data::DIAMOND, data::DIAMOND_TEXT),
-        (data::NESTED_LOOPS, data::NESTED_LOOPS_TEXT),
-        (data::PLACED, data::PLACED_TEXT),
-        ("", EMPTY_TEXT),
-        ("\n# nothing is called\n \t\r\n,", EMPTY_TEXT),
-    ];
-    for (script, text) in rows {
-        gives(&rt, rt.alloc(), script.as_bytes(), 0, text, "")?;
+    for (script, text) in ROWS_AND_EXAMPLES.iter() {
         same_when_written(&rt, rt.alloc(), script, text)?;
     }
     Ok(())
 }
 
-// What was written reads as calls that are written the same, and gives the same function.
+// A script gives a function of this text, and so does what its calls are written as, which are written the same once
+// they are read.
 fn same_when_written(rt: &impl Abort, alloc: Global, script: &str, text: &str) -> Result<(), Fail> {
+    gives(rt, alloc, script.as_bytes(), 0, text, "")?;
     let written = rewritten(alloc, script)?;
     gives(rt, alloc, written.as_bytes(), 0, text, "")?;
-    assert_eq!(rt;
-        rewritten(alloc, written.as_str())?.as_str(),
-        written.as_str()
-    );
-    Ok(())
+    is_written(rt, alloc, written.as_str(), written.as_str())
 }
 
-// The script that its calls are written as.
+// The script that the calls of a script are written as.
 fn rewritten(alloc: Global, script: &str) -> Result<String, Fail> {
-    let Ok(read) = read(alloc, script) else {
-        return Err("no script")?;
-    };
-    Ok(write(
-        alloc,
-        &read.name,
-        &read.signature,
-        read.config,
-        read.calls.as_slice(),
-    )?)
+    let read = script_of(alloc, script)?;
+    let calls = read.calls.as_slice();
+    Ok(write(alloc, &read.name, &read.signature, read.config, calls)?)
+}
+
+fn is_written(rt: &impl Abort, alloc: Global, script: &str, written: &str) -> Result<(), Fail> {
+    assert!(rt; rewritten(alloc, script)?.as_str() == written);
+    Ok(())
 }
 
 // Each call as it is written.
@@ -112,8 +108,7 @@ brif $1.0 $2.0( $3.1 $4.1) $5.0()
 return $1.0 $2.0
 return
 ";
-    assert_eq!(rt; rewritten(rt.alloc(), script)?.as_str(), written);
-    Ok(())
+    is_written(&rt, rt.alloc(), script, written)
 }
 
 // Names lead to the latest answer of that name, also of a variable, and `$P.K` to any answer.
@@ -182,48 +177,54 @@ block0:
 ";
     gives(&rt, rt.alloc(), script.as_bytes(), 0, text, "")?;
     let written = rewritten(rt.alloc(), script)?;
-    assert!(rt; written.contains("def_var var0 $4.1\n"));
-    assert!(rt; written.contains("def_var var1 $6.1\n"));
-    assert!(rt; written.contains("def_var var2 $4.1\n"));
+    let lines = [
+        "def_var var0 $4.1\n",
+        "def_var var1 $6.1\n",
+        "def_var var2 $4.1\n",
+    ];
+    for line in lines {
+        assert!(rt; written.contains(line));
+    }
     Ok(())
 }
 
+const MISUSES: [(&str, &str); 8] = [
+    (data::MISUSE, data::MISUSE_TEXT),
+    // an answer that isn't there, and one of another kind
+    (
+        "\n\n  seal_block $0.0 # late  ",
+        "misuse at call 0\nline 3: seal_block $0.0 # late\n",
+    ),
+    (
+        "b = create_block\nswitch_to_block b\nuse_var b",
+        "misuse at call 2\nline 3: use_var b\n",
+    ),
+    (
+        "b = create_block\nswitch_to_block b\nuse_var $7.0",
+        "misuse at call 2\nline 3: use_var $7.0\n",
+    ),
+    (
+        "b = create_block\nswitch_to_block b\nuse_var var0",
+        "misuse at call 2\nline 3: use_var var0\n",
+    ),
+    (
+        "b = create_block\nx, y = append_block_params_for_function_returns b\nswitch_to_block b\nreturn y\nfunction %f () -> i8 fast",
+        "misuse at call 3\nline 4: return y\n",
+    ),
+    (
+        "declare_var f32",
+        "misuse at call 0\nline 1: declare_var f32\n",
+    ),
+    // a block that isn't finished
+    (
+        "b = create_block\nswitch_to_block b\niconst.i8 1",
+        "refused at call 3\nat the end\n",
+    ),
+];
+
 #[test]
 fn misuses(rt: HostRuntime) -> Result<(), Fail> {
-    let rows = [
-        (data::MISUSE, data::MISUSE_TEXT),
-        // an answer that isn't there, and one of another kind
-        (
-            "\n\n  seal_block $0.0 # late  ",
-            "misuse at call 0\nline 3: seal_block $0.0 # late\n",
-        ),
-        (
-            "b = create_block\nswitch_to_block b\nuse_var b",
-            "misuse at call 2\nline 3: use_var b\n",
-        ),
-        (
-            "b = create_block\nswitch_to_block b\nuse_var $7.0",
-            "misuse at call 2\nline 3: use_var $7.0\n",
-        ),
-        (
-            "b = create_block\nswitch_to_block b\nuse_var var0",
-            "misuse at call 2\nline 3: use_var var0\n",
-        ),
-        (
-            "b = create_block\nx, y = append_block_params_for_function_returns b\nswitch_to_block b\nreturn y\nfunction %f () -> i8 fast",
-            "misuse at call 3\nline 4: return y\n",
-        ),
-        (
-            "declare_var f32",
-            "misuse at call 0\nline 1: declare_var f32\n",
-        ),
-        // a block that isn't finished
-        (
-            "b = create_block\nswitch_to_block b\niconst.i8 1",
-            "refused at call 3\nat the end\n",
-        ),
-    ];
-    for (script, err) in rows {
+    for (script, err) in MISUSES.iter() {
         gives(&rt, rt.alloc(), script.as_bytes(), 1, "", err)?;
     }
     Ok(())
@@ -233,7 +234,7 @@ fn misuses(rt: HostRuntime) -> Result<(), Fail> {
 #[test]
 fn refused_writes(rt: HostRuntime) -> Result<(), Fail> {
     let ran = built(rt.alloc(), data::DIAMOND.as_bytes(), 0, MANY)?;
-    assert_eq!(rt; ran.status, 1);
+    assert!(rt; ran.status == 1);
     assert!(rt; ran.out.is_empty() && ran.err.is_empty());
     for writes in 0..MANY {
         let ran = built(rt.alloc(), b"\nx", MANY, writes)?;
@@ -241,10 +242,10 @@ fn refused_writes(rt: HostRuntime) -> Result<(), Fail> {
         let text = b"script error at line 2: unknown call: x\n";
         assert!(rt; text.starts_with(ran.err.as_slice()));
         if ran.status == 2 {
-            assert_eq!(rt; ran.err.as_slice(), text.as_slice());
+            assert!(rt; ran.err.as_slice() == text.as_slice());
             return Ok(());
         }
-        assert_eq!(rt; ran.status, 1);
+        assert!(rt; ran.status == 1);
     }
     Err("no run wrote its text")?
 }

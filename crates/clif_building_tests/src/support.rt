@@ -2,6 +2,7 @@
 #![tactic(auto)]
 
 use clif_building::build;
+use clif_text::{Script, read};
 use std::alloc::{AllocError, Global};
 use std::io;
 use std::io::Write;
@@ -81,8 +82,16 @@ pub fn gives(
     err: &str,
 ) -> Result<(), Fail> {
     let ran = built(alloc, script, MANY, MANY)?;
-    assert_eq!(rt; ran.err.as_slice(), err.as_bytes());
-    assert_eq!(rt; ran.out.as_slice(), out.as_bytes());
-    assert_eq!(rt; ran.status, status, "and wrote {err}");
+    assert!(rt; ran.err.as_slice() == err.as_bytes());
+    assert!(rt; ran.out.as_slice() == out.as_bytes());
+    assert!(rt; ran.status == status);
     Ok(())
+}
+
+/// A text that is a script.
+pub fn script_of(alloc: Global, text: &str) -> Result<Script, Fail> {
+    match read(alloc, text) {
+        Ok(script) => Ok(script),
+        Err(_) => Err("no script")?,
+    }
 }

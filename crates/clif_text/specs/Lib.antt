@@ -8,3 +8,4 @@ pub mod Script
 pub mod Errors
 pub mod Reader
 pub mod Texts
+pub mod Operands

@@ -99,14 +99,7 @@ fn read_call<'a>(
         "use_var" => Ok(Call::UseVar {
             variable: args.variable()?,
         }),
-        "iadd" => Ok(Call::Iadd {
-            x: args.value()?,
-            y: args.value()?,
-        }),
-        "isub" => Ok(Call::Isub {
-            x: args.value()?,
-            y: args.value()?,
-        }),
+        "iadd" | "isub" => read_binary_call(head, args),
         "jump" => Ok(Call::Jump {
             destination: args.last_edge(alloc)?,
         }),
@@ -122,42 +115,62 @@ fn read_call<'a>(
     }
 }
 
+// The same for an instruction of two values.
+fn read_binary_call<'a>(head: &'a str, args: &mut Args<'_, 'a>) -> Result<Call, LineError<'a>>
+    ensures { IfOk result (λ call. (words : List (List ℕ)) × (words_left args.old.words ≡ words ++ words_left args.new.words) × IsCall (names_of args.old.scope.now) (head.now ∷ words) call) }
+{
+    let x = args.value()?;
+    let y = args.value()?;
+    match head {
+        "iadd" => Ok(Call::Iadd { x, y }),
+        "isub" => Ok(Call::Isub { x, y }),
+        _ => Err(LineError::Fault(Fault::UnknownCall(head))),
+    }
+}
+
 // The same for a call that makes, marks or places blocks.
 fn read_block_call<'a>(head: &'a str, args: &mut Args<'_, 'a>) -> Result<Call, LineError<'a>>
     ensures { IfOk result (λ call. (words : List (List ℕ)) × (words_left args.old.words ≡ words ++ words_left args.new.words) × IsCall (names_of args.old.scope.now) (head.now ∷ words) call) }
 {
     match head {
         "create_block" => Ok(Call::CreateBlock),
-        "switch_to_block" => Ok(Call::SwitchToBlock {
-            block: args.block()?,
-        }),
-        "seal_block" => Ok(Call::SealBlock {
-            block: args.block()?,
-        }),
         "seal_all_blocks" => Ok(Call::SealAllBlocks),
+        "ensure_inserted_block" => Ok(Call::EnsureInsertedBlock),
+        "switch_to_block"
+        | "seal_block"
+        | "insert_block_after"
+        | "set_cold_block"
+        | "append_block_param"
+        | "append_block_params_for_function_params"
+        | "append_block_params_for_function_returns" => read_call_at_block(head, args),
+        _ => read_typed_call(head, args),
+    }
+}
+
+// The same for a call whose name has a block behind it.
+fn read_call_at_block<'a>(head: &'a str, args: &mut Args<'_, 'a>) -> Result<Call, LineError<'a>>
+    ensures { IfOk result (λ call. (words : List (List ℕ)) × (words_left args.old.words ≡ words ++ words_left args.new.words) × IsCall (names_of args.old.scope.now) (head.now ∷ words) call) }
+{
+    let block = args.block()?;
+    match head {
+        "switch_to_block" => Ok(Call::SwitchToBlock { block }),
+        "seal_block" => Ok(Call::SealBlock { block }),
         "insert_block_after" => Ok(Call::InsertBlockAfter {
-            block: args.block()?,
+            block,
             after: args.block()?,
         }),
-        "set_cold_block" => Ok(Call::SetColdBlock {
-            block: args.block()?,
-        }),
-        "ensure_inserted_block" => Ok(Call::EnsureInsertedBlock),
+        "set_cold_block" => Ok(Call::SetColdBlock { block }),
         "append_block_param" => Ok(Call::AppendBlockParam {
-            block: args.block()?,
+            block,
             ty: args.ty()?,
         }),
         "append_block_params_for_function_params" => {
-            Ok(Call::AppendBlockParamsForFunctionParams {
-                block: args.block()?,
-            })
+            Ok(Call::AppendBlockParamsForFunctionParams { block })
         }
         "append_block_params_for_function_returns" => {
-            Ok(Call::AppendBlockParamsForFunctionReturns {
-                block: args.block()?,
-            })
+            Ok(Call::AppendBlockParamsForFunctionReturns { block })
         }
-        _ => read_typed_call(head, args),
+        _ => Err(LineError::Fault(Fault::UnknownCall(head))),
     }
 }
 

@@ -1,9 +1,11 @@
 //! Scripts as text, written.
 ghost use Rattle.std.specs.Prelude.{◌≡◌, ◌++◌, Some, IfOk, string_bytes};
 ghost use Rattle.clif_text.specs.Texts.{answer_text, answers_text, edge_text, call_text, calls_text, header_text};
+ghost use Rattle.clif_text.specs.Operands.{operands_text};
 
 use clif_calls::{Call, Edge, Name};
-use clif_types::{PointerWidth, Signature, TargetFrontendConfig, UserFuncName};
+use clif_ssa::Variable;
+use clif_types::{PointerWidth, Signature, TargetFrontendConfig, Type, UserFuncName};
 use std::alloc::{AllocError, Global};
 use std::fmt;
 
@@ -50,6 +52,87 @@ impl fmt::Display for EdgeText<'_> {
     }
 }
 
+// What is written behind the name of a call.
+#[derive(Clone, Copy)]
+enum Operands<'a> {
+    None,
+    Answer(Name),
+    Answers(Name, Name),
+    Param(Name, Type),
+    Type(Type),
+    Definition(Variable, Name),
+    Variable(Variable),
+    Constant(Type, i64),
+    Edge(&'a Edge),
+    Branch(Name, &'a Edge, &'a Edge),
+    Values(&'a [Name]),
+}
+
+impl fmt::Display for Operands<'_> {
+    ghost output = { λ operands. Some (operands_text operands) };
+
+    fn fmt<W: fmt::Write>(&self, f: &mut fmt::Formatter<W>) -> fmt::Result {
+        match self {
+            Operands::None => Ok(()),
+            Operands::Answer(x) => write!(f, " {}", AnswerText(*x)),
+            Operands::Answers(x, y) => write!(f, " {} {}", AnswerText(*x), AnswerText(*y)),
+            Operands::Param(block, ty) => write!(f, " {} {ty}", AnswerText(*block)),
+            Operands::Type(ty) => write!(f, " {ty}"),
+            Operands::Definition(variable, x) => write!(f, " {variable} {}", AnswerText(*x)),
+            Operands::Variable(variable) => write!(f, " {variable}"),
+            Operands::Constant(ty, imm) => write!(f, ".{ty} {imm}"),
+            Operands::Edge(edge) => write!(f, " {}", EdgeText(edge)),
+            Operands::Branch(condition, first, second) => {
+                let condition = AnswerText(*condition);
+                write!(f, " {condition} {} {}", EdgeText(first), EdgeText(second))
+            }
+            Operands::Values(values) => write!(f, "{}", AnswersText(values)),
+        }
+    }
+}
+
+// The names of the calls that add the parameters, and the returned values, of the function.
+const PARAMS: &str = "append_block_params_for_function_params";
+
+const RETURNS: &str = "append_block_params_for_function_returns";
+
+// The name of a call and what is written behind it.
+fn parts(call: &Call) -> (&'static str, Operands<'_>)
+    ensures { result.0.now ++ operands_text result.1 ≡ call_text call.now }
+{
+    match call {
+        Call::CreateBlock => ("create_block", Operands::None),
+        Call::SwitchToBlock { block } => ("switch_to_block", Operands::Answer(*block)),
+        Call::SealBlock { block } => ("seal_block", Operands::Answer(*block)),
+        Call::SealAllBlocks => ("seal_all_blocks", Operands::None),
+        Call::InsertBlockAfter { block, after } => (
+            "insert_block_after",
+            Operands::Answers(*block, *after),
+        ),
+        Call::SetColdBlock { block } => ("set_cold_block", Operands::Answer(*block)),
+        Call::EnsureInsertedBlock => ("ensure_inserted_block", Operands::None),
+        Call::AppendBlockParam { block, ty } => (
+            "append_block_param",
+            Operands::Param(*block, *ty),
+        ),
+        Call::AppendBlockParamsForFunctionParams { block } => (PARAMS, Operands::Answer(*block)),
+        Call::AppendBlockParamsForFunctionReturns { block } => (RETURNS, Operands::Answer(*block)),
+        Call::DeclareVar { ty } => ("declare_var", Operands::Type(*ty)),
+        Call::DefVar { variable, value } => ("def_var", Operands::Definition(*variable, *value)),
+        Call::UseVar { variable } => ("use_var", Operands::Variable(*variable)),
+        Call::Iconst { ty, imm } => ("iconst", Operands::Constant(*ty, *imm)),
+        Call::Iadd { x, y } => ("iadd", Operands::Answers(*x, *y)),
+        Call::Isub { x, y } => ("isub", Operands::Answers(*x, *y)),
+        Call::Jump { destination } => ("jump", Operands::Edge(destination)),
+        Call::Brif {
+            condition,
+            block_then,
+            block_else,
+        } => ("brif", Operands::Branch(*condition, block_then, block_else)),
+        Call::Return { values } => ("return", Operands::Values(values.as_slice())),
+    }
+}
+
 /// A call as a line of a script, without the line's end. It is printed with `$P.K` for each answer and `varN`
 /// for each variable, so it needs no names.
 #[derive(Clone, Copy)]
@@ -59,48 +142,8 @@ impl fmt::Display for CallText<'_> {
     ghost output = { λ text. Some (call_text text.0.now) };
 
     fn fmt<W: fmt::Write>(&self, f: &mut fmt::Formatter<W>) -> fmt::Result {
-        match self.0 {
-            Call::CreateBlock => write!(f, "create_block"),
-            Call::SwitchToBlock { block } => write!(f, "switch_to_block {}", AnswerText(*block)),
-            Call::SealBlock { block } => write!(f, "seal_block {}", AnswerText(*block)),
-            Call::SealAllBlocks => write!(f, "seal_all_blocks"),
-            Call::InsertBlockAfter { block, after } => {
-                let after = AnswerText(*after);
-                write!(f, "insert_block_after {} {after}", AnswerText(*block))
-            }
-            Call::SetColdBlock { block } => write!(f, "set_cold_block {}", AnswerText(*block)),
-            Call::EnsureInsertedBlock => write!(f, "ensure_inserted_block"),
-            Call::AppendBlockParam { block, ty } => {
-                write!(f, "append_block_param {} {ty}", AnswerText(*block))
-            }
-            Call::AppendBlockParamsForFunctionParams { block } => {
-                let block = AnswerText(*block);
-                write!(f, "append_block_params_for_function_params {block}")
-            }
-            Call::AppendBlockParamsForFunctionReturns { block } => {
-                let block = AnswerText(*block);
-                write!(f, "append_block_params_for_function_returns {block}")
-            }
-            Call::DeclareVar { ty } => write!(f, "declare_var {ty}"),
-            Call::DefVar { variable, value } => {
-                write!(f, "def_var {variable} {}", AnswerText(*value))
-            }
-            Call::UseVar { variable } => write!(f, "use_var {variable}"),
-            Call::Iconst { ty, imm } => write!(f, "iconst.{ty} {imm}"),
-            Call::Iadd { x, y } => write!(f, "iadd {} {}", AnswerText(*x), AnswerText(*y)),
-            Call::Isub { x, y } => write!(f, "isub {} {}", AnswerText(*x), AnswerText(*y)),
-            Call::Jump { destination } => write!(f, "jump {}", EdgeText(destination)),
-            Call::Brif {
-                condition,
-                block_then,
-                block_else,
-            } => {
-                let condition = AnswerText(*condition);
-                let block_then = EdgeText(block_then);
-                write!(f, "brif {condition} {block_then} {}", EdgeText(block_else))
-            }
-            Call::Return { values } => write!(f, "return{}", AnswersText(values.as_slice())),
-        }
+        let (name, operands) = parts(self.0);
+        write!(f, "{name}{operands}")
     }
 }
 

@@ -8,7 +8,7 @@ use std::alloc::{AllocError, Global};
 use std::slice;
 
 /// Bits and the type that they have.
-#[derive(Clone, Copy, Debug)]
+#[derive(Clone, Copy)]
 struct Typed {
     ty: Type,
     bits: u128,

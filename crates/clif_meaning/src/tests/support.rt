@@ -8,7 +8,7 @@ pub mod script;
 use clif_types::Type;
 
 /// How a run ended.
-#[derive(Debug, PartialEq, Eq, Drop)]
+#[derive(PartialEq, Eq, Drop)]
 pub enum End {
     /// With these bits.
     Returned(Vec<u128>),

@@ -6,44 +6,44 @@ use clif_types::Type;
 use std::alloc::{AllocError, Global};
 
 /// An edge: the block that it leads to, and what it passes.
-#[derive(Debug, Drop)]
+#[derive(Clone, Copy)]
 pub struct Edge {
     pub block: usize,
-    pub args: Vec<u32>,
+    pub args: &'static [u32],
 }
 
 /// An instruction: its result, its operands and its edges. Sums and differences are made at a type.
-#[derive(Debug, Drop)]
+#[derive(Clone, Copy)]
 pub enum Inst {
     Iconst(u32, Type, i64),
     Iadd(u32, Type, u32, u32),
     Isub(u32, Type, u32, u32),
     Jump(Edge),
     Brif(u32, Edge, Edge),
-    Return(Vec<u32>),
+    Return(&'static [u32]),
 }
 
 /// A block: its parameters and its instructions.
-#[derive(Debug, Drop)]
-pub struct CodeBlock {
-    pub params: Vec<u32>,
-    pub insts: Vec<Inst>,
+#[derive(Clone, Copy)]
+pub struct CodeBlock<'a> {
+    pub params: &'static [u32],
+    pub insts: &'a [Inst],
 }
 
 /// A function: the entry, the blocks, and aliases with what each stands for.
-#[derive(Debug, Drop)]
-pub struct Code {
+#[derive(Clone, Copy)]
+pub struct Code<'a> {
     pub entry: Option<usize>,
-    pub blocks: Vec<CodeBlock>,
-    pub aliases: Vec<(u32, u32)>,
+    pub blocks: &'a [CodeBlock<'a>],
+    pub aliases: &'static [(u32, u32)],
 }
 
-impl Code {
+impl<'a> Code<'a> {
     /// The value that a value stands for. An alias leads to a value that was none when it was made, so there are no
     /// more links than aliases.
     fn resolve(&self, value: u32) -> u32 {
         let mut end = value;
-        for _ in &self.aliases {
+        for _ in self.aliases {
             let next = self.aliases.iter().find(|alias| alias.0 == end);
             end = next.map_or(end, |alias| alias.1);
         }
@@ -60,7 +60,7 @@ struct State {
 }
 
 impl State {
-    fn bits(&self, code: &Code, value: u32) -> u128 {
+    fn bits(&self, code: &Code<'_>, value: u32) -> u128 {
         let end = code.resolve(value);
         let found = self.values.iter().rev().find(|given| given.0 == end);
         found.map_or(0, |given| given.1)
@@ -69,7 +69,7 @@ impl State {
     fn all_bits(
         &self,
         alloc: Global,
-        code: &Code,
+        code: &Code<'_>,
         values: &[u32],
     ) -> Result<Vec<u128>, AllocError> {
         let mut bits = Vec::new(alloc);
@@ -80,7 +80,7 @@ impl State {
     }
 
     /// Goes to a block, whose parameters get these bits, all at once.
-    fn enter(&mut self, code: &Code, block: usize, bits: &[u128]) -> Result<(), AllocError> {
+    fn enter(&mut self, code: &Code<'_>, block: usize, bits: &[u128]) -> Result<(), AllocError> {
         self.block = block;
         self.place = 0;
         let Some(entered) = code.blocks.get(block) else {
@@ -92,13 +92,18 @@ impl State {
         Ok(())
     }
 
-    fn follow(&mut self, alloc: Global, code: &Code, edge: &Edge) -> Result<(), AllocError> {
-        let bits = self.all_bits(alloc, code, edge.args.as_slice())?;
+    fn follow(&mut self, alloc: Global, code: &Code<'_>, edge: &Edge) -> Result<(), AllocError> {
+        let bits = self.all_bits(alloc, code, edge.args)?;
         self.enter(code, edge.block, bits.as_slice())
     }
 
     /// What an instruction does; `Some` where it ends the run.
-    fn step(&mut self, alloc: Global, code: &Code, inst: &Inst) -> Result<Option<End>, AllocError> {
+    fn step(
+        &mut self,
+        alloc: Global,
+        code: &Code<'_>,
+        inst: &Inst,
+    ) -> Result<Option<End>, AllocError> {
         match inst {
             Inst::Iconst(result, ty, number) => self
                 .values
@@ -117,7 +122,7 @@ impl State {
                 self.follow(alloc, code, if is_taken { taken } else { other })?;
             }
             Inst::Return(values) => {
-                let results = self.all_bits(alloc, code, values.as_slice())?;
+                let results = self.all_bits(alloc, code, values)?;
                 return Ok(Some(End::Returned(results)));
             }
         }
@@ -126,7 +131,7 @@ impl State {
 }
 
 /// Runs the function from its entry on, with these arguments.
-pub fn run(alloc: Global, code: &Code, args: &[u128]) -> Result<End, AllocError> {
+pub fn run(alloc: Global, code: &Code<'_>, args: &[u128]) -> Result<End, AllocError> {
     let Some(entry) = code.entry else {
         return Ok(End::Stuck);
     };

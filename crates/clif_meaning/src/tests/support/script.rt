@@ -5,15 +5,12 @@ use crate::tests::support::{End, STEPS, constant, difference, sum};
 use clif_types::{Type, types};
 use std::alloc::{AllocError, Global};
 
-/// The answer with this number to the call at this place.
-#[derive(Clone, Copy, Debug, PartialEq, Eq)]
-pub struct Name {
-    pub place: usize,
-    pub index: usize,
-}
+/// An answer: the place of the call that gives it, and its number there.
+#[derive(Clone, Copy, PartialEq, Eq)]
+pub struct Name(pub usize, pub usize);
 
 /// A call of a script. Edges pass nothing: the rows that are run here have no parameters of the caller's.
-#[derive(Debug, Drop)]
+#[derive(Clone, Copy)]
 pub enum Call {
     CreateBlock,
     SwitchToBlock(Name),
@@ -26,11 +23,11 @@ pub enum Call {
     Isub(Name, Name),
     Jump(Name),
     Brif(Name, Name, Name),
-    Return(Vec<Name>),
+    Return(&'static [Name]),
 }
 
 /// Bits and the type that they have.
-#[derive(Clone, Copy, Debug)]
+#[derive(Clone, Copy)]
 struct Typed {
     ty: Type,
     bits: u128,
@@ -63,7 +60,7 @@ impl State {
     }
 
     fn give(&mut self, place: usize, index: usize, value: Typed) -> Result<(), AllocError> {
-        self.names.push((Name { place, index }, value))?;
+        self.names.push((Name(place, index), value))?;
         Ok(())
     }
 }
@@ -115,7 +112,7 @@ impl State {
                 let is_taken = self.name(*condition).bits != 0;
                 return Ok(Did::Left(if is_taken { *taken } else { *other }));
             }
-            Call::Return(names) => return Ok(Did::Ended(self.all_bits(alloc, names.as_slice())?)),
+            Call::Return(names) => return Ok(Did::Ended(self.all_bits(alloc, names)?)),
             Call::CreateBlock | Call::SwitchToBlock(_) | Call::SealBlock(_) | Call::DeclareVar(_) =>
                 {}
         }

@@ -22,20 +22,6 @@ returns-in_ok-value-in-def_var c =
     let stands = subst (λ scope. IsAnswer (names_of scope.now) two.0 c.in_ok-value-in-def_var.field-0) c.in_ok-variable-in-def_var.ensures.scope two.2 in
     (one.0 ∷ two.0 ∷ [], one.1 ∙ ap (λ rest. one.0 ∷ rest) two.1, (one.0, two.0, ap (λ (head : List ℕ). head ∷ one.0 ∷ two.0 ∷ []) c.in-def_var.is, one.2, stands))
 
-pub returns-in_ok-value-in-iadd-2 : goal.returns-in_ok-value-in-iadd-2
-returns-in_ok-value-in-iadd-2 c =
-    let one = c.in_ok-value-in-iadd.ensures.ok in
-    let two = c.in_ok-value-in-iadd-2.ensures.ok in
-    let stands = subst (λ scope. IsAnswer (names_of scope.now) two.0 c.in_ok-value-in-iadd-2.field-0) c.in_ok-value-in-iadd.ensures.scope two.2 in
-    (one.0 ∷ two.0 ∷ [], one.1 ∙ ap (λ rest. one.0 ∷ rest) two.1, (one.0, two.0, ap (λ (head : List ℕ). head ∷ one.0 ∷ two.0 ∷ []) c.in-iadd.is, one.2, stands))
-
-pub returns-in_ok-value-in-isub-2 : goal.returns-in_ok-value-in-isub-2
-returns-in_ok-value-in-isub-2 c =
-    let one = c.in_ok-value-in-isub.ensures.ok in
-    let two = c.in_ok-value-in-isub-2.ensures.ok in
-    let stands = subst (λ scope. IsAnswer (names_of scope.now) two.0 c.in_ok-value-in-isub-2.field-0) c.in_ok-value-in-isub.ensures.scope two.2 in
-    (one.0 ∷ two.0 ∷ [], one.1 ∙ ap (λ rest. one.0 ∷ rest) two.1, (one.0, two.0, ap (λ (head : List ℕ). head ∷ one.0 ∷ two.0 ∷ []) c.in-isub.is, one.2, stands))
-
 pub returns-in_ok-last_edge-in-brif : goal.returns-in_ok-last_edge-in-brif
 returns-in_ok-last_edge-in-brif c =
     let condition = c.in_ok-value-in-brif.ensures.ok in
