@@ -6,6 +6,7 @@ use Rattle.clif_ssa.specs.Running.{stage}
 use Rattle.clif_ssa.specs.Structured.{HasType}
 use Rattle.clif_ssa.proofs.Calling.{look-fits}
 use Rattle.clif_ssa.proofs.Naming.{more-then}
+use Rattle.clif_ssa.proofs.Steps.{ends_as}
 use Rattle.clif_ssa.proofs.Answered.{use_recorded}
 use Rattle.clif_ssa.proofs.Constructing.{constructs_none, constructs_then}
 use Rattle.clif_ssa.proofs.Recorded.{local_recorded}
@@ -307,3 +308,150 @@ returns-clause-looks_once c = λ once. c.make_calls.ensures.keeps.once.looks_onc
 
 pub returns-clause-more : goal.returns-clause-more
 returns-clause-more c = more-then c.args.func.now c.look_up_in.new.func c.make_calls.new.func c.look_up_in.ensures.keeps.more c.make_calls.ensures.keeps.more
+
+-- AFTER AN ERROR NOTHING IS ANSWERED ------------------------------------------------------------------------------
+
+pub returns-in_err-look_up_in-clause-keeps : goal.returns-in_err-look_up_in-clause-keeps
+returns-in_err-look_up_in-clause-keeps c =
+    let p = err_from_is_err_and c.from_residual.result c.from_residual.ensures.1 in
+    λ own tables both. rw p.1 tt
+
+pub returns-in_err-look_up_in-clause-recorded : goal.returns-in_err-look_up_in-clause-recorded
+returns-in_err-look_up_in-clause-recorded c =
+    let p = err_from_is_err_and c.from_residual.result c.from_residual.ensures.1 in
+    rw p.1 tt
+
+pub returns-in_err-look_up_in-clause-remembers : goal.returns-in_err-look_up_in-clause-remembers
+returns-in_err-look_up_in-clause-remembers c =
+    let p = err_from_is_err_and c.from_residual.result c.from_residual.ensures.1 in
+    λ x b. rw p.1 tt
+
+pub returns-in_err-look_up_in-clause-structured : goal.returns-in_err-look_up_in-clause-structured
+returns-in_err-look_up_in-clause-structured c =
+    let p = err_from_is_err_and c.from_residual.result c.from_residual.ensures.1 in
+    λ types own same before. rw p.1 tt
+
+pub returns-in_err-look_up_in-clause-tells : goal.returns-in_err-look_up_in-clause-tells
+returns-in_err-look_up_in-clause-tells c =
+    let p = err_from_is_err_and c.from_residual.result c.from_residual.ensures.1 in
+    rw p.1 tt
+
+pub returns-in_err-look_up_in-clause-within : goal.returns-in_err-look_up_in-clause-within
+returns-in_err-look_up_in-clause-within c =
+    let p = err_from_is_err_and c.from_residual.result c.from_residual.ensures.1 in
+    λ holds branches held. rw p.1 tt
+
+pub returns-in_err-look_up_in-clause-looks : goal.returns-in_err-look_up_in-clause-looks
+returns-in_err-look_up_in-clause-looks c =
+    let p = err_from_is_err_and c.from_residual.result c.from_residual.ensures.1 in
+    λ none sealed some. rw p.1 tt
+
+pub returns-in_err-look_up_in-clause-counts_none : goal.returns-in_err-look_up_in-clause-counts_none
+returns-in_err-look_up_in-clause-counts_none c =
+    let p = err_from_is_err_and c.from_residual.result c.from_residual.ensures.1 in
+    λ none unsealed. rw p.1 tt
+
+pub returns-in_err-look_up_in-clause-counts_one : goal.returns-in_err-look_up_in-clause-counts_one
+returns-in_err-look_up_in-clause-counts_one c =
+    let p = err_from_is_err_and c.from_residual.result c.from_residual.ensures.1 in
+    λ none sealed alone. rw p.1 tt
+
+pub returns-in_err-look_up_in-clause-exists : goal.returns-in_err-look_up_in-clause-exists
+returns-in_err-look_up_in-clause-exists c =
+    let p = err_from_is_err_and c.from_residual.result c.from_residual.ensures.1 in
+    λ named. rw p.1 tt
+
+pub returns-in_err-look_up_in-clause-parameters : goal.returns-in_err-look_up_in-clause-parameters
+returns-in_err-look_up_in-clause-parameters c =
+    let p = err_from_is_err_and c.from_residual.result c.from_residual.ensures.1 in
+    λ is_local sealed b. rw p.1 tt
+
+pub returns-in_err-look_up_in-clause-nothing_stray : goal.returns-in_err-look_up_in-clause-nothing_stray
+returns-in_err-look_up_in-clause-nothing_stray c =
+    let p = err_from_is_err_and c.from_residual.result c.from_residual.ensures.1 in
+    λ own is_local before. rw p.1 tt
+
+pub returns-in_err-value-clause-keeps : goal.returns-in_err-value-clause-keeps
+returns-in_err-value-clause-keeps c =
+    let p = err_from_is_err_and c.from_residual-in_err-value.result c.from_residual-in_err-value.ensures.1 in
+    λ own tables both. rw p.1 tt
+
+pub returns-in_err-value-clause-recorded : goal.returns-in_err-value-clause-recorded
+returns-in_err-value-clause-recorded c =
+    let p = err_from_is_err_and c.from_residual-in_err-value.result c.from_residual-in_err-value.ensures.1 in
+    rw p.1 tt
+
+pub returns-in_err-value-clause-remembers : goal.returns-in_err-value-clause-remembers
+returns-in_err-value-clause-remembers c =
+    let p = err_from_is_err_and c.from_residual-in_err-value.result c.from_residual-in_err-value.ensures.1 in
+    λ x b. rw p.1 tt
+
+pub returns-in_err-value-clause-structured : goal.returns-in_err-value-clause-structured
+returns-in_err-value-clause-structured c =
+    let p = err_from_is_err_and c.from_residual-in_err-value.result c.from_residual-in_err-value.ensures.1 in
+    λ types own same before. rw p.1 tt
+
+pub returns-in_err-value-clause-tells : goal.returns-in_err-value-clause-tells
+returns-in_err-value-clause-tells c =
+    let p = err_from_is_err_and c.from_residual-in_err-value.result c.from_residual-in_err-value.ensures.1 in
+    rw p.1 tt
+
+pub returns-in_err-value-clause-within : goal.returns-in_err-value-clause-within
+returns-in_err-value-clause-within c =
+    let p = err_from_is_err_and c.from_residual-in_err-value.result c.from_residual-in_err-value.ensures.1 in
+    λ holds branches held. rw p.1 tt
+
+pub returns-in_err-value-clause-looks : goal.returns-in_err-value-clause-looks
+returns-in_err-value-clause-looks c =
+    let p = err_from_is_err_and c.from_residual-in_err-value.result c.from_residual-in_err-value.ensures.1 in
+    λ none sealed some. rw p.1 tt
+
+pub returns-in_err-value-clause-counts_none : goal.returns-in_err-value-clause-counts_none
+returns-in_err-value-clause-counts_none c =
+    let p = err_from_is_err_and c.from_residual-in_err-value.result c.from_residual-in_err-value.ensures.1 in
+    λ none unsealed. rw p.1 tt
+
+pub returns-in_err-value-clause-counts_one : goal.returns-in_err-value-clause-counts_one
+returns-in_err-value-clause-counts_one c =
+    let p = err_from_is_err_and c.from_residual-in_err-value.result c.from_residual-in_err-value.ensures.1 in
+    λ none sealed alone. rw p.1 tt
+
+pub returns-in_err-value-clause-exists : goal.returns-in_err-value-clause-exists
+returns-in_err-value-clause-exists c =
+    let p = err_from_is_err_and c.from_residual-in_err-value.result c.from_residual-in_err-value.ensures.1 in
+    λ named. rw p.1 tt
+
+pub returns-in_err-value-clause-parameters : goal.returns-in_err-value-clause-parameters
+returns-in_err-value-clause-parameters c =
+    let p = err_from_is_err_and c.from_residual-in_err-value.result c.from_residual-in_err-value.ensures.1 in
+    λ is_local sealed b. rw p.1 tt
+
+pub returns-in_err-value-clause-nothing_stray : goal.returns-in_err-value-clause-nothing_stray
+returns-in_err-value-clause-nothing_stray c =
+    let p = err_from_is_err_and c.from_residual-in_err-value.result c.from_residual-in_err-value.ensures.1 in
+    λ own is_local before. rw p.1 tt
+
+pub returns-in_err-look_up_in-clause-full : goal.returns-in_err-look_up_in-clause-full
+returns-in_err-look_up_in-clause-full c =
+    let p = err_from_is_err_and c.from_residual.result c.from_residual.ensures.1 in
+    rw (p.1, p.2) (ends_as c.args.func.now c.args.self.now c.look_up_in.new.func c.look_up_in.new.self c.in_err-look_up_in.field-0.0 c.in_err-look_up_in.ensures.ends).full
+
+pub returns-in_err-look_up_in-clause-takes_by_records : goal.returns-in_err-look_up_in-clause-takes_by_records
+returns-in_err-look_up_in-clause-takes_by_records c =
+    let p = err_from_is_err_and c.from_residual.result c.from_residual.ensures.1 in
+    rw (p.1, p.2) (ends_as c.args.func.now c.args.self.now c.look_up_in.new.func c.look_up_in.new.self c.in_err-look_up_in.field-0.0 c.in_err-look_up_in.ensures.ends).takes_by_records
+
+pub returns-in_err-look_up_in-clause-never_failed : goal.returns-in_err-look_up_in-clause-never_failed
+returns-in_err-look_up_in-clause-never_failed c =
+    let p = err_from_is_err_and c.from_residual.result c.from_residual.ensures.1 in
+    rw (p.1, p.2) (ends_as c.args.func.now c.args.self.now c.look_up_in.new.func c.look_up_in.new.self c.in_err-look_up_in.field-0.0 c.in_err-look_up_in.ensures.ends).never_failed
+
+pub returns-in_err-value-clause-full : goal.returns-in_err-value-clause-full
+returns-in_err-value-clause-full c =
+    let p = err_from_is_err_and c.from_residual-in_err-value.result c.from_residual-in_err-value.ensures.1 in
+    rw (p.1, p.2) (ends_as c.look_up_in.new.func c.look_up_in.new.self c.make_calls.new.func c.make_calls.new.self c.in_err-value.field-0.0 c.in_err-value.ensures.ends).full
+
+pub returns-in_err-value-clause-never_failed : goal.returns-in_err-value-clause-never_failed
+returns-in_err-value-clause-never_failed c =
+    let p = err_from_is_err_and c.from_residual-in_err-value.result c.from_residual-in_err-value.ensures.1 in
+    rw (p.1, p.2) (ends_as c.look_up_in.new.func c.look_up_in.new.self c.make_calls.new.func c.make_calls.new.self c.in_err-value.field-0.0 c.in_err-value.ensures.ends).never_failed
