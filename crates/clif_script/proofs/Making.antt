@@ -27,9 +27,21 @@ pub record IsMade (call : Call) (old new : FunctionBuilder) (answers : List Answ
   pub stops : result ≡ Err Full → HasRecordsBelow old → MayStop call old.func.now old.ctx.now
   pub variables : OnOk result (new.ctx.now.variables ≡ types_after call old.ctx.now.variables)
 
--- the call is this one
-pub made-as : (call made : Call) (old new : FunctionBuilder) (answers : List Answer) (result : Result Answer CallError) → call ≡ made → IsMade made old new answers result → IsMade call old new answers result
-made-as call made old new answers result is = subst (λ (x : Call). IsMade x old new answers result) (sym is)
+-- the call is `made`, and this is what the function that makes it ensures
+pub made-as : (call made : Call) (old new : FunctionBuilder) (answers : List Answer) (result : Result Answer CallError) → call ≡ made
+    → SameLoans old new
+    → ((declared : SignatureShape) (calls : List AnsweredCall) → IsReady declared calls old answers → IfOk result (IsReadyAfter declared calls (request_of declared (ledger_of calls) made) new answers))
+    → ((declared : SignatureShape) (calls : List AnsweredCall) → IsReady declared calls old answers → IsJudged (allows (ledger_of calls) (request_of declared (ledger_of calls) made)) result)
+    → OnOk result (new.failed ≡ false)
+    → result ≢ Err Refused
+    → OnOk result (IsOneCall (cost_of old.func.now.signature made) old new)
+    → (result ≡ Err Full → IsNearlyFull (cost_of old.func.now.signature made) old)
+    → (result ≡ Err Full → HasRecordsBelow old → MayStop made old.func.now old.ctx.now)
+    → OnOk result (new.ctx.now.variables ≡ types_after made old.ctx.now.variables)
+    → IsMade call old new answers result
+made-as call made old new answers result is loans ready judged sound never_refused one_call full stops variables =
+    subst (λ (x : Call). IsMade x old new answers result) (sym is)
+    (record { loans = loans; ready = ready; judged = judged; sound = sound; never_refused = never_refused; one_call = one_call; full = full; stops = stops; variables = variables })
 
 -- what holds in any case holds of an answer
 pub on-ok : (result : Result Answer CallError) (P : Type 0) → P → OnOk result P

@@ -1,6 +1,6 @@
 -- What a replay answers, from what the calls and `finalize` answered.
-use Rattle.std.proofs.Common.{◌≡◌, ◌+◌, ◌*◌, ◌-◌, ◌^◌, ◌<◌, ◌≤◌, ℕ, List, length, refl, ap, sym, ◌∙◌, subst}
-use Rattle.std.specs.Prelude.{◌≢◌, Err, IfErr, IfOk, Ok, Result, Some}
+use Rattle.std.proofs.Common.{arith, ◌≡◌, ◌+◌, ◌*◌, ◌-◌, ◌^◌, ◌<◌, ◌≤◌, ℕ, List, length, refl, ap, sym, ◌∙◌, subst}
+use Rattle.std.specs.Prelude.{◌≢◌, false, Err, IfErr, IfOk, Ok, OnOk, Result, Some}
 use Rattle.clif_types.specs.Signature.{SignatureShape}
 use Rattle.clif_types.specs.declared.extname.UserFuncName.{UserFuncName}
 use Rattle.clif_types.specs.declared.target.PointerWidth.{PointerWidth}
@@ -14,9 +14,14 @@ use Rattle.clif_meaning.specs.Request.{AnsweredCall, Finalize, Script, script_of
 use Rattle.clif_meaning.specs.Acceptance.{Accepted, Misuse, Refused, refusal_of, verdict_on}
 use Rattle.cranelift_frontend.specs.declared.builder.FunctionBuilder.{FunctionBuilder}
 use Rattle.cranelift_frontend.specs.declared.error.FinalizeError.{FinalizeError}
+use Rattle.cranelift_frontend.specs.Builder.{SameLoans}
 use Rattle.cranelift_frontend.specs.Ledger.{RefusalAgrees, ledger_of}
 use Rattle.cranelift_frontend.specs.StandsFor.{LeavesNoParameter, StandsFor, StandsIn}
 use Rattle.clif_calls.specs.declared.call.Call.{Call}
+use Rattle.clif_script.specs.declared.script.Answer.{Answer}
+use Rattle.clif_script.specs.declared.script.CallError.{CallError}
+use Rattle.clif_script.specs.declared.script.CallError.TheVariants as error
+use Rattle.clif_script.specs.Errors.{replay_error_at}
 use Rattle.clif_script.specs.declared.script.ReplayError.{ReplayError}
 use Rattle.clif_script.specs.declared.script.ReplayError.TheVariants as replay
 use Rattle.clif_script.specs.Limits.{HasNoBranch, cost}
@@ -155,3 +160,81 @@ told-as calls name declared start e back begins came told =
 -- nothing is said of a function where there is none
 pub of-none : (back : Result Body ReplayError) (e : ReplayError) (P : Body → Type 0) → back ≡ Err e → IfOk back P
 of-none back e P came = subst (λ (r : Result Body ReplayError). IfOk r P) (sym came) tt
+
+-- Calls of a list were made on a builder: all of them, or those before the one that ended them.
+pub record AreMade (calls : List Call) (old new : FunctionBuilder) (result : Result (Unit {0}) ReplayError) : Type 0 where
+  pub loans : SameLoans old new
+  pub name : OnOk result (new.func.now.name ≡ old.func.now.name)
+  pub ready : OnOk result ((made : List AnsweredCall) × StandsFor old.func.now.signature made new × IsReplayed old.func.now.signature calls (length calls) made)
+  pub sound : OnOk result (new.failed ≡ false)
+  pub misuse : (i : ℕ) → result ≡ Err (replay.Misuse i) → i < length calls
+  pub judged : (i : ℕ) → result ≡ Err (replay.Misuse i) → verdict_on (requests_of old.func.now.signature calls) ≡ Misuse i
+  pub never_refused : (i : ℕ) → result ≢ Err (replay.Refused i)
+  pub full : result ≡ Err replay.Full → 2 ^ 32 - 1 ≤ cost old.func.now.signature calls + length calls * length calls
+  pub full_straight : result ≡ Err replay.Full → HasNoBranch calls → 2 ^ 32 - 1 ≤ 2 * cost old.func.now.signature calls
+  pub table_full : result ≡ Err replay.Full → IsStoppedByTable calls old.func.now.name old.func.now.signature
+
+-- loans are kept over two steps
+pub loans-then : (old middle new : FunctionBuilder) → SameLoans old middle → SameLoans middle new → SameLoans old new
+loans-then old middle new first second = record { func = second.func ∙ first.func; ctx = second.ctx ∙ first.ctx }
+
+-- memory was refused on the way
+pub made-memory : (calls : List Call) (old new : FunctionBuilder) (result : Result (Unit {0}) ReplayError) → result ≡ Err replay.Memory → SameLoans old new → AreMade calls old new result
+made-memory calls old new result is loans = subst (λ (r : Result (Unit {0}) ReplayError). AreMade calls old new r) (sym is) (record {
+  loans = loans;
+  name = tt;
+  ready = tt;
+  sound = tt;
+  misuse = λ i told. absurd (no-misuse i told);
+  judged = λ i told. absurd (no-misuse i told);
+  never_refused = no-refusal;
+  full = λ told. absurd (no-full told);
+  full_straight = λ told. absurd (no-full told);
+  table_full = λ told. absurd (no-full told);
+})
+  where
+    no-misuse : (i : ℕ) → ◌≡◌ {A = Result (Unit {0}) ReplayError} (Err replay.Memory) (Err (replay.Misuse i)) → ⊥
+    no-misuse i h = cc
+
+    no-refusal : (i : ℕ) → ◌≡◌ {A = Result (Unit {0}) ReplayError} (Err replay.Memory) (Err (replay.Refused i)) → ⊥
+    no-refusal i h = cc
+
+    no-full : ◌≡◌ {A = Result (Unit {0}) ReplayError} (Err replay.Memory) (Err replay.Full) → ⊥
+    no-full h = cc
+
+-- all calls were made
+pub made-all : (calls : List Call) (old new : FunctionBuilder) (made : List AnsweredCall) → SameLoans old new → new.func.now.name ≡ old.func.now.name
+    → StandsFor old.func.now.signature made new → IsReplayed old.func.now.signature calls (length calls) made → new.failed ≡ false → AreMade calls old new (Ok tt)
+made-all calls old new made loans name stands replayed sound = record {
+  loans = loans;
+  name = name;
+  ready = (made, stands, replayed);
+  sound = sound;
+  misuse = λ i told. absurd (no-error (replay.Misuse i) told);
+  judged = λ i told. absurd (no-error (replay.Misuse i) told);
+  never_refused = λ i told. no-error (replay.Refused i) told;
+  full = λ told. absurd (no-error replay.Full told);
+  full_straight = λ told. absurd (no-error replay.Full told);
+  table_full = λ told. absurd (no-error replay.Full told);
+}
+  where
+    no-error : (e : ReplayError) → ◌≡◌ {A = Result (Unit {0}) ReplayError} (Ok tt) (Err e) → ⊥
+    no-error e h = cc
+
+-- the error of a call is told at its place, and isn't a refusal
+pub misuse-place : (refusal : CallError) (place i : ℕ) (told : ReplayError) → told ≡ replay_error_at refusal place → ◌≡◌ {A = Result (Unit {0}) ReplayError} (Err told) (Err (replay.Misuse i)) → i ≡ place
+misuse-place error.Misuse place i told at is = cc
+misuse-place error.Refused place i told at is = let no_way : ⊥ = cc in absurd no_way
+misuse-place error.Memory place i told at is = let no_way : ⊥ = cc in absurd no_way
+misuse-place error.Full place i told at is = let no_way : ⊥ = cc in absurd no_way
+
+pub no-refusal-told : (refusal : CallError) (place i : ℕ) (told : ReplayError) → told ≡ replay_error_at refusal place → ◌≢◌ {A = Result Answer CallError} (Err refusal) (Err error.Refused)
+    → ◌≢◌ {A = Result (Unit {0}) ReplayError} (Err told) (Err (replay.Refused i))
+no-refusal-told error.Misuse place i told at never is = cc
+no-refusal-told error.Refused place i told at never is = never refl
+no-refusal-told error.Memory place i told at never is = cc
+no-refusal-told error.Full place i told at never is = cc
+
+-- a loop ends at the length
+pub last-place : (place end : ℕ) → place ≤ end → end ≤ place → place ≡ end
+last-place place end inside over = omega arith
