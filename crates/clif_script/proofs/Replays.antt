@@ -63,37 +63,6 @@ finished-as calls old width start f g begins ends done =
     subst (λ (x : Body). IsFinished calls x.name x.signature width g) begins
     (subst (λ (x : Body). IsFinished calls start.name start.signature width x) (sym ends) done)
 
-same-error : (d e : ReplayError) → ◌≡◌ {A = Result Body ReplayError} (Err d) (Err e) → d ≡ e
-same-error d e h = cc
-
--- a call ended the replay
-pub told-call : (calls : List Call) (start old : Body) (r back : Result (Unit {0}) ReplayError) (e : ReplayError) → start ≡ old → r ≡ Err e → back ≡ Err e
-    → ((i : ℕ) → r ≡ Err (replay.Misuse i) → i < length calls)
-    → ((i : ℕ) → r ≡ Err (replay.Misuse i) → verdict_on (requests_of start.signature calls) ≡ Misuse i)
-    → ((i : ℕ) → r ≢ Err (replay.Refused i))
-    → (r ≡ Err replay.Full → 2 ^ 32 - 1 ≤ cost start.signature calls + length calls * length calls)
-    → (r ≡ Err replay.Full → HasNoBranch calls → 2 ^ 32 - 1 ≤ 2 * cost start.signature calls)
-    → (r ≡ Err replay.Full → IsStoppedByTable calls start.name start.signature)
-    → IfErr back (λ error. IsTold calls old.name old.signature (Err error))
-told-call calls start old r back e begins is came misuse judged never full straight table =
-    let told : IsTold calls start.name start.signature (Err e) = record {
-      misuse = λ i told. misuse i (is ∙ ap Err (same-error e (replay.Misuse i) told));
-      refused = λ i told. absurd (never i (is ∙ ap Err (same-error e (replay.Refused i) told)));
-      full = λ told. full (is ∙ ap Err (same-error e replay.Full told));
-      full_straight = λ told. straight (is ∙ ap Err (same-error e replay.Full told));
-      table_full = λ told. table (is ∙ ap Err (same-error e replay.Full told));
-      verdict = by e is;
-    } in
-    subst (λ (b : Result (Unit {0}) ReplayError). IfErr b (λ error. IsTold calls old.name old.signature (Err error))) (sym came)
-    (subst (λ (x : Body). IsTold calls x.name x.signature (Err e)) begins told)
-  where
-    by : (d : ReplayError) → r ≡ Err d → ◌≢◌ {A = Result Body ReplayError} (Err d) (Err replay.Memory) → ◌≢◌ {A = Result Body ReplayError} (Err d) (Err replay.Full)
-        → verdict_of (Err d) ≡ Some (verdict_on (requests_of start.signature calls))
-    by (replay.Misuse i) was not_memory not_full = ap Some (sym (judged i was))
-    by (replay.Refused i) was not_memory not_full = absurd (never i was)
-    by replay.Memory was not_memory not_full = absurd (not_memory refl)
-    by replay.Full was not_memory not_full = absurd (not_full refl)
-
 -- `finalize` refused
 pub told-refused : (calls : List Call) (start old : Body) (place : ℕ) → start ≡ old → place ≡ length calls → verdict_on (requests_of start.signature calls) ≡ Refused (length calls)
     → IsTold calls old.name old.signature (Err (replay.Refused place))

@@ -1,20 +1,9 @@
-use Rattle.std.proofs.Common.{◌∙◌, ap, length, refl, rules, arith}
-use Rattle.std.specs.Prelude.{Err}
+use Rattle.std.proofs.Common.{ap, length, refl, rules, arith}
 use Rattle.std.proofs.lemmas.Grind.{common_steps}
-use Rattle.std.proofs.lemmas.Result.{err_from_is_err_and}
 use Rattle.cranelift_frontend.specs.declared.builder.FunctionBuilder.{FunctionBuilder}
-use Rattle.clif_script.proofs.Replays.{finished-as, finished-replay, told-call, told-memory, told-refused}
+use Rattle.clif_script.proofs.Replays.{finished-as, finished-replay, told-memory, told-refused}
 use Rattle.clif_script.proofs.Verdicts.{never-full, verdict-refused}
 use Rattle.clif_script.proofs.script.build.Goals as goal
-
-pub returns-in_err-made-clause-told : goal.returns-in_err-made-clause-told
-returns-in_err-made-clause-told c =
-    let start = c.new-builder.result.func.now in
-    let begins = ap (λ (b : FunctionBuilder). b.func.now) c.new-builder.ensures.builder.1 in
-    let made = c.make_calls-made.ensures in
-    let p = err_from_is_err_and c.from_residual.result c.from_residual.ensures.1 in
-    told-call c.args.calls.now start c.args.func.now c.make_calls-made.result c.from_residual.result c.in_err-made.field-0.0 begins c.in_err-made.was (p.1 ∙ ap Err p.2)
-    made.misuse made.judged made.never_refused made.full made.full_straight made.table_full
 
 pub returns-in-Ok-clause-finished : goal.returns-in-Ok-clause-finished
 returns-in-Ok-clause-finished c =
