@@ -7,3 +7,5 @@ pub mod Parameters
 pub mod Conditions
 pub mod Verdicts
 pub mod Placements
+pub mod Making
+pub mod Replays

@@ -1,6 +1,6 @@
 -- The verdict on a list of calls, call by call.
 use Rattle.std.proofs.Common.{◌≡◌, ℕ, suc, ◌+◌, ◌<◌, List, [], ◌∷◌, ◌++◌, length, get_or, take, drop, refl, ap, arith, sym, ◌∙◌, subst}
-use Rattle.std.specs.Prelude.{fold, Option, Some, None, is_some, Bool, true, false, not, if◌then◌else◌, Result, Err}
+use Rattle.std.specs.Prelude.{fold, Option, Some, None, is_some, Bool, true, false, not, if◌then◌else◌, Result, Ok, Err}
 use Rattle.std.proofs.lemmas.List.{map_push, take_more, drop_more, drop_all, take_all}
 use Rattle.clif_types.specs.Signature.{SignatureShape}
 use Rattle.clif_types.specs.declared.target.PointerWidth.{PointerWidth}
@@ -143,6 +143,17 @@ verdict-refused declared calls made r e replayed agrees is =
     by : (o : Option Refusal) → RefusalAgrees made o r → (if is_some o then Refused (length calls) else Accepted) ≡ Refused (length calls)
     by None agrees = let no_way : ⊥ = cc in absurd no_way
     by (Some refusal) agrees = refl
+
+-- and it succeeds where the script is accepted
+pub verdict-accepted : (declared : SignatureShape) (calls : List Call) (made : List AnsweredCall) (r : Result (Unit {0}) FinalizeError) → IsReplayed declared calls (length calls) made
+    → RefusalAgrees made (refusal_of (ledger_of made) Finalize) r → r ≡ Ok tt → verdict_on (requests_of declared calls) ≡ Accepted
+verdict-accepted declared calls made r replayed agrees is =
+    verdict-end declared calls made replayed ∙ by (refusal_of (ledger_of made) Finalize) agrees
+  where
+    by : (o : Option Refusal) → RefusalAgrees made o r → (if is_some o then Refused (length calls) else Accepted) ≡ Accepted
+    by None agrees = refl
+    by (Some (refusal.Unsealed name)) (block, number, found) = let no_way : ⊥ = cc in absurd no_way
+    by (Some (refusal.Unfilled name)) (block, number, found) = let no_way : ⊥ = cc in absurd no_way
 
 -- `finalize` answers no full table, where the builder didn't fail
 pub never-full : (made : List AnsweredCall) (r : Result (Unit {0}) FinalizeError) (e : FinalizeError) → RefusalAgrees made (refusal_of (ledger_of made) Finalize) r

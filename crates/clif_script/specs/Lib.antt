@@ -3,3 +3,4 @@ pub mod Errors
 pub mod Limits
 pub mod Ready
 pub mod Requests
+pub mod Replay

@@ -1,5 +1,5 @@
 //! Scripts are replayed: each call is made on a builder, in order, if its condition holds.
-ghost use Rattle.std.specs.Prelude.{◌≡◌, ◌≢◌, ℕ, ◌<◌, ◌≤◌, ◌+◌, ◌*◌, ◌-◌, ◌^◌, List, [], length, false, OnOk, IfOk, Err, Some};
+ghost use Rattle.std.specs.Prelude.{◌≡◌, ◌≢◌, ℕ, ◌<◌, ◌≤◌, ◌+◌, ◌*◌, ◌-◌, ◌^◌, List, [], length, false, OnOk, IfOk, IfErr, Err, Some};
 ghost use Rattle.clif_meaning.specs.Request.{AnsweredCall};
 ghost use Rattle.clif_meaning.specs.Acceptance as acceptance;
 ghost use Rattle.cranelift_frontend.specs.StandsFor.{StandsFor};
@@ -9,7 +9,9 @@ ghost use Rattle.clif_meaning.specs.Premises.{CallersEdgesMatch, PlacementPremis
 ghost use Rattle.clif_meaning.specs.Typing.{EdgesMatch};
 ghost use Rattle.clif_meaning.specs.WellPlaced.{WellPlaced};
 ghost use Rattle.clif_script.specs.Limits.{HasNoBranch, IsWithin, cost};
+ghost use Rattle.clif_script.specs.Replay.{IsFinished, IsTold};
 ghost use Rattle.clif_script.specs.Requests.{IsBuiltBy, IsReplayed, IsStoppedByTable, requests_of, verdict_of};
+ghost use Rattle.clif_ir.specs.Body.{empty_body};
 ghost use Rattle.cranelift_frontend.specs.Builder.{SameLoans};
 ghost use Rattle.cranelift_frontend.specs.Context.{empty_context};
 ghost use Rattle.clif_script.specs.Errors.{call_error_of, replay_error_at, call_memory, replay_memory, replay_error_text};
@@ -156,12 +158,30 @@ pub fn replay(
     ensures verdict { result ≢ Err ReplayError.Memory → result ≢ Err ReplayError.Full → verdict_of result ≡ Some (acceptance.verdict_on (requests_of signature calls.now)) }
 {
     let mut func = Function::with_name_signature(alloc, name, signature);
-    let mut builder = FunctionBuilder::new(&mut func, ctx);
+    build(alloc, calls, &mut func, ctx, config)?;
+    Ok(func)
+}
+
+// Makes the calls, in order, on a builder of a function that is empty, and finishes it.
+fn build(
+    alloc: Global,
+    calls: &[Call],
+    func: &mut Function,
+    ctx: &mut FunctionBuilderContext,
+    config: TargetFrontendConfig,
+) -> Result<(), ReplayError>
+    requires fresh { func.old ≡ empty_body func.old.name func.old.signature }
+    requires empty { ctx.old ≡ empty_context }
+    ensures finished { OnOk result (IsFinished calls.now func.old.name func.old.signature config.pointer_width func.new) }
+    ensures told { IfErr result (λ error. IsTold calls.now func.old.name func.old.signature (Err error)) }
+    ensures context { ctx.new ≡ empty_context }
+{
+    let mut builder = FunctionBuilder::new(func, ctx);
     let made = make_calls(alloc, &mut builder, calls);
     let finished = builder.finalize(config);
     made?;
     match finished {
-        Ok(()) => Ok(func),
+        Ok(()) => Ok(()),
         Err(FinalizeError::Memory) => Err(ReplayError::Memory),
         Err(FinalizeError::Full) => Err(ReplayError::Full),
         Err(_) => Err(ReplayError::Refused(calls.len())),

@@ -1,10 +1,10 @@
-use Rattle.std.proofs.Common.{◌≡◌, ◌+◌, List, [], ◌∷◌, ◌++◌, rules, arith, ap, sym, ◌∙◌, subst, take}
+use Rattle.std.proofs.Common.{◌≡◌, ◌+◌, ◌<◌, List, [], ◌∷◌, ◌++◌, rules, arith, ap, sym, ◌∙◌, subst, take}
 use Rattle.std.proofs.lemmas.Grind.{common_steps}
 use Rattle.clif_meaning.specs.Request.{AnsweredCall}
 use Rattle.cranelift_frontend.specs.Ledger.{ledger_of}
 use Rattle.clif_script.specs.declared.script.Answer.{Answer}
 use Rattle.clif_script.specs.Ready.{IsJudged, IsReady}
-use Rattle.clif_script.specs.Requests.{request_of}
+use Rattle.clif_script.specs.Requests.{IsReplayed, request_of}
 use Rattle.std.specs.Prelude.{ℕ, Bool, true, length, Err, Result, Some}
 use Rattle.clif_script.specs.declared.script.CallError.{CallError}
 use Rattle.clif_script.specs.declared.script.CallError.TheVariants as error
@@ -16,6 +16,8 @@ use Rattle.clif_script.specs.Limits.{IsNearlyFull, IsOneCall, IsWithin, cost, co
 use Rattle.clif_script.proofs.Costs.{cost-next, cost-until, costs-some}
 use Rattle.clif_script.proofs.Leading.{straight-leads}
 use Rattle.clif_script.proofs.Limits.{within-more, full-late, full-late-straight}
+use Rattle.clif_script.proofs.Replays.{last-place, loans-then, made-all, made-memory, misuse-place, no-refusal-told}
+use Rattle.std.proofs.lemmas.Result.{err_from_is_err_and}
 use Rattle.clif_script.proofs.Verdicts.{full-told, replayed-more, misuse-told}
 use Rattle.clif_script.proofs.script.make_calls.Goals as goal
 
@@ -36,8 +38,8 @@ loop-place-preserved c =
         replayed-more c.args.builder.now.func.now.signature c.args.calls.now c.loop-place.place call made after.0 c.loop-place-test.true c.index-calls-place.is c.loop-place.invariant.made.2 (c.in-Ok.ensures.judged c.args.builder.now.func.now.signature made ready),
       );
       types = first_of (search rules, grind (arith, common_steps));
-      loans = first_of (search rules, grind (arith, common_steps));
-      sound = first_of (search rules, grind (arith, common_steps));
+      loans = loans-then c.args.builder.now c.loop-place.builder c.make_call.new.builder c.loop-place.invariant.loans c.in-Ok.ensures.loans;
+      sound = c.in-Ok.ensures.sound;
       within = subst (λ (spent : ℕ). IsWithin (c.loop-place.place + 1) spent c.make_call.new.builder)
           (sym (cost-next declared c.args.calls.now c.loop-place.place call c.loop-place-test.true c.index-calls-place.is))
           (within-more c.loop-place.place (cost declared (take c.loop-place.place c.args.calls.now)) (cost_of declared call) c.loop-place.builder c.make_call.new.builder (costs-some declared call) c.loop-place.invariant.within one);
@@ -111,3 +113,43 @@ returns-in-Err-clause-full_straight c = λ told straight.
     (cost-until declared calls place call c.loop-place-test.true c.index-calls-place.is) invariant.within
     (straight-leads declared calls place invariant.made.0 c.loop-place.builder straight invariant.made.2 invariant.made.1.stands)
     (subst (λ (s : SignatureShape). IsNearlyFull (cost_of s call) c.loop-place.builder) invariant.made.1.stands.signature full)
+
+pub returns-in_err-push-in-Ok : goal.returns-in_err-push-in-Ok
+returns-in_err-push-in-Ok c =
+    let p = err_from_is_err_and c.from_residual.result c.from_residual.ensures.1 in
+    let made = made-memory c.args.calls.now c.args.builder.now c.make_call.new.builder c.from_residual.result (p.1 ∙ ap Err p.2)
+    (loans-then c.args.builder.now c.loop-place.builder c.make_call.new.builder c.loop-place.invariant.loans c.in-Ok.ensures.loans) in
+    record { loans = made.loans; name = made.name; ready = made.ready; sound = made.sound; misuse = made.misuse; judged = made.judged; never_refused = made.never_refused; full = made.full; full_straight = made.full_straight; table_full = made.table_full }
+
+pub returns-in_err-push : goal.returns-in_err-push
+returns-in_err-push c =
+    let p = err_from_is_err_and c.from_residual-in_err-push.result c.from_residual-in_err-push.ensures.1 in
+    let made = made-memory c.args.calls.now c.args.builder.now c.make_call.new.builder c.from_residual-in_err-push.result (p.1 ∙ ap Err p.2)
+    (loans-then c.args.builder.now c.loop-place.builder c.make_call.new.builder c.loop-place.invariant.loans c.in-Ok.ensures.loans) in
+    record { loans = made.loans; name = made.name; ready = made.ready; sound = made.sound; misuse = made.misuse; judged = made.judged; never_refused = made.never_refused; full = made.full; full_straight = made.full_straight; table_full = made.table_full }
+
+pub returns : goal.returns
+returns c =
+    let invariant = c.loop-place.invariant in
+    let ended = last-place c.loop-place.place (length c.args.calls.now) c.loop-place.auto.place-end c.loop-place-test.false in
+    let replayed = subst (λ (place : ℕ). IsReplayed c.args.builder.now.func.now.signature c.args.calls.now place invariant.made.0) ended invariant.made.2 in
+    let made = made-all c.args.calls.now c.args.builder.now c.loop-place.builder invariant.made.0 invariant.loans invariant.name invariant.made.1.stands replayed invariant.sound in
+    record { loans = made.loans; name = made.name; ready = made.ready; sound = made.sound; misuse = made.misuse; judged = made.judged; never_refused = made.never_refused; full = made.full; full_straight = made.full_straight; table_full = made.table_full }
+
+pub returns-in-Err-clause-loans : goal.returns-in-Err-clause-loans
+returns-in-Err-clause-loans c = loans-then c.args.builder.now c.loop-place.builder c.make_call.new.builder c.loop-place.invariant.loans c.in-Err.ensures.loans
+
+pub returns-in-Err-clause-name : goal.returns-in-Err-clause-name
+returns-in-Err-clause-name c = tt
+
+pub returns-in-Err-clause-ready : goal.returns-in-Err-clause-ready
+returns-in-Err-clause-ready c = tt
+
+pub returns-in-Err-clause-sound : goal.returns-in-Err-clause-sound
+returns-in-Err-clause-sound c = tt
+
+pub returns-in-Err-clause-misuse : goal.returns-in-Err-clause-misuse
+returns-in-Err-clause-misuse c = λ i told. subst (λ (k : ℕ). k < length c.args.calls.now) (sym (misuse-place c.in-Err.error c.loop-place.place i c.at.result c.at.ensures told)) c.loop-place-test.true
+
+pub returns-in-Err-clause-never_refused : goal.returns-in-Err-clause-never_refused
+returns-in-Err-clause-never_refused c = λ i. no-refusal-told c.in-Err.error c.loop-place.place i c.at.result c.at.ensures c.in-Err.ensures.never_refused
