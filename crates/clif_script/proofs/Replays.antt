@@ -25,7 +25,7 @@ use Rattle.clif_script.specs.Errors.{replay_error_at}
 use Rattle.clif_script.specs.declared.script.ReplayError.{ReplayError}
 use Rattle.clif_script.specs.declared.script.ReplayError.TheVariants as replay
 use Rattle.clif_script.specs.Limits.{HasNoBranch, cost}
-use Rattle.clif_script.specs.Replay.{IsFinished, IsTold}
+use Rattle.clif_script.specs.Replay.{ReplayMakes, ReplayTells}
 use Rattle.clif_script.specs.Requests.{IsReplayed, IsStoppedByTable, requests_of, verdict_of}
 use Rattle.clif_script.proofs.Verdicts.{all-replayed, means-replayed, verdict-accepted}
 
@@ -38,7 +38,7 @@ pub finished-replay : (calls : List Call) (declared : SignatureShape) (width : P
     → (CallersEdgesMatch (script_of made) → EdgesMatch (view_of f))
     → (PlacementPremises (script_of made) declared → WellPlaced (view_of f))
     → RefusalAgrees made (refusal_of (ledger_of made) Finalize) r → r ≡ Ok tt
-    → IsFinished calls named declared width f
+    → ReplayMakes calls named declared width f
 finished-replay calls declared width made b f r named name same stands replayed meaning parameters matches placed agrees is =
     let all = all-replayed declared calls made replayed in
     record {
@@ -58,16 +58,16 @@ finished-replay calls declared width made b f r named name same stands replayed 
     }
 
 -- the function is this one
-pub finished-as : (calls : List Call) (old : Body) (width : PointerWidth) (start f g : Body) → start ≡ old → g ≡ f → IsFinished calls start.name start.signature width f → IsFinished calls old.name old.signature width g
+pub finished-as : (calls : List Call) (old : Body) (width : PointerWidth) (start f g : Body) → start ≡ old → g ≡ f → ReplayMakes calls start.name start.signature width f → ReplayMakes calls old.name old.signature width g
 finished-as calls old width start f g begins ends done =
-    subst (λ (x : Body). IsFinished calls x.name x.signature width g) begins
-    (subst (λ (x : Body). IsFinished calls start.name start.signature width x) (sym ends) done)
+    subst (λ (x : Body). ReplayMakes calls x.name x.signature width g) begins
+    (subst (λ (x : Body). ReplayMakes calls start.name start.signature width x) (sym ends) done)
 
 -- `finalize` refused
 pub told-refused : (calls : List Call) (start old : Body) (place : ℕ) → start ≡ old → place ≡ length calls → verdict_on (requests_of start.signature calls) ≡ Refused (length calls)
-    → IsTold calls old.name old.signature (Err (replay.Refused place))
+    → ReplayTells calls old.name old.signature (Err (replay.Refused place))
 told-refused calls start old place begins is refused =
-    subst (λ (x : Body). IsTold calls x.name x.signature (Err (replay.Refused place))) begins (record {
+    subst (λ (x : Body). ReplayTells calls x.name x.signature (Err (replay.Refused place))) begins (record {
       misuse = λ i told. absurd (no-misuse i told);
       refused = λ i told. sym (same i told) ∙ is;
       full = λ told. absurd (no-full told);
@@ -86,7 +86,7 @@ told-refused calls start old place begins is refused =
     same i h = cc
 
 -- memory was refused
-pub told-memory : (calls : List Call) (old : Body) → IsTold calls old.name old.signature (Err replay.Memory)
+pub told-memory : (calls : List Call) (old : Body) → ReplayTells calls old.name old.signature (Err replay.Memory)
 told-memory calls old = record {
   misuse = λ i told. absurd (no-misuse i told);
   refused = λ i told. absurd (no-refusal i told);
@@ -106,7 +106,7 @@ told-memory calls old = record {
     no-full h = cc
 
 -- a function was made
-pub told-answer : (calls : List Call) (name : UserFuncName) (declared : SignatureShape) (f : Body) → verdict_on (requests_of declared calls) ≡ Accepted → IsTold calls name declared (Ok f)
+pub told-answer : (calls : List Call) (name : UserFuncName) (declared : SignatureShape) (f : Body) → verdict_on (requests_of declared calls) ≡ Accepted → ReplayTells calls name declared (Ok f)
 told-answer calls name declared f accepted = record {
   misuse = λ i told. absurd (no-error (replay.Misuse i) told);
   refused = λ i told. absurd (no-error (replay.Refused i) told);
@@ -121,10 +121,10 @@ told-answer calls name declared f accepted = record {
 
 -- the error is this one, of a replay with this name and this signature
 pub told-as : (calls : List Call) (name : UserFuncName) (declared : SignatureShape) (start : Body) (e : ReplayError) (back : Result Body ReplayError) → start ≡ empty_body name declared → back ≡ Err e
-    → IsTold calls start.name start.signature (Err e) → IsTold calls name declared back
+    → ReplayTells calls start.name start.signature (Err e) → ReplayTells calls name declared back
 told-as calls name declared start e back begins came told =
-    subst (λ (r : Result Body ReplayError). IsTold calls name declared r) (sym came)
-    (subst (λ (x : Body). IsTold calls x.name x.signature (Err e)) begins told)
+    subst (λ (r : Result Body ReplayError). ReplayTells calls name declared r) (sym came)
+    (subst (λ (x : Body). ReplayTells calls x.name x.signature (Err e)) begins told)
 
 -- nothing is said of a function where there is none
 pub of-none : (back : Result Body ReplayError) (e : ReplayError) (P : Body → Type 0) → back ≡ Err e → IfOk back P

@@ -17,7 +17,7 @@ use Rattle.clif_script.specs.Limits.{HasNoBranch, cost}
 use Rattle.clif_script.specs.Requests.{IsBuiltBy, IsStoppedByTable, requests_of, verdict_of}
 
 -- the function that the calls make
-pub record IsFinished (calls : List Call) (name : UserFuncName) (declared : SignatureShape) (width : PointerWidth) (f : Body) : Type 0 where
+pub record ReplayMakes (calls : List Call) (name : UserFuncName) (declared : SignatureShape) (width : PointerWidth) (f : Body) : Type 0 where
   pub same_meaning : MeansTheSame (requests_of declared calls) declared width (view_of f)
   pub built : IsBuiltBy calls declared f
   pub edges_match : CallersEdgesMatch (requests_of declared calls) → EdgesMatch (view_of f)
@@ -26,7 +26,7 @@ pub record IsFinished (calls : List Call) (name : UserFuncName) (declared : Sign
   pub accepted : verdict_on (requests_of declared calls) ≡ Accepted
 
 -- what an error tells of the calls
-pub record IsTold (calls : List Call) (name : UserFuncName) (declared : SignatureShape) (answer : Result Body ReplayError) : Type 0 where
+pub record ReplayTells (calls : List Call) (name : UserFuncName) (declared : SignatureShape) (answer : Result Body ReplayError) : Type 0 where
   pub misuse : (i : ℕ) → answer ≡ Err (replay.Misuse i) → i < length calls
   pub refused : (i : ℕ) → answer ≡ Err (replay.Refused i) → i ≡ length calls
   pub full : answer ≡ Err replay.Full → 2 ^ 32 - 1 ≤ cost declared calls + length calls * length calls

@@ -9,7 +9,7 @@ ghost use Rattle.clif_meaning.specs.Premises.{CallersEdgesMatch, PlacementPremis
 ghost use Rattle.clif_meaning.specs.Typing.{EdgesMatch};
 ghost use Rattle.clif_meaning.specs.WellPlaced.{WellPlaced};
 ghost use Rattle.clif_script.specs.Limits.{HasNoBranch, IsWithin, cost};
-ghost use Rattle.clif_script.specs.Replay.{IsFinished, IsTold};
+ghost use Rattle.clif_script.specs.Replay.{ReplayMakes, ReplayTells};
 ghost use Rattle.clif_script.specs.Requests.{IsBuiltBy, IsReplayed, IsStoppedByTable, requests_of, verdict_of};
 ghost use Rattle.clif_ir.specs.Body.{empty_body};
 ghost use Rattle.cranelift_frontend.specs.Builder.{SameLoans};
@@ -172,8 +172,8 @@ fn build(
 ) -> Result<(), ReplayError>
     requires fresh { func.old ≡ empty_body func.old.name func.old.signature }
     requires empty { ctx.old ≡ empty_context }
-    ensures finished { OnOk result (IsFinished calls.now func.old.name func.old.signature config.pointer_width func.new) }
-    ensures told { IfErr result (λ error. IsTold calls.now func.old.name func.old.signature (Err error)) }
+    ensures finished { OnOk result (ReplayMakes calls.now func.old.name func.old.signature config.pointer_width func.new) }
+    ensures told { IfErr result (λ error. ReplayTells calls.now func.old.name func.old.signature (Err error)) }
     ensures context { ctx.new ≡ empty_context }
 {
     let mut builder = FunctionBuilder::new(func, ctx);

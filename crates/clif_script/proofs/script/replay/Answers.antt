@@ -2,7 +2,7 @@ use Rattle.std.proofs.Common.{◌∙◌, ap, subst}
 use Rattle.std.specs.Prelude.{Err}
 use Rattle.std.proofs.lemmas.Result.{err_from_is_err_and}
 use Rattle.clif_ir.specs.Body.{Body}
-use Rattle.clif_script.specs.Replay.{IsFinished}
+use Rattle.clif_script.specs.Replay.{ReplayMakes}
 use Rattle.clif_script.proofs.Replays.{of-none, told-answer, told-as}
 use Rattle.clif_script.proofs.script.replay.Goals as goal
 
@@ -28,7 +28,7 @@ returns-in_err-build c =
 
 pub returns : goal.returns
 returns c =
-    let done = subst (λ (start : Body). IsFinished c.args.calls.now start.name start.signature c.args.config.pointer_width c.build.new.func) c.with_name_signature-func.ensures c.in_ok-build.ensures.finished in
+    let done = subst (λ (start : Body). ReplayMakes c.args.calls.now start.name start.signature c.args.config.pointer_width c.build.new.func) c.with_name_signature-func.ensures c.in_ok-build.ensures.finished in
     let told = told-answer c.args.calls.now c.args.name c.args.signature _ done.accepted in
     record {
       same_meaning = done.same_meaning;
