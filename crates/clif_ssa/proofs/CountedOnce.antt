@@ -29,6 +29,13 @@ when_true test a b is = ap (λ t. if t then a else b) is
 when_false : {X : Type 0} (test : Bool) (a b : X) → test ≡ false → (if test then a else b) ≡ b
 when_false test a b is = ap (λ t. if t then a else b) is
 
+-- each record that is there stays
+abbrev pub NoneLost : SsaState → SsaState → Type 0
+NoneLost s t = (v d : ℕ) → record_of t v d ≡ None → record_of s v d ≡ None
+
+pub none_lost : (s t : SsaState) → SameRecords s t → NoneLost s t
+none_lost s t same v d none = sym (same v d) ∙ none
+
 abbrev variables_of : List Pending → List ℕ
 variables_of ps = map (λ (p : Pending). p.variable) ps
 

@@ -25,7 +25,6 @@ pub mod Parameters
 pub mod Instructions
 pub mod Zeroing
 pub mod Completing
-pub mod Taking
 pub mod Sealing
 pub mod Using
 pub mod Writing
@@ -65,7 +64,4 @@ pub mod StructuredPublic
 pub mod Grown
 pub mod Within
 pub mod WithinUses
-pub mod Records
-pub mod TakingByRecords
-pub mod Below
 pub mod CallersParameters

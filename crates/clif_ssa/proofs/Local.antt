@@ -9,10 +9,8 @@ use Rattle.clif_ir.specs.Body.{Body}
 use Rattle.clif_ir.specs.Changes.{with_param}
 use Rattle.clif_ir.specs.Reading.{param_home, stands_in}
 use Rattle.clif_ssa.specs.Tables.{pending_of}
-use Rattle.clif_ssa.specs.Limits.{Takes}
 use Rattle.clif_ssa.specs.Ssa.{SsaState, NamesExist, HasMore, Records, SameBlocks, SamePredecessors, SameRecords, Zeroes, zeroed, zeroed_in}
 use Rattle.clif_ssa.proofs.Naming.{named-more, param_more, param-named}
-use Rattle.clif_ssa.proofs.Taking.{Takes-then, Takes-with_param}
 use Rattle.clif_ssa.proofs.Parameters.{param_home_new, param_count}
 use Rattle.clif_ssa.proofs.Copying.{Copied}
 
@@ -38,9 +36,6 @@ pub param-named-then : (f g h : Body) (s t : SsaState) (x b : ℕ) (ty : «Type�
 param-named-then f g h s t x b ty is more recorded same blocks named = named-grows g h t more (param-named f g s t x b ty is recorded same blocks named)
 
 -- A ZERO ----------------------------------------------------------------------------------------------------------
-
-pub param-takes-then : (f g h : Body) (b : ℕ) (ty : «Type») → g ≡ with_param f b ty → Takes g h 0 0 → Takes f h 2 1
-param-takes-then f g h b ty is next = Takes-then f g h 2 1 0 0 (subst (λ k. Takes f k 2 1) (sym is) (Takes-with_param f b ty)) next
 
 param_there : (f g : Body) (b v : ℕ) (ty : «Type») → g ≡ with_param f b ty → v ≡ length f.values → param_home g v ≡ Some b
 param_there f g b v ty is number = ap (λ k. param_home k v) is ∙ ap (λ w. param_home (with_param f b ty) w) number ∙ param_home_new f b ty

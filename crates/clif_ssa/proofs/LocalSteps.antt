@@ -1,5 +1,5 @@
 -- A variable is used where the value is found in its block alone: what is answered.
-use Rattle.std.proofs.Common.{◌≡◌, ◌≢◌, ℕ, ◌==◌, ◌&&◌, true, false, [], ◌∷◌, ◌++◌, length, ap, arith, sym, ◌∙◌, subst}
+use Rattle.std.proofs.Common.{◌≡◌, ◌≢◌, ℕ, ◌==◌, ◌&&◌, true, false, [], ◌∷◌, ◌++◌, length, ap, sym, ◌∙◌, subst}
 use Rattle.std.specs.Prelude.{Result, Ok, Err, MatchOption, if◌then◌else◌}
 use Rattle.std.specs.Option.{option_to_list}
 use Rattle.std.proofs.lemmas.List.{append-nil}
@@ -12,14 +12,12 @@ use Rattle.clif_ir.specs.Reading.{param_home}
 use Rattle.clif_ssa.specs.declared.side_effects.SideEffects.{SideEffects}
 use Rattle.clif_ssa.specs.declared.tables.Sealed.TheVariants.{No}
 use Rattle.clif_ssa.specs.Constructs.{OnlyConstructs, TellsMore, TellsZeros}
-use Rattle.clif_ssa.specs.Limits.{Takes}
 use Rattle.clif_ssa.specs.LookUp.{LookUpState}
 use Rattle.clif_ssa.specs.Ssa.{SsaState, sealed_of, zeroed_in, CountsLookup, Records, SameBlocks, SameLookups}
 use Rattle.clif_ssa.specs.Steps.{UsesLocally}
 use Rattle.clif_ssa.specs.Tables.{is_yes, one_more, pending_of, sealed_at}
 use Rattle.clif_ssa.proofs.Constructing.{tells_none, tells_then}
-use Rattle.clif_ssa.proofs.Local.{param-takes-then, param-zero-answer, param-zero-told, param-zeroes}
-use Rattle.clif_ssa.proofs.Taking.{Takes-with_param}
+use Rattle.clif_ssa.proofs.Local.{param-zero-answer, param-zero-told, param-zeroes}
 
 yes_no : ◌≡◌ true false → ⊥
 yes_no same = cc
@@ -39,25 +37,17 @@ waiting_from s t u x b v w same is waiting c =
 
 -- HOW MUCH IS TAKEN -----------------------------------------------------------------------------------------------
 
-pub Takes-made : (f g : Body) (b : ℕ) (ty : «Type») → g ≡ with_param f b ty → Takes f g 2 1
-Takes-made f g b ty made = subst (λ h. Takes f h 2 1) (sym made) (Takes-with_param f b ty)
-
-pub Takes-unmade : (f g : Body) → g ≡ f → Takes f g 2 1
-Takes-unmade f g same = subst (λ h. Takes f h 2 1) (sym same) (record { values_more = omega arith; insts_more = omega arith })
-
 -- WHAT IS ANSWERED ------------------------------------------------------------------------------------------------
 
 -- an error
-pub use_refused : (x : ℕ) (ty : «Type») (b : ℕ) (f : Body) (s : SsaState) (g : Body) (t : SsaState) (e : BuildError) → SameBlocks s t
-    → (◌≢◌ {A = Result (ℕ × SideEffects) BuildError} (Err e) (Err Memory) → Takes f g 2 1) → UsesLocally x ty b f s g t (Err e)
-use_refused x ty b f s g t e blocks takes = record {
+pub use_refused : (x : ℕ) (ty : «Type») (b : ℕ) (f : Body) (s : SsaState) (g : Body) (t : SsaState) (e : BuildError) → SameBlocks s t → UsesLocally x ty b f s g t (Err e)
+use_refused x ty b f s g t e blocks = record {
   waits = λ _. (tt, tt);
   zero = λ _. (tt, tt);
   counts_none = λ _. tt;
   counts_one = λ _. tt;
   tells = tt;
   err = blocks;
-  takes = takes;
 }
 
 -- an error of another call
@@ -79,7 +69,6 @@ use_waits x ty b f s g t v effects unsealed number made recorded lookups waiting
   counts_one = λ sealed. absurd (yes_no (sym sealed ∙ unsealed));
   tells = subst (λ told. TellsZeros f g told) (sym nothing) (tells_none f g (ap (λ (h : Body). length h.insts) made));
   err = tt;
-  takes = λ _. Takes-made f g b ty made;
 }
 
 -- in a sealed one it becomes a name of a zero
@@ -87,8 +76,8 @@ pub use_zeroes : (x : ℕ) (ty : «Type») (b : ℕ) (f : Body) (s : SsaState) (
     → is_yes (sealed_of s b) ≡ true → v ≡ length f.values → g ≡ with_param f b ty → Records s t x b (length f.values) → SameBlocks s t → CountsLookup s t x b
     → h ≡ zeroed_in (param_home g v) g v → MatchOption (param_home g v) (answer ≡ v) (λ _. answer ≡ length g.values) → old.instructions_added_to_blocks.items ≡ []
     → effects.instructions_added_to_blocks.items ≡ old.instructions_added_to_blocks.items ++ option_to_list (param_home g v)
-    → OnlyConstructs g h → TellsZeros g h (option_to_list (param_home g v)) → Takes g h 0 0 → UsesLocally x ty b f s h t (Ok (answer, effects))
-use_zeroes x ty b f s g h t v answer old effects sealed number made recorded blocks counted done answers nothing told constructs tells takes = record {
+    → OnlyConstructs g h → TellsZeros g h (option_to_list (param_home g v)) → UsesLocally x ty b f s h t (Ok (answer, effects))
+use_zeroes x ty b f s g h t v answer old effects sealed number made recorded blocks counted done answers nothing told constructs tells = record {
   waits = λ unsealed. absurd (yes_no (sym sealed ∙ unsealed));
   zero = λ _. (
     param-zeroes f g h s t x b v ty made number done recorded blocks,
@@ -102,7 +91,6 @@ use_zeroes x ty b f s g h t v answer old effects sealed number made recorded blo
   tells = subst (λ xs. TellsZeros f h xs) (sym (told ∙ ap (λ xs. xs ++ option_to_list (param_home g v)) nothing))
       (tells_then f g h [] (option_to_list (param_home g v)) constructs (tells_none f g (ap (λ (k : Body). length k.insts) made)) tells);
   err = tt;
-  takes = λ _. param-takes-then f g h b ty made takes;
 }
 
 -- a parameter tells of no zero

@@ -1,5 +1,5 @@
 -- What a look-up in a block keeps, and how it ends.
-use Rattle.std.proofs.Common.{◌≡◌, ℕ, ◌<◌, true, List, length, refl, ap, arith, ◌∙◌, ◌⊎◌}
+use Rattle.std.proofs.Common.{◌≡◌, ℕ, ◌<◌, true, List, length, refl, ap, ◌∙◌, ◌⊎◌}
 use Rattle.std.specs.Prelude.{Some, Result, Ok, Err, OnOk, OnErr}
 use Rattle.clif_types.specs.declared.error.BuildError.{BuildError}
 use Rattle.clif_types.specs.declared.error.BuildError.TheVariants.{Memory}
@@ -7,17 +7,14 @@ use Rattle.clif_types.specs.declared.types.«Type».{«Type»}
 use Rattle.clif_ir.specs.Body.{Body}
 use Rattle.clif_ir.specs.Consistent.{IsConsistent}
 use Rattle.clif_ir.specs.Reading.{stands_in}
-use Rattle.clif_ssa.specs.Limits.{TakesByRecords}
 use Rattle.clif_ssa.specs.LookUp.{Stage, before_first, Copies, IsWalk, LooksUp, WalksTo}
 use Rattle.clif_ssa.specs.Running.{stage, Got}
 use Rattle.clif_ssa.specs.Ssa.{SsaState, record_of, NamesExist, SameBlocks, SameLookups}
 use Rattle.clif_ssa.specs.Steps.{StepKeeps, StepEnds}
 use Rattle.clif_ssa.specs.Tables.{is_yes, predecessors_at, sealed_at}
-use Rattle.clif_ssa.proofs.Below.{below_copied, below_then}
-use Rattle.clif_ssa.proofs.CountedOnce.{counts_then, once_kept}
+use Rattle.clif_ssa.proofs.CountedOnce.{NoneLost, counts_then, once_kept}
 use Rattle.clif_ssa.proofs.Making.{looked-named, looked-stay, looks_up}
 use Rattle.clif_ssa.proofs.Steps.{ends_memory, ends_ok, known_same}
-use Rattle.clif_ssa.proofs.TakingByRecords.{NoneLost, by_records_same, by_records_then}
 use Rattle.clif_ssa.proofs.Waited.{no_more-then}
 
 -- what was found or made is copied to the blocks that were passed
@@ -36,9 +33,6 @@ keeps_looked x f s g t u block reached value passed known named there walk exist
       constructs = keeps.constructs;
       names = λ before. looked-named g t u value exists blocks recorded (keeps.names before);
       once = counts_then s t u keeps.once (once_kept t u kept lookups sealed);
-      below = below_then x f g s t u keeps.more keeps.below
-          (λ variables bound small fits before.
-          below_copied f s t u x passed block reached known named there walk others sealed variables bound small (omega (arith, (keeps.more).blocks, fits)) before);
     }
 
 pub looked_copied : (x : ℕ) (ty : «Type») (block : ℕ) (passed : List ℕ) (reached value : ℕ) (m n : Stage) (t : SsaState) {A E : Type 0} (answer : Result A E)
@@ -48,7 +42,6 @@ pub looked_copied : (x : ℕ) (ty : «Type») (block : ℕ) (passed : List ℕ) 
 looked_copied x ty block passed reached value m n t (Ok a) walks exists got copies blocks lookups = looks_up x ty block passed reached value m n t walks exists got copies blocks lookups
 looked_copied x ty block passed reached value m n t (Err e) walks exists got copies blocks lookups = tt
 
-pub ends_copied : (f : Body) (s : SsaState) (g : Body) (t u : SsaState) {A : Type 0} (answer : Result A BuildError) → TakesByRecords f s g t → NoneLost t u
-    → OnErr answer (answer ≡ Err Memory) → StepEnds f s g u answer
-ends_copied f s g t u (Ok a) takes kept memory = ends_ok f s g u a (by_records_then f s g t g u takes (by_records_same g g t u refl kept))
-ends_copied f s g t u (Err e) takes kept memory = ends_memory f s g u e memory
+pub ends_copied : (g : Body) {A : Type 0} (answer : Result A BuildError) → OnErr answer (answer ≡ Err Memory) → StepEnds g answer
+ends_copied g (Ok a) memory = ends_ok g a
+ends_copied g (Err e) memory = ends_memory g e memory

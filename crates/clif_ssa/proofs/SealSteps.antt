@@ -1,29 +1,24 @@
 -- What the sealing of a block makes and leaves, by the ways in which it ends.
-use Rattle.std.proofs.Common.{◌≡◌, ◌≢◌, ℕ, ◌+◌, ◌<◌, ◌≤◌, List, [], length, refl, ap, sym, ◌∙◌, subst, inl, inr}
-use Rattle.std.specs.Prelude.{Contains, Result, Ok, Err, OnOk, IfOk}
+use Rattle.std.proofs.Common.{◌≡◌, ◌≢◌, ℕ, ◌+◌, List, [], length, refl, ap, sym, ◌∙◌, subst, inl, inr}
+use Rattle.std.specs.Prelude.{Result, Ok, Err, OnOk, IfOk}
 use Rattle.clif_types.specs.declared.error.BuildError.{BuildError}
-use Rattle.clif_types.specs.declared.error.BuildError.TheVariants.{Memory, Full, Failed}
 use Rattle.clif_ir.specs.Body.{Body}
 use Rattle.clif_ssa.specs.declared.side_effects.SideEffects.{SideEffects}
 use Rattle.clif_ssa.specs.declared.tables.Pending.{Pending}
 use Rattle.clif_ssa.specs.Constructs.{OnlyConstructs, TellsMore, TellsZeros}
-use Rattle.clif_ssa.specs.Limits.{IsFull, RecordsBelow, Takes, TakesByRecords}
 use Rattle.clif_ssa.specs.LookUp.{LookUpState, no_look_up}
 use Rattle.clif_ssa.specs.Running.{stage, CompletesAll, ToComplete}
 use Rattle.clif_ssa.specs.Sealing.{SealsOne}
 use Rattle.clif_ssa.specs.Ssa.{SsaState, sealed_of, predecessors_of, completed, completing_blocks, CountsEach, HasMore, KnowsNoMore, SameBlocks, SameLookups, SamePredecessors, SameRecords, Seals}
-use Rattle.clif_ssa.specs.Steps.{SealKeeps, SealMakes, StepEnds, StepLeaves}
+use Rattle.clif_ssa.specs.Steps.{SealKeeps, SealMakes, StepLeaves}
 use Rattle.clif_ssa.specs.Structure.{LooksOnce}
 use Rattle.clif_ssa.specs.Tables.{is_yes, lookups_at, pending_of, predecessors_at, record_at, sealed_at}
-use Rattle.clif_ssa.proofs.Below.{below_kept, below_sealed, stays_below_then}
 use Rattle.clif_ssa.proofs.Constructing.{constructs_none, tells_all}
-use Rattle.clif_ssa.proofs.CountedOnce.{once_kept, once_same, once_seals}
+use Rattle.clif_ssa.proofs.CountedOnce.{none_lost, once_kept, once_same, once_seals}
 use Rattle.clif_ssa.proofs.Local.{named-same}
 use Rattle.clif_ssa.proofs.Naming.{has_more}
 use Rattle.clif_ssa.proofs.Public.{seals_by_look_up}
-use Rattle.clif_ssa.proofs.Steps.{ends_as, ends_ok, ends_then, ends_took, known_below, known_same}
-use Rattle.clif_ssa.proofs.Taking.{Takes-same}
-use Rattle.clif_ssa.proofs.TakingByRecords.{by_records_kept, by_records_same, by_records_then, none_lost}
+use Rattle.clif_ssa.proofs.Steps.{known_below, known_same}
 use Rattle.clif_ssa.proofs.Waited.{no_more-then, on_any, on_any_err, sealed-locally, sealed-named, seals-one}
 
 same_records : (s t : SsaState) → t.records ≡ s.records → SameRecords s t
@@ -41,7 +36,6 @@ refused_makes b f s t e records blocks = record {
   local = λ _. record { sealed = tt; refused = inl blocks; records = same_records s t records; counted = tt; function = tt; told = tt };
   completes = λ _. tt;
   tells = tt;
-  takes = λ _ _. Takes-same f f refl refl;
 }
 
 pub refused_keeps : (b : ℕ) (f : Body) (s t : SsaState) → t.records ≡ s.records → SameBlocks s t → SamePredecessors s t → KnowsNoMore s t (b + 1) → SealKeeps b f s f t
@@ -53,7 +47,6 @@ refused_keeps b f s t records blocks same known = record {
   constructs = constructs_none f;
   names = named-same f f s t (has_more f) same (same_records s t records) blocks;
   looks_once = (once_kept s t (none_lost s t (same_records s t records)) (same_lookups s t records) blocks).looks_once;
-  below = below_kept f s t (same_records s t records) blocks;
 }
 
 -- NOTHING LEADS TO IT ---------------------------------------------------------------------------------------------
@@ -61,8 +54,8 @@ refused_keeps b f s t records blocks same known = record {
 pub local_makes : (b : ℕ) (f g : Body) (s t u : SsaState) (waiting : List Pending) (answer : Result SideEffects BuildError) → t.records ≡ s.records → Seals s t b → SamePredecessors s t
     → waiting ≡ pending_of (sealed_of s b) → (predecessors_of t b ≢ [] → ⊥) → SameRecords t u → u.blocks ≡ t.blocks → OnOk answer (CountsEach t u b waiting)
     → OnOk answer (g ≡ completed f waiting) → IfOk answer (λ r. r.instructions_added_to_blocks.items ≡ completing_blocks f waiting)
-    → IfOk answer (λ r. TellsZeros f g r.instructions_added_to_blocks.items) → (answer ≢ Err Memory → Takes f g 0 0) → SealMakes b f s g u answer
-local_makes b f g s t u waiting answer records seals same list alone kept blocks counted function told tells takes =
+    → IfOk answer (λ r. TellsZeros f g r.instructions_added_to_blocks.items) → SealMakes b f s g u answer
+local_makes b f g s t u waiting answer records seals same list alone kept blocks counted function told tells =
     let one : SealsOne s u b = seals-one s t u b seals (λ c. ap (λ known. is_yes (sealed_at known c)) blocks) in
     record {
       sealed = on_any answer one;
@@ -70,7 +63,6 @@ local_makes b f g s t u waiting answer records seals same list alone kept blocks
       local = λ _. sealed-locally f g s t u b waiting answer seals (same_records s t records) kept (same_lookups s t records) counted blocks list function told;
       completes = λ some. absurd (alone (λ none. some (sym (same b) ∙ none)));
       tells = tells;
-      takes = λ _. takes;
     }
 
 pub local_keeps : (b : ℕ) (f g : Body) (s t u : SsaState) (waiting : List Pending) → t.records ≡ s.records → Seals s t b → SamePredecessors s t → KnowsNoMore s t (b + 1)
@@ -87,16 +79,7 @@ local_keeps b f g s t u waiting records seals same known list kept blocks looks 
       names = λ named. named-same f g t u more leads kept sealed (sealed-named f s t b seals (same_records s t records) same named);
       looks_once = λ once.
           looks (once_same t b (pending_of (sealed_of s b)) waiting (sym list) (once_seals s t b seals (same_records s t records) (same_lookups s t records) once));
-      below = stays_below_then f f s t u (has_more f) (below_sealed f s t b (same_records s t records) seals) (below_kept f t u kept sealed);
     }
-
-pub local_ends : (f g : Body) (s t u : SsaState) (answer : Result SideEffects BuildError) → t.records ≡ s.records → SameRecords t u → (answer ≡ Err Full → IsFull g)
-    → (answer ≢ Err Memory → Takes f g 0 0) → answer ≢ Err Failed → StepEnds f s g u answer
-local_ends f g s t u answer records kept full takes never = record {
-  full = full;
-  takes_by_records = λ other. by_records_kept f s g u (takes other) (none_lost s u (λ x c. kept x c ∙ same_records s t records x c));
-  never_failed = never;
-}
 
 -- BRANCHES LEAD TO IT ---------------------------------------------------------------------------------------------
 
@@ -108,7 +91,6 @@ failed_makes b f g s t u e seals same some leaves = record {
   local = λ none. absurd (some (same b ∙ none));
   completes = λ _. tt;
   tells = tt;
-  takes = λ none. absurd (some (same b ∙ none));
 }
 
 pub looked_makes : (b : ℕ) (f g : Body) (s t u : SsaState) (waiting : List Pending) (first last : LookUpState) (answer : SideEffects) → t.records ≡ s.records → Seals s t b
@@ -121,14 +103,12 @@ looked_makes b f g s t u waiting first last answer records seals same list some 
   local = λ none. absurd (some (same b ∙ none));
   completes = λ _. seals_by_look_up f g s t u b waiting first last answer.instructions_added_to_blocks.items records seals same list new completes told;
   tells = subst (λ xs. TellsZeros f g xs) (sym told) (tells_all f g first.zeros last.zeros (ap (λ (l : LookUpState). l.zeros) new) tells);
-  takes = λ none. absurd (some (same b ∙ none));
 }
 
 pub looked_keeps : (b : ℕ) (f g : Body) (s t u : SsaState) (waiting : List Pending) → t.records ≡ s.records → Seals s t b → SamePredecessors s t → KnowsNoMore s t (b + 1)
     → waiting ≡ pending_of (sealed_of s b) → StepLeaves f t g u → (ToComplete t b waiting → LooksOnce u)
-    → ((variables blocks : ℕ) → length f.blocks ≤ blocks → ((p : Pending) → Contains waiting p → p.variable < variables) → RecordsBelow variables blocks t → RecordsBelow variables blocks u)
     → SealKeeps b f s g u
-looked_keeps b f g s t u waiting records seals same known list leaves looks stays = record {
+looked_keeps b f g s t u waiting records seals same known list leaves looks = record {
   predecessors = λ c. leaves.predecessors c ∙ same c;
   stay = λ x c v is. leaves.stay x c v (same_records s t records x c ∙ is);
   no_more = λ there. no_more-then s t u (length f.blocks) (length f.blocks) refl (known_below s t b (length f.blocks) there known) leaves.no_more;
@@ -137,16 +117,4 @@ looked_keeps b f g s t u waiting records seals same known list leaves looks stay
   names = λ named. leaves.names (sealed-named f s t b seals (same_records s t records) same named);
   looks_once = λ once.
       looks (once_same t b (pending_of (sealed_of s b)) waiting (sym list) (once_seals s t b seals (same_records s t records) (same_lookups s t records) once));
-  below = λ variables blocks fits before.
-      stays variables blocks fits (λ p here. before.waiting b p (subst (λ ps. Contains ps p) list here))
-      (below_sealed f s t b (same_records s t records) seals variables blocks fits before);
 }
-
-kept_takes : (f : Body) (s t : SsaState) → t.records ≡ s.records → TakesByRecords f s f t
-kept_takes f s t records = by_records_same f f s t refl (none_lost s t (same_records s t records))
-
-pub failed_ends : (f g : Body) (s t u : SsaState) {A B : Type 0} (e : BuildError) → t.records ≡ s.records → StepEnds f t g u {A = A} (Err e) → StepEnds f s g u {A = B} (Err e)
-failed_ends f g s t u e records ends = ends_then f s f t g u (Err e) (kept_takes f s t records) (ends_as f t g u e ends)
-
-pub looked_ends : (f g : Body) (s t u : SsaState) {A B : Type 0} (a : A) (answer : B) → t.records ≡ s.records → StepEnds f t g u (Ok a) → StepEnds f s g u (Ok answer)
-looked_ends f g s t u a answer records ends = ends_ok f s g u answer (by_records_then f s f t g u (kept_takes f s t records) (ends_took f t g u a ends))

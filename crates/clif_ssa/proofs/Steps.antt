@@ -9,22 +9,19 @@ use Rattle.clif_ir.specs.Body.{Body}
 use Rattle.clif_ir.specs.Changes.{with_param}
 use Rattle.clif_ssa.specs.declared.tables.Sealed.TheVariants.{No}
 use Rattle.clif_ssa.specs.Constructs.{OnlyConstructs}
-use Rattle.clif_ssa.specs.Limits.{IsFull, Takes, TakesByRecords}
+use Rattle.clif_ssa.specs.Limits.{IsFull}
 use Rattle.clif_ssa.specs.LookUp.{LookUpState, calls_for}
 use Rattle.clif_ssa.specs.Running.{stage, CountsOnce, Got}
 use Rattle.clif_ssa.specs.Ssa.{SsaState, record_of, sealed_of, predecessors_of, HasMore, KnowsNoMore, Records, RecordsStay, SameBlocks, SameLookups, SamePredecessors, SameRecords, SealedStays, CountsLookup}
 use Rattle.clif_ssa.specs.Steps.{StepKeeps, StepEnds}
 use Rattle.clif_ssa.specs.Tables.{is_yes, lookups_at, pending_of, predecessors_at, record_at, sealed_at}
-use Rattle.clif_ssa.proofs.Below.{below_none, below_recorded, below_same, below_then, below_waits}
 use Rattle.clif_ssa.proofs.Calling.{added}
 use Rattle.clif_ssa.proofs.Constructed.{param_made}
 use Rattle.clif_ssa.proofs.Constructing.{constructs_none, constructs_then}
-use Rattle.clif_ssa.proofs.CountedOnce.{counts_self, counts_then, once_begins, once_kept, once_waits}
+use Rattle.clif_ssa.proofs.CountedOnce.{none_lost, counts_self, counts_then, once_begins, once_kept, once_waits}
 use Rattle.clif_ssa.proofs.Local.{named-grows, named-same, param-named-unrecorded}
 use Rattle.clif_ssa.proofs.LocalSteps.{counted_from, waiting_from}
 use Rattle.clif_ssa.proofs.Naming.{has_more, more-then, param_more, param-named, param-named-waits}
-use Rattle.clif_ssa.proofs.TakingByRecords.{by_records_kept, by_records_same, by_records_then, none_lost}
-use Rattle.clif_ssa.proofs.Taking.{Takes-same}
 use Rattle.clif_ssa.proofs.Waited.{no_more-self, no_more-then}
 
 none_some : {v : ℕ} → ◌≡◌ {A = Option ℕ} None (Some v) → ⊥
@@ -45,7 +42,6 @@ keeps_none x f s = record {
   constructs = constructs_none f;
   names = λ named. named;
   once = counts_self s;
-  below = below_none x f s;
 }
 
 pub keeps_then : (x : ℕ) (f : Body) (s : SsaState) (g : Body) (t : SsaState) (h : Body) (u : SsaState) → StepKeeps x f s g t → StepKeeps x g t h u → StepKeeps x f s h u
@@ -58,7 +54,6 @@ keeps_then x f s g t h u first next = record {
   constructs = constructs_then f g h first.constructs next.constructs;
   names = λ named. next.names (first.names named);
   once = counts_then s t u first.once next.once;
-  below = below_then x f g s t u first.more first.below next.below;
 }
 
 -- the function stays
@@ -76,7 +71,6 @@ keeps_grown x f g s more constructs = record {
   constructs = constructs;
   names = named-grows f g s more;
   once = counts_self s;
-  below = below_none x f s;
 }
 
 -- HOW A STEP ENDS -------------------------------------------------------------------------------------------------
@@ -84,64 +78,40 @@ keeps_grown x f g s more constructs = record {
 same_error : {A : Type 0} {d e : BuildError} → ◌≡◌ {A = Result A BuildError} (Err d) (Err e) → d ≡ e
 same_error same = cc
 
-pub ends_ok : (f : Body) (s : SsaState) (g : Body) (t : SsaState) {A : Type 0} (a : A) → TakesByRecords f s g t → StepEnds f s g t (Ok a)
-ends_ok f s g t {A = A} a takes = record {
+pub ends_ok : (g : Body) {A : Type 0} (a : A) → StepEnds g (Ok a)
+ends_ok g {A = A} a = record {
   full = λ is. absurd (let no : ◌≡◌ {A = Result A BuildError} (Ok a) (Err Full) = is in cc);
-  takes_by_records = λ other. takes;
   never_failed = λ is. absurd (let no : ◌≡◌ {A = Result A BuildError} (Ok a) (Err Failed) = is in cc);
 }
 
 -- for want of memory
-pub ends_memory : (f : Body) (s : SsaState) (g : Body) (t : SsaState) {A B : Type 0} (e : BuildError) → ◌≡◌ {A = Result A BuildError} (Err e) (Err Memory)
-    → StepEnds f s g t {A = B} (Err e)
-ends_memory f s g t e memory = record {
+pub ends_memory : (g : Body) {A B : Type 0} (e : BuildError) → ◌≡◌ {A = Result A BuildError} (Err e) (Err Memory) → StepEnds g {A = B} (Err e)
+ends_memory g e memory = record {
   full = λ is. absurd (let no : ◌≡◌ {A = BuildError} Memory Full = sym (same_error memory) ∙ same_error is in cc);
-  takes_by_records = λ other. absurd (other (ap (λ d. Err d) (same_error memory)));
   never_failed = λ is. absurd (let no : ◌≡◌ {A = BuildError} Memory Failed = sym (same_error memory) ∙ same_error is in cc);
 }
 
 -- an error is passed on
-pub ends_as : (f : Body) (s : SsaState) (g : Body) (t : SsaState) {A B : Type 0} (e : BuildError) → StepEnds f s g t {A = A} (Err e) → StepEnds f s g t {A = B} (Err e)
-ends_as f s g t e ends = record {
+pub ends_as : (g : Body) {A B : Type 0} (e : BuildError) → StepEnds g {A = A} (Err e) → StepEnds g {A = B} (Err e)
+ends_as g e ends = record {
   full = λ is. ends.full (ap (λ d. Err d) (same_error is));
-  takes_by_records = λ other. ends.takes_by_records (λ is. other (ap (λ d. Err d) (same_error is)));
   never_failed = λ is. ends.never_failed (ap (λ d. Err d) (same_error is));
 }
 
--- after steps that took as many entries as they recorded
-pub ends_then : (f : Body) (s : SsaState) (g : Body) (t : SsaState) (h : Body) (u : SsaState) {A : Type 0} (answer : Result A BuildError) → TakesByRecords f s g t
-    → StepEnds g t h u answer → StepEnds f s h u answer
-ends_then f s g t h u answer first next = record {
-  full = next.full;
-  takes_by_records = λ other. by_records_then f s g t h u first (next.takes_by_records other);
-  never_failed = next.never_failed;
-}
-
-pub ends_took : (f : Body) (s : SsaState) (g : Body) (t : SsaState) {A : Type 0} (a : A) → StepEnds f s g t (Ok a) → TakesByRecords f s g t
-ends_took f s g t {A = A} a ends = ends.takes_by_records (λ is. let no : ◌≡◌ {A = Result A BuildError} (Ok a) (Err Memory) = is in cc)
-
--- the step changed the function alone, and no more than zeros take
-pub ends_grown : (f g : Body) (s : SsaState) {A B : Type 0} (e : BuildError) → (◌≡◌ {A = Result A BuildError} (Err e) (Err Full) → IsFull g)
-    → (◌≢◌ {A = Result A BuildError} (Err e) (Err Memory) → Takes f g 0 0) → ◌≢◌ {A = Result A BuildError} (Err e) (Err Failed) → StepEnds f s g s {A = B} (Err e)
-ends_grown f g s e full takes never = record {
+pub ends_grown : (g : Body) {A B : Type 0} (e : BuildError) → (◌≡◌ {A = Result A BuildError} (Err e) (Err Full) → IsFull g)
+    → ◌≢◌ {A = Result A BuildError} (Err e) (Err Failed) → StepEnds g {A = B} (Err e)
+ends_grown g e full never = record {
   full = λ is. full (ap (λ d. Err d) (same_error is));
-  takes_by_records = λ other. by_records_kept f s g s (takes (λ is. other (ap (λ d. Err d) (same_error is)))) (λ y b none. none);
   never_failed = λ is. never (ap (λ d. Err d) (same_error is));
 }
 
-pub ends_zeros : (f g : Body) (s : SsaState) {A : Type 0} (answer : Result A BuildError) → (answer ≡ Err Full → IsFull g) → (answer ≢ Err Memory → Takes f g 0 0) → answer ≢ Err Failed
-    → StepEnds f s g s answer
-ends_zeros f g s answer full takes never = record {
-  full = full;
-  takes_by_records = λ other. by_records_kept f s g s (takes other) (λ y b none. none);
-  never_failed = never;
-}
+pub ends_zeros : (g : Body) {A : Type 0} (answer : Result A BuildError) → (answer ≡ Err Full → IsFull g) → answer ≢ Err Failed → StepEnds g answer
+ends_zeros g answer full never = record { full = full; never_failed = never }
 
 -- no parameter was made
-pub ends_unmade : (f g : Body) (s : SsaState) {A B : Type 0} (e : BuildError) → g ≡ f → (◌≡◌ {A = Result A BuildError} (Err e) (Err Full) → length f.values ≡ 2 ^ 32 - 1)
-    → ◌≢◌ {A = Result A BuildError} (Err e) (Err Failed) → StepEnds f s g s {A = B} (Err e)
-ends_unmade f g s e same full never =
-    ends_grown f g s e (λ is. inl (ap (λ (h : Body). length h.values) same ∙ full is)) (λ other. Takes-same f g (ap (λ (h : Body). h.values) same) (ap (λ (h : Body). h.insts) same)) never
+pub ends_unmade : (f g : Body) {A B : Type 0} (e : BuildError) → g ≡ f → (◌≡◌ {A = Result A BuildError} (Err e) (Err Full) → length f.values ≡ 2 ^ 32 - 1)
+    → ◌≢◌ {A = Result A BuildError} (Err e) (Err Failed) → StepEnds g {A = B} (Err e)
+ends_unmade f g e same full never = ends_grown g e (λ is. inl (ap (λ (h : Body). length h.values) same ∙ full is)) never
 
 -- A RECORD --------------------------------------------------------------------------------------------------------
 
@@ -183,7 +153,6 @@ keeps_unrecorded x f g s t b ty is records blocks lookups same known = record {
   constructs = param_made f g b ty is;
   names = param-named-unrecorded f g s t b ty is same records blocks;
   once = once_kept s t (none_lost s t records) lookups blocks;
-  below = below_same x f s t records blocks;
 }
 
 -- a new parameter is recorded, and its look-up may begin where the block is sealed
@@ -198,7 +167,6 @@ keeps_recorded x f g s t b ty there none is recorded blocks same known once = re
   constructs = param_made f g b ty is;
   names = param-named f g s t x b ty is recorded same blocks;
   once = once;
-  below = below_recorded f s t x b (length f.values) there recorded blocks;
 }
 
 -- a new parameter is recorded and waits
@@ -215,7 +183,6 @@ keeps_waiting x f g s t b ty there none unsealed is recorded lookups waiting sam
   constructs = param_made f g b ty is;
   names = param-named-waits f g s t x b ty is recorded same waiting;
   once = once_waits s t x b (length f.values) none recorded lookups waiting unsealed;
-  below = below_waits f s t x b (length f.values) there recorded waiting;
 }
 
 -- AFTER A PARAMETER WAS MADE --------------------------------------------------------------------------------------
@@ -234,7 +201,6 @@ keeps_kept x f s t records blocks lookups =
       constructs = constructs_none f;
       names = named-same f f s t (has_more f) same records sealed;
       once = once_kept s t (none_lost s t records) lookups sealed;
-      below = below_same x f s t records sealed;
     }
 
 -- nothing waits after all
@@ -252,7 +218,6 @@ keeps_not_waiting x f g s t u b there first records blocks same known =
       constructs = constructs_none g;
       names = named-same g g t u (has_more g) same kept blocks;
       once = once_kept t u (none_lost t u kept) (λ y c. ap (λ rows. lookups_at rows y c) records) blocks;
-      below = below_same x g t u kept blocks;
     })
 
 -- it waits
@@ -284,10 +249,6 @@ keeps_begun x f g s t u b ty there none sealed made recorded blocks lookups reco
     by : SameLookups t u ⊎ CountsLookup t u x b → SameLookups s u ⊎ CountsLookup s u x b
     by (inl same) = inl (λ y c. same y c ∙ lookups y c)
     by (inr counted) = inr (counted_from s t u x b lookups counted)
-
--- a parameter was made, and then as many records stay
-pub took_kept : (f g : Body) (s t u : SsaState) {A : Type 0} (a : A) → StepEnds f s g t (Ok a) → SameRecords t u → TakesByRecords f s g u
-took_kept f g s t u a ends records = by_records_then f s g t g u (ends_took f s g t a ends) (by_records_same g g t u refl (none_lost t u records))
 
 -- what is had of a parameter that waits, or whose look-up began
 pub got_waiting : (x : ℕ) (ty : «Type») (b v : ℕ) (f g : Body) (s t u : SsaState) (l l' : LookUpState) → record_of s x b ≡ None → is_yes (sealed_of s b) ≡ false

@@ -9,7 +9,6 @@ pub mod Running
 pub mod Sealing
 pub mod Limits
 pub mod Steps
-pub mod LimitLaws
 pub mod Sound
 pub mod SoundLaws
 pub mod Structure

@@ -1,12 +1,12 @@
 -- What each step of the construction keeps, whatever it makes and however it ends. Source: own.
 use Rattle.std.specs.Prelude.{◌≡◌, ◌≢◌, ◌+◌, ◌<◌, ◌⊎◌, ℕ, [], ◌∷◌, length, true, false, Result, Err, OnOk, OnErr, IfOk}
 use Rattle.clif_types.specs.declared.error.BuildError.{BuildError}
-use Rattle.clif_types.specs.declared.error.BuildError.TheVariants.{Memory, Full, Failed}
+use Rattle.clif_types.specs.declared.error.BuildError.TheVariants.{Full, Failed}
 use Rattle.clif_types.specs.declared.types.«Type».{«Type»}
 use Rattle.clif_ir.specs.Body.{Body}
 use Rattle.clif_ssa.specs.declared.side_effects.SideEffects.{SideEffects}
 use Rattle.clif_ssa.specs.Constructs.{OnlyConstructs, TellsZeros}
-use Rattle.clif_ssa.specs.Limits.{IsFull, StaysBelow, StaysBelowFor, Takes, TakesByRecords}
+use Rattle.clif_ssa.specs.Limits.{IsFull}
 use Rattle.clif_ssa.specs.Running.{CountsOnce}
 use Rattle.clif_ssa.specs.Ssa.{SsaState, predecessors_of, sealed_of, CountsLookup, HasMore, KnowsNoMore, NamesExist, RecordsStay, SameBlocks, SameLookups, SamePredecessors, SealedStays, Waits, Zeroes}
 use Rattle.clif_ssa.specs.Sealing.{SealsByLookUp, SealsLocally, SealsOne}
@@ -34,12 +34,10 @@ pub record StepKeeps (x : ℕ) (f : Body) (s : SsaState) (g : Body) (t : SsaStat
   pub constructs : OnlyConstructs f g
   pub names : NamesExist f s → NamesExist g t
   pub once : CountsOnce s t
-  pub below : StaysBelowFor x f s t
 
--- How a step ends: it takes as many entries as it records, and fails for want of room alone.
-pub record StepEnds (f : Body) (s : SsaState) (g : Body) (t : SsaState) {A : Type 0} (answer : Result A BuildError) : Type 0 where
+-- How a step ends: it fails for want of room alone.
+pub record StepEnds (g : Body) {A : Type 0} (answer : Result A BuildError) : Type 0 where
   pub full : answer ≡ Err Full → IsFull g
-  pub takes_by_records : answer ≢ Err Memory → TakesByRecords f s g t
   pub never_failed : answer ≢ Err Failed
 
 -- A use of a variable that isn't recorded in a block which is unsealed, or to which nothing leads.
@@ -52,7 +50,6 @@ pub record UsesLocally (x : ℕ) (ty : «Type») (b : ℕ) (f : Body) (s : SsaSt
   pub counts_one : is_yes (sealed_of s b) ≡ true → OnOk answer (CountsLookup s t x b)
   pub tells : IfOk answer (λ r. TellsZeros f g r.1.instructions_added_to_blocks.items)
   pub err : OnErr answer (SameBlocks s t)
-  pub takes : answer ≢ Err Memory → Takes f g 2 1
 
 -- What the sealing of a block leaves, also where it fails.
 pub record SealKeeps (b : ℕ) (f : Body) (s : SsaState) (g : Body) (t : SsaState) : Type 0 where
@@ -63,7 +60,6 @@ pub record SealKeeps (b : ℕ) (f : Body) (s : SsaState) (g : Body) (t : SsaStat
   pub constructs : OnlyConstructs f g
   pub names : NamesExist f s → NamesExist g t
   pub looks_once : LooksOnce s → LooksOnce t
-  pub below : StaysBelow f s t
 
 -- What the sealing of a block makes.
 pub record SealMakes (b : ℕ) (f : Body) (s : SsaState) (g : Body) (t : SsaState) (answer : Result SideEffects BuildError) : Type 0 where
@@ -72,4 +68,3 @@ pub record SealMakes (b : ℕ) (f : Body) (s : SsaState) (g : Body) (t : SsaStat
   pub local : predecessors_of s b ≡ [] → SealsLocally f s g t b answer
   pub completes : predecessors_of s b ≢ [] → IfOk answer (λ r. SealsByLookUp f s g t b r.instructions_added_to_blocks.items)
   pub tells : IfOk answer (λ r. TellsZeros f g r.instructions_added_to_blocks.items)
-  pub takes : predecessors_of s b ≡ [] → answer ≢ Err Memory → Takes f g 0 0

@@ -3,7 +3,7 @@ ghost use Rattle.std.specs.Prelude.{◌≡◌, ◌≢◌, ◌<◌, ◌≤◌, �
 ghost use Rattle.std.specs.Option.{option_to_list};
 ghost use Rattle.clif_ir.specs.Reading.{param_home};
 ghost use Rattle.clif_ssa.specs.Constructs.{OnlyConstructs, TellsZeros, TellsMore};
-ghost use Rattle.clif_ssa.specs.Limits.{IsFull, Takes};
+ghost use Rattle.clif_ssa.specs.Limits.{IsFull};
 ghost use Rattle.clif_ssa.specs.Ssa.{SsaState, predecessors_of, HasMore};
 ghost use Rattle.clif_ssa.specs.LookUp.{EndsLookUp, IsNoParameter, FinishesLookUp, with_arguments};
 ghost use Rattle.clif_ssa.specs.Incoming.{IncomingExists, IsIncoming};
@@ -67,7 +67,6 @@ pub(crate) fn pass_arguments(
     ensures more { HasMore func.old func.new }
     ensures constructs { OnlyConstructs func.old func.new }
     ensures tells { TellsZeros func.old func.new [] }
-    ensures takes { OnOk result (Takes func.old func.new 0 0) }
     ensures only_memory { OnErr result (result ≡ Err BuildError.Memory) }
 {
     for (place, branch) in branches.iter().enumerate() {
@@ -97,7 +96,6 @@ pub(crate) fn end_look_up(
     ensures constructs { OnlyConstructs func.old func.new }
     ensures tells { IfOk result (λ e. TellsZeros func.old func.new (option_to_list e.zero)) }
     ensures full { result ≡ Err BuildError.Full → IsFull func.new }
-    ensures takes { result ≢ Err BuildError.Memory → Takes func.old func.new 0 0 }
     ensures never_failed { result ≢ Err BuildError.Failed }
 {
     func.law_consistent();
@@ -135,7 +133,6 @@ fn end_or_stay(
     ensures constructs { OnlyConstructs func.old func.new }
     ensures tells { IfOk result (λ e. TellsZeros func.old func.new (option_to_list e.zero)) }
     ensures full { result ≡ Err BuildError.Full → IsFull func.new }
-    ensures takes { result ≢ Err BuildError.Memory → Takes func.old func.new 0 0 }
     ensures never_failed { result ≢ Err BuildError.Failed }
 {
     match func.param_home(param) {
@@ -166,7 +163,6 @@ pub(crate) fn finish_look_up(
     ensures constructs { OnlyConstructs func.old func.new }
     ensures tells { OnOk result (TellsMore func.old func.new look_up.old.zeros look_up.new.zeros) }
     ensures full { result ≡ Err BuildError.Full → IsFull func.new }
-    ensures takes { result ≢ Err BuildError.Memory → Takes func.old func.new 0 0 }
     ensures never_failed { result ≢ Err BuildError.Failed }
 {
     let count = predecessors.len();

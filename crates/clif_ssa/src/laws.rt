@@ -2,8 +2,6 @@
 //! itself, and stay sound.
 
 ghost use Rattle.clif_ssa.specs.SoundLaws.{FirstDescribes, SameStateKeeps, InsertionKeeps, NewBlockKeeps, ReadItemKeeps, WriteHereKeeps, WriteItemKeeps, OwnInstructionKeeps, OwnResultKeeps, OwnParameterKeeps, WaitingUseKeeps, ZeroUseKeeps, SealingKeeps, PredecessorDeclared, PredecessorRemoved, NewNameStays};
-ghost use Rattle.clif_ssa.specs.Limits.{FewRecords};
-ghost use Rattle.clif_ssa.specs.LimitLaws.{ChangesTake, RecordsStay};
 ghost use Rattle.clif_ssa.specs.Structure.{UsesAgree};
 ghost use Rattle.clif_ssa.specs.Structured.{FirstStructured, NewBlockStructured, InsertionStructured, InstructionStructured, ParameterStructured};
 ghost use Rattle.clif_ssa.specs.Within.{WaitingHeld};
@@ -121,20 +119,4 @@ pub fn parameter_structured()
 /// A set holds what waits in a block as soon as it holds the block, where anything waits.
 pub fn waiting_held()
     ensures { WaitingHeld }
-{}
-
-/// There are no more records than pairs of a variable and a block for which one may be.
-pub fn few_records()
-    ensures { FewRecords }
-{}
-
-/// There are no fewer records where each variable that was recorded in a block still is.
-pub fn records_stay()
-    ensures { RecordsStay }
-{}
-
-/// How many entries of its tables a change of a function takes: a block that enters the layout none, a parameter at most
-/// its own and those of its zero, an instruction at most its own and those of its results.
-pub fn changes_take()
-    ensures { ChangesTake }
 {}

@@ -3,7 +3,7 @@ ghost use Rattle.std.specs.Prelude.{◌≡◌, ◌≢◌, ◌<◌, ◌≤◌, �
 ghost use Rattle.clif_ir.specs.Body.{Body, block_at, value_at};
 ghost use Rattle.clif_ir.specs.Consistent.{Stands};
 ghost use Rattle.clif_ssa.specs.Constructs.{OnlyConstructs, TellsMore, TellsZeros};
-ghost use Rattle.clif_ssa.specs.Limits.{record_count, IsFull, RecordsBelow, StaysBelow, StaysBelowFor, Takes, TakesByRecords};
+ghost use Rattle.clif_ssa.specs.Limits.{IsFull};
 ghost use Rattle.clif_ssa.specs.Tables.{is_yes, pending_of};
 ghost use Rattle.clif_ssa.specs.declared.tables.Pending.{Pending};
 ghost use Rattle.clif_paths.specs.Places.{start};
@@ -178,8 +178,6 @@ impl SSABuilder {
         ensures nothing_stray { (own : ℕ → List ℕ) (f : Body) → NothingStray own f self.old → NothingStray own f self.new }
         ensures looks_once { LooksOnce self.old → LooksOnce self.new }
         ensures structured { (types : VariableTypes) (own : Own) (f : Body) → HasType f value (types variable) → Structured types own f self.old [] → OnOk result (Structured types own f self.new []) }
-        ensures one_record { record_count self.new ≤ record_count self.old + 1 }
-        ensures below { (variables blocks : ℕ) → variable < variables → block < blocks → RecordsBelow variables blocks self.old → RecordsBelow variables blocks self.new }
         ensures only_memory { OnErr result (result ≡ Err BuildError.Memory) }
     {
         self.tables.record(variable, block, value)
@@ -226,10 +224,7 @@ impl SSABuilder {
         ensures names { NamesExist func.old self.old → NamesExist func.new self.new }
         ensures exists { NamesExist func.old self.old → IfOk result (λ r. r.0 < length func.new.values) }
         ensures full { result ≡ Err BuildError.Full → IsFull func.new }
-        ensures takes { IsLocal self.old variable block → result ≢ Err BuildError.Memory → Takes func.old func.new 2 1 }
         ensures err { IsLocal self.old variable block → OnErr result (SameBlocks self.old self.new) }
-        ensures takes_by_records { result ≢ Err BuildError.Memory → TakesByRecords func.old self.old func.new self.new }
-        ensures below { StaysBelowFor variable func.old self.old self.new }
         ensures never_failed { result ≢ Err BuildError.Failed }
     {
         func.law_consistent();
@@ -263,7 +258,7 @@ impl SSABuilder {
         requires unrecorded { record_of self.old variable block ≡ None }
         ensures used { UsesLocally variable ty block func.old self.old func.new self.new result }
         ensures keeps { StepKeeps variable func.old self.old func.new self.new }
-        ensures ends { StepEnds func.old self.old func.new self.new result }
+        ensures ends { StepEnds func.new result }
     {
         self.tables
             .use_locally(self.alloc, func, variable, ty, block)
@@ -283,7 +278,7 @@ impl SSABuilder {
         ensures looks { OnOk result (LooksUp variable ty block (stage func.old self.old look_up.old) (stage func.new self.new look_up.new)) }
         ensures keeps { StepKeeps variable func.old self.old func.new self.new }
         ensures tells { OnOk result (TellsMore func.old func.new look_up.old.zeros look_up.new.zeros) }
-        ensures ends { StepEnds func.old self.old func.new self.new result }
+        ensures ends { StepEnds func.new result }
     {
         func.law_consistent();
         let reached = self.tables.walk(func, variable, block, &mut self.passed)?;
@@ -308,7 +303,7 @@ impl SSABuilder {
         ensures keeps { StepKeeps variable func.old self.old func.new self.new }
         ensures tells { OnOk result (TellsMore func.old func.new look_up.old.zeros look_up.new.zeros) }
         ensures exists { IfOk result (λ v. v < length func.new.values) }
-        ensures ends { StepEnds func.old self.old func.new self.new result }
+        ensures ends { StepEnds func.new result }
     {
         while let Some(call) = look_up.next_call() {
             self.make_call(func, variable, ty, call, look_up)?;
@@ -331,7 +326,7 @@ impl SSABuilder {
         ensures fits { OnOk result (CallsFit func.new self.new look_up.new) }
         ensures keeps { StepKeeps variable func.old self.old func.new self.new }
         ensures tells { OnOk result (TellsMore func.old func.new look_up.old.zeros look_up.new.zeros) }
-        ensures ends { StepEnds func.old self.old func.new self.new result }
+        ensures ends { StepEnds func.new result }
     {
         match call {
             Call::UseVar(branch) => {
@@ -364,8 +359,7 @@ impl SSABuilder {
         ensures leaves { StepLeaves func.old self.old func.new self.new }
         ensures tells { OnOk result (TellsMore func.old func.new look_up.old.zeros look_up.new.zeros) }
         ensures looks_once { (rest : List Pending) → ToComplete self.old block (waiting ∷ rest) → ToComplete self.new block rest }
-        ensures below { StaysBelowFor waiting.variable func.old self.old self.new }
-        ensures ends { StepEnds func.old self.old func.new self.new result }
+        ensures ends { StepEnds func.new result }
     {
         let Pending { variable, param } = waiting;
         let ty = func.value_type(param);
@@ -389,8 +383,7 @@ impl SSABuilder {
         ensures leaves { StepLeaves func.old self.old func.new self.new }
         ensures tells { OnOk result (TellsMore func.old func.new look_up.old.zeros look_up.new.zeros) }
         ensures looks_once { ToComplete self.old block waiting.now → LooksOnce self.new }
-        ensures below { (variables blocks : ℕ) → length func.old.blocks ≤ blocks → ((p : Pending) → Contains waiting.now p → p.variable < variables) → RecordsBelow variables blocks self.old → RecordsBelow variables blocks self.new }
-        ensures ends { StepEnds func.old self.old func.new self.new result }
+        ensures ends { StepEnds func.new result }
     {
         for pending in waiting.iter() {
             self.complete_parameter(func, block, *pending, look_up)?;
@@ -415,7 +408,6 @@ impl SSABuilder {
         ensures constructs { OnlyConstructs func.old func.new }
         ensures tells { IfOk result (λ r. TellsZeros func.old func.new r.instructions_added_to_blocks.items) }
         ensures full { result ≡ Err BuildError.Full → IsFull func.new }
-        ensures takes { result ≢ Err BuildError.Memory → Takes func.old func.new 0 0 }
         ensures never_failed { result ≢ Err BuildError.Failed }
     {
         let mut side_effects = SideEffects::new(self.alloc);
@@ -436,7 +428,7 @@ impl SSABuilder {
         requires named { Named func.old self.old }
         ensures makes { SealMakes block func.old self.old func.new self.new result }
         ensures keeps { SealKeeps block func.old self.old func.new self.new }
-        ensures ends { StepEnds func.old self.old func.new self.new result }
+        ensures ends { StepEnds func.new result }
     {
         let waiting = self.tables.seal(block)?;
         if !self.tables.has_any_predecessors(block) {
@@ -478,9 +470,6 @@ impl SSABuilder {
         ensures within { (holds : ℕ → Bool) → HoldsBranches func.old self.old holds → HoldsWaiting func.old self.old holds block → IfOk result (λ r. StaysWithin holds func.old func.new r.instructions_added_to_blocks.items) }
         ensures names { NamesExist func.old self.old → NamesExist func.new self.new }
         ensures full { result ≡ Err BuildError.Full → IsFull func.new }
-        ensures takes { predecessors_of self.old block ≡ [] → result ≢ Err BuildError.Memory → Takes func.old func.new 0 0 }
-        ensures takes_by_records { result ≢ Err BuildError.Memory → TakesByRecords func.old self.old func.new self.new }
-        ensures below { StaysBelow func.old self.old self.new }
         ensures never_failed { result ≢ Err BuildError.Failed }
     {
         func.law_consistent();
@@ -509,9 +498,6 @@ impl SSABuilder {
         ensures within { (holds : ℕ → Bool) → HoldsBranches func.old self.old holds → ((b : ℕ) → b < length func.old.blocks → HoldsWaiting func.old self.old holds b) → IfOk result (λ r. StaysWithin holds func.old func.new r.instructions_added_to_blocks.items) }
         ensures names { NamesExist func.old self.old → NamesExist func.new self.new }
         ensures full { result ≡ Err BuildError.Full → IsFull func.new }
-        ensures takes { ((b : ℕ) → predecessors_of self.old b ≡ []) → result ≢ Err BuildError.Memory → Takes func.old func.new 0 0 }
-        ensures takes_by_records { result ≢ Err BuildError.Memory → TakesByRecords func.old self.old func.new self.new }
-        ensures below { StaysBelow func.old self.old self.new }
         ensures never_failed { result ≢ Err BuildError.Failed }
     {
         let mut side_effects = SideEffects::new(self.alloc);

@@ -4,7 +4,6 @@ ghost use Rattle.clif_ir.specs.Changes.{with_param};
 ghost use Rattle.clif_ir.specs.Consistent.{Stands};
 ghost use Rattle.clif_ir.specs.Reading.{stands_in};
 ghost use Rattle.clif_ssa.specs.Constructs.{TellsMore};
-ghost use Rattle.clif_ssa.specs.Limits.{Takes};
 ghost use Rattle.clif_ssa.specs.Tables.{is_yes, pending_of};
 ghost use Rattle.clif_ssa.specs.declared.tables.Sealed.{Sealed};
 ghost use Rattle.clif_ssa.specs.Ssa.{no_state, Declares, Removes, Seals, record_of, sealed_of, predecessors_of, lookups_of, Named, Records, KnowsNoMore, SameRecords, SameBlocks, SamePredecessors, SameLookups, CountsLookup};
@@ -319,9 +318,8 @@ impl SsaTables {
         ensures records { OnOk result (Records self.old self.new variable block (length func.old.values)) }
         ensures blocks { self.new.blocks ≡ self.old.blocks }
         ensures lookups { SameLookups self.old self.new }
-        ensures takes { result ≢ Err BuildError.Memory → Takes func.old func.new 2 1 }
         ensures keeps { StepKeeps variable func.old self.old func.new self.new }
-        ensures ends { StepEnds func.old self.old func.new self.new result }
+        ensures ends { StepEnds func.new result }
     {
         let param = func.append_block_param(block, ty)?;
         self.record(variable, block, param)?;
@@ -341,7 +339,7 @@ impl SsaTables {
         requires unrecorded { record_of self.old variable block ≡ None }
         ensures used { UsesLocally variable ty block func.old self.old func.new self.new result }
         ensures keeps { StepKeeps variable func.old self.old func.new self.new }
-        ensures ends { StepEnds func.old self.old func.new self.new result }
+        ensures ends { StepEnds func.new result }
     {
         let param = self.new_parameter(func, variable, ty, block)?;
         let mut side_effects = SideEffects::new(alloc);
@@ -369,7 +367,7 @@ impl SsaTables {
         ensures got { IfOk result (λ v. Got variable ty block v (stage func.old self.old look_up.old) (stage func.new self.new look_up.new)) }
         ensures keeps { StepKeeps variable func.old self.old func.new self.new }
         ensures tells { OnOk result (TellsMore func.old func.new look_up.old.zeros look_up.new.zeros) }
-        ensures ends { StepEnds func.old self.old func.new self.new result }
+        ensures ends { StepEnds func.new result }
     {
         let param = self.new_parameter(func, variable, ty, block)?;
         if self.is_sealed(block) {
@@ -394,7 +392,7 @@ impl SsaTables {
         ensures got { IfOk result (λ v. Got variable ty block v (stage func.old self.old look_up.old) (stage func.new self.new look_up.new)) }
         ensures keeps { StepKeeps variable func.old self.old func.new self.new }
         ensures tells { OnOk result (TellsMore func.old func.new look_up.old.zeros look_up.new.zeros) }
-        ensures ends { StepEnds func.old self.old func.new self.new result }
+        ensures ends { StepEnds func.new result }
     {
         if let Some(value) = self.record_at(variable, block) {
             look_up.push_result(value)?;

@@ -4,7 +4,7 @@ ghost use Rattle.std.specs.Option.{option_to_list};
 ghost use Rattle.clif_ir.specs.Body.{resolved};
 ghost use Rattle.clif_ir.specs.Reading.{param_home};
 ghost use Rattle.clif_ssa.specs.Constructs.{OnlyConstructs, TellsZeros};
-ghost use Rattle.clif_ssa.specs.Limits.{IsFull, Takes};
+ghost use Rattle.clif_ssa.specs.Limits.{IsFull};
 ghost use Rattle.clif_ssa.specs.Ssa.{with_zero, zeroed_in, HasMore};
 
 use crate::side_effects::SideEffects;
@@ -26,7 +26,6 @@ pub(crate) fn replace_by_zero(
     ensures constructs { OnlyConstructs func.old func.new }
     ensures tells { OnOk result (TellsZeros func.old func.new (option_to_list (param_home func.old param))) }
     ensures full { result ≡ Err BuildError.Full → IsFull func.new }
-    ensures takes { result ≢ Err BuildError.Memory → Takes func.old func.new 0 0 }
     ensures never_failed { result ≢ Err BuildError.Failed }
 {
     let ending = become_zero(func, param)?;
@@ -53,7 +52,6 @@ pub(crate) fn become_zero(func: &mut Function, param: Value) -> Result<Ending, B
     ensures constructs { OnlyConstructs func.old func.new }
     ensures tells { IfOk result (λ e. TellsZeros func.old func.new (option_to_list e.zero)) }
     ensures full { result ≡ Err BuildError.Full → IsFull func.new }
-    ensures takes { result ≢ Err BuildError.Memory → Takes func.old func.new 0 0 }
     ensures never_failed { result ≢ Err BuildError.Failed }
 {
     let Some(block) = func.param_home(param) else {

@@ -4,7 +4,6 @@ use Rattle.clif_ssa.proofs.Bodies.{param_exists}
 use Rattle.clif_ssa.proofs.Constructing.{constructs_same}
 use Rattle.clif_ssa.proofs.Constructed.{alias_made, param_is}
 use Rattle.clif_ssa.proofs.Zeroing.{alias_count_same}
-use Rattle.clif_ssa.proofs.TakingByRecords.{Takes-alias}
 use Rattle.clif_ssa.proofs.ending.end_look_up.Goals as goal
 
 pub change_param_to_alias-requires-clause-original_exists :
@@ -36,8 +35,3 @@ pub returns-in_ok-change_param_to_alias-in-One-clause-constructs :
 returns-in_ok-change_param_to_alias-in-One-clause-constructs c =
     alias_made c.args.func.now c.change_param_to_alias.new.self c.args.param c.in-One.value c.law_consistent.ensures
     (param_is c.args.func.now c.args.param c.args.home c.requires.is_parameter) c.in_ok-change_param_to_alias-in-One.ensures.ok
-
-pub returns-in_ok-change_param_to_alias-in-One-clause-takes :
-    goal.returns-in_ok-change_param_to_alias-in-One-clause-takes
-returns-in_ok-change_param_to_alias-in-One-clause-takes c = λ not_memory.
-    Takes-alias c.args.func.now c.change_param_to_alias.new.self c.args.param c.args.home c.in-One.value c.requires.is_parameter c.in_ok-change_param_to_alias-in-One.ensures.ok

@@ -1,9 +1,7 @@
-use Rattle.std.proofs.Common.{rules, ◌≡◌, arith, refl}
+use Rattle.std.proofs.Common.{rules, arith, refl}
 use Rattle.std.proofs.lemmas.Grind.{common_steps}
 use Rattle.clif_ssa.proofs.Constructing.{constructs_none, constructs_same, constructs_then}
 use Rattle.clif_ssa.proofs.Constructed.{argument_made}
-use Rattle.clif_ssa.specs.LookUp.{with_arguments}
-use Rattle.clif_ssa.proofs.TakingByRecords.{Takes-arguments}
 use Rattle.clif_ssa.proofs.ending.pass_arguments.Goals as goal
 
 pub loop-place-init : goal.loop-place-init
@@ -27,8 +25,3 @@ returns-in_err-append_branch_argument-clause-constructs c =
 
 pub returns-clause-constructs : goal.returns-clause-constructs
 returns-clause-constructs c = c.loop-place.invariant.4
-
-pub returns-clause-takes : goal.returns-clause-takes
-returns-clause-takes c =
-    let done : c.loop-place.func ≡ with_arguments c.args.func.now c.args.block c.args.branches.now c.args.values.now = first_of (search rules, grind (arith, common_steps)) in
-    Takes-arguments c.args.func.now c.loop-place.func c.args.block c.args.branches.now c.args.values.now done

@@ -6,9 +6,8 @@ use Rattle.clif_ssa.proofs.CountedOnce.{once_same}
 use Rattle.clif_ssa.proofs.Constructing.{tells_more_none, tells_more_then}
 use Rattle.clif_ssa.proofs.Waited.{drop-item, all-further}
 use Rattle.clif_ssa.proofs.LeavesSteps.{leaves_none, leaves_then}
-use Rattle.clif_ssa.proofs.Steps.{ends_as, ends_ok, ends_then, ends_took}
+use Rattle.clif_ssa.proofs.Steps.{ends_as, ends_ok}
 use Rattle.std.proofs.lemmas.Result.{err_from_is_err_and}
-use Rattle.clif_ssa.proofs.TakingByRecords.{by_records_none, by_records_then}
 use Rattle.clif_ssa.proofs.ssa.SSABuilder.complete_all.Goals as goal
 
 pub complete_parameter-requires-clause-param_exists : goal.complete_parameter-requires-clause-param_exists
@@ -26,8 +25,6 @@ loop-pending-init c = record {
   named = c.requires.named;
   leaves = leaves_none c.args.func.now c.args.self.now;
   tells = tells_more_none c.args.func.now c.args.look_up.now.zeros;
-  takes = by_records_none c.args.func.now c.args.self.now;
-  below = λ variables blocks fits small before. before;
   once = λ before. before;
 }
 
@@ -47,11 +44,6 @@ loop-pending-preserved c =
           c.complete_parameter.ensures.looks_once (drop (c.loop-pending.pending-index + 1) c.args.waiting.now)
           (once_same c.loop-pending.self c.args.block (drop c.loop-pending.pending-index c.args.waiting.now) (c.pending-item.result ∷ drop (c.loop-pending.pending-index + 1) c.args.waiting.now)
           (drop-item c.args.waiting.now c.loop-pending.pending-index c.pending-item.result inside c.pending-item.is) (c.loop-pending.invariant.once before));
-      below = λ variables blocks fits small before.
-          c.complete_parameter.ensures.below variables blocks (small c.pending-item.result (c.loop-pending.pending-index, inside, sym c.pending-item.is))
-          (omega (arith, c.loop-pending.invariant.leaves.more.blocks, fits)) (c.loop-pending.invariant.below variables blocks fits small before);
-      takes = by_records_then c.args.func.now c.args.self.now c.loop-pending.func c.loop-pending.self c.complete_parameter.new.func c.complete_parameter.new.self c.loop-pending.invariant.takes
-          (ends_took c.loop-pending.func c.loop-pending.self c.complete_parameter.new.func c.complete_parameter.new.self _ c.in_ok-complete_parameter.ensures.ends);
       tells =
           tells_more_then c.args.func.now c.loop-pending.func c.complete_parameter.new.func c.args.look_up.now.zeros c.loop-pending.look_up.zeros c.complete_parameter.new.look_up.zeros
           c.complete_parameter.ensures.leaves.constructs c.loop-pending.invariant.tells c.in_ok-complete_parameter.ensures.tells;
@@ -74,18 +66,6 @@ returns-clause-tells c = c.loop-pending.invariant.tells
 
 -- WHERE RECORDS ARE -----------------------------------------------------------------------------------------------
 
-pub returns-in_err-complete_parameter-clause-below : goal.returns-in_err-complete_parameter-clause-below
-returns-in_err-complete_parameter-clause-below c =
-    λ variables blocks fits small.
-    let inside : c.loop-pending.pending-index < length c.args.waiting.now = search rules in
-    let here : Contains c.args.waiting.now c.pending-item.result = (c.loop-pending.pending-index, inside, sym c.pending-item.is) in
-    λ before.
-    c.complete_parameter.ensures.below variables blocks (small c.pending-item.result here) (omega (arith, c.loop-pending.invariant.leaves.more.blocks, fits))
-    (c.loop-pending.invariant.below variables blocks fits small before)
-
-pub returns-clause-below : goal.returns-clause-below
-returns-clause-below c = c.loop-pending.invariant.below
-
 -- WHAT IS LEFT, AND HOW IT ENDS -----------------------------------------------------------------------------------
 
 pub returns-in_err-complete_parameter-clause-completes : goal.returns-in_err-complete_parameter-clause-completes
@@ -106,8 +86,7 @@ pub returns-in_err-complete_parameter-clause-ends : goal.returns-in_err-complete
 returns-in_err-complete_parameter-clause-ends c =
     let p = err_from_is_err_and c.from_residual.result c.from_residual.ensures.1 in
     rw (p.1, p.2)
-    (ends_then c.args.func.now c.args.self.now c.loop-pending.func c.loop-pending.self c.complete_parameter.new.func c.complete_parameter.new.self _ c.loop-pending.invariant.takes
-    (ends_as c.loop-pending.func c.loop-pending.self c.complete_parameter.new.func c.complete_parameter.new.self c.in_err-complete_parameter.field-0.0 c.in_err-complete_parameter.ensures.ends))
+    ((ends_as c.complete_parameter.new.func c.in_err-complete_parameter.field-0.0 c.in_err-complete_parameter.ensures.ends))
 
 pub returns-clause-leaves : goal.returns-clause-leaves
 returns-clause-leaves c =
@@ -115,4 +94,4 @@ returns-clause-leaves c =
 
 pub returns-clause-ends : goal.returns-clause-ends
 returns-clause-ends c =
-    ends_ok c.args.func.now c.args.self.now c.loop-pending.func c.loop-pending.self _ c.loop-pending.invariant.takes
+    ends_ok c.loop-pending.func _

@@ -1,8 +1,5 @@
-use Rattle.std.proofs.Common.{◌≡◌, ℕ, ◌<◌, ◌≤◌, [], length, drop}
-use Rattle.std.specs.Prelude.{Contains}
-use Rattle.clif_ssa.specs.declared.tables.Pending.{Pending}
+use Rattle.std.proofs.Common.{◌≡◌, [], drop}
 use Rattle.clif_ssa.specs.Constructs.{TellsMore}
-use Rattle.clif_ssa.specs.Limits.{RecordsBelow, TakesByRecords}
 use Rattle.clif_ssa.specs.Ssa.{NamesExist}
 use Rattle.clif_ssa.specs.Steps.{StepLeaves}
 use Rattle.clif_ssa.specs.LookUp.{Stage}
@@ -18,7 +15,4 @@ invariant-loop-pending l = record {
   leaves : StepLeaves l.initial.func l.initial.self l.func l.self;
   once : ToComplete l.initial.self l.block l.waiting → ToComplete l.self l.block (drop l.pending-index l.waiting);
   tells : TellsMore l.initial.func l.func l.initial.look_up.zeros l.look_up.zeros;
-  takes : TakesByRecords l.initial.func l.initial.self l.func l.self;
-  below : (variables blocks : ℕ) → length l.initial.func.blocks ≤ blocks → ((p : Pending) → Contains l.waiting p → p.variable < variables)
-      → RecordsBelow variables blocks l.initial.self → RecordsBelow variables blocks l.self;
 }

@@ -18,7 +18,6 @@ loop-pending-init c = record {
   constructs = constructs_none c.args.func.now;
   tells = tells_more_none c.args.func.now c.new-side_effects.result.instructions_added_to_blocks.items;
   once = λ before. before;
-  takes = first_of (search rules, grind (arith, common_steps));
 }
 
 pub loop-pending-preserved : goal.loop-pending-preserved
@@ -39,7 +38,6 @@ loop-pending-preserved c =
       tells =
           tells_more_then c.args.func.now c.loop-pending.func c.replace_by_zero.new.func _ _ _ c.replace_by_zero.ensures.constructs c.loop-pending.invariant.tells
           (_, c.in_ok-replace_by_zero.ensures.told, c.in_ok-replace_by_zero.ensures.tells);
-      takes = first_of (search rules, grind (arith, common_steps));
       once = λ before.
           once_completes c.loop-pending.self-inside.tables c.count_lookup.new.self c.args.block c.pending-item.result (drop (c.loop-pending.pending-index + 1) c.args.waiting.now)
           c.count_lookup.ensures.records (λ b. ap (λ blocks. sealed_at blocks b) c.count_lookup.ensures.blocks) (inr c.in_ok-count_lookup.ensures.ok)

@@ -1,6 +1,5 @@
 use Rattle.std.proofs.Common.{◌≡◌, ◌++◌, ℕ, drop}
 use Rattle.clif_ssa.specs.Constructs.{OnlyConstructs, TellsMore}
-use Rattle.clif_ssa.specs.Limits.{Takes}
 use Rattle.clif_ssa.specs.Ssa.{completed, completing_blocks, counted_for, lookups_of, HasMore, SameRecords}
 use Rattle.clif_ssa.specs.Running.{ToComplete}
 use Rattle.clif_ssa.proofs.ssa.SSABuilder.complete_locally.Given as goal
@@ -18,5 +17,4 @@ invariant-loop-pending l = record {
   once : ToComplete l.initial.self-inside.tables l.block l.waiting → ToComplete l.self-inside.tables l.block (drop l.pending-index l.waiting);
   constructs : OnlyConstructs l.initial.func l.func;
   tells : TellsMore l.initial.func l.func l.initial.side_effects.instructions_added_to_blocks.items l.side_effects.instructions_added_to_blocks.items;
-  takes : Takes l.initial.func l.func 0 0;
 }

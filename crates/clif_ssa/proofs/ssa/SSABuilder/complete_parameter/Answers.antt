@@ -1,14 +1,12 @@
-use Rattle.std.proofs.Common.{ap, refl}
+use Rattle.std.proofs.Common.{ap}
 use Rattle.clif_ssa.specs.Tables.{sealed_at, predecessors_at}
 use Rattle.clif_ssa.proofs.CountedOnce.{once_completes, once_follows}
 use Rattle.clif_ssa.proofs.Naming.{has_more}
 use Rattle.clif_ssa.proofs.Local.{named-same}
 use Rattle.clif_ssa.proofs.Waited.{begun-fits}
 use Rattle.clif_ssa.proofs.LeavesSteps.{leaves_from, leaves_kept, leaves_then}
-use Rattle.clif_ssa.proofs.Steps.{ends_as, ends_memory, ends_ok, ends_then, ends_took}
+use Rattle.clif_ssa.proofs.Steps.{ends_as, ends_memory, ends_ok}
 use Rattle.std.proofs.lemmas.Result.{err_from_is_err_and}
-use Rattle.clif_ssa.proofs.TakingByRecords.{none_lost, by_records_then, by_records_same}
-use Rattle.clif_ssa.proofs.Below.{below_then, below_same}
 use Rattle.clif_ssa.proofs.ssa.SSABuilder.complete_parameter.Goals as goal
 
 pub make_calls-requires-clause-named : goal.make_calls-requires-clause-named
@@ -51,22 +49,6 @@ returns-clause-looks_once c =
 
 -- WHERE RECORDS ARE -----------------------------------------------------------------------------------------------
 
-pub returns-in_err-begin_look_up-clause-below : goal.returns-in_err-begin_look_up-clause-below
-returns-in_err-begin_look_up-clause-below c =
-    rw (← c.self.view_is) (below_same c.args.waiting.variable c.args.func.now c.self.inside.tables c.begin_look_up.new.self c.begin_look_up.ensures.records (λ b. ap (λ blocks. sealed_at blocks b) c.begin_look_up.ensures.blocks))
-
-pub returns-in_err-_value-clause-below : goal.returns-in_err-_value-clause-below
-returns-in_err-_value-clause-below c =
-    rw (← c.self.view_is)
-    (below_then c.args.waiting.variable c.args.func.now c.args.func.now c.self.inside.tables c.begin_look_up.new.self c.make_calls.new.self (has_more c.args.func.now)
-    (below_same c.args.waiting.variable c.args.func.now c.self.inside.tables c.begin_look_up.new.self c.begin_look_up.ensures.records (λ b. ap (λ blocks. sealed_at blocks b) c.begin_look_up.ensures.blocks)) c.make_calls.ensures.keeps.below)
-
-pub returns-clause-below : goal.returns-clause-below
-returns-clause-below c =
-    rw (← c.self.view_is)
-    (below_then c.args.waiting.variable c.args.func.now c.args.func.now c.self.inside.tables c.begin_look_up.new.self c.make_calls.new.self (has_more c.args.func.now)
-    (below_same c.args.waiting.variable c.args.func.now c.self.inside.tables c.begin_look_up.new.self c.begin_look_up.ensures.records (λ b. ap (λ blocks. sealed_at blocks b) c.begin_look_up.ensures.blocks)) c.make_calls.ensures.keeps.below)
-
 -- WHAT IS LEFT, AND HOW IT ENDS -----------------------------------------------------------------------------------
 
 pub returns-in_err-begin_look_up-clause-completes : goal.returns-in_err-begin_look_up-clause-completes
@@ -107,7 +89,7 @@ pub returns-in_err-begin_look_up-clause-ends : goal.returns-in_err-begin_look_up
 returns-in_err-begin_look_up-clause-ends c =
     let p = err_from_is_err_and c.from_residual.result c.from_residual.ensures.1 in
     rw (p.1, p.2)
-    (rw (← c.self.view_is) (ends_memory c.args.func.now c.self.inside.tables c.args.func.now c.begin_look_up.new.self c.in_err-begin_look_up.field-0.0 c.in_err-begin_look_up.ensures.only_memory))
+    ((ends_memory c.args.func.now c.in_err-begin_look_up.field-0.0 c.in_err-begin_look_up.ensures.only_memory))
 
 pub returns-in_err-_value-clause-leaves : goal.returns-in_err-_value-clause-leaves
 returns-in_err-_value-clause-leaves c =
@@ -119,8 +101,7 @@ pub returns-in_err-_value-clause-ends : goal.returns-in_err-_value-clause-ends
 returns-in_err-_value-clause-ends c =
     let p = err_from_is_err_and c.from_residual-in_err-_value.result c.from_residual-in_err-_value.ensures.1 in
     rw (p.1, p.2)
-    (rw (← c.self.view_is)
-    (ends_then c.args.func.now c.self.inside.tables c.args.func.now c.begin_look_up.new.self c.make_calls.new.func c.make_calls.new.self _ (by_records_same c.args.func.now c.args.func.now c.self.inside.tables c.begin_look_up.new.self refl (none_lost c.self.inside.tables c.begin_look_up.new.self c.begin_look_up.ensures.records)) (ends_as c.args.func.now c.begin_look_up.new.self c.make_calls.new.func c.make_calls.new.self c.in_err-_value.field-0.0 c.in_err-_value.ensures.ends)))
+    (((ends_as c.make_calls.new.func c.in_err-_value.field-0.0 c.in_err-_value.ensures.ends)))
 
 pub returns-clause-leaves : goal.returns-clause-leaves
 returns-clause-leaves c =
@@ -130,5 +111,4 @@ returns-clause-leaves c =
 
 pub returns-clause-ends : goal.returns-clause-ends
 returns-clause-ends c =
-    rw (← c.self.view_is)
-    (ends_ok c.args.func.now c.self.inside.tables c.make_calls.new.func c.make_calls.new.self _ (by_records_then c.args.func.now c.self.inside.tables c.args.func.now c.begin_look_up.new.self c.make_calls.new.func c.make_calls.new.self (by_records_same c.args.func.now c.args.func.now c.self.inside.tables c.begin_look_up.new.self refl (none_lost c.self.inside.tables c.begin_look_up.new.self c.begin_look_up.ensures.records)) (ends_took c.args.func.now c.begin_look_up.new.self c.make_calls.new.func c.make_calls.new.self c.in_ok-_value._value c.in_ok-_value.ensures.ends)))
+    (ends_ok c.make_calls.new.func _)

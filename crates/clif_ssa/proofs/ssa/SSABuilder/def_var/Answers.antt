@@ -2,8 +2,6 @@ use Rattle.std.proofs.Common.{ap}
 use Rattle.clif_ssa.specs.Tables.{sealed_at, predecessors_at}
 use Rattle.clif_ssa.proofs.Using.{on_ok, def_keeps}
 use Rattle.clif_ssa.proofs.StructuredLaws.{assigned_structured}
-use Rattle.clif_ssa.proofs.TakingByRecords.{one_record}
-use Rattle.clif_ssa.proofs.Below.{below_defined}
 use Rattle.clif_ssa.proofs.ssa.SSABuilder.def_var.Goals as goal
 
 pub returns-clause-keeps : goal.returns-clause-keeps
@@ -25,13 +23,3 @@ returns-clause-structured c =
     assigned_structured types own f c.self.inside.tables c.record.new.self c.args.variable c.args.block c.args.value typed written
     (λ b. ap (λ blocks. sealed_at blocks b) c.record.ensures.blocks) (λ b. ap (λ blocks. predecessors_at blocks b) c.record.ensures.blocks) before)
     c.record.ensures.ok)
-
-pub returns-clause-one_record : goal.returns-clause-one_record
-returns-clause-one_record c =
-    rw (← c.self.view_is) (one_record c.self.inside.tables c.record.new.self c.args.variable c.args.block c.args.value c.record.result c.record.ensures.ok c.record.ensures.err)
-
-pub returns-clause-below : goal.returns-clause-below
-returns-clause-below c =
-    rw (← c.self.view_is)
-    (below_defined c.self.inside.tables c.record.new.self c.args.variable c.args.block c.args.value c.record.result c.record.ensures.ok c.record.ensures.err
-    (λ b. ap (λ blocks. sealed_at blocks b) c.record.ensures.blocks))

@@ -2,7 +2,7 @@ use Rattle.std.proofs.lemmas.Result.{err_from_is_err_and}
 use Rattle.clif_ssa.specs.Running.{stage}
 use Rattle.clif_ssa.proofs.Making.{got-exists}
 use Rattle.clif_ssa.proofs.LookSteps.{ends_copied, keeps_looked, looked_copied}
-use Rattle.clif_ssa.proofs.Steps.{ends_as, ends_memory, ends_took, keeps_none}
+use Rattle.clif_ssa.proofs.Steps.{ends_as, ends_memory, keeps_none}
 use Rattle.clif_ssa.proofs.Waited.{on_any}
 use Rattle.clif_ssa.proofs.ssa.SSABuilder.look_up_in.Goals as goal
 
@@ -24,7 +24,7 @@ pub returns-in_err-reached-clause-ends : goal.returns-in_err-reached-clause-ends
 returns-in_err-reached-clause-ends c =
     let p = err_from_is_err_and c.from_residual.result c.from_residual.ensures.1 in
     rw (p.1, p.2)
-    (rw (← c.self.view_is) (ends_memory c.args.func.now c.self.inside.tables c.args.func.now c.self.inside.tables c.in_err-reached.field-0.0 c.in_err-reached.ensures.only_memory))
+    ((ends_memory c.args.func.now c.in_err-reached.field-0.0 c.in_err-reached.ensures.only_memory))
 
 pub returns-in_err-value-clause-looks : goal.returns-in_err-value-clause-looks
 returns-in_err-value-clause-looks c =
@@ -44,7 +44,7 @@ pub returns-in_err-value-clause-ends : goal.returns-in_err-value-clause-ends
 returns-in_err-value-clause-ends c =
     let p = err_from_is_err_and c.from_residual-in_err-value.result c.from_residual-in_err-value.ensures.1 in
     rw (p.1, p.2)
-    (rw (← c.self.view_is) (ends_as c.args.func.now c.self.inside.tables c.record_or_parameter.new.func c.record_or_parameter.new.self c.in_err-value.field-0.0 c.in_err-value.ensures.ends))
+    ((ends_as c.record_or_parameter.new.func c.in_err-value.field-0.0 c.in_err-value.ensures.ends))
 
 pub returns-clause-looks : goal.returns-clause-looks
 returns-clause-looks c =
@@ -65,5 +65,4 @@ returns-clause-tells c =
 
 pub returns-clause-ends : goal.returns-clause-ends
 returns-clause-ends c =
-    rw (← c.self.view_is)
-    (ends_copied c.args.func.now c.self.inside.tables c.record_or_parameter.new.func c.record_or_parameter.new.self c.copy_record.new.self c.copy_record.result (ends_took c.args.func.now c.self.inside.tables c.record_or_parameter.new.func c.record_or_parameter.new.self c.in_ok-value.value c.in_ok-value.ensures.ends) c.copy_record.ensures.none_lost c.copy_record.ensures.only_memory)
+    (ends_copied c.record_or_parameter.new.func c.copy_record.result c.copy_record.ensures.only_memory)

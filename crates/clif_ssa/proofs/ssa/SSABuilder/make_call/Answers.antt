@@ -88,4 +88,4 @@ returns-in-FinishPredecessorsLookup-clause-tells c =
 
 pub returns-in-FinishPredecessorsLookup-clause-ends : goal.returns-in-FinishPredecessorsLookup-clause-ends
 returns-in-FinishPredecessorsLookup-clause-ends c =
-    ends_zeros c.args.func.now c.finish_look_up.new.func c.args.self.now c.finish_look_up.result c.finish_look_up.ensures.full c.finish_look_up.ensures.takes c.finish_look_up.ensures.never_failed
+    ends_zeros c.finish_look_up.new.func c.finish_look_up.result c.finish_look_up.ensures.full c.finish_look_up.ensures.never_failed

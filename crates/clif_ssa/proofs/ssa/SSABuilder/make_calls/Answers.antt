@@ -6,8 +6,7 @@ use Rattle.clif_ssa.specs.LookUp.MakesCalls.{none_made, made}
 use Rattle.clif_ssa.specs.Running.{stage, CallsFit}
 use Rattle.clif_ssa.proofs.Calling.{call-less, popped_is}
 use Rattle.clif_ssa.proofs.Constructing.{tells_more_none, tells_more_then}
-use Rattle.clif_ssa.proofs.Steps.{ends_as, ends_ok, ends_then, ends_took, keeps_none, keeps_then}
-use Rattle.clif_ssa.proofs.TakingByRecords.{by_records_none, by_records_then}
+use Rattle.clif_ssa.proofs.Steps.{ends_as, ends_ok, keeps_none, keeps_then}
 use Rattle.clif_ssa.proofs.ssa.SSABuilder.make_calls.Goals as goal
 
 pub make_call-requires-clause-calls_fit : goal.make_call-requires-clause-calls_fit
@@ -22,7 +21,6 @@ loop-call-init c = record {
   fits = c.requires.calls_fit;
   keeps = keeps_none c.args.variable c.args.func.now c.args.self.now;
   tells = tells_more_none c.args.func.now c.args.look_up.now.zeros;
-  takes = by_records_none c.args.func.now c.args.self.now;
 }
 
 pub loop-call-smaller : goal.loop-call-smaller
@@ -42,8 +40,6 @@ loop-call-preserved c =
       fits = c.in_ok-make_call.ensures.fits;
       keeps = keeps_then c.args.variable c.args.func.now c.args.self.now c.loop-call.func c.loop-call.self c.make_call.new.func c.make_call.new.self c.loop-call.invariant.keeps
           c.make_call.ensures.keeps;
-      takes = by_records_then c.args.func.now c.args.self.now c.loop-call.func c.loop-call.self c.make_call.new.func c.make_call.new.self c.loop-call.invariant.takes
-          (ends_took c.loop-call.func c.loop-call.self c.make_call.new.func c.make_call.new.self _ c.in_ok-make_call.ensures.ends);
       tells =
           tells_more_then c.args.func.now c.loop-call.func c.make_call.new.func c.args.look_up.now.zeros c.loop-call.look_up.zeros c.make_call.new.look_up.zeros
           c.make_call.ensures.keeps.constructs c.loop-call.invariant.tells
@@ -73,14 +69,13 @@ pub returns-in_err-make_call-clause-ends : goal.returns-in_err-make_call-clause-
 returns-in_err-make_call-clause-ends c =
     let p = err_from_is_err_and c.from_residual.result c.from_residual.ensures.1 in
     rw (p.1, p.2)
-    (ends_then c.args.func.now c.args.self.now c.loop-call.func c.loop-call.self c.make_call.new.func c.make_call.new.self _ c.loop-call.invariant.takes
-    (ends_as c.loop-call.func c.loop-call.self c.make_call.new.func c.make_call.new.self c.in_err-make_call.field-0.0 c.in_err-make_call.ensures.ends))
+    ((ends_as c.make_call.new.func c.in_err-make_call.field-0.0 c.in_err-make_call.ensures.ends))
 
 pub returns-clause-keeps : goal.returns-clause-keeps
 returns-clause-keeps c = c.loop-call.invariant.keeps
 
 pub returns-clause-ends : goal.returns-clause-ends
-returns-clause-ends c = ends_ok c.args.func.now c.args.self.now c.loop-call.func c.loop-call.self _ c.loop-call.invariant.takes
+returns-clause-ends c = ends_ok c.loop-call.func _
 
 pub returns-clause-tells : goal.returns-clause-tells
 returns-clause-tells c =

@@ -1,5 +1,4 @@
 use Rattle.clif_ssa.specs.Constructs.{TellsMore}
-use Rattle.clif_ssa.specs.Limits.{TakesByRecords}
 use Rattle.clif_ssa.specs.Ssa.{NamesExist}
 use Rattle.clif_ssa.specs.LookUp.{MakesCalls}
 use Rattle.clif_ssa.specs.Running.{stage, CallsFit, work_of}
@@ -13,7 +12,6 @@ invariant-loop-call l = record {
   fits : CallsFit l.func l.self l.look_up;
   keeps : StepKeeps l.variable l.initial.func l.initial.self l.func l.self;
   tells : TellsMore l.initial.func l.func l.initial.look_up.zeros l.look_up.zeros;
-  takes : TakesByRecords l.initial.func l.initial.self l.func l.self;
 }
 
 abbrev pub decreases-loop-call : goal.decreases-loop-call

@@ -11,9 +11,6 @@ use Rattle.clif_ssa.proofs.Waited.{named-kept, no_more-sealed, other-same, seale
 use Rattle.clif_ssa.proofs.StructuredPublic.{seal_structured}
 use Rattle.clif_ssa.proofs.WithinUses.{leads_of, seals_within}
 use Rattle.std.proofs.lemmas.Result.{err_from_is_err_and}
-use Rattle.clif_ssa.proofs.Taking.{Takes-same, Takes-then}
-use Rattle.clif_ssa.proofs.TakingByRecords.{by_records_none, by_records_then}
-use Rattle.clif_ssa.proofs.Below.{stays_below_then}
 use Rattle.clif_ssa.proofs.ssa.SSABuilder.seal_all_blocks.Goals as goal
 
 pub returns-in_err-told-clause-stay : goal.returns-in_err-told-clause-stay
@@ -40,9 +37,6 @@ loop-number-init c = record {
   keeps = λ own tables both. keeps_itself own tables c.args.func.now c.args.self.now both;
   remembers = λ x b. same_remembers x b c.args.func.now c.args.self.now c.args.self.now refl;
   structured = λ types own before. before;
-  takes_none = λ none. Takes-same c.args.func.now c.args.func.now refl refl;
-  takes = by_records_none c.args.func.now c.args.self.now;
-  below = λ variables blocks fits before. before;
 }
 
 pub loop-number-preserved : goal.loop-number-preserved
@@ -53,12 +47,6 @@ loop-number-preserved c =
     let inside : c.loop-number.number < length c.args.func.now.blocks = first_of (search rules, grind (arith, common_steps)) in
     record {
       sealed = sealed-below c.loop-number.self c.seal_one_block.new.self c.loop-number.number c.loop-number.invariant.sealed seals;
-      below = stays_below_then c.args.func.now c.loop-number.func c.args.self.now c.loop-number.self c.seal_one_block.new.self c.loop-number.invariant.more c.loop-number.invariant.below c.seal_one_block.ensures.keeps.below;
-      takes_none = λ none.
-          Takes-then c.args.func.now c.loop-number.func c.seal_one_block.new.func 0 0 0 0 (c.loop-number.invariant.takes_none none)
-          (c.in_ok-told.ensures.makes.takes (c.loop-number.invariant.same c.new-block.result ∙ none c.new-block.result) (λ memory. cc));
-      takes = by_records_then c.args.func.now c.args.self.now c.loop-number.func c.loop-number.self c.seal_one_block.new.func c.seal_one_block.new.self c.loop-number.invariant.takes
-          (c.in_ok-told.ensures.ends.takes_by_records (λ memory. cc));
       named = named-kept c.loop-number.func c.seal_one_block.new.func c.loop-number.self c.seal_one_block.new.self c.seal_one_block.ensures.keeps.predecessors c.seal_one_block.ensures.keeps.names
           c.loop-number.invariant.named;
       sealed_stays = λ b is.
@@ -177,40 +165,7 @@ returns-clause-within c = λ holds branches waiting.
 
 -- HOW MUCH IS TAKEN -----------------------------------------------------------------------------------------------
 
-pub returns-in_err-told-clause-takes : goal.returns-in_err-told-clause-takes
-returns-in_err-told-clause-takes c = λ none not_memory.
-    let p = err_from_is_err_and c.from_residual.result c.from_residual.ensures.1 in
-    Takes-then c.args.func.now c.loop-number.func c.seal_one_block.new.func 0 0 0 0 (c.loop-number.invariant.takes_none none)
-    (c.in_err-told.ensures.makes.takes (c.loop-number.invariant.same c.new-block.result ∙ none c.new-block.result) (λ memory. not_memory (cc)))
-
-pub returns-clause-takes : goal.returns-clause-takes
-returns-clause-takes c = λ none not_memory. c.loop-number.invariant.takes_none none
-
-pub returns-in_err-told-clause-takes_by_records : goal.returns-in_err-told-clause-takes_by_records
-returns-in_err-told-clause-takes_by_records c = λ not_memory.
-    let p = err_from_is_err_and c.from_residual.result c.from_residual.ensures.1 in
-    by_records_then c.args.func.now c.args.self.now c.loop-number.func c.loop-number.self c.seal_one_block.new.func c.seal_one_block.new.self c.loop-number.invariant.takes
-    (c.in_err-told.ensures.ends.takes_by_records (λ memory. not_memory (cc)))
-
-pub returns-clause-takes_by_records : goal.returns-clause-takes_by_records
-returns-clause-takes_by_records c = λ not_memory. c.loop-number.invariant.takes
-
 -- WHERE RECORDS ARE -----------------------------------------------------------------------------------------------
-
-pub returns-in_err-told-clause-below :
-    goal.returns-in_err-told-clause-below
-returns-in_err-told-clause-below c =
-    stays_below_then c.args.func.now c.loop-number.func c.args.self.now c.loop-number.self c.seal_one_block.new.self c.loop-number.invariant.more c.loop-number.invariant.below c.seal_one_block.ensures.keeps.below
-
-pub returns-in_err-append-clause-below :
-    goal.returns-in_err-append-clause-below
-returns-in_err-append-clause-below c =
-    stays_below_then c.args.func.now c.loop-number.func c.args.self.now c.loop-number.self c.seal_one_block.new.self c.loop-number.invariant.more c.loop-number.invariant.below c.seal_one_block.ensures.keeps.below
-
-pub returns-clause-below :
-    goal.returns-clause-below
-returns-clause-below c =
-    c.loop-number.invariant.below
 
 -- WHERE NOTHING IS ANSWERED, AND WHAT IS PASSED ON ----------------------------------------------------------------
 

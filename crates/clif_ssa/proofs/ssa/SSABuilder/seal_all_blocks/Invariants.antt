@@ -6,8 +6,7 @@ use Rattle.clif_ssa.specs.Sealing.{SealsBelow}
 use Rattle.clif_ssa.specs.Sound.{Keeps}
 use Rattle.clif_ssa.specs.SoundLaws.{DescribesSoundly}
 use Rattle.clif_ssa.specs.Tables.{is_yes}
-use Rattle.clif_ssa.specs.Limits.{StaysBelow, Takes, TakesByRecords}
-use Rattle.clif_ssa.specs.Ssa.{predecessors_of, sealed_of, SamePredecessors, RecordsStay, HasMore, Named, NamesExist}
+use Rattle.clif_ssa.specs.Ssa.{sealed_of, SamePredecessors, RecordsStay, HasMore, Named, NamesExist}
 use Rattle.clif_ssa.specs.Structure.{LooksOnce, Remembers}
 use Rattle.clif_ssa.specs.Structured.{Structured, VariableTypes}
 use Rattle.clif_ssa.proofs.ssa.SSABuilder.seal_all_blocks.Given as goal
@@ -29,8 +28,5 @@ invariant-loop-number l = record {
   constructs : OnlyConstructs l.initial.func l.func;
   tells : TellsMore l.initial.func l.func l.initial.side_effects.instructions_added_to_blocks.items l.side_effects.instructions_added_to_blocks.items;
   remembers : (x b : ℕ) → Remembers x b l.initial.func l.initial.self l.func l.self;
-  takes_none : ((b : ℕ) → predecessors_of l.initial.self b ≡ []) → Takes l.initial.func l.func 0 0;
-  takes : TakesByRecords l.initial.func l.initial.self l.func l.self;
-  below : StaysBelow l.initial.func l.initial.self l.self;
   structured : (types : VariableTypes) (own : Own) → Structured types own l.initial.func l.initial.self [] → Structured types own l.func l.self [];
 }

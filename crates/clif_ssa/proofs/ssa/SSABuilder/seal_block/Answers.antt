@@ -76,14 +76,5 @@ returns-clause-names c = c.seal_one_block-told.ensures.keeps.names
 pub returns-clause-full : goal.returns-clause-full
 returns-clause-full c = c.seal_one_block-told.ensures.ends.full
 
-pub returns-clause-takes : goal.returns-clause-takes
-returns-clause-takes c = c.seal_one_block-told.ensures.makes.takes
-
-pub returns-clause-takes_by_records : goal.returns-clause-takes_by_records
-returns-clause-takes_by_records c = c.seal_one_block-told.ensures.ends.takes_by_records
-
-pub returns-clause-below : goal.returns-clause-below
-returns-clause-below c = c.seal_one_block-told.ensures.keeps.below
-
 pub returns-clause-never_failed : goal.returns-clause-never_failed
 returns-clause-never_failed c = c.seal_one_block-told.ensures.ends.never_failed

@@ -4,8 +4,8 @@ use Rattle.std.proofs.lemmas.Grind.{common_steps}
 use Rattle.std.proofs.lemmas.Result.{err_from_is_err_and}
 use Rattle.clif_ssa.specs.Tables.{pending_of, record_at}
 use Rattle.clif_ssa.specs.Ssa.{NamesExist, sealed_of, predecessors_of}
-use Rattle.clif_ssa.proofs.SealSteps.{failed_ends, failed_makes, local_ends, local_keeps, local_makes, looked_ends, looked_keeps, looked_makes, refused_keeps, refused_makes}
-use Rattle.clif_ssa.proofs.Steps.{ends_memory}
+use Rattle.clif_ssa.proofs.SealSteps.{failed_makes, local_keeps, local_makes, looked_keeps, looked_makes, refused_keeps, refused_makes}
+use Rattle.clif_ssa.proofs.Steps.{ends_as, ends_memory, ends_ok, ends_zeros}
 use Rattle.clif_ssa.proofs.Waited.{leading-named, sealed-named}
 use Rattle.clif_ssa.proofs.ssa.SSABuilder.seal_one_block.Goals as goal
 
@@ -39,8 +39,8 @@ returns-in_err-waiting-clause-keeps c =
 pub returns-in_err-waiting-clause-ends : goal.returns-in_err-waiting-clause-ends
 returns-in_err-waiting-clause-ends c =
     let p = err_from_is_err_and c.from_residual.result c.from_residual.ensures.1 in
-    rw (p.1, p.2, ← c.self.view_is)
-    (ends_memory c.args.func.now c.self.inside.tables c.args.func.now c.seal.new.self c.in_err-waiting.field-0.0 c.in_err-waiting.ensures.only_memory)
+    rw (p.1, p.2)
+    (ends_memory c.args.func.now c.in_err-waiting.field-0.0 c.in_err-waiting.ensures.only_memory)
 
 -- NOTHING LEADS TO IT ---------------------------------------------------------------------------------------------
 
@@ -49,7 +49,7 @@ returns-then-not-has_any_predecessors-clause-makes c =
     let same : c.as_slice.result.now ≡ pending_of (sealed_of c.self.inside.tables c.args.block) = first_of (search rules, grind (arith, common_steps)) in
     rw (← c.self.view_is)
     (local_makes c.args.block c.args.func.now c.complete_locally.new.func c.self.inside.tables c.seal.new.self c.complete_locally.new.self c.as_slice.result.now c.complete_locally.result c.seal.ensures.records c.in_ok-waiting.ensures.ok c.seal.ensures.predecessors same (λ some. let no : false ≡ true = c.if-not-has_any_predecessors.ensures.1 some in cc)
-    c.complete_locally.ensures.records c.complete_locally.ensures.blocks c.complete_locally.ensures.counted c.complete_locally.ensures.function c.complete_locally.ensures.told c.complete_locally.ensures.tells c.complete_locally.ensures.takes)
+    c.complete_locally.ensures.records c.complete_locally.ensures.blocks c.complete_locally.ensures.counted c.complete_locally.ensures.function c.complete_locally.ensures.told c.complete_locally.ensures.tells)
 
 pub returns-then-not-has_any_predecessors-clause-keeps : goal.returns-then-not-has_any_predecessors-clause-keeps
 returns-then-not-has_any_predecessors-clause-keeps c =
@@ -59,7 +59,7 @@ returns-then-not-has_any_predecessors-clause-keeps c =
 
 pub returns-then-not-has_any_predecessors-clause-ends : goal.returns-then-not-has_any_predecessors-clause-ends
 returns-then-not-has_any_predecessors-clause-ends c =
-    rw (← c.self.view_is) (local_ends c.args.func.now c.complete_locally.new.func c.self.inside.tables c.seal.new.self c.complete_locally.new.self c.complete_locally.result c.seal.ensures.records c.complete_locally.ensures.records c.complete_locally.ensures.full c.complete_locally.ensures.takes c.complete_locally.ensures.never_failed)
+    (ends_zeros c.complete_locally.new.func c.complete_locally.result c.complete_locally.ensures.full c.complete_locally.ensures.never_failed)
 
 -- BRANCHES LEAD TO IT ---------------------------------------------------------------------------------------------
 
@@ -73,13 +73,13 @@ pub returns-in_err-complete_all-clause-keeps : goal.returns-in_err-complete_all-
 returns-in_err-complete_all-clause-keeps c =
     let same : c.as_slice-2.result.now ≡ pending_of (sealed_of c.self.inside.tables c.args.block) = first_of (search rules, grind (arith, common_steps)) in
     rw (← c.self.view_is)
-    (looked_keeps c.args.block c.args.func.now c.complete_all.new.func c.self.inside.tables c.seal.new.self c.complete_all.new.self c.as_slice-2.result.now c.seal.ensures.records c.in_ok-waiting.ensures.ok c.seal.ensures.predecessors c.seal.ensures.no_more same c.complete_all.ensures.leaves c.complete_all.ensures.looks_once c.complete_all.ensures.below)
+    (looked_keeps c.args.block c.args.func.now c.complete_all.new.func c.self.inside.tables c.seal.new.self c.complete_all.new.self c.as_slice-2.result.now c.seal.ensures.records c.in_ok-waiting.ensures.ok c.seal.ensures.predecessors c.seal.ensures.no_more same c.complete_all.ensures.leaves c.complete_all.ensures.looks_once)
 
 pub returns-in_err-complete_all-clause-ends : goal.returns-in_err-complete_all-clause-ends
 returns-in_err-complete_all-clause-ends c =
     let p = err_from_is_err_and c.from_residual-in_err-complete_all.result c.from_residual-in_err-complete_all.ensures.1 in
-    rw (p.1, p.2, ← c.self.view_is)
-    (failed_ends c.args.func.now c.complete_all.new.func c.self.inside.tables c.seal.new.self c.complete_all.new.self c.in_err-complete_all.field-0.0 c.seal.ensures.records c.in_err-complete_all.ensures.ends)
+    rw (p.1, p.2)
+    (ends_as c.complete_all.new.func c.in_err-complete_all.field-0.0 c.in_err-complete_all.ensures.ends)
 
 pub returns-clause-makes : goal.returns-clause-makes
 returns-clause-makes c =
@@ -93,8 +93,8 @@ pub returns-clause-keeps : goal.returns-clause-keeps
 returns-clause-keeps c =
     let same : c.as_slice-2.result.now ≡ pending_of (sealed_of c.self.inside.tables c.args.block) = first_of (search rules, grind (arith, common_steps)) in
     rw (← c.self.view_is)
-    (looked_keeps c.args.block c.args.func.now c.complete_all.new.func c.self.inside.tables c.seal.new.self c.complete_all.new.self c.as_slice-2.result.now c.seal.ensures.records c.in_ok-waiting.ensures.ok c.seal.ensures.predecessors c.seal.ensures.no_more same c.complete_all.ensures.leaves c.complete_all.ensures.looks_once c.complete_all.ensures.below)
+    (looked_keeps c.args.block c.args.func.now c.complete_all.new.func c.self.inside.tables c.seal.new.self c.complete_all.new.self c.as_slice-2.result.now c.seal.ensures.records c.in_ok-waiting.ensures.ok c.seal.ensures.predecessors c.seal.ensures.no_more same c.complete_all.ensures.leaves c.complete_all.ensures.looks_once)
 
 pub returns-clause-ends : goal.returns-clause-ends
 returns-clause-ends c =
-    rw (← c.self.view_is) (looked_ends c.args.func.now c.complete_all.new.func c.self.inside.tables c.seal.new.self c.complete_all.new.self c.in_ok-complete_all.field-0 _ c.seal.ensures.records c.in_ok-complete_all.ensures.ends)
+    (ends_ok c.complete_all.new.func _)

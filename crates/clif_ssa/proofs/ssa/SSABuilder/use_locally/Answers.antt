@@ -10,4 +10,4 @@ returns-clause-keeps c =
 
 pub returns-clause-ends : goal.returns-clause-ends
 returns-clause-ends c =
-    rw (← c.self.view_is) c.use_locally.ensures.ends
+    c.use_locally.ensures.ends

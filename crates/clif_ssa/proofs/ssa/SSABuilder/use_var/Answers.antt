@@ -17,8 +17,6 @@ use Rattle.clif_ssa.proofs.Public.{something_leads, popped_nothing, known_use, l
 use Rattle.clif_ssa.proofs.StructuredPublic.{local_structured, machine_structured}
 use Rattle.clif_ssa.proofs.WithinUses.{leads_of, same_within, local_within, machine_within}
 use Rattle.std.proofs.lemmas.Result.{err_from_is_err_and}
-use Rattle.clif_ssa.proofs.TakingByRecords.{by_records_none, by_records_then}
-use Rattle.clif_ssa.proofs.Below.{below_then}
 use Rattle.clif_ssa.proofs.ssa.SSABuilder.use_var.Goals as goal
 
 pub returns-in-Some-clause-keeps : goal.returns-in-Some-clause-keeps
@@ -184,32 +182,7 @@ returns-clause-within c = λ holds branches held.
 
 -- HOW MUCH IS TAKEN -----------------------------------------------------------------------------------------------
 
-pub returns-in-Some-clause-takes_by_records : goal.returns-in-Some-clause-takes_by_records
-returns-in-Some-clause-takes_by_records c = λ not_memory. by_records_none c.args.func.now c.args.self.now
-
-pub returns-in_err-value-clause-takes_by_records : goal.returns-in_err-value-clause-takes_by_records
-returns-in_err-value-clause-takes_by_records c = λ not_memory.
-    let p = err_from_is_err_and c.from_residual-in_err-value.result c.from_residual-in_err-value.ensures.1 in
-    by_records_then c.args.func.now c.args.self.now c.look_up_in.new.func c.look_up_in.new.self c.make_calls.new.func c.make_calls.new.self
-    (c.in_ok-look_up_in.ensures.ends.takes_by_records (λ memory. cc)) (c.in_err-value.ensures.ends.takes_by_records (λ memory. not_memory (cc)))
-
-pub returns-clause-takes_by_records : goal.returns-clause-takes_by_records
-returns-clause-takes_by_records c = λ not_memory.
-    by_records_then c.args.func.now c.args.self.now c.look_up_in.new.func c.look_up_in.new.self c.make_calls.new.func c.make_calls.new.self
-    (c.in_ok-look_up_in.ensures.ends.takes_by_records (λ memory. cc)) (c.in_ok-value.ensures.ends.takes_by_records (λ memory. cc))
-
 -- WHERE RECORDS ARE -----------------------------------------------------------------------------------------------
-
-pub returns-in-Some-clause-below : goal.returns-in-Some-clause-below
-returns-in-Some-clause-below c = λ variables blocks small fits before. before
-
-pub returns-in_err-value-clause-below : goal.returns-in_err-value-clause-below
-returns-in_err-value-clause-below c =
-    below_then c.args.variable c.args.func.now c.look_up_in.new.func c.args.self.now c.look_up_in.new.self c.make_calls.new.self c.look_up_in.ensures.keeps.more c.look_up_in.ensures.keeps.below c.make_calls.ensures.keeps.below
-
-pub returns-clause-below : goal.returns-clause-below
-returns-clause-below c =
-    below_then c.args.variable c.args.func.now c.look_up_in.new.func c.args.self.now c.look_up_in.new.self c.make_calls.new.self c.look_up_in.ensures.keeps.more c.look_up_in.ensures.keeps.below c.make_calls.ensures.keeps.below
 
 -- WHAT IS PASSED ON -----------------------------------------------------------------------------------------------
 
@@ -234,17 +207,11 @@ returns-then-is_local-clause-constructs c = c.use_locally.ensures.keeps.construc
 pub returns-then-is_local-clause-names : goal.returns-then-is_local-clause-names
 returns-then-is_local-clause-names c = c.use_locally.ensures.keeps.names
 
-pub returns-then-is_local-clause-below : goal.returns-then-is_local-clause-below
-returns-then-is_local-clause-below c = c.use_locally.ensures.keeps.below
-
 pub returns-then-is_local-clause-tells : goal.returns-then-is_local-clause-tells
 returns-then-is_local-clause-tells c = c.use_locally.ensures.used.tells
 
 pub returns-then-is_local-clause-full : goal.returns-then-is_local-clause-full
 returns-then-is_local-clause-full c = c.use_locally.ensures.ends.full
-
-pub returns-then-is_local-clause-takes_by_records : goal.returns-then-is_local-clause-takes_by_records
-returns-then-is_local-clause-takes_by_records c = c.use_locally.ensures.ends.takes_by_records
 
 pub returns-then-is_local-clause-never_failed : goal.returns-then-is_local-clause-never_failed
 returns-then-is_local-clause-never_failed c = c.use_locally.ensures.ends.never_failed
@@ -272,9 +239,6 @@ returns-in_err-look_up_in-clause-constructs c = c.look_up_in.ensures.keeps.const
 
 pub returns-in_err-look_up_in-clause-names : goal.returns-in_err-look_up_in-clause-names
 returns-in_err-look_up_in-clause-names c = c.look_up_in.ensures.keeps.names
-
-pub returns-in_err-look_up_in-clause-below : goal.returns-in_err-look_up_in-clause-below
-returns-in_err-look_up_in-clause-below c = c.look_up_in.ensures.keeps.below
 
 pub returns-in_err-look_up_in-clause-looks_once : goal.returns-in_err-look_up_in-clause-looks_once
 returns-in_err-look_up_in-clause-looks_once c = c.look_up_in.ensures.keeps.once.looks_once
@@ -434,24 +398,19 @@ returns-in_err-value-clause-nothing_stray c =
 pub returns-in_err-look_up_in-clause-full : goal.returns-in_err-look_up_in-clause-full
 returns-in_err-look_up_in-clause-full c =
     let p = err_from_is_err_and c.from_residual.result c.from_residual.ensures.1 in
-    rw (p.1, p.2) (ends_as c.args.func.now c.args.self.now c.look_up_in.new.func c.look_up_in.new.self c.in_err-look_up_in.field-0.0 c.in_err-look_up_in.ensures.ends).full
-
-pub returns-in_err-look_up_in-clause-takes_by_records : goal.returns-in_err-look_up_in-clause-takes_by_records
-returns-in_err-look_up_in-clause-takes_by_records c =
-    let p = err_from_is_err_and c.from_residual.result c.from_residual.ensures.1 in
-    rw (p.1, p.2) (ends_as c.args.func.now c.args.self.now c.look_up_in.new.func c.look_up_in.new.self c.in_err-look_up_in.field-0.0 c.in_err-look_up_in.ensures.ends).takes_by_records
+    rw (p.1, p.2) (ends_as c.look_up_in.new.func c.in_err-look_up_in.field-0.0 c.in_err-look_up_in.ensures.ends).full
 
 pub returns-in_err-look_up_in-clause-never_failed : goal.returns-in_err-look_up_in-clause-never_failed
 returns-in_err-look_up_in-clause-never_failed c =
     let p = err_from_is_err_and c.from_residual.result c.from_residual.ensures.1 in
-    rw (p.1, p.2) (ends_as c.args.func.now c.args.self.now c.look_up_in.new.func c.look_up_in.new.self c.in_err-look_up_in.field-0.0 c.in_err-look_up_in.ensures.ends).never_failed
+    rw (p.1, p.2) (ends_as c.look_up_in.new.func c.in_err-look_up_in.field-0.0 c.in_err-look_up_in.ensures.ends).never_failed
 
 pub returns-in_err-value-clause-full : goal.returns-in_err-value-clause-full
 returns-in_err-value-clause-full c =
     let p = err_from_is_err_and c.from_residual-in_err-value.result c.from_residual-in_err-value.ensures.1 in
-    rw (p.1, p.2) (ends_as c.look_up_in.new.func c.look_up_in.new.self c.make_calls.new.func c.make_calls.new.self c.in_err-value.field-0.0 c.in_err-value.ensures.ends).full
+    rw (p.1, p.2) (ends_as c.make_calls.new.func c.in_err-value.field-0.0 c.in_err-value.ensures.ends).full
 
 pub returns-in_err-value-clause-never_failed : goal.returns-in_err-value-clause-never_failed
 returns-in_err-value-clause-never_failed c =
     let p = err_from_is_err_and c.from_residual-in_err-value.result c.from_residual-in_err-value.ensures.1 in
-    rw (p.1, p.2) (ends_as c.look_up_in.new.func c.look_up_in.new.self c.make_calls.new.func c.make_calls.new.self c.in_err-value.field-0.0 c.in_err-value.ensures.ends).never_failed
+    rw (p.1, p.2) (ends_as c.make_calls.new.func c.in_err-value.field-0.0 c.in_err-value.ensures.ends).never_failed

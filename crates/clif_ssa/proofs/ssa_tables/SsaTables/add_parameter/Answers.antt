@@ -1,9 +1,9 @@
 use Rattle.std.proofs.Common.{◌∙◌, ap, sym}
 use Rattle.std.proofs.lemmas.Result.{err_from_is_err_and}
 use Rattle.clif_ssa.specs.LookUp.{LookUpState}
-use Rattle.clif_ssa.specs.Tables.{is_yes, sealed_at, record_at}
+use Rattle.clif_ssa.specs.Tables.{is_yes, sealed_at}
 use Rattle.clif_ssa.proofs.LocalSteps.{param_tells}
-use Rattle.clif_ssa.proofs.Steps.{ends_as, ends_memory, ends_ok, got_begun, got_waiting, keeps_begun, keeps_not_waiting, keeps_waits, took_kept}
+use Rattle.clif_ssa.proofs.Steps.{ends_as, ends_memory, ends_ok, got_begun, got_waiting, keeps_begun, keeps_not_waiting, keeps_waits}
 use Rattle.clif_ssa.proofs.ssa_tables.SsaTables.add_parameter.Goals as goal
 
 -- NO PARAMETER IS MADE --------------------------------------------------------------------------------------------
@@ -26,7 +26,7 @@ pub returns-in_err-param-clause-ends : goal.returns-in_err-param-clause-ends
 returns-in_err-param-clause-ends c =
     let p = err_from_is_err_and c.from_residual.result c.from_residual.ensures.1 in
     rw (p.1, p.2)
-    (ends_as c.args.func.now c.args.self.now c.new_parameter.new.func c.new_parameter.new.self c.in_err-param.field-0.0 c.in_err-param.ensures.ends)
+    (ends_as c.new_parameter.new.func c.in_err-param.field-0.0 c.in_err-param.ensures.ends)
 
 -- THE BLOCK IS SEALED ---------------------------------------------------------------------------------------------
 
@@ -48,7 +48,7 @@ pub returns-in_err-begin_look_up-clause-ends : goal.returns-in_err-begin_look_up
 returns-in_err-begin_look_up-clause-ends c =
     let p = err_from_is_err_and c.from_residual-in_err-begin_look_up.result c.from_residual-in_err-begin_look_up.ensures.1 in
     rw (p.1, p.2)
-    (ends_memory c.args.func.now c.args.self.now c.new_parameter.new.func c.begin_look_up.new.self c.in_err-begin_look_up.field-0.0 c.in_err-begin_look_up.ensures.only_memory)
+    (ends_memory c.new_parameter.new.func c.in_err-begin_look_up.field-0.0 c.in_err-begin_look_up.ensures.only_memory)
 
 pub returns-then-is_sealed-clause-got : goal.returns-then-is_sealed-clause-got
 returns-then-is_sealed-clause-got c =
@@ -65,7 +65,7 @@ returns-then-is_sealed-clause-tells c =
 
 pub returns-then-is_sealed-clause-ends : goal.returns-then-is_sealed-clause-ends
 returns-then-is_sealed-clause-ends c =
-    ends_ok c.args.func.now c.args.self.now c.new_parameter.new.func c.begin_look_up.new.self _ (took_kept c.args.func.now c.new_parameter.new.func c.args.self.now c.new_parameter.new.self c.begin_look_up.new.self c.in_ok-param.param c.in_ok-param.ensures.ends c.begin_look_up.ensures.records)
+    ends_ok c.new_parameter.new.func _
 
 -- THE BLOCK IS UNSEALED -------------------------------------------------------------------------------------------
 
@@ -87,7 +87,7 @@ pub returns-in_err-push_result-clause-ends : goal.returns-in_err-push_result-cla
 returns-in_err-push_result-clause-ends c =
     let p = err_from_is_err_and c.from_residual-in_err-push_result.result c.from_residual-in_err-push_result.ensures.1 in
     rw (p.1, p.2)
-    (ends_memory c.args.func.now c.args.self.now c.new_parameter.new.func c.new_parameter.new.self c.in_err-push_result.field-0.0 c.in_err-push_result.ensures.only_memory)
+    (ends_memory c.new_parameter.new.func c.in_err-push_result.field-0.0 c.in_err-push_result.ensures.only_memory)
 
 pub returns-in_err-wait-clause-got : goal.returns-in_err-wait-clause-got
 returns-in_err-wait-clause-got c =
@@ -107,7 +107,7 @@ pub returns-in_err-wait-clause-ends : goal.returns-in_err-wait-clause-ends
 returns-in_err-wait-clause-ends c =
     let p = err_from_is_err_and c.from_residual-in_err-wait.result c.from_residual-in_err-wait.ensures.1 in
     rw (p.1, p.2)
-    (ends_memory c.args.func.now c.args.self.now c.new_parameter.new.func c.wait.new.self c.in_err-wait.field-0.0 c.in_err-wait.ensures.only_memory)
+    (ends_memory c.new_parameter.new.func c.in_err-wait.field-0.0 c.in_err-wait.ensures.only_memory)
 
 pub returns-clause-got : goal.returns-clause-got
 returns-clause-got c =
@@ -125,4 +125,4 @@ returns-clause-tells c =
 
 pub returns-clause-ends : goal.returns-clause-ends
 returns-clause-ends c =
-    ends_ok c.args.func.now c.args.self.now c.new_parameter.new.func c.wait.new.self _ (took_kept c.args.func.now c.new_parameter.new.func c.args.self.now c.new_parameter.new.self c.wait.new.self c.in_ok-param.param c.in_ok-param.ensures.ends (λ y b. ap (λ rows. record_at rows y b) c.wait.ensures.records))
+    ends_ok c.new_parameter.new.func _

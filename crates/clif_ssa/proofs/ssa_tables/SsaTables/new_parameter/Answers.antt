@@ -4,8 +4,6 @@ use Rattle.clif_ssa.specs.Ssa.{Records}
 use Rattle.clif_ssa.specs.Tables.{sealed_at, predecessors_at}
 use Rattle.clif_ssa.proofs.CountedOnce.{once_recorded}
 use Rattle.clif_ssa.proofs.Steps.{ends_memory, ends_ok, ends_unmade, keeps_same, keeps_recorded, keeps_unrecorded, known_same}
-use Rattle.clif_ssa.proofs.LocalSteps.{Takes-made, Takes-unmade}
-use Rattle.clif_ssa.proofs.TakingByRecords.{by_records_param}
 use Rattle.clif_ssa.proofs.ssa_tables.SsaTables.new_parameter.Goals as goal
 
 pub returns-in_err-param-clause-keeps : goal.returns-in_err-param-clause-keeps
@@ -15,8 +13,7 @@ pub returns-in_err-param-clause-ends : goal.returns-in_err-param-clause-ends
 returns-in_err-param-clause-ends c =
     let p = err_from_is_err_and c.from_residual.result c.from_residual.ensures.1 in
     rw (p.1, p.2)
-    (ends_unmade c.args.func.now c.append_block_param.new.self c.args.self.now c.in_err-param.field-0.0 c.in_err-param.ensures.err c.in_err-param.ensures.full
-    c.in_err-param.ensures.never_failed)
+    (ends_unmade c.args.func.now c.append_block_param.new.self c.in_err-param.field-0.0 c.in_err-param.ensures.err c.in_err-param.ensures.full c.in_err-param.ensures.never_failed)
 
 pub returns-in_err-record-clause-keeps : goal.returns-in_err-record-clause-keeps
 returns-in_err-record-clause-keeps c =
@@ -28,7 +25,7 @@ pub returns-in_err-record-clause-ends : goal.returns-in_err-record-clause-ends
 returns-in_err-record-clause-ends c =
     let p = err_from_is_err_and c.from_residual-in_err-record.result c.from_residual-in_err-record.ensures.1 in
     rw (p.1, p.2)
-    (ends_memory c.args.func.now c.args.self.now c.append_block_param.new.self c.record.new.self c.in_err-record.field-0.0 c.in_err-record.ensures.only_memory)
+    (ends_memory c.append_block_param.new.self c.in_err-record.field-0.0 c.in_err-record.ensures.only_memory)
 
 pub returns-clause-keeps : goal.returns-clause-keeps
 returns-clause-keeps c =
@@ -42,9 +39,7 @@ returns-clause-keeps c =
 
 pub returns-clause-ends : goal.returns-clause-ends
 returns-clause-ends c =
-    ends_ok c.args.func.now c.args.self.now c.append_block_param.new.self c.record.new.self c.in_ok-param.param
-    (by_records_param c.args.func.now c.append_block_param.new.self c.args.self.now c.record.new.self c.args.variable c.args.block c.in_ok-param.param c.args.ty
-    c.in_ok-param.ensures.ok c.in_ok-record.ensures.ok c.requires.unrecorded)
+    ends_ok c.append_block_param.new.self c.in_ok-param.param
 
 -- THE REST --------------------------------------------------------------------------------------------------------
 
@@ -69,14 +64,3 @@ returns-clause-blocks c = c.record.ensures.blocks
 
 pub returns-clause-lookups : goal.returns-clause-lookups
 returns-clause-lookups c = c.record.ensures.lookups
-
--- HOW MUCH IS TAKEN -----------------------------------------------------------------------------------------------
-
-pub returns-in_err-param-clause-takes : goal.returns-in_err-param-clause-takes
-returns-in_err-param-clause-takes c = λ _. Takes-unmade c.args.func.now c.append_block_param.new.self c.in_err-param.ensures.err
-
-pub returns-in_err-record-clause-takes : goal.returns-in_err-record-clause-takes
-returns-in_err-record-clause-takes c = λ _. Takes-made c.args.func.now c.append_block_param.new.self c.args.block c.args.ty c.in_ok-param.ensures.ok
-
-pub returns-clause-takes : goal.returns-clause-takes
-returns-clause-takes c = λ _. Takes-made c.args.func.now c.append_block_param.new.self c.args.block c.args.ty c.in_ok-param.ensures.ok

@@ -1,6 +1,5 @@
 use Rattle.std.proofs.lemmas.Result.{err_from_is_err_and}
 use Rattle.clif_ssa.proofs.Steps.{ends_memory, ends_ok, keeps_none}
-use Rattle.clif_ssa.proofs.TakingByRecords.{by_records_none}
 use Rattle.clif_ssa.proofs.ssa_tables.SsaTables.record_or_parameter.Goals as goal
 
 pub returns-in_err-push_result-clause-got : goal.returns-in_err-push_result-clause-got
@@ -21,7 +20,7 @@ pub returns-in_err-push_result-clause-ends : goal.returns-in_err-push_result-cla
 returns-in_err-push_result-clause-ends c =
     let p = err_from_is_err_and c.from_residual.result c.from_residual.ensures.1 in
     rw (p.1, p.2)
-    (ends_memory c.args.func.now c.args.self.now c.args.func.now c.args.self.now c.in_err-push_result.field-0.0 c.in_err-push_result.ensures.only_memory)
+    (ends_memory c.args.func.now c.in_err-push_result.field-0.0 c.in_err-push_result.ensures.only_memory)
 
 pub returns-in-Some-clause-keeps : goal.returns-in-Some-clause-keeps
 returns-in-Some-clause-keeps c =
@@ -29,7 +28,7 @@ returns-in-Some-clause-keeps c =
 
 pub returns-in-Some-clause-ends : goal.returns-in-Some-clause-ends
 returns-in-Some-clause-ends c =
-    ends_ok c.args.func.now c.args.self.now c.args.func.now c.args.self.now _ (by_records_none c.args.func.now c.args.self.now)
+    ends_ok c.args.func.now _
 
 pub returns-clause-got : goal.returns-clause-got
 returns-clause-got c =

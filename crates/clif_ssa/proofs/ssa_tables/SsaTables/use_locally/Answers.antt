@@ -1,10 +1,8 @@
 use Rattle.std.proofs.Common.{◌∙◌, ap, sym, inl, inr, length}
 use Rattle.std.proofs.lemmas.Result.{err_from_is_err_and}
 use Rattle.clif_ssa.specs.Tables.{is_yes, sealed_at, record_at, lookups_at}
-use Rattle.clif_ssa.proofs.Local.{param-takes-then}
-use Rattle.clif_ssa.proofs.LocalSteps.{counted_from, error_from, use_refused, use_waits, use_zeroes, waiting_from, Takes-made}
-use Rattle.clif_ssa.proofs.Steps.{ends_as, ends_grown, ends_memory, ends_ok, ends_then, keeps_begun, keeps_grown, keeps_not_waiting, keeps_then, keeps_waits, took_kept}
-use Rattle.clif_ssa.proofs.TakingByRecords.{by_records_kept, by_records_then}
+use Rattle.clif_ssa.proofs.LocalSteps.{counted_from, use_refused, use_waits, use_zeroes, waiting_from}
+use Rattle.clif_ssa.proofs.Steps.{ends_as, ends_grown, ends_memory, ends_ok, keeps_begun, keeps_grown, keeps_not_waiting, keeps_then, keeps_waits}
 use Rattle.clif_ssa.proofs.ssa_tables.SsaTables.use_locally.Goals as goal
 
 -- NO PARAMETER IS MADE --------------------------------------------------------------------------------------------
@@ -13,7 +11,7 @@ pub returns-in_err-param-clause-used : goal.returns-in_err-param-clause-used
 returns-in_err-param-clause-used c =
     let p = err_from_is_err_and c.from_residual.result c.from_residual.ensures.1 in
     rw (p.1, p.2)
-    (use_refused c.args.variable c.args.ty c.args.block c.args.func.now c.args.self.now c.new_parameter.new.func c.new_parameter.new.self c.in_err-param.field-0.0 (λ b. ap (λ known. sealed_at known b) c.new_parameter.ensures.blocks) (error_from c.in_err-param.field-0.0 _ c.in_err-param.ensures.takes))
+    (use_refused c.args.variable c.args.ty c.args.block c.args.func.now c.args.self.now c.new_parameter.new.func c.new_parameter.new.self c.in_err-param.field-0.0 (λ b. ap (λ known. sealed_at known b) c.new_parameter.ensures.blocks))
 
 pub returns-in_err-param-clause-keeps : goal.returns-in_err-param-clause-keeps
 returns-in_err-param-clause-keeps c =
@@ -23,7 +21,7 @@ pub returns-in_err-param-clause-ends : goal.returns-in_err-param-clause-ends
 returns-in_err-param-clause-ends c =
     let p = err_from_is_err_and c.from_residual.result c.from_residual.ensures.1 in
     rw (p.1, p.2)
-    (ends_as c.args.func.now c.args.self.now c.new_parameter.new.func c.new_parameter.new.self c.in_err-param.field-0.0 c.in_err-param.ensures.ends)
+    (ends_as c.new_parameter.new.func c.in_err-param.field-0.0 c.in_err-param.ensures.ends)
 
 -- THE BLOCK IS SEALED ---------------------------------------------------------------------------------------------
 
@@ -31,7 +29,7 @@ pub returns-in_err-count_lookup-clause-used : goal.returns-in_err-count_lookup-c
 returns-in_err-count_lookup-clause-used c =
     let p = err_from_is_err_and c.from_residual-in_err-count_lookup.result c.from_residual-in_err-count_lookup.ensures.1 in
     rw (p.1, p.2)
-    (use_refused c.args.variable c.args.ty c.args.block c.args.func.now c.args.self.now c.new_parameter.new.func c.count_lookup.new.self c.in_err-count_lookup.field-0.0 (λ b. ap (λ known. sealed_at known b) (c.count_lookup.ensures.blocks ∙ c.new_parameter.ensures.blocks)) (λ _. Takes-made c.args.func.now c.new_parameter.new.func c.args.block c.args.ty c.in_ok-param.ensures.function))
+    (use_refused c.args.variable c.args.ty c.args.block c.args.func.now c.args.self.now c.new_parameter.new.func c.count_lookup.new.self c.in_err-count_lookup.field-0.0 (λ b. ap (λ known. sealed_at known b) (c.count_lookup.ensures.blocks ∙ c.new_parameter.ensures.blocks)))
 
 pub returns-in_err-count_lookup-clause-keeps : goal.returns-in_err-count_lookup-clause-keeps
 returns-in_err-count_lookup-clause-keeps c =
@@ -41,14 +39,13 @@ pub returns-in_err-count_lookup-clause-ends : goal.returns-in_err-count_lookup-c
 returns-in_err-count_lookup-clause-ends c =
     let p = err_from_is_err_and c.from_residual-in_err-count_lookup.result c.from_residual-in_err-count_lookup.ensures.1 in
     rw (p.1, p.2)
-    (ends_memory c.args.func.now c.args.self.now c.new_parameter.new.func c.count_lookup.new.self c.in_err-count_lookup.field-0.0 c.in_err-count_lookup.ensures.only_memory)
+    (ends_memory c.new_parameter.new.func c.in_err-count_lookup.field-0.0 c.in_err-count_lookup.ensures.only_memory)
 
 pub returns-in_err-zero-clause-used : goal.returns-in_err-zero-clause-used
 returns-in_err-zero-clause-used c =
     let p = err_from_is_err_and c.from_residual-in_err-zero.result c.from_residual-in_err-zero.ensures.1 in
     rw (p.1, p.2)
-    (use_refused c.args.variable c.args.ty c.args.block c.args.func.now c.args.self.now c.replace_by_zero.new.func c.count_lookup.new.self c.in_err-zero.field-0.0 (λ b. ap (λ known. sealed_at known b) (c.count_lookup.ensures.blocks ∙ c.new_parameter.ensures.blocks))
-    (λ other. param-takes-then c.args.func.now c.new_parameter.new.func c.replace_by_zero.new.func c.args.block c.args.ty c.in_ok-param.ensures.function (error_from c.in_err-zero.field-0.0 _ c.in_err-zero.ensures.takes other)))
+    (use_refused c.args.variable c.args.ty c.args.block c.args.func.now c.args.self.now c.replace_by_zero.new.func c.count_lookup.new.self c.in_err-zero.field-0.0 (λ b. ap (λ known. sealed_at known b) (c.count_lookup.ensures.blocks ∙ c.new_parameter.ensures.blocks)))
 
 pub returns-in_err-zero-clause-keeps : goal.returns-in_err-zero-clause-keeps
 returns-in_err-zero-clause-keeps c =
@@ -59,15 +56,14 @@ pub returns-in_err-zero-clause-ends : goal.returns-in_err-zero-clause-ends
 returns-in_err-zero-clause-ends c =
     let p = err_from_is_err_and c.from_residual-in_err-zero.result c.from_residual-in_err-zero.ensures.1 in
     rw (p.1, p.2)
-    (ends_then c.args.func.now c.args.self.now c.new_parameter.new.func c.count_lookup.new.self c.replace_by_zero.new.func c.count_lookup.new.self _ (took_kept c.args.func.now c.new_parameter.new.func c.args.self.now c.new_parameter.new.self c.count_lookup.new.self c.in_ok-param.param c.in_ok-param.ensures.ends c.count_lookup.ensures.records)
-    (ends_grown c.new_parameter.new.func c.replace_by_zero.new.func c.count_lookup.new.self c.in_err-zero.field-0.0 c.in_err-zero.ensures.full c.in_err-zero.ensures.takes c.in_err-zero.ensures.never_failed))
+    ((ends_grown c.replace_by_zero.new.func c.in_err-zero.field-0.0 c.in_err-zero.ensures.full c.in_err-zero.ensures.never_failed))
 
 pub returns-then-is_sealed-clause-used : goal.returns-then-is_sealed-clause-used
 returns-then-is_sealed-clause-used c =
     use_zeroes c.args.variable c.args.ty c.args.block c.args.func.now c.args.self.now c.new_parameter.new.func c.replace_by_zero.new.func c.count_lookup.new.self c.in_ok-param.param c.in_ok-zero.zero c.new-side_effects.result c.replace_by_zero.new.side_effects
     (ap (λ known. is_yes (sealed_at known c.args.block)) (sym c.new_parameter.ensures.blocks) ∙ sym c.if-is_sealed.ensures) c.in_ok-param.ensures.number c.in_ok-param.ensures.function (λ y b. c.count_lookup.ensures.records y b ∙ c.in_ok-param.ensures.records y b) (λ b. ap (λ known. sealed_at known b) (c.count_lookup.ensures.blocks ∙ c.new_parameter.ensures.blocks))
     (counted_from c.args.self.now c.new_parameter.new.self c.count_lookup.new.self c.args.variable c.args.block c.new_parameter.ensures.lookups c.in_ok-count_lookup.ensures.ok) c.in_ok-zero.ensures.zero c.in_ok-zero.ensures.answer c.new-side_effects.ensures c.in_ok-zero.ensures.told
-    c.replace_by_zero.ensures.constructs c.in_ok-zero.ensures.tells (c.in_ok-zero.ensures.takes (λ memory. cc))
+    c.replace_by_zero.ensures.constructs c.in_ok-zero.ensures.tells
 
 pub returns-then-is_sealed-clause-keeps : goal.returns-then-is_sealed-clause-keeps
 returns-then-is_sealed-clause-keeps c =
@@ -76,8 +72,7 @@ returns-then-is_sealed-clause-keeps c =
 
 pub returns-then-is_sealed-clause-ends : goal.returns-then-is_sealed-clause-ends
 returns-then-is_sealed-clause-ends c =
-    ends_ok c.args.func.now c.args.self.now c.replace_by_zero.new.func c.count_lookup.new.self _
-    (by_records_then c.args.func.now c.args.self.now c.new_parameter.new.func c.count_lookup.new.self c.replace_by_zero.new.func c.count_lookup.new.self (took_kept c.args.func.now c.new_parameter.new.func c.args.self.now c.new_parameter.new.self c.count_lookup.new.self c.in_ok-param.param c.in_ok-param.ensures.ends c.count_lookup.ensures.records) (by_records_kept c.new_parameter.new.func c.count_lookup.new.self c.replace_by_zero.new.func c.count_lookup.new.self (c.in_ok-zero.ensures.takes (λ memory. cc)) (λ y b none. none)))
+    ends_ok c.replace_by_zero.new.func _
 
 -- THE BLOCK IS UNSEALED -------------------------------------------------------------------------------------------
 
@@ -85,7 +80,7 @@ pub returns-in_err-wait-clause-used : goal.returns-in_err-wait-clause-used
 returns-in_err-wait-clause-used c =
     let p = err_from_is_err_and c.from_residual-in_err-wait.result c.from_residual-in_err-wait.ensures.1 in
     rw (p.1, p.2)
-    (use_refused c.args.variable c.args.ty c.args.block c.args.func.now c.args.self.now c.new_parameter.new.func c.wait.new.self c.in_err-wait.field-0.0 (λ b. c.in_err-wait.ensures.err b ∙ ap (λ known. sealed_at known b) c.new_parameter.ensures.blocks) (λ _. Takes-made c.args.func.now c.new_parameter.new.func c.args.block c.args.ty c.in_ok-param.ensures.function))
+    (use_refused c.args.variable c.args.ty c.args.block c.args.func.now c.args.self.now c.new_parameter.new.func c.wait.new.self c.in_err-wait.field-0.0 (λ b. c.in_err-wait.ensures.err b ∙ ap (λ known. sealed_at known b) c.new_parameter.ensures.blocks))
 
 pub returns-in_err-wait-clause-keeps : goal.returns-in_err-wait-clause-keeps
 returns-in_err-wait-clause-keeps c =
@@ -95,7 +90,7 @@ pub returns-in_err-wait-clause-ends : goal.returns-in_err-wait-clause-ends
 returns-in_err-wait-clause-ends c =
     let p = err_from_is_err_and c.from_residual-in_err-wait.result c.from_residual-in_err-wait.ensures.1 in
     rw (p.1, p.2)
-    (ends_memory c.args.func.now c.args.self.now c.new_parameter.new.func c.wait.new.self c.in_err-wait.field-0.0 c.in_err-wait.ensures.only_memory)
+    (ends_memory c.new_parameter.new.func c.in_err-wait.field-0.0 c.in_err-wait.ensures.only_memory)
 
 pub returns-clause-used : goal.returns-clause-used
 returns-clause-used c =
@@ -110,4 +105,4 @@ returns-clause-keeps c =
 
 pub returns-clause-ends : goal.returns-clause-ends
 returns-clause-ends c =
-    ends_ok c.args.func.now c.args.self.now c.new_parameter.new.func c.wait.new.self _ (took_kept c.args.func.now c.new_parameter.new.func c.args.self.now c.new_parameter.new.self c.wait.new.self c.in_ok-param.param c.in_ok-param.ensures.ends (λ y b. ap (λ rows. record_at rows y b) c.wait.ensures.records))
+    ends_ok c.new_parameter.new.func _
