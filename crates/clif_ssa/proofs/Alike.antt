@@ -1,24 +1,24 @@
 -- Values that stand for one value go on doing so, and which parameters are left.
-use Rattle.std.proofs.Common.{◌≡◌, ◌≢◌, ℕ, ◌<◌, ◌==◌, true, false, Bool, List, [], ◌∷◌, length, refl, ap, arith, sym, ◌∙◌, subst, inl, inr}
-use Rattle.std.specs.Prelude.{Option, Some, None, Contains, cond, pos}
+use Rattle.clif_ssa.specs.declared.zeros.Ending.{Ending}
+use Rattle.std.proofs.lemmas.Grind.{common_steps}
+use Rattle.std.proofs.Common.{◌≡◌, ◌≢◌, ℕ, ◌<◌, ◌==◌, true, false, Bool, List, [], ◌∷◌, length, refl, ap, arith, sym, ◌∙◌, subst, inl, inr, ◌+◌}
+use Rattle.std.specs.Prelude.{Option, Some, None, Contains, cond, MatchOption, Result, Ok, Err, OnOk, IfOk}
 use Rattle.std.proofs.lemmas.Bool.{cases_eq}
 use Rattle.clif_types.specs.declared.types.«Type».{«Type»}
 use Rattle.clif_ir.specs.Body.{Body, value_at, resolved, alias_of_origin}
 use Rattle.clif_ir.specs.Changes.{with_alias, with_layout, inserted_in}
 use Rattle.clif_ir.specs.Reading.{param_home, stands_in}
-use Rattle.clif_ir.specs.declared.inst_list.BlockEnd.TheVariants.{Front}
-use Rattle.clif_ir.specs.declared.instructions.InstructionData.TheVariants.{UnaryImm}
 use Rattle.clif_paths.specs.Steps.{aliased}
 use Rattle.clif_ssa.specs.declared.tables.Pending.{Pending}
-use Rattle.clif_ssa.specs.Ssa.{zeroed, zeroed_in, completed, no_srcloc}
+use Rattle.clif_ssa.specs.Ssa.{zeroed, zeroed_in, completed, zero_value}
 use Rattle.clif_ssa.specs.Structure.{StayAlike}
 use Rattle.clif_ir.proofs.Aliases.{follow_end}
 use Rattle.clif_ssa.proofs.Bodies.{Firm, param_exists, param_origin}
-use Rattle.clif_ssa.proofs.Parameters.{new_unaliased}
-use Rattle.clif_ssa.proofs.Instructions.{inst_firm, inst_resolved, inst_param_home}
 use Rattle.clif_ssa.proofs.Ordering.{contains_cons, contains_more, contains_first}
-use Rattle.clif_ssa.proofs.Zeroing.{put_zero, zero_count, CanAlias, alias_resolved, alias_ends, alias_firm, alias_home_other, alias_home_same}
+use Rattle.clif_ssa.proofs.Zeroing.{CanAlias, alias_resolved, alias_ends, alias_firm, alias_home_other, alias_home_same}
 use Rattle.clif_ssa.proofs.Completing.{inserted_same, inserted_firm, inserted_param_home}
+use Rattle.clif_ssa.proofs.ZeroSteps.{steps_resolved, steps_param_home, steps_firm, put_zero, zero_count, past_unaliased}
+use Rattle.clif_ssa.specs.Zeros.{zero_steps, steps_before}
 
 -- a parameter is no alias
 pub unaliased_home : (f : Body) (v b : ℕ) → param_home f v ≡ Some b → resolved f v ≡ v
@@ -36,13 +36,13 @@ unfolding aliased
 aliased_alike resolve v target u w same = ap (λ x. cond (x == v) target x) same
 
 -- a parameter that may become a name of a new zero
-pub can_zero : (f : Body) (b v : ℕ) (ty : «Type») → Firm f → param_home f v ≡ Some b → CanAlias (put_zero f b ty) v (length f.values) b
+pub can_zero : (f : Body) (b v : ℕ) (ty : «Type») → Firm f → param_home f v ≡ Some b → CanAlias (put_zero f b ty) v (zero_value f ty) b
 can_zero f b v ty firm is =
     let inside : v < length f.values = param_exists f v b is in
     record {
-      firm = inst_firm f b Front (UnaryImm (pos 0)) (ty ∷ []) no_srcloc firm;
-      parameter = inst_param_home f b Front (UnaryImm (pos 0)) (ty ∷ []) no_srcloc v ∙ is;
-      own_end = inst_resolved f b Front (UnaryImm (pos 0)) (ty ∷ []) no_srcloc firm (length f.values) ∙ new_unaliased f firm;
+      firm = steps_firm f b (zero_steps ty) firm;
+      parameter = steps_param_home f b (zero_steps ty) v ∙ is;
+      own_end = steps_resolved f b (zero_steps ty) firm (zero_value f ty) ∙ past_unaliased f (zero_value f ty) (omega arith);
       exists = omega (arith, zero_count f b ty);
       apart = λ same. absurd (omega (arith, inside, same));
     }
@@ -61,12 +61,12 @@ inserted_resolved f b v = by (stands_in b f.layout)
     by true = refl
     by false = refl
 
-put_leaves : (f : Body) (b v : ℕ) (ty : «Type») → Firm f → param_home f v ≡ Some b → Leaves f (with_alias (put_zero f b ty) v (length f.values)) v
+put_leaves : (f : Body) (b v : ℕ) (ty : «Type») → Firm f → param_home f v ≡ Some b → Leaves f (with_alias (put_zero f b ty) v (zero_value f ty)) v
 put_leaves f b v ty firm is =
     let g : Body = put_zero f b ty in
-    let z : ℕ = length f.values in
+    let z : ℕ = zero_value f ty in
     let can : CanAlias g v z b = can_zero f b v ty firm is in
-    let same_end : (u : ℕ) → resolved g u ≡ resolved f u = inst_resolved f b Front (UnaryImm (pos 0)) (ty ∷ []) no_srcloc firm in
+    let same_end : (u : ℕ) → resolved g u ≡ resolved f u = steps_resolved f b (zero_steps ty) firm in
     record {
       firm = alias_firm g v z b can;
       alike = λ u w same.
@@ -74,7 +74,7 @@ put_leaves f b v ty firm is =
           ∙ aliased_alike (λ x. resolved g x) v (resolved g z) u w (same_end u ∙ same ∙ sym (same_end w))
           ∙ sym (alias_resolved g v z b can w);
       gone = alias_home_same g v z b can;
-      others = λ u other. alias_home_other g v z u other ∙ inst_param_home f b Front (UnaryImm (pos 0)) (ty ∷ []) no_srcloc u;
+      others = λ u other. alias_home_other g v z u other ∙ steps_param_home f b (zero_steps ty) u;
     }
 
 pub zeroed_leaves : (f : Body) (b v : ℕ) → Firm f → param_home f v ≡ Some b → Leaves f (zeroed f b v) v
@@ -82,8 +82,8 @@ zeroed_leaves f b v firm is =
     let h : Body = inserted_in f b in
     let ty : «Type» = (value_at f v).ty in
     let count : length h.values ≡ length f.values = ap length (inserted_same f b).values in
-    let done : Leaves h (with_alias (put_zero h b ty) v (length f.values)) v =
-    subst (λ z. Leaves h (with_alias (put_zero h b ty) v z) v) count (put_leaves h b v ty (inserted_firm f b firm) (inserted_param_home f b v ∙ is)) in
+    let done : Leaves h (with_alias (put_zero h b ty) v (zero_value f ty)) v =
+    subst (λ n. Leaves h (with_alias (put_zero h b ty) v (n + steps_before ty)) v) count (put_leaves h b v ty (inserted_firm f b firm) (inserted_param_home f b v ∙ is)) in
     record {
       firm = done.firm;
       alike = λ u w same. done.alike u w (inserted_resolved f b u ∙ same ∙ sym (inserted_resolved f b w));
@@ -151,10 +151,10 @@ pub record EndsIn (g : Body) (v z : ℕ) : Type 0 where
   pub first : resolved g v ≡ z
   pub second : resolved g z ≡ z
 
-put_ends : (f : Body) (b v : ℕ) (ty : «Type») → Firm f → param_home f v ≡ Some b → EndsIn (with_alias (put_zero f b ty) v (length f.values)) v (length f.values)
+put_ends : (f : Body) (b v : ℕ) (ty : «Type») → Firm f → param_home f v ≡ Some b → EndsIn (with_alias (put_zero f b ty) v (zero_value f ty)) v (zero_value f ty)
 put_ends f b v ty firm is =
     let g : Body = put_zero f b ty in
-    let z : ℕ = length f.values in
+    let z : ℕ = zero_value f ty in
     let can : CanAlias g v z b = can_zero f b v ty firm is in
     let own : resolved g v ≡ v = unaliased_home g v b can.parameter in
     record {
@@ -162,9 +162,32 @@ put_ends f b v ty firm is =
       second = elim (alias_ends g v z b can z) [ inl moved ↦ absurd (can.apart (sym can.own_end ∙ moved.0)) | inr stayed ↦ stayed.1 ∙ can.own_end ];
     }
 
-pub zeroed_ends : (f : Body) (b v : ℕ) → Firm f → param_home f v ≡ Some b → EndsIn (zeroed f b v) v (length f.values)
+pub zeroed_ends : (f : Body) (b v : ℕ) → Firm f → param_home f v ≡ Some b → EndsIn (zeroed f b v) v (zero_value f (value_at f v).ty)
 zeroed_ends f b v firm is =
     let h : Body = inserted_in f b in
     let ty : «Type» = (value_at f v).ty in
     let count : length h.values ≡ length f.values = ap length (inserted_same f b).values in
-    subst (λ z. EndsIn (with_alias (put_zero h b ty) v z) v z) count (put_ends h b v ty (inserted_firm f b firm) (inserted_param_home f b v ∙ is))
+    subst (λ n. EndsIn (with_alias (put_zero h b ty) v (n + steps_before ty)) v (n + steps_before ty)) count (put_ends h b v ty (inserted_firm f b firm) (inserted_param_home f b v ∙ is))
+
+pub zeroed_count : (f : Body) (b v : ℕ) → length (zeroed f b v).values ≡ zero_value f (value_at f v).ty + 1
+zeroed_count f b v =
+    let ty : «Type» = (value_at f v).ty in
+    let put : Body = put_zero (inserted_in f b) b ty in
+    let same : length (zeroed f b v).values ≡ length put.values = grind (arith, common_steps) in
+    same ∙ zero_count (inserted_in f b) b ty ∙ ap (λ n. n + steps_before ty + 1) (ap length (inserted_same f b).values)
+
+-- what answers for a parameter to which nothing comes exists
+pub zero_answer_exists : (f g : Body) (v b answer : ℕ) → param_home f v ≡ Some b → g ≡ zeroed_in (param_home f v) f v
+    → MatchOption (param_home f v) (answer ≡ v) (λ _. answer ≡ zero_value f (value_at f v).ty) → answer < length g.values
+zero_answer_exists f g v b answer is made case =
+    let at : answer ≡ zero_value f (value_at f v).ty =
+    subst (λ o. MatchOption o (answer ≡ v) (λ _. answer ≡ zero_value f (value_at f v).ty)) is case in
+    let here : g ≡ zeroed f b v = made ∙ ap (λ o. zeroed_in o f v) is in
+    let count : length g.values ≡ zero_value f (value_at f v).ty + 1 = ap (λ (h : Body). length h.values) here ∙ zeroed_count f b v in
+    omega (arith, at, count)
+
+pub zero_ending_exists : (f g : Body) (v b : ℕ) {E : Type 0} (result : Result Ending E) → param_home f v ≡ Some b → OnOk result (g ≡ zeroed_in (param_home f v) f v)
+    → MatchOption (param_home f v) (IfOk result (λ e. e.value ≡ v)) (λ _. IfOk result (λ e. e.value ≡ zero_value f (value_at f v).ty))
+    → IfOk result (λ e. e.value < length g.values)
+zero_ending_exists f g v b (Ok e) is made case = zero_answer_exists f g v b e.value is made case
+zero_ending_exists f g v b (Err error) is made case = tt

@@ -5,7 +5,7 @@ use Rattle.std.proofs.lemmas.Grind.{common_steps}
 use Rattle.clif_types.specs.declared.error.BuildError.{BuildError}
 use Rattle.clif_types.specs.declared.types.«Type».{«Type»}
 use Rattle.clif_ir.specs.Body.{Body, block_at, value_at, resolved}
-use Rattle.clif_ir.specs.Changes.{with_param, with_alias, with_branch_argument, inserted_in}
+use Rattle.clif_ir.specs.Changes.{with_param, with_alias, with_branch_argument}
 use Rattle.clif_ir.specs.Consistent.{IsConsistent}
 use Rattle.clif_ir.specs.Reading.{param_home, stands_in}
 use Rattle.clif_paths.specs.LookUp.{InList}
@@ -14,7 +14,7 @@ use Rattle.clif_ssa.specs.declared.look_up.Call.TheVariants.{UseVar, FinishPrede
 use Rattle.clif_ssa.specs.declared.side_effects.SideEffects.{SideEffects}
 use Rattle.clif_ssa.specs.declared.tables.Pending.{Pending}
 use Rattle.clif_ssa.specs.Tables.{is_yes, pending_of}
-use Rattle.clif_ssa.specs.Ssa.{SsaState, Named, NamesExist, record_of, sealed_of, predecessors_of, zeroed, RecordsStay, Waits, Zeroes}
+use Rattle.clif_ssa.specs.Ssa.{SsaState, Named, NamesExist, record_of, sealed_of, predecessors_of, zeroed, RecordsStay, Waits, Zeroes, zero_value}
 use Rattle.clif_ssa.specs.LookUp.{Stage, LookUpState, LooksUp, FinishesLookUp, MakesCall, MakesCalls, none_made, made, CompletesParameter, Copies, before_first, no_look_up, calls_for, with_calls, with_arguments}
 use Rattle.clif_ssa.specs.Running.{stage, CompletesAll, MakesAll}
 use Rattle.clif_ssa.specs.Sealing.{SealsLocally, SealsByLookUp}
@@ -23,13 +23,13 @@ use Rattle.clif_ssa.proofs.Bodies.{Firm, firm_from, resolved_twice}
 use Rattle.clif_ssa.proofs.Ordering.{contains_cons, contains_first, contains_more, none_contained}
 use Rattle.clif_ssa.proofs.Describing.{is_recorded}
 use Rattle.clif_ssa.proofs.Parameters.{param_firm, param_resolved, param_count}
-use Rattle.clif_ssa.proofs.Zeroing.{put_zero, zero_count, CanAlias, alias_resolved, alias_firm}
-use Rattle.clif_ssa.proofs.Completing.{inserted_same}
-use Rattle.clif_ssa.proofs.Alike.{alike_same, alike_then, aliased_alike, Leaves, zeroed_leaves}
+use Rattle.clif_ssa.proofs.Zeroing.{CanAlias, alias_resolved, alias_firm}
+use Rattle.clif_ssa.proofs.Alike.{zeroed_count, alike_same, alike_then, aliased_alike, Leaves, zeroed_leaves}
 use Rattle.clif_ssa.proofs.Losing.{waits_used, zeroes_used, seal_alike, loses_waiting}
 use Rattle.clif_ssa.proofs.Straying.{waits_stray, zeroes_stray, seal_stray}
 use Rattle.clif_ssa.proofs.Public.{something_leads}
 use Rattle.clif_ssa.proofs.Framing.{resolved_inside, of_reversed}
+use Rattle.clif_ssa.specs.Zeros.{steps_before}
 
 -- calls end look-ups of parameters that are below `n`
 pub CallsKnown : ℕ → List Call → Type 0
@@ -83,13 +83,6 @@ grown_same f g firm same = subst (Grown f) (sym same) (record { firm = firm; ali
 grown_param : (f g : Body) (b : ℕ) (ty : «Type») → Firm f → b < length f.blocks → g ≡ with_param f b ty → Grown f g
 grown_param f g b ty firm there same =
     subst (Grown f) (sym same) (record { firm = param_firm f b ty firm there; alike = alike_same f (with_param f b ty) (param_resolved f b ty firm); more = omega (arith, param_count f b ty) })
-
-zeroed_count : (f : Body) (b v : ℕ) → length (zeroed f b v).values ≡ length f.values + 1
-zeroed_count f b v =
-    let ty : «Type» = (value_at f v).ty in
-    let put : Body = put_zero (inserted_in f b) b ty in
-    let same : length (zeroed f b v).values ≡ length put.values = grind (arith, common_steps) in
-    same ∙ zero_count (inserted_in f b) b ty ∙ ap (λ n. n + 1) (ap length (inserted_same f b).values)
 
 grown_zero : (f g : Body) (b v : ℕ) → Firm f → param_home f v ≡ Some b → g ≡ zeroed f b v → Grown f g
 grown_zero f g b v firm is same =
@@ -228,7 +221,7 @@ finishes_stay param block m n finishes exists sane =
           elim ends.2 [
             | inl zero ↦
                 let grown : Grown f n.function = grown_zero f n.function ends.0 param sane.firm ends.1 zero.function in
-                let count : length n.function.values ≡ length f.values + 1 = ap (λ (g : Body). length g.values) zero.function ∙ zeroed_count f ends.0 param in
+                let count : length n.function.values ≡ zero_value f (value_at f param).ty + 1 = ap (λ (g : Body). length g.values) zero.function ∙ zeroed_count f ends.0 param in
                 record { grown = grown; there = omega (arith, count, zero.answer) }
             | inr more ↦
                 elim more [
@@ -357,7 +350,7 @@ use_alike x ty b f h g s r t first begun last value nothing known named looks al
 pub local_remembers : (f g : Body) (s t : SsaState) (x : ℕ) (ty : «Type») (b y c : ℕ) {E : Type 0} (result : Result (ℕ × SideEffects) E)
     → IsConsistent f → b < length f.blocks → record_of s x b ≡ None
     → (is_yes (sealed_of s b) ≡ false → OnOk result (Waits s t f g x ty b) × IfOk result (λ r. (r.0 ≡ length f.values) × (r.1.instructions_added_to_blocks.items ≡ [])))
-    → (is_yes (sealed_of s b) ≡ true → OnOk result (Zeroes s t f g x ty b) × IfOk result (λ r. (r.0 ≡ length f.values + 1) × (r.1.instructions_added_to_blocks.items ≡ b ∷ [])))
+    → (is_yes (sealed_of s b) ≡ true → OnOk result (Zeroes s t f g x ty b) × IfOk result (λ r. (r.0 ≡ length f.values + 1 + steps_before ty) × (r.1.instructions_added_to_blocks.items ≡ b ∷ [])))
     → OnOk result (Remembers y c f s g t)
 local_remembers f g s t x ty b y c (Err error) known there none waits zeroes = tt
 local_remembers f g s t x ty b y c (Ok r) known there none waits zeroes = by (is_yes (sealed_of s b)) refl
@@ -414,7 +407,7 @@ pub record LocalUse (own : ℕ → List ℕ) (f : Body) (s : SsaState) (g : Body
 pub local_leaves : (own : ℕ → List ℕ) (f g : Body) (s t : SsaState) (x : ℕ) (ty : «Type») (b : ℕ) {E : Type 0} (result : Result (ℕ × SideEffects) E)
     → IsConsistent f → b < length f.blocks → record_of s x b ≡ None
     → (is_yes (sealed_of s b) ≡ false → OnOk result (Waits s t f g x ty b) × IfOk result (λ r. (r.0 ≡ length f.values) × (r.1.instructions_added_to_blocks.items ≡ [])))
-    → (is_yes (sealed_of s b) ≡ true → OnOk result (Zeroes s t f g x ty b) × IfOk result (λ r. (r.0 ≡ length f.values + 1) × (r.1.instructions_added_to_blocks.items ≡ b ∷ [])))
+    → (is_yes (sealed_of s b) ≡ true → OnOk result (Zeroes s t f g x ty b) × IfOk result (λ r. (r.0 ≡ length f.values + 1 + steps_before ty) × (r.1.instructions_added_to_blocks.items ≡ b ∷ [])))
     → OnOk result (LocalUse own f s g t b)
 local_leaves own f g s t x ty b (Err error) known there none waits zeroes = tt
 local_leaves own f g s t x ty b (Ok r) known there none waits zeroes = by (is_yes (sealed_of s b)) refl

@@ -4,13 +4,13 @@ use Rattle.std.specs.Prelude.{Some, if◌then◌else◌}
 use Rattle.std.proofs.lemmas.Grind.{common_steps}
 use Rattle.std.proofs.lemmas.Bool.{cases_eq}
 use Rattle.clif_types.specs.declared.types.«Type».{«Type»}
-use Rattle.clif_ir.specs.Body.{Body, resolved}
+use Rattle.clif_ir.specs.Body.{Body, resolved, value_at}
 use Rattle.clif_ir.specs.Changes.{with_alias}
 use Rattle.clif_ir.specs.Consistent.{IsConsistent}
 use Rattle.clif_ir.specs.Reading.{param_home, stands_in}
 use Rattle.clif_ssa.specs.declared.look_up.Call.{Call}
 use Rattle.clif_ssa.specs.declared.look_up.Call.TheVariants.{UseVar, FinishPredecessorsLookup}
-use Rattle.clif_ssa.specs.Ssa.{SsaState, NamesExist, record_of, predecessors_of, zeroed, RecordsStay}
+use Rattle.clif_ssa.specs.Ssa.{SsaState, NamesExist, record_of, predecessors_of, zeroed, RecordsStay, zero_value}
 use Rattle.clif_ssa.specs.LookUp.{Stage, LookUpState, IsWalk, Copies, before_first, LooksUp, FinishesLookUp, MakesCall, MakesCalls, none_made, made, no_look_up, calls_for, with_calls}
 use Rattle.clif_ssa.specs.Running.{stage, found, MakesAll}
 use Rattle.clif_ssa.specs.Structure.{HasRecordOf}
@@ -111,9 +111,9 @@ alias_stands f g v w b can same =
           ]
     ])
 
-zero_stands : (f g : Body) (v w b : ℕ) → Firm f → param_home f v ≡ Some b → g ≡ zeroed f b v → w ≡ length f.values → resolved g w ≡ resolved g v
+zero_stands : (f g : Body) (v w b : ℕ) → Firm f → param_home f v ≡ Some b → g ≡ zeroed f b v → w ≡ zero_value f (value_at f v).ty → resolved g w ≡ resolved g v
 zero_stands f g v w b firm is same answer =
-    let ends : EndsIn (zeroed f b v) v (length f.values) = zeroed_ends f b v firm is in
+    let ends : EndsIn (zeroed f b v) v (zero_value f (value_at f v).ty) = zeroed_ends f b v firm is in
     subst (λ h. resolved h w ≡ resolved h v) (sym same) (ap (resolved (zeroed f b v)) answer ∙ ends.second ∙ sym ends.first)
 
 finish_stands : (param block : ℕ) (m n : Stage) (finishes : FinishesLookUp param block m n) → Sane m → resolved n.function finishes.value ≡ resolved n.function param

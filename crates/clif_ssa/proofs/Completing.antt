@@ -1,14 +1,12 @@
 -- Parameters are completed, and blocks are sealed.
-use Rattle.std.proofs.Common.{◌≡◌, ◌≢◌, ℕ, ◌<◌, ◌≤◌, ◌&&◌, Bool, true, false, List, [], ◌∷◌, length, refl, ap, arith, sym, ◌∙◌, subst, ◌⊎◌, inl, inr}
-use Rattle.std.specs.Prelude.{Option, Some, None, Contains, cond, pos}
+use Rattle.std.proofs.Common.{◌≡◌, ◌≢◌, ℕ, ◌<◌, ◌≤◌, ◌&&◌, Bool, true, false, List, [], ◌∷◌, length, refl, ap, arith, sym, ◌∙◌, subst, ◌⊎◌, inl, inr, ◌+◌}
+use Rattle.std.specs.Prelude.{Option, Some, None, Contains, cond}
 use Rattle.std.proofs.lemmas.Bool.{cases_eq}
 use Rattle.clif_types.specs.declared.types.«Type».{«Type»}
 use Rattle.clif_ir.specs.Body.{Body, block_at, value_at, resolved}
 use Rattle.clif_ir.specs.Changes.{with_alias, with_layout, inserted_in}
 use Rattle.clif_ir.specs.Reading.{param_home, stands_in}
 use Rattle.clif_ir.specs.declared.function.ValueOrigin.TheVariants.{Alias}
-use Rattle.clif_ir.specs.declared.inst_list.BlockEnd.TheVariants.{Front}
-use Rattle.clif_ir.specs.declared.instructions.InstructionData.TheVariants.{UnaryImm}
 use Rattle.clif_paths.specs.Places.{start, Arm}
 use Rattle.clif_paths.specs.State.{pending, zero_of, Definition, Naming}
 use Rattle.clif_paths.specs.Blocks.{Blocks, front, with_zero_in, with_dropped, state_of, Carries}
@@ -19,16 +17,16 @@ use Rattle.clif_paths.proofs.Tables.{updated-same, updated-other}
 use Rattle.clif_ssa.specs.declared.tables.Pending.{Pending}
 use Rattle.clif_ssa.specs.Own.{Own}
 use Rattle.clif_ssa.specs.Tables.{is_yes}
-use Rattle.clif_ssa.specs.Ssa.{SsaState, sealed_of, predecessors_of, zeroed, no_srcloc}
+use Rattle.clif_ssa.specs.Ssa.{SsaState, sealed_of, predecessors_of, zeroed, zero_value}
 use Rattle.clif_ssa.specs.Sound.{Describes, IsWaiting, IsEdgeInto, InOrder, has_entry, entry_of, SameProgram}
 use Rattle.clif_ssa.specs.SoundLaws.{with_entry, with_zeroed}
 use Rattle.clif_ssa.proofs.Bodies.{Firm, param_exists, home-set_same}
 use Rattle.clif_ssa.proofs.Ordering.{contains_cons, contains_more, contains_first, none_contained, parameters_skip, is_no_parameter}
 use Rattle.clif_ssa.proofs.Describing.{arms_of}
-use Rattle.clif_ssa.proofs.Parameters.{new_unaliased}
-use Rattle.clif_ssa.proofs.Instructions.{inst_firm, inst_resolved, inst_param_home, inst_values_more}
 use Rattle.clif_ssa.proofs.Entering.{relaid, inserted, inserted_entry}
-use Rattle.clif_ssa.proofs.Zeroing.{put_zero, zero_count, zero_described, CanAlias, WaitsSealed, alias_described, alias_firm, alias_home_other}
+use Rattle.clif_ssa.proofs.Zeroing.{zero_described, CanAlias, WaitsSealed, alias_described, alias_firm, alias_home_other}
+use Rattle.clif_ssa.proofs.ZeroSteps.{steps_resolved, steps_param_home, steps_values_more, steps_firm, put_zero, zero_count, past_unaliased}
+use Rattle.clif_ssa.specs.Zeros.{zero_steps, steps_before}
 
 -- THE SAME BUT FOR THE LAYOUT ---------------------------------------------------------------------------------------
 
@@ -140,31 +138,31 @@ nothing_leads own f s completing blocks p b before none arm known at =
 
 -- what is zeroed, in a function whose layout has the block
 pub record Dropped (own : Own) (f : Body) (s : SsaState) (p : Pending) (ps : List Pending) (blocks : Blocks) (b : ℕ) (ty : «Type») : Type 0 where
-  pub describes : Describes own (with_alias (put_zero f b ty) p.param (length f.values)) s ps (with_dropped (with_zero_in blocks b p.variable (length f.values)) p.param (length f.values))
-  pub sound : BlocksSound (with_dropped (with_zero_in blocks b p.variable (length f.values)) p.param (length f.values))
-  pub firm : Firm (with_alias (put_zero f b ty) p.param (length f.values))
+  pub describes : Describes own (with_alias (put_zero f b ty) p.param (zero_value f ty)) s ps (with_dropped (with_zero_in blocks b p.variable (zero_value f ty)) p.param (zero_value f ty))
+  pub sound : BlocksSound (with_dropped (with_zero_in blocks b p.variable (zero_value f ty)) p.param (zero_value f ty))
+  pub firm : Firm (with_alias (put_zero f b ty) p.param (zero_value f ty))
 
 pub dropped : (own : Own) (f : Body) (s : SsaState) (p : Pending) (ps : List Pending) (blocks : Blocks) (b : ℕ) (ty : «Type»)
     → Firm f → has_entry f.layout ≡ true → Describes own f s (p ∷ ps) blocks → BlocksSound blocks → param_home f p.param ≡ Some b
     → NothingElseComes blocks p b → Dropped own f s p ps blocks b ty
 dropped own f s p ps blocks b ty firm entry before sound is nothing =
     let g : Body = put_zero f b ty in
-    let z : ℕ = length f.values in
+    let z : ℕ = zero_value f ty in
     let v : ℕ = p.param in
     let with_it : Blocks = with_zero_in blocks b p.variable z in
     let there : b < length f.blocks = firm.homes_exist v b is in
     let first : IsWaiting f blocks b p × (is_yes (sealed_of s b) ≡ true) = first_waits own f s p ps blocks b before is in
-    let inside : v < z = param_exists f v b is in
+    let inside : v < length f.values = param_exists f v b is in
     let apart : z ≢ v = λ same. absurd (omega (arith, inside, same)) in
-    let g_firm : Firm g = inst_firm f b Front (UnaryImm (pos 0)) (ty ∷ []) no_srcloc firm in
+    let g_firm : Firm g = steps_firm f b (zero_steps ty) firm in
     let described : Describes own g s (p ∷ ps) with_it = zero_described own f s (p ∷ ps) blocks b p.variable ty firm before there in
-    let z_own : resolved g z ≡ z = inst_resolved f b Front (UnaryImm (pos 0)) (ty ∷ []) no_srcloc firm z ∙ new_unaliased f firm in
+    let z_own : resolved g z ≡ z = steps_resolved f b (zero_steps ty) firm z ∙ past_unaliased f z (omega arith) in
     let is_zero : with_it.function.definition z ≡ record { home = front b; kind = zero_of p.variable } = updated-same blocks.function.definition z (record { home = front b; kind = zero_of p.variable }) z refl in
     let still_waits : with_it.function.definition v ≡ record { home = front b; kind = pending p.variable } =
     updated-other blocks.function.definition z (record { home = front b; kind = zero_of p.variable }) v (λ same. apart (sym same)) ∙ first.0.defined in
     let can : CanAlias g v z b = record {
       firm = g_firm;
-      parameter = inst_param_home f b Front (UnaryImm (pos 0)) (ty ∷ []) no_srcloc v ∙ is;
+      parameter = steps_param_home f b (zero_steps ty) v ∙ is;
       own_end = z_own;
       exists = omega (arith, zero_count f b ty);
       apart = apart;
@@ -190,8 +188,8 @@ dropped own f s p ps blocks b ty firm entry before sound is nothing =
 
 -- One parameter becomes a name of a zero.
 pub record Zeroed (own : Own) (f : Body) (s : SsaState) (p : Pending) (ps : List Pending) (blocks : Blocks) (b : ℕ) : Type 0 where
-  pub describes : Describes own (zeroed f b p.param) s ps (with_zeroed f.layout s b p.variable p.param (length f.values) blocks)
-  pub sound : BlocksSound (with_zeroed f.layout s b p.variable p.param (length f.values) blocks)
+  pub describes : Describes own (zeroed f b p.param) s ps (with_zeroed f.layout s b p.variable p.param (zero_value f (value_at f p.param).ty) blocks)
+  pub sound : BlocksSound (with_zeroed f.layout s b p.variable p.param (zero_value f (value_at f p.param).ty) blocks)
   pub firm : Firm (zeroed f b p.param)
 
 pub zeroed_keeps : (own : Own) (f : Body) (s : SsaState) (p : Pending) (ps : List Pending) (blocks : Blocks) (b : ℕ)
@@ -204,9 +202,9 @@ zeroed_keeps own f s p ps blocks b firm before sound is nothing =
     dropped own (inserted_in f b) s p ps (with_entry f.layout s b blocks) b ty (inserted_firm f b firm) (inserted_entry f b) entered.0 entered.1 (inserted_param_home f b p.param ∙ is) nothing in
     let same : length (inserted_in f b).values ≡ length f.values = ap length (inserted_same f b).values in
     record {
-      describes = subst (λ z. Describes own (with_alias (put_zero (inserted_in f b) b ty) p.param z) s ps (with_zeroed f.layout s b p.variable p.param z blocks)) same done.describes;
-      sound = subst (λ z. BlocksSound (with_zeroed f.layout s b p.variable p.param z blocks)) same done.sound;
-      firm = subst (λ z. Firm (with_alias (put_zero (inserted_in f b) b ty) p.param z)) same done.firm;
+      describes = subst (λ n. Describes own (with_alias (put_zero (inserted_in f b) b ty) p.param (n + steps_before ty)) s ps (with_zeroed f.layout s b p.variable p.param (n + steps_before ty) blocks)) same done.describes;
+      sound = subst (λ n. BlocksSound (with_zeroed f.layout s b p.variable p.param (n + steps_before ty) blocks)) same done.sound;
+      firm = subst (λ n. Firm (with_alias (put_zero (inserted_in f b) b ty) p.param (n + steps_before ty))) same done.firm;
     }
 
 -- the same where no branch leads to the block
@@ -222,15 +220,15 @@ zeroed_home f b v u c inside is =
     let ty : «Type» = (value_at f v).ty in
     let h : Body = inserted_in f b in
     let g : Body = put_zero h b ty in
-    let more : length h.values ≤ length g.values = inst_values_more h b Front (UnaryImm (pos 0)) (ty ∷ []) no_srcloc in
+    let more : length h.values ≤ length g.values = steps_values_more h b (zero_steps ty) in
     let same_values : length h.values ≡ length f.values = ap length (inserted_same f b).values in
     elim (cases_eq u v) [
       | inl same ↦
-          absurd (none_some (sym (home-set_same g.values v (record (value_at g v) { origin = Alias (resolved g (length f.values)) }) (omega (arith, inside, more, same_values)))
+          absurd (none_some (sym (home-set_same g.values v (record (value_at g v) { origin = Alias (resolved g (zero_value f ty)) }) (omega (arith, inside, more, same_values)))
           ∙ ap (param_home (zeroed f b v)) (sym same) ∙ is))
       | inr other ↦
-          sym (inserted_param_home f b u) ∙ sym (inst_param_home h b Front (UnaryImm (pos 0)) (ty ∷ []) no_srcloc u)
-          ∙ sym (alias_home_other g v (length f.values) u other) ∙ is
+          sym (inserted_param_home f b u) ∙ sym (steps_param_home h b (zero_steps ty) u)
+          ∙ sym (alias_home_other g v (zero_value f ty) u other) ∙ is
     ]
 
 -- THE LIST --------------------------------------------------------------------------------------------------------

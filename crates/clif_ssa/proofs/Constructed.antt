@@ -1,30 +1,31 @@
 -- Each change that the construction makes of a function changes nothing else.
-use Rattle.std.proofs.Common.{◌≡◌, ◌≢◌, ℕ, zero, suc, ◌+◌, ◌<◌, ◌==◌, Bool, true, false, List, [], ◌∷◌, ◌++◌, length, get_or, set, refl, ap, arith, sym, ◌∙◌, subst, inl, inr}
-use Rattle.std.specs.Prelude.{Some, slice_index, cond, pos, not}
-use Rattle.std.specs.List.{filter}
+use Rattle.std.proofs.lemmas.List.FromFn.{length-range_with_len}
+use Rattle.std.proofs.Common.{◌≡◌, ◌≢◌, ℕ, zero, suc, ◌+◌, ◌<◌, ◌==◌, Bool, true, false, List, [], ◌∷◌, ◌++◌, length, get_or, set, refl, ap, arith, sym, ◌∙◌, subst, inl, inr, ◌-◌, ◌≤◌}
+use Rattle.std.specs.Prelude.{Some, slice_index, cond, not, slice_get}
+use Rattle.std.specs.List.{filter, range_with_len}
 use Rattle.std.proofs.Math.ListN.{get_or-append}
 use Rattle.std.proofs.lemmas.Grind.{common_steps}
 use Rattle.std.proofs.lemmas.Bool.{cases_eq}
 use Rattle.std.proofs.lemmas.List.{append-nil}
 use Rattle.clif_types.specs.declared.types.«Type».{«Type»}
 use Rattle.clif_ir.specs.Body.{Body, value_at, inst_at, block_at, no_value, no_inst, empty_block, resolved}
-use Rattle.clif_ir.specs.Changes.{with_param, with_alias, with_branch_argument, with_layout, inserted_in, inst_node, result_nodes, home_of}
+use Rattle.clif_ir.specs.Changes.{with_param, with_alias, with_branch_argument, with_layout, inserted_in, home_of}
 use Rattle.clif_ir.specs.Consistent.{IsConsistent, Once}
 use Rattle.clif_ir.specs.Instruction.{with_argument}
 use Rattle.clif_ir.specs.Reading.{without, stands_in, param_home}
+use Rattle.clif_ir.specs.declared.function.BlockNode.{BlockNode}
 use Rattle.clif_ir.specs.declared.function.InstNode.{InstNode}
 use Rattle.clif_ir.specs.declared.function.ValueNode.{ValueNode}
 use Rattle.clif_ir.specs.declared.function.ValueOrigin.TheVariants.{Param, Alias}
-use Rattle.clif_ir.specs.declared.inst_list.BlockEnd.TheVariants.{Front}
-use Rattle.clif_ir.specs.declared.instructions.InstructionData.TheVariants.{UnaryImm}
 use Rattle.clif_ir.proofs.Reading.{if_true, if_false, Once-tail}
-use Rattle.clif_ssa.specs.Constructs.{StaysOrNames, MayPassMore, IsNewZero, ConstructsBlock, OnlyConstructs, TellsZeros}
-use Rattle.clif_ssa.specs.Ssa.{with_zero, no_srcloc}
-use Rattle.clif_ssa.proofs.Constructing.{block_kept, more_none, constructs_none, constructs_then, filter-all, tells_none}
+use Rattle.clif_ssa.specs.Constructs.{Rises, StaysOrNames, MayPassMore, IsNewStep, ConstructsBlock, OnlyConstructs, TellsZeros}
+use Rattle.clif_ssa.specs.Ssa.{with_zero}
+use Rattle.clif_ssa.proofs.Constructing.{block_kept, more_none, constructs_none, constructs_then, filter-all, tells_none, tells_then}
 use Rattle.clif_ssa.proofs.Bodies.{param_origin}
-use Rattle.clif_ssa.proofs.Completing.{inserted_param_home}
-use Rattle.clif_ssa.proofs.Instructions.{inst_old, inst_new, inst_param_home}
-use Rattle.clif_ssa.proofs.Zeroing.{put_zero, zero_count}
+use Rattle.clif_ssa.proofs.Completing.{inserted_param_home, inserted_same}
+use Rattle.clif_ssa.proofs.ZeroSteps.{steps_old, put_zero, steps_param_home, steps_insts_more, steps_values_more, steps_old_value, steps_new, zero_at, put_stands, step_node}
+use Rattle.clif_ssa.specs.Zeros.{zero_steps, ZeroStep}
+use Rattle.clif_ssa.proofs.ZeroTable.{step_there}
 
 -- an entry of a list in which one was replaced
 at_set : {X : Type 0} (P : X → Type 0) (xs : List X) (i : ℕ) (y : X) (k : ℕ) (d : X) → (k ≡ i → P y) → P (get_or xs k d) → P (get_or (set xs i y) k d)
@@ -61,6 +62,7 @@ param_constructs f b ty =
         → ConstructsBlock f (with_param f b ty) (block_at f b) (record (block_at f b) { params = (block_at f b).params ++ length f.values ∷ [] })
     here long = record {
       zeros = [];
+      zeros_fit = tt;
       stays = λ v. true;
       added = length f.values ∷ [];
       node = ap (λ params. record (block_at f b) { params = params ++ length f.values ∷ [] }) (sym (filter-all (block_at f b).params));
@@ -92,47 +94,91 @@ inserted_constructs f b = by (stands_in b f.layout)
 
 -- A ZERO ----------------------------------------------------------------------------------------------------------
 
-zero_insts : (f : Body) (b : ℕ) (ty : «Type») → length (put_zero f b ty).insts ≡ length f.insts + 1
-zero_insts f b ty = grind (arith, common_steps)
+rises-range : (a n : ℕ) → Rises a (a + n) (range_with_len a n)
+rises-range a zero = omega arith
+rises-range a (suc n) =
+    let from : a + 1 ≡ suc a = omega arith in
+    let to : (a + 1) + n ≡ a + suc n = omega arith in
+    (omega arith, subst (λ least. Rises least (a + suc n) (range_with_len (a + 1) n)) from (subst (λ bound. Rises (a + 1) bound (range_with_len (a + 1) n)) to (rises-range (a + 1) n)))
 
-zero_new : (f : Body) (b : ℕ) (ty : «Type») → IsNewZero f (inst_node f b (UnaryImm (pos 0)) (ty ∷ []) no_srcloc)
-zero_new f b ty = record { value = length f.values; is_new = omega arith; shape = refl; results = refl; srcloc = refl }
+-- each new instruction is a step of the zero
+zero_new : (f : Body) (b : ℕ) (ty : «Type») (i : ℕ) → length f.insts ≤ i → i < length (put_zero f b ty).insts → IsNewStep f (inst_at (put_zero f b ty) i)
+zero_new f b ty i from inside =
+    let k : ℕ = i - length f.insts in
+    let at : length f.insts + k ≡ i = omega (arith, from) in
+    let few : k < length (zero_steps ty) = omega (arith, from, inside, steps_insts_more f b (zero_steps ty)) in
+    let step : (s : ZeroStep) × (slice_get (zero_steps ty) k ≡ Some s) = step_there ty k few in
+    let new : inst_at (put_zero f b ty) i ≡ step_node b (length f.values + k) step.0 =
+    ap (inst_at (put_zero f b ty)) (sym at) ∙ steps_new f b (zero_steps ty) k step.0 step.1 in
+    record {
+      ty = ty;
+      place = k;
+      step = step.0;
+      is_step = step.1;
+      value = length f.values + k;
+      is_new = omega arith;
+      shape = ap (λ (n : InstNode). n.shape) new;
+      results = ap (λ (n : InstNode). n.results) new;
+      srcloc = ap (λ (n : InstNode). n.srcloc) new;
+    }
 
 pub zero_constructs : (f : Body) (b : ℕ) (ty : «Type») → OnlyConstructs f (put_zero f b ty)
 zero_constructs f b ty =
     let g : Body = put_zero f b ty in
-    let values : length g.values ≡ length f.values + 1 = zero_count f b ty in
-    let insts : length g.insts ≡ length f.insts + 1 = zero_insts f b ty in
-    let old : (v : ℕ) → v < length f.values → value_at g v ≡ value_at f v = λ v inside. get_or-append f.values (result_nodes (length f.insts) 0 (ty ∷ [])) no_value v inside in
+    let steps : List ZeroStep = zero_steps ty in
+    let values : length f.values ≤ length g.values = steps_values_more f b steps in
+    let insts : length g.insts ≡ length f.insts + length steps = steps_insts_more f b steps in
+    let node : BlockNode = record (block_at f b) { insts = range_with_len (length f.insts) (length steps) ++ (block_at f b).insts } in
     record {
       same = refl;
-      values = omega (arith, values);
-      same_values = λ v inside. inl (old v inside);
+      values = values;
+      same_values = λ v inside. inl (steps_old_value f b steps v inside);
       insts = omega (arith, insts);
-      same_insts = λ i inside. subst (λ n. MayPassMore (inst_at f i) n) (sym (inst_old f b Front (UnaryImm (pos 0)) (ty ∷ []) no_srcloc i inside)) (more_none (inst_at f i));
-      zeros = λ i from inside.
-          let last : i ≡ length f.insts = omega (arith, from, inside, insts) in
-          subst (λ j. IsNewZero f (inst_at g j)) (sym last) (subst (λ n. IsNewZero f n) (sym (inst_new f b Front (UnaryImm (pos 0)) (ty ∷ []) no_srcloc)) (zero_new f b ty));
+      same_insts = λ i inside. subst (λ n. MayPassMore (inst_at f i) n) (sym (steps_old f b steps i inside)) (more_none (inst_at f i));
+      zeros = zero_new f b ty;
       block_count = grind (arith, common_steps);
       blocks = λ c.
-          at_set (λ n. ConstructsBlock f g (block_at f c) n) f.blocks b (record (block_at f b) { insts = length f.insts ∷ (block_at f b).insts }) c empty_block
-          (λ same. subst (λ d. ConstructsBlock f g (block_at f d) (record (block_at f b) { insts = length f.insts ∷ (block_at f b).insts })) (sym same) (here values insts))
-          (block_kept f g (block_at f c) (omega (arith, values)) (omega (arith, insts)));
+          at_set (λ n. ConstructsBlock f g (block_at f c) n) f.blocks b node c empty_block
+          (λ same. subst (λ d. ConstructsBlock f g (block_at f d) node) (sym same) (here values insts))
+          (block_kept f g (block_at f c) values (omega (arith, insts)));
       layout = ([], sym (append-nil f.layout));
     }
   where
-    here : length (put_zero f b ty).values ≡ length f.values + 1 → length (put_zero f b ty).insts ≡ length f.insts + 1
-        → ConstructsBlock f (put_zero f b ty) (block_at f b) (record (block_at f b) { insts = length f.insts ∷ (block_at f b).insts })
-    here values insts = record {
-      zeros = length f.insts ∷ [];
-      stays = λ v. true;
-      added = [];
-      node =
-          ap (λ params. record (block_at f b) { params = params; insts = length f.insts ∷ (block_at f b).insts })
-          (sym (filter-all (block_at f b).params) ∙ sym (append-nil (filter (λ v. true) (block_at f b).params)));
-      zeros_new = (omega arith, omega (arith, insts));
-      added_new = omega (arith, values);
-    }
+    here : length f.values ≤ length (put_zero f b ty).values → length (put_zero f b ty).insts ≡ length f.insts + length (zero_steps ty)
+        → ConstructsBlock f (put_zero f b ty) (block_at f b) (record (block_at f b) { insts = range_with_len (length f.insts) (length (zero_steps ty)) ++ (block_at f b).insts })
+    here values insts =
+        let made : List ℕ = range_with_len (length f.insts) (length (zero_steps ty)) in
+        let count : length made ≡ length (zero_steps ty) = length-range_with_len (length f.insts) (length (zero_steps ty)) in
+        record {
+          zeros = made ∷ [];
+          zeros_fit = ((ty, omega (arith, count)), tt);
+          stays = λ v. true;
+          added = [];
+          node =
+              ap (λ params. record (block_at f b) { params = params; insts = made ++ (block_at f b).insts })
+              (sym (filter-all (block_at f b).params) ∙ sym (append-nil (filter (λ v. true) (block_at f b).params)))
+              ∙ ap (λ xs. record (block_at f b) { params = filter (λ v. true) (block_at f b).params ++ []; insts = xs ++ (block_at f b).insts }) (sym (append-nil made));
+          zeros_new =
+              subst (Rises (length f.insts) (length (put_zero f b ty).insts)) (sym (append-nil made))
+              (subst (λ bound. Rises (length f.insts) bound made) (sym insts) (rises-range (length f.insts) (length (zero_steps ty))));
+          added_new = values;
+        }
+
+-- its block is told
+zero_told : (f : Body) (b : ℕ) (ty : «Type») → TellsZeros f (put_zero f b ty) (b ∷ [])
+zero_told f b ty = record {
+  zeros = (
+    zero_at f ty,
+    refl,
+    record {
+      stands = put_stands f b ty;
+      blocks = λ k inside.
+          let step : (s : ZeroStep) × (slice_get (zero_steps ty) k ≡ Some s) = step_there ty k inside in
+          ap (λ (n : InstNode). n.block) (steps_new f b (zero_steps ty) k step.0 step.1);
+    },
+    steps_insts_more f b (zero_steps ty),
+  );
+}
 
 -- AN ALIAS --------------------------------------------------------------------------------------------------------
 
@@ -189,6 +235,7 @@ alias_constructs f v original is once =
         → ConstructsBlock f (with_alias f v original) (block_at f b) (record (block_at f b) { params = without v (block_at f b).params })
     here b values = record {
       zeros = [];
+      zeros_fit = tt;
       stays = λ u. not (u == v);
       added = [];
       node =
@@ -231,6 +278,12 @@ pub with_zero_made : (f g h : Body) (b : ℕ) (ty : «Type») → g ≡ inserted
 with_zero_made f g h b ty inserted put =
     constructs_then f g h (inserted_made f g b inserted) (subst (λ k. OnlyConstructs g k) (sym put) (zero_constructs g b ty))
 
+pub with_zero_told : (f g h : Body) (b : ℕ) (ty : «Type») → g ≡ inserted_in f b → h ≡ put_zero g b ty → TellsZeros f h (b ∷ [])
+with_zero_told f g h b ty inserted put =
+    tells_then f g h [] (b ∷ []) (subst (λ k. OnlyConstructs g k) (sym put) (zero_constructs g b ty))
+    (tells_none f g (ap (λ (k : Body). length k.insts) inserted ∙ ap length (inserted_same f b).insts))
+    (subst (λ k. TellsZeros g k (b ∷ [])) (sym put) (zero_told g b ty))
+
 pub alias_made : (f g : Body) (v original : ℕ) → IsConsistent f → (value_at f v).origin ≡ Param (home_of (value_at f v).origin) → g ≡ with_alias f v original → OnlyConstructs f g
 alias_made f g v original sound is made = subst (λ h. OnlyConstructs f h) (sym made) (alias_constructs f v original is sound.params_once)
 
@@ -247,4 +300,4 @@ param_is f v b is = let at : (value_at f v).origin ≡ Param b = param_origin f 
 -- a parameter is still one once a zero is put
 pub zero_param : (f g : Body) (v b : ℕ) (ty : «Type») → param_home f v ≡ Some b → g ≡ with_zero f b ty → param_home g v ≡ Some b
 zero_param f g v b ty is made =
-    ap (λ h. param_home h v) made ∙ inst_param_home (inserted_in f b) b Front (UnaryImm (pos 0)) (ty ∷ []) no_srcloc v ∙ inserted_param_home f b v ∙ is
+    ap (λ h. param_home h v) made ∙ steps_param_home (inserted_in f b) b (zero_steps ty) v ∙ inserted_param_home f b v ∙ is

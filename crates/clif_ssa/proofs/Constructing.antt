@@ -1,10 +1,7 @@
 -- What the construction changes in a function, step by step.
 use Rattle.std.proofs.Common.{◌≡◌, ℕ, suc, ◌+◌, ◌-◌, ◌≤◌, ◌&&◌, Bool, true, false, List, [], ◌∷◌, ◌++◌, length, refl, ap, arith, sym, ◌∙◌, subst, inl, inr}
-use Rattle.std.specs.Prelude.{reverse, cond, pos}
-use Rattle.std.specs.List.{filter}
-use Rattle.std.proofs.Math.ListN.{get_or-append}
-use Rattle.std.proofs.Math.Seq.{get_or-append_right}
-use Rattle.std.proofs.lemmas.Grind.{common_steps}
+use Rattle.std.specs.Prelude.{reverse, cond, slice_get, Some}
+use Rattle.std.specs.List.{filter, AllByRecursion}
 use Rattle.std.proofs.lemmas.List.{reverse-append, append_assoc, append-nil}
 use Rattle.std.proofs.lemmas.List.Elements.{filter-append}
 use Rattle.clif_ir.specs.Body.{Body, value_at, inst_at, block_at}
@@ -15,9 +12,10 @@ use Rattle.clif_ir.specs.declared.function.ValueNode.{ValueNode}
 use Rattle.clif_ir.specs.declared.function.ValueOrigin.{ValueOrigin}
 use Rattle.clif_ir.specs.declared.function.ValueOrigin.TheVariants.{Param, Alias}
 use Rattle.clif_ir.specs.declared.instructions.InstructionData.{InstructionData}
-use Rattle.clif_ir.specs.declared.instructions.InstructionData.TheVariants.{UnaryImm}
 use Rattle.clif_ir.proofs.Lists.{below_or_not}
-use Rattle.clif_ssa.specs.Constructs.{Rises, StaysOrNames, with_passed, MayPassMore, IsNewZero, ConstructsBlock, OnlyConstructs, TellsZeros, TellsMore}
+use Rattle.clif_ssa.specs.Constructs.{Rises, StaysOrNames, with_passed, in_turn, AreToldFrom, FitsZero, MayPassMore, IsNewStep, StandsWhole, ConstructsBlock, OnlyConstructs, TellsZeros, TellsMore}
+use Rattle.clif_ssa.proofs.ZeroTable.{plain_step, step_there}
+use Rattle.clif_ssa.specs.Zeros.{zero_steps, ZeroAt, ZeroStep, IsStep}
 
 -- NUMBERS THAT RISE -----------------------------------------------------------------------------------------------
 
@@ -66,9 +64,9 @@ passed-append : (xs ys : List (ℕ × ℕ)) (shape : InstructionData) → with_p
 passed-append [] ys shape = refl
 passed-append (x ∷ xs) ys shape = passed-append xs ys (with_argument x.0 x.1 shape)
 
-passed_unary : (more : List (ℕ × ℕ)) (imm : _) → with_passed more (UnaryImm imm) ≡ UnaryImm imm
-passed_unary [] imm = refl
-passed_unary (x ∷ more) imm = passed_unary more imm
+pub passed_plain : (more : List (ℕ × ℕ)) (shape : InstructionData) → ((b v : ℕ) → with_argument b v shape ≡ shape) → with_passed more shape ≡ shape
+passed_plain [] shape plain = refl
+passed_plain (x ∷ more) shape plain = ap (with_passed more) (plain x.0 x.1) ∙ passed_plain more shape plain
 
 pub more_none : (n : InstNode) → MayPassMore n n
 more_none n = ([], refl)
@@ -80,17 +78,40 @@ more_then a b c first second = (
       ∙ ap (λ shape. record a { shape = shape }) (sym (passed-append first.0 second.0 a.shape)),
 )
 
-zero_then : (f : Body) (b c : InstNode) → IsNewZero f b → MayPassMore b c → IsNewZero f c
-zero_then f b c is more = record {
+step_then : (f : Body) (b c : InstNode) → IsNewStep f b → MayPassMore b c → IsNewStep f c
+step_then f b c is more = record {
+  ty = is.ty;
+  place = is.place;
+  step = is.step;
+  is_step = is.is_step;
   value = is.value;
   is_new = is.is_new;
-  shape = ap (λ (n : InstNode). n.shape) more.1 ∙ ap (with_passed more.0) is.shape ∙ passed_unary more.0 (pos 0);
+  shape = ap (λ (n : InstNode). n.shape) more.1 ∙ ap (with_passed more.0) is.shape
+      ∙ passed_plain more.0 (is.step.shape (is.value - 1)) (λ b v. (plain_step is.ty is.place is.step is.is_step).unchanged b v (is.value - 1));
   results = ap (λ (n : InstNode). n.results) more.1 ∙ is.results;
   srcloc = ap (λ (n : InstNode). n.srcloc) more.1 ∙ is.srcloc;
 }
 
-zero_of_more : (f g : Body) (n : InstNode) → length f.values ≤ length g.values → IsNewZero g n → IsNewZero f n
-zero_of_more f g n more is = record { value = is.value; is_new = omega (arith, more, is.is_new); shape = is.shape; results = is.results; srcloc = is.srcloc }
+step_of_more : (f g : Body) (n : InstNode) → length f.values ≤ length g.values → IsNewStep g n → IsNewStep f n
+step_of_more f g n more is = record {
+  ty = is.ty;
+  place = is.place;
+  step = is.step;
+  is_step = is.is_step;
+  value = is.value;
+  is_new = omega (arith, more, is.is_new);
+  shape = is.shape;
+  results = is.results;
+  srcloc = is.srcloc;
+}
+
+in_turn-append : (xs ys : List (List ℕ)) → in_turn (xs ++ ys) ≡ in_turn xs ++ in_turn ys
+in_turn-append [] ys = refl
+in_turn-append (x ∷ xs) ys = ap (λ zs. x ++ zs) (in_turn-append xs ys) ∙ sym (append_assoc x (in_turn xs) (in_turn ys))
+
+all-append : {X : Type 0} (Q : X → Type 0) (xs ys : List X) → AllByRecursion Q xs → AllByRecursion Q ys → AllByRecursion Q (xs ++ ys)
+all-append Q [] ys first second = second
+all-append Q (x ∷ xs) ys first second = (first.0, all-append Q xs ys first.1 second)
 
 pub block_kept : (f g : Body) (n : BlockNode) → length f.values ≤ length g.values → length f.insts ≤ length g.insts → ConstructsBlock f g n n
 block_kept f g n values insts = record {
@@ -98,14 +119,16 @@ block_kept f g n values insts = record {
   stays = λ v. true;
   added = [];
   node = ap (λ params. record n { params = params }) (sym (filter-all n.params) ∙ sym (append-nil (filter (λ v. true) n.params)));
+  zeros_fit = tt;
   zeros_new = insts;
   added_new = values;
 }
 
 block_then : (f g h : Body) (a b c : BlockNode) → ConstructsBlock f g a b → ConstructsBlock g h b c → ConstructsBlock f h a c
 block_then f g h a b c first second =
-    let insts : reverse second.zeros ++ (reverse first.zeros ++ a.insts) ≡ reverse (first.zeros ++ second.zeros) ++ a.insts =
-    sym (append_assoc (reverse second.zeros) (reverse first.zeros) a.insts) ∙ ap (λ xs. xs ++ a.insts) (sym (reverse-append first.zeros second.zeros)) in
+    let insts : in_turn (reverse second.zeros) ++ (in_turn (reverse first.zeros) ++ a.insts) ≡ in_turn (reverse (first.zeros ++ second.zeros)) ++ a.insts =
+    sym (append_assoc (in_turn (reverse second.zeros)) (in_turn (reverse first.zeros)) a.insts)
+    ∙ ap (λ xs. xs ++ a.insts) (sym (ap in_turn (reverse-append first.zeros second.zeros) ∙ in_turn-append (reverse second.zeros) (reverse first.zeros))) in
     let params : filter second.stays (filter first.stays a.params ++ first.added) ++ second.added
     ≡ filter (λ v. first.stays v && second.stays v) a.params ++ (filter second.stays first.added ++ second.added) =
     ap (λ xs. xs ++ second.added) (filter-append second.stays (filter first.stays a.params) first.added)
@@ -116,10 +139,13 @@ block_then f g h a b c first second =
       stays = λ v. first.stays v && second.stays v;
       added = filter second.stays first.added ++ second.added;
       node = second.node
-          ∙ ap (λ (n : BlockNode). record n { params = filter second.stays n.params ++ second.added; insts = reverse second.zeros ++ n.insts }) first.node
-          ∙ ap (λ ps. record a { params = ps; insts = reverse second.zeros ++ (reverse first.zeros ++ a.insts) }) params
+          ∙ ap (λ (n : BlockNode). record n { params = filter second.stays n.params ++ second.added; insts = in_turn (reverse second.zeros) ++ n.insts }) first.node
+          ∙ ap (λ ps. record a { params = ps; insts = in_turn (reverse second.zeros) ++ (in_turn (reverse first.zeros) ++ a.insts) }) params
           ∙ ap (λ is. record a { params = filter (λ v. first.stays v && second.stays v) a.params ++ (filter second.stays first.added ++ second.added); insts = is }) insts;
-      zeros_new = rises-append (length f.insts) (length g.insts) (length h.insts) first.zeros second.zeros first.zeros_new second.zeros_new;
+      zeros_fit = all-append FitsZero first.zeros second.zeros first.zeros_fit second.zeros_fit;
+      zeros_new =
+          subst (Rises (length f.insts) (length h.insts)) (sym (in_turn-append first.zeros second.zeros))
+          (rises-append (length f.insts) (length g.insts) (length h.insts) (in_turn first.zeros) (in_turn second.zeros) first.zeros_new second.zeros_new);
       added_new = rises-append (length f.values) (length g.values) (length h.values) (filter second.stays first.added) second.added
           (rises-filter (length f.values) (length g.values) second.stays first.added first.added_new) second.added_new;
     }
@@ -149,8 +175,8 @@ constructs_then f g h first second = record {
   same_insts = λ i inside. more_then (inst_at f i) (inst_at g i) (inst_at h i) (first.same_insts i inside) (second.same_insts i (omega (arith, inside, first.insts)));
   zeros = λ i from inside.
       elim (below_or_not i (length g.insts)) [
-        | inl old ↦ zero_then f (inst_at g i) (inst_at h i) (first.zeros i from old) (second.same_insts i old)
-        | inr new ↦ zero_of_more f g (inst_at h i) first.values (second.zeros i new inside)
+        | inl old ↦ step_then f (inst_at g i) (inst_at h i) (first.zeros i from old) (second.same_insts i old)
+        | inr new ↦ step_of_more f g (inst_at h i) first.values (second.zeros i new inside)
       ];
   block_count = second.block_count ∙ first.block_count;
   blocks = λ b. block_then f g h (block_at f b) (block_at g b) (block_at h b) (first.blocks b) (second.blocks b);
@@ -163,24 +189,38 @@ constructs_same f g same = subst (λ h. OnlyConstructs f h) (sym same) (construc
 -- WHAT IS TOLD ----------------------------------------------------------------------------------------------------
 
 pub tells_none : (f g : Body) → length g.insts ≡ length f.insts → TellsZeros f g []
-tells_none f g same = record { count = omega (arith, same); blocks = λ k inside. absurd (omega (arith, inside)) }
+tells_none f g same = record { zeros = same }
+
+-- what is told stays
+whole_kept : (g h : Body) (b : ℕ) (z : ZeroAt) → OnlyConstructs g h → StandsWhole g b z → StandsWhole h b z
+whole_kept g h b z next whole = record {
+  stands = λ k step is.
+      let old : IsStep g (z.inst + k) (z.value + k) step = whole.stands k step is in
+      let more : MayPassMore (inst_at g (z.inst + k)) (inst_at h (z.inst + k)) = next.same_insts (z.inst + k) old.exists in
+      record {
+        exists = omega (arith, old.exists, next.insts);
+        value_exists = omega (arith, old.value_exists, next.values);
+        shape = ap (λ (n : InstNode). n.shape) more.1 ∙ ap (with_passed more.0) old.shape
+            ∙ passed_plain more.0 (step.shape ((z.value + k) - 1)) (λ b v. (plain_step z.ty k step is).unchanged b v ((z.value + k) - 1));
+        result = ap (λ (n : InstNode). n.results) more.1 ∙ old.result;
+      };
+  blocks = λ k inside.
+      let step : (s : ZeroStep) × (slice_get (zero_steps z.ty) k ≡ Some s) = step_there z.ty k inside in
+      ap (λ (n : InstNode). n.block) (next.same_insts (z.inst + k) (whole.stands k step.0 step.1).exists).1 ∙ whole.blocks k inside;
+}
+
+told_then : (g h : Body) (inst : ℕ) (told later : List ℕ) → OnlyConstructs g h → AreToldFrom g inst told → AreToldFrom h (length g.insts) later
+    → AreToldFrom h inst (told ++ later)
+told_then g h inst [] later next first second = subst (λ i. AreToldFrom h i later) first second
+told_then g h inst (b ∷ told) later next first second = (
+  first.0,
+  first.1,
+  whole_kept g h b first.0 next first.2,
+  told_then g h (inst + length (zero_steps first.0.ty)) told later next first.3 second,
+)
 
 pub tells_then : (f g h : Body) (told later : List ℕ) → OnlyConstructs g h → TellsZeros f g told → TellsZeros g h later → TellsZeros f h (told ++ later)
-tells_then f g h told later next first second =
-    let long : length (told ++ later) ≡ length told + length later = grind (arith, common_steps) in
-    record {
-      count = omega (arith, first.count, second.count, long);
-      blocks = λ k inside.
-          elim (below_or_not k (length told)) [
-            | inl old ↦
-                ap (λ (n : InstNode). n.block) (next.same_insts (length f.insts + k) (omega (arith, old, first.count))).1
-                ∙ first.blocks k old ∙ sym (get_or-append told later 0 k old)
-            | inr new ↦
-                let place : length f.insts + k ≡ length g.insts + (k - length told) = omega (arith, new, first.count) in
-                ap (λ i. (inst_at h i).block) place ∙ second.blocks (k - length told) (omega (arith, inside, new, long))
-                ∙ sym (get_or-append_right told later k 0 new)
-          ];
-    }
+tells_then f g h told later next first second = record { zeros = told_then g h (length f.insts) told later next first.zeros second.zeros }
 
 pub tells_more_none : (f : Body) (before : List ℕ) → TellsMore f f before before
 tells_more_none f before = ([], sym (append-nil before), tells_none f f refl)

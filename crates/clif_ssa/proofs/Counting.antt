@@ -1,6 +1,6 @@
 -- What the edges to a block pass stays as it is, where neither they nor the block's parameters change.
 use Rattle.std.proofs.Common.{◌≡◌, ◌≢◌, ℕ, ◌+◌, ◌<◌, ◌≤◌, ◌&&◌, Bool, true, false, List, [], ◌∷◌, ◌++◌, ◌==◌, length, refl, ap, arith, sym, ◌∙◌, subst, ◌⊎◌, inl, inr}
-use Rattle.std.specs.Prelude.{Some, Contains, slice_get, pos, cond, if◌then◌else◌}
+use Rattle.std.specs.Prelude.{Some, Contains, slice_get, cond, if◌then◌else◌}
 use Rattle.std.proofs.lemmas.Bool.{cases_eq}
 use Rattle.std.proofs.lemmas.List.Elements.{Contains-push_cases}
 use Rattle.clif_types.specs.declared.types.«Type».{«Type»}
@@ -12,9 +12,7 @@ use Rattle.clif_ir.specs.Reading.{param_home, place_of, targets, stands_in, with
 use Rattle.clif_ir.specs.declared.function.BlockNode.{BlockNode}
 use Rattle.clif_ir.specs.declared.function.InstNode.{InstNode}
 use Rattle.clif_ir.specs.declared.inst_list.BlockEnd.{BlockEnd}
-use Rattle.clif_ir.specs.declared.inst_list.BlockEnd.TheVariants.{Front}
 use Rattle.clif_ir.specs.declared.instructions.InstructionData.{InstructionData}
-use Rattle.clif_ir.specs.declared.instructions.InstructionData.TheVariants.{UnaryImm}
 use Rattle.clif_ir.proofs.Reading.{if_true, if_false}
 use Rattle.clif_ir.proofs.Lists.{at_push, at_past}
 use Rattle.clif_paths.specs.Places.{Place}
@@ -25,7 +23,7 @@ use Rattle.clif_paths.proofs.Tables.{updated-other}
 use Rattle.clif_ssa.specs.declared.tables.Pending.{Pending}
 use Rattle.clif_ssa.specs.Own.{Own, no_own}
 use Rattle.clif_ssa.specs.Tables.{is_yes}
-use Rattle.clif_ssa.specs.Ssa.{SsaState, sealed_of, predecessors_of, SameRecords, SameBlocks, SamePredecessors, no_srcloc}
+use Rattle.clif_ssa.specs.Ssa.{SsaState, sealed_of, predecessors_of, SameRecords, SameBlocks, SamePredecessors, zero_value}
 use Rattle.clif_ssa.specs.LookUp.{branch_block}
 use Rattle.clif_ssa.specs.Sound.{Describes, CountsArguments, HomeFits, IsBehind, IsCounted, PassesOwn, edge_target, args_of, passed_count, has_entry, entry_of}
 use Rattle.clif_ssa.specs.SoundLaws.{DescribesSoundly}
@@ -35,7 +33,8 @@ use Rattle.clif_ssa.proofs.Entering.{both_true}
 use Rattle.clif_ssa.proofs.Housing.{Housed}
 use Rattle.clif_ssa.proofs.Instructions.{inst_param_home, inst_params, inst_old}
 use Rattle.clif_ssa.proofs.Leading.{contains_without, predecessor_declared, predecessor_removed}
-use Rattle.clif_ssa.proofs.Zeroing.{put_zero}
+use Rattle.clif_ssa.proofs.ZeroSteps.{steps_param_home, steps_params, steps_old, put_zero}
+use Rattle.clif_ssa.specs.Zeros.{zero_steps}
 
 -- the branches that lead to blocks, the parameters, and how these are defined, are as before
 pub record SameCounts (f g : Body) (s t : SsaState) (blocks blocks' : Blocks) : Type 0 where
@@ -120,13 +119,21 @@ inst_housed f b end shape types loc housed =
 
 -- a zero is put
 pub zero_counted : (own : Own) (f : Body) (s : SsaState) (completing : List Pending) (blocks : Blocks) (b x : ℕ) (ty : «Type»)
-    → Describes own f s completing blocks → CountsArguments own f s blocks → CountsArguments own (put_zero f b ty) s (with_zero_in blocks b x (length f.values))
+    → Describes own f s completing blocks → CountsArguments own f s blocks → CountsArguments own (put_zero f b ty) s (with_zero_in blocks b x (zero_value f ty))
 zero_counted own f s completing blocks b x ty before counts =
-    inst_counted own f s completing blocks (with_zero_in blocks b x (length f.values)) b Front (UnaryImm (pos 0)) (ty ∷ []) no_srcloc before
-    (λ v below. updated-other blocks.function.definition (length f.values) (record { home = front b; kind = zero_of x }) v (λ same. absurd (omega (arith, below, same)))) counts
+    counts_same own f (put_zero f b ty) s s blocks (with_zero_in blocks b x (zero_value f ty))
+    (record {
+      predecessors = λ c. refl;
+      inst_same = λ c i here. steps_old f b (zero_steps ty) i (before.leading c i here).0;
+      params = steps_params f b (zero_steps ty);
+      homes = steps_param_home f b (zero_steps ty);
+      defined = λ v c is.
+          let below : v < length f.values = param_exists f v c is in
+          updated-other blocks.function.definition (zero_value f ty) (record { home = front b; kind = zero_of x }) v (λ same. absurd (omega (arith, below, same)));
+    }) counts
 
 pub zero_housed : (f : Body) (b : ℕ) (ty : «Type») → Housed f → Housed (put_zero f b ty)
-zero_housed f b ty housed = inst_housed f b Front (UnaryImm (pos 0)) (ty ∷ []) no_srcloc housed
+zero_housed f b ty housed = housed_same f (put_zero f b ty) (steps_params f b (zero_steps ty)) (steps_param_home f b (zero_steps ty)) housed
 
 -- a block enters the layout
 pub inserted_counted : (own : Own) (f : Body) (s : SsaState) (blocks blocks' : Blocks) (b : ℕ) → ((v : ℕ) → blocks'.function.definition v ≡ blocks.function.definition v)

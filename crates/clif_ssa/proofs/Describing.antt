@@ -20,6 +20,8 @@ use Rattle.clif_ssa.specs.Own.{Own}
 use Rattle.clif_ssa.specs.Tables.{is_yes, pending_of}
 use Rattle.clif_ssa.specs.Ssa.{SsaState, sealed_of, predecessors_of, SamePredecessors}
 use Rattle.clif_ssa.specs.LookUp.{branch_block}
+use Rattle.clif_ssa.specs.Zeros.{ZeroAt, value_of_zero}
+use Rattle.clif_ssa.proofs.ZeroTable.{has_zero_kept, zero_exists}
 use Rattle.clif_ssa.specs.Sound.{Describes, IsZero, HasInstructions, IsWaiting, HomeFits, IsEdgeInto, InOrder, parameters_of, is_some_block, has_entry, entry_of, edge_target, args_of, passed_at, BelongsTo}
 use Rattle.clif_ssa.proofs.Bodies.{param_exists}
 use Rattle.clif_ssa.proofs.Ordering.{map_same, parameters_same}
@@ -31,24 +33,21 @@ pub record Extends (f g : Body) (blocks blocks' : Blocks) : Type 0 where
   pub inst_same : (i : ℕ) → i < length f.insts → inst_at g i ≡ inst_at f i
   pub definition_same : (v : ℕ) → v < length f.values → blocks'.function.definition v ≡ blocks.function.definition v
 
-pub zero_kept : (f g : Body) (blocks blocks' : Blocks) (b i : ℕ) → Extends f g blocks blocks' → IsZero f blocks b i → IsZero g blocks' b i
-zero_kept f g blocks blocks' b i extends zero =
-    let same : inst_at g i ≡ inst_at f i = extends.inst_same i zero.exists in
+pub zero_kept : (f g : Body) (blocks blocks' : Blocks) (b : ℕ) (z : ZeroAt) → Extends f g blocks blocks' → IsZero f blocks b z → IsZero g blocks' b z
+zero_kept f g blocks blocks' b z extends zero =
+    let exists : value_of_zero z < length f.values = zero_exists f z zero.stands in
     record {
-      value = zero.value;
       variable = zero.variable;
-      exists = omega (arith, zero.exists, extends.insts_more);
-      value_exists = omega (arith, zero.value_exists, extends.values_more);
-      shape = ap (λ (n : InstNode). n.shape) same ∙ zero.shape;
-      result = ap (λ (n : InstNode). n.results) same ∙ zero.result;
-      defined = extends.definition_same zero.value zero.value_exists ∙ zero.defined;
+      stands = has_zero_kept f g z extends.values_more extends.insts_more extends.inst_same zero.stands;
+      defined = extends.definition_same (value_of_zero z) exists ∙ zero.defined;
+      others = λ v from below. extends.definition_same v (omega (arith, below, exists)) ∙ zero.others v from below;
     }
 
-pub zeros_kept : (f g : Body) (blocks blocks' : Blocks) (b : ℕ) (zeros : List ℕ) → Extends f g blocks blocks'
+pub zeros_kept : (f g : Body) (blocks blocks' : Blocks) (b : ℕ) (zeros : List ZeroAt) → Extends f g blocks blocks'
     → AllByRecursion (IsZero f blocks b) zeros → AllByRecursion (IsZero g blocks' b) zeros
 zeros_kept f g blocks blocks' b [] extends all = tt
-zeros_kept f g blocks blocks' b (i ∷ zeros) extends all =
-    (zero_kept f g blocks blocks' b i extends all.0, zeros_kept f g blocks blocks' b zeros extends all.1)
+zeros_kept f g blocks blocks' b (z ∷ zeros) extends all =
+    (zero_kept f g blocks blocks' b z extends all.0, zeros_kept f g blocks blocks' b zeros extends all.1)
 
 pub instructions_kept : (f g : Body) (blocks blocks' : Blocks) (b : ℕ) (own : List ℕ) → Extends f g blocks blocks'
     → (block_at g b).insts ≡ (block_at f b).insts → HasInstructions f blocks b own → HasInstructions g blocks' b own

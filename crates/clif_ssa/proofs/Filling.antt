@@ -15,6 +15,7 @@ use Rattle.clif_paths.specs.State.{Kind, unborn, born, pending, complete, zero_o
 use Rattle.clif_paths.specs.Blocks.{Blocks, front, last_place, with_filled}
 use Rattle.clif_paths.specs.LookUp.{Paired}
 use Rattle.clif_paths.proofs.Tables.{updated-same, updated-other}
+use Rattle.clif_ssa.specs.Zeros.{ZeroAt, value_of_zero}
 use Rattle.clif_ssa.specs.declared.tables.Pending.{Pending}
 use Rattle.clif_ssa.specs.Own.{Own}
 use Rattle.clif_ssa.specs.Ssa.{SsaState, predecessors_of}
@@ -25,7 +26,7 @@ use Rattle.clif_ssa.proofs.Describing.{waiting_kept, homes_kept, assigns_not_kep
 use Rattle.clif_ssa.proofs.Firsts.{IsFirst, first_waits, order_rest, same_some, front_same}
 use Rattle.clif_ssa.proofs.Housing.{Housed, place_at}
 use Rattle.clif_ssa.proofs.Ordering.{contains_more, contains_cons, parameters_same, stands_place}
-use Rattle.clif_ssa.proofs.Passing.{Passing, arguments_pass, arguments_given, given_by, given_paired, contains_map, some_pushed}
+use Rattle.clif_ssa.proofs.Passing.{zero_passed, Passing, arguments_pass, arguments_given, given_by, given_paired, contains_map, some_pushed}
 
 complete_or_pending : {x : ℕ} → ◌≡◌ {A = Kind} complete (pending x) → ⊥
 complete_or_pending same = cc
@@ -83,27 +84,30 @@ count_first own f s blocks ps p b i k housed counts first here leads =
 
 -- WHAT STAYS ------------------------------------------------------------------------------------------------------
 
-zero_filled : (f g : Body) (blocks : Blocks) (b c i v x : ℕ) (given : Arm → ℕ) → Passing b f g
-    → blocks.function.definition v ≡ record { home = front b; kind = pending x } → IsZero f blocks c i → IsZero g (with_filled blocks v given) c i
-zero_filled f g blocks b c i v x given passing waits put = record {
-  value = put.value;
+zero_filled : (f g : Body) (blocks : Blocks) (b c : ℕ) (z : ZeroAt) (v x : ℕ) (given : Arm → ℕ) → Passing b f g
+    → blocks.function.definition v ≡ record { home = front b; kind = pending x } → IsZero f blocks c z → IsZero g (with_filled blocks v given) c z
+zero_filled f g blocks b c z v x given passing waits put = record {
   variable = put.variable;
-  exists = let there : i < length f.insts = put.exists in omega (arith, there, passing.count);
-  value_exists = subst (λ (h : Body). put.value < length h.values) (sym passing.same) put.value_exists;
-  shape = passing.unary i _ put.shape;
-  result = passing.results i ∙ put.result;
+  stands = zero_passed b f g z passing put.stands;
   defined =
-      updated-other blocks.function.definition v (record { home = (blocks.function.definition v).home; kind = complete }) put.value
+      updated-other blocks.function.definition v (record { home = (blocks.function.definition v).home; kind = complete }) (value_of_zero z)
       (λ same. zero_or_pending (sym (ap (λ (d : Definition). d.kind) put.defined) ∙ ap (λ u. (blocks.function.definition u).kind) same ∙ ap (λ (d : Definition). d.kind) waits))
       ∙ put.defined;
+  others = λ w from below.
+      updated-other blocks.function.definition v (record { home = (blocks.function.definition v).home; kind = complete }) w
+      (λ same. unborn_or_pending (sym (ap (λ (d : Definition). d.kind) (put.others w from below)) ∙ ap (λ u. (blocks.function.definition u).kind) same ∙ ap (λ (d : Definition). d.kind) waits))
+      ∙ put.others w from below;
 }
+  where
+    unborn_or_pending : {y : ℕ} → ◌≡◌ {A = Kind} unborn (pending y) → ⊥
+    unborn_or_pending same = cc
 
-zeros_filled : (f g : Body) (blocks : Blocks) (b c : ℕ) (zeros : List ℕ) (v x : ℕ) (given : Arm → ℕ) → Passing b f g
+zeros_filled : (f g : Body) (blocks : Blocks) (b c : ℕ) (zeros : List ZeroAt) (v x : ℕ) (given : Arm → ℕ) → Passing b f g
     → blocks.function.definition v ≡ record { home = front b; kind = pending x } → AllByRecursion (IsZero f blocks c) zeros
     → AllByRecursion (IsZero g (with_filled blocks v given) c) zeros
 zeros_filled f g blocks b c [] v x given passing waits all = tt
-zeros_filled f g blocks b c (i ∷ zeros) v x given passing waits all =
-    (zero_filled f g blocks b c i v x given passing waits all.0, zeros_filled f g blocks b c zeros v x given passing waits all.1)
+zeros_filled f g blocks b c (z ∷ zeros) v x given passing waits all =
+    (zero_filled f g blocks b c z v x given passing waits all.0, zeros_filled f g blocks b c zeros v x given passing waits all.1)
 
 filled_with : (own : Own) (f : Body) (insts : List InstNode) (s : SsaState) (p : Pending) (ps : List Pending) (blocks : Blocks) (b : ℕ) (given : Arm → ℕ)
     → Describes own f s (p ∷ ps) blocks → IsFirst f s ps blocks p b → blocks.sealed b ≡ true → Passing b f (record f { insts = insts })
@@ -251,7 +255,7 @@ only_insts b f g passing = record {
   count = passing.count;
   block = passing.block;
   results = passing.results;
-  unary = passing.unary;
+  plain = passing.plain;
   target = passing.target;
   kept = passing.kept;
   elsewhere = passing.elsewhere;

@@ -1,18 +1,16 @@
 -- The look-up of a parameter ends.
 use Rattle.std.proofs.Common.{◌≡◌, ◌≢◌, ℕ, ◌+◌, ◌<◌, Bool, true, false, List, [], ◌∷◌, ◌++◌, length, map, refl, ap, arith, sym, ◌∙◌, subst, ◌⊎◌, inl, inr}
-use Rattle.std.specs.Prelude.{Option, Some, None, Contains, reverse, pos, cond, slice_get}
+use Rattle.std.specs.Prelude.{Option, Some, None, Contains, reverse, cond, slice_get}
 use Rattle.std.proofs.lemmas.Grind.{common_steps}
 use Rattle.std.proofs.lemmas.List.{length-reverse}
 use Rattle.std.proofs.lemmas.List.Elements.{Contains-append_right}
 use Rattle.clif_types.specs.declared.types.«Type».{«Type»}
 use Rattle.clif_ir.specs.Body.{Body, value_at, resolved, follow}
-use Rattle.clif_ir.specs.Changes.{with_alias, with_inst, with_layout, inserted_in}
+use Rattle.clif_ir.specs.Changes.{with_alias, with_layout, inserted_in}
 use Rattle.clif_ir.specs.Consistent.{Once}
 use Rattle.clif_ir.specs.Reading.{param_home, home_of_node, stands_in}
 use Rattle.clif_ir.specs.declared.function.InstNode.{InstNode}
 use Rattle.clif_ir.proofs.Aliases.{follow_end}
-use Rattle.clif_ir.specs.declared.inst_list.BlockEnd.TheVariants.{Front}
-use Rattle.clif_ir.specs.declared.instructions.InstructionData.TheVariants.{UnaryImm}
 use Rattle.clif_paths.specs.Places.{start, Arm}
 use Rattle.clif_paths.specs.State.{Definition}
 use Rattle.clif_paths.specs.Blocks.{Blocks, front, last_place, Knows, with_dropped, with_filled, with_zero_in}
@@ -20,12 +18,11 @@ use Rattle.clif_paths.specs.BlockLaws.{BlocksSound}
 use Rattle.clif_paths.specs.LookUp.{Frame, results_of, AtRest, Delivers, InList, Paired}
 use Rattle.clif_paths.proofs.LookingUp.{dropping_finishes, filling_finishes, zero_finishes, results_are_counted}
 use Rattle.clif_ssa.specs.declared.tables.Pending.{Pending}
-use Rattle.clif_ssa.specs.Ssa.{SsaState, predecessors_of, zeroed, no_srcloc}
+use Rattle.clif_ssa.specs.Ssa.{SsaState, predecessors_of, zeroed, zero_value}
 use Rattle.clif_ssa.specs.LookUp.{branch_block, Stage, LookUpState, with_arguments, NothingComes, OneComes, SeveralCome, FinishesLookUp}
 use Rattle.clif_ssa.specs.Sound.{Describes, CountsArguments, SameProgram, has_entry}
 use Rattle.clif_ssa.specs.SoundLaws.{with_entry}
 use Rattle.clif_ssa.proofs.Bodies.{Firm, past_alias, param_exists, resolved_twice, home-set_other}
-use Rattle.clif_ssa.proofs.Instructions.{inst_firm, inst_resolved, inst_param_home, inst_old, inst_insts_more}
 use Rattle.clif_ssa.proofs.Entering.{inserted}
 use Rattle.clif_ssa.proofs.Ordering.{contains_more, map_same}
 use Rattle.clif_ssa.proofs.Framing.{comes_from, completing_of, parameters_for, CallsOf, Setting, Base, Hands, Since, IsHere, contains_in, turned, in_reversed, of_reversed, in_some, same_parts, count_zero, resolved_inside, knows_value, known_result, since_self, since_then, edge_from, arm_from, edges_from, frame_here, completing_apart}
@@ -36,6 +33,8 @@ use Rattle.clif_ssa.proofs.Completing.{SameButLayout, inserted_same, inserted_fi
 use Rattle.clif_ssa.proofs.Aliasing.{drop_described, drop_counted, drop_firm, drop_housed}
 use Rattle.clif_ssa.proofs.Filling.{filled_described, filled_counted, filled_firm, filled_housed}
 use Rattle.clif_ssa.proofs.Counting.{zero_counted, zero_housed, inserted_counted, inserted_housed}
+use Rattle.clif_ssa.proofs.ZeroSteps.{steps_resolved, steps_param_home, steps_insts_more, steps_firm, steps_old, put_zero, zero_count, past_unaliased}
+use Rattle.clif_ssa.specs.Zeros.{zero_steps, steps_before}
 
 -- WHAT STAYS ------------------------------------------------------------------------------------------------------
 
@@ -191,9 +190,6 @@ module _ (c : Setting) (f : Frame) (frames : List Frame) (tables : Blocks) (m : 
 
 -- NOTHING COMES ---------------------------------------------------------------------------------------------------
 
-abbrev put_zero : Body → ℕ → «Type» → Body
-put_zero g b ty = with_inst g b Front (UnaryImm (pos 0)) (ty ∷ []) no_srcloc
-
 pub inserted_since : (f : Body) (s : SsaState) (b : ℕ) → Since f s (inserted_in f b) s
 inserted_since f s b = by (stands_in b f.layout)
   where
@@ -203,8 +199,8 @@ inserted_since f s b = by (stands_in b f.layout)
 
 zero_since : (g : Body) (s : SsaState) (b : ℕ) (ty : «Type») (v z : ℕ) → Since g s (with_alias (put_zero g b ty) v z) s
 zero_since g s b ty v z = record {
-  insts_more = omega (arith, inst_insts_more g b Front (UnaryImm (pos 0)) (ty ∷ []) no_srcloc);
-  branches = λ i inside. ap (λ (n : InstNode). n.block) (inst_old g b Front (UnaryImm (pos 0)) (ty ∷ []) no_srcloc i inside);
+  insts_more = omega (arith, steps_insts_more g b (zero_steps ty));
+  branches = λ i inside. ap (λ (n : InstNode). n.block) (steps_old g b (zero_steps ty) i inside);
   predecessors = λ c. refl;
   block_count = grind (arith, common_steps);
   stay = λ x c value is. is;
@@ -220,28 +216,28 @@ ArmsFrom tables block among = (arm : Arm) → tables.joins arm ≡ true → arm.
 
 -- a parameter to which nothing comes becomes a name of a zero, in a function that has an entry
 record Zeroing (c : Setting) (f : Frame) (frames : List Frame) (g : Body) (s : SsaState) (tables : Blocks) (ty : «Type») : Type 0 where
-  pub describes : Describes c.own (with_alias (put_zero g f.block ty) f.parameter (length g.values)) s (completing_of c frames)
-      (with_dropped (with_zero_in tables f.block c.variable (length g.values)) f.parameter (length g.values))
-  pub counts : CountsArguments c.own (with_alias (put_zero g f.block ty) f.parameter (length g.values)) s
-      (with_dropped (with_zero_in tables f.block c.variable (length g.values)) f.parameter (length g.values))
-  pub firm : Firm (with_alias (put_zero g f.block ty) f.parameter (length g.values))
-  pub housed : Housed (with_alias (put_zero g f.block ty) f.parameter (length g.values))
-  pub delivers : Delivers (with_dropped (with_zero_in tables f.block c.variable (length g.values)) f.parameter (length g.values)) (comes_from c) c.variable c.first frames (length g.values)
+  pub describes : Describes c.own (with_alias (put_zero g f.block ty) f.parameter (zero_value g ty)) s (completing_of c frames)
+      (with_dropped (with_zero_in tables f.block c.variable (zero_value g ty)) f.parameter (zero_value g ty))
+  pub counts : CountsArguments c.own (with_alias (put_zero g f.block ty) f.parameter (zero_value g ty)) s
+      (with_dropped (with_zero_in tables f.block c.variable (zero_value g ty)) f.parameter (zero_value g ty))
+  pub firm : Firm (with_alias (put_zero g f.block ty) f.parameter (zero_value g ty))
+  pub housed : Housed (with_alias (put_zero g f.block ty) f.parameter (zero_value g ty))
+  pub delivers : Delivers (with_dropped (with_zero_in tables f.block c.variable (zero_value g ty)) f.parameter (zero_value g ty)) (comes_from c) c.variable c.first frames (zero_value g ty)
 
 zeroing : (c : Setting) (f : Frame) (frames : List Frame) (g : Body) (s : SsaState) (tables : Blocks) (ty : «Type») → Firm g → Housed g
     → Describes c.own g s (completing_of c (f ∷ frames)) tables → CountsArguments c.own g s tables → BlocksSound tables → AtRest tables (comes_from c) c.variable c.first f frames → f.todo ≡ []
     → ArmsFrom tables f.block (comes_from c f.block) → param_home g f.parameter ≡ Some f.block → ((r : ℕ) → InList f.results r → resolved g r ≡ f.parameter)
     → Zeroing c f frames g s tables ty
 zeroing c f frames g s tables ty firm housed before counts sound rest none arms home nothing =
-    let z : ℕ = length g.values in
+    let z : ℕ = zero_value g ty in
     let h : Body = put_zero g f.block ty in
-    let inside : f.parameter < z = param_exists g f.parameter f.block home in
+    let inside : f.parameter < length g.values = param_exists g f.parameter f.block home in
     let apart : z ≢ f.parameter = λ same. absurd (omega (arith, inside, same)) in
-    let h_firm : Firm h = inst_firm g f.block Front (UnaryImm (pos 0)) (ty ∷ []) no_srcloc firm in
-    let h_home : param_home h f.parameter ≡ Some f.block = inst_param_home g f.block Front (UnaryImm (pos 0)) (ty ∷ []) no_srcloc f.parameter ∙ home in
-    let long : length h.values ≡ z + 1 = grind (arith, common_steps) in
+    let h_firm : Firm h = steps_firm g f.block (zero_steps ty) firm in
+    let h_home : param_home h f.parameter ≡ Some f.block = steps_param_home g f.block (zero_steps ty) f.parameter ∙ home in
+    let long : length h.values ≡ z + 1 = zero_count g f.block ty in
     let exists : z < length h.values = omega (arith, long) in
-    let ends : resolved h z ≡ z = inst_resolved g f.block Front (UnaryImm (pos 0)) (ty ∷ []) no_srcloc firm z ∙ own_end g in
+    let ends : resolved h z ≡ z = steps_resolved g f.block (zero_steps ty) firm z ∙ past_unaliased g z (omega arith) in
     let there : f.block < length g.blocks = firm.homes_exist f.parameter f.block home in
     let h_housed : Housed h = zero_housed g f.block ty housed in
     let put : Describes c.own h s (completing_of c (f ∷ frames)) (with_zero_in tables f.block c.variable z) =
@@ -255,7 +251,7 @@ zeroing c f frames g s tables ty firm housed before counts sound rest none arms 
       housed = drop_housed h f.parameter z f.block h_firm h_housed h_home exists ends apart;
       delivers =
           zero_finishes tables (comes_from c) c.variable c.first f frames z sound rest none arms (ap (λ (d : Definition). d.home) (before.absent z (omega arith)))
-          (before.resolves z ∙ own_end g) (λ r here. before.resolves r ∙ nothing r here);
+          (before.resolves z ∙ past_unaliased g z (omega arith)) (λ r here. before.resolves r ∙ nothing r here);
     }
 
 -- the same for a function in whose layout the block enters first
@@ -263,7 +259,7 @@ pub zero_ends : (c : Setting) (f : Frame) (frames : List Frame) (tables entered 
     → Describes c.own (inserted_in m.function f.block) m.state (completing_of c (f ∷ frames)) entered → CountsArguments c.own (inserted_in m.function f.block) m.state entered → BlocksSound entered → SameProgram tables entered
     → AtRest entered (comes_from c) c.variable c.first f frames → f.todo ≡ [] → ArmsFrom entered f.block (comes_from c f.block)
     → param_home m.function f.parameter ≡ Some f.block → ((r : ℕ) → InList f.results r → resolved m.function r ≡ f.parameter)
-    → Ended c f frames tables m (zeroed m.function f.block f.parameter) (length m.function.values)
+    → Ended c f frames tables m (zeroed m.function f.block f.parameter) (zero_value m.function (value_at m.function f.parameter).ty)
 zero_ends c f frames tables entered m base before counts sound same rest none arms home nothing =
     let g : Body = inserted_in m.function f.block in
     let ty : «Type» = (value_at m.function f.parameter).ty in
@@ -273,21 +269,21 @@ zero_ends c f frames tables entered m base before counts sound same rest none ar
     let done : Zeroing c f frames g m.state entered ty =
     zeroing c f frames g m.state entered ty (inserted_firm m.function f.block base.firm) (inserted_housed m.function f.block base.housed) before counts sound rest none arms (home_same f.parameter ∙ home)
     (λ r here. ends_same r ∙ nothing r here) in
-    let ended : Ended c f frames tables m (with_alias (put_zero g f.block ty) f.parameter (length g.values)) (length g.values) = record {
-      after = with_dropped (with_zero_in entered f.block c.variable (length g.values)) f.parameter (length g.values);
+    let ended : Ended c f frames tables m (with_alias (put_zero g f.block ty) f.parameter (zero_value g ty)) (zero_value g ty) = record {
+      after = with_dropped (with_zero_in entered f.block c.variable (zero_value g ty)) f.parameter (zero_value g ty);
       describes = done.describes;
       same = record { count = same.count; assigned = same.assigned; naming = same.naming; answer = same.answer };
       counts = done.counts;
       firm = done.firm;
       housed = done.housed;
-      since = since_then m.function m.state g m.state (with_alias (put_zero g f.block ty) f.parameter (length g.values)) m.state
-          (inserted_since m.function m.state f.block) (zero_since g m.state f.block ty f.parameter (length g.values));
+      since = since_then m.function m.state g m.state (with_alias (put_zero g f.block ty) f.parameter (zero_value g ty)) m.state
+          (inserted_since m.function m.state f.block) (zero_since g m.state f.block ty f.parameter (zero_value g ty));
       other_homes = λ u other.
           home-set_other (put_zero g f.block ty).values f.parameter _ u other
-          ∙ inst_param_home g f.block Front (UnaryImm (pos 0)) (ty ∷ []) no_srcloc u ∙ home_same u;
+          ∙ steps_param_home g f.block (zero_steps ty) u ∙ home_same u;
       delivers = done.delivers;
     } in
-    subst (λ z. Ended c f frames tables m (with_alias (put_zero g f.block ty) f.parameter z) z) (ap length but.values) ended
+    subst (λ n. Ended c f frames tables m (with_alias (put_zero g f.block ty) f.parameter (n + steps_before ty)) (n + steps_before ty)) (ap length but.values) ended
 
 -- THE END ---------------------------------------------------------------------------------------------------------
 
@@ -326,7 +322,7 @@ entered_same (a ∷ layout) s b tables is = refl
 frame_zero : (c : Setting) (f : Frame) (frames : List Frame) (tables : Blocks) (m : Stage) → Base c (f ∷ frames) tables m
     → AtRest tables (comes_from c) c.variable c.first f frames → f.todo ≡ [] → IsHere m.function m.state f.block f.parameter
     → NothingComes m.function f.parameter (reverse f.results)
-    → Ended c f frames tables m (zeroed m.function f.block f.parameter) (length m.function.values)
+    → Ended c f frames tables m (zeroed m.function f.block f.parameter) (zero_value m.function (value_at m.function f.parameter).ty)
 frame_zero c f frames tables m base rest none here nothing =
     let entered : Describes c.own (inserted_in m.function f.block) m.state (completing_of c (f ∷ frames)) (with_entry m.function.layout m.state f.block tables)
     × BlocksSound (with_entry m.function.layout m.state f.block tables) =
@@ -362,7 +358,7 @@ finishes c f frames tables m n base rest none results calls finish =
           let turn : reverse finish.results ≡ reverse f.results = ap reverse parts.0 in
           elim ends.2 [
             | inl zero ↦
-                close (zeroed m.function f.block f.parameter) (length m.function.values)
+                close (zeroed m.function f.block f.parameter) (zero_value m.function (value_at m.function f.parameter).ty)
                 (frame_zero c f frames tables m base rest none here (subst (NothingComes m.function f.parameter) turn zero.nothing))
                 (zero.function ∙ ap (λ b. zeroed m.function b f.parameter) home) zero.answer
             | inr more ↦

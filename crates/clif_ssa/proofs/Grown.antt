@@ -1,27 +1,25 @@
 -- Which parameters are new, and which blocks enter the layout, as the construction changes a function.
 use Rattle.std.proofs.Common.{◌≡◌, ℕ, zero, suc, ◌<◌, ◌≤◌, ◌==◌, ◌||◌, Bool, true, false, List, [], ◌∷◌, ◌++◌, length, set, refl, ap, arith, sym, ◌∙◌, subst, ◌⊎◌, inl, inr}
-use Rattle.std.specs.Prelude.{Option, Some, None, slice_get, cond, pos}
+use Rattle.std.specs.Prelude.{Option, Some, None, slice_get, cond}
 use Rattle.std.proofs.lemmas.Bool.{cases_eq}
 use Rattle.std.proofs.lemmas.Grind.{common_steps}
 use Rattle.clif_types.specs.declared.types.«Type».{«Type»}
 use Rattle.clif_ir.specs.declared.function.InstNode.{InstNode}
 use Rattle.clif_ir.specs.declared.function.ValueNode.{ValueNode}
 use Rattle.clif_ir.specs.declared.function.ValueOrigin.TheVariants.{Alias}
-use Rattle.clif_ir.specs.declared.inst_list.BlockEnd.TheVariants.{Front}
-use Rattle.clif_ir.specs.declared.instructions.InstructionData.TheVariants.{UnaryImm}
 use Rattle.clif_ir.specs.Body.{Body, value_at, resolved}
 use Rattle.clif_ir.specs.Changes.{with_param, with_alias, with_branch_argument, with_layout, inserted_in}
 use Rattle.clif_ir.specs.Reading.{home_of_node, home_of_param, param_home, stands_in}
 use Rattle.clif_ssa.specs.Constructs.{OnlyConstructs}
 use Rattle.clif_ssa.specs.LookUp.{branch_block, with_arguments}
-use Rattle.clif_ssa.specs.Ssa.{no_srcloc, zeroed}
+use Rattle.clif_ssa.specs.Ssa.{zeroed, zero_value}
 use Rattle.clif_ssa.proofs.Bodies.{param_exists, home-set_other, home-set_same}
 use Rattle.clif_ssa.proofs.Completing.{inserted_param_home}
 use Rattle.clif_ssa.proofs.Constructed.{param_constructs, inserted_constructs, zero_constructs, argument_constructs}
-use Rattle.clif_ssa.proofs.Instructions.{inst_param_home}
 use Rattle.clif_ssa.proofs.Ordering.{other_number}
 use Rattle.clif_ssa.proofs.Parameters.{param_node}
-use Rattle.clif_ssa.proofs.Zeroing.{put_zero}
+use Rattle.clif_ssa.proofs.ZeroSteps.{steps_param_home, put_zero}
+use Rattle.clif_ssa.specs.Zeros.{zero_steps}
 
 -- `f` is the function before, `g` after. New parameters are of blocks of the set, and these alone enter the layout.
 pub record Grown (holds : ℕ → Bool) (f g : Body) : Type 0 where
@@ -102,7 +100,7 @@ module _ (holds : ℕ → Bool) where
   grown_zero : (f : Body) (b : ℕ) (ty : «Type») → Grown holds f (put_zero f b ty)
   grown_zero f b ty =
       constructed f (put_zero f b ty) (zero_constructs f b ty)
-      (λ v home is. inl (sym (inst_param_home f b Front (UnaryImm (pos 0)) (ty ∷ []) no_srcloc v) ∙ is)) (λ c here. inl here)
+      (λ v home is. inl (sym (steps_param_home f b (zero_steps ty) v) ∙ is)) (λ c here. inl here)
 
   pub grown_alias : (f : Body) (v original : ℕ) → Grown holds f (with_alias f v original)
   grown_alias f v original =
@@ -127,7 +125,7 @@ module _ (holds : ℕ → Bool) where
       let ty : «Type» = (value_at f v).ty in
       let g : Body = inserted_in f b in
       let h : Body = put_zero g b ty in
-      grown_then f g (zeroed f b v) (grown_inserted f b held) (grown_then g h (zeroed f b v) (grown_zero g b ty) (grown_alias h v (length f.values)))
+      grown_then f g (zeroed f b v) (grown_inserted f b held) (grown_then g h (zeroed f b v) (grown_zero g b ty) (grown_alias h v (zero_value f ty)))
 
   grown_argument : (f : Body) (i b v : ℕ) → Grown holds f (with_branch_argument f i b v)
   grown_argument f i b v = constructed f (with_branch_argument f i b v) (argument_constructs f i b v) (λ u home is. inl is) (λ c here. inl here)

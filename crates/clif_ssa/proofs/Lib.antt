@@ -23,6 +23,8 @@ pub mod Describing
 pub mod Entering
 pub mod Parameters
 pub mod Instructions
+pub mod ZeroTable
+pub mod ZeroSteps
 pub mod Zeroing
 pub mod Completing
 pub mod Sealing

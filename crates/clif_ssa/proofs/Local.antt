@@ -5,14 +5,16 @@ use Rattle.std.specs.Option.{option_to_list}
 use Rattle.std.proofs.lemmas.Grind.{common_steps}
 use Rattle.std.proofs.lemmas.Bool.{cases_eq}
 use Rattle.clif_types.specs.declared.types.«Type».{«Type»}
-use Rattle.clif_ir.specs.Body.{Body}
+use Rattle.clif_ir.specs.Body.{Body, value_at}
 use Rattle.clif_ir.specs.Changes.{with_param}
 use Rattle.clif_ir.specs.Reading.{param_home, stands_in}
 use Rattle.clif_ssa.specs.Tables.{pending_of}
-use Rattle.clif_ssa.specs.Ssa.{SsaState, NamesExist, HasMore, Records, SameBlocks, SamePredecessors, SameRecords, Zeroes, zeroed, zeroed_in}
+use Rattle.clif_ssa.specs.Ssa.{SsaState, NamesExist, HasMore, Records, SameBlocks, SamePredecessors, SameRecords, Zeroes, zeroed, zeroed_in, zero_value}
 use Rattle.clif_ssa.proofs.Naming.{named-more, param_more, param-named}
-use Rattle.clif_ssa.proofs.Parameters.{param_home_new, param_count}
+use Rattle.clif_ssa.proofs.Parameters.{param_home_new}
 use Rattle.clif_ssa.proofs.Copying.{Copied}
+use Rattle.clif_ssa.proofs.ZeroSteps.{param_zero_value}
+use Rattle.clif_ssa.specs.Zeros.{steps_before}
 
 -- NAMES -----------------------------------------------------------------------------------------------------------
 
@@ -50,10 +52,12 @@ param-zeroes f g h s t x b v ty is number done recorded blocks = record {
 }
 
 pub param-zero-answer : (f g : Body) (b v answer : ℕ) (ty : «Type») → g ≡ with_param f b ty → v ≡ length f.values
-    → MatchOption (param_home g v) (answer ≡ v) (λ _. answer ≡ length g.values) → answer ≡ length f.values + 1
+    → MatchOption (param_home g v) (answer ≡ v) (λ _. answer ≡ zero_value g (value_at g v).ty) → answer ≡ length f.values + 1 + steps_before ty
 param-zero-answer f g b v answer ty is number case =
-    let at : answer ≡ length g.values = subst (λ o. MatchOption o (answer ≡ v) (λ _. answer ≡ length g.values)) (param_there f g b v ty is number) case in
-    at ∙ ap (λ (k : Body). length k.values) is ∙ param_count f b ty
+    let at : answer ≡ zero_value g (value_at g v).ty =
+    subst (λ o. MatchOption o (answer ≡ v) (λ _. answer ≡ zero_value g (value_at g v).ty)) (param_there f g b v ty is number) case in
+    let h : Body = with_param f b ty in
+    at ∙ ap (λ (k : Body). zero_value k (value_at k v).ty) is ∙ ap (λ w. zero_value h (value_at h w).ty) number ∙ param_zero_value f b ty
 
 pub param-zero-told : (f g : Body) (b v : ℕ) (ty : «Type») (old new : List ℕ) → g ≡ with_param f b ty → v ≡ length f.values
     → old ≡ [] → new ≡ old ++ option_to_list (param_home g v) → new ≡ b ∷ []

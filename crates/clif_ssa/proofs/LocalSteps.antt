@@ -6,14 +6,14 @@ use Rattle.std.proofs.lemmas.List.{append-nil}
 use Rattle.clif_types.specs.declared.error.BuildError.{BuildError}
 use Rattle.clif_types.specs.declared.error.BuildError.TheVariants.{Memory}
 use Rattle.clif_types.specs.declared.types.«Type».{«Type»}
-use Rattle.clif_ir.specs.Body.{Body}
+use Rattle.clif_ir.specs.Body.{Body, value_at}
 use Rattle.clif_ir.specs.Changes.{with_param}
 use Rattle.clif_ir.specs.Reading.{param_home}
 use Rattle.clif_ssa.specs.declared.side_effects.SideEffects.{SideEffects}
 use Rattle.clif_ssa.specs.declared.tables.Sealed.TheVariants.{No}
 use Rattle.clif_ssa.specs.Constructs.{OnlyConstructs, TellsMore, TellsZeros}
 use Rattle.clif_ssa.specs.LookUp.{LookUpState}
-use Rattle.clif_ssa.specs.Ssa.{SsaState, sealed_of, zeroed_in, CountsLookup, Records, SameBlocks, SameLookups}
+use Rattle.clif_ssa.specs.Ssa.{SsaState, sealed_of, zeroed_in, CountsLookup, Records, SameBlocks, SameLookups, zero_value}
 use Rattle.clif_ssa.specs.Steps.{UsesLocally}
 use Rattle.clif_ssa.specs.Tables.{is_yes, one_more, pending_of, sealed_at}
 use Rattle.clif_ssa.proofs.Constructing.{tells_none, tells_then}
@@ -74,7 +74,7 @@ use_waits x ty b f s g t v effects unsealed number made recorded lookups waiting
 -- in a sealed one it becomes a name of a zero
 pub use_zeroes : (x : ℕ) (ty : «Type») (b : ℕ) (f : Body) (s : SsaState) (g h : Body) (t : SsaState) (v answer : ℕ) (old effects : SideEffects)
     → is_yes (sealed_of s b) ≡ true → v ≡ length f.values → g ≡ with_param f b ty → Records s t x b (length f.values) → SameBlocks s t → CountsLookup s t x b
-    → h ≡ zeroed_in (param_home g v) g v → MatchOption (param_home g v) (answer ≡ v) (λ _. answer ≡ length g.values) → old.instructions_added_to_blocks.items ≡ []
+    → h ≡ zeroed_in (param_home g v) g v → MatchOption (param_home g v) (answer ≡ v) (λ _. answer ≡ zero_value g (value_at g v).ty) → old.instructions_added_to_blocks.items ≡ []
     → effects.instructions_added_to_blocks.items ≡ old.instructions_added_to_blocks.items ++ option_to_list (param_home g v)
     → OnlyConstructs g h → TellsZeros g h (option_to_list (param_home g v)) → UsesLocally x ty b f s h t (Ok (answer, effects))
 use_zeroes x ty b f s g h t v answer old effects sealed number made recorded blocks counted done answers nothing told constructs tells = record {

@@ -1,48 +1,47 @@
 -- Uses and sealings in any block, with what edges pass: where no branch leads to the block, and where the machine looks
 -- the variable up.
 use Rattle.std.proofs.Common.{◌≡◌, ◌≢◌, ℕ, ◌+◌, ◌<◌, true, false, Bool, List, [], ◌∷◌, length, refl, ap, arith, sym, ◌∙◌, subst, inl, inr}
-use Rattle.std.specs.Prelude.{Option, Some, None, Contains, pos, IfSome}
+use Rattle.std.specs.Prelude.{Option, Some, None, Contains, IfSome}
 use Rattle.clif_types.specs.declared.types.«Type».{«Type»}
 use Rattle.clif_ir.specs.Body.{Body, value_at, resolved}
 use Rattle.clif_ir.specs.Changes.{with_param, with_alias, inserted_in}
 use Rattle.clif_ir.specs.Consistent.{IsConsistent}
 use Rattle.clif_ir.specs.Reading.{param_home}
-use Rattle.clif_ir.specs.declared.inst_list.BlockEnd.TheVariants.{Front}
-use Rattle.clif_ir.specs.declared.instructions.InstructionData.TheVariants.{UnaryImm}
 use Rattle.clif_paths.specs.Blocks.{Blocks, with_parameter, with_zero_in}
 use Rattle.clif_paths.specs.BlockLaws.{BlocksSound}
 use Rattle.clif_paths.proofs.Tables.{aliased_cases}
 use Rattle.clif_ssa.specs.declared.tables.Pending.{Pending}
 use Rattle.clif_ssa.specs.Own.{Own}
 use Rattle.clif_ssa.specs.Tables.{is_yes, pending_of}
-use Rattle.clif_ssa.specs.Ssa.{SsaState, record_of, sealed_of, predecessors_of, zeroed, zeroed_in, completed, no_srcloc, SameRecords, SamePredecessors, Seals, Waits, Zeroes}
+use Rattle.clif_ssa.specs.Ssa.{SsaState, record_of, sealed_of, predecessors_of, zeroed, zeroed_in, completed, SameRecords, SamePredecessors, Seals, Waits, Zeroes, zero_value}
 use Rattle.clif_ssa.specs.LookUp.{LookUpState, no_look_up, UsesVariable}
 use Rattle.clif_ssa.specs.Running.{CompletesAll}
 use Rattle.clif_ssa.specs.Sound.{Describes, CountsArguments, SameProgram, Keeps, KeepsAndKnows}
 use Rattle.clif_ssa.specs.SoundLaws.{DescribesSoundly, with_entry, with_zeroed, with_seal, arms_into}
 use Rattle.clif_ssa.proofs.Bodies.{Firm, firm_from, param_exists, home-set_other}
 use Rattle.clif_ssa.proofs.Housing.{Housed, housed_from}
-use Rattle.clif_ssa.proofs.Instructions.{inst_firm, inst_resolved, inst_param_home}
 use Rattle.clif_ssa.proofs.Ordering.{contains_first, contains_more, none_contained}
 use Rattle.clif_ssa.proofs.Entering.{inserted}
-use Rattle.clif_ssa.proofs.Zeroing.{put_zero, zero_count, zero_described}
+use Rattle.clif_ssa.proofs.Zeroing.{zero_described}
 use Rattle.clif_ssa.proofs.Completing.{inserted_same, inserted_firm, inserted_param_home, entry_same, same_program, same_program_then, zeroed_alone, Zeroed, zeroed_program}
 use Rattle.clif_ssa.proofs.Aliasing.{drop_counted, drop_housed}
 use Rattle.clif_ssa.proofs.Counting.{zero_counted, zero_housed, inserted_counted, inserted_housed}
 use Rattle.clif_ssa.proofs.Describing.{recorded_here}
-use Rattle.clif_ssa.proofs.Parameters.{param_firm, param_resolved, param_home_new, param_count, parameter_sound}
+use Rattle.clif_ssa.proofs.Parameters.{param_firm, param_resolved, param_home_new, parameter_sound}
 use Rattle.clif_ssa.proofs.Adding.{add_completing, add_waiting, add_housed, add_counted}
 use Rattle.clif_ssa.proofs.Framing.{completing_apart}
 use Rattle.clif_ssa.proofs.FrameEnds.{own_end}
 use Rattle.clif_ssa.proofs.AllCompleted.{seal_counted, sealing_keeps}
 use Rattle.clif_ssa.proofs.Machine.{uses_keeps}
 use Rattle.clif_ssa.proofs.Sealing.{seal_described}
+use Rattle.clif_ssa.proofs.ZeroSteps.{steps_resolved, steps_param_home, steps_firm, put_zero, zero_count, past_unaliased, param_zero_value}
+use Rattle.clif_ssa.specs.Zeros.{zero_steps, steps_before}
 
 -- A ZERO ----------------------------------------------------------------------------------------------------------
 
 -- what is kept as a parameter becomes a name of a zero
 pub record ZeroedCounts (own : Own) (f : Body) (s : SsaState) (p : Pending) (blocks : Blocks) (b : ℕ) : Type 0 where
-  pub counts : CountsArguments own (zeroed f b p.param) s (with_zeroed f.layout s b p.variable p.param (length f.values) blocks)
+  pub counts : CountsArguments own (zeroed f b p.param) s (with_zeroed f.layout s b p.variable p.param (zero_value f (value_at f p.param).ty) blocks)
   pub housed : Housed (zeroed f b p.param)
   pub others : (u : ℕ) → u ≢ p.param → param_home (zeroed f b p.param) u ≡ param_home f u
 
@@ -52,30 +51,30 @@ zeroed_counts own f s p ps blocks b firm housed before counts sound is =
     let ty : «Type» = (value_at f p.param).ty in
     let x : ℕ = p.variable in
     let g : Body = inserted_in f b in
-    let z : ℕ = length g.values in
+    let z : ℕ = zero_value g ty in
     let h : Body = put_zero g b ty in
     let entered : Blocks = with_entry f.layout s b blocks in
     let now : Describes own g s (p ∷ ps) entered × BlocksSound entered = inserted own f s (p ∷ ps) blocks b before sound in
     let g_firm : Firm g = inserted_firm f b firm in
     let g_home : param_home g p.param ≡ Some b = inserted_param_home f b p.param ∙ is in
     let there : b < length g.blocks = g_firm.homes_exist p.param b g_home in
-    let inside : p.param < z = param_exists g p.param b g_home in
+    let inside : p.param < length g.values = param_exists g p.param b g_home in
     let apart : z ≢ p.param = λ same. absurd (omega (arith, inside, same)) in
-    let h_firm : Firm h = inst_firm g b Front (UnaryImm (pos 0)) (ty ∷ []) no_srcloc g_firm in
+    let h_firm : Firm h = steps_firm g b (zero_steps ty) g_firm in
     let h_housed : Housed h = zero_housed g b ty (inserted_housed f b housed) in
-    let h_home : param_home h p.param ≡ Some b = inst_param_home g b Front (UnaryImm (pos 0)) (ty ∷ []) no_srcloc p.param ∙ g_home in
+    let h_home : param_home h p.param ≡ Some b = steps_param_home g b (zero_steps ty) p.param ∙ g_home in
     let exists : z < length h.values = omega (arith, zero_count g b ty) in
-    let ends : resolved h z ≡ z = inst_resolved g b Front (UnaryImm (pos 0)) (ty ∷ []) no_srcloc g_firm z ∙ own_end g in
+    let ends : resolved h z ≡ z = steps_resolved g b (zero_steps ty) g_firm z ∙ past_unaliased g z (omega arith) in
     let put : Describes own h s (p ∷ ps) (with_zero_in entered b x z) = zero_described own g s (p ∷ ps) entered b x ty g_firm now.0 there in
     let put_counts : CountsArguments own h s (with_zero_in entered b x z) =
     zero_counted own g s (p ∷ ps) entered b x ty now.0 (inserted_counted own f s blocks entered b (entry_same f.layout s b blocks).definition counts) in
-    let same : z ≡ length f.values = ap length (inserted_same f b).values in
+    let same : length g.values ≡ length f.values = ap length (inserted_same f b).values in
     record {
-      counts = subst (λ w. CountsArguments own (with_alias h p.param w) s (with_zeroed f.layout s b x p.param w blocks)) same
+      counts = subst (λ n. CountsArguments own (with_alias h p.param (n + steps_before ty)) s (with_zeroed f.layout s b x p.param (n + steps_before ty) blocks)) same
           (drop_counted own h s p ps (with_zero_in entered b x z) z b h_firm h_housed put put_counts h_home exists ends apart);
-      housed = subst (λ w. Housed (with_alias h p.param w)) same (drop_housed h p.param z b h_firm h_housed h_home exists ends apart);
+      housed = subst (λ n. Housed (with_alias h p.param (n + steps_before ty))) same (drop_housed h p.param z b h_firm h_housed h_home exists ends apart);
       others = λ u other.
-          home-set_other h.values p.param _ u other ∙ inst_param_home g b Front (UnaryImm (pos 0)) (ty ∷ []) no_srcloc u ∙ inserted_param_home f b u;
+          home-set_other h.values p.param _ u other ∙ steps_param_home g b (zero_steps ty) u ∙ inserted_param_home f b u;
     }
 
 -- SEALING ---------------------------------------------------------------------------------------------------------
@@ -88,7 +87,7 @@ completed_locally own s b [] f blocks firm housed before counts sound alone home
 completed_locally own s b (p ∷ ps) f blocks firm housed before counts sound alone homes =
     let is : param_home f p.param ≡ Some b = homes p (contains_first p ps) in
     let g : Body = zeroed f b p.param in
-    let tables : Blocks = with_zeroed f.layout s b p.variable p.param (length f.values) blocks in
+    let tables : Blocks = with_zeroed f.layout s b p.variable p.param (zero_value f (value_at f p.param).ty) blocks in
     let done : Zeroed own f s p ps blocks b = zeroed_alone own f s p ps blocks b firm before sound is alone in
     let more : ZeroedCounts own f s p blocks b = zeroed_counts own f s p ps blocks b firm housed before counts sound is in
     let others : Keeps own tables (completed g ps) s =
@@ -98,7 +97,7 @@ completed_locally own s b (p ∷ ps) f blocks firm housed before counts sound al
       tables = others.tables;
       describes = others.describes;
       sound = others.sound;
-      same = same_program_then blocks tables others.tables (zeroed_program f.layout s b p.variable p.param (length f.values) blocks) others.same;
+      same = same_program_then blocks tables others.tables (zeroed_program f.layout s b p.variable p.param (zero_value f (value_at f p.param).ty) blocks) others.same;
       counts = others.counts;
     })
 
@@ -140,7 +139,7 @@ waits_locally own f g s t tables x ty b firm before counts sound there none unse
 -- in a sealed block to which no branch leads it is another name of a zero, which is the answer
 pub zeroes_locally : (own : Own) (f g : Body) (s t : SsaState) (tables : Blocks) (x : ℕ) (ty : «Type») (b : ℕ) → Firm f → Housed f → Describes own f s [] tables
     → CountsArguments own f s tables → BlocksSound tables → predecessors_of s b ≡ [] → b < length f.blocks → record_of s x b ≡ None → is_yes (sealed_of s b) ≡ true
-    → Zeroes s t f g x ty b → SamePredecessors s t → KeepsAndKnows own tables g t b x (length f.values + 1)
+    → Zeroes s t f g x ty b → SamePredecessors s t → KeepsAndKnows own tables g t b x (length f.values + 1 + steps_before ty)
 zeroes_locally own f g s t tables x ty b firm housed before counts sound alone there none is_sealed zeroes same =
     let n : ℕ = length f.values in
     let h : Body = with_param f b ty in
@@ -153,17 +152,17 @@ zeroes_locally own f g s t tables x ty b firm housed before counts sound alone t
     let done : Zeroed own h t p [] with_it b = zeroed_alone own h t p [] with_it b h_firm described with_sound (param_home_new f b ty) (same b ∙ alone) in
     let more : ZeroedCounts own h t p with_it b =
     zeroed_counts own h t p [] with_it b h_firm (add_housed f b ty firm housed there) described (add_counted own f s t [] tables x b ty firm counts there same) with_sound (param_home_new f b ty) in
-    let z : ℕ = length h.values in
+    let z : ℕ = zero_value h (value_at h n).ty in
     let after : Blocks = with_zeroed h.layout t b x n z with_it in
-    let count : z ≡ n + 1 = param_count f b ty in
+    let count : z ≡ n + 1 + steps_before ty = param_zero_value f b ty in
     let ends_before : ℕ → ℕ = (with_entry h.layout t b with_it).function.resolve in
     let own_end_of : (v : ℕ) → resolved h v ≡ v → ends_before v ≡ v = λ v is. (entry_same h.layout t b with_it).resolve v ∙ described.resolves v ∙ is in
     let own_n : ends_before n ≡ n = own_end_of n (param_resolved f b ty firm n ∙ own_end f) in
-    let own_z : ends_before z ≡ z = own_end_of z (own_end h) in
+    let own_z : ends_before z ≡ z = own_end_of z (past_unaliased h z (omega arith)) in
     let first : after.function.resolve n ≡ z = elim (aliased_cases ends_before n z n) [ inl moved ↦ moved.1 | inr stayed ↦ absurd (stayed.0 own_n) ] in
     let second : after.function.resolve z ≡ z =
     elim (aliased_cases ends_before n z z) [ inl moved ↦ absurd (omega (arith, moved.0, own_z, count)) | inr stayed ↦ stayed.1 ∙ own_z ] in
-    subst (λ k. KeepsAndKnows own tables k t b x (n + 1)) (sym zeroes.function) (record {
+    subst (λ k. KeepsAndKnows own tables k t b x (n + 1 + steps_before ty)) (sym zeroes.function) (record {
       kept = record {
         tables = after;
         describes = done.describes;
@@ -183,7 +182,7 @@ pub use_sound : (own : Own) (f g : Body) (s t : SsaState) (tables : Blocks) (x :
     → DescribesSoundly own f s tables → b < length f.blocks → SamePredecessors s t
     → IfSome (record_of s x b) (λ v. ((g ≡ f) × (t ≡ s)) × (value ≡ v))
     → (record_of s x b ≡ None → is_yes (sealed_of s b) ≡ false → Waits s t f g x ty b × (value ≡ length f.values))
-    → (record_of s x b ≡ None → is_yes (sealed_of s b) ≡ true → predecessors_of s b ≡ [] → Zeroes s t f g x ty b × (value ≡ length f.values + 1))
+    → (record_of s x b ≡ None → is_yes (sealed_of s b) ≡ true → predecessors_of s b ≡ [] → Zeroes s t f g x ty b × (value ≡ length f.values + 1 + steps_before ty))
     → (record_of s x b ≡ None → is_yes (sealed_of s b) ≡ true → predecessors_of s b ≢ []
     → UsesVariable x ty b (record { function = f; state = s; look_up = no_look_up }) value (record { function = g; state = t; look_up = look_up }))
     → KeepsAndKnows own tables g t b x value
@@ -197,7 +196,7 @@ use_sound own f g s t tables x ty b value look_up known both there same found wa
 
     by_branches : record_of s x b ≡ None → is_yes (sealed_of s b) ≡ true → (branches : List ℕ) → predecessors_of s b ≡ branches → KeepsAndKnows own tables g t b x value
     by_branches none is_sealed [] alone =
-        let case : Zeroes s t f g x ty b × (value ≡ length f.values + 1) = zeroes none is_sealed alone in
+        let case : Zeroes s t f g x ty b × (value ≡ length f.values + 1 + steps_before ty) = zeroes none is_sealed alone in
         subst (λ v. KeepsAndKnows own tables g t b x v) (sym case.1) (zeroes_locally own f g s t tables x ty b firm (housed_from f known) before both.2 both.1 alone there none is_sealed case.0 same)
     by_branches none is_sealed (i ∷ branches) some =
         let leads : predecessors_of s b ≢ [] = λ empty. some_none (sym some ∙ empty) in

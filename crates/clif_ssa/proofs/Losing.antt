@@ -1,6 +1,6 @@
 -- The clauses on parameters and on what values stand for, of a use and of a sealing.
 use Rattle.std.proofs.Common.{◌≡◌, ◌≢◌, ℕ, suc, ◌+◌, ◌<◌, ◌==◌, ◌&&◌, true, false, Bool, List, [], ◌∷◌, ◌++◌, length, refl, ap, arith, sym, ◌∙◌, subst, inl, inr}
-use Rattle.std.specs.Prelude.{Option, Some, None, cond, pos, slice_index, if◌then◌else◌, Result, Ok, Err, OnOk, IfOk, IfSome}
+use Rattle.std.specs.Prelude.{Option, Some, None, cond, slice_index, if◌then◌else◌, Result, Ok, Err, OnOk, IfOk, IfSome}
 use Rattle.std.proofs.lemmas.Grind.{common_steps}
 use Rattle.std.proofs.lemmas.Bool.{cases_eq}
 use Rattle.std.proofs.lemmas.Bool.Decides.{nat_tests}
@@ -10,21 +10,19 @@ use Rattle.clif_ir.specs.Changes.{with_alias, with_param, with_layout, inserted_
 use Rattle.clif_ir.specs.Consistent.{IsConsistent, IsOrigin, Stands}
 use Rattle.clif_ir.specs.Reading.{param_home, home_of_param, without, stands_in}
 use Rattle.clif_ir.specs.declared.function.BlockNode.{BlockNode}
-use Rattle.clif_ir.specs.declared.inst_list.BlockEnd.TheVariants.{Front}
-use Rattle.clif_ir.specs.declared.instructions.InstructionData.TheVariants.{UnaryImm}
 use Rattle.clif_ir.proofs.Lists.{at_set}
 use Rattle.clif_ssa.specs.declared.tables.Pending.{Pending}
 use Rattle.clif_ssa.specs.Tables.{is_yes}
 use Rattle.clif_ssa.specs.declared.side_effects.SideEffects.{SideEffects}
-use Rattle.clif_ssa.specs.Ssa.{SsaState, record_of, sealed_of, zeroed, completed, no_srcloc, Records, Waits, Zeroes}
+use Rattle.clif_ssa.specs.Ssa.{SsaState, record_of, sealed_of, zeroed, completed, Records, Waits, Zeroes, zero_value}
 use Rattle.clif_ssa.specs.Structure.{StayAlike, HasRecordOf, Remembers, Moment, AreSteps, last_of, LosesWaiting}
 use Rattle.clif_ssa.proofs.Bodies.{Firm, firm_from, home_inside, param_exists, param_origin}
 use Rattle.clif_ssa.proofs.Describing.{recorded_here}
-use Rattle.clif_ssa.proofs.Parameters.{param_firm, param_resolved, param_home_new, param_count}
-use Rattle.clif_ssa.proofs.Zeroing.{put_zero}
+use Rattle.clif_ssa.proofs.Parameters.{param_firm, param_resolved, param_home_new}
 use Rattle.clif_ssa.proofs.Completing.{inserted_same, inserted_firm, inserted_param_home}
-use Rattle.clif_ssa.proofs.Instructions.{inst_firm, inst_param_home}
 use Rattle.clif_ssa.proofs.Alike.{EndsIn, zeroed_ends, alike_same, alike_then, Leaves, zeroed_leaves, LeavesAll, completed_leaves}
+use Rattle.clif_ssa.proofs.ZeroSteps.{steps_param_home, steps_firm, put_zero, steps_params, param_zero_value}
+use Rattle.clif_ssa.specs.Zeros.{zero_steps, steps_before}
 
 -- PARAMETERS ------------------------------------------------------------------------------------------------------
 
@@ -74,9 +72,7 @@ inserted_params f b c = by (stands_in b f.layout)
     by false = refl
 
 put_params : (f : Body) (b c : ℕ) (ty : «Type») → b < length f.blocks → params_of (put_zero f b ty) c ≡ params_of f c
-put_params f b c ty there =
-    at_set (λ (m : BlockNode). m.params ≡ params_of f c) f.blocks b (record (block_at f b) { insts = length f.insts ∷ (block_at f b).insts }) c empty_block there
-    (λ same. ap (λ d. params_of f d) (sym same)) (λ _. refl)
+put_params f b c ty there = steps_params f b (zero_steps ty) c
 
 param_params : (f : Body) (b c : ℕ) (ty : «Type») → b < length f.blocks → (c ≢ b → params_of (with_param f b ty) c ≡ params_of f c)
     × (c ≡ b → params_of (with_param f b ty) c ≡ params_of f b ++ length f.values ∷ [])
@@ -110,17 +106,17 @@ zeroes_params f b ty known there c =
     let h_blocks : length h.blocks ≡ length f.blocks = grind (arith, common_steps) in
     let i_blocks : length i.blocks ≡ length h.blocks = ap length (inserted_same h b).blocks in
     let i_there : b < length i.blocks = omega (arith, there, h_blocks, i_blocks) in
-    let k_firm : Firm k = inst_firm i b Front (UnaryImm (pos 0)) ((value_at h n).ty ∷ []) no_srcloc (inserted_firm h b (param_firm f b ty (firm_from f known) there)) in
+    let k_firm : Firm k = steps_firm i b (zero_steps (value_at h n).ty) (inserted_firm h b (param_firm f b ty (firm_from f known) there)) in
     let home : param_home k n ≡ Some b =
-    inst_param_home i b Front (UnaryImm (pos 0)) ((value_at h n).ty ∷ []) no_srcloc n ∙ inserted_param_home h b n ∙ param_home_new f b ty in
+    steps_param_home i b (zero_steps (value_at h n).ty) n ∙ inserted_param_home h b n ∙ param_home_new f b ty in
     let same : (d : ℕ) → params_of k d ≡ params_of h d = λ d. put_params i b d (value_at h n).ty i_there ∙ inserted_params h b d in
     let apart : (j : ℕ) → j < length (params_of f b) → slice_index (params_of f b) j ≢ n = λ j inside at.
     absurd (omega (arith, (known.params_known b j inside).0, at)) in
     elim (cases_eq c b) [
       | inl here ↦
-          (alias_params k n (length h.values) b c k_firm home).1 here
+          (alias_params k n (zero_value h (value_at h n).ty) b c k_firm home).1 here
           ∙ ap (λ xs. without n xs) (same b ∙ (param_params f b b ty there).1 refl) ∙ without_push (params_of f b) n apart ∙ ap (λ d. params_of f d) (sym here)
-      | inr other ↦ (alias_params k n (length h.values) b c k_firm home).0 other ∙ same c ∙ (param_params f b c ty there).0 other
+      | inr other ↦ (alias_params k n (zero_value h (value_at h n).ty) b c k_firm home).0 other ∙ same c ∙ (param_params f b c ty there).0 other
     ]
 
 -- THE CLAUSES OF A USE --------------------------------------------------------------------------------------------
@@ -137,12 +133,12 @@ records_stay s t x b v none written y c w is = written y c ∙ by (y == x && c =
         absurd (none_some (sym (ap (λ z. record_of s z c) first ∙ ap (λ d. record_of s x d) second ∙ none) ∙ is))
 
 pub zeroes_resolved : (f : Body) (b : ℕ) (ty : «Type») → Firm f → b < length f.blocks
-    → resolved (zeroed (with_param f b ty) b (length f.values)) (length f.values) ≡ resolved (zeroed (with_param f b ty) b (length f.values)) (length f.values + 1)
+    → resolved (zeroed (with_param f b ty) b (length f.values)) (length f.values) ≡ resolved (zeroed (with_param f b ty) b (length f.values)) (length f.values + 1 + steps_before ty)
 zeroes_resolved f b ty firm there =
     let h : Body = with_param f b ty in
     let n : ℕ = length f.values in
-    let done : EndsIn (zeroed h b n) n (length h.values) = zeroed_ends h b n (param_firm f b ty firm there) (param_home_new f b ty) in
-    done.first ∙ sym done.second ∙ ap (λ z. resolved (zeroed h b n) z) (param_count f b ty)
+    let done : EndsIn (zeroed h b n) n (zero_value h (value_at h n).ty) = zeroed_ends h b n (param_firm f b ty firm there) (param_home_new f b ty) in
+    done.first ∙ sym done.second ∙ ap (λ z. resolved (zeroed h b n) z) (param_zero_value f b ty)
 
 -- what a use of a variable leaves and answers
 pub record Used (x b : ℕ) (f : Body) (s : SsaState) (g : Body) (t : SsaState) (answer : ℕ) : Type 0 where
@@ -167,7 +163,7 @@ waits_used f g s t x b ty known none unsealed waits =
     }
 
 pub zeroes_used : (f g : Body) (s t : SsaState) (x b : ℕ) (ty : «Type») → IsConsistent f → b < length f.blocks → record_of s x b ≡ None → Zeroes s t f g x ty b
-    → Used x b f s g t (length f.values + 1)
+    → Used x b f s g t (length f.values + 1 + steps_before ty)
 zeroes_used f g s t x b ty known there none zeroes =
     let firm : Firm f = firm_from f known in
     let h : Body = with_param f b ty in
@@ -176,7 +172,7 @@ zeroes_used f g s t x b ty known there none zeroes =
       recorded = (
         length f.values,
         zeroes.recorded x b ∙ recorded_here x b (length f.values) (record_of s x b),
-        subst (λ k. resolved k (length f.values) ≡ resolved k (length f.values + 1)) (sym zeroes.function) (zeroes_resolved f b ty firm there),
+        subst (λ k. resolved k (length f.values) ≡ resolved k (length f.values + 1 + steps_before ty)) (sym zeroes.function) (zeroes_resolved f b ty firm there),
       );
       remembers = λ y c. record {
         recorded = records_stay s t x b (length f.values) none zeroes.recorded y c;
@@ -199,14 +195,14 @@ pub use_used : (f g : Body) (s t : SsaState) (x : ℕ) (ty : «Type») (b : ℕ)
     → IsConsistent f → b < length f.blocks
     → IfSome (record_of s x b) (λ v. OnOk result ((g ≡ f) × (t ≡ s)) × IfOk result (λ r. (r.0 ≡ v) × (r.1.instructions_added_to_blocks.items ≡ [])))
     → (record_of s x b ≡ None → is_yes (sealed_of s b) ≡ false → OnOk result (Waits s t f g x ty b) × IfOk result (λ r. (r.0 ≡ length f.values) × (r.1.instructions_added_to_blocks.items ≡ [])))
-    → (record_of s x b ≡ None → is_yes (sealed_of s b) ≡ true → OnOk result (Zeroes s t f g x ty b) × IfOk result (λ r. (r.0 ≡ length f.values + 1) × (r.1.instructions_added_to_blocks.items ≡ b ∷ [])))
+    → (record_of s x b ≡ None → is_yes (sealed_of s b) ≡ true → OnOk result (Zeroes s t f g x ty b) × IfOk result (λ r. (r.0 ≡ length f.values + 1 + steps_before ty) × (r.1.instructions_added_to_blocks.items ≡ b ∷ [])))
     → IfOk result (λ r. Used x b f s g t r.0)
 use_used f g s t x ty b (Err error) consistent there known waits zeroes = tt
 use_used f g s t x ty b (Ok r) consistent there known waits zeroes = by (record_of s x b) refl known
   where
     by_sealed : record_of s x b ≡ None → (sealed : Bool) → is_yes (sealed_of s b) ≡ sealed → Used x b f s g t r.0
     by_sealed none true sealed =
-        let case : Zeroes s t f g x ty b × ((r.0 ≡ length f.values + 1) × (r.1.instructions_added_to_blocks.items ≡ b ∷ [])) = zeroes none sealed in
+        let case : Zeroes s t f g x ty b × ((r.0 ≡ length f.values + 1 + steps_before ty) × (r.1.instructions_added_to_blocks.items ≡ b ∷ [])) = zeroes none sealed in
         subst (λ v. Used x b f s g t v) (sym case.1.0) (zeroes_used f g s t x b ty consistent there none case.0)
     by_sealed none false sealed =
         let case : Waits s t f g x ty b × ((r.0 ≡ length f.values) × (r.1.instructions_added_to_blocks.items ≡ [])) = waits none sealed in

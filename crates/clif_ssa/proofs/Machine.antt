@@ -3,7 +3,7 @@ use Rattle.std.proofs.Common.{◌≡◌, ℕ, ◌<◌, ◌==◌, ◌&&◌, Bool,
 use Rattle.std.specs.Prelude.{Option, Some, None, Contains, reverse, if◌then◌else◌}
 use Rattle.std.specs.List.{AllByRecursion}
 use Rattle.clif_types.specs.declared.types.«Type».{«Type»}
-use Rattle.clif_ir.specs.Body.{Body, resolved, alias_of_origin}
+use Rattle.clif_ir.specs.Body.{Body, resolved, alias_of_origin, value_at}
 use Rattle.clif_ir.specs.Changes.{inserted_in}
 use Rattle.clif_ir.specs.Consistent.{IsConsistent}
 use Rattle.clif_ir.specs.Reading.{param_home}
@@ -17,7 +17,7 @@ use Rattle.clif_ssa.specs.declared.look_up.Call.TheVariants.{UseVar, FinishPrede
 use Rattle.clif_ssa.specs.declared.tables.Pending.{Pending}
 use Rattle.clif_ssa.specs.Own.{Own}
 use Rattle.clif_ssa.specs.Tables.{is_yes}
-use Rattle.clif_ssa.specs.Ssa.{SsaState, record_of, sealed_of, predecessors_of, zeroed}
+use Rattle.clif_ssa.specs.Ssa.{SsaState, record_of, sealed_of, predecessors_of, zeroed, zero_value}
 use Rattle.clif_ssa.specs.LookUp.{branch_block, calls_for, Stage, LookUpState, no_look_up, Copies, FinishesLookUp, MakesLook, MakesFinish, MakesCall, MakesCalls, none_made, made, UsesVariable, CompletesParameter, with_calls}
 use Rattle.clif_ssa.specs.Sound.{Describes, CountsArguments, IsWaiting, SameProgram, KeepsAndKnows, has_entry}
 use Rattle.clif_ssa.specs.SoundLaws.{with_entry, DescribesSoundly}
@@ -198,7 +198,7 @@ none_some same = cc
 -- the parameter becomes a name of a zero of its block, which becomes the entry
 idle_ends : (c : Setting) (param block : ℕ) (tables : Blocks) (m : Stage) → Base c (bare_frame param block ∷ []) tables m → has_entry m.function.layout ≡ false
     → param_home m.function param ≡ Some block → GoesTo tables (comes_from c) c.variable c.first [] param → predecessors_of m.state block ≡ []
-    → Ended c (bare_frame param block) [] tables m (zeroed m.function block param) (length m.function.values)
+    → Ended c (bare_frame param block) [] tables m (zeroed m.function block param) (zero_value m.function (value_at m.function param).ty)
 idle_ends c param block tables m base none home goes nothing =
     let x : ℕ = c.variable in
     let p : Pending = record { variable = x; param = param } in
@@ -237,14 +237,14 @@ idle_finishes c param block tables m n base none home goes results calls finish 
     let nothing : predecessors_of m.state block ≡ [] = nothing_contained (predecessors_of m.state block) (λ i here. absurd (off (sym (base.describes.leading block i here).1 ∙ none))) in
     let parts : (finish.results ≡ []) × (finish.others ≡ []) = same_parts finish.results finish.others [] [] (finish.count ∙ ap length nothing) (sym finish.taken ∙ results) in
     let turn : reverse finish.results ≡ [] = ap reverse parts.0 in
-    let ended : Ended c (bare_frame param block) [] tables m (zeroed m.function block param) (length m.function.values) = idle_ends c param block tables m base none home goes nothing in
+    let ended : Ended c (bare_frame param block) [] tables m (zeroed m.function block param) (zero_value m.function (value_at m.function param).ty) = idle_ends c param block tables m base none home goes nothing in
     elim finish.ends [
       | inl no_parameter ↦ absurd (none_some (sym no_parameter.gone ∙ home))
       | inr ends ↦
           let at_home : ends.0 ≡ block = same_some (sym ends.1 ∙ home) in
           elim ends.2 [
             | inl zero ↦
-                finished c (bare_frame param block) [] tables m n (zeroed m.function block param) (length m.function.values) finish.others (m.look_up.zeros ++ finish.zeros) base home ended parts.1 calls
+                finished c (bare_frame param block) [] tables m n (zeroed m.function block param) (zero_value m.function (value_at m.function param).ty) finish.others (m.look_up.zeros ++ finish.zeros) base home ended parts.1 calls
                 (zero.function ∙ ap (λ b. zeroed m.function b param) at_home) finish.state
                 (finish.look_up ∙ ap (λ (v : ℕ). record { calls = m.look_up.calls; results = v ∷ finish.others; zeros = m.look_up.zeros ++ finish.zeros }) zero.answer)
             | inr more ↦

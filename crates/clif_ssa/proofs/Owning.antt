@@ -26,6 +26,7 @@ use Rattle.clif_ssa.proofs.Parameters.{new_unaliased}
 use Rattle.clif_ssa.proofs.Instructions.{inst_resolved, inst_param_home, inst_insts_here, inst_insts_other, inst_extends, inst_params}
 use Rattle.clif_ssa.proofs.Counting.{inst_counted, counts_given}
 use Rattle.clif_ssa.proofs.Writing.{item_described, name_cases, names_kept, new_name_item}
+use Rattle.clif_ssa.specs.Zeros.{insts_of_zeros}
 
 -- the caller's instructions of each block, with one more behind those of one
 own_instructions : (own : Own) (f : Body) (blocks blocks' : Blocks) (b : ℕ) (shape : InstructionData) (types : List «Type») (loc : ℕ) → b < length f.blocks
@@ -40,7 +41,7 @@ own_instructions own f blocks blocks' b shape types loc there extends has c =
           let e : with_one_more own.insts b i c ≡ own.insts b ++ i ∷ [] = updated-same own.insts b (own.insts b ++ i ∷ []) c same in
           let now : HasInstructions g blocks' b (own.insts b ++ i ∷ []) = record {
             zeros = here.zeros;
-            in_order = inst_insts_here f b Back shape types loc there ∙ ap (λ xs. xs ++ i ∷ []) here.in_order ∙ append_assoc here.zeros (own.insts b) (i ∷ []);
+            in_order = inst_insts_here f b Back shape types loc there ∙ ap (λ xs. xs ++ i ∷ []) here.in_order ∙ append_assoc (insts_of_zeros here.zeros) (own.insts b) (i ∷ []);
             are_zeros = zeros_kept f g blocks blocks' b here.zeros extends here.are_zeros;
           } in
           subst (λ xs. HasInstructions g blocks' c xs) (sym e) (subst (λ d. HasInstructions g blocks' d (own.insts b ++ i ∷ [])) (sym same) now)

@@ -1,5 +1,5 @@
 -- Branches whose edges pass one value more to a block.
-use Rattle.std.proofs.Common.{◌≡◌, ◌≢◌, ℕ, zero, suc, ◌<◌, List, [], ◌∷◌, ◌++◌, length, map, get_or, refl, ap, arith, sym, ◌∙◌, subst, ◌⊎◌, inl, inr}
+use Rattle.std.proofs.Common.{◌≡◌, ◌≢◌, ℕ, zero, suc, ◌<◌, List, [], ◌∷◌, ◌++◌, length, map, get_or, refl, ap, arith, sym, ◌∙◌, subst, ◌⊎◌, inl, inr, ◌+◌, ◌-◌}
 use Rattle.std.specs.Prelude.{Option, Some, None, slice_get, slice_index, Contains, if◌then◌else◌}
 use Rattle.std.proofs.lemmas.Grind.{common_steps}
 use Rattle.std.proofs.lemmas.Bool.{cases_eq}
@@ -14,7 +14,6 @@ use Rattle.clif_ir.specs.declared.block_call.BlockArg.TheVariants.{Value}
 use Rattle.clif_ir.specs.declared.block_call.BlockCall.{BlockCall}
 use Rattle.clif_ir.specs.declared.function.InstNode.{InstNode}
 use Rattle.clif_ir.specs.declared.instructions.InstructionData.{InstructionData}
-use Rattle.clif_ir.specs.declared.instructions.InstructionData.TheVariants.{UnaryImm}
 use Rattle.clif_ir.proofs.Lists.{at_set}
 use Rattle.clif_ir.proofs.Reading.{if_true, if_false, Once-tail}
 use Rattle.clif_ir.proofs.KeepsBranch.{destinations-with_argument, with_branch_argument_consistent}
@@ -22,6 +21,8 @@ use Rattle.clif_paths.specs.Places.{inside, Arm, same_place}
 use Rattle.clif_paths.specs.Blocks.{Blocks, last_place}
 use Rattle.clif_paths.specs.LookUp.{Paired}
 use Rattle.clif_paths.proofs.PathLemmas.{same_place-equal, same_place-other}
+use Rattle.clif_ssa.specs.Zeros.{ZeroAt, HasZero, IsStep}
+use Rattle.clif_ssa.proofs.ZeroTable.{plain_step}
 use Rattle.clif_ssa.specs.LookUp.{branch_block, with_arguments}
 use Rattle.clif_ssa.specs.Sound.{edges_at, edge_target, args_of, passed_at, passed_count}
 
@@ -58,9 +59,6 @@ args_same b v (edge ∷ edges) zero apart =
     ap (λ (e : BlockCall). e.args) (if_false edge.block b (record edge { args = edge.args ++ Value v ∷ [] }) edge (λ same. apart (ap Some same)))
 args_same b v (edge ∷ edges) (suc k) apart = args_same b v edges k apart
 
-unary_same : (b v : ℕ) (shape : InstructionData) {imm : _} → shape ≡ UnaryImm imm → with_argument b v shape ≡ UnaryImm imm
-unary_same b v shape is = ap (with_argument b v) is
-
 some_kept : {X : Type 0} (xs ys : List X) (m : ℕ) (a : X) → slice_get xs m ≡ Some a → slice_get (xs ++ ys) m ≡ Some a
 some_kept [] ys m a is = absurd (none_some is)
   where
@@ -82,7 +80,8 @@ pub record Passing (b : ℕ) (f g : Body) : Type 0 where
   pub count : length g.insts ≡ length f.insts
   pub block : (j : ℕ) → branch_block g j ≡ branch_block f j
   pub results : (j : ℕ) → (inst_at g j).results ≡ (inst_at f j).results
-  pub unary : (j : ℕ) (imm : _) → (inst_at f j).shape ≡ UnaryImm imm → (inst_at g j).shape ≡ UnaryImm imm
+  pub plain : (j : ℕ) (shape : InstructionData) → ((c w : ℕ) → with_argument c w shape ≡ shape)
+      → (inst_at f j).shape ≡ shape → (inst_at g j).shape ≡ shape
   pub target : (j k : ℕ) → edge_target g j k ≡ edge_target f j k
   pub kept : (j k m : ℕ) (a : BlockArg) → passed_at f j k m ≡ Some a → passed_at g j k m ≡ Some a
   pub elsewhere : (j k c : ℕ) → edge_target f j k ≡ Some c → c ≢ b → passed_count g j k ≡ passed_count f j k
@@ -93,7 +92,7 @@ passing_none b f = record {
   count = refl;
   block = λ j. refl;
   results = λ j. refl;
-  unary = λ j imm is. is;
+  plain = λ j shape plain is. is;
   target = λ j k. refl;
   kept = λ j k m a is. is;
   elsewhere = λ j k c leads apart. refl;
@@ -105,7 +104,7 @@ passing_then b f g h first second = record {
   count = second.count ∙ first.count;
   block = λ j. second.block j ∙ first.block j;
   results = λ j. second.results j ∙ first.results j;
-  unary = λ j imm is. second.unary j imm (first.unary j imm is);
+  plain = λ j shape plain is. second.plain j shape plain (first.plain j shape plain is);
   target = λ j k. second.target j k ∙ first.target j k;
   kept = λ j k m a is. second.kept j k m a (first.kept j k m a is);
   elsewhere = λ j k c leads apart. second.elsewhere j k c (first.target j k ∙ leads) apart ∙ first.elsewhere j k c leads apart;
@@ -133,9 +132,9 @@ one_passes f i b v within =
       count = grind (arith, common_steps);
       block = λ j. at_set (λ (m : InstNode). m.block ≡ (inst_at f j).block) f.insts i (more_node f i b v) j no_inst within (λ same. ap (λ k. (inst_at f k).block) (sym same)) (λ _. refl);
       results = λ j. at_set (λ (m : InstNode). m.results ≡ (inst_at f j).results) f.insts i (more_node f i b v) j no_inst within (λ same. ap (λ k. (inst_at f k).results) (sym same)) (λ _. refl);
-      unary = λ j imm is.
-          at_set (λ (m : InstNode). m.shape ≡ UnaryImm imm) f.insts i (more_node f i b v) j no_inst within
-          (λ same. unary_same b v (inst_at f i).shape (subst (λ k. (inst_at f k).shape ≡ UnaryImm imm) same is)) (λ _. is);
+      plain = λ j shape plain is.
+          at_set (λ (m : InstNode). m.shape ≡ shape) f.insts i (more_node f i b v) j no_inst within
+          (λ same. ap (with_argument b v) (subst (λ k. (inst_at f k).shape ≡ shape) same is) ∙ plain b v) (λ _. is);
       target = λ j k.
           elim (cases_eq j i) [
             | inl same ↦
@@ -179,6 +178,17 @@ one_passes f i b v within =
     still : (edges : List BlockCall) (k m : ℕ) (a : BlockArg) → slice_get (args_of (slice_get edges k)) m ≡ Some a
         → slice_get (args_of (slice_get (with_argument_to b v edges) k)) m ≡ Some a
     still edges k m a is = by_target edges k m a is (slice_get (targets edges) k) refl
+
+-- zeros stay as they are
+pub zero_passed : (b : ℕ) (f g : Body) (z : ZeroAt) → Passing b f g → HasZero f z → HasZero g z
+zero_passed b f g z passing has k step is =
+    let old : IsStep f (z.inst + k) (z.value + k) step = has k step is in
+    record {
+      exists = let there : z.inst + k < length f.insts = old.exists in omega (arith, there, passing.count);
+      value_exists = subst (λ (h : Body). z.value + k < length h.values) (sym passing.same) old.value_exists;
+      shape = passing.plain (z.inst + k) (step.shape ((z.value + k) - 1)) (λ c w. (plain_step z.ty k step is).unchanged c w ((z.value + k) - 1)) old.shape;
+      result = passing.results (z.inst + k) ∙ old.result;
+    }
 
 contains_cons : (i : ℕ) (is : List ℕ) (j : ℕ) → Contains (i ∷ is) j → (i ≡ j) ⊎ Contains is j
 contains_cons i is j (zero, within, at) = inl at

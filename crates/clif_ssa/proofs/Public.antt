@@ -24,6 +24,7 @@ use Rattle.clif_ssa.proofs.Calling.{Popped}
 use Rattle.clif_ssa.proofs.AllCompleted.{sealing_keeps}
 use Rattle.clif_ssa.proofs.Machine.{uses_keeps}
 use Rattle.clif_ssa.proofs.Locally.{waits_locally, zeroes_locally, seals_locally}
+use Rattle.clif_ssa.specs.Zeros.{steps_before}
 
 -- a block to which something leads
 pub something_leads : (s : SsaState) (b : ℕ) → predecessors_of s b ≢ [] → SomethingLeads s
@@ -48,14 +49,14 @@ pub local_use : (own : Own) (f g : Body) (s t : SsaState) (tables : Blocks) (x :
     → IsConsistent f → DescribesSoundly own f s tables → b < length f.blocks → record_of s x b ≡ None → (is_yes (sealed_of s b) ≡ true → predecessors_of s b ≡ [])
     → SamePredecessors s t
     → (is_yes (sealed_of s b) ≡ false → OnOk result (Waits s t f g x ty b) × IfOk result (λ r. (r.0 ≡ length f.values) × (r.1.instructions_added_to_blocks.items ≡ [])))
-    → (is_yes (sealed_of s b) ≡ true → OnOk result (Zeroes s t f g x ty b) × IfOk result (λ r. (r.0 ≡ length f.values + 1) × (r.1.instructions_added_to_blocks.items ≡ b ∷ [])))
+    → (is_yes (sealed_of s b) ≡ true → OnOk result (Zeroes s t f g x ty b) × IfOk result (λ r. (r.0 ≡ length f.values + 1 + steps_before ty) × (r.1.instructions_added_to_blocks.items ≡ b ∷ [])))
     → IfOk result (λ r. KeepsAndKnows own tables g t b x r.0)
 local_use own f g s t tables x ty b (Err error) known both there none alone same waits zeroes = tt
 local_use own f g s t tables x ty b (Ok r) known both there none alone same waits zeroes = by (is_yes (sealed_of s b)) refl
   where
     by : (sealed : Bool) → is_yes (sealed_of s b) ≡ sealed → KeepsAndKnows own tables g t b x r.0
     by true sealed =
-        let case : Zeroes s t f g x ty b × ((r.0 ≡ length f.values + 1) × (r.1.instructions_added_to_blocks.items ≡ b ∷ [])) = zeroes sealed in
+        let case : Zeroes s t f g x ty b × ((r.0 ≡ length f.values + 1 + steps_before ty) × (r.1.instructions_added_to_blocks.items ≡ b ∷ [])) = zeroes sealed in
         subst (λ v. KeepsAndKnows own tables g t b x v) (sym case.1.0)
         (zeroes_locally own f g s t tables x ty b (firm_from f known) (housed_from f known) both.0 both.2 both.1 (alone sealed) there none sealed case.0 same)
     by false unsealed =

@@ -1,6 +1,6 @@
 -- The construction leaves nothing behind that isn't needed: each change keeps it so.
 use Rattle.std.proofs.Common.{◌≡◌, ◌≢◌, ℕ, zero, suc, ◌+◌, ◌<◌, ◌≤◌, ◌==◌, true, false, Bool, List, [], ◌∷◌, ◌++◌, length, refl, ap, arith, sym, ◌∙◌, subst, ◌⊎◌, inl, inr}
-use Rattle.std.specs.Prelude.{Option, Some, None, Contains, cond, pos, slice_index_or, if◌then◌else◌, Result, Ok, Err, OnOk, IfOk, IfSome}
+use Rattle.std.specs.Prelude.{Option, Some, None, Contains, cond, slice_index_or, if◌then◌else◌, Result, Ok, Err, OnOk, IfOk, IfSome}
 use Rattle.std.specs.List.{AllByRecursion}
 use Rattle.std.proofs.Math.ListN.{get_or-append}
 use Rattle.std.proofs.lemmas.Grind.{common_steps}
@@ -11,17 +11,14 @@ use Rattle.clif_types.specs.declared.types.«Type».{«Type»}
 use Rattle.clif_types.specs.declared.extname.UserFuncName.{UserFuncName}
 use Rattle.clif_types.specs.Signature.{SignatureShape}
 use Rattle.clif_ir.specs.Body.{Body, empty_body, value_at, block_at, inst_at, empty_block, no_value, resolved}
-use Rattle.clif_ir.specs.Changes.{with_alias, with_block, with_param, with_inst, with_layout, inserted_in, inst_node, result_nodes}
+use Rattle.clif_ir.specs.Changes.{with_alias, with_block, with_param, with_inst, with_layout, inserted_in, result_nodes}
 use Rattle.clif_ir.specs.Consistent.{IsConsistent}
 use Rattle.clif_ir.specs.Reading.{param_home, stands_in}
 use Rattle.clif_ir.specs.declared.instructions.InstructionData.{InstructionData}
-use Rattle.clif_ir.specs.declared.instructions.InstructionData.TheVariants.{UnaryImm}
 use Rattle.clif_ir.specs.declared.function.BlockNode.{BlockNode}
-use Rattle.clif_ir.specs.declared.function.InstNode.{InstNode}
 use Rattle.clif_ir.specs.declared.function.ValueNode.{ValueNode}
 use Rattle.clif_ir.specs.declared.function.ValueOrigin.TheVariants.{Alias}
-use Rattle.clif_ir.specs.declared.function.ValueOrigin.TheVariants as origin
-use Rattle.clif_ir.specs.declared.inst_list.BlockEnd.TheVariants.{Front, Back}
+use Rattle.clif_ir.specs.declared.inst_list.BlockEnd.TheVariants.{Back}
 use Rattle.clif_ir.proofs.Aliases.{follow_end, follow-inside}
 use Rattle.clif_ir.proofs.Lists.{at_set, below_or_not}
 use Rattle.clif_paths.proofs.Tables.{updated-same, updated-other}
@@ -30,15 +27,18 @@ use Rattle.clif_ssa.specs.declared.tables.Pending.{Pending}
 use Rattle.clif_ssa.specs.Tables.{is_yes, pending_of}
 use Rattle.clif_ssa.specs.declared.tables.Sealed.{Sealed}
 use Rattle.clif_ssa.specs.declared.tables.Sealed.TheVariants.{No, Yes}
-use Rattle.clif_ssa.specs.Ssa.{SsaState, no_state, record_of, sealed_of, zeroed, zeroed_in, completed, no_srcloc, SameBlocks, Seals, Waits, Zeroes}
+use Rattle.clif_ssa.specs.Ssa.{SsaState, no_state, record_of, sealed_of, zeroed, zeroed_in, completed, SameBlocks, Seals, Waits, Zeroes, zero_value}
 use Rattle.clif_ssa.specs.Own.{with_one_more}
 use Rattle.clif_ssa.specs.Structure.{IsNeededZero, HasNeededZeros, NothingStray}
 use Rattle.clif_ssa.proofs.Bodies.{Firm, firm_from, past_alias, param_exists, home_past, home-append}
 use Rattle.clif_ssa.proofs.Parameters.{param_node, param_firm, param_resolved, param_home_new, param_count, param_insts}
-use Rattle.clif_ssa.proofs.Instructions.{inst_resolved, inst_param_home, inst_old, inst_new, inst_insts_here, inst_insts_other, inst_insts_more, inst_values_more}
-use Rattle.clif_ssa.proofs.Zeroing.{put_zero, zero_count, CanAlias, alias_ends, alias_insts, alias_count_same, alias_home_other}
+use Rattle.clif_ssa.proofs.Instructions.{inst_resolved, inst_param_home, inst_old, inst_insts_here, inst_insts_other, inst_insts_more, inst_values_more}
+use Rattle.clif_ssa.proofs.Zeroing.{CanAlias, alias_ends, alias_insts, alias_count_same, alias_home_other}
 use Rattle.clif_ssa.proofs.Completing.{inserted_same, inserted_firm, inserted_param_home}
 use Rattle.clif_ssa.proofs.Alike.{can_zero, unaliased_home, Leaves, zeroed_leaves, LeavesAll, completed_leaves}
+use Rattle.clif_ssa.proofs.ZeroSteps.{steps_resolved, steps_param_home, steps_insts_more, steps_old, steps_insts_here, steps_insts_other, put_zero, zero_count, steps_old_value, zero_at, put_stands, zero_type}
+use Rattle.clif_ssa.specs.Zeros.{zero_steps, ZeroAt, insts_of_zero, insts_of_zeros, value_of_zero, steps_before}
+use Rattle.clif_ssa.proofs.ZeroTable.{zero_exists, has_zero_kept}
 
 -- THE FUNCTION'S PART ---------------------------------------------------------------------------------------------
 
@@ -56,25 +56,19 @@ pub record Longer (f g : Body) : Type 0 where
   pub home_same : (v : ℕ) → v < length f.values → param_home f v ≡ None → param_home g v ≡ None
 
 -- a zero that another value still stands for
-pub needed_kept : (f g : Body) (i : ℕ) → Longer f g → (old : IsNeededZero f i) → resolved g old.alias ≡ old.value → IsNeededZero g i
-needed_kept f g i longer old ends =
-    let same : inst_at g i ≡ inst_at f i = longer.inst_same i old.exists in
-    record {
-      value = old.value;
-      exists = omega (arith, old.exists, longer.insts_more);
-      value_exists = omega (arith, old.value_exists, longer.values_more);
-      shape = ap (λ (n : InstNode). n.shape) same ∙ old.shape;
-      result = ap (λ (n : InstNode). n.results) same ∙ old.result;
-      no_parameter = longer.home_same old.value old.value_exists old.no_parameter;
-      alias = old.alias;
-      another = old.another;
-      stands_for = ends;
-    }
+pub needed_kept : (f g : Body) (z : ZeroAt) → Longer f g → (old : IsNeededZero f z) → resolved g old.alias ≡ value_of_zero z → IsNeededZero g z
+needed_kept f g z longer old ends = record {
+  stands = has_zero_kept f g z longer.values_more longer.insts_more longer.inst_same old.stands;
+  no_parameter = longer.home_same (value_of_zero z) (zero_exists f z old.stands) old.no_parameter;
+  alias = old.alias;
+  another = old.another;
+  stands_for = ends;
+}
 
 -- where each value ends where it ended
-pub all_kept : (f g : Body) → Longer f g → ((v : ℕ) → resolved g v ≡ resolved f v) → (zeros : List ℕ) → AllByRecursion (IsNeededZero f) zeros → AllByRecursion (IsNeededZero g) zeros
+pub all_kept : (f g : Body) → Longer f g → ((v : ℕ) → resolved g v ≡ resolved f v) → (zeros : List ZeroAt) → AllByRecursion (IsNeededZero f) zeros → AllByRecursion (IsNeededZero g) zeros
 all_kept f g longer same [] all = tt
-all_kept f g longer same (i ∷ zeros) all = (needed_kept f g i longer all.0 (same all.0.alias ∙ all.0.stands_for), all_kept f g longer same zeros all.1)
+all_kept f g longer same (z ∷ zeros) all = (needed_kept f g z longer all.0 (same all.0.alias ∙ all.0.stands_for), all_kept f g longer same zeros all.1)
 
 pub types_kept : (f g : Body) → Longer f g → Firm f → ((v : ℕ) → resolved g v ≡ resolved f v) → ((v : ℕ) → (value_at f (resolved f v)).ty ≡ (value_at f v).ty)
     → (v : ℕ) → (value_at g (resolved g v)).ty ≡ (value_at g v).ty
@@ -110,12 +104,12 @@ own_zeros own f b shape types loc firm there c has =
         zeros = has.zeros;
         in_order = ap (λ d. (block_at g d).insts) same ∙ inst_insts_here f b Back shape types loc there
             ∙ ap (λ d. (block_at f d).insts ++ length f.insts ∷ []) (sym same) ∙ ap (λ xs. xs ++ length f.insts ∷ []) has.in_order
-            ∙ append_assoc has.zeros (own c) (length f.insts ∷ []) ∙ ap (λ xs. has.zeros ++ xs) (own_here c same);
+            ∙ append_assoc (insts_of_zeros has.zeros) (own c) (length f.insts ∷ []) ∙ ap (λ xs. insts_of_zeros has.zeros ++ xs) (own_here c same);
         needed = needed;
       }
       | inr other ↦ record {
         zeros = has.zeros;
-        in_order = inst_insts_other f b Back shape types loc c there other ∙ has.in_order ∙ ap (λ xs. has.zeros ++ xs) (own_other c other);
+        in_order = inst_insts_other f b Back shape types loc c there other ∙ has.in_order ∙ ap (λ xs. insts_of_zeros has.zeros ++ xs) (own_other c other);
         needed = needed;
       }
     ]
@@ -233,7 +227,7 @@ none_some same = cc
 -- a parameter becomes a name of a zero of its type
 module _ (f : Body) (b p : ℕ) (ty : «Type») (firm : Firm f) (is : param_home f p ≡ Some b) (typed : ty ≡ (value_at f p).ty) where
   abbrev z : ℕ
-  z = length f.values
+  z = zero_value f ty
 
   abbrev k : Body
   k = put_zero f b ty
@@ -245,7 +239,7 @@ module _ (f : Body) (b p : ℕ) (ty : «Type») (firm : Firm f) (is : param_home
   can = can_zero f b p ty firm is
 
   k_end : (u : ℕ) → resolved k u ≡ resolved f u
-  k_end = inst_resolved f b Front (UnaryImm (pos 0)) (ty ∷ []) no_srcloc firm
+  k_end = steps_resolved f b (zero_steps ty) firm
 
   g_end : (u : ℕ) → ((resolved f u ≡ p) × (resolved g u ≡ z)) ⊎ ((resolved f u ≢ p) × (resolved g u ≡ resolved f u))
   g_end u =
@@ -263,63 +257,54 @@ module _ (f : Body) (b p : ℕ) (ty : «Type») (firm : Firm f) (is : param_home
       (omega (arith, inside, zero_count f b ty)) (λ same. ap (λ v. (value_at k v).ty) (sym same)) (λ other. refl)
 
   old_type : (w : ℕ) → w < length f.values → (value_at g w).ty ≡ (value_at f w).ty
-  old_type w here = alias_type w ∙ value_old f.values (result_nodes (length f.insts) 0 (ty ∷ [])) w here
+  old_type w here = alias_type w ∙ ap (λ (n : ValueNode). n.ty) (steps_old_value f b (zero_steps ty) w here)
 
   new_type : (value_at g z).ty ≡ ty
-  new_type = alias_type z ∙ last_type f.values (record { ty = ty; origin = origin.Result (length f.insts) 0 })
-    where
-      last_type : (values : List ValueNode) (n : ValueNode) → (slice_index_or (values ++ n ∷ []) (length values) no_value).ty ≡ n.ty
-      last_type [] n = refl
-      last_type (m ∷ values) n = last_type values n
+  new_type = alias_type z ∙ zero_type f b ty
 
   pub longer : Longer f g
   longer = record {
     values_more = omega (arith, alias_count_same k p z, zero_count f b ty);
-    insts_more = omega (arith, inst_insts_more f b Front (UnaryImm (pos 0)) (ty ∷ []) no_srcloc);
-    inst_same = inst_old f b Front (UnaryImm (pos 0)) (ty ∷ []) no_srcloc;
+    insts_more = omega (arith, steps_insts_more f b (zero_steps ty));
+    inst_same = steps_old f b (zero_steps ty);
     types_same = old_type;
     home_same = λ v here none.
-        alias_home_other k p z v (λ same. none_some (sym none ∙ ap (param_home f) same ∙ is)) ∙ inst_param_home f b Front (UnaryImm (pos 0)) (ty ∷ []) no_srcloc v ∙ none;
+        alias_home_other k p z v (λ same. none_some (sym none ∙ ap (param_home f) same ∙ is)) ∙ steps_param_home f b (zero_steps ty) v ∙ none;
   }
 
   put_types : ((v : ℕ) → (value_at f (resolved f v)).ty ≡ (value_at f v).ty) → (v : ℕ) → (value_at g (resolved g v)).ty ≡ (value_at g v).ty
   put_types before v =
-      elim (below_or_not v z) [
+      elim (below_or_not v (length f.values)) [
         | inl here ↦
             elim (g_end v) [
               | inl moved ↦
                   ap (λ w. (value_at g w).ty) moved.1 ∙ new_type ∙ typed ∙ ap (λ w. (value_at f w).ty) (sym moved.0) ∙ before v ∙ sym (old_type v here)
               | inr stayed ↦
-                  ap (λ w. (value_at g w).ty) stayed.1 ∙ old_type (resolved f v) (follow-inside f.values z v firm.leads here) ∙ before v ∙ sym (old_type v here)
+                  ap (λ w. (value_at g w).ty) stayed.1 ∙ old_type (resolved f v) (follow-inside f.values (length f.values) v firm.leads here) ∙ before v ∙ sym (old_type v here)
             ]
         | inr past ↦
-            let own_end : resolved f v ≡ v = follow_end f.values z v (past_alias f.values v past) in
+            let own_end : resolved f v ≡ v = follow_end f.values (length f.values) v (past_alias f.values v past) in
             elim (g_end v) [
               | inl moved ↦ absurd (omega (arith, past, inside, own_end, moved.0))
               | inr stayed ↦ ap (λ w. (value_at g w).ty) (stayed.1 ∙ own_end)
             ]
       ]
 
-  new_zero : IsNeededZero g (length f.insts)
+  new_zero : IsNeededZero g (zero_at f ty)
   new_zero =
-      let new : inst_at g (length f.insts) ≡ inst_node f b (UnaryImm (pos 0)) (ty ∷ []) no_srcloc = inst_new f b Front (UnaryImm (pos 0)) (ty ∷ []) no_srcloc in
       let own_end : resolved f p ≡ p = unaliased_home f p b is in
       record {
-        value = z;
-        exists = omega (arith, inst_insts_more f b Front (UnaryImm (pos 0)) (ty ∷ []) no_srcloc);
-        value_exists = omega (arith, alias_count_same k p z, zero_count f b ty);
-        shape = ap (λ (n : InstNode). n.shape) new;
-        result = ap (λ (n : InstNode). n.results) new;
-        no_parameter = alias_home_other k p z z can.apart ∙ inst_param_home f b Front (UnaryImm (pos 0)) (ty ∷ []) no_srcloc z ∙ home_past f.values z (omega arith);
+        stands = has_zero_kept k g (zero_at f ty) (omega (arith, alias_count_same k p z)) (omega arith) (λ i here. refl) (put_stands f b ty);
+        no_parameter = alias_home_other k p z z can.apart ∙ steps_param_home f b (zero_steps ty) z ∙ home_past f.values z (omega arith);
         alias = p;
         another = λ same. can.apart (sym same);
         stands_for = elim (g_end p) [ inl moved ↦ moved.1 | inr stayed ↦ absurd (stayed.0 own_end) ];
       }
 
-  old_zeros : (zeros : List ℕ) → AllByRecursion (IsNeededZero f) zeros → AllByRecursion (IsNeededZero g) zeros
+  old_zeros : (zeros : List ZeroAt) → AllByRecursion (IsNeededZero f) zeros → AllByRecursion (IsNeededZero g) zeros
   old_zeros [] all = tt
-  old_zeros (i ∷ zeros) all = (
-    needed_kept f g i longer all.0 (
+  old_zeros (n ∷ zeros) all = (
+    needed_kept f g n longer all.0 (
         elim (g_end all.0.alias) [
           | inl moved ↦ absurd (none_some (sym all.0.no_parameter ∙ ap (param_home f) (sym all.0.stands_for ∙ moved.0) ∙ is))
           | inr stayed ↦ stayed.1 ∙ all.0.stands_for
@@ -332,16 +317,17 @@ module _ (f : Body) (b p : ℕ) (ty : «Type») (firm : Firm f) (is : param_home
   put_zeros own c has =
       elim (cases_eq c b) [
         | inl same ↦ record {
-          zeros = length f.insts ∷ has.zeros;
+          zeros = zero_at f ty ∷ has.zeros;
           in_order = alias_insts k p z b can c ∙ ap (λ d. (block_at k d).insts) same
-              ∙ inst_insts_here f b Front (UnaryImm (pos 0)) (ty ∷ []) no_srcloc (firm.homes_exist p b is)
-              ∙ ap (λ d. length f.insts ∷ (block_at f d).insts) (sym same) ∙ ap (λ xs. length f.insts ∷ xs) has.in_order;
+              ∙ steps_insts_here f b (zero_steps ty) (firm.homes_exist p b is)
+              ∙ ap (λ d. insts_of_zero (zero_at f ty) ++ (block_at f d).insts) (sym same) ∙ ap (λ xs. insts_of_zero (zero_at f ty) ++ xs) has.in_order
+              ∙ sym (append_assoc (insts_of_zero (zero_at f ty)) (insts_of_zeros has.zeros) (own c));
           needed = (new_zero, old_zeros has.zeros has.needed);
         }
         | inr other ↦ record {
           zeros = has.zeros;
           in_order = alias_insts k p z b can c
-              ∙ inst_insts_other f b Front (UnaryImm (pos 0)) (ty ∷ []) no_srcloc c (firm.homes_exist p b is) other ∙ has.in_order;
+              ∙ steps_insts_other f b (zero_steps ty) c (firm.homes_exist p b is) other ∙ has.in_order;
           needed = old_zeros has.zeros has.needed;
         }
       ]
@@ -359,7 +345,7 @@ zeroed_needed own f b p firm is before =
     let count : length h.values ≡ length f.values = ap length (inserted_same f b).values in
     let entered : OnlyNeeded own h = inserted_needed own f b before in
     let same_type : (value_at f p).ty ≡ (value_at h p).ty = ap (λ values. (slice_index_or values p no_value).ty) (sym (inserted_same f b).values) in
-    subst (λ z. OnlyNeeded own (with_alias (put_zero h b (value_at f p).ty) p z)) count
+    subst (λ n. OnlyNeeded own (with_alias (put_zero h b (value_at f p).ty) p (n + steps_before (value_at f p).ty))) count
     (put_needed h b p (value_at f p).ty (inserted_firm f b firm) (inserted_param_home f b p ∙ is) same_type own entered)
 
 completed_needed : (own : ℕ → List ℕ) (ps : List Pending) (f : Body) → Firm f → OnlyNeeded own f → OnlyNeeded own (completed f ps)
@@ -472,7 +458,7 @@ pub use_stray : (own : ℕ → List ℕ) (f g : Body) (s t : SsaState) (x : ℕ)
     → IsConsistent f → b < length f.blocks → NothingStray own f s
     → IfSome (record_of s x b) (λ v. OnOk result ((g ≡ f) × (t ≡ s)) × IfOk result (λ r. (r.0 ≡ v) × (r.1.instructions_added_to_blocks.items ≡ [])))
     → (record_of s x b ≡ None → is_yes (sealed_of s b) ≡ false → OnOk result (Waits s t f g x ty b) × IfOk result (λ r. (r.0 ≡ length f.values) × (r.1.instructions_added_to_blocks.items ≡ [])))
-    → (record_of s x b ≡ None → is_yes (sealed_of s b) ≡ true → OnOk result (Zeroes s t f g x ty b) × IfOk result (λ r. (r.0 ≡ length f.values + 1) × (r.1.instructions_added_to_blocks.items ≡ b ∷ [])))
+    → (record_of s x b ≡ None → is_yes (sealed_of s b) ≡ true → OnOk result (Zeroes s t f g x ty b) × IfOk result (λ r. (r.0 ≡ length f.values + 1 + steps_before ty) × (r.1.instructions_added_to_blocks.items ≡ b ∷ [])))
     → OnOk result (NothingStray own g t)
 use_stray own f g s t x ty b (Err error) consistent there before known waits zeroes = tt
 use_stray own f g s t x ty b (Ok r) consistent there before known waits zeroes = by (record_of s x b) refl known

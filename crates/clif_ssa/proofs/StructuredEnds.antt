@@ -1,6 +1,6 @@
 -- The structure that the construction keeps: the look-up of a parameter ends.
-use Rattle.std.proofs.Common.{◌≡◌, ◌≢◌, ℕ, ◌<◌, ◌≤◌, Bool, true, false, List, [], ◌∷◌, ◌++◌, length, map, refl, ap, arith, sym, ◌∙◌, subst, ◌⊎◌, inl, inr}
-use Rattle.std.specs.Prelude.{Option, Some, None, Contains, cond, pos, slice_get, slice_index_or}
+use Rattle.std.proofs.Common.{◌≡◌, ◌≢◌, ℕ, ◌<◌, ◌≤◌, Bool, true, false, List, [], ◌∷◌, ◌++◌, length, map, refl, ap, arith, sym, ◌∙◌, subst, ◌⊎◌, inl, inr, ◌+◌}
+use Rattle.std.specs.Prelude.{Option, Some, None, Contains, cond, slice_get, slice_index_or}
 use Rattle.std.specs.List.{AllByRecursion}
 use Rattle.std.proofs.lemmas.Bool.{cases_eq}
 use Rattle.std.proofs.lemmas.List.{append_assoc}
@@ -16,14 +16,12 @@ use Rattle.clif_ir.specs.declared.block_call.BlockArg.TheVariants.{Value}
 use Rattle.clif_ir.specs.declared.function.InstNode.{InstNode}
 use Rattle.clif_ir.specs.declared.function.ValueNode.{ValueNode}
 use Rattle.clif_ir.specs.declared.function.ValueOrigin.TheVariants.{Alias}
-use Rattle.clif_ir.specs.declared.inst_list.BlockEnd.TheVariants.{Front}
-use Rattle.clif_ir.specs.declared.instructions.InstructionData.TheVariants.{UnaryImm}
 use Rattle.clif_ir.proofs.Lists.{at_set}
 use Rattle.clif_ir.proofs.Reading.{Once-tail}
 use Rattle.clif_ssa.specs.Own.{Own}
 use Rattle.clif_ssa.specs.declared.tables.Pending.{Pending}
 use Rattle.clif_ssa.specs.Tables.{is_yes}
-use Rattle.clif_ssa.specs.Ssa.{SsaState, sealed_of, predecessors_of, zeroed, no_srcloc}
+use Rattle.clif_ssa.specs.Ssa.{SsaState, sealed_of, predecessors_of, zeroed, zero_value}
 use Rattle.clif_ssa.specs.LookUp.{with_arguments}
 use Rattle.clif_ssa.specs.Sound.{edges_at, edge_target, args_of}
 use Rattle.clif_ssa.specs.Structure.{IsNeededZero}
@@ -31,32 +29,33 @@ use Rattle.clif_ssa.specs.Structured.{VariableTypes, HasType, AreFor, EdgePasses
 use Rattle.clif_ssa.proofs.Alike.{can_zero}
 use Rattle.clif_ssa.proofs.Bodies.{Firm, param_exists}
 use Rattle.clif_ssa.proofs.Completing.{inserted_same, inserted_firm, inserted_param_home}
-use Rattle.clif_ssa.proofs.Instructions.{inst_param_home, inst_params}
 use Rattle.clif_ssa.proofs.Ordering.{contains_first, contains_more, contains_cons, entry_any}
-use Rattle.clif_ssa.proofs.Passing.{Passing, AllExist, one_passes, args_more, args_same, inst_other, edges_here, others_stay, exist_then}
-use Rattle.clif_ssa.proofs.Zeroing.{put_zero, CanAlias, alias_ends, alias_insts, alias_params, alias_count_same, alias_home_other}
+use Rattle.clif_ssa.proofs.Passing.{zero_passed, Passing, AllExist, one_passes, args_more, args_same, inst_other, edges_here, others_stay, exist_then}
+use Rattle.clif_ssa.proofs.Zeroing.{CanAlias, alias_ends, alias_insts, alias_params, alias_count_same, alias_home_other}
 use Rattle.clif_ssa.proofs.Straying.{Longer, OnlyNeeded, needed_kept, longer}
 use Rattle.clif_ssa.proofs.Structuring.{Grows, edge_kept, complete_exist, edges_keep, waiting_homes, block_kept}
 use Rattle.clif_ssa.proofs.StructuredSteps.{TakesAway, params_in, once_behind, waiting_first, waiting_elsewhere}
+use Rattle.clif_ssa.proofs.ZeroSteps.{steps_param_home, steps_params, put_zero}
+use Rattle.clif_ssa.specs.Zeros.{zero_steps, steps_before, ZeroAt}
 
 none_some : {x : ℕ} → ◌≡◌ {A = Option ℕ} None (Some x) → ⊥
 none_some same = cc
 
 -- IN A ZERO -------------------------------------------------------------------------------------------------------
 
-put_takes : (f : Body) (b v : ℕ) (ty : «Type») → Firm f → param_home f v ≡ Some b → ty ≡ (value_at f v).ty → TakesAway f (with_alias (put_zero f b ty) v (length f.values)) v b
+put_takes : (f : Body) (b v : ℕ) (ty : «Type») → Firm f → param_home f v ≡ Some b → ty ≡ (value_at f v).ty → TakesAway f (with_alias (put_zero f b ty) v (zero_value f ty)) v b
 put_takes f b v ty firm is typed =
     let k : Body = put_zero f b ty in
-    let can : CanAlias k v (length f.values) b = can_zero f b v ty firm is in
+    let can : CanAlias k v (zero_value f ty) b = can_zero f b v ty firm is in
     record {
       longer = longer f b v ty firm is typed;
       params = λ c.
-          let same : (block_at k c).params ≡ (block_at f c).params = inst_params f b Front (UnaryImm (pos 0)) (ty ∷ []) no_srcloc c in
-          elim (alias_params k v (length f.values) b can c) [
+          let same : (block_at k c).params ≡ (block_at f c).params = steps_params f b (zero_steps ty) c in
+          elim (alias_params k v (zero_value f ty) b can c) [
             | inl here ↦ inl (here.0, here.1 ∙ ap (without v) same)
             | inr apart ↦ inr (apart.0, apart.1 ∙ same)
           ];
-      others = λ u other. alias_home_other k v (length f.values) u other ∙ inst_param_home f b Front (UnaryImm (pos 0)) (ty ∷ []) no_srcloc u;
+      others = λ u other. alias_home_other k v (zero_value f ty) u other ∙ steps_param_home f b (zero_steps ty) u;
     }
 
 entered_takes : (f g : Body) (b v : ℕ) → TakesAway (inserted_in f b) g v b → TakesAway f g v b
@@ -83,7 +82,7 @@ zero_takes f b v firm is =
     let count : length h.values ≡ length f.values = ap length (inserted_same f b).values in
     let same_type : (value_at f v).ty ≡ (value_at h v).ty = ap (λ values. (slice_index_or values v no_value).ty) (sym (inserted_same f b).values) in
     entered_takes f (zeroed f b v) b v
-    (subst (λ z. TakesAway h (with_alias (put_zero h b (value_at f v).ty) v z) v b) count
+    (subst (λ n. TakesAway h (with_alias (put_zero h b (value_at f v).ty) v (n + steps_before (value_at f v).ty)) v b) count
     (put_takes h b v (value_at f v).ty (inserted_firm f b firm) (inserted_param_home f b v ∙ is) same_type))
 
 -- IN A VALUE ------------------------------------------------------------------------------------------------------
@@ -110,10 +109,10 @@ module _ (f : Body) (b v w : ℕ) (can : CanAlias f v w b) where
   pub value_takes : TakesAway f g v b
   value_takes = record { longer = alias_longer; params = alias_params f v w b can; others = λ u other. alias_home_other f v w u other }
 
-  alias_zeros : (zeros : List ℕ) → AllByRecursion (IsNeededZero f) zeros → AllByRecursion (IsNeededZero g) zeros
+  alias_zeros : (zeros : List ZeroAt) → AllByRecursion (IsNeededZero f) zeros → AllByRecursion (IsNeededZero g) zeros
   alias_zeros [] all = tt
-  alias_zeros (i ∷ zeros) all = (
-    needed_kept f g i alias_longer all.0 (
+  alias_zeros (n ∷ zeros) all = (
+    needed_kept f g n alias_longer all.0 (
         elim (alias_ends f v w b can all.0.alias) [
           | inl moved ↦ absurd (none_some (sym all.0.no_parameter ∙ ap (param_home f) (sym all.0.stands_for ∙ moved.0) ∙ can.parameter))
           | inr stayed ↦ stayed.1 ∙ all.0.stands_for
@@ -210,15 +209,11 @@ needed_with own f insts b passing before = record {
   zeros = λ c. record { zeros = (before.zeros c).zeros; in_order = (before.zeros c).in_order; needed = all (before.zeros c).zeros (before.zeros c).needed };
 }
   where
-    all : (zeros : List ℕ) → AllByRecursion (IsNeededZero f) zeros → AllByRecursion (IsNeededZero (record f { insts = insts })) zeros
+    all : (zeros : List ZeroAt) → AllByRecursion (IsNeededZero f) zeros → AllByRecursion (IsNeededZero (record f { insts = insts })) zeros
     all [] needed = tt
-    all (i ∷ zeros) needed = (
+    all (z ∷ zeros) needed = (
       record {
-        value = needed.0.value;
-        exists = omega (arith, needed.0.exists, passing.count);
-        value_exists = needed.0.value_exists;
-        shape = passing.unary i (pos 0) needed.0.shape;
-        result = passing.results i ∙ needed.0.result;
+        stands = zero_passed b f (record f { insts = insts }) z passing needed.0.stands;
         no_parameter = needed.0.no_parameter;
         alias = needed.0.alias;
         another = needed.0.another;

@@ -1,5 +1,5 @@
 -- The machine that looks a variable up keeps the structure: look-ups end, and calls are made in turn.
-use Rattle.std.proofs.Common.{◌≡◌, ◌≢◌, ℕ, ◌<◌, ◌≤◌, true, List, ◌∷◌, ◌++◌, length, refl, ap, arith, sym, ◌∙◌, subst, ◌⊎◌, inl, inr}
+use Rattle.std.proofs.Common.{◌≡◌, ◌≢◌, ℕ, ◌<◌, ◌≤◌, true, List, ◌∷◌, ◌++◌, length, refl, ap, arith, sym, ◌∙◌, subst, ◌⊎◌, inl, inr, ◌+◌}
 use Rattle.std.specs.Prelude.{Option, Some, None, Contains, reverse}
 use Rattle.std.proofs.lemmas.List.{length-reverse}
 use Rattle.std.proofs.lemmas.List.Elements.{Contains-append_left, Contains-append_right}
@@ -12,7 +12,7 @@ use Rattle.clif_ssa.specs.declared.look_up.Call.{Call}
 use Rattle.clif_ssa.specs.declared.look_up.Call.TheVariants.{UseVar, FinishPredecessorsLookup}
 use Rattle.clif_ssa.specs.declared.tables.Pending.{Pending}
 use Rattle.clif_ssa.specs.Tables.{is_yes}
-use Rattle.clif_ssa.specs.Ssa.{SsaState, sealed_of, predecessors_of, zeroed}
+use Rattle.clif_ssa.specs.Ssa.{SsaState, sealed_of, predecessors_of, zeroed, zero_value}
 use Rattle.clif_ssa.specs.LookUp.{Stage, LookUpState, branch_block, calls_for, before_first, with_arguments, with_calls, OneComes, SeveralCome, IsNoParameter, EndsLookUp, LooksUp, FinishesLookUp, MakesCall, MakesCalls, none_made, made}
 use Rattle.clif_ssa.specs.Structured.{VariableTypes, HasType, Structured, waiting_in}
 use Rattle.clif_ssa.proofs.Bodies.{Firm, resolved_twice}
@@ -26,20 +26,22 @@ use Rattle.clif_ssa.proofs.Counting.{zero_housed, inserted_housed}
 use Rattle.clif_ssa.proofs.Filling.{filled_firm, filled_housed}
 use Rattle.clif_ssa.proofs.Passing.{Passing, AllExist, arguments_pass}
 use Rattle.clif_ssa.proofs.Straying.{OnlyNeeded, zeroed_needed}
-use Rattle.clif_ssa.proofs.Zeroing.{put_zero, zero_count, CanAlias, alias_count_same}
+use Rattle.clif_ssa.proofs.Zeroing.{CanAlias, alias_count_same}
 use Rattle.clif_ssa.proofs.Structuring.{Grows, grows_longer, typed_kept, written}
 use Rattle.clif_ssa.proofs.StructuredSteps.{TakesAway, dropped, waiting_first, first_apart}
 use Rattle.clif_ssa.proofs.StructuredEnds.{Fills, Given, zero_takes, value_takes, value_needed, given, elsewhere, two_apart, filled}
 use Rattle.clif_ssa.proofs.StructuredMachine.{awaited, IsHome, Task, completing_of, Runs, calls_home_kept, rest_kept, results_kept, finds, copied_here, runs_waits, runs_begins}
+use Rattle.clif_ssa.proofs.ZeroSteps.{put_zero, zero_count}
+use Rattle.clif_ssa.specs.Zeros.{steps_before}
 
 -- A ZERO ----------------------------------------------------------------------------------------------------------
 
-zero_inside : (f : Body) (b v : ℕ) → length f.values < length (zeroed f b v).values
+zero_inside : (f : Body) (b v : ℕ) → zero_value f (value_at f v).ty < length (zeroed f b v).values
 zero_inside f b v =
     let h : Body = inserted_in f b in
     let ty : «Type» = (value_at f v).ty in
     let count : length h.values ≡ length f.values = ap length (inserted_same f b).values in
-    omega (arith, count, zero_count h b ty, alias_count_same (put_zero h b ty) v (length f.values))
+    omega (arith, count, zero_count h b ty, alias_count_same (put_zero h b ty) v (zero_value f ty))
 
 pub zeroed_housed : (f : Body) (b v : ℕ) → Firm f → Housed f → param_home f v ≡ Some b → Housed (zeroed f b v)
 zeroed_housed f b v firm housed home =
@@ -47,16 +49,16 @@ zeroed_housed f b v firm housed home =
     let ty : «Type» = (value_at f v).ty in
     let k : Body = put_zero h b ty in
     let count : length h.values ≡ length f.values = ap length (inserted_same f b).values in
-    let can : CanAlias k v (length h.values) b = can_zero h b v ty (inserted_firm f b firm) (inserted_param_home f b v ∙ home) in
-    subst (λ z. Housed (with_alias k v z)) count
-    (drop_housed k v (length h.values) b can.firm (zero_housed h b ty (inserted_housed f b housed)) can.parameter can.exists can.own_end can.apart)
+    let can : CanAlias k v (zero_value h ty) b = can_zero h b v ty (inserted_firm f b firm) (inserted_param_home f b v ∙ home) in
+    subst (λ n. Housed (with_alias k v (n + steps_before ty))) count
+    (drop_housed k v (zero_value h ty) b can.firm (zero_housed h b ty (inserted_housed f b housed)) can.parameter can.exists can.own_end can.apart)
 
 -- the zero has the type of the parameter
 pub zero_typed : (own : ℕ → List ℕ) (f : Body) (b v : ℕ) (ty : «Type») → Firm f → param_home f v ≡ Some b → OnlyNeeded own f → HasType f v ty
-    → HasType (zeroed f b v) (length f.values) ty
+    → HasType (zeroed f b v) (zero_value f (value_at f v).ty) ty
 zero_typed own f b v ty firm home before typed =
     let g : Body = zeroed f b v in
-    let ends : EndsIn g v (length f.values) = zeroed_ends f b v firm home in
+    let ends : EndsIn g v (zero_value f (value_at f v).ty) = zeroed_ends f b v firm home in
     let takes : TakesAway f g v b = zero_takes f b v firm home in
     let needed : OnlyNeeded own g = zeroed_needed own f b v firm home before in
     (zero_inside f b v, ap (λ u. (value_at g u).ty) (sym ends.first) ∙ needed.alias_types v ∙ takes.longer.types_same v typed.0 ∙ typed.1)
@@ -125,10 +127,10 @@ module _ (c : Task) (f : Body) (s : SsaState) (calls : List Call) (results used 
     housed = housed;
   }
 
-  ends_in_zero : Runs c (zeroed f block param) s calls (length f.values ∷ others)
+  ends_in_zero : Runs c (zeroed f block param) s calls (zero_value f (value_at f param).ty ∷ others)
   ends_in_zero =
       let takes : TakesAway f (zeroed f block param) param block = zero_takes f block param runs.firm home.0 in
-      ended (zeroed f block param) (length f.values) (zero_structured c.types c.own f s p ps block runs.firm runs.housed home.0 home.1 before)
+      ended (zeroed f block param) (zero_value f (value_at f param).ty) (zero_structured c.types c.own f s p ps block runs.firm runs.housed home.0 home.1 before)
       takes.others (grows_longer f (zeroed f block param) takes.longer)
       (zero_typed c.own.insts f block param ty runs.firm home.0 (needed_of c.types c.own f s (p ∷ ps) before) param_typed)
       (zeroed_leaves f block param runs.firm home.0).firm (zeroed_housed f block param runs.firm runs.housed home.0)
@@ -188,7 +190,7 @@ finishes c f g s calls results used others zeros param block value runs taken co
 finishes c f g s calls results used others zeros param block value runs taken count (inr ends) =
     let at : ends.0 ≡ block = same_some (sym ends.1 ∙ runs.homes.0.0) in
     elim ends.2 [
-      | inl zero ↦ turned (zeroed f block param) (length f.values) (zero.function ∙ ap (λ b. zeroed f b param) at) zero.answer (ends_in_zero c f s calls results used others param block runs taken count)
+      | inl zero ↦ turned (zeroed f block param) (zero_value f (value_at f param).ty) (zero.function ∙ ap (λ b. zeroed f b param) at) zero.answer (ends_in_zero c f s calls results used others param block runs taken count)
       | inr more ↦
           elim more [
             | inl one ↦ turned (with_alias f param value) value one.function refl (ends_in_value c f s calls results used others param block runs taken count value one.one)

@@ -17,6 +17,7 @@ use Rattle.clif_ssa.proofs.Bodies.{firm_from}
 use Rattle.clif_ssa.proofs.Housing.{housed_from}
 use Rattle.clif_ssa.proofs.Public.{looked_up}
 use Rattle.clif_ssa.proofs.StructuredUses.{Used, AllHome, Completes, uses, waits_used, zeroes_used, sealed_structured, completed_structured, completes_all}
+use Rattle.clif_ssa.specs.Zeros.{steps_before}
 
 -- USES ------------------------------------------------------------------------------------------------------------
 
@@ -31,16 +32,16 @@ used_well types own g t value ty used = (used.structured, used.typed)
 pub local_structured : (types : VariableTypes) (own : Own) (f g : Body) (s t : SsaState) (x : ℕ) (ty : «Type») (b : ℕ) {E : Type 0} (result : Result (ℕ × SideEffects) E)
     → IsConsistent f → ty ≡ types x → Structured types own f s [] → b < length f.blocks → record_of s x b ≡ None → SamePredecessors s t
     → (is_yes (sealed_of s b) ≡ false → OnOk result (Waits s t f g x ty b) × IfOk result (λ r. (r.0 ≡ length f.values) × (r.1.instructions_added_to_blocks.items ≡ [])))
-    → (is_yes (sealed_of s b) ≡ true → OnOk result (Zeroes s t f g x ty b) × IfOk result (λ r. (r.0 ≡ length f.values + 1) × (r.1.instructions_added_to_blocks.items ≡ b ∷ [])))
+    → (is_yes (sealed_of s b) ≡ true → OnOk result (Zeroes s t f g x ty b) × IfOk result (λ r. (r.0 ≡ length f.values + 1 + steps_before ty) × (r.1.instructions_added_to_blocks.items ≡ b ∷ [])))
     → IfOk result (λ r. UsedWell types own g t r.0 ty)
 local_structured types own f g s t x ty b (Err error) known same before there none same_before waits zeroes = tt
 local_structured types own f g s t x ty b (Ok r) known same before there none same_before waits zeroes = by (is_yes (sealed_of s b)) refl
   where
     by : (sealed : Bool) → is_yes (sealed_of s b) ≡ sealed → UsedWell types own g t r.0 ty
     by true sealed =
-        let case : Zeroes s t f g x ty b × ((r.0 ≡ length f.values + 1) × (r.1.instructions_added_to_blocks.items ≡ b ∷ [])) = zeroes sealed in
+        let case : Zeroes s t f g x ty b × ((r.0 ≡ length f.values + 1 + steps_before ty) × (r.1.instructions_added_to_blocks.items ≡ b ∷ [])) = zeroes sealed in
         subst (λ v. UsedWell types own g t v ty) (sym case.1.0)
-        (used_well types own g t (length f.values + 1) ty
+        (used_well types own g t (length f.values + 1 + steps_before ty) ty
         (zeroes_used types own f g s t x ty b same (firm_from f known) (housed_from f known) there none sealed case.0 same_before before))
     by false unsealed =
         let case : Waits s t f g x ty b × ((r.0 ≡ length f.values) × (r.1.instructions_added_to_blocks.items ≡ [])) = waits unsealed in

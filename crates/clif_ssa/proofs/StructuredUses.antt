@@ -24,7 +24,7 @@ use Rattle.clif_ssa.proofs.Housing.{Housed}
 use Rattle.clif_ssa.proofs.Ordering.{none_contained, contains_first, contains_more, entry_any, parameters_all, parameters_none, is_parameter, is_parameter_elsewhere}
 use Rattle.clif_ssa.proofs.Framing.{HomesRecorded}
 use Rattle.clif_ssa.proofs.Alike.{zeroed_leaves}
-use Rattle.clif_ssa.proofs.Parameters.{param_firm, param_home_new, param_count}
+use Rattle.clif_ssa.proofs.Parameters.{param_firm, param_home_new}
 use Rattle.clif_ssa.proofs.Adding.{add_housed}
 use Rattle.clif_ssa.proofs.Straying.{seal_here, seal_other}
 use Rattle.clif_ssa.proofs.Structuring.{Writes, edges_keep_itself, written, same_structured, block_kept}
@@ -32,6 +32,8 @@ use Rattle.clif_ssa.proofs.StructuredSteps.{TakesAway, in_params, new_pending, n
 use Rattle.clif_ssa.proofs.StructuredEnds.{zero_takes}
 use Rattle.clif_ssa.proofs.StructuredMachine.{IsHome, Task, Runs, completing_of, begun_awaited, begun_home, runs_waits, runs_begins}
 use Rattle.clif_ssa.proofs.StructuredFinish.{RunsAt, at_stage, needed_of, zeroed_housed, zero_typed, zero_structured, looks_up, makes_calls}
+use Rattle.clif_ssa.specs.Zeros.{steps_before}
+use Rattle.clif_ssa.proofs.ZeroSteps.{param_zero_value}
 
 -- A USE -----------------------------------------------------------------------------------------------------------
 
@@ -104,7 +106,7 @@ waits_used types own f g s t x ty b same firm housed there none unsealed waits s
 
 pub zeroes_used : (types : VariableTypes) (own : Own) (f g : Body) (s t : SsaState) (x : ℕ) (ty : «Type») (b : ℕ) → ty ≡ types x → Firm f → Housed f → b < length f.blocks
     → record_of s x b ≡ None → is_yes (sealed_of s b) ≡ true → Zeroes s t f g x ty b → SamePredecessors s t → Structured types own f s []
-    → Used types own g t (length f.values + 1) ty
+    → Used types own g t (length f.values + 1 + steps_before ty) ty
 zeroes_used types own f g s t x ty b same firm housed there none sealed zeroes same_before before =
     let c : Task = use_task types own x in
     let n : ℕ = length f.values in
@@ -119,10 +121,10 @@ zeroes_used types own f g s t x ty b same firm housed there none sealed zeroes s
     let home : param_home h n ≡ Some b = param_home_new f b (types x) in
     let sealed_there : is_yes (sealed_of t b) ≡ true = ap is_yes (zeroes.unchanged b) ∙ sealed in
     let is : g ≡ zeroed h b n = zeroes.function ∙ ap (λ u. zeroed (with_param f b u) b n) same in
-    subst (λ k. Used types own k t (n + 1) ty) (sym is) (record {
+    subst (λ k. Used types own k t (n + 1 + steps_before ty) ty) (sym is) (record {
       structured = zero_structured types own h t p [] b firm_h housed_h home sealed_there waiting;
-      typed = subst (λ u. HasType (zeroed h b n) (n + 1) u) (sym same)
-          (subst (λ v. HasType (zeroed h b n) v (types x)) (param_count f b (types x))
+      typed = subst (λ u. HasType (zeroed h b n) (n + 1 + steps_before u) u) (sym same)
+          (subst (λ v. HasType (zeroed h b n) v (types x)) (param_zero_value f b (types x))
           (zero_typed own.insts h b n (types x) firm_h home (needed_of types own h t (p ∷ []) waiting) (new_typed f b (types x))));
     })
 

@@ -23,6 +23,7 @@ use Rattle.clif_ssa.proofs.Ordering.{contains_first, contains_more, none_contain
 use Rattle.clif_ssa.proofs.Public.{looked_up}
 use Rattle.clif_ssa.proofs.StructuredUses.{waiting_home, pending_waits}
 use Rattle.clif_ssa.proofs.Within.{AllHeld, Kept, kept_then, Leads, leads_kept, CallsHeld, Within, begun_held, stepped, no_zero, looks_within, calls_within}
+use Rattle.clif_ssa.specs.Zeros.{steps_before}
 
 same_some : {a b : ℕ} → ◌≡◌ {A = Option ℕ} (Some a) (Some b) → a ≡ b
 same_some same = cc
@@ -44,7 +45,7 @@ same_within holds f told none = stays_within holds f f told (grown_none holds f)
 -- the block is unsealed, or no branch leads to it
 pub local_within : (holds : ℕ → Bool) (f g : Body) (s t : SsaState) (x : ℕ) (ty : «Type») (b : ℕ) {E : Type 0} (result : Result (ℕ × SideEffects) E) → holds b ≡ true
     → (is_yes (sealed_of s b) ≡ false → OnOk result (Waits s t f g x ty b) × IfOk result (λ r. (r.0 ≡ length f.values) × (r.1.instructions_added_to_blocks.items ≡ [])))
-    → (is_yes (sealed_of s b) ≡ true → OnOk result (Zeroes s t f g x ty b) × IfOk result (λ r. (r.0 ≡ length f.values + 1) × (r.1.instructions_added_to_blocks.items ≡ b ∷ [])))
+    → (is_yes (sealed_of s b) ≡ true → OnOk result (Zeroes s t f g x ty b) × IfOk result (λ r. (r.0 ≡ length f.values + 1 + steps_before ty) × (r.1.instructions_added_to_blocks.items ≡ b ∷ [])))
     → IfOk result (λ r. StaysWithin holds f g r.1.instructions_added_to_blocks.items)
 local_within holds f g s t x ty b (Err error) held waits zeroes = tt
 local_within holds f g s t x ty b (Ok r) held waits zeroes = by (is_yes (sealed_of s b)) refl
@@ -54,7 +55,7 @@ local_within holds f g s t x ty b (Ok r) held waits zeroes = by (is_yes (sealed_
 
     by : (sealed : Bool) → is_yes (sealed_of s b) ≡ sealed → StaysWithin holds f g r.1.instructions_added_to_blocks.items
     by true sealed =
-        let case : Zeroes s t f g x ty b × ((r.0 ≡ length f.values + 1) × (r.1.instructions_added_to_blocks.items ≡ b ∷ [])) = zeroes sealed in
+        let case : Zeroes s t f g x ty b × ((r.0 ≡ length f.values + 1 + steps_before ty) × (r.1.instructions_added_to_blocks.items ≡ b ∷ [])) = zeroes sealed in
         let zero : Body = zeroed (with_param f b ty) b (length f.values) in
         let grown : Grown holds f zero = grown_then holds f (with_param f b ty) zero with_new (grown_zeroed holds (with_param f b ty) b (length f.values) held) in
         stays_within holds f g r.1.instructions_added_to_blocks.items (subst (Grown holds f) (sym case.0.function) grown) (subst (AllHeld holds) (sym case.1.1) (held, tt))

@@ -1,21 +1,18 @@
 -- A parameter to which nothing comes becomes a name of a zero.
-use Rattle.std.proofs.Common.{◌≡◌, ◌≢◌, ℕ, ◌+◌, ◌<◌, ◌==◌, true, false, List, [], ◌∷◌, length, refl, ap, arith, sym, ◌∙◌, subst, ◌⊎◌, inl, inr}
-use Rattle.std.specs.Prelude.{Option, Some, None, Contains, slice_index, cond, pos}
+use Rattle.std.proofs.Common.{◌≡◌, ◌≢◌, ℕ, ◌+◌, ◌<◌, ◌==◌, true, false, List, [], ◌∷◌, length, refl, ap, arith, sym, ◌∙◌, subst, ◌⊎◌, inl, inr, ◌≤◌, ◌++◌}
+use Rattle.std.specs.Prelude.{Option, Some, None, Contains, slice_index, cond}
 use Rattle.std.proofs.lemmas.Grind.{common_steps}
 use Rattle.std.proofs.lemmas.Bool.{cases_eq}
 use Rattle.clif_types.specs.declared.types.«Type».{«Type»}
-use Rattle.clif_ir.specs.Body.{Body, block_at, inst_at, empty_block, value_at, resolved, alias_of, alias_of_origin}
-use Rattle.clif_ir.specs.Changes.{with_inst, with_alias, home_of, inst_node}
+use Rattle.clif_ir.specs.Body.{Body, block_at, empty_block, value_at, resolved, alias_of, alias_of_origin}
+use Rattle.clif_ir.specs.Changes.{with_alias, home_of}
 use Rattle.clif_ir.specs.Reading.{param_home, place_of, without}
 use Rattle.clif_ir.specs.declared.function.BlockNode.{BlockNode}
-use Rattle.clif_ir.specs.declared.function.InstNode.{InstNode}
 use Rattle.clif_ir.specs.declared.function.ValueNode.{ValueNode}
 use Rattle.clif_ir.specs.declared.function.ValueOrigin.TheVariants.{Alias}
-use Rattle.clif_ir.specs.declared.inst_list.BlockEnd.TheVariants.{Front}
-use Rattle.clif_ir.specs.declared.instructions.InstructionData.TheVariants.{UnaryImm}
 use Rattle.clif_ir.proofs.Lists.{at_set}
 use Rattle.clif_ir.proofs.Aliases.{follow_end, resolved-no_alias, ways_end-set}
-use Rattle.clif_paths.specs.State.{Kind, born, pending, complete, zero_of, Definition}
+use Rattle.clif_paths.specs.State.{Kind, born, unborn, pending, complete, zero_of, Definition}
 use Rattle.clif_paths.specs.Steps.{aliased}
 use Rattle.clif_paths.specs.Blocks.{Blocks, front, with_zero_in, with_dropped}
 use Rattle.clif_paths.proofs.Tables.{updated-same, updated-other, aliased_cases}
@@ -24,69 +21,67 @@ use Rattle.clif_ssa.specs.declared.tables.Sealed.{Sealed}
 use Rattle.clif_ssa.specs.declared.tables.Sealed.TheVariants.{No, Yes}
 use Rattle.clif_ssa.specs.Own.{Own}
 use Rattle.clif_ssa.specs.Tables.{is_yes, pending_of}
-use Rattle.clif_ssa.specs.Ssa.{SsaState, sealed_of, no_srcloc}
+use Rattle.clif_ssa.specs.Ssa.{SsaState, sealed_of, zero_value}
+use Rattle.clif_ssa.specs.Zeros.{insts_of_zero, insts_of_zeros, zero_steps}
+use Rattle.std.proofs.lemmas.List.{append_assoc}
+use Rattle.clif_paths.specs.Places.{start}
 use Rattle.clif_ssa.specs.Sound.{Describes, HomeFits, IsWaiting, IsZero, HasInstructions, InOrder, parameters_of, is_parameter_of, is_some_block, BelongsTo}
 use Rattle.clif_ssa.proofs.Bodies.{Firm, resolved-set, leads_inside-set, home-set_other, home-set_same, param_exists, param_origin}
 use Rattle.clif_ssa.proofs.Ordering.{contains_cons, contains_more, none_contained, parameters_same, parameters_first, parameters_skip, parameters_contain, is_parameter, is_no_parameter, is_parameter_elsewhere, place_without_before, order_without, stands_without, below_without, in_order_small, in_order_moved, in_order_tail, in_order_first}
 use Rattle.clif_ssa.proofs.Describing.{Extends, Arms, arms_of, arms_kept, SameEdges, same_edges, edge_before, Ordered, ordered_of, ordered_kept, same_passed, new_kinds, zeros_kept, instructions_kept, waiting_kept, waiting_exists, homes_kept, assigns_not_kept}
-use Rattle.clif_ssa.proofs.Instructions.{inst_resolved, inst_param_home, inst_new, inst_insts_here, inst_insts_other, inst_extends, inst_insts_more, inst_params}
+use Rattle.clif_ssa.proofs.ZeroSteps.{steps_resolved, steps_param_home, steps_params, steps_insts_here, steps_insts_other, steps_extends, put_zero, zero_at, zero_count, put_stands}
 
 -- THE ZERO --------------------------------------------------------------------------------------------------------
 
-abbrev pub put_zero : Body → ℕ → «Type» → Body
-put_zero f b ty = with_inst f b Front (UnaryImm (pos 0)) (ty ∷ []) no_srcloc
+-- nothing behind the function's values is a value of the tables
+abbrev NonePast : Body → Blocks → Type 0
+NonePast f blocks = (v : ℕ) → length f.values ≤ v → blocks.function.definition v ≡ record { home = start; kind = unborn }
 
-pub zero_count : (f : Body) (b : ℕ) (ty : «Type») → length (put_zero f b ty).values ≡ length f.values + 1
-zero_count f b ty = grind (arith, common_steps)
+new_zero : (f : Body) (blocks : Blocks) (b x : ℕ) (ty : «Type») → NonePast f blocks → IsZero (put_zero f b ty) (with_zero_in blocks b x (zero_value f ty)) b (zero_at f ty)
+new_zero f blocks b x ty absent = record {
+  variable = x;
+  stands = put_stands f b ty;
+  defined = updated-same blocks.function.definition (zero_value f ty) (record { home = front b; kind = zero_of x }) (zero_value f ty) refl;
+  others = λ v from below.
+      updated-other blocks.function.definition (zero_value f ty) (record { home = front b; kind = zero_of x }) v (λ same. absurd (omega (arith, below, same))) ∙ absent v from;
+}
 
-new_zero : (f : Body) (blocks : Blocks) (b x : ℕ) (ty : «Type») → IsZero (put_zero f b ty) (with_zero_in blocks b x (length f.values)) b (length f.insts)
-new_zero f blocks b x ty =
-    let new : inst_at (put_zero f b ty) (length f.insts) ≡ inst_node f b (UnaryImm (pos 0)) (ty ∷ []) no_srcloc = inst_new f b Front (UnaryImm (pos 0)) (ty ∷ []) no_srcloc in
-    record {
-      value = length f.values;
-      variable = x;
-      exists = omega (arith, inst_insts_more f b Front (UnaryImm (pos 0)) (ty ∷ []) no_srcloc);
-      value_exists = omega (arith, zero_count f b ty);
-      shape = ap (λ (n : InstNode). n.shape) new;
-      result = ap (λ (n : InstNode). n.results) new;
-      defined = updated-same blocks.function.definition (length f.values) (record { home = front b; kind = zero_of x }) (length f.values) refl;
-    }
-
-zero_instructions : (own : Own) (f : Body) (blocks : Blocks) (b x : ℕ) (ty : «Type») → b < length f.blocks
-    → Extends f (put_zero f b ty) blocks (with_zero_in blocks b x (length f.values)) → (c : ℕ) → HasInstructions f blocks c (own.insts c)
-    → HasInstructions (put_zero f b ty) (with_zero_in blocks b x (length f.values)) c (own.insts c)
-zero_instructions own f blocks b x ty there extends c has =
+zero_instructions : (own : Own) (f : Body) (blocks : Blocks) (b x : ℕ) (ty : «Type») → b < length f.blocks → NonePast f blocks
+    → Extends f (put_zero f b ty) blocks (with_zero_in blocks b x (zero_value f ty)) → (c : ℕ) → HasInstructions f blocks c (own.insts c)
+    → HasInstructions (put_zero f b ty) (with_zero_in blocks b x (zero_value f ty)) c (own.insts c)
+zero_instructions own f blocks b x ty there absent extends c has =
     elim (cases_eq c b) [
       | inl same ↦
           let g : Body = put_zero f b ty in
-          let after : Blocks = with_zero_in blocks b x (length f.values) in
+          let after : Blocks = with_zero_in blocks b x (zero_value f ty) in
           let here : HasInstructions f blocks b (own.insts b) = subst (λ d. HasInstructions f blocks d (own.insts d)) same has in
           let now : HasInstructions g after b (own.insts b) = record {
-            zeros = length f.insts ∷ here.zeros;
-            in_order = inst_insts_here f b Front (UnaryImm (pos 0)) (ty ∷ []) no_srcloc there ∙ ap (λ xs. length f.insts ∷ xs) here.in_order;
-            are_zeros = (new_zero f blocks b x ty, zeros_kept f g blocks after b here.zeros extends here.are_zeros);
+            zeros = zero_at f ty ∷ here.zeros;
+            in_order = steps_insts_here f b (zero_steps ty) there ∙ ap (λ xs. insts_of_zero (zero_at f ty) ++ xs) here.in_order
+                ∙ sym (append_assoc (insts_of_zero (zero_at f ty)) (insts_of_zeros here.zeros) (own.insts b));
+            are_zeros = (new_zero f blocks b x ty absent, zeros_kept f g blocks after b here.zeros extends here.are_zeros);
           } in
           subst (λ d. HasInstructions g after d (own.insts d)) (sym same) now
       | inr apart ↦
-          instructions_kept f (put_zero f b ty) blocks (with_zero_in blocks b x (length f.values)) c (own.insts c) extends
-          (inst_insts_other f b Front (UnaryImm (pos 0)) (ty ∷ []) no_srcloc c there apart) has
+          instructions_kept f (put_zero f b ty) blocks (with_zero_in blocks b x (zero_value f ty)) c (own.insts c) extends
+          (steps_insts_other f b (zero_steps ty) c there apart) has
     ]
 
 pub zero_described : (own : Own) (f : Body) (s : SsaState) (completing : List Pending) (blocks : Blocks) (b x : ℕ) (ty : «Type»)
     → Firm f → Describes own f s completing blocks → b < length f.blocks
-    → Describes own (put_zero f b ty) s completing (with_zero_in blocks b x (length f.values))
+    → Describes own (put_zero f b ty) s completing (with_zero_in blocks b x (zero_value f ty))
 zero_described own f s completing blocks b x ty firm before there =
     let g : Body = put_zero f b ty in
-    let z : ℕ = length f.values in
+    let z : ℕ = zero_value f ty in
     let after : Blocks = with_zero_in blocks b x z in
     let new : Definition = record { home = front b; kind = zero_of x } in
     let long : length g.values ≡ z + 1 = zero_count f b ty in
     let is_new : after.function.definition z ≡ new = updated-same blocks.function.definition z new z refl in
     let is_old : (v : ℕ) → v ≢ z → after.function.definition v ≡ blocks.function.definition v = λ v other. updated-other blocks.function.definition z new v other in
-    let old_below : (v : ℕ) → v < z → after.function.definition v ≡ blocks.function.definition v = λ v below. is_old v (λ same. absurd (omega (arith, below, same))) in
-    let extends : Extends f g blocks after = inst_extends f b Front (UnaryImm (pos 0)) (ty ∷ []) no_srcloc blocks after old_below in
-    let same_end : (v : ℕ) → resolved g v ≡ resolved f v = inst_resolved f b Front (UnaryImm (pos 0)) (ty ∷ []) no_srcloc firm in
-    let same_home : (v : ℕ) → param_home g v ≡ param_home f v = inst_param_home f b Front (UnaryImm (pos 0)) (ty ∷ []) no_srcloc in
+    let old_below : (v : ℕ) → v < length f.values → after.function.definition v ≡ blocks.function.definition v = λ v below. is_old v (λ same. absurd (omega (arith, below, same))) in
+    let extends : Extends f g blocks after = steps_extends f b (zero_steps ty) blocks after old_below in
+    let same_end : (v : ℕ) → resolved g v ≡ resolved f v = steps_resolved f b (zero_steps ty) firm in
+    let same_home : (v : ℕ) → param_home g v ≡ param_home f v = steps_param_home f b (zero_steps ty) in
     let waits_still : (c : ℕ) (p : Pending) → IsWaiting f blocks c p → IsWaiting g after c p =
     λ c p is. waiting_kept f g blocks after c p (same_home p.param) (old_below p.param (waiting_exists f blocks c p is)) is in
     let old_arms : Arms f s blocks = arms_of own f s completing blocks before in
@@ -99,7 +94,7 @@ zero_described own f s completing blocks b x ty firm before there =
       edges = edges;
       passed = same_passed f g s blocks after old_arms extends;
       kinds = new_kinds blocks after z new is_new is_old (λ is. zero_or_complete is) (λ y is. zero_or_pending is);
-      params = inst_params f b Front (UnaryImm (pos 0)) (ty ∷ []) no_srcloc;
+      params = steps_params f b (zero_steps ty);
       homes = same_home;
       entries = λ c. refl;
       arguments = λ v arm. refl;
@@ -147,7 +142,7 @@ zero_described own f s completing blocks b x ty firm before there =
       waiting_order = order.waiting_order;
       completing_order = order.completing_order;
       passes = order.passes;
-      instructions = λ c. zero_instructions own f blocks b x ty there extends c (before.instructions c);
+      instructions = λ c. zero_instructions own f blocks b x ty there before.absent extends c (before.instructions c);
     }
   where
     zero_or_pending : {x y : ℕ} → ◌≡◌ {A = Kind} (zero_of x) (pending y) → ⊥

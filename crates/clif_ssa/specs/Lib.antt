@@ -1,5 +1,6 @@
 pub mod Tables
 pub mod Own
+pub mod Zeros
 pub mod Ssa
 pub mod Constructs
 pub mod Passed

@@ -4,7 +4,7 @@
 -- stacks in place of recursion, are upstream's.
 use Rattle.std.specs.Prelude.{◌≡◌, ◌≢◌, ℕ, ◌<◌, ◌==◌, ◌&&◌, ◌⊎◌, List, [], ◌∷◌, ◌++◌, length, map, reverse, Option, Some, None, true, false, Contains, if◌then◌else◌}
 use Rattle.clif_types.specs.declared.types.«Type».{«Type»}
-use Rattle.clif_ir.specs.Body.{Body, inst_at, resolved}
+use Rattle.clif_ir.specs.Body.{Body, inst_at, value_at, resolved}
 use Rattle.clif_ir.specs.Changes.{with_param, with_branch_argument, with_alias}
 use Rattle.clif_ir.specs.Consistent.{Once}
 use Rattle.clif_ir.specs.Reading.{param_home, stands_in}
@@ -12,7 +12,7 @@ use Rattle.clif_ssa.specs.declared.look_up.Call.{Call}
 use Rattle.clif_ssa.specs.declared.look_up.Call.TheVariants.{UseVar, FinishPredecessorsLookup}
 use Rattle.clif_ssa.specs.declared.tables.Sealed.TheVariants.{No}
 use Rattle.clif_ssa.specs.Tables.{is_yes, pending_of}
-use Rattle.clif_ssa.specs.Ssa.{SsaState, record_of, sealed_of, predecessors_of, zeroed, SameBlocks, SamePredecessors, SameLookups, CountsLookup}
+use Rattle.clif_ssa.specs.Ssa.{SsaState, record_of, sealed_of, predecessors_of, zeroed, zero_value, SameBlocks, SamePredecessors, SameLookups, CountsLookup}
 
 -- THE WALK --------------------------------------------------------------------------------------------------------
 
@@ -159,7 +159,7 @@ pub record IsNoParameter (param : ℕ) (f g : Body) (value : ℕ) (zeros : List 
 pub record EndsInZero (param home : ℕ) (results : List ℕ) (f g : Body) (value : ℕ) (zeros : List ℕ) : Type 0 where
   pub nothing : NothingComes f param results
   pub function : g ≡ zeroed f home param
-  pub answer : value ≡ length f.values
+  pub answer : value ≡ zero_value f (value_at f param).ty
   pub told : zeros ≡ home ∷ []
 
 pub record EndsInValue (param : ℕ) (results : List ℕ) (f g : Body) (value : ℕ) (zeros : List ℕ) : Type 0 where

@@ -1,7 +1,7 @@
 -- When the tables of the theory of variables on paths describe a function and the state of its construction. The
 -- tables have the program's side (items, assignments, names and their answers), which the caller brings, and the
 -- function's side, which is said here. Source: own, after the data that Braun et al. 2013 keep.
-use Rattle.std.specs.Prelude.{◌≡◌, ◌≢◌, ℕ, ◌+◌, ◌<◌, ◌≤◌, ◌==◌, ◌&&◌, ◌⊎◌, Bool, true, false, List, [], ◌∷◌, ◌++◌, length, map, Option, Some, None, slice_get, slice_index_or, Contains, pos, if◌then◌else◌}
+use Rattle.std.specs.Prelude.{◌≡◌, ◌≢◌, ℕ, ◌+◌, ◌<◌, ◌≤◌, ◌==◌, ◌&&◌, ◌⊎◌, Bool, true, false, List, [], ◌∷◌, ◌++◌, length, map, Option, Some, None, slice_get, slice_index_or, Contains, if◌then◌else◌}
 use Rattle.std.specs.List.{AllByRecursion}
 use Rattle.clif_ir.specs.Body.{Body, inst_at, block_at, resolved}
 use Rattle.clif_ir.specs.Consistent.{Once}
@@ -10,7 +10,6 @@ use Rattle.clif_ir.specs.Reading.{param_home, place_of, targets}
 use Rattle.clif_ir.specs.declared.block_call.BlockArg.{BlockArg}
 use Rattle.clif_ir.specs.declared.block_call.BlockArg.TheVariants.{Value}
 use Rattle.clif_ir.specs.declared.block_call.BlockCall.{BlockCall}
-use Rattle.clif_ir.specs.declared.instructions.InstructionData.TheVariants.{UnaryImm}
 use Rattle.clif_paths.specs.Places.{Place, start, inside, Arm}
 use Rattle.clif_paths.specs.State.{fresh, Kind, unborn, born, pending, complete, zero_of}
 use Rattle.clif_paths.specs.Blocks.{Blocks, front, last_place, AssignsNot, Knows}
@@ -20,6 +19,7 @@ use Rattle.clif_ssa.specs.Own.{Own}
 use Rattle.clif_ssa.specs.Tables.{is_yes, pending_of}
 use Rattle.clif_ssa.specs.Ssa.{SsaState, record_of, sealed_of, predecessors_of}
 use Rattle.clif_ssa.specs.LookUp.{branch_block}
+use Rattle.clif_ssa.specs.Zeros.{ZeroAt, HasZero, insts_of_zeros, value_of_zero}
 
 -- the first block of the layout
 abbrev pub entry_of : Body → Option ℕ
@@ -29,20 +29,18 @@ abbrev pub has_entry : List ℕ → Bool
 has_entry [] = false
 has_entry (block ∷ layout) = true
 
--- the instruction is the zero of a variable, for the front of this block
-pub record IsZero (f : Body) (blocks : Blocks) (block inst : ℕ) : Type 0 where
-  pub value : ℕ
+-- The zero of a variable, for the front of this block. The results of its other steps are no values of the theory.
+pub record IsZero (f : Body) (blocks : Blocks) (block : ℕ) (zero : ZeroAt) : Type 0 where
   pub variable : ℕ
-  pub exists : inst < length f.insts
-  pub value_exists : value < length f.values
-  pub shape : (inst_at f inst).shape ≡ UnaryImm (pos 0)
-  pub result : (inst_at f inst).results ≡ value ∷ []
-  pub defined : blocks.function.definition value ≡ record { home = front block; kind = zero_of variable }
+  pub stands : HasZero f zero
+  pub defined : blocks.function.definition (value_of_zero zero) ≡ record { home = front block; kind = zero_of variable }
+  pub others : (v : ℕ) → zero.value ≤ v → v < value_of_zero zero
+      → blocks.function.definition v ≡ record { home = start; kind = unborn }
 
--- The instructions of a block are zeros, and then its own: those that the caller made, in order.
+-- The instructions of a block are those of zeros, and then its own: those that the caller made, in order.
 pub record HasInstructions (f : Body) (blocks : Blocks) (block : ℕ) (own : List ℕ) : Type 0 where
-  pub zeros : List ℕ
-  pub in_order : (block_at f block).insts ≡ zeros ++ own
+  pub zeros : List ZeroAt
+  pub in_order : (block_at f block).insts ≡ insts_of_zeros zeros ++ own
   pub are_zeros : AllByRecursion (IsZero f blocks block) zeros
 
 -- the parameter of the block waits for its variable

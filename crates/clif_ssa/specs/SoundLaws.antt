@@ -20,6 +20,7 @@ use Rattle.clif_ssa.specs.declared.tables.Pending.{Pending}
 use Rattle.clif_ssa.specs.Tables.{is_yes, pending_of}
 use Rattle.clif_ssa.specs.Ssa.{SsaState, no_state, record_of, sealed_of, predecessors_of, completed, Records, SameRecords, SameBlocks, SamePredecessors, Seals, Waits, Zeroes}
 use Rattle.clif_ssa.specs.LookUp.{branch_block}
+use Rattle.clif_ssa.specs.Zeros.{steps_before}
 use Rattle.clif_ssa.specs.Own.{Own, no_own, with_one_more, with_own_param}
 use Rattle.clif_ssa.specs.Sound.{Describes, CountsArguments, PassesOwn, args_of, has_entry, entry_of, is_some_block, edge_target, SameProgram, Keeps, KeepsAndKnows}
 
@@ -162,7 +163,7 @@ ZeroUseKeeps =
     (own : Own) (f g : Body) (s t : SsaState) (blocks : Blocks) (x : ℕ) (ty : «Type») (b : ℕ) →
     IsConsistent f → DescribesSoundly own f s blocks → predecessors_of s b ≡ [] → b < length f.blocks →
     record_of s x b ≡ None → is_yes (sealed_of s b) ≡ true → Zeroes s t f g x ty b → SamePredecessors s t →
-    KeepsAndKnows own blocks g t b x (length f.values + 1)
+    KeepsAndKnows own blocks g t b x (length f.values + 1 + steps_before ty)
 
 -- a block to which no branch leads is sealed, and what waited in it is completed
 abbrev pub SealingKeeps : Type 0

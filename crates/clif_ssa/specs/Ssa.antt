@@ -1,11 +1,14 @@
 -- The state of the construction, and what its calls make of a function.
 -- Source: Braun et al. 2013, and the crate's documentation of its SSA builder.
-use Rattle.std.specs.Prelude.{◌≡◌, ℕ, ◌-◌, ◌^◌, ◌<◌, ◌≤◌, List, [], ◌∷◌, ◌++◌, Option, Some, None, pos, length, ◌==◌, ◌&&◌, if◌then◌else◌, ◌⊎◌, Contains, true}
+use Rattle.std.specs.Prelude.{◌≡◌, ℕ, ◌-◌, ◌^◌, ◌<◌, ◌≤◌, List, [], ◌∷◌, ◌++◌, Option, Some, None, length, slice_set, suc, ◌+◌, ◌==◌, ◌&&◌, if◌then◌else◌, ◌⊎◌, Contains, true}
 use Rattle.clif_types.specs.declared.types.«Type».{«Type»}
-use Rattle.clif_ir.specs.Body.{Body, value_at}
-use Rattle.clif_ir.specs.Changes.{inserted_in, with_param, with_inst, with_alias}
-use Rattle.clif_ir.specs.declared.inst_list.BlockEnd.TheVariants.{Front}
-use Rattle.clif_ir.specs.declared.instructions.InstructionData.TheVariants.{UnaryImm}
+use Rattle.clif_ir.specs.Body.{Body, block_at, value_at}
+use Rattle.clif_ir.specs.Changes.{inserted_in, with_param, with_alias}
+use Rattle.clif_ir.specs.declared.function.InstNode.{InstNode}
+use Rattle.clif_ir.specs.declared.function.ValueNode.{ValueNode}
+use Rattle.clif_ir.specs.declared.function.ValueOrigin.TheVariants.{Result}
+use Rattle.std.specs.List.{range_with_len}
+use Rattle.clif_ssa.specs.Zeros.{ZeroStep, zero_steps, steps_before}
 use Rattle.std.specs.Option.{option_to_list}
 use Rattle.clif_ir.specs.Reading.{param_home, without}
 use Rattle.clif_ssa.specs.declared.tables.Cell.{Cell}
@@ -125,13 +128,37 @@ Seals old new block = (b : ℕ) → sealed_of new b ≡ (if b == block then Yes 
 abbrev pub no_srcloc : ℕ
 no_srcloc = 2 ^ 32 - 1
 
+-- the results of steps, which are the instructions from `inst` on
+abbrev pub step_values : ℕ → List ZeroStep → List ValueNode
+step_values inst [] = []
+step_values inst (step ∷ steps) = record { ty = step.ty; origin = Result inst 0 } ∷ step_values (suc inst) steps
+
+-- the instructions of block `b` that steps are, whose results are the values from `value` on
+abbrev pub step_insts : ℕ → ℕ → List ZeroStep → List InstNode
+step_insts b value [] = []
+step_insts b value (step ∷ steps) =
+    record { shape = step.shape (value - 1); results = value ∷ []; block = b; srcloc = no_srcloc } ∷ step_insts b (suc value) steps
+
+-- the function with these steps before the first instruction of block `b`, in order
+abbrev pub with_steps : Body → ℕ → List ZeroStep → Body
+with_steps f b steps =
+    record f {
+      values = f.values ++ step_values (length f.insts) steps;
+      insts = f.insts ++ step_insts b (length f.values) steps;
+      blocks = slice_set f.blocks b (record (block_at f b) { insts = range_with_len (length f.insts) (length steps) ++ (block_at f b).insts });
+    }
+
 -- the function with a zero before the first instruction of block `b`, which is in the layout then
 abbrev pub with_zero : Body → ℕ → «Type» → Body
-with_zero f b ty = with_inst (inserted_in f b) b Front (UnaryImm (pos 0)) (ty ∷ []) no_srcloc
+with_zero f b ty = with_steps (inserted_in f b) b (zero_steps ty)
+
+-- the next zero of a type that is put
+abbrev pub zero_value : Body → «Type» → ℕ
+zero_value f ty = length f.values + steps_before ty
 
 -- the function in which nothing comes to parameter `v` of block `b`: it is a name of a zero
 abbrev pub zeroed : Body → ℕ → ℕ → Body
-zeroed f b v = with_alias (with_zero f b (value_at f v).ty) v (length f.values)
+zeroed f b v = with_alias (with_zero f b (value_at f v).ty) v (zero_value f (value_at f v).ty)
 
 -- the same for a value that may be a parameter of a block; what is none stays
 abbrev pub zeroed_in : Option ℕ → Body → ℕ → Body

@@ -12,6 +12,7 @@ use Rattle.clif_ssa.specs.Ssa.{SsaState, predecessors_of, sealed_of, CountsLooku
 use Rattle.clif_ssa.specs.Sealing.{SealsByLookUp, SealsLocally, SealsOne}
 use Rattle.clif_ssa.specs.Structure.{LooksOnce}
 use Rattle.clif_ssa.specs.Tables.{is_yes}
+use Rattle.clif_ssa.specs.Zeros.{steps_before}
 
 -- From one function and state to the next, also where the step fails: the branches that lead to a block, what is sealed and
 -- each record stay, the function has more, as the construction makes it, and what is named exists.
@@ -45,7 +46,7 @@ pub record UsesLocally (x : ℕ) (ty : «Type») (b : ℕ) (f : Body) (s : SsaSt
   pub waits : is_yes (sealed_of s b) ≡ false
       → OnOk answer (Waits s t f g x ty b) × IfOk answer (λ r. (r.0 ≡ length f.values) × (r.1.instructions_added_to_blocks.items ≡ []))
   pub zero : is_yes (sealed_of s b) ≡ true
-      → OnOk answer (Zeroes s t f g x ty b) × IfOk answer (λ r. (r.0 ≡ length f.values + 1) × (r.1.instructions_added_to_blocks.items ≡ b ∷ []))
+      → OnOk answer (Zeroes s t f g x ty b) × IfOk answer (λ r. (r.0 ≡ length f.values + 1 + steps_before ty) × (r.1.instructions_added_to_blocks.items ≡ b ∷ []))
   pub counts_none : is_yes (sealed_of s b) ≡ false → OnOk answer (SameLookups s t)
   pub counts_one : is_yes (sealed_of s b) ≡ true → OnOk answer (CountsLookup s t x b)
   pub tells : IfOk answer (λ r. TellsZeros f g r.1.instructions_added_to_blocks.items)

@@ -1,14 +1,14 @@
 -- What values go on standing for, what a block keeps of its parameters, and that the construction leaves nothing
 -- behind which isn't needed. Source: own, after Braun et al. 2013 (a variable's value in a block stays the same value
 -- while parameters are completed; a parameter without arguments is replaced).
-use Rattle.std.specs.Prelude.{◌≡◌, ◌≢◌, ◌<◌, ◌≤◌, ℕ, List, [], ◌∷◌, ◌++◌, length, map, Some, None, pos, false, Contains}
+use Rattle.std.specs.Prelude.{◌≡◌, ◌≢◌, ◌≤◌, ℕ, List, [], ◌∷◌, ◌++◌, map, Some, None, false, Contains}
 use Rattle.std.specs.List.{AllByRecursion}
-use Rattle.clif_ir.specs.Body.{Body, value_at, inst_at, block_at, resolved}
+use Rattle.clif_ir.specs.Body.{Body, value_at, block_at, resolved}
 use Rattle.clif_ir.specs.Consistent.{Once, Stands}
 use Rattle.clif_ir.specs.Reading.{param_home}
-use Rattle.clif_ir.specs.declared.instructions.InstructionData.TheVariants.{UnaryImm}
 use Rattle.clif_ssa.specs.declared.tables.Pending.{Pending}
 use Rattle.clif_ssa.specs.Tables.{is_yes, pending_of}
+use Rattle.clif_ssa.specs.Zeros.{ZeroAt, HasZero, insts_of_zeros, value_of_zero}
 use Rattle.clif_ssa.specs.Ssa.{SsaState, record_of, lookups_of, sealed_of}
 
 -- two values that stand for one value go on doing so
@@ -54,22 +54,18 @@ pub record LosesWaiting (f g : Body) (waited : List Pending) : Type 0 where
   pub stayed : (v b : ℕ) → ((p : Pending) → Contains waited p → p.param ≢ v) → Stands v (block_at f b).params → Stands v (block_at g b).params
   pub no_other : (v b : ℕ) → Stands v (block_at g b).params → Stands v (block_at f b).params
 
--- The instruction is a zero that something needs: another value stands for it.
-pub record IsNeededZero (f : Body) (inst : ℕ) : Type 0 where
-  pub value : ℕ
-  pub exists : inst < length f.insts
-  pub value_exists : value < length f.values
-  pub shape : (inst_at f inst).shape ≡ UnaryImm (pos 0)
-  pub result : (inst_at f inst).results ≡ value ∷ []
-  pub no_parameter : param_home f value ≡ None
+-- The zero stands there, and something needs it: another value stands for it.
+pub record IsNeededZero (f : Body) (zero : ZeroAt) : Type 0 where
+  pub stands : HasZero f zero
+  pub no_parameter : param_home f (value_of_zero zero) ≡ None
   pub alias : ℕ
-  pub another : alias ≢ value
-  pub stands_for : resolved f alias ≡ value
+  pub another : alias ≢ value_of_zero zero
+  pub stands_for : resolved f alias ≡ value_of_zero zero
 
--- The instructions of a block are zeros that something needs, and then its own: those that the caller made, in order.
+-- The instructions of a block are those of zeros that something needs, and then its own: those that the caller made, in order.
 pub record HasNeededZeros (f : Body) (block : ℕ) (own : List ℕ) : Type 0 where
-  pub zeros : List ℕ
-  pub in_order : (block_at f block).insts ≡ zeros ++ own
+  pub zeros : List ZeroAt
+  pub in_order : (block_at f block).insts ≡ insts_of_zeros zeros ++ own
   pub needed : AllByRecursion (IsNeededZero f) zeros
 
 -- The construction has left nothing behind that isn't needed, in a function all of whose parameters wait: where a block has a

@@ -1,11 +1,11 @@
 //! Zeros, which stand for variables that are never assigned.
 ghost use Rattle.std.specs.Prelude.{◌≡◌, ◌≢◌, ◌<◌, ◌+◌, ◌++◌, ◌∷◌, [], length, MatchOption, OnOk, OnErr, IfOk, Some};
 ghost use Rattle.std.specs.Option.{option_to_list};
-ghost use Rattle.clif_ir.specs.Body.{resolved};
+ghost use Rattle.clif_ir.specs.Body.{resolved, value_at};
 ghost use Rattle.clif_ir.specs.Reading.{param_home};
 ghost use Rattle.clif_ssa.specs.Constructs.{OnlyConstructs, TellsZeros};
 ghost use Rattle.clif_ssa.specs.Limits.{IsFull};
-ghost use Rattle.clif_ssa.specs.Ssa.{with_zero, zeroed_in, HasMore};
+ghost use Rattle.clif_ssa.specs.Ssa.{with_zero, zero_value, zeroed_in, HasMore};
 
 use crate::side_effects::SideEffects;
 use clif_ir::inst_list::BlockEnd;
@@ -20,7 +20,7 @@ pub(crate) fn replace_by_zero(
     side_effects: &mut SideEffects,
 ) -> Result<Value, BuildError>
     ensures zero { OnOk result (func.new ≡ zeroed_in (param_home func.old param) func.old param) }
-    ensures answer { MatchOption (param_home func.old param) (IfOk result (λ v. v ≡ param)) (λ _. IfOk result (λ v. v ≡ length func.old.values)) }
+    ensures answer { MatchOption (param_home func.old param) (IfOk result (λ v. v ≡ param)) (λ _. IfOk result (λ v. v ≡ zero_value func.old (value_at func.old param).ty)) }
     ensures told { OnOk result (side_effects.new.instructions_added_to_blocks.items ≡ side_effects.old.instructions_added_to_blocks.items ++ option_to_list (param_home func.old param)) }
     ensures more { HasMore func.old func.new }
     ensures constructs { OnlyConstructs func.old func.new }
@@ -46,7 +46,7 @@ pub struct Ending {
 // the parameter away and makes it a name of the zero. What is no parameter stays.
 pub(crate) fn become_zero(func: &mut Function, param: Value) -> Result<Ending, BuildError>
     ensures zero { OnOk result (func.new ≡ zeroed_in (param_home func.old param) func.old param) }
-    ensures answer { MatchOption (param_home func.old param) (IfOk result (λ e. e.value ≡ param)) (λ _. IfOk result (λ e. e.value ≡ length func.old.values)) }
+    ensures answer { MatchOption (param_home func.old param) (IfOk result (λ e. e.value ≡ param)) (λ _. IfOk result (λ e. e.value ≡ zero_value func.old (value_at func.old param).ty)) }
     ensures told { IfOk result (λ e. e.zero ≡ param_home func.old param) }
     ensures more { HasMore func.old func.new }
     ensures constructs { OnlyConstructs func.old func.new }
@@ -72,7 +72,8 @@ pub(crate) fn become_zero(func: &mut Function, param: Value) -> Result<Ending, B
 fn put_zero(func: &mut Function, block: Block, ty: Type) -> Result<Value, BuildError>
     requires { block < length func.old.blocks }
     ensures ok { OnOk result (func.new ≡ with_zero func.old block ty) }
-    ensures number { IfOk result (λ v. v ≡ length func.old.values) }
+    ensures number { IfOk result (λ v. v ≡ zero_value func.old ty) }
+    ensures exists { IfOk result (λ v. v < length func.new.values) }
     ensures unaliased { IfOk result (λ v. resolved func.new v ≡ v) }
     ensures full { result ≡ Err BuildError.Full → IsFull func.new }
     ensures err { OnErr result ((func.new.values ≡ func.old.values) × (func.new.insts ≡ func.old.insts)) }

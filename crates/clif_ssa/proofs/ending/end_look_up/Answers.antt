@@ -1,5 +1,6 @@
 use Rattle.std.proofs.Common.{◌∙◌, ap, sym, length, arith}
 use Rattle.clif_ir.specs.Body.{Body}
+use Rattle.clif_ssa.proofs.Alike.{zero_ending_exists}
 use Rattle.clif_ssa.proofs.Bodies.{param_exists}
 use Rattle.clif_ssa.proofs.Constructing.{constructs_same}
 use Rattle.clif_ssa.proofs.Constructed.{alias_made, param_is}
@@ -35,3 +36,8 @@ pub returns-in_ok-change_param_to_alias-in-One-clause-constructs :
 returns-in_ok-change_param_to_alias-in-One-clause-constructs c =
     alias_made c.args.func.now c.change_param_to_alias.new.self c.args.param c.in-One.value c.law_consistent.ensures
     (param_is c.args.func.now c.args.param c.args.home c.requires.is_parameter) c.in_ok-change_param_to_alias-in-One.ensures.ok
+
+pub returns-in-Nothing-clause-exists : goal.returns-in-Nothing-clause-exists
+returns-in-Nothing-clause-exists c =
+    zero_ending_exists c.args.func.now c.become_zero.new.func c.args.param c.args.home c.become_zero.result c.requires.is_parameter
+    c.become_zero.ensures.zero c.become_zero.ensures.answer

@@ -9,7 +9,7 @@ use Rattle.clif_ssa.proofs.Naming.{more-then}
 use Rattle.clif_ssa.proofs.Steps.{ends_as}
 use Rattle.clif_ssa.proofs.Answered.{use_recorded}
 use Rattle.clif_ssa.proofs.Constructing.{constructs_none, constructs_then}
-use Rattle.clif_ssa.proofs.Recorded.{local_recorded}
+use Rattle.clif_ssa.proofs.Recorded.{used_exists, local_recorded}
 use Rattle.clif_ssa.proofs.Alongside.{use_alike, local_remembers, local_leaves}
 use Rattle.clif_ssa.proofs.Losing.{same_remembers}
 use Rattle.clif_ssa.proofs.Using.{on_ok}
@@ -414,3 +414,8 @@ pub returns-in_err-value-clause-never_failed : goal.returns-in_err-value-clause-
 returns-in_err-value-clause-never_failed c =
     let p = err_from_is_err_and c.from_residual-in_err-value.result c.from_residual-in_err-value.ensures.1 in
     rw (p.1, p.2) (ends_as c.make_calls.new.func c.in_err-value.field-0.0 c.in_err-value.ensures.ends).never_failed
+
+pub returns-then-is_local-clause-exists : goal.returns-then-is_local-clause-exists
+returns-then-is_local-clause-exists c = λ named.
+    used_exists c.args.variable c.args.ty c.args.block c.args.func.now c.args.self.now c.use_locally.new.func c.use_locally.new.self c.use_locally.result
+    c.use_locally.ensures.used

@@ -1,0 +1,212 @@
+-- A function with the steps of a zero more.
+use Rattle.std.proofs.Common.{◌≡◌, ◌≢◌, ℕ, zero, suc, ◌+◌, ◌-◌, ◌<◌, ◌≤◌, List, [], ◌∷◌, ◌++◌, length, get_or, set, refl, ap, arith, sym, ◌∙◌, subst}
+use Rattle.std.specs.Prelude.{Some, None, slice_index, slice_get, pos}
+use Rattle.std.specs.List.{range_with_len}
+use Rattle.std.proofs.Math.ListN.{get_or-append}
+use Rattle.std.proofs.Math.Seq.{get_or-append_right}
+use Rattle.std.proofs.lemmas.Grind.{common_steps}
+use Rattle.std.proofs.lemmas.List.Sums.{sum_by-cons}
+use Rattle.clif_types.specs.declared.types.«Type».{«Type»}
+use Rattle.clif_ir.specs.Body.{Body, block_at, inst_at, value_at, alias_of, empty_block, no_inst, no_value, resolved}
+use Rattle.clif_ir.specs.Reading.{param_home, place_of, home_of_node}
+use Rattle.clif_ir.specs.Consistent.{alias_count}
+use Rattle.clif_ir.specs.Changes.{with_inst, with_param}
+use Rattle.clif_ir.specs.declared.inst_list.BlockEnd.TheVariants.{Front}
+use Rattle.clif_ir.specs.declared.instructions.InstructionData.TheVariants.{UnaryImm}
+use Rattle.clif_ir.specs.declared.function.BlockNode.{BlockNode}
+use Rattle.clif_ir.specs.declared.function.InstNode.{InstNode}
+use Rattle.clif_ir.specs.declared.function.ValueNode.{ValueNode}
+use Rattle.clif_ir.specs.declared.function.ValueOrigin.TheVariants.{Result, Param}
+use Rattle.clif_ir.proofs.Lists.{at_set}
+use Rattle.clif_ir.proofs.Aliases.{ways_end-append, follow_end}
+use Rattle.clif_paths.specs.Blocks.{Blocks}
+use Rattle.clif_ssa.specs.Ssa.{no_srcloc, step_insts, step_values, with_steps, zero_value}
+use Rattle.clif_ssa.specs.Zeros.{ZeroAt, ZeroStep, HasZero, steps_before, zero_row, zero_steps}
+use Rattle.clif_ssa.proofs.Bodies.{Firm, no_alias_behind, past_alias, resolved-append, leads_inside-append, home-append_none}
+use Rattle.clif_ssa.proofs.Describing.{Extends}
+use Rattle.clif_ssa.proofs.Parameters.{param_count}
+use Rattle.clif_ssa.proofs.ZeroTable.{get_inside, last_step, none_some, same_some, step_count}
+
+-- THE NODES OF STEPS ----------------------------------------------------------------------------------------------
+
+steps_no_alias : (i : ℕ) (steps : List ZeroStep) (j : ℕ) → alias_of (step_values i steps) j ≡ None
+steps_no_alias i [] j = past_alias [] j (omega arith)
+steps_no_alias i (step ∷ steps) zero = refl
+steps_no_alias i (step ∷ steps) (suc j) = steps_no_alias (suc i) steps j
+
+steps_no_home : (i : ℕ) (steps : List ZeroStep) (j : ℕ) → home_of_node (slice_get (step_values i steps) j) ≡ None
+steps_no_home i [] j = refl
+steps_no_home i (step ∷ steps) zero = refl
+steps_no_home i (step ∷ steps) (suc j) = steps_no_home (suc i) steps j
+
+steps_count : (i : ℕ) (steps : List ZeroStep) → alias_count (step_values i steps) ≡ 0
+steps_count i [] = refl
+steps_count i (step ∷ steps) =
+    let node : ValueNode = record { ty = step.ty; origin = Result i 0 } in
+    let rest : alias_count (step_values (suc i) steps) ≡ 0 = steps_count (suc i) steps in
+    let here : alias_count (node ∷ step_values (suc i) steps) ≡ 0 + alias_count (step_values (suc i) steps) = sum_by-cons _ node (step_values (suc i) steps) in
+    omega (arith, rest, here)
+
+length-step_values : (i : ℕ) (steps : List ZeroStep) → length (step_values i steps) ≡ length steps
+length-step_values i [] = refl
+length-step_values i (step ∷ steps) = ap suc (length-step_values (suc i) steps)
+
+length-step_insts : (b v : ℕ) (steps : List ZeroStep) → length (step_insts b v steps) ≡ length steps
+length-step_insts b v [] = refl
+length-step_insts b v (step ∷ steps) = ap suc (length-step_insts b (suc v) steps)
+
+pub step_type : (i : ℕ) (steps : List ZeroStep) (k : ℕ) (step : ZeroStep) → slice_get steps k ≡ Some step → (get_or (step_values i steps) k no_value).ty ≡ step.ty
+step_type i [] k step is = absurd (none_some is)
+step_type i (s ∷ steps) zero step is = ap (λ (t : ZeroStep). t.ty) (same_some is)
+step_type i (s ∷ steps) (suc k) step is = step_type (suc i) steps k step is
+
+-- the instruction that a step is, whose result is this value
+abbrev pub step_node : ℕ → ℕ → ZeroStep → InstNode
+step_node b value step = record { shape = step.shape (value - 1); results = value ∷ []; block = b; srcloc = no_srcloc }
+
+step_inst : (b v : ℕ) (steps : List ZeroStep) (k : ℕ) (step : ZeroStep) → slice_get steps k ≡ Some step → get_or (step_insts b v steps) k no_inst ≡ step_node b (v + k) step
+step_inst b v [] k step is = absurd (none_some is)
+step_inst b v (s ∷ steps) zero step is =
+    let same : v ≡ v + 0 = omega arith in ap (step_node b v) (same_some is) ∙ ap (λ w. step_node b w step) same
+step_inst b v (s ∷ steps) (suc k) step is =
+    let same : suc v + k ≡ v + suc k = omega arith in step_inst b (suc v) steps k step is ∙ ap (λ w. step_node b w step) same
+
+-- an entry of a list in which one was replaced by one with the same parameters
+params_set : (xs : List BlockNode) (i : ℕ) (y : BlockNode) (k : ℕ) → y.params ≡ (get_or xs i empty_block).params → (get_or (set xs i y) k empty_block).params ≡ (get_or xs k empty_block).params
+params_set [] i y k same = refl
+params_set (x ∷ xs) zero y zero same = same
+params_set (x ∷ xs) zero y (suc k) same = refl
+params_set (x ∷ xs) (suc i) y zero same = refl
+params_set (x ∷ xs) (suc i) y (suc k) same = params_set xs i y k same
+
+-- what is behind the values of a function stands for itself
+pub past_unaliased : (f : Body) (v : ℕ) → length f.values ≤ v → resolved f v ≡ v
+past_unaliased f v past = follow_end f.values (length f.values) v (past_alias f.values v past)
+
+-- A FUNCTION WITH STEPS -------------------------------------------------------------------------------------------
+
+module _ (f : Body) (b : ℕ) (steps : List ZeroStep) where
+  pub steps_resolved : Firm f → (v : ℕ) → resolved (with_steps f b steps) v ≡ resolved f v
+  steps_resolved firm v = resolved-append f.values (step_values (length f.insts) steps) firm.leads firm.ends (steps_no_alias (length f.insts) steps) v
+
+  pub steps_param_home : (v : ℕ) → param_home (with_steps f b steps) v ≡ param_home f v
+  steps_param_home v = home-append_none f.values (step_values (length f.insts) steps) (steps_no_home (length f.insts) steps) v
+
+  pub steps_blocks : length (with_steps f b steps).blocks ≡ length f.blocks
+  steps_blocks = grind (arith, common_steps)
+
+  pub steps_insts_more : length (with_steps f b steps).insts ≡ length f.insts + length steps
+  steps_insts_more = grind (arith, common_steps, length-step_insts b (length f.values) steps)
+
+  pub steps_values_count : length (with_steps f b steps).values ≡ length f.values + length steps
+  steps_values_count = grind (arith, common_steps, length-step_values (length f.insts) steps)
+
+  pub steps_values_more : length f.values ≤ length (with_steps f b steps).values
+  steps_values_more = omega (arith, steps_values_count)
+
+  pub steps_params : (c : ℕ) → (block_at (with_steps f b steps) c).params ≡ (block_at f c).params
+  steps_params c = params_set f.blocks b (record (block_at f b) { insts = range_with_len (length f.insts) (length steps) ++ (block_at f b).insts }) c refl
+
+  pub steps_firm : Firm f → Firm (with_steps f b steps)
+  steps_firm firm = record {
+    leads = leads_inside-append f.values (step_values (length f.insts) steps) firm.leads (steps_no_alias (length f.insts) steps);
+    ends = ways_end-append f.values (step_values (length f.insts) steps) firm.leads (steps_count (length f.insts) steps)
+        (no_alias_behind f.values (step_values (length f.insts) steps) (steps_no_alias (length f.insts) steps)) firm.ends;
+    homes_exist = λ v c is. omega (arith, firm.homes_exist v c (sym (steps_param_home v) ∙ is), steps_blocks);
+    stands = λ v c is. subst (λ ps. place_of v ps < length ps) (sym (steps_params c)) (firm.stands v c (sym (steps_param_home v) ∙ is));
+    params_exist = λ c k here.
+        subst (λ ps. k < length ps → slice_index ps k < length (with_steps f b steps).values) (sym (steps_params c))
+        (λ below. omega (arith, firm.params_exist c k below, steps_values_more)) here;
+  }
+
+  pub steps_old : (i : ℕ) → i < length f.insts → inst_at (with_steps f b steps) i ≡ inst_at f i
+  steps_old i inside = get_or-append f.insts (step_insts b (length f.values) steps) no_inst i inside
+
+  pub steps_old_value : (v : ℕ) → v < length f.values → value_at (with_steps f b steps) v ≡ value_at f v
+  steps_old_value v inside = get_or-append f.values (step_values (length f.insts) steps) no_value v inside
+
+  pub steps_new : (k : ℕ) (step : ZeroStep) → slice_get steps k ≡ Some step → inst_at (with_steps f b steps) (length f.insts + k) ≡ step_node b (length f.values + k) step
+  steps_new k step is =
+      let there : (length f.insts + k) - length f.insts ≡ k = omega arith in
+      get_or-append_right f.insts (step_insts b (length f.values) steps) (length f.insts + k) no_inst (omega arith)
+      ∙ ap (λ j. get_or (step_insts b (length f.values) steps) j no_inst) there ∙ step_inst b (length f.values) steps k step is
+
+  pub steps_new_type : (k : ℕ) (step : ZeroStep) → slice_get steps k ≡ Some step → (value_at (with_steps f b steps) (length f.values + k)).ty ≡ step.ty
+  steps_new_type k step is =
+      let there : (length f.values + k) - length f.values ≡ k = omega arith in
+      ap (λ (n : ValueNode). n.ty) (get_or-append_right f.values (step_values (length f.insts) steps) (length f.values + k) no_value (omega arith)
+      ∙ ap (λ j. get_or (step_values (length f.insts) steps) j no_value) there) ∙ step_type (length f.insts) steps k step is
+
+  pub steps_insts_here : b < length f.blocks → (block_at (with_steps f b steps) b).insts ≡ range_with_len (length f.insts) (length steps) ++ (block_at f b).insts
+  steps_insts_here there =
+      at_set (λ (m : BlockNode). m.insts ≡ range_with_len (length f.insts) (length steps) ++ (block_at f b).insts) f.blocks b
+      (record (block_at f b) { insts = range_with_len (length f.insts) (length steps) ++ (block_at f b).insts }) b empty_block there
+      (λ _. refl) (λ other. absurd (other refl))
+
+  pub steps_insts_other : (c : ℕ) → b < length f.blocks → c ≢ b → (block_at (with_steps f b steps) c).insts ≡ (block_at f c).insts
+  steps_insts_other c there apart =
+      at_set (λ (m : BlockNode). m.insts ≡ (block_at f c).insts) f.blocks b
+      (record (block_at f b) { insts = range_with_len (length f.insts) (length steps) ++ (block_at f b).insts }) c empty_block there
+      (λ same. absurd (apart same)) (λ _. refl)
+
+  pub steps_extends : (blocks blocks' : Blocks) → ((v : ℕ) → v < length f.values → blocks'.function.definition v ≡ blocks.function.definition v)
+      → Extends f (with_steps f b steps) blocks blocks'
+  steps_extends blocks blocks' same = record {
+    values_more = steps_values_more;
+    insts_more = omega (arith, steps_insts_more);
+    inst_same = steps_old;
+    definition_same = same;
+  }
+
+-- A ZERO ----------------------------------------------------------------------------------------------------------
+
+abbrev pub put_zero : Body → ℕ → «Type» → Body
+put_zero f b ty = with_steps f b (zero_steps ty)
+
+-- where it stands
+abbrev pub zero_at : Body → «Type» → ZeroAt
+zero_at f ty = record { inst = length f.insts; value = length f.values; ty = ty }
+
+pub zero_count : (f : Body) (b : ℕ) (ty : «Type») → length (put_zero f b ty).values ≡ zero_value f ty + 1
+zero_count f b ty = omega (arith, steps_values_count f b (zero_steps ty), step_count ty)
+
+pub put_stands : (f : Body) (b : ℕ) (ty : «Type») → HasZero (put_zero f b ty) (zero_at f ty)
+put_stands f b ty k step is =
+    let new : inst_at (put_zero f b ty) (length f.insts + k) ≡ step_node b (length f.values + k) step = steps_new f b (zero_steps ty) k step is in
+    let inside : k < length (zero_steps ty) = get_inside (zero_steps ty) k step is in
+    record {
+      exists = omega (arith, inside, steps_insts_more f b (zero_steps ty));
+      value_exists = omega (arith, inside, steps_values_count f b (zero_steps ty));
+      shape = ap (λ (n : InstNode). n.shape) new;
+      result = ap (λ (n : InstNode). n.results) new;
+    }
+
+pub zero_type : (f : Body) (b : ℕ) (ty : «Type») → (value_at (put_zero f b ty) (zero_value f ty)).ty ≡ ty
+zero_type f b ty = steps_new_type f b (zero_steps ty) (steps_before ty) (record { shape = (zero_row ty).last; ty = ty }) (last_step ty)
+
+-- a new parameter has its type, and the next zero of that is so many values behind it
+pub param_type : (f : Body) (b : ℕ) (ty : «Type») → (value_at (with_param f b ty) (length f.values)).ty ≡ ty
+param_type f b ty = last_type f.values (record { ty = ty; origin = Param b })
+  where
+    last_type : (values : List ValueNode) (n : ValueNode) → (get_or (values ++ n ∷ []) (length values) no_value).ty ≡ n.ty
+    last_type [] n = refl
+    last_type (m ∷ values) n = last_type values n
+
+pub param_zero_value : (f : Body) (b : ℕ) (ty : «Type»)
+    → zero_value (with_param f b ty) (value_at (with_param f b ty) (length f.values)).ty ≡ length f.values + 1 + steps_before ty
+param_zero_value f b ty =
+    ap (λ t. zero_value (with_param f b ty) t) (param_type f b ty) ∙ ap (λ n. n + steps_before ty) (param_count f b ty)
+
+-- THE CODE --------------------------------------------------------------------------------------------------------
+
+-- each zero is one instruction so far
+one_is_put : (f : Body) (b : ℕ) (ty : «Type») → with_inst f b Front (UnaryImm (pos 0)) (ty ∷ []) no_srcloc ≡ put_zero f b ty
+unfolding zero_row
+one_is_put f b ty = refl
+
+pub put_made : (f g : Body) (b : ℕ) (ty : «Type») (loc : ℕ) → g ≡ with_inst f b Front (UnaryImm (pos 0)) (ty ∷ []) loc → loc ≡ no_srcloc → g ≡ put_zero f b ty
+put_made f g b ty loc made none = made ∙ ap (λ n. with_inst f b Front (UnaryImm (pos 0)) (ty ∷ []) n) none ∙ one_is_put f b ty
+
+pub one_is_alone : (ty : «Type») → steps_before ty ≡ 0
+unfolding zero_row
+one_is_alone ty = refl
