@@ -1,5 +1,7 @@
 -- Beside each path of a function's places there is one along its edges so far, and where it ends the places before have given
 -- each value that it came to the home of.
+use Rattle.clif_simulation.proofs.ZeroInsts.{IsZeroInst, zero_insts}
+use Rattle.clif_ssa.specs.Zeros.{insts_of_zeros}
 use Rattle.std.proofs.Common.{◌≡◌, ◌≢◌, ◌⊎◌, ℕ, zero, suc, ◌+◌, ◌<◌, ◌≤◌, nat_lt, if◌then◌else◌, Bool, true, false, List, [], ◌∷◌, ◌++◌, length, map, flat_map, drop, slice_get, Option, Some, None, Contains, inl, inr, refl, sym, ◌∙◌, ap, subst, arith}
 use Rattle.std.specs.Prelude.{slice_index}
 use Rattle.std.proofs.lemmas.Bool.Decides.{nat_tests}
@@ -17,7 +19,7 @@ use Rattle.clif_paths.specs.State.{Naming, Definition}
 use Rattle.clif_paths.specs.Blocks.{front, last_place}
 use Rattle.clif_paths.proofs.PathLemmas.{same_place-refl}
 use Rattle.clif_ssa.specs.Ssa.{SsaState, predecessors_of}
-use Rattle.clif_ssa.specs.Sound.{IsZero, IsEdgeInto, edge_target, entry_of}
+use Rattle.clif_ssa.specs.Sound.{IsEdgeInto, edge_target, entry_of}
 use Rattle.clif_ssa.proofs.Bodies.{home_inside}
 use Rattle.clif_ssa.proofs.Losing.{home_stands}
 use Rattle.clif_meaning.specs.Name.{Name}
@@ -84,7 +86,7 @@ module _ (calls : List AnsweredCall) (f : Body) (s : SsaState) (consistent : IsC
   of_function = function_code (view_of f)
 
   abbrev pub zeros_of : ℕ → List ℕ
-  zeros_of b = (carries.describes.instructions b).zeros
+  zeros_of b = insts_of_zeros (carries.describes.instructions b).zeros
 
   abbrev pub zero_count : ℕ → ℕ
   zero_count b = length (zeros_of b)
@@ -156,7 +158,7 @@ module _ (calls : List AnsweredCall) (f : Body) (s : SsaState) (consistent : IsC
       by : ((q < zero_count c) × (slice_get (zeros_of c) q ≡ Some i)) ⊎ ((m : ℕ) × (q ≡ zero_count c + m) × (slice_get (carries.own.insts c) m ≡ Some i)) → IsZeroOf b r
       by (inr second) = by_name second.0 second.2 (block_name calls c) refl
       by (inl put) =
-          let is_zero : IsZero f carries.tables c i = all_at (IsZero f carries.tables c) (zeros_of c) q i (carries.describes.instructions c).are_zeros put.1 in
+          let is_zero : IsZeroInst f carries.tables c i = all_at (IsZeroInst f carries.tables c) (zeros_of c) q i (zero_insts f carries.tables c (carries.describes.instructions c).zeros (carries.describes.instructions c).are_zeros) put.1 in
           let same : r ≡ is_zero.value = value_in (inst_at f i).results is_zero.value t r is_zero.result result in
           let here : c ≡ b = same_block (sym (ap (λ (v : ℕ). (function v).home) same ∙ ap (λ (d : Definition). d.home) is_zero.defined) ∙ home) in
           let below : q < zero_count b = subst (λ (d : ℕ). q < zero_count d) here put.0 in
@@ -287,7 +289,7 @@ module _ (calls : List AnsweredCall) (f : Body) (s : SsaState) (consistent : IsC
   -- a zero
   pub record AtZero (q : Place ℕ) : Type 0 where
     pub i : ℕ
-    pub is_zero : IsZero f carries.tables q.block i
+    pub is_zero : IsZeroInst f carries.tables q.block i
     pub here : slice_get (items_of f q.block) q.index ≡ Some (placed_inst i)
 
   -- an instruction of the caller's, which is an item's
@@ -351,7 +353,7 @@ module _ (calls : List AnsweredCall) (f : Body) (s : SsaState) (consistent : IsC
           let length_is = map_length placed_inst (zeros_of q.block) in
           inl (record {
             i = i;
-            is_zero = all_at (IsZero f carries.tables q.block) (zeros_of q.block) q.index i (carries.describes.instructions q.block).are_zeros there;
+            is_zero = all_at (IsZeroInst f carries.tables q.block) (zeros_of q.block) q.index i (zero_insts f carries.tables q.block (carries.describes.instructions q.block).zeros (carries.describes.instructions q.block).are_zeros) there;
             here = ap (λ (ps : List Placed). slice_get ps q.index) (block_items q.block b.inserted)
                 ∙ at_first (map placed_inst (zeros_of q.block)) (map placed_inst (carries.own.insts q.block)) q.index (omega (arith, below, length_is))
                 ∙ map_at placed_inst (zeros_of q.block) q.index i there;

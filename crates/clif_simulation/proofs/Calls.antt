@@ -1,4 +1,5 @@
 -- Each kind of call that succeeds, an instruction aside, leaves a function that carries it.
+use Rattle.clif_ssa.specs.Zeros.{insts_of_zeros}
 use Rattle.std.proofs.Common.{◌≡◌, ℕ, zero, suc, ◌<◌, ◌≤◌, List, [], ◌∷◌, ◌++◌, length, refl, sym, ◌∙◌, ap, subst, arith, Some, None, ◌⊎◌, inl, inr, false, length-append}
 use Rattle.std.specs.Prelude.{Contains, IsTrue, Option, option_and_then, slice_get}
 use Rattle.std.proofs.lemmas.Option.{slice_get_within}
@@ -163,7 +164,7 @@ module _ (calls : List AnsweredCall) (f : Body) (s : SsaState) (c : Carries call
       empty b last =
           let has = structured_so_far.zeros b in
           let past : length f.blocks ≤ b = omega (arith, last, as_many, names_count (ledger_after (script_of calls)).blocks) in
-          own_empty (c.own.insts b) has.zeros (block_at f b).insts has.in_order (ap (λ (node : BlockNode). node.insts) (past_block f b past))
+          own_empty (c.own.insts b) (insts_of_zeros has.zeros) (block_at f b).insts has.in_order (ap (λ (node : BlockNode). node.insts) (past_block f b past))
 
       no_items : (N : Name) → answer_of (length calls) 0 ≡ N → ((program_so_far calls).items N ≡ []) ⊎ ((b : ℕ) × (block_name calls b ≡ Some N)) → (program_so_far calls).items N ≡ []
       no_items N new (inl none) = none

@@ -1,5 +1,7 @@
 -- The edges of a function match once no parameter waits, in every program: each passes what the caller passed, and then
 -- one value to each parameter of a variable.
+use Rattle.clif_simulation.proofs.ZeroInsts.{LeadsNowhere, needed_lead_nowhere}
+use Rattle.clif_ssa.specs.Zeros.{insts_of_zeros}
 use Rattle.std.proofs.Common.{◌≡◌, ℕ, suc, ◌+◌, ◌==◌, if◌then◌else◌, Bool, true, false, List, [], ◌∷◌, ◌++◌, map, slice_get, Option, Some, None, refl, sym, ◌∙◌, ap, ap₂, subst, arith}
 use Rattle.std.proofs.lemmas.List.{map-append}
 use Rattle.std.specs.List.{AllByRecursion, list_any}
@@ -12,7 +14,6 @@ use Rattle.clif_ir.specs.declared.block_call.BlockCall.{BlockCall}
 use Rattle.clif_ssa.specs.Own.{Own}
 use Rattle.clif_ssa.specs.Ssa.{SsaState, sealed_of}
 use Rattle.clif_ssa.specs.Sound.{args_of, edges_at, edge_target}
-use Rattle.clif_ssa.specs.Structure.{IsNeededZero}
 use Rattle.clif_ssa.specs.Structured.{VariableTypes, Structured, AreFor, EdgePasses}
 use Rattle.clif_meaning.specs.Name.{Name}
 use Rattle.clif_meaning.specs.Request.{AnsweredCall, script_of}
@@ -78,10 +79,10 @@ both_match f first second firsts seconds one other =
     ∙ sym (ap (map (λ ty. Some ty)) (map-append (view_of f).value_type firsts seconds)
     ∙ map-append (λ ty. Some ty) (map (view_of f).value_type firsts) (map (view_of f).value_type seconds))
 
-zero_matches : (f : Body) (i : ℕ) → IsNeededZero f i → InstMatches f (placed_at_inst f i)
-zero_matches f i is_zero =
+zero_matches : (f : Body) (i : ℕ) → LeadsNowhere f i → InstMatches f (placed_at_inst f i)
+zero_matches f i nowhere =
     subst (EachEdgeMatches (view_of f).value_type (value_types_at (view_of f)) (call_shape (operation_of (inst_at f i).shape)))
-    (sym (ap edges_of is_zero.shape)) (none_match f (call_shape (operation_of (inst_at f i).shape)))
+    (sym (ap (map edge_of) nowhere)) (none_match f (call_shape (operation_of (inst_at f i).shape)))
 
 module _ (calls : List AnsweredCall) (f : Body) (s : SsaState) (own : Own) (types : VariableTypes) (structured : Structured types own f s [])
     (callers_own : OwnParameters calls own) (parameters_values : (name : Name) → AllByRecursion (IsValue calls) ((program_so_far calls).parameters name))
@@ -186,8 +187,8 @@ module _ (calls : List AnsweredCall) (f : Body) (s : SsaState) (own : Own) (type
     all_insts b =
         let here = structured.zeros b in
         subst (AllByRecursion (λ (i : ℕ). InstMatches f (placed_at_inst f i))) (sym here.in_order)
-        (all_append (λ (i : ℕ). InstMatches f (placed_at_inst f i)) here.zeros (own.insts b)
-        (all_mapped (IsNeededZero f) (λ (i : ℕ). InstMatches f (placed_at_inst f i)) (zero_matches f) here.zeros here.needed) (all_own b (block_name calls b) refl))
+        (all_append (λ (i : ℕ). InstMatches f (placed_at_inst f i)) (insts_of_zeros here.zeros) (own.insts b)
+        (all_mapped (LeadsNowhere f) (λ (i : ℕ). InstMatches f (placed_at_inst f i)) (zero_matches f) (insts_of_zeros here.zeros) (needed_lead_nowhere f here.zeros here.needed)) (all_own b (block_name calls b) refl))
 
     of_insts : (insts : List ℕ) → AllByRecursion (λ (i : ℕ). InstMatches f (placed_at_inst f i)) insts → AllByRecursion (InstMatches f) (map (placed_at_inst f) insts)
     of_insts [] all = tt

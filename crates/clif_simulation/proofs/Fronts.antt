@@ -1,4 +1,6 @@
 -- The zeros at the front of a block: they come first, and change nothing where their values have no bits.
+use Rattle.clif_simulation.proofs.ZeroInsts.{IsZeroInst, zero_insts}
+use Rattle.clif_ssa.specs.Zeros.{insts_of_zeros}
 use Rattle.std.proofs.Common.{◌≡◌, ℕ, zero, suc, ◌+◌, ◌==◌, ◌%◌, ◌^◌, if◌then◌else◌, Bool, true, false, pos, List, [], ◌∷◌, ◌++◌, length, map, slice_get, Some, refl, sym, ◌∙◌, ap, ap₂, subst, arith}
 use Rattle.std.proofs.lemmas.Bool.Decides.{nat_tests}
 use Rattle.std.proofs.lemmas.List.{map-append}
@@ -13,7 +15,7 @@ use Rattle.clif_ir.specs.declared.instructions.InstructionData.TheVariants.{Unar
 use Rattle.clif_ir.specs.Instruction.{operands}
 use Rattle.clif_paths.specs.State.{zero_of, Definition}
 use Rattle.clif_paths.specs.Blocks.{Blocks}
-use Rattle.clif_ssa.specs.Sound.{IsZero, HasInstructions}
+use Rattle.clif_ssa.specs.Sound.{HasInstructions}
 use Rattle.clif_meaning.specs.Instruction.{Compute, Iconst}
 use Rattle.clif_meaning.specs.Store.{shown_memory}
 use Rattle.clif_meaning.specs.Event.{Event}
@@ -59,7 +61,7 @@ placed_inst f inst = placed_of f (inst_at f inst)
 -- What a block's instructions are to the machine: zeros, and then the caller's. A block outside the layout has none.
 pub record HasFront (f : Body) (blocks : Blocks) (b : ℕ) (own : List ℕ) : Type 0 where
   pub zeros : List ℕ
-  pub are_zeros : AllByRecursion (IsZero f blocks b) zeros
+  pub are_zeros : AllByRecursion (IsZeroInst f blocks b) zeros
   pub in_order : items_of f b ≡ map (placed_inst f) zeros ++ map (placed_inst f) own
 
 pub has_front : (f : Body) (blocks : Blocks) (b : ℕ) (own : List ℕ) → HasInstructions f blocks b own → (stands_in b f.layout ≡ false → own ≡ []) → HasFront f blocks b own
@@ -67,10 +69,10 @@ has_front f blocks b own has outside = by (stands_in b f.layout) refl
   where
     by : (there : Bool) → stands_in b f.layout ≡ there → HasFront f blocks b own
     by true there = record {
-      zeros = has.zeros;
-      are_zeros = has.are_zeros;
+      zeros = insts_of_zeros has.zeros;
+      are_zeros = zero_insts f blocks b has.zeros has.are_zeros;
       in_order = ap (λ (t : Bool). if t then map (placed_inst f) (block_at f b).insts else []) there ∙ ap (map (placed_inst f)) has.in_order
-          ∙ map-append (placed_inst f) has.zeros own;
+          ∙ map-append (placed_inst f) (insts_of_zeros has.zeros) own;
     }
     by false out = record {
       zeros = [];
@@ -103,7 +105,7 @@ module _ (run : FunctionRun) (f : Body) (blocks : Blocks) (b : ℕ) (rest : List
     pub record ZerosLeft (n : ℕ) (state : FunctionState) : Type 0 where
       pub left : List ℕ
       pub count : length left ≡ n
-      pub all : AllByRecursion (IsZero f blocks b) left
+      pub all : AllByRecursion (IsZeroInst f blocks b) left
       pub at : state.control ≡ At (map (placed_inst f) left ++ rest)
       pub memory : state.memory ≡ q.memory
       pub events : state.events ≡ q.events
@@ -113,7 +115,7 @@ module _ (run : FunctionRun) (f : Body) (blocks : Blocks) (b : ℕ) (rest : List
     unfolding zero_placed
     step_zero n state z = by z.left z.count z.all z.at
       where
-        by : (left : List ℕ) → length left ≡ suc n → AllByRecursion (IsZero f blocks b) left → state.control ≡ At (map (placed_inst f) left ++ rest)
+        by : (left : List ℕ) → length left ≡ suc n → AllByRecursion (IsZeroInst f blocks b) left → state.control ≡ At (map (placed_inst f) left ++ rest)
             → ZerosLeft n (machine.next state)
         by [] count all at = absurd (omega (arith, count))
         by (inst ∷ left) count all at =
@@ -131,7 +133,7 @@ module _ (run : FunctionRun) (f : Body) (blocks : Blocks) (b : ℕ) (rest : List
               values = λ w. value all.0 w (same_value w all.0.value) refl;
             })
           where
-            value : (put : IsZero f blocks b inst) (w : ℕ) (test : Bool) → same_value w put.value ≡ test
+            value : (put : IsZeroInst f blocks b inst) (w : ℕ) (test : Bool) → same_value w put.value ≡ test
                 → (if test then 0 % 2 ^ bits_of (first_type f (put.value ∷ [])) else state.values w) ≡ q.values w
             value put w false other = z.values w
             value put w true one =

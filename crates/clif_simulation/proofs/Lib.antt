@@ -19,6 +19,7 @@ mod OwnEdges
 mod Flow
 mod IntoBlock
 mod Edges
+mod ZeroInsts
 mod Fronts
 mod Targets
 mod Matching

@@ -1,4 +1,5 @@
 -- Both interrupted runs at a place of an unfinished function, and how they come to a block's first item.
+use Rattle.clif_simulation.proofs.ZeroInsts.{IsZeroInst}
 use Rattle.std.proofs.Common.{◌≡◌, ℕ, zero, suc, ◌+◌, ◌≤◌, Bool, List, [], ◌∷◌, ◌++◌, map, length, drop, flat_map, Option, Some, None, refl, sym, ◌∙◌, ap, subst, arith}
 use Rattle.std.specs.List.{AllByRecursion}
 use Rattle.clif_types.specs.declared.target.PointerWidth.{PointerWidth}
@@ -9,7 +10,6 @@ use Rattle.clif_paths.specs.State.{zero_of}
 use Rattle.clif_paths.specs.Blocks.{Blocks, front}
 use Rattle.clif_ssa.specs.Ssa.{SsaState, sealed_of}
 use Rattle.clif_ssa.specs.Tables.{is_yes, pending_of}
-use Rattle.clif_ssa.specs.Sound.{IsZero}
 use Rattle.clif_meaning.specs.Name.{Name}
 use Rattle.clif_meaning.specs.Request.{AnsweredCall}
 use Rattle.clif_meaning.specs.Instruction.{Edge}
@@ -64,7 +64,7 @@ module _ (s : SsaState) (unknowns : Unknowns) (entry : ℕ) (run : FunctionRun) 
     unfolding zero_placed
     no_edge n state z = ap (function_edge run state) z.at ∙ by z.left z.count z.all
       where
-        by : (left : List ℕ) → length left ≡ suc n → AllByRecursion (IsZero f blocks b) left → function_edge run state (At (map (placed_inst f) left ++ rest)) ≡ None
+        by : (left : List ℕ) → length left ≡ suc n → AllByRecursion (IsZeroInst f blocks b) left → function_edge run state (At (map (placed_inst f) left ++ rest)) ≡ None
         by [] count all = absurd (omega (arith, count))
         by (inst ∷ left) count all =
             ap (λ (item : Placed). function_edge run state (At (item ∷ (map (placed_inst f) left ++ rest))))

@@ -1,4 +1,6 @@
 -- The caller's instructions of a function that carries a list of calls, and their edges: those of the program's items.
+use Rattle.clif_simulation.proofs.ZeroInsts.{IsZeroInst, zero_insts}
+use Rattle.clif_ssa.specs.Zeros.{insts_of_zeros}
 use Rattle.std.proofs.Common.{◌≡◌, ℕ, zero, suc, ◌+◌, ◌<◌, List, [], ◌∷◌, length, map, slice_get, Option, Some, None, Contains, ◌⊎◌, inl, inr, refl, sym, ◌∙◌, ap, arith}
 use Rattle.std.specs.Prelude.{slice_index}
 use Rattle.clif_ir.specs.Body.{Body, inst_at, block_at}
@@ -9,7 +11,7 @@ use Rattle.clif_ir.specs.declared.block_call.BlockCall.{BlockCall}
 use Rattle.clif_ir.specs.declared.instructions.InstructionData.{InstructionData}
 use Rattle.clif_ssa.specs.LookUp.{branch_block}
 use Rattle.clif_ssa.specs.Ssa.{SsaState, predecessors_of}
-use Rattle.clif_ssa.specs.Sound.{IsZero, edges_at, edge_target}
+use Rattle.clif_ssa.specs.Sound.{edges_at, edge_target}
 use Rattle.clif_meaning.specs.Name.{Name}
 use Rattle.clif_meaning.specs.Request.{AnsweredCall}
 use Rattle.clif_meaning.specs.Instruction.{Argument, Edge, Instruction}
@@ -113,12 +115,12 @@ module _ (calls : List AnsweredCall) (f : Body) (s : SsaState) (consistent : IsC
   pub stands_in_block : (c t i : ℕ) → slice_get (carries.own.insts c) t ≡ Some i → branch_block f i ≡ c
   stands_in_block c t i there =
       let has = carries.describes.instructions c in
-      let stands : slice_get (block_at f c).insts (length has.zeros + t) ≡ Some i =
-      ap (λ (xs : List ℕ). slice_get xs (length has.zeros + t)) has.in_order ∙ at_second has.zeros (carries.own.insts c) (length has.zeros + t) t refl ∙ there in
-      let below : length has.zeros + t < length (block_at f c).insts = place_within (block_at f c).insts (length has.zeros + t) i stands in
-      ap (branch_block f) (sym (get_index (block_at f c).insts (length has.zeros + t) i stands)) ∙ (consistent.insts_known c (length has.zeros + t) below).1
+      let stands : slice_get (block_at f c).insts (length (insts_of_zeros has.zeros) + t) ≡ Some i =
+      ap (λ (xs : List ℕ). slice_get xs (length (insts_of_zeros has.zeros) + t)) has.in_order ∙ at_second (insts_of_zeros has.zeros) (carries.own.insts c) (length (insts_of_zeros has.zeros) + t) t refl ∙ there in
+      let below : length (insts_of_zeros has.zeros) + t < length (block_at f c).insts = place_within (block_at f c).insts (length (insts_of_zeros has.zeros) + t) i stands in
+      ap (branch_block f) (sym (get_index (block_at f c).insts (length (insts_of_zeros has.zeros) + t) i stands)) ∙ (consistent.insts_known c (length (insts_of_zeros has.zeros) + t) below).1
 
-  zero_leads_nowhere : (c i k b : ℕ) → IsZero f carries.tables c i → edge_target f i k ≡ Some b → ⊥
+  zero_leads_nowhere : (c i k b : ℕ) → IsZeroInst f carries.tables c i → edge_target f i k ≡ Some b → ⊥
   zero_leads_nowhere c i k b is_zero leads =
       by k (sym (ap (λ (shape : InstructionData). slice_get (map (λ (edge : BlockCall). edge.block) (destinations shape)) k) is_zero.shape) ∙ leads)
     where
@@ -133,16 +135,16 @@ module _ (calls : List AnsweredCall) (f : Body) (s : SsaState) (consistent : IsC
       let c : ℕ = branch_block f i in
       let has = carries.describes.instructions c in
       let there = (consistent.insts_stand i (carries.describes.leading b i leads).0).1 in
-      by there.0 (in_two has.zeros (carries.own.insts c) there.0 i
+      by there.0 (in_two (insts_of_zeros has.zeros) (carries.own.insts c) there.0 i
       (ap (λ (xs : List ℕ). slice_get xs there.0) (sym has.in_order) ∙ stands_at (block_at f c).insts there.0 there.1 ∙ ap (λ (x : ℕ). Some x) there.2))
     where
-      by : (m : ℕ) → ((m < length (carries.describes.instructions (branch_block f i)).zeros) × (slice_get (carries.describes.instructions (branch_block f i)).zeros m ≡ Some i))
-          ⊎ ((t : ℕ) × (m ≡ length (carries.describes.instructions (branch_block f i)).zeros + t) × (slice_get (carries.own.insts (branch_block f i)) t ≡ Some i))
+      by : (m : ℕ) → ((m < length (insts_of_zeros (carries.describes.instructions (branch_block f i)).zeros)) × (slice_get (insts_of_zeros (carries.describes.instructions (branch_block f i)).zeros) m ≡ Some i))
+          ⊎ ((t : ℕ) × (m ≡ length (insts_of_zeros (carries.describes.instructions (branch_block f i)).zeros) + t) × (slice_get (carries.own.insts (branch_block f i)) t ≡ Some i))
           → (t : ℕ) × (slice_get (carries.own.insts (branch_block f i)) t ≡ Some i)
       by m (inl zero_there) =
           absurd (zero_leads_nowhere (branch_block f i) i k b
-          (all_at (IsZero f carries.tables (branch_block f i)) (carries.describes.instructions (branch_block f i)).zeros m i
-          (carries.describes.instructions (branch_block f i)).are_zeros zero_there.1) to)
+          (all_at (IsZeroInst f carries.tables (branch_block f i)) (insts_of_zeros (carries.describes.instructions (branch_block f i)).zeros) m i
+          (zero_insts f carries.tables (branch_block f i) (carries.describes.instructions (branch_block f i)).zeros (carries.describes.instructions (branch_block f i)).are_zeros) zero_there.1) to)
       by m (inr own_there) = (own_there.0, own_there.2)
 
   -- the item of an own instruction

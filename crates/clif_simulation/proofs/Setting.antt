@@ -1,4 +1,6 @@
 -- How both machines of an unfinished function come to stand side by side at the front of the entry, and go on so.
+use Rattle.clif_simulation.proofs.ZeroInsts.{IsZeroInst, zero_insts}
+use Rattle.clif_ssa.specs.Zeros.{insts_of_zeros}
 use Rattle.std.proofs.Common.{◌≡◌, ◌≢◌, ℕ, zero, suc, ◌≤◌, ◌%◌, ◌^◌, if◌then◌else◌, Bool, true, false, List, [], ◌∷◌, ◌++◌, length, map, drop, flat_map, slice_get, Some, Contains, ◌⊎◌, inl, inr, refl, sym, ◌∙◌, ap, subst, arith}
 use Rattle.std.proofs.Math.Decide.{ℕ_discrete}
 use Rattle.std.proofs.lemmas.Bool.Decides.{nat_tests}
@@ -17,7 +19,7 @@ use Rattle.clif_paths.proofs.Executing.{program_steps, entered-unsealed, variabl
 use Rattle.clif_ssa.specs.declared.tables.Pending.{Pending}
 use Rattle.clif_ssa.specs.Ssa.{SsaState, record_of, sealed_of}
 use Rattle.clif_ssa.specs.Tables.{is_yes, pending_of}
-use Rattle.clif_ssa.specs.Sound.{IsZero, HasInstructions, HomeFits}
+use Rattle.clif_ssa.specs.Sound.{HasInstructions, HomeFits}
 use Rattle.clif_meaning.specs.Bits.{Bits}
 use Rattle.clif_meaning.specs.Name.{Name}
 use Rattle.clif_meaning.specs.Request.{AnsweredCall, script_of}
@@ -158,13 +160,13 @@ module _ (calls : List AnsweredCall) (f : Body) (ssa : SsaState) (consistent : I
     has : HasInstructions f carries.whole.tables e (carries.whole.own.insts e)
     has = carries.whole.describes.instructions e
 
-    block_items : items_of f e ≡ map placed_inst has.zeros ++ flat_map (carried calls) items
+    block_items : items_of f e ≡ map placed_inst (insts_of_zeros has.zeros) ++ flat_map (carried calls) items
     unfolding placed_inst
     block_items =
         ap (λ (b : Bool). if b then map placed_inst (block_at f e).insts else []) (any_first f.layout e (Entry.found calls f ssa carries entry is_entry))
         ∙ ap (map placed_inst) has.in_order
-        ∙ map-append placed_inst has.zeros (carries.whole.own.insts e)
-        ∙ ap (λ (rest : List Placed). map placed_inst has.zeros ++ rest) (carries.items e entry (Entry.named calls f ssa carries entry is_entry))
+        ∙ map-append placed_inst (insts_of_zeros has.zeros) (carries.whole.own.insts e)
+        ∙ ap (λ (rest : List Placed). map placed_inst (insts_of_zeros has.zeros) ++ rest) (carries.items e entry (Entry.named calls f ssa carries entry is_entry))
 
     -- the value is a zero's
     abbrev IsZeroValue : ℕ → Type 0
@@ -181,7 +183,7 @@ module _ (calls : List AnsweredCall) (f : Body) (ssa : SsaState) (consistent : I
         pub events : state.events ≡ q.events
         pub values : (w : ℕ) → (state.values w ≡ q.values w) ⊎ ((state.values w ≡ 0) × IsZeroValue w)
 
-      zero_step : (inst : ℕ) (left : List ℕ) (state : FunctionState) → IsZero f carries.whole.tables e inst → ZerosLeft (inst ∷ left) state
+      zero_step : (inst : ℕ) (left : List ℕ) (state : FunctionState) → IsZeroInst f carries.whole.tables e inst → ZerosLeft (inst ∷ left) state
           → ZerosLeft left (function_machine_of.function_step right_run state)
       unfolding zero_placed placed_inst
       zero_step inst left state put z =
@@ -209,14 +211,14 @@ module _ (calls : List AnsweredCall) (f : Body) (ssa : SsaState) (consistent : I
               inr (zero_bits (bits_of (first_type f (put.value ∷ []))), (put.variable, ap carries.whole.tables.function.definition same ∙ put.defined))
           by w false other before = before
 
-      zeros_done : (left : List ℕ) → AllByRecursion (IsZero f carries.whole.tables e) left → (n : ℕ) → ZerosLeft left (state_after right_from n)
+      zeros_done : (left : List ℕ) → AllByRecursion (IsZeroInst f carries.whole.tables e) left → (n : ℕ) → ZerosLeft left (state_after right_from n)
           → (m : ℕ) × ZerosLeft [] (state_after right_from m)
       zeros_done [] all n z = (n, z)
       zeros_done (inst ∷ left) all n z = zeros_done left all.1 (suc n) (zero_step inst left (state_after right_from n) all.0 z)
 
       -- behind the zeros
       past_zeros : q.control ≡ At (items_of f e) → (m : ℕ) × ZerosLeft [] (state_after right_from m)
-      past_zeros at = zeros_done has.zeros has.are_zeros 0 (record {
+      past_zeros at = zeros_done (insts_of_zeros has.zeros) (zero_insts f carries.whole.tables e has.zeros has.are_zeros) 0 (record {
         at = at ∙ ap (λ (rest : List Placed). At rest) block_items;
         memory = refl;
         events = refl;

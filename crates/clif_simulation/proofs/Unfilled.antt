@@ -1,4 +1,5 @@
 -- A block without a terminator: none of its instructions has an edge, and no branch that leads somewhere stands in it.
+use Rattle.clif_ssa.specs.Zeros.{insts_of_zeros}
 use Rattle.std.proofs.Common.{◌≡◌, ◌≢◌, ℕ, List, [], ◌∷◌, ◌++◌, map, refl, sym, ◌∙◌, ap, subst, Some, ◌⊎◌, inl, inr, false}
 use Rattle.std.specs.Prelude.{Contains, IsTrue, flat_map, slice_get, slice_index}
 use Rattle.std.specs.List.{AllByRecursion}
@@ -100,7 +101,7 @@ module _ (calls : List AnsweredCall) (own : Own) (f : Body) (s : SsaState) (hold
     own_block block inst here =
         let has = (holds.structured (declared_types calls) (are_declared calls)).zeros block in
         let there : Contains (block_at f block).insts inst =
-        subst (λ (is : List ℕ). Contains is inst) (sym has.in_order) (Contains-append_right has.zeros (own.insts block) inst here) in
+        subst (λ (is : List ℕ). Contains is inst) (sym has.in_order) (Contains-append_right (insts_of_zeros has.zeros) (own.insts block) inst here) in
         let at : slice_index (block_at f block).insts there.0 ≡ inst = entry_any (block_at f block).insts there.0 0 inst there.1 ∙ there.2 in
         ap (branch_block f) (sym at) ∙ (consistent.insts_known block there.0 there.1).1
 
