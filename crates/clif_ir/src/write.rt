@@ -16,7 +16,7 @@ use crate::function::{Function, ValueDef};
 use crate::immediates::{Imm64, signed_at};
 use crate::instructions::InstructionData;
 use clif_types::{Block, EntityRef, Inst, Type, Value};
-use std::fmt;
+use std::{fmt, slice};
 
 /// A function that prints as its text.
 #[derive(Clone, Copy)]
@@ -141,9 +141,14 @@ fn write_operation<W: fmt::Write>(
             let number = Imm64(signed_at(*imm, ty));
             write!(f, "iconst.{ty} {number}")
         }
+        InstructionData::Unary { opcode, arg } => {
+            f.write_str(opcode.to_static_str())?;
+            write_type_suffix(f, func, inst, *arg)?;
+            f.write_str(" ")?;
+            write_values(f, slice::from_ref(arg))
+        }
         InstructionData::Binary { opcode, args } => {
-            let opcode = *opcode;
-            write!(f, "{opcode}")?;
+            f.write_str(opcode.to_static_str())?;
             write_type_suffix(f, func, inst, args[0])?;
             f.write_str(" ")?;
             write_values(f, args)

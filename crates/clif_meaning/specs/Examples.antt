@@ -14,7 +14,8 @@ use Rattle.clif_types.specs.Target.{pointer_type_of}
 use Rattle.clif_meaning.specs.Bits.{value_bytes, value_of_bytes}
 use Rattle.clif_meaning.specs.Memory.{Memory, bytes_in, copied, filled, written, byte_order}
 use Rattle.clif_meaning.specs.Switch.{switch_target}
-use Rattle.clif_meaning.specs.Instruction.{Iconst, Iadd, Operation, Compute, Return}
+use Rattle.clif_meaning.specs.Instruction.{Iconst, Binary, Operation, Compute, Return}
+use Rattle.clif_types.specs.declared.opcodes.BinaryOpcode.TheVariants.{Iadd}
 use Rattle.clif_meaning.specs.Event.{CallShape, Event}
 use Rattle.clif_meaning.specs.World.{World}
 use Rattle.clif_meaning.specs.Outcome.{Values, Undefined, computed}
@@ -23,7 +24,7 @@ use Rattle.clif_meaning.specs.SameMeaning.{SameMeaning}
 use Rattle.clif_meaning.specs.Name.{Name, answer_of}
 use Rattle.clif_meaning.specs.Request.{CreateBlock, SwitchToBlock, SealBlock, DeclareVar, DefVar, UseVar, Finalize, Script}
 use Rattle.clif_meaning.specs.Ledger.{ledger_after}
-use Rattle.clif_meaning.specs.Acceptance.{iconst, iadd, return_, Accepted, Misuse, Refused, verdict_on, Unsealed, Unfilled, refusal_of}
+use Rattle.clif_meaning.specs.Acceptance.{iconst, binary, return_, Accepted, Misuse, Refused, verdict_on, Unsealed, Unfilled, refusal_of}
 use Rattle.clif_meaning.specs.FunctionView.{Placed, BlockView, FunctionView}
 use Rattle.clif_meaning.specs.WellPlaced.{WellPlaced, Records, RecordsWellPlaced}
 use Rattle.clif_meaning.specs.Typing.{EdgesMatch}
@@ -44,10 +45,10 @@ pub record ArithmeticExamples : Type 0 where
   pub cut : computed (Iconst (pos 300)) i8 [] ≡ Values (44 ∷ [])
   pub negative : computed (Iconst (negsuc 6)) i8 [] ≡ Values (249 ∷ [])
   pub wide : computed (Iconst (negsuc 0)) i128 [] ≡ Values ((2 ^ 128 - 1) ∷ [])
-  pub sum : computed Iadd i32 (0 ∷ 7 ∷ []) ≡ Values (7 ∷ [])
-  pub wraps : computed Iadd i8 (200 ∷ 100 ∷ []) ≡ Values (44 ∷ [])
-  pub wraps_at_128 : computed Iadd i128 ((2 ^ 128 - 1) ∷ 2 ∷ []) ≡ Values (1 ∷ [])
-  pub too_few : computed Iadd i8 (200 ∷ []) ≡ Undefined
+  pub sum : computed (Binary Iadd) i32 (0 ∷ 7 ∷ []) ≡ Values (7 ∷ [])
+  pub wraps : computed (Binary Iadd) i8 (200 ∷ 100 ∷ []) ≡ Values (44 ∷ [])
+  pub wraps_at_128 : computed (Binary Iadd) i128 ((2 ^ 128 - 1) ∷ 2 ∷ []) ≡ Values (1 ∷ [])
+  pub too_few : computed (Binary Iadd) i8 (200 ∷ []) ≡ Undefined
 
 -- the byte at an address of a memory that holds 1, 2, 3 .. from an address on
 abbrev pub counting_from : ℕ → Memory
@@ -84,7 +85,7 @@ first_calls = CreateBlock ∷ SwitchToBlock block0 ∷ DeclareVar i32 ∷ UseVar
 abbrev pub first_script : Script
 first_script =
     CreateBlock ∷ SwitchToBlock block0 ∷ DeclareVar i32 ∷ UseVar 0 ∷ iconst i32 (pos 7)
-    ∷ iadd (ledger_after first_calls) (answer_of 3 0) (answer_of 4 1) ∷ DefVar 0 (answer_of 5 1) ∷ UseVar 0
+    ∷ binary (ledger_after first_calls) Iadd (answer_of 3 0) (answer_of 4 1) ∷ DefVar 0 (answer_of 5 1) ∷ UseVar 0
     ∷ return_ (answer_of 7 0 ∷ []) ∷ SealBlock block0 ∷ []
 
 -- an instruction without edges and stack map
@@ -117,7 +118,7 @@ first_function_with number = record {
   blocks = one_block (
       placed (Compute (Iconst (pos 0))) i32 [] (3 ∷ [])
       ∷ placed (Compute (Iconst (pos number))) i32 [] (1 ∷ [])
-      ∷ placed (Compute Iadd) i32 (0 ∷ 1 ∷ []) (2 ∷ [])
+      ∷ placed (Compute (Binary Iadd)) i32 (0 ∷ 1 ∷ []) (2 ∷ [])
       ∷ placed Return type.Invalid (2 ∷ []) []
       ∷ []);
   resolved = λ v. if v == 0 then 3 else v;
@@ -211,7 +212,7 @@ pub record VerdictExamples : Type 0 where
   pub no_such_value : verdict_on (CreateBlock ∷ SwitchToBlock block0 ∷ iconst i32 (pos 1) ∷ return_ (answer_of 2 0 ∷ []) ∷ []) ≡ Misuse 3
   -- operands of two types: types aren't a condition
   pub mixed : verdict_on (CreateBlock ∷ SwitchToBlock block0 ∷ SealBlock block0 ∷ iconst i32 (pos 1) ∷ iconst i8 (pos 1)
-      ∷ iadd (ledger_after (CreateBlock ∷ SwitchToBlock block0 ∷ SealBlock block0 ∷ iconst i32 (pos 1) ∷ [])) (answer_of 3 1) (answer_of 4 1) ∷ return_ [] ∷ [])
+      ∷ binary (ledger_after (CreateBlock ∷ SwitchToBlock block0 ∷ SealBlock block0 ∷ iconst i32 (pos 1) ∷ [])) Iadd (answer_of 3 1) (answer_of 4 1) ∷ return_ [] ∷ [])
       ≡ Accepted
   -- a constant that is no integer
   pub no_integer : verdict_on (CreateBlock ∷ SwitchToBlock block0 ∷ iconst (type.Lane lane.F32) (pos 1) ∷ []) ≡ Misuse 2
