@@ -7,11 +7,12 @@ use Rattle.clif_meaning.specs.Bits.{Bits}
 use Rattle.clif_meaning.specs.Memory.{Memory}
 use Rattle.clif_meaning.specs.Name.{Name, same_name, answer_of}
 use Rattle.clif_meaning.specs.Instruction.{Instruction, Operation, Compute, Jump, Brif, Return, Arithmetic, Iconst, Unary, Binary}
-use Rattle.clif_meaning.specs.Request.{Request, CreateBlock, SwitchToBlock, SealBlock, SealAllBlocks, InsertBlockAfter, SetColdBlock, EnsureInsertedBlock, AppendBlockParams, AppendFunctionParams, DeclareVar, DefVar, UseVar, Build, Finalize, Script}
+use Rattle.clif_meaning.specs.Request.{Request, Script}
 use Rattle.clif_meaning.specs.Program.{Program, Item, Instruct, Use, Assign, result_types, result_names, answers_from, with_item_at, with_inserted, extended, with_call, empty_program, program_of}
 use Rattle.clif_meaning.specs.Ledger.{is_terminator}
 use Rattle.clif_meaning.specs.World.{World}
 use Rattle.clif_meaning.specs.Outcome.{Outcome, Gives, Goes, Returns, Traps, Calls, NoStep, computed, outcome_of_computed, outcome_of}
+use Rattle.clif_simulation.proofs.Effects.{ProgramEffect, program_effect, Leaves, Inserts, Takes, Switches, Assigns, Uses, Builds}
 
 -- an instruction gives the names of its results
 abbrev pub GivesResults : Item → Type 0
@@ -35,21 +36,21 @@ with_one program (Some current) item all one block = by (same_name block current
     by false = all block
 
 with_request : (program : Program) (request : Request) → AllGive program → AllGive (extended program request)
-with_request program CreateBlock all = all
-with_request program (SwitchToBlock block) all = all
-with_request program (SealBlock block) all = all
-with_request program SealAllBlocks all = all
-with_request program (InsertBlockAfter block after) all = all
-with_request program (SetColdBlock block) all = all
-with_request program EnsureInsertedBlock all = all
-with_request program (AppendBlockParams block types) all = all
-with_request program (AppendFunctionParams block types) all = all
-with_request program (DeclareVar ty) all = all
-with_request program (DefVar variable value) all = with_one program program.current (Assign variable value) all tt
-with_request program (UseVar variable) all = with_one (with_inserted program) program.current (Use variable (answer_of program.place 0)) all tt
-with_request program (Build instruction) all =
-    with_one (with_inserted program) program.current (Instruct program.place instruction (result_names program.place instruction)) all refl
-with_request program Finalize all = all
+with_request program request all = by (program_effect request)
+  where
+    by : ProgramEffect request → AllGive (extended program request)
+    by (Leaves stays is) = subst AllGive (sym (is program)) all
+    by (Inserts stays is) = subst AllGive (sym (is program)) all
+    by (Takes block types stays makes is) = subst AllGive (sym (is program)) all
+    by (Switches block is) = subst (λ (r : Request). AllGive (extended program r)) (sym is) all
+    by (Assigns variable value is) =
+        subst (λ (r : Request). AllGive (extended program r)) (sym is) (with_one program program.current (Assign variable value) all tt)
+    by (Uses variable is) =
+        subst (λ (r : Request). AllGive (extended program r)) (sym is)
+        (with_one (with_inserted program) program.current (Use variable (answer_of program.place 0)) all tt)
+    by (Builds instruction is) =
+        subst (λ (r : Request). AllGive (extended program r)) (sym is)
+        (with_one (with_inserted program) program.current (Instruct program.place instruction (result_names program.place instruction)) all refl)
 
 all_from : (program : Program) (script : Script) → AllGive program → AllGive (fold with_call program script)
 all_from program [] all = all
