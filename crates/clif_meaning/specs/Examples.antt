@@ -1,6 +1,6 @@
 -- Worked examples of the definitions. The rows, their texts and their answers are those of the crate's documentation
 -- and of its hostile scripts.
-use Rattle.std.specs.Prelude.{◌≡◌, ℕ, zero, suc, ◌+◌, ◌-◌, ◌%◌, ◌^◌, ◌==◌, nat_lt, if◌then◌else◌, List, [], ◌∷◌, ◌++◌, Some, None, pos, negsuc}
+use Rattle.std.specs.Prelude.{◌≡◌, ◌≢◌, ℕ, zero, suc, ◌+◌, ◌-◌, ◌%◌, ◌^◌, ◌==◌, nat_lt, if◌then◌else◌, List, [], ◌∷◌, ◌++◌, Some, None, pos, negsuc}
 use Rattle.std.specs.declared.cmp.Ordering.{Ordering}
 use Rattle.std.specs.declared.cmp.Ordering.TheVariants.{Less, Equal, Greater}
 use Rattle.clif_types.specs.declared.types.«Type».{«Type»}
@@ -14,8 +14,9 @@ use Rattle.clif_types.specs.Target.{pointer_type_of}
 use Rattle.clif_meaning.specs.Bits.{value_bytes, value_of_bytes}
 use Rattle.clif_meaning.specs.Memory.{Memory, bytes_in, copied, filled, written, byte_order}
 use Rattle.clif_meaning.specs.Switch.{switch_target}
-use Rattle.clif_meaning.specs.Instruction.{Iconst, Binary, Operation, Compute, Return}
-use Rattle.clif_types.specs.declared.opcodes.BinaryOpcode.TheVariants.{Iadd}
+use Rattle.clif_meaning.specs.Instruction.{Iconst, Unary, Binary, Operation, Compute, Return}
+use Rattle.clif_types.specs.declared.opcodes.BinaryOpcode.TheVariants.{Iadd, Imul, Band, Bor, Bxor}
+use Rattle.clif_types.specs.declared.opcodes.UnaryOpcode.TheVariants.{Ineg, Bnot}
 use Rattle.clif_meaning.specs.Event.{CallShape, Event}
 use Rattle.clif_meaning.specs.World.{World}
 use Rattle.clif_meaning.specs.Outcome.{Values, Undefined, computed}
@@ -40,7 +41,7 @@ i32 = type.Lane lane.I32
 abbrev pub i128 : «Type»
 i128 = type.Lane lane.I128
 
--- Constants are cut to their width, or have their sign repeated; sums wrap.
+-- Constants are cut to their width, or have their sign repeated; sums and products wrap.
 pub record ArithmeticExamples : Type 0 where
   pub cut : computed (Iconst (pos 300)) i8 [] ≡ Values (44 ∷ [])
   pub negative : computed (Iconst (negsuc 6)) i8 [] ≡ Values (249 ∷ [])
@@ -49,6 +50,17 @@ pub record ArithmeticExamples : Type 0 where
   pub wraps : computed (Binary Iadd) i8 (200 ∷ 100 ∷ []) ≡ Values (44 ∷ [])
   pub wraps_at_128 : computed (Binary Iadd) i128 ((2 ^ 128 - 1) ∷ 2 ∷ []) ≡ Values (1 ∷ [])
   pub too_few : computed (Binary Iadd) i8 (200 ∷ []) ≡ Undefined
+  -- two's complement, and bit by bit; 300 - 256 is 44
+  pub least : computed (Unary Ineg) i8 (128 ∷ []) ≡ Values (128 ∷ [])
+  pub of_zero : computed (Unary Ineg) i8 (0 ∷ []) ≡ Values (0 ∷ [])
+  pub turned : computed (Unary Bnot) i8 (5 ∷ []) ≡ Values (250 ∷ [])
+  pub product : computed (Binary Imul) i8 (20 ∷ 15 ∷ []) ≡ Values (44 ∷ [])
+  pub both : computed (Binary Band) i8 (12 ∷ 10 ∷ []) ≡ Values (8 ∷ [])
+  pub either : computed (Binary Bor) i8 (12 ∷ 10 ∷ []) ≡ Values (14 ∷ [])
+  pub one_of_two : computed (Binary Bxor) i8 (12 ∷ 10 ∷ []) ≡ Values (6 ∷ [])
+  -- wrong rows
+  pub not_one : computed (Unary Ineg) i8 (1 ∷ []) ≢ Values (1 ∷ [])
+  pub not_either : computed (Binary Bxor) i8 (12 ∷ 10 ∷ []) ≢ Values (14 ∷ [])
 
 -- the byte at an address of a memory that holds 1, 2, 3 .. from an address on
 abbrev pub counting_from : ℕ → Memory
