@@ -4,7 +4,7 @@ ghost use Rattle.clif_ir.specs.Instruction.{operands, destinations, with_argumen
 
 use crate::block_call::{BlockCall, append_to_edge, append_to_edges};
 use crate::value_list::ValueList;
-use clif_types::{BinaryOpcode, Block, BuildError, Kind, UnaryOpcode, Value};
+use clif_types::{BinaryOpcode, Block, BuildError, Kind, Suffix, UnaryOpcode, Value};
 use std::slice;
 
 /// An instruction without its results and its place: what it does, and with which operands.
@@ -107,6 +107,31 @@ impl InstructionData {
         ensures { result ≡ has_result self.now }
     {
         !self.result_kinds().is_empty()
+    }
+
+    /// Where the controlling type is printed behind the name.
+    pub fn suffix(&self) -> Suffix
+        ensures { result ≡ (typing_of self.now).suffix }
+    {
+        match self {
+            InstructionData::UnaryImm { .. } => Suffix::Always,
+            InstructionData::Unary { .. }
+            | InstructionData::Binary { .. }
+            | InstructionData::Brif { .. } => Suffix::Elsewhere,
+            InstructionData::Jump { .. } | InstructionData::MultiAry { .. } => Suffix::Never,
+        }
+    }
+
+    /// The name, as it is printed.
+    pub fn name(&self) -> &'static str {
+        match self {
+            InstructionData::UnaryImm { .. } => "iconst",
+            InstructionData::Unary { opcode, .. } => opcode.to_static_str(),
+            InstructionData::Binary { opcode, .. } => opcode.to_static_str(),
+            InstructionData::Jump { .. } => "jump",
+            InstructionData::Brif { .. } => "brif",
+            InstructionData::MultiAry { .. } => "return",
+        }
     }
 
     /// Whether the instruction has edges.

@@ -1,11 +1,13 @@
 -- The typing table of instructions: at which types each one is there, the types of its operands and of its results, and
--- whether it ends its block. After the documentation of Cranelift's instructions. Premises of the theorem, the types of
--- results and the end of a block are read off it.
+-- whether it ends its block, and where its type is printed. After the documentation of Cranelift's instructions. Premises
+-- of the theorem, the types of results, the end of a block and the printer's suffixes are read off it.
 use Rattle.std.specs.Prelude.{◌≡◌, Bool, true, false, List, [], ◌∷◌}
 use Rattle.clif_types.specs.declared.opcodes.UnaryOpcode.{UnaryOpcode}
 use Rattle.clif_types.specs.declared.opcodes.BinaryOpcode.{BinaryOpcode}
 use Rattle.clif_types.specs.declared.typing.Kind.{Kind}
 use Rattle.clif_types.specs.declared.typing.Kind.TheVariants.{Controlling}
+use Rattle.clif_types.specs.declared.typing.Suffix.{Suffix}
+use Rattle.clif_types.specs.declared.typing.Suffix.TheVariants.{Always, Elsewhere, Never}
 use Rattle.clif_types.specs.declared.types.«Type».{«Type»}
 use Rattle.clif_types.specs.Types.{is_int}
 
@@ -26,6 +28,8 @@ pub record Typing : Type 0 where
   pub results : List Kind
   -- the instruction ends its block
   pub ends : Bool
+  -- where the controlling type is printed
+  pub suffix : Suffix
 
 -- the controlling type is one at which the instruction is there
 abbrev pub meets : Demand → «Type» → Bool
@@ -54,29 +58,30 @@ FitOperands returns ty Returned operands = operands ≡ returns
 -- THE TABLE -------------------------------------------------------------------------------------------------------
 
 -- a value of the controlling type, an integer, from such operands
-abbrev pub computing : List Kind → Typing
-computing operands = record { demand = AnInteger; operands = Kinds operands; results = Controlling ∷ []; ends = false }
+abbrev pub computing : List Kind → Suffix → Typing
+computing operands suffix =
+    record { demand = AnInteger; operands = Kinds operands; results = Controlling ∷ []; ends = false; suffix = suffix }
 
 -- no result, and the end of a block
-abbrev pub ending : Demand → OperandKinds → Typing
-ending demand operands = record { demand = demand; operands = operands; results = []; ends = true }
+abbrev pub ending : Demand → OperandKinds → Suffix → Typing
+ending demand operands suffix = record { demand = demand; operands = operands; results = []; ends = true; suffix = suffix }
 
 -- `iconst`
 abbrev pub constant_typing : Typing
-constant_typing = computing []
+constant_typing = computing [] Always
 
 abbrev pub unary_typing : UnaryOpcode → Typing
-unary_typing opcode = computing (Controlling ∷ [])
+unary_typing opcode = computing (Controlling ∷ []) Elsewhere
 
 abbrev pub binary_typing : BinaryOpcode → Typing
-binary_typing opcode = computing (Controlling ∷ Controlling ∷ [])
+binary_typing opcode = computing (Controlling ∷ Controlling ∷ []) Elsewhere
 
 abbrev pub jump_typing : Typing
-jump_typing = ending Anything (Kinds [])
+jump_typing = ending Anything (Kinds []) Never
 
 -- the condition is the controlling operand
 abbrev pub brif_typing : Typing
-brif_typing = ending AnInteger (Kinds (Controlling ∷ []))
+brif_typing = ending AnInteger (Kinds (Controlling ∷ [])) Elsewhere
 
 abbrev pub return_typing : Typing
-return_typing = ending Anything Returned
+return_typing = ending Anything Returned Never

@@ -42,4 +42,4 @@ pub use stackslot::{DynamicStackSlotData, StackSlotData};
 pub use target::{PointerWidth, TargetFrontendConfig};
 pub use trapcode::TrapCode;
 pub use types::{LaneCount, LaneType, Type};
-pub use typing::Kind;
+pub use typing::{Kind, Suffix};

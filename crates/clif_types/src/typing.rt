@@ -23,3 +23,14 @@ impl Kind {
         }
     }
 }
+
+/// Where the controlling type is printed behind an instruction's name.
+#[derive(Clone, Copy, Debug, PartialEq, Eq)]
+pub enum Suffix {
+    /// Always: no operand tells it.
+    Always,
+    /// Where the first operand, which tells it, is defined in another block.
+    Elsewhere,
+    /// Nowhere.
+    Never,
+}
