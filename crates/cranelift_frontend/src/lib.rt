@@ -7,12 +7,14 @@ pub mod context;
 pub mod error;
 pub mod finalize;
 pub mod frontend;
+pub mod inst_builder;
 pub mod instructions;
 pub mod laws;
 
 pub use builder::FunctionBuilder;
 pub use clif_ir::{
-    BinaryOpcode, BlockArg, BlockArgs, BlockCall, Function, InstructionData, ValueDef, ValueList,
+    BinaryOpcode, BlockArg, BlockArgs, BlockCall, Function, InstructionData, UnaryOpcode, ValueDef,
+    ValueList,
 };
 pub use clif_ssa::Variable;
 pub use clif_types::{
@@ -25,7 +27,8 @@ pub use clif_types::{
 };
 pub use context::FunctionBuilderContext;
 pub use error::FinalizeError;
-pub use instructions::{FuncInstBuilder, InstBuilder, InstBuilderBase};
+pub use inst_builder::{InstBuilder, InstBuilderBase};
+pub use instructions::FuncInstBuilder;
 
 /// The version of the crate whose behaviour this one has.
 pub const VERSION: &str = "0.137.1";
