@@ -19,10 +19,11 @@ use Rattle.clif_ir.specs.Reading.{param_home, home_of_node, stands_in}
 use Rattle.clif_meaning.specs.Name.{Name, answer_of}
 use Rattle.clif_meaning.specs.Request.{AnsweredCall, script_of, number_of}
 use Rattle.clif_meaning.specs.Ledger.{Answered, ABlock, AVariable, AValue, AnInstruction, Ledger, ledger_with, empty_ledger, answer_at, value_answer_type, type_of, has_value}
+use Rattle.clif_ssa.specs.Zeros.{ZeroStep, zero_steps}
 use Rattle.clif_ssa.specs.declared.tables.Pending.{Pending}
 use Rattle.clif_ssa.specs.Constructs.{MayPassMore, OnlyConstructs}
 use Rattle.clif_ssa.specs.LookUp.{branch_block}
-use Rattle.clif_ssa.specs.Ssa.{no_srcloc, with_zero, zeroed, zeroed_in, completed, completing_blocks}
+use Rattle.clif_ssa.specs.Ssa.{step_values, with_steps, with_zero, zero_value, zeroed, zeroed_in, completed, completing_blocks}
 use Rattle.cranelift_frontend.specs.Ledger.{AnswerAgrees, HaveTypes, ResultsFollow, AnswersAgree, LedgerAgrees, block_name, value_type, ledger_of}
 use Rattle.cranelift_frontend.specs.Context.{ContextState}
 use Rattle.cranelift_frontend.proofs.LedgerLists.{fold-push, get-front, get-last, get-push, map-some, some-is, and-then-some, if-yes, numbered-more}
@@ -249,6 +250,24 @@ Continues-inst f b end shape types loc =
       homes = λ v h is. home-append f.values (result_nodes (length f.insts) 0 types) v h (home-results (length f.insts) 0 types) is;
     }
 
+home-steps : (i : ℕ) (steps : List ZeroStep) (j : ℕ) → home_of_node (slice_get (step_values i steps) j) ≡ None
+home-steps i [] j = refl
+home-steps i (step ∷ steps) zero = refl
+home-steps i (step ∷ steps) (suc j) = home-steps (suc i) steps j
+
+-- the steps of a zero
+Continues-steps : (f : Body) (b : ℕ) (steps : List ZeroStep) → Continues f (with_steps f b steps)
+Continues-steps f b steps =
+    record {
+      extends = record {
+        values = λ v t is. type-front f.values _ v t is;
+        insts = λ i node is. keeps-node (with_steps f b steps) i node (get-front f.insts _ i node is);
+        block_count = length-set f.blocks b _;
+      };
+      layout = refl;
+      homes = λ v h is. home-append f.values (step_values (length f.insts) steps) v h (home-steps (length f.insts) steps) is;
+    }
+
 -- a new name
 pub Continues-alias : (f : Body) (v original : ℕ) → Continues f (with_alias f v original)
 Continues-alias f v original =
@@ -266,12 +285,12 @@ Continues-alias f v original =
 pub Continues-zero : (f : Body) (b : ℕ) (ty : «Type») → stands_in b f.layout ≡ true → Continues f (with_zero f b ty)
 Continues-zero f b ty there =
     subst (λ (g : Body). Continues g (with_zero f b ty)) (inserted-twice f b there)
-    (Continues-inst (inserted_in f b) b Front _ (ty ∷ []) no_srcloc)
+    (Continues-steps (inserted_in f b) b (zero_steps ty))
 
 pub Continues-zeroed : (f : Body) (b v : ℕ) → stands_in b f.layout ≡ true → Continues f (zeroed f b v)
 Continues-zeroed f b v there =
     Continues-then f (with_zero f b (value_at f v).ty) (zeroed f b v) (Continues-zero f b (value_at f v).ty there)
-    (Continues-alias (with_zero f b (value_at f v).ty) v (length f.values))
+    (Continues-alias (with_zero f b (value_at f v).ty) v (zero_value f (value_at f v).ty))
 
 pub inserted-values : (f : Body) (b : ℕ) → length (inserted_in f b).values ≡ length f.values
 inserted-values f b = by (stands_in b f.layout)
@@ -286,13 +305,6 @@ inserted-insts f b = by (stands_in b f.layout)
     by : (there : Bool) → length (if there then f else with_layout f b).insts ≡ length f.insts
     by true = refl
     by false = refl
-
--- the zero has the type of the parameter
-pub zeroed-type : (f : Body) (b v : ℕ) → value_type (zeroed f b v) (length f.values) ≡ Some (value_at f v).ty
-zeroed-type f b v =
-    let g : Body = with_zero f b (value_at f v).ty in
-    let last : value_type g (length (inserted_in f b).values) ≡ Some (value_at f v).ty = ap (option_map (λ (n : ValueNode). n.ty)) (get-last (inserted_in f b).values _) in
-    type-set g.values v _ (Alias (resolved g (length f.values))) (length f.values) ∙ ap (value_type g) (sym (inserted-values f b)) ∙ last
 
 -- parameters were completed, whose blocks are in the layout
 pub Continues-completed : (f : Body) (pending : List Pending) → ((v b : ℕ) → param_home f v ≡ Some b → stands_in b f.layout ≡ true) → Continues f (completed f pending)

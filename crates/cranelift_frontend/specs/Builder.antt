@@ -12,6 +12,7 @@ use Rattle.clif_ir.specs.declared.inst_list.BlockEnd.TheVariants.{Back}
 use Rattle.clif_ir.specs.declared.instructions.InstructionData.{InstructionData}
 use Rattle.clif_ir.specs.Instruction.{is_terminator, result_types}
 use Rattle.clif_ir.specs.Changes.{inserted_in, with_inst}
+use Rattle.clif_ssa.specs.Zeros.{steps_before}
 use Rattle.clif_ssa.specs.Tables.{is_yes}
 use Rattle.clif_ssa.specs.Ssa.{no_srcloc, record_of, sealed_of, predecessors_of, Waits, Zeroes}
 use Rattle.clif_ssa.specs.LookUp.{no_look_up, UsesVariable}
@@ -86,7 +87,7 @@ pub record UsesIn (f : Body) (c : ContextState) (g : Body) (d : ContextState) (v
   pub waits : record_of c.ssa variable block ≡ None → is_yes (sealed_of c.ssa block) ≡ false
       → Waits c.ssa d.ssa (inserted_in f block) g variable ty block × (value ≡ length f.values)
   pub zero : record_of c.ssa variable block ≡ None → is_yes (sealed_of c.ssa block) ≡ true → predecessors_of c.ssa block ≡ []
-      → Zeroes c.ssa d.ssa (inserted_in f block) g variable ty block × (value ≡ length f.values + 1)
+      → Zeroes c.ssa d.ssa (inserted_in f block) g variable ty block × (value ≡ length f.values + 1 + steps_before ty)
   pub looks : record_of c.ssa variable block ≡ None → is_yes (sealed_of c.ssa block) ≡ true → predecessors_of c.ssa block ≢ []
       → (told : List ℕ) × UsesVariable variable ty block (stage (inserted_in f block) c.ssa no_look_up) value (stage g d.ssa (found value told))
 

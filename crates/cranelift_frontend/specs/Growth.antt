@@ -1,7 +1,6 @@
 -- What goes on existing, and goes on standing for one value, as calls are made. Source: own.
 use Rattle.std.specs.Prelude.{◌≡◌, ◌≤◌, ℕ, List, [], ◌∷◌, length}
 use Rattle.clif_ir.specs.Body.{Body, resolved}
-use Rattle.clif_ssa.specs.Limits.{RecordsBelow}
 use Rattle.clif_ssa.specs.Structure.{HasRecordOf, Remembers}
 use Rattle.cranelift_frontend.specs.declared.builder.FunctionBuilder.{FunctionBuilder}
 
@@ -18,12 +17,6 @@ RemembersIn variable block old new = Remembers variable block old.func.now old.c
 -- the block's record of the variable stands for the same value as this one
 abbrev pub HasRecordIn : FunctionBuilder → ℕ → ℕ → ℕ → Type 0
 HasRecordIn b variable block value = HasRecordOf b.func.now b.ctx.now.ssa variable block value
-
--- records stay those of variables and blocks that exist
-abbrev pub KeepsRecordsBelow : FunctionBuilder → FunctionBuilder → Type 0
-KeepsRecordsBelow old new =
-    (variables blocks : ℕ) → length old.ctx.now.variables ≤ variables → length old.func.now.blocks ≤ blocks
-    → RecordsBelow variables blocks old.ctx.now.ssa → RecordsBelow variables blocks new.ctx.now.ssa
 
 -- each builder remembers what the one before it had on record for the variable in the block
 abbrev pub AreCalls : ℕ → ℕ → FunctionBuilder → List FunctionBuilder → Type 0

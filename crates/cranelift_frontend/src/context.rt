@@ -113,7 +113,8 @@ impl FunctionBuilderContext {
     ghost use Rattle.clif_ssa.specs.Running.{stage, found};
     ghost use Rattle.clif_ssa.specs.Sealing.{SealsBelow, SealsByLookUp};
     ghost use Rattle.clif_ssa.specs.Ssa.{record_of, sealed_of, predecessors_of, completed, HasMore, IsLocal, NamesExist, Records, RecordsStay, SameBlocks, SamePredecessors, SameRecords, Seals, Waits, Zeroes};
-    ghost use Rattle.clif_ssa.specs.Limits.{IsFull, StaysBelow, StaysBelowFor, Takes, TakesByRecords};
+    ghost use Rattle.clif_ssa.specs.Zeros.{steps_before};
+    ghost use Rattle.clif_ssa.specs.Limits.{IsFull};
     ghost use Rattle.clif_ssa.specs.Tables.{is_yes, pending_of};
 
     /// A context for a first function.
@@ -242,7 +243,7 @@ impl FunctionBuilderContext {
         requires named { NamesExist func.old self.old.ssa }
         ensures known { IfSome (record_of self.old.ssa variable block) (λ v. OnOk result ((func.new ≡ func.old) × (self.new.ssa ≡ self.old.ssa)) × IfOk result (λ w. w ≡ v)) }
         ensures waits { record_of self.old.ssa variable block ≡ None → is_yes (sealed_of self.old.ssa block) ≡ false → OnOk result (Waits self.old.ssa self.new.ssa func.old func.new variable ty block) × IfOk result (λ w. w ≡ length func.old.values) }
-        ensures zero { record_of self.old.ssa variable block ≡ None → is_yes (sealed_of self.old.ssa block) ≡ true → predecessors_of self.old.ssa block ≡ [] → OnOk result (Zeroes self.old.ssa self.new.ssa func.old func.new variable ty block) × IfOk result (λ w. w ≡ length func.old.values + 1) }
+        ensures zero { record_of self.old.ssa variable block ≡ None → is_yes (sealed_of self.old.ssa block) ≡ true → predecessors_of self.old.ssa block ≡ [] → OnOk result (Zeroes self.old.ssa self.new.ssa func.old func.new variable ty block) × IfOk result (λ w. w ≡ length func.old.values + 1 + steps_before ty) }
         ensures looks { record_of self.old.ssa variable block ≡ None → is_yes (sealed_of self.old.ssa block) ≡ true → predecessors_of self.old.ssa block ≢ [] → IfOk result (λ w. (told : List ℕ) × UsesVariable variable ty block (stage func.old self.old.ssa no_look_up) w (stage func.new self.new.ssa (found w told))) }
         ensures is_use { IfOk result (λ w. (told : List ℕ) × IsUse func.old self.old.ssa func.new self.new.ssa variable ty block w told × Begins self.old self.new told) }
         ensures names { NamesExist func.new self.new.ssa }
@@ -250,9 +251,6 @@ impl FunctionBuilderContext {
         ensures more { HasMore func.old func.new }
         ensures variables { self.new.variables ≡ self.old.variables }
         ensures full { result ≡ Err BuildError.Full → IsFull func.new }
-        ensures takes { IsLocal self.old.ssa variable block → result ≢ Err BuildError.Memory → Takes func.old func.new 2 1 }
-        ensures takes_by_records { result ≢ Err BuildError.Memory → TakesByRecords func.old self.old.ssa func.new self.new.ssa }
-        ensures below { StaysBelowFor variable func.old self.old.ssa self.new.ssa }
         ensures never_failed { result ≢ Err BuildError.Failed }
     {
         let (value, side_effects) = self.ssa.use_var(func, variable, ty, block)?;
@@ -274,9 +272,6 @@ impl FunctionBuilderContext {
         ensures stay { RecordsStay self.old.ssa self.new.ssa }
         ensures variables { self.new.variables ≡ self.old.variables }
         ensures full { result ≡ Err BuildError.Full → IsFull func.new }
-        ensures takes { predecessors_of self.old.ssa block ≡ [] → result ≢ Err BuildError.Memory → Takes func.old func.new 0 0 }
-        ensures takes_by_records { result ≢ Err BuildError.Memory → TakesByRecords func.old self.old.ssa func.new self.new.ssa }
-        ensures below { StaysBelow func.old self.old.ssa self.new.ssa }
         ensures never_failed { result ≢ Err BuildError.Failed }
     {
         let side_effects = self.ssa.seal_block(block, func)?;
@@ -294,9 +289,6 @@ impl FunctionBuilderContext {
         ensures stay { RecordsStay self.old.ssa self.new.ssa }
         ensures variables { self.new.variables ≡ self.old.variables }
         ensures full { result ≡ Err BuildError.Full → IsFull func.new }
-        ensures takes { ((b : ℕ) → predecessors_of self.old.ssa b ≡ []) → result ≢ Err BuildError.Memory → Takes func.old func.new 0 0 }
-        ensures takes_by_records { result ≢ Err BuildError.Memory → TakesByRecords func.old self.old.ssa func.new self.new.ssa }
-        ensures below { StaysBelow func.old self.old.ssa self.new.ssa }
         ensures never_failed { result ≢ Err BuildError.Failed }
     {
         let side_effects = self.ssa.seal_all_blocks(func)?;
