@@ -1,13 +1,49 @@
--- What a ledger says by names, where it agrees with a builder, as this crate's law functions state it. Own.
-use Rattle.std.specs.Prelude.{◌≡◌, ℕ, ◌<◌, ◌==◌, List, length, slice_get, Option, Some, true}
+-- What a ledger and requests say by names, where it agrees with a builder, as this crate's law functions state it. Own.
+use Rattle.std.specs.Prelude.{◌≡◌, ℕ, ◌<◌, ◌==◌, List, length, map, slice_get, Option, Some, true, ℤ}
+use Rattle.clif_types.specs.declared.opcodes.BinaryOpcode.{BinaryOpcode}
+use Rattle.clif_types.specs.declared.opcodes.UnaryOpcode.{UnaryOpcode}
+use Rattle.clif_types.specs.declared.types.«Type».TheVariants.{Invalid}
+use Rattle.clif_ir.specs.declared.block_call.BlockArg.{BlockArg}
+use Rattle.clif_ir.specs.declared.block_call.BlockCall.{BlockCall}
+use Rattle.clif_ir.specs.declared.instructions.InstructionData.{InstructionData}
+use Rattle.clif_meaning.specs.Acceptance as request
+use Rattle.clif_meaning.specs.Instruction.{Edge, Instruction}
+use Rattle.cranelift_frontend.specs.Shapes.{edge_to, multi_ary, unary_imm}
+use Rattle.cranelift_frontend.specs.Shapes as shape
 use Rattle.clif_types.specs.declared.types.«Type».{«Type»}
-use Rattle.clif_ir.specs.Body.{Body}
+use Rattle.clif_ir.specs.Body.{Body, value_at}
 use Rattle.clif_ir.specs.Reading.{stands_in}
 use Rattle.clif_meaning.specs.Name.{Name, same_name}
-use Rattle.clif_meaning.specs.Request.{AnsweredCall}
+use Rattle.clif_meaning.specs.Request.{AnsweredCall, Build, Request, number_of}
 use Rattle.clif_meaning.specs.Ledger.{BlockState, block_state, has_block, is_inserted, type_of, variable_type}
 use Rattle.cranelift_frontend.specs.Context.{ContextState}
-use Rattle.cranelift_frontend.specs.Ledger.{BlockAgrees, LedgerAgrees, NamesBlock, NamesValue, block_name, ledger_of, value_type}
+use Rattle.cranelift_frontend.specs.Ledger.{BlockAgrees, HasShape, LedgerAgrees, NamesBlock, NamesEdge, NamesValue, block_name, ledger_of, value_type}
+
+-- this request asks for an instruction of this shape, made at this type
+abbrev pub AsksForShape : List AnsweredCall → Body → Request → InstructionData → «Type» → Type 0
+AsksForShape calls f asked shape ty =
+    (instruction : Instruction Name Name) × (asked ≡ Build instruction) × HasShape calls f instruction shape ty
+
+-- The request of each format, with names of its operands, asks for the shape that the method of the format builds.
+pub record AskForTheirShapes (calls : List AnsweredCall) (f : Body) : Type 0 where
+  pub iconst : (ty : «Type») (imm : ℤ) → AsksForShape calls f (request.iconst ty imm) (unary_imm imm) ty
+  pub unary : (opcode : UnaryOpcode) (a : Name) (x : ℕ) → NamesValue calls a x
+      → AsksForShape calls f (request.unary (ledger_of calls) opcode a) (shape.unary opcode x) (value_at f x).ty
+  pub binary : (opcode : BinaryOpcode) (a b : Name) (x y : ℕ) → NamesValue calls a x → NamesValue calls b y
+      → AsksForShape calls f (request.binary (ledger_of calls) opcode a b) (shape.binary opcode x y) (value_at f x).ty
+  pub jump : (edge : Edge Name Name) (block : ℕ) (args : List BlockArg) → NamesEdge calls edge (edge_to block args)
+      → AsksForShape calls f (request.jump edge) (shape.jump block args) Invalid
+  pub brif : (condition : Name) (c : ℕ) (first second : Edge Name Name) (taken other : BlockCall)
+      → NamesValue calls condition c → NamesEdge calls first taken → NamesEdge calls second other
+      → AsksForShape calls f (request.brif (ledger_of calls) condition first second) (shape.brif c taken other) Invalid
+  pub return_ : (names : List Name) (values : List ℕ) → map (number_of calls) names ≡ map Some values
+      → AsksForShape calls f (request.return_ names) (multi_ary values) Invalid
+
+-- They do where the ledger agrees with a builder's parts.
+abbrev pub RequestsAskForTheirShapes : Type 0
+RequestsAskForTheirShapes =
+    (calls : List AnsweredCall) (f : Body) (c : ContextState) (position : Option ℕ)
+    → LedgerAgrees calls (ledger_of calls) f c position → AskForTheirShapes calls f
 
 -- the state that the ledger finds by a block's name is that of the block with this number
 pub record IsStateOf (calls : List AnsweredCall) (c : ContextState) (block : ℕ) (name : Name) : Type 0 where

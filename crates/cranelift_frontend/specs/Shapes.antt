@@ -1,24 +1,37 @@
 -- Shapes of instructions as the methods of `InstBuilder` make them, and what a generic caller knows of them.
 -- Source: own, after the crate's formats of instructions.
-use Rattle.std.specs.Prelude.{◌≡◌, ℕ, List, [], ◌∷◌, false, Result, Ok}
+use Rattle.std.specs.Prelude.{◌≡◌, ℕ, List, [], ◌∷◌, false, Result, Ok, ℤ}
 use Rattle.clif_types.specs.declared.error.BuildError.{BuildError}
 use Rattle.clif_types.specs.declared.types.«Type».{«Type»}
 use Rattle.clif_ir.specs.declared.block_call.BlockArg.{BlockArg}
 use Rattle.clif_ir.specs.declared.block_call.BlockCall.{BlockCall}
 use Rattle.clif_types.specs.declared.opcodes.BinaryOpcode.{BinaryOpcode}
+use Rattle.clif_types.specs.declared.opcodes.UnaryOpcode.{UnaryOpcode}
 use Rattle.clif_ir.specs.declared.instructions.InstructionData.{InstructionData}
-use Rattle.clif_ir.specs.declared.instructions.InstructionData.TheVariants.{Binary, Brif}
+use Rattle.clif_ir.specs.declared.instructions.InstructionData.TheVariants.{UnaryImm, Unary, Binary, Jump, Brif, MultiAry}
 use Rattle.clif_ir.specs.Instruction.{destinations, is_branch, is_terminator, result_types}
 
 -- an edge to a block that passes these arguments
 abbrev pub edge_to : ℕ → List BlockArg → BlockCall
 edge_to block args = record { block = block; args = args }
 
+abbrev pub unary_imm : ℤ → InstructionData
+unary_imm imm = UnaryImm imm
+
+abbrev pub unary : UnaryOpcode → ℕ → InstructionData
+unary opcode x = Unary opcode x
+
 abbrev pub binary : BinaryOpcode → ℕ → ℕ → InstructionData
 binary opcode x y = Binary opcode (x ∷ y ∷ [])
 
+abbrev pub jump : ℕ → List BlockArg → InstructionData
+jump block args = Jump (edge_to block args)
+
 abbrev pub brif : ℕ → BlockCall → BlockCall → InstructionData
 brif c taken other = Brif c (taken ∷ other ∷ [])
+
+abbrev pub multi_ary : List ℕ → InstructionData
+multi_ary values = MultiAry values
 
 -- an instruction of this shape has one result, of its controlling type, goes nowhere and ends no block
 pub record GivesValue (shape : InstructionData) : Type 0 where
@@ -31,3 +44,10 @@ pub record GivesValue (shape : InstructionData) : Type 0 where
 abbrev pub AfterValue : {B : Type 0} → (B → B → InstructionData → «Type» → Result ℕ BuildError → Type 0) → (B → B → ℕ → Type 0) → Type 0
 AfterValue {B} builds_value P =
     (old new : B) (shape : InstructionData) (ty : «Type») (value : ℕ) → builds_value old new shape ty (Ok value) → P old new value
+
+-- what is built at the type of a value is built at that type
+abbrev pub LikeIsValue : {B : Type 0} → (B → B → InstructionData → ℕ → Result ℕ BuildError → Type 0)
+    → (B → B → InstructionData → «Type» → Result ℕ BuildError → Type 0) → (B → ℕ → «Type») → Type 0
+LikeIsValue {B} builds_like builds_value type_of =
+    (old new : B) (shape : InstructionData) (x : ℕ) (answer : Result ℕ BuildError)
+    → builds_like old new shape x answer → builds_value old new shape (type_of old x) answer

@@ -2,7 +2,7 @@
 ghost use Rattle.std.specs.Prelude.{◌≡◌, ◌∷◌, [], IsTrue, IfOk, OnErr, Err, All};
 ghost use Rattle.clif_types.specs.Types.{is_int};
 ghost use Rattle.clif_ir.specs.Instruction.{operands, destinations};
-ghost use Rattle.cranelift_frontend.specs.Shapes.{GivesValue, AfterValue, binary, brif, edge_to};
+ghost use Rattle.cranelift_frontend.specs.Shapes.{GivesValue, AfterValue, LikeIsValue, binary, brif, edge_to, jump, multi_ary, unary, unary_imm};
 
 use clif_ir::{BinaryOpcode, BlockArg, BlockCall, InstructionData, UnaryOpcode, ValueList};
 use clif_types::{Block, BuildError, Inst, Type, Value};
@@ -80,7 +80,7 @@ pub trait InstBuilderBase {
 
     ghost others_exist: { AfterValue builds_value (λ old new value. (x : ℕ) → has_value old x → has_value new x) };
 
-    ghost like_is_value: { (old new : Self) (shape : InstructionData) (x : ℕ) (answer : Result ℕ BuildError) → builds_like old new shape x answer → builds_value old new shape (type_of old x) answer };
+    ghost like_is_value: { LikeIsValue builds_like builds_value type_of };
 }
 
 /// The instructions, by name. Each goes through the method of its format.
@@ -89,7 +89,7 @@ pub trait InstBuilder: InstBuilderBase {
     final fn iconst(&mut self, ty: Type, imm: i64) -> Result<Value, BuildError>
         requires current { Self.can_build self.old }
         requires integer { IsTrue (is_int ty) }
-        ensures built { Self.builds_value self.old self.new (InstructionData.UnaryImm imm) ty result }
+        ensures built { Self.builds_value self.old self.new (unary_imm imm) ty result }
     {
         self.unary_imm(ty, imm)
     }
@@ -158,7 +158,7 @@ pub trait InstBuilder: InstBuilderBase {
     final fn ineg(&mut self, x: Value) -> Result<Value, BuildError>
         requires current { Self.can_build self.old }
         requires x_exists { Self.has_value self.old x }
-        ensures built { Self.builds_like self.old self.new (InstructionData.Unary UnaryOpcode.Ineg x) x result }
+        ensures built { Self.builds_like self.old self.new (unary UnaryOpcode.Ineg x) x result }
     {
         self.unary(UnaryOpcode::Ineg, x)
     }
@@ -167,7 +167,7 @@ pub trait InstBuilder: InstBuilderBase {
     final fn bnot(&mut self, x: Value) -> Result<Value, BuildError>
         requires current { Self.can_build self.old }
         requires x_exists { Self.has_value self.old x }
-        ensures built { Self.builds_like self.old self.new (InstructionData.Unary UnaryOpcode.Bnot x) x result }
+        ensures built { Self.builds_like self.old self.new (unary UnaryOpcode.Bnot x) x result }
     {
         self.unary(UnaryOpcode::Bnot, x)
     }
@@ -176,7 +176,7 @@ pub trait InstBuilder: InstBuilderBase {
     final fn jump(&mut self, block: Block, args: &[BlockArg]) -> Result<Inst, BuildError>
         requires current { Self.can_build self.old }
         requires leads { Self.can_lead self.old (edge_to block args.now) }
-        ensures built { Self.builds self.old self.new (InstructionData.Jump (edge_to block args.now)) Type.Invalid result }
+        ensures built { Self.builds self.old self.new (jump block args.now) Type.Invalid result }
     {
         match BlockCall::new(self.allocator(), block, args) {
             Ok(destination) => self.build(InstructionData::Jump { destination }, Type::Invalid),
@@ -218,7 +218,7 @@ pub trait InstBuilder: InstBuilderBase {
     final fn return_(&mut self, values: &[Value]) -> Result<Inst, BuildError>
         requires current { Self.can_build self.old }
         requires values_exist { All (Self.has_value self.old) values.now }
-        ensures built { Self.builds self.old self.new (InstructionData.MultiAry values.now) Type.Invalid result }
+        ensures built { Self.builds self.old self.new (multi_ary values.now) Type.Invalid result }
     {
         match ValueList::from_slice(self.allocator(), values) {
             Ok(args) => self.build(InstructionData::MultiAry { args }, Type::Invalid),
@@ -229,7 +229,7 @@ pub trait InstBuilder: InstBuilderBase {
     /// An instruction of a number alone.
     final fn unary_imm(&mut self, ty: Type, imm: i64) -> Result<Value, BuildError>
         requires current { Self.can_build self.old }
-        ensures built { Self.builds_value self.old self.new (InstructionData.UnaryImm imm) ty result }
+        ensures built { Self.builds_value self.old self.new (unary_imm imm) ty result }
     {
         self.build_value(InstructionData::UnaryImm { imm }, ty)
     }
@@ -238,7 +238,7 @@ pub trait InstBuilder: InstBuilderBase {
     final fn unary(&mut self, opcode: UnaryOpcode, x: Value) -> Result<Value, BuildError>
         requires current { Self.can_build self.old }
         requires x_exists { Self.has_value self.old x }
-        ensures built { Self.builds_like self.old self.new (InstructionData.Unary opcode x) x result }
+        ensures built { Self.builds_like self.old self.new (unary opcode x) x result }
     {
         self.build_like(InstructionData::Unary { opcode, arg: x }, x)
     }

@@ -3,7 +3,7 @@
 
 ghost use Rattle.cranelift_frontend.specs.Growth.{BuilderUsesAgree};
 ghost use Rattle.cranelift_frontend.specs.Laws.{StandingIsWellPlaced, StandingMatchesEdges, StandingReadsRight, StandingReadsRightFromAnywhere, StandingRecordsAreWellPlaced};
-ghost use Rattle.cranelift_frontend.specs.LedgerLaws.{LedgerIsReadByNumber};
+ghost use Rattle.cranelift_frontend.specs.LedgerLaws.{LedgerIsReadByNumber, RequestsAskForTheirShapes};
 
 /// Two uses of a variable in a block stand for one value, where no call between them assigns it there.
 pub fn uses_agree()
@@ -43,4 +43,10 @@ pub fn standing_records_are_well_placed()
 /// of the layout, and of the types of values and variables.
 pub fn ledger_is_read_by_number()
     ensures { LedgerIsReadByNumber }
+{}
+
+/// Where a ledger agrees with a builder, the request of each format, with names of its operands, asks for the shape that
+/// the method of the format builds: so what `ledger` and `stands` say of instructions holds of these requests.
+pub fn requests_ask_for_their_shapes()
+    ensures { RequestsAskForTheirShapes }
 {}
