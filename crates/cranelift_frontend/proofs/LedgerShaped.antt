@@ -1,6 +1,6 @@
 -- An instruction of any shape is built: the agreement with the ledger is kept.
 use Rattle.std.proofs.Common.{◌≡◌, ◌≢◌, ◌<◌, ℕ, List, [], ◌∷◌, ◌++◌, length, refl, sym, ◌∙◌, ap, subst}
-use Rattle.std.specs.Prelude.{All, map, slice_get, true, false, if◌then◌else◌, Option, Some, IfSome, IfOk, Result, Ok, Err, ℤ}
+use Rattle.std.specs.Prelude.{All, map, slice_get, true, false, if◌then◌else◌, Option, Some, IfOk, Result, Ok, Err, ℤ}
 use Rattle.std.specs.List.{range_with_len}
 use Rattle.std.proofs.lemmas.Option.{get_or_from_slice_get, same_Some}
 use Rattle.clif_types.specs.declared.types.«Type».{«Type»}
@@ -30,9 +30,9 @@ use Rattle.clif_ssa.specs.Ssa.{no_srcloc}
 use Rattle.cranelift_frontend.specs.declared.context.BlockStatus.TheVariants.{Filled}
 use Rattle.cranelift_frontend.specs.declared.builder.FunctionBuilder.{FunctionBuilder}
 use Rattle.cranelift_frontend.specs.Context.{ContextState, SetsStatus, begun, status_of}
-use Rattle.cranelift_frontend.specs.Builder.{Appends, AppendsIn, AppendsValue, CanLeadIn, HasCurrent}
+use Rattle.cranelift_frontend.specs.Builder.{AppendsIn, CanLeadIn, HasCurrent}
 use Rattle.cranelift_frontend.specs.Construction.{IsDeclared}
-use Rattle.cranelift_frontend.specs.Ledger.{AgreesWithLedger, HasShape, LedgerAgrees, NamesEdge, NamesEdges, NamesValue, ledger_of, made_at}
+use Rattle.cranelift_frontend.specs.Ledger.{HasShape, LedgerAgrees, NamesEdge, NamesEdges, NamesValue, ledger_of, made_at}
 use Rattle.cranelift_frontend.proofs.LedgerLists.{map-some}
 use Rattle.cranelift_frontend.proofs.LedgerKept.{concluded, inserted-values, named-value}
 use Rattle.cranelift_frontend.proofs.LedgerBuilt.{agrees-computed, agrees-ended, node-there}

@@ -1,5 +1,5 @@
 -- What each call leaves of records, and of which values stand for one value.
-use Rattle.std.proofs.Common.{◌≡◌, ℕ, ◌==◌, ◌&&◌, if◌then◌else◌, Bool, true, false, List, [], ◌∷◌, ◌++◌, length, refl, sym, ◌∙◌, ap, subst, arith}
+use Rattle.std.proofs.Common.{◌≡◌, ℕ, ◌==◌, ◌&&◌, if◌then◌else◌, Bool, true, false, List, [], ◌∷◌, ◌++◌, refl, sym, ◌∙◌, ap, subst, arith}
 use Rattle.std.specs.Prelude.{Option, Some, OnOk, IfOk, IfSome, Result, Ok, Err}
 use Rattle.std.proofs.lemmas.Bool.Decides.{nat_tests}
 use Rattle.clif_types.specs.declared.types.«Type».{«Type»}
@@ -21,8 +21,8 @@ use Rattle.cranelift_frontend.specs.Context.{ContextState, Begins}
 use Rattle.cranelift_frontend.specs.Construction.{IsUse, IsSealingOf, IsDeclared}
 use Rattle.cranelift_frontend.proofs.Declaring.{declared_same}
 use Rattle.cranelift_frontend.specs.declared.builder.FunctionBuilder.{FunctionBuilder}
-use Rattle.cranelift_frontend.specs.Builder.{AppendsIn, AppendsValue, HasCurrent}
-use Rattle.cranelift_frontend.specs.Growth.{AreCalls, HasRecordIn, RemembersIn, last_builder}
+use Rattle.cranelift_frontend.specs.Builder.{AppendsIn}
+use Rattle.cranelift_frontend.specs.Growth.{AreCalls, HasRecordIn, last_builder}
 
 -- the function and the records stay
 pub remembers_same : (x b : ℕ) (f g : Body) (s t : SsaState) → g ≡ f → t ≡ s → Remembers x b f s g t

@@ -1,6 +1,6 @@
 -- An instruction of any shape is built, with edges or without: the builder stands for the list with this call at its end.
 use Rattle.std.proofs.Common.{◌≡◌, ◌≢◌, ℕ, zero, suc, ◌<◌, List, [], ◌∷◌, ◌++◌, length, map, refl, sym, ◌∙◌, ap, subst, arith}
-use Rattle.std.specs.Prelude.{slice_get, slice_index_or, All, Contains, Option, Some, true, false, IfOk, IfSome, Result, Ok, Err, ◌==◌}
+use Rattle.std.specs.Prelude.{slice_get, slice_index_or, All, Contains, Option, Some, true, false, IfOk, Result, Ok, Err, ◌==◌}
 use Rattle.std.proofs.lemmas.Bool.{eq-eqb, eqb-true, or_left, or_right}
 use Rattle.std.proofs.lemmas.List.{append-nil}
 use Rattle.std.proofs.lemmas.Map.Views.{Contains-from_any}
@@ -29,14 +29,13 @@ use Rattle.clif_meaning.specs.View.{controlling_of, edge_of, first_type, operati
 use Rattle.clif_simulation.specs.Carries.{Carries, DeclaredAlong, IsCurrent}
 use Rattle.clif_simulation.proofs.Building.{SameBranch, SameInstruction, carries_branch, carries_result, carries_terminator}
 use Rattle.cranelift_frontend.specs.declared.context.BlockStatus.TheVariants.{Filled}
-use Rattle.cranelift_frontend.specs.declared.builder.FunctionBuilder.{FunctionBuilder}
 use Rattle.cranelift_frontend.specs.Construction.{IsDeclared}
 use Rattle.cranelift_frontend.specs.Context.{ContextState, status_of}
-use Rattle.cranelift_frontend.specs.Builder.{Appends, AppendsIn, AppendsValue, CanLeadIn, HasCurrent}
-use Rattle.cranelift_frontend.specs.Ledger.{AgreesWithLedger, HasShape, LedgerAgrees, NamesEdges, ledger_of}
-use Rattle.cranelift_frontend.specs.StandsFor.{StandsIn, StandsFor}
+use Rattle.cranelift_frontend.specs.Builder.{AppendsIn, CanLeadIn}
+use Rattle.cranelift_frontend.specs.Ledger.{HasShape, LedgerAgrees, NamesEdges, ledger_of}
+use Rattle.cranelift_frontend.specs.StandsFor.{StandsIn}
 use Rattle.cranelift_frontend.proofs.LedgerNames.{name-number}
-use Rattle.cranelift_frontend.proofs.Growing.{appended_no_results, appended_results}
+use Rattle.cranelift_frontend.proofs.Growing.{appended_results}
 use Rattle.cranelift_frontend.proofs.Standing.{current_name, current_unfilled}
 use Rattle.cranelift_frontend.proofs.StandingBuilt.{all_named, edges_named, none_named, stands_built}
 

@@ -15,8 +15,6 @@ use Rattle.clif_ir.specs.Changes.{inserted_in, with_inst}
 use Rattle.clif_ssa.specs.Zeros.{steps_before}
 use Rattle.clif_ssa.specs.Tables.{is_yes}
 use Rattle.clif_ssa.specs.Ssa.{no_srcloc, record_of, sealed_of, predecessors_of, Waits, Zeroes}
-use Rattle.clif_ssa.specs.LookUp.{no_look_up, UsesVariable}
-use Rattle.clif_ssa.specs.Running.{stage, found}
 use Rattle.cranelift_frontend.specs.declared.context.BlockStatus.{BlockStatus}
 use Rattle.cranelift_frontend.specs.declared.context.BlockStatus.TheVariants.{Empty, Partial, Filled}
 use Rattle.cranelift_frontend.specs.declared.builder.FunctionBuilder.{FunctionBuilder}
@@ -80,7 +78,7 @@ abbrev pub HasCurrent : FunctionBuilder → Type 0
 HasCurrent b = (block : ℕ) × (b.position ≡ Some block) × (block < length b.func.now.blocks) × (status_of b.ctx.now block ≢ Filled)
 
 -- A use of a variable of type `ty` in a block answers `value`: the recorded value, or else a new parameter of the block;
--- where the block is sealed, a zero if nothing leads to it, and what the look-up in its predecessors finds otherwise.
+-- where the block is sealed and nothing leads to it, a zero. (Where something does, `is_use` says what is kept.)
 pub record UsesIn (f : Body) (c : ContextState) (g : Body) (d : ContextState) (variable : ℕ) (ty : «Type») (block value : ℕ) : Type 0 where
   pub known : (v : ℕ) → record_of c.ssa variable block ≡ Some v
       → (g ≡ inserted_in f block) × (d.ssa ≡ c.ssa) × (value ≡ v)
@@ -88,8 +86,6 @@ pub record UsesIn (f : Body) (c : ContextState) (g : Body) (d : ContextState) (v
       → Waits c.ssa d.ssa (inserted_in f block) g variable ty block × (value ≡ length f.values)
   pub zero : record_of c.ssa variable block ≡ None → is_yes (sealed_of c.ssa block) ≡ true → predecessors_of c.ssa block ≡ []
       → Zeroes c.ssa d.ssa (inserted_in f block) g variable ty block × (value ≡ length f.values + 1 + steps_before ty)
-  pub looks : record_of c.ssa variable block ≡ None → is_yes (sealed_of c.ssa block) ≡ true → predecessors_of c.ssa block ≢ []
-      → (told : List ℕ) × UsesVariable variable ty block (stage (inserted_in f block) c.ssa no_look_up) value (stage g d.ssa (found value told))
 
 -- the same in a builder, for the type of the variable
 abbrev pub Uses : FunctionBuilder → FunctionBuilder → ℕ → ℕ → ℕ → Type 0

@@ -244,7 +244,6 @@ impl FunctionBuilderContext {
         ensures known { IfSome (record_of self.old.ssa variable block) (λ v. OnOk result ((func.new ≡ func.old) × (self.new.ssa ≡ self.old.ssa)) × IfOk result (λ w. w ≡ v)) }
         ensures waits { record_of self.old.ssa variable block ≡ None → is_yes (sealed_of self.old.ssa block) ≡ false → OnOk result (Waits self.old.ssa self.new.ssa func.old func.new variable ty block) × IfOk result (λ w. w ≡ length func.old.values) }
         ensures zero { record_of self.old.ssa variable block ≡ None → is_yes (sealed_of self.old.ssa block) ≡ true → predecessors_of self.old.ssa block ≡ [] → OnOk result (Zeroes self.old.ssa self.new.ssa func.old func.new variable ty block) × IfOk result (λ w. w ≡ length func.old.values + 1 + steps_before ty) }
-        ensures looks { record_of self.old.ssa variable block ≡ None → is_yes (sealed_of self.old.ssa block) ≡ true → predecessors_of self.old.ssa block ≢ [] → IfOk result (λ w. (told : List ℕ) × UsesVariable variable ty block (stage func.old self.old.ssa no_look_up) w (stage func.new self.new.ssa (found w told))) }
         ensures is_use { IfOk result (λ w. (told : List ℕ) × IsUse func.old self.old.ssa func.new self.new.ssa variable ty block w told × Begins self.old self.new told) }
         ensures names { NamesExist func.new self.new.ssa }
         ensures exists { IfOk result (λ w. w < length func.new.values) }
@@ -265,7 +264,6 @@ impl FunctionBuilderContext {
         ensures sealed { predecessors_of self.old.ssa block ≡ [] → OnOk result (Seals self.old.ssa self.new.ssa block) }
         ensures records { predecessors_of self.old.ssa block ≡ [] → SameRecords self.old.ssa self.new.ssa }
         ensures function { predecessors_of self.old.ssa block ≡ [] → OnOk result (func.new ≡ completed func.old (pending_of (sealed_of self.old.ssa block))) }
-        ensures completes { predecessors_of self.old.ssa block ≢ [] → OnOk result ((told : List ℕ) × SealsByLookUp func.old self.old.ssa func.new self.new.ssa block told) }
         ensures is_sealing { OnOk result ((told : List ℕ) × IsSealing func.old self.old.ssa func.new self.new.ssa block told × Begins self.old self.new told) }
         ensures names { NamesExist func.new self.new.ssa }
         ensures more { HasMore func.old func.new }
@@ -283,7 +281,6 @@ impl FunctionBuilderContext {
     pub(crate) fn seal_all_blocks(&mut self, func: &mut Function) -> Result<(), BuildError>
         requires named { NamesExist func.old self.old.ssa }
         ensures is_sealing { OnOk result ((told : List ℕ) × IsSealingAll func.old self.old.ssa func.new self.new.ssa told × Begins self.old self.new told) }
-        ensures in_turn { OnOk result ((told : List ℕ) × SealsBelow func.old self.old.ssa (length func.old.blocks) func.new self.new.ssa told) }
         ensures names { NamesExist func.new self.new.ssa }
         ensures more { HasMore func.old func.new }
         ensures stay { RecordsStay self.old.ssa self.new.ssa }

@@ -165,7 +165,6 @@ impl<'a> FunctionBuilder<'a> {
         requires unsealed { is_yes (sealed_of self.old.ctx.now.ssa block) ≡ false }
         ensures loans { SameLoans self.old self.new }
         ensures function { predecessors_of self.old.ctx.now.ssa block ≡ [] → OnOk result (self.new.func.now ≡ completed self.old.func.now (pending_of (sealed_of self.old.ctx.now.ssa block))) }
-        ensures completes { predecessors_of self.old.ctx.now.ssa block ≢ [] → OnOk result ((told : List ℕ) × SealsByLookUp self.old.func.now self.old.ctx.now.ssa self.new.func.now self.new.ctx.now.ssa block told) }
         ensures is_sealing { OnOk result ((told : List ℕ) × IsSealing self.old.func.now self.old.ctx.now.ssa self.new.func.now self.new.ctx.now.ssa block told × Begins self.old.ctx.now self.new.ctx.now told) }
         ensures sealed { predecessors_of self.old.ctx.now.ssa block ≡ [] → OnOk result (Seals self.old.ctx.now.ssa self.new.ctx.now.ssa block) }
         ensures records { predecessors_of self.old.ctx.now.ssa block ≡ [] → SameRecords self.old.ctx.now.ssa self.new.ctx.now.ssa }
@@ -198,7 +197,6 @@ impl<'a> FunctionBuilder<'a> {
     pub fn seal_all_blocks(&mut self) -> Result<(), BuildError>
         ensures loans { SameLoans self.old self.new }
         ensures sealed { OnOk result ((b : ℕ) → b < length self.new.func.now.blocks → is_yes (sealed_of self.new.ctx.now.ssa b) ≡ true) }
-        ensures in_turn { OnOk result ((told : List ℕ) × SealsBelow self.old.func.now self.old.ctx.now.ssa (length self.old.func.now.blocks) self.new.func.now self.new.ctx.now.ssa told) }
         ensures is_sealing { OnOk result ((told : List ℕ) × IsSealingAll self.old.func.now self.old.ctx.now.ssa self.new.func.now self.new.ctx.now.ssa told × Begins self.old.ctx.now self.new.ctx.now told) }
         ensures stay { RecordsStay self.old.ctx.now.ssa self.new.ctx.now.ssa }
         ensures variables { self.new.ctx.now.variables ≡ self.old.ctx.now.variables }

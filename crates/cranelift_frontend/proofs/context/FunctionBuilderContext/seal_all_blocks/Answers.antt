@@ -3,7 +3,6 @@ use Rattle.std.specs.Prelude.{ltb}
 use Rattle.std.proofs.lemmas.Bool.{le-ltb, lt-ltb}
 use Rattle.clif_ssa.specs.Ssa.{SsaState, RecordsStay, sealed_of}
 use Rattle.clif_ssa.specs.Tables.{is_yes}
-use Rattle.clif_ssa.specs.Sealing.{SealsBelow}
 use Rattle.cranelift_frontend.specs.Context.{ContextState}
 use Rattle.cranelift_frontend.specs.Construction.{IsSealingAll}
 use Rattle.cranelift_frontend.proofs.Growing.{on_ok_step}
@@ -45,13 +44,3 @@ pub returns-clause-stay : goal.returns-clause-stay
 returns-clause-stay c =
     subst (λ (v : ContextState). RecordsStay v.ssa c.begin_all.new.self.ssa) c.self.view_is
     (subst (RecordsStay c.self.inside.ssa) (sym c.begin_all.ensures.ssa) c.seal_all_blocks.ensures.stay)
-
-pub returns-clause-in_turn : goal.returns-clause-in_turn
-returns-clause-in_turn c =
-    let told : List ℕ = c.in_ok-side_effects.side_effects.instructions_added_to_blocks.items in
-    let below : SealsBelow c.args.func.now c.self.inside.ssa (length c.args.func.now.blocks) c.seal_all_blocks.new.func c.seal_all_blocks.new.self told = c.in_ok-side_effects.ensures.in_turn in
-    on_ok_step c.begin_all.result _ _ (λ begins. (
-      told,
-      subst (λ (v : ContextState). SealsBelow c.args.func.now v.ssa (length c.args.func.now.blocks) c.seal_all_blocks.new.func c.begin_all.new.self.ssa told) c.self.view_is
-          (subst (λ (t : SsaState). SealsBelow c.args.func.now c.self.inside.ssa (length c.args.func.now.blocks) c.seal_all_blocks.new.func t told) (sym c.begin_all.ensures.ssa) below),
-    )) c.begin_all.ensures.status
