@@ -113,6 +113,7 @@ impl FunctionBuilderContext {
     ghost use Rattle.clif_ssa.specs.Running.{stage, found};
     ghost use Rattle.clif_ssa.specs.Sealing.{SealsBelow, SealsByLookUp};
     ghost use Rattle.clif_ssa.specs.Ssa.{record_of, sealed_of, predecessors_of, completed, HasMore, IsLocal, NamesExist, Records, RecordsStay, SameBlocks, SamePredecessors, SameRecords, Seals, Waits, Zeroes};
+    ghost use Rattle.clif_ssa.specs.Constructs.{OnlyConstructs};
     ghost use Rattle.clif_ssa.specs.Limits.{IsFull, StaysBelow, StaysBelowFor, Takes, TakesByRecords};
     ghost use Rattle.clif_ssa.specs.Tables.{is_yes, pending_of};
 
@@ -249,6 +250,7 @@ impl FunctionBuilderContext {
         ensures exists { IfOk result (λ w. w < length func.new.values) }
         ensures more { HasMore func.old func.new }
         ensures variables { self.new.variables ≡ self.old.variables }
+        ensures constructs { OnlyConstructs func.old func.new }
         ensures full { result ≡ Err BuildError.Full → IsFull func.new }
         ensures takes { IsLocal self.old.ssa variable block → result ≢ Err BuildError.Memory → Takes func.old func.new 2 1 }
         ensures takes_by_records { result ≢ Err BuildError.Memory → TakesByRecords func.old self.old.ssa func.new self.new.ssa }
@@ -273,6 +275,7 @@ impl FunctionBuilderContext {
         ensures more { HasMore func.old func.new }
         ensures stay { RecordsStay self.old.ssa self.new.ssa }
         ensures variables { self.new.variables ≡ self.old.variables }
+        ensures constructs { OnlyConstructs func.old func.new }
         ensures full { result ≡ Err BuildError.Full → IsFull func.new }
         ensures takes { predecessors_of self.old.ssa block ≡ [] → result ≢ Err BuildError.Memory → Takes func.old func.new 0 0 }
         ensures takes_by_records { result ≢ Err BuildError.Memory → TakesByRecords func.old self.old.ssa func.new self.new.ssa }
@@ -293,6 +296,7 @@ impl FunctionBuilderContext {
         ensures more { HasMore func.old func.new }
         ensures stay { RecordsStay self.old.ssa self.new.ssa }
         ensures variables { self.new.variables ≡ self.old.variables }
+        ensures constructs { OnlyConstructs func.old func.new }
         ensures full { result ≡ Err BuildError.Full → IsFull func.new }
         ensures takes { ((b : ℕ) → predecessors_of self.old.ssa b ≡ []) → result ≢ Err BuildError.Memory → Takes func.old func.new 0 0 }
         ensures takes_by_records { result ≢ Err BuildError.Memory → TakesByRecords func.old self.old.ssa func.new self.new.ssa }

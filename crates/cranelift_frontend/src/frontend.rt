@@ -4,6 +4,7 @@ ghost use Rattle.cranelift_frontend.specs.Context.{empty_context, status_of, beg
 ghost use Rattle.cranelift_frontend.specs.Growth.{Grows, HasRecordIn, KeepsRecordsBelow, RemembersIn};
 ghost use Rattle.cranelift_frontend.specs.Construction.{IsUse, IsSealing, IsSealingAll};
 ghost use Rattle.cranelift_frontend.specs.Builder.{SameLoans, with_position, is_unreachable, is_free, is_declarable, HasCurrent, Uses, UsesIn};
+ghost use Rattle.clif_ssa.specs.Constructs.{OnlyConstructs};
 ghost use Rattle.clif_ssa.specs.Limits.{IsFull, StaysBelowFor, Takes, TakesByRecords};
 ghost use Rattle.clif_ssa.specs.Tables.{is_yes, pending_of};
 ghost use Rattle.clif_ssa.specs.Sealing.{SealsBelow, SealsByLookUp};
@@ -173,6 +174,7 @@ impl<'a> FunctionBuilder<'a> {
         ensures variables { self.new.ctx.now.variables ≡ self.old.ctx.now.variables }
         ensures position { self.new.position ≡ self.old.position }
         ensures full { result ≡ Err BuildError.Full → IsFull self.new.func.now }
+        ensures constructs { result ≡ Err BuildError.Full → OnlyConstructs self.old.func.now self.new.func.now }
         ensures takes { predecessors_of self.old.ctx.now.ssa block ≡ [] → result ≢ Err BuildError.Memory → Takes self.old.func.now self.new.func.now 0 0 }
         ensures takes_by_records { result ≢ Err BuildError.Memory → TakesByRecords self.old.func.now self.old.ctx.now.ssa self.new.func.now self.new.ctx.now.ssa }
         ensures below { KeepsRecordsBelow self.old self.new }
@@ -207,6 +209,7 @@ impl<'a> FunctionBuilder<'a> {
         ensures variables { self.new.ctx.now.variables ≡ self.old.ctx.now.variables }
         ensures position { self.new.position ≡ self.old.position }
         ensures full { result ≡ Err BuildError.Full → IsFull self.new.func.now }
+        ensures constructs { result ≡ Err BuildError.Full → OnlyConstructs self.old.func.now self.new.func.now }
         ensures takes { ((b : ℕ) → predecessors_of self.old.ctx.now.ssa b ≡ []) → result ≢ Err BuildError.Memory → Takes self.old.func.now self.new.func.now 0 0 }
         ensures takes_by_records { result ≢ Err BuildError.Memory → TakesByRecords self.old.func.now self.old.ctx.now.ssa self.new.func.now self.new.ctx.now.ssa }
         ensures below { KeepsRecordsBelow self.old self.new }
@@ -306,6 +309,7 @@ impl<'a> FunctionBuilder<'a> {
         ensures variables { self.new.ctx.now.variables ≡ self.old.ctx.now.variables }
         ensures position { self.new.position ≡ self.old.position }
         ensures full { result ≡ Err BuildError.Full → IsFull self.new.func.now }
+        ensures constructs { IfSome self.old.position (λ block. result ≡ Err BuildError.Full → OnlyConstructs (inserted_in self.old.func.now block) self.new.func.now) }
         ensures takes { IfSome self.old.position (λ block. IsLocal self.old.ctx.now.ssa variable block) → result ≢ Err BuildError.Memory → Takes self.old.func.now self.new.func.now 2 1 }
         ensures takes_by_records { result ≢ Err BuildError.Memory → TakesByRecords self.old.func.now self.old.ctx.now.ssa self.new.func.now self.new.ctx.now.ssa }
         ensures below { KeepsRecordsBelow self.old self.new }
@@ -377,6 +381,7 @@ fn use_variable(
     ensures exists { IfOk result (λ value. value < length func.new.values) }
     ensures variables { ctx.new.variables ≡ ctx.old.variables }
     ensures full { result ≡ Err BuildError.Full → IsFull func.new }
+    ensures constructs { result ≡ Err BuildError.Full → OnlyConstructs (inserted_in func.old block) func.new }
     ensures takes { IsLocal ctx.old.ssa variable block → result ≢ Err BuildError.Memory → Takes func.old func.new 2 1 }
     ensures takes_by_records { result ≢ Err BuildError.Memory → TakesByRecords func.old ctx.old.ssa func.new ctx.new.ssa }
     ensures below { StaysBelowFor variable func.old ctx.old.ssa ctx.new.ssa }
