@@ -1,5 +1,5 @@
 //! What instructions are, by their formats.
-ghost use Rattle.std.specs.Prelude.{◌≡◌};
+ghost use Rattle.std.specs.Prelude.{◌≡◌, ◌∷◌, []};
 ghost use Rattle.clif_calls.specs.Plan.{plan_of};
 
 use crate::call::{Edge, Name, PlainInstruction};
@@ -36,6 +36,16 @@ pub enum Plan<'a> {
 }
 
 impl PlainInstruction {
+    /// The instruction of two operands with this opcode.
+    pub fn binary(opcode: BinaryOpcode, x: Name, y: Name) -> PlainInstruction
+        ensures { plan_of result ≡ Plan.Binary opcode (x ∷ y ∷ []) }
+    {
+        match opcode {
+            BinaryOpcode::Iadd => PlainInstruction::Iadd { x, y },
+            BinaryOpcode::Isub => PlainInstruction::Isub { x, y },
+        }
+    }
+
     /// The format of the instruction, with its opcode and its operands: a row an instruction.
     pub fn plan(self) -> Plan<'static>
         ensures { result ≡ plan_of self }

@@ -1,5 +1,6 @@
 //! The calls that are understood: one arm each.
 ghost use Rattle.std.specs.Prelude.{◌≡◌, ◌++◌, ◌∷◌, ℕ, List, IfOk, IfSome, codes};
+ghost use Rattle.clif_ir.specs.Instruction.{opcode_text};
 ghost use Rattle.clif_text.specs.Cursor.{texts, words_left};
 ghost use Rattle.clif_text.specs.Given.{is_instruction};
 ghost use Rattle.clif_text.specs.Grammar.{IsCall};
@@ -9,7 +10,8 @@ use crate::args::Args;
 use crate::error::{Expected, Fault, LineError};
 use crate::scope::Scope;
 use crate::types::type_named;
-use clif_calls::Call;
+use clif_calls::{Call, PlainInstruction};
+use clif_ir::BinaryOpcode;
 use std::alloc::Global;
 
 // The calls of the format that aren't understood so far, without the type that may follow their name.
@@ -99,7 +101,6 @@ fn read_call<'a>(
         "use_var" => Ok(Call::UseVar {
             variable: args.variable()?,
         }),
-        "iadd" | "isub" => read_binary_call(head, args),
         "jump" => Ok(Call::Jump {
             destination: args.last_edge(alloc)?,
         }),
@@ -111,21 +112,36 @@ fn read_call<'a>(
         "return" => Ok(Call::Return {
             values: args.last_values(alloc)?,
         }),
-        _ => read_block_call(head, args),
+        _ => match binary_named(head) {
+            Some(opcode) => read_binary_call(head, opcode, args),
+            None => read_block_call(head, args),
+        },
+    }
+}
+
+// The operation of this name, of two values: a row an instruction.
+fn binary_named(name: &str) -> Option<BinaryOpcode>
+    ensures { IfSome result (λ opcode. name.now ≡ opcode_text opcode) }
+{
+    match name {
+        "iadd" => Some(BinaryOpcode::Iadd),
+        "isub" => Some(BinaryOpcode::Isub),
+        _ => None,
     }
 }
 
 // The same for an instruction of two values.
-fn read_binary_call<'a>(head: &'a str, args: &mut Args<'_, 'a>) -> Result<Call, LineError<'a>>
+fn read_binary_call<'a>(
+    head: &'a str,
+    opcode: BinaryOpcode,
+    args: &mut Args<'_, 'a>,
+) -> Result<Call, LineError<'a>>
+    requires { head.now ≡ opcode_text opcode }
     ensures { IfOk result (λ call. (words : List (List ℕ)) × (words_left args.old.words ≡ words ++ words_left args.new.words) × IsCall (names_of args.old.scope.now) (head.now ∷ words) call) }
 {
     let x = args.value()?;
     let y = args.value()?;
-    match head {
-        "iadd" => Ok(Call::Iadd { x, y }),
-        "isub" => Ok(Call::Isub { x, y }),
-        _ => Err(LineError::Fault(Fault::UnknownCall(head))),
-    }
+    Ok(Call::Plain(PlainInstruction::binary(opcode, x, y)))
 }
 
 // The same for a call that makes, marks or places blocks.
@@ -186,10 +202,8 @@ fn read_typed_call<'a>(head: &'a str, args: &mut Args<'_, 'a>) -> Result<Call, L
             let Some(ty) = type_named(suffix) else {
                 return Err(LineError::wanted(Expected::Type));
             };
-            Ok(Call::Iconst {
-                ty,
-                imm: args.number()?,
-            })
+            let imm = args.number()?;
+            Ok(Call::Plain(PlainInstruction::Iconst { ty, imm }))
         }
         _ => Err(not_understood(head, name)),
     }
@@ -256,7 +270,7 @@ pub(crate) fn answers_of(call: &Call) -> Answers
         | Call::SetColdBlock { .. }
         | Call::EnsureInsertedBlock
         | Call::DefVar { .. } => (false, 0),
-        Call::Iconst { .. } | Call::Iadd { .. } | Call::Isub { .. } => (true, 1),
+        Call::Plain(_) => (true, 1),
         Call::Jump { .. } | Call::Brif { .. } | Call::Return { .. } => (true, 0),
     };
     Answers { instruction, names }
