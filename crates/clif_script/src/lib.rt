@@ -8,5 +8,5 @@ mod make_parameters;
 mod names;
 mod script;
 
-pub use clif_calls::{Call, Edge, Name, PlainInstruction};
+pub use clif_calls::{Call, Edge, Name, PlainInstruction, Plan};
 pub use script::{ReplayError, replay};
