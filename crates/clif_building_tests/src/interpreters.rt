@@ -5,7 +5,7 @@
 pub mod function;
 pub mod script;
 
-use clif_types::Type;
+use clif_types::{BinaryOpcode, Type, UnaryOpcode};
 
 /// How a run ended.
 #[derive(PartialEq, Eq, Drop)]
@@ -41,12 +41,24 @@ pub fn constant(ty: Type, number: i64) -> u128 {
     }
 }
 
-/// The sum modulo 2 to the width.
-pub fn sum(ty: Type, a: u128, b: u128) -> u128 {
-    a.wrapping_add(b) & greatest(ty)
+/// An operation on one operand, of a type.
+pub fn unary(opcode: UnaryOpcode, ty: Type, x: u128) -> u128 {
+    let bits = match opcode {
+        UnaryOpcode::Ineg => 0u128.wrapping_sub(x),
+        UnaryOpcode::Bnot => !x,
+    };
+    bits & greatest(ty)
 }
 
-/// The difference modulo 2 to the width.
-pub fn difference(ty: Type, a: u128, b: u128) -> u128 {
-    a.wrapping_sub(b) & greatest(ty)
+/// An operation on two operands, of a type.
+pub fn binary(opcode: BinaryOpcode, ty: Type, x: u128, y: u128) -> u128 {
+    let bits = match opcode {
+        BinaryOpcode::Iadd => x.wrapping_add(y),
+        BinaryOpcode::Isub => x.wrapping_sub(y),
+        BinaryOpcode::Imul => x.wrapping_mul(y),
+        BinaryOpcode::Band => x & y,
+        BinaryOpcode::Bor => x | y,
+        BinaryOpcode::Bxor => x ^ y,
+    };
+    bits & greatest(ty)
 }

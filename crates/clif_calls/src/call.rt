@@ -36,6 +36,18 @@ pub enum PlainInstruction {
     Iadd { x: Name, y: Name },
     /// `isub x, y`.
     Isub { x: Name, y: Name },
+    /// `imul x, y`.
+    Imul { x: Name, y: Name },
+    /// `band x, y`.
+    Band { x: Name, y: Name },
+    /// `bor x, y`.
+    Bor { x: Name, y: Name },
+    /// `bxor x, y`.
+    Bxor { x: Name, y: Name },
+    /// `ineg x`.
+    Ineg { x: Name },
+    /// `bnot x`.
+    Bnot { x: Name },
 }
 
 /// One call on a builder, with names in place of what earlier calls answered.

@@ -3,8 +3,7 @@ ghost use Rattle.std.specs.Prelude.{◌≡◌, ◌∷◌, []};
 ghost use Rattle.clif_calls.specs.Plan.{plan_of};
 
 use crate::call::{Edge, Name, PlainInstruction};
-use clif_ir::BinaryOpcode;
-use clif_types::Type;
+use clif_types::{BinaryOpcode, Type, UnaryOpcode};
 
 /// An instruction by its format: what it does, and the names of its operands and of its edges, in order.
 #[derive(Clone, Copy)]
@@ -13,6 +12,11 @@ pub enum Plan<'a> {
     UnaryImm {
         ty: Type,
         imm: i64,
+    },
+    /// One operand.
+    Unary {
+        opcode: UnaryOpcode,
+        arg: Name,
     },
     /// Two operands of one type.
     Binary {
@@ -36,6 +40,33 @@ pub enum Plan<'a> {
 }
 
 impl PlainInstruction {
+    /// The format of the instruction, with its opcode and its operands: a row an instruction.
+    pub fn plan(self) -> Plan<'static>
+        ensures { result ≡ plan_of self }
+    {
+        match self {
+            PlainInstruction::Iconst { ty, imm } => Plan::UnaryImm { ty, imm },
+            PlainInstruction::Iadd { x, y } => two(BinaryOpcode::Iadd, x, y),
+            PlainInstruction::Isub { x, y } => two(BinaryOpcode::Isub, x, y),
+            PlainInstruction::Imul { x, y } => two(BinaryOpcode::Imul, x, y),
+            PlainInstruction::Band { x, y } => two(BinaryOpcode::Band, x, y),
+            PlainInstruction::Bor { x, y } => two(BinaryOpcode::Bor, x, y),
+            PlainInstruction::Bxor { x, y } => two(BinaryOpcode::Bxor, x, y),
+            PlainInstruction::Ineg { x } => one(UnaryOpcode::Ineg, x),
+            PlainInstruction::Bnot { x } => one(UnaryOpcode::Bnot, x),
+        }
+    }
+
+    /// The instruction of one operand with this opcode.
+    pub fn unary(opcode: UnaryOpcode, x: Name) -> PlainInstruction
+        ensures { plan_of result ≡ Plan.Unary opcode x }
+    {
+        match opcode {
+            UnaryOpcode::Ineg => PlainInstruction::Ineg { x },
+            UnaryOpcode::Bnot => PlainInstruction::Bnot { x },
+        }
+    }
+
     /// The instruction of two operands with this opcode.
     pub fn binary(opcode: BinaryOpcode, x: Name, y: Name) -> PlainInstruction
         ensures { plan_of result ≡ Plan.Binary opcode (x ∷ y ∷ []) }
@@ -43,23 +74,27 @@ impl PlainInstruction {
         match opcode {
             BinaryOpcode::Iadd => PlainInstruction::Iadd { x, y },
             BinaryOpcode::Isub => PlainInstruction::Isub { x, y },
+            BinaryOpcode::Imul => PlainInstruction::Imul { x, y },
+            BinaryOpcode::Band => PlainInstruction::Band { x, y },
+            BinaryOpcode::Bor => PlainInstruction::Bor { x, y },
+            BinaryOpcode::Bxor => PlainInstruction::Bxor { x, y },
         }
     }
+}
 
-    /// The format of the instruction, with its opcode and its operands: a row an instruction.
-    pub fn plan(self) -> Plan<'static>
-        ensures { result ≡ plan_of self }
-    {
-        match self {
-            PlainInstruction::Iconst { ty, imm } => Plan::UnaryImm { ty, imm },
-            PlainInstruction::Iadd { x, y } => Plan::Binary {
-                opcode: BinaryOpcode::Iadd,
-                args: [x, y],
-            },
-            PlainInstruction::Isub { x, y } => Plan::Binary {
-                opcode: BinaryOpcode::Isub,
-                args: [x, y],
-            },
-        }
+// One operand.
+fn one(opcode: UnaryOpcode, arg: Name) -> Plan<'static>
+    ensures { result ≡ Plan.Unary opcode arg }
+{
+    Plan::Unary { opcode, arg }
+}
+
+// Two operands.
+fn two(opcode: BinaryOpcode, x: Name, y: Name) -> Plan<'static>
+    ensures { result ≡ Plan.Binary opcode (x ∷ y ∷ []) }
+{
+    Plan::Binary {
+        opcode,
+        args: [x, y],
     }
 }

@@ -1,9 +1,11 @@
 -- Laws of the words that say what a call makes of a function.
-use Rattle.std.proofs.Common.{◌≡◌, ℕ, zero, suc, ◌+◌, ◌<◌, List, [], ◌∷◌, ◌++◌, length, take, get_or, ap, arith, sym, ◌∙◌, append_assoc}
+use Rattle.std.proofs.Common.{◌≡◌, ℕ, zero, suc, ◌+◌, ◌<◌, List, [], ◌∷◌, ◌++◌, length, map, take, get_or, ap, subst, arith, sym, ◌∙◌, append_assoc}
 use Rattle.std.specs.List.{range_with_len}
-use Rattle.std.proofs.lemmas.List.{take_more}
+use Rattle.std.proofs.lemmas.List.{take_more, take-map, get_or-map}
 use Rattle.std.proofs.lemmas.Grind.{common_steps}
 use Rattle.clif_types.specs.declared.types.«Type».{«Type»}
+use Rattle.clif_types.specs.declared.typing.Kind.{Kind}
+use Rattle.clif_types.specs.Typing.{type_of_kind}
 use Rattle.clif_ir.specs.declared.function.ValueOrigin.TheVariants.{Result}
 use Rattle.clif_ir.specs.declared.function.ValueNode.{ValueNode}
 use Rattle.clif_ir.specs.Changes.{result_nodes}
@@ -26,7 +28,7 @@ result_nodes-append i k (x ∷ types) ty =
     let same : (k + 1) + length types ≡ k + suc (length types) = omega arith in
     ap (λ xs. result_node i k x ∷ xs) (result_nodes-append i (k + 1) types ty ∙ ap (λ n. result_nodes i (k + 1) types ++ result_node i n ty ∷ []) same)
 
-pub result_nodes_more : (i : ℕ) (types : List «Type») (k : ℕ) (d : «Type») → k < length types
+result_nodes_more : (i : ℕ) (types : List «Type») (k : ℕ) (d : «Type») → k < length types
     → result_nodes i 0 (take (k + 1) types) ≡ result_nodes i 0 (take k types) ++ result_node i k (get_or types k d) ∷ []
 result_nodes_more i types k d inside =
     let same : 0 + length (take k types) ≡ k = grind (arith, common_steps) in
@@ -34,10 +36,22 @@ result_nodes_more i types k d inside =
     ∙ ap (λ n. result_nodes i 0 (take k types) ++ result_node i n (get_or types k d) ∷ []) same
 
 -- one more result was put behind the others
-pub result_nodes_pushed : (before values after : List ValueNode) (i k : ℕ) (types : List «Type») (d : «Type») → k < length types
+result_nodes_pushed : (before values after : List ValueNode) (i k : ℕ) (types : List «Type») (d : «Type») → k < length types
     → values ≡ before ++ result_nodes i 0 (take k types) → after ≡ values ++ result_node i k (get_or types k d) ∷ []
     → after ≡ before ++ result_nodes i 0 (take (k + 1) types)
 result_nodes_pushed before values after i k types d inside so_far pushed =
     pushed ∙ ap (λ nodes. nodes ++ result_node i k (get_or types k d) ∷ []) so_far
     ∙ append_assoc before (result_nodes i 0 (take k types)) (result_node i k (get_or types k d) ∷ [])
     ∙ ap (λ nodes. before ++ nodes) (sym (result_nodes_more i types k d inside))
+
+-- the same, by the kinds of the results
+pub result_kinds_pushed : (before values after : List ValueNode) (i k : ℕ) (ty of_kind : «Type») (kinds : List Kind) (d : Kind) → k < length kinds
+    → values ≡ before ++ result_nodes i 0 (map (type_of_kind ty) (take k kinds)) → of_kind ≡ type_of_kind ty (get_or kinds k d) → after ≡ values ++ result_node i k of_kind ∷ []
+    → after ≡ before ++ result_nodes i 0 (map (type_of_kind ty) (take (k + 1) kinds))
+result_kinds_pushed before values after i k ty of_kind kinds d inside so_far is pushed =
+    let types : List «Type» = map (type_of_kind ty) kinds in
+    let there : k < length types = grind (arith, common_steps, inside) in
+    result_nodes_pushed before values after i k types ty there
+    (so_far ∙ ap (λ (ts : List «Type»). before ++ result_nodes i 0 ts) (sym (take-map (type_of_kind ty) k kinds)))
+    (pushed ∙ ap (λ (t : «Type»). values ++ result_node i k t ∷ []) (is ∙ sym (get_or-map (type_of_kind ty) kinds k d ty inside)))
+    ∙ ap (λ (ts : List «Type»). before ++ result_nodes i 0 ts) (take-map (type_of_kind ty) (k + 1) kinds)

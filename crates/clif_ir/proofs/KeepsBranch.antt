@@ -9,7 +9,7 @@ use Rattle.clif_ir.specs.declared.function.BlockPlace.{BlockPlace}
 use Rattle.clif_ir.specs.declared.function.InstNode.{InstNode}
 use Rattle.clif_ir.specs.declared.function.ValueOrigin.TheVariants.{Result}
 use Rattle.clif_ir.specs.declared.instructions.InstructionData.{InstructionData}
-use Rattle.clif_ir.specs.declared.instructions.InstructionData.TheVariants.{UnaryImm, Binary, Jump, Brif, MultiAry}
+use Rattle.clif_ir.specs.declared.instructions.InstructionData.TheVariants.{UnaryImm, Unary, Binary, Jump, Brif, MultiAry}
 use Rattle.clif_ir.specs.Edges.{appended_to, with_argument_to}
 use Rattle.clif_ir.specs.Instruction.{operands, destinations, with_argument}
 use Rattle.clif_ir.specs.Body.{Body, inst_at, value_at, block_at, no_inst}
@@ -21,6 +21,7 @@ use Rattle.clif_ir.proofs.Keeps.{larger_origin}
 
 pub operands-with_argument : (b v : ℕ) (shape : InstructionData) → operands (with_argument b v shape) ≡ operands shape
 operands-with_argument b v (UnaryImm imm) = refl
+operands-with_argument b v (Unary opcode arg) = refl
 operands-with_argument b v (Binary opcode args) = refl
 operands-with_argument b v (Jump destination) = refl
 operands-with_argument b v (Brif arg blocks) = refl
@@ -28,6 +29,7 @@ operands-with_argument b v (MultiAry args) = refl
 
 pub destinations-with_argument : (b v : ℕ) (shape : InstructionData) → destinations (with_argument b v shape) ≡ with_argument_to b v (destinations shape)
 destinations-with_argument b v (UnaryImm imm) = refl
+destinations-with_argument b v (Unary opcode arg) = refl
 destinations-with_argument b v (Binary opcode args) = refl
 destinations-with_argument b v (Jump destination) = refl
 destinations-with_argument b v (Brif arg blocks) = refl

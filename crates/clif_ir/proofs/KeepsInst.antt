@@ -14,7 +14,7 @@ use Rattle.clif_ir.specs.declared.function.ValueOrigin.TheVariants.{Result, Para
 use Rattle.clif_ir.specs.declared.inst_list.BlockEnd.{BlockEnd}
 use Rattle.clif_ir.specs.declared.inst_list.BlockEnd.TheVariants.{Front, Back}
 use Rattle.clif_ir.specs.declared.instructions.InstructionData.{InstructionData}
-use Rattle.clif_ir.specs.declared.instructions.InstructionData.TheVariants.{UnaryImm, Binary, Jump, Brif, MultiAry}
+use Rattle.clif_ir.specs.declared.instructions.InstructionData.TheVariants.{UnaryImm, Unary, Binary, Jump, Brif, MultiAry}
 use Rattle.clif_ir.specs.Instruction.{operands, destinations, result_types}
 use Rattle.clif_ir.specs.Body.{Body, value_at, inst_at, block_at, empty_block, no_value, no_inst, alias_of_origin, resolved}
 use Rattle.clif_ir.specs.Changes.{with_inst, inst_node, put_at, result_nodes}
@@ -26,6 +26,7 @@ use Rattle.clif_ir.proofs.Aliases.{ways_end-append, follow_end}
 -- no instruction has more than one result so far
 pub length-result_types-le : (shape : InstructionData) (ty : «Type») → length (result_types shape ty) ≤ 1
 length-result_types-le (UnaryImm imm) ty = omega arith
+length-result_types-le (Unary opcode arg) ty = omega arith
 length-result_types-le (Binary opcode args) ty = omega arith
 length-result_types-le (Jump destination) ty = omega arith
 length-result_types-le (Brif arg blocks) ty = omega arith
@@ -34,6 +35,7 @@ length-result_types-le (MultiAry args) ty = omega arith
 -- an instruction with edges has no results
 pub branch-result_types : (shape : InstructionData) (ty : «Type») → destinations shape ≢ [] → result_types shape ty ≡ []
 branch-result_types (UnaryImm imm) ty branch = absurd (branch refl)
+branch-result_types (Unary opcode arg) ty branch = absurd (branch refl)
 branch-result_types (Binary opcode args) ty branch = absurd (branch refl)
 branch-result_types (Jump destination) ty branch = refl
 branch-result_types (Brif arg blocks) ty branch = refl

@@ -3,7 +3,8 @@
 //! Each call first makes room and then changes, so that after an error the function is as it was. The
 //! errors are `Memory`, where memory was refused, and `Full`, which comes exactly where a table that
 //! the call grows holds 2^32 - 1 entries already.
-ghost use Rattle.std.specs.Prelude.{◌≡◌, ◌≢◌, [], ◌∷◌, ◌++◌, length, ◌+◌, ◌-◌, ◌^◌, ◌≤◌, ◌<◌, ◌⊎◌, ℕ, true, slice_index, slice_index_or, slice_set, EachIndex, vec_len, vec_capacity, All, IfOk, OnOk, OnErr};
+ghost use Rattle.std.specs.Prelude.{◌≡◌, ◌≢◌, [], ◌∷◌, ◌++◌, length, ◌+◌, ◌-◌, ◌^◌, ◌≤◌, ◌<◌, ◌⊎◌, ℕ, true, slice_index, slice_index_or, slice_set, map, EachIndex, vec_len, vec_capacity, All, IfOk, OnOk, OnErr};
+ghost use Rattle.clif_types.specs.Typing.{type_of_kind};
 ghost use Rattle.clif_ir.specs.Body.{Body, value_at, block_at, empty_block, resolved};
 ghost use Rattle.clif_ir.specs.Consistent.{Stands, EdgeExists};
 ghost use Rattle.clif_ir.specs.Instruction.{operands, destinations, has_result, result_types};
@@ -15,7 +16,7 @@ use crate::function::{BlockNode, BlockPlace, Function, InstNode, ValueNode, Valu
 use crate::inst_list::{BlockEnd, InstList};
 use crate::instructions::InstructionData;
 use crate::value_list::ValueList;
-use clif_types::{Block, BuildError, EntityRef, Inst, SourceLoc, Type, Value};
+use clif_types::{Block, BuildError, EntityRef, Inst, Kind, SourceLoc, Type, Value};
 use std::alloc::Global;
 
 /// How many entries a table holds at most.
@@ -93,15 +94,15 @@ fn room_for_inst(
 }
 
 // Puts the results of `inst` into the table of values, which has room for them.
-#[tactic(auto, using(crate::proofs::Changes::result_nodes_more))]
-fn push_result_nodes(values: &mut Vec<ValueNode>, inst: Inst, types: &[Type])
-    requires room { vec_len values.old + length types.now ≤ vec_capacity values.old }
-    requires few { length types.now < 2 ^ 32 }
-    ensures { values.new.items ≡ values.old.items ++ result_nodes inst 0 types.now }
+fn push_result_nodes(values: &mut Vec<ValueNode>, inst: Inst, controlling: Type, kinds: &[Kind])
+    requires room { vec_len values.old + length kinds.now ≤ vec_capacity values.old }
+    requires few { length kinds.now < 2 ^ 32 }
+    ensures { values.new.items ≡ values.old.items ++ result_nodes inst 0 (map (type_of_kind controlling) kinds.now) }
 {
-    for (place, ty) in types.iter().enumerate() {
+    for (place, kind) in kinds.iter().enumerate() {
+        let ty = kind.at(controlling);
         let origin = ValueOrigin::Result(inst, place as u32);
-        values.push_reserved(ValueNode { ty: *ty, origin });
+        values.push_reserved(ValueNode { ty, origin });
     }
 }
 
@@ -222,14 +223,13 @@ impl Function {
         ensures never_failed { result ≢ Err BuildError.Failed }
         ensures err { OnErr result (self.new ≡ self.old) }
     {
-        let own = [ctrl_type];
-        let types: &[Type] = if shape.has_result() { &own } else { &[] };
+        let kinds = shape.result_kinds();
         let results = room_for_inst(
             self.alloc,
             &mut self.values,
             &mut self.insts,
             &mut self.inst_slots,
-            types.len(),
+            kinds.len(),
         )?;
         let inst = Inst::new(self.insts.len());
         let place = self.block_places[block.index()];
@@ -238,7 +238,7 @@ impl Function {
         // From here on nothing can fail.
         self.block_places[block.index()] = placed_at(end, place);
         self.inst_slots.push_reserved(slot);
-        push_result_nodes(&mut self.values, inst, types);
+        push_result_nodes(&mut self.values, inst, ctrl_type, kinds);
         self.insts.push_reserved(InstNode {
             shape,
             results,

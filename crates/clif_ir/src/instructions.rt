@@ -1,31 +1,11 @@
 //! Instructions: their shapes, operands and results.
-ghost use Rattle.std.specs.Prelude.{◌≡◌, Some, OnOk, OnErr};
-ghost use Rattle.clif_ir.specs.Instruction.{operands, destinations, with_argument, has_result, is_branch, is_terminator, opcode_text};
+ghost use Rattle.std.specs.Prelude.{◌≡◌, OnOk, OnErr};
+ghost use Rattle.clif_ir.specs.Instruction.{operands, destinations, with_argument, has_result, is_branch, is_terminator, typing_of};
 
 use crate::block_call::{BlockCall, append_to_edge, append_to_edges};
 use crate::value_list::ValueList;
-use clif_types::{Block, BuildError, Value};
-use std::{fmt, slice};
-
-/// Operations that take two operands of one type and give a result of it.
-#[derive(Clone, Copy, Debug, PartialEq, Eq, Hash)]
-pub enum BinaryOpcode {
-    /// The sum, modulo two to the type's width.
-    Iadd,
-    /// The difference, modulo two to the type's width.
-    Isub,
-}
-
-impl fmt::Display for BinaryOpcode {
-    ghost output = { λ o. Some (opcode_text o) };
-
-    fn fmt<W: fmt::Write>(&self, f: &mut fmt::Formatter<W>) -> fmt::Result {
-        f.write_str(match self {
-            BinaryOpcode::Iadd => "iadd",
-            BinaryOpcode::Isub => "isub",
-        })
-    }
-}
+use clif_types::{BinaryOpcode, Block, BuildError, Kind, Suffix, UnaryOpcode, Value};
+use std::slice;
 
 /// An instruction without its results and its place: what it does, and with which operands.
 ///
@@ -35,6 +15,11 @@ pub enum InstructionData {
     /// `iconst.T imm`: the low bits of a 64-bit number.
     UnaryImm {
         imm: i64,
+    },
+    /// `ineg x` and the like.
+    Unary {
+        opcode: UnaryOpcode,
+        arg: Value,
     },
     /// `iadd x, y` and the like.
     Binary {
@@ -64,6 +49,7 @@ impl InstructionData {
     {
         match self {
             InstructionData::UnaryImm { .. } => &[],
+            InstructionData::Unary { arg, .. } => slice::from_ref(arg),
             InstructionData::Binary { args, .. } => args,
             InstructionData::Jump { .. } => &[],
             InstructionData::Brif { arg, .. } => slice::from_ref(arg),
@@ -79,6 +65,7 @@ impl InstructionData {
             InstructionData::Jump { destination } => slice::from_ref(destination),
             InstructionData::Brif { blocks, .. } => blocks,
             InstructionData::UnaryImm { .. }
+            | InstructionData::Unary { .. }
             | InstructionData::Binary { .. }
             | InstructionData::MultiAry { .. } => &[],
         }
@@ -95,16 +82,56 @@ impl InstructionData {
             InstructionData::Jump { destination } => append_to_edge(destination, block, value),
             InstructionData::Brif { blocks, .. } => append_to_edges(blocks, block, value),
             InstructionData::UnaryImm { .. }
+            | InstructionData::Unary { .. }
             | InstructionData::Binary { .. }
             | InstructionData::MultiAry { .. } => Ok(()),
         }
     }
 
-    /// Whether the instruction has a result, whose type is then the controlling type.
+    /// The kinds of the results, in order.
+    pub fn result_kinds(&self) -> &'static [Kind]
+        ensures { result.now ≡ (typing_of self.now).results }
+    {
+        match self {
+            InstructionData::UnaryImm { .. }
+            | InstructionData::Unary { .. }
+            | InstructionData::Binary { .. } => &[Kind::Controlling],
+            InstructionData::Jump { .. }
+            | InstructionData::Brif { .. }
+            | InstructionData::MultiAry { .. } => &[],
+        }
+    }
+
+    /// Whether the instruction has a result.
     pub fn has_result(&self) -> bool
         ensures { result ≡ has_result self.now }
     {
-        !self.is_terminator()
+        !self.result_kinds().is_empty()
+    }
+
+    /// Where the controlling type is printed behind the name.
+    pub fn suffix(&self) -> Suffix
+        ensures { result ≡ (typing_of self.now).suffix }
+    {
+        match self {
+            InstructionData::UnaryImm { .. } => Suffix::Always,
+            InstructionData::Unary { .. }
+            | InstructionData::Binary { .. }
+            | InstructionData::Brif { .. } => Suffix::Elsewhere,
+            InstructionData::Jump { .. } | InstructionData::MultiAry { .. } => Suffix::Never,
+        }
+    }
+
+    /// The name, as it is printed.
+    pub fn name(&self) -> &'static str {
+        match self {
+            InstructionData::UnaryImm { .. } => "iconst",
+            InstructionData::Unary { opcode, .. } => opcode.to_static_str(),
+            InstructionData::Binary { opcode, .. } => opcode.to_static_str(),
+            InstructionData::Jump { .. } => "jump",
+            InstructionData::Brif { .. } => "brif",
+            InstructionData::MultiAry { .. } => "return",
+        }
     }
 
     /// Whether the instruction has edges.
@@ -114,6 +141,7 @@ impl InstructionData {
         match self {
             InstructionData::Jump { .. } | InstructionData::Brif { .. } => true,
             InstructionData::UnaryImm { .. }
+            | InstructionData::Unary { .. }
             | InstructionData::Binary { .. }
             | InstructionData::MultiAry { .. } => false,
         }
@@ -127,7 +155,9 @@ impl InstructionData {
             InstructionData::Jump { .. }
             | InstructionData::Brif { .. }
             | InstructionData::MultiAry { .. } => true,
-            InstructionData::UnaryImm { .. } | InstructionData::Binary { .. } => false,
+            InstructionData::UnaryImm { .. }
+            | InstructionData::Unary { .. }
+            | InstructionData::Binary { .. } => false,
         }
     }
 }

@@ -20,7 +20,8 @@ pub mod value_list;
 pub mod write;
 
 pub use block_call::{BlockArg, BlockArgs, BlockCall};
+pub use clif_types::{BinaryOpcode, UnaryOpcode};
 pub use function::{BlockNode, Function, InstNode, ValueDef, ValueNode, ValueOrigin};
-pub use instructions::{BinaryOpcode, InstructionData};
+pub use instructions::InstructionData;
 pub use successors::Successors;
 pub use value_list::ValueList;

@@ -15,7 +15,7 @@ use crate::block_call::{BlockArg, BlockCall};
 use crate::function::{Function, ValueDef};
 use crate::immediates::{Imm64, signed_at};
 use crate::instructions::InstructionData;
-use clif_types::{Block, EntityRef, Inst, Type, Value};
+use clif_types::{Block, EntityRef, Inst, Suffix, Type, Value};
 use std::fmt;
 
 /// A function that prints as its text.
@@ -135,38 +135,24 @@ fn write_operation<W: fmt::Write>(
 ) -> fmt::Result
     requires { inst < length func.now.insts }
 {
-    match func.inst_data(inst) {
-        InstructionData::UnaryImm { imm } => {
-            let ty = result_type(func, inst);
-            let number = Imm64(signed_at(*imm, ty));
-            write!(f, "iconst.{ty} {number}")
-        }
-        InstructionData::Binary { opcode, args } => {
-            let opcode = *opcode;
-            write!(f, "{opcode}")?;
-            write_type_suffix(f, func, inst, args[0])?;
-            f.write_str(" ")?;
-            write_values(f, args)
-        }
-        InstructionData::Jump { destination } => {
-            f.write_str("jump ")?;
-            write_edge(f, destination)
-        }
-        InstructionData::Brif { arg, blocks } => {
-            f.write_str("brif")?;
-            write_type_suffix(f, func, inst, *arg)?;
-            let arg = *arg;
-            write!(f, " {arg}, ")?;
-            write_edges(f, blocks)
-        }
-        InstructionData::MultiAry { args } => {
-            f.write_str("return")?;
-            if !args.as_slice().is_empty() {
-                f.write_str(" ")?;
-            }
-            write_values(f, args.as_slice())
-        }
+    let shape = func.inst_data(inst);
+    f.write_str(shape.name())?;
+    write_suffix(f, func, inst)?;
+    if let InstructionData::UnaryImm { imm } = shape {
+        let number = Imm64(signed_at(*imm, result_type(func, inst)));
+        return write!(f, " {number}");
     }
+    let operands = shape.arguments();
+    let edges = shape.branch_destination();
+    if operands.is_empty() && edges.is_empty() {
+        return Ok(());
+    }
+    f.write_str(" ")?;
+    write_values(f, operands)?;
+    if !operands.is_empty() && !edges.is_empty() {
+        f.write_str(", ")?;
+    }
+    write_edges(f, edges)
 }
 
 // Edges, joined by `, `.
@@ -206,9 +192,31 @@ fn result_type(func: &Function, inst: Inst) -> Type
     }
 }
 
-// The type of the operand that tells the instruction's type, where that operand is defined in another
-// block.
-fn write_type_suffix<W: fmt::Write>(
+// The controlling type of an instruction, where it is printed: always, or where the first operand, which tells it, is
+// defined in another block.
+fn write_suffix<W: fmt::Write>(
+    f: &mut fmt::Formatter<W>,
+    func: &Function,
+    inst: Inst,
+) -> fmt::Result
+    requires { inst < length func.now.insts }
+{
+    let shape = func.inst_data(inst);
+    match shape.suffix() {
+        Suffix::Always => {
+            let ty = result_type(func, inst);
+            write!(f, ".{ty}")
+        }
+        Suffix::Elsewhere => match shape.arguments().first() {
+            Some(operand) => write_type_elsewhere(f, func, inst, *operand),
+            None => Ok(()),
+        },
+        Suffix::Never => Ok(()),
+    }
+}
+
+// The type of an operand that is defined in another block than the instruction's.
+fn write_type_elsewhere<W: fmt::Write>(
     f: &mut fmt::Formatter<W>,
     func: &Function,
     inst: Inst,
@@ -217,15 +225,21 @@ fn write_type_suffix<W: fmt::Write>(
     requires inst_exists { inst < length func.now.insts }
     requires operand_exists { operand < length func.now.values }
 {
-    let block = match func.value_def(operand) {
-        ValueDef::Result(source, _) => func.inst_block(source),
-        ValueDef::Param(block, _) => Some(block),
-    };
-    if block == func.inst_block(inst) {
+    if home(func, operand) == func.inst_block(inst) {
         return Ok(());
     }
     let ty = func.value_type(operand);
     write!(f, ".{ty}")
+}
+
+// The block in which a value is defined.
+fn home(func: &Function, value: Value) -> Option<Block>
+    requires { value < length func.now.values }
+{
+    match func.value_def(value) {
+        ValueDef::Result(source, _) => func.inst_block(source),
+        ValueDef::Param(block, _) => Some(block),
+    }
 }
 
 // A comment that names each operand, and then each argument of an edge, that stands for a constant.

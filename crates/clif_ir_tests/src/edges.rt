@@ -3,13 +3,14 @@
 
 use crate::facts::Fact::Successors;
 use crate::steps::Step::{
-    Alias, Append, Brif, Create, Iadd, Iconst, Is, Isub, Jump, LayOut, Param, ReturnOne,
+    Alias, Append, Binary, Brif, Create, Iconst, Is, Jump, LayOut, Param, ReturnOne,
 };
 use crate::steps::{makes, makes_of, runs};
 use crate::support::typed;
 use clif_ir::block_call::{BlockArg, BlockArgs, BlockCall};
 use clif_ir::inst_list::BlockEnd::Back;
 use clif_ir::instructions::InstructionData;
+use clif_types::BinaryOpcode::{Iadd, Isub};
 use clif_types::types::I32;
 use clif_types::{Block, CallConv, Value};
 use std::process::Abort;
@@ -32,7 +33,7 @@ fn both_arms_row(rt: HostRuntime) -> Result<(), Fail> {
         Param(1, I32),
         Brif(1, 1, 2, 3),
         Iconst(2, Back, I32, -1),
-        Iadd(2, I32, 1, 2),
+        Binary(Iadd, 2, I32, 1, 2),
         Brif(2, 3, 1, 1),
         Append(1, 1, 0),
         Append(5, 1, 3),
@@ -58,19 +59,19 @@ fn sample_row(rt: HostRuntime) -> Result<(), Fail> {
         LayOut(3),
         Param(0, I32),
         Iconst(0, Back, I32, 2),
-        Iadd(0, I32, 0, 1),
+        Binary(Iadd, 0, I32, 0, 1),
         Jump(0, 1),
         Param(1, I32),
         Param(1, I32),
         Append(2, 1, 1),
         Append(2, 1, 2),
-        Iadd(1, I32, 3, 4),
+        Binary(Iadd, 1, I32, 3, 4),
         Brif(1, 3, 3, 2),
         Param(2, I32),
         Alias(6, 0),
-        Isub(2, I32, 5, 6),
+        Binary(Isub, 2, I32, 5, 6),
         ReturnOne(2, 3),
-        Isub(3, I32, 3, 6),
+        Binary(Isub, 3, I32, 3, 6),
         Jump(3, 1),
         Append(8, 1, 8),
         Append(8, 1, 5),

@@ -3,9 +3,9 @@
 
 use crate::support::{i, v};
 use clif_ir::inst_list::{BlockEnd, InstList};
-use clif_ir::instructions::{BinaryOpcode, InstructionData};
+use clif_ir::instructions::InstructionData;
 use clif_ir::value_list::ValueList;
-use clif_types::Value;
+use clif_types::{BinaryOpcode, Value};
 use std::process::Abort;
 use std::test::Fail;
 

@@ -8,9 +8,9 @@ use crate::support::{
 use clif_ir::block_call::BlockCall;
 use clif_ir::function::Function;
 use clif_ir::inst_list::BlockEnd;
-use clif_ir::instructions::{BinaryOpcode, InstructionData};
+use clif_ir::instructions::InstructionData;
 use clif_ir::value_list::ValueList;
-use clif_types::{SourceLoc, Type, Value};
+use clif_types::{BinaryOpcode, SourceLoc, Type, UnaryOpcode, Value};
 use std::alloc::Global;
 use std::process::Abort;
 use std::test::Fail;
@@ -32,10 +32,10 @@ pub enum Step {
     Param(u32, Type),
     /// Puts a constant at an end of a block.
     Iconst(u32, BlockEnd, Type, i64),
-    /// Puts a sum of two values at the end of a block.
-    Iadd(u32, Type, u32, u32),
-    /// Puts a difference of two values at the end of a block.
-    Isub(u32, Type, u32, u32),
+    /// Puts an operation on a value at the end of a block.
+    Unary(UnaryOpcode, u32, Type, u32),
+    /// Puts an operation on two values at the end of a block.
+    Binary(BinaryOpcode, u32, Type, u32, u32),
     /// Puts a jump at the end of a block.
     Jump(u32, u32),
     /// Puts a branch by a value at the end of a block: the block that it goes to where the value isn't zero, and
@@ -111,18 +111,6 @@ fn insert(
     Ok(())
 }
 
-fn binary(
-    rt: &impl Abort,
-    func: &mut Function,
-    block: u32,
-    opcode: BinaryOpcode,
-    ty: Type,
-    args: [Value; 2],
-) -> Result<(), Fail> {
-    let shape = InstructionData::Binary { opcode, args };
-    insert(rt, func, block, BlockEnd::Back, shape, ty)
-}
-
 fn jump(rt: &impl Abort, func: &mut Function, block: u32, target: u32) -> Result<(), Fail> {
     let destination = BlockCall::new(func.allocator(), b(rt, target), &[])?;
     let shape = InstructionData::Jump { destination };
@@ -184,13 +172,27 @@ fn make(rt: &impl Abort, func: &mut Function, step: Step) -> Result<(), Fail> {
         Step::Iconst(block, end, ty, imm) => {
             insert(rt, func, block, end, InstructionData::UnaryImm { imm }, ty)
         }
-        Step::Iadd(block, ty, x, y) => {
-            let args = [v(rt, x), v(rt, y)];
-            binary(rt, func, block, BinaryOpcode::Iadd, ty, args)
+        Step::Unary(opcode, block, ty, x) => {
+            let arg = v(rt, x);
+            insert(
+                rt,
+                func,
+                block,
+                BlockEnd::Back,
+                InstructionData::Unary { opcode, arg },
+                ty,
+            )
         }
-        Step::Isub(block, ty, x, y) => {
+        Step::Binary(opcode, block, ty, x, y) => {
             let args = [v(rt, x), v(rt, y)];
-            binary(rt, func, block, BinaryOpcode::Isub, ty, args)
+            insert(
+                rt,
+                func,
+                block,
+                BlockEnd::Back,
+                InstructionData::Binary { opcode, args },
+                ty,
+            )
         }
         Step::Jump(block, target) => jump(rt, func, block, target),
         Step::Brif(block, x, taken, other) => brif(rt, func, block, x, [taken, other]),

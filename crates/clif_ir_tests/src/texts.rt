@@ -2,13 +2,15 @@
 #![tactic(auto)]
 
 use crate::steps::Step::{
-    Alias, Cold, Create, Iadd, Iconst, LayOut, Param, Return, ReturnFour, ReturnOne,
+    Alias, Binary, Cold, Create, Iconst, LayOut, Param, Return, ReturnFour, ReturnOne, Unary,
 };
 use crate::steps::{makes, makes_of};
 use crate::support::{prints, typed};
 use clif_ir::function::Function;
 use clif_ir::inst_list::BlockEnd::{Back, Front};
-use clif_types::types::{F64, I8, I32, I64};
+use clif_types::BinaryOpcode::{Band, Bor, Bxor, Iadd, Imul, Isub};
+use clif_types::UnaryOpcode::{Bnot, Ineg};
+use clif_types::types::{F64, I8, I16, I32, I64};
 use clif_types::{CallConv, Signature, UserFuncName};
 use std::test::Fail;
 
@@ -29,7 +31,7 @@ fn first_row(rt: HostRuntime) -> Result<(), Fail> {
         LayOut(0),
         Param(0, I32),
         Iconst(0, Back, I32, 7),
-        Iadd(0, I32, 0, 1),
+        Binary(Iadd, 0, I32, 0, 1),
         ReturnOne(0, 2),
         Iconst(0, Front, I32, 0),
         Alias(0, 3),
@@ -83,11 +85,11 @@ fn blocks_and_suffixes(rt: HostRuntime) -> Result<(), Fail> {
         Param(1, I64),
         Param(1, I64),
         Param(2, I64),
-        Iadd(1, I64, 0, 1),
-        Iadd(1, I64, 1, 0),
-        Iadd(1, I64, 2, 1),
-        Iadd(0, I64, 4, 0),
-        Iadd(0, I64, 7, 7),
+        Binary(Iadd, 1, I64, 0, 1),
+        Binary(Iadd, 1, I64, 1, 0),
+        Binary(Iadd, 1, I64, 2, 1),
+        Binary(Iadd, 0, I64, 4, 0),
+        Binary(Iadd, 0, I64, 7, 7),
         ReturnOne(0, 4),
         Alias(2, 0),
     ];
@@ -106,12 +108,40 @@ fn comments(rt: HostRuntime) -> Result<(), Fail> {
         Param(0, I8),
         Iconst(0, Back, I8, 200),
         Alias(0, 2),
-        Iadd(0, I8, 0, 0),
-        Iadd(0, I8, 1, 2),
-        Iadd(0, I8, 1, 3),
+        Binary(Iadd, 0, I8, 0, 0),
+        Binary(Iadd, 0, I8, 1, 2),
+        Binary(Iadd, 0, I8, 1, 3),
         ReturnFour(0, 2, 1, 0, 2),
     ];
     let text =
         "function %sample() system_v {\nblock0(v1: i8):\n    v2 = iconst.i8 -56\n    v0 -> v2\n    v3 = iadd v0, v0  ; v0 = -56, v0 = -56\n    v4 = iadd v1, v2  ; v2 = -56\n    v5 = iadd v1, v3\n    return v2, v1, v0, v2  ; v2 = -56, v0 = -56, v2 = -56\n}\n";
+    makes(&rt, rt.alloc(), &steps, text)
+}
+
+// Each operation by its name, with its type where its first operand is defined elsewhere, and the constants that its
+// operands stand for.
+#[test]
+fn operations(rt: HostRuntime) -> Result<(), Fail> {
+    let steps = [
+        Create,
+        Create,
+        LayOut(0),
+        LayOut(1),
+        Param(0, I16),
+        Iconst(0, Back, I16, 3),
+        Unary(Ineg, 0, I16, 0),
+        Unary(Bnot, 0, I16, 1),
+        Binary(Iadd, 0, I16, 0, 2),
+        Binary(Isub, 0, I16, 0, 2),
+        Binary(Imul, 0, I16, 0, 1),
+        Binary(Band, 0, I16, 2, 3),
+        Binary(Bor, 0, I16, 2, 3),
+        Binary(Bxor, 0, I16, 2, 3),
+        Unary(Bnot, 1, I16, 0),
+        Binary(Bxor, 1, I16, 0, 1),
+        Return(1),
+    ];
+    let text =
+        "function %sample() system_v {\nblock0(v0: i16):\n    v1 = iconst.i16 3\n    v2 = ineg v0\n    v3 = bnot v1  ; v1 = 3\n    v4 = iadd v0, v2\n    v5 = isub v0, v2\n    v6 = imul v0, v1  ; v1 = 3\n    v7 = band v2, v3\n    v8 = bor v2, v3\n    v9 = bxor v2, v3\n\nblock1:\n    v10 = bnot.i16 v0\n    v11 = bxor.i16 v0, v1  ; v1 = 3\n    return\n}\n";
     makes(&rt, rt.alloc(), &steps, text)
 }

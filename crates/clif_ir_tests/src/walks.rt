@@ -6,12 +6,13 @@ use crate::facts::Fact::{
     LastInst, NextBlock, NextInst, ParamAt, Place, ResultAt, StandsFor, StandsIn,
 };
 use crate::steps::Step::{
-    Alias, Cold, Create, Ensure, Iadd, Iconst, Is, LayOut, LayOutAfter, Param, ReturnOne,
+    Alias, Binary, Cold, Create, Ensure, Iconst, Is, LayOut, LayOutAfter, Param, ReturnOne,
 };
 use crate::steps::{makes, runs};
 use crate::support::{PLACE, sample};
 use clif_ir::function::Function;
 use clif_ir::inst_list::BlockEnd::{Back, Front};
+use clif_types::BinaryOpcode::Iadd;
 use clif_types::types::{I8, I32, I64};
 use clif_types::{CallConv, Inst};
 use std::process::Abort;
@@ -113,7 +114,7 @@ fn of_values(rt: HostRuntime) -> Result<(), Fail> {
         Param(0, I64),
         Param(0, I8),
         Param(0, I64),
-        Iadd(0, I64, 0, 2),
+        Binary(Iadd, 0, I64, 0, 2),
         Alias(0, 2),
         Is(StandsFor(0, 2)),
         Is(IsParam(0, 0, 1)),

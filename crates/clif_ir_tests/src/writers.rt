@@ -1,11 +1,12 @@
 //! Writers that refuse.
 #![tactic(auto)]
 
-use crate::steps::Step::{Alias, Create, Iadd, Iconst, LayOut, Param, ReturnTwo};
+use crate::steps::Step::{Alias, Binary, Create, Iconst, LayOut, Param, ReturnTwo};
 use crate::steps::make_all;
 use crate::support::sample;
 use clif_ir::function::Function;
 use clif_ir::inst_list::BlockEnd::Back;
+use clif_types::BinaryOpcode::Iadd;
 use clif_types::types::I32;
 use std::alloc::Global;
 use std::fmt;
@@ -39,7 +40,7 @@ fn all_forms(rt: &impl Abort, alloc: Global) -> Result<Function, Fail> {
         Param(0, I32),
         Param(0, I32),
         Iconst(0, Back, I32, 70_000),
-        Iadd(1, I32, 0, 2),
+        Binary(Iadd, 1, I32, 0, 2),
         ReturnTwo(1, 1, 3),
         Alias(1, 0),
     ];

@@ -23,17 +23,17 @@ use Rattle.clif_meaning.proofs.SampleWorld
 use Rattle.clif_meaning.proofs.WorkedExamples
 use Rattle.clif_meaning.proofs.Endings
 
-none_touched : (world : World) (operation : Operation) (ty : «Type») (bits : List ℕ) → touched_ranges world operation ty bits ≡ []
-none_touched world (Compute arithmetic) ty bits = refl
-none_touched world Jump ty bits = refl
-none_touched world Brif ty bits = refl
-none_touched world Return ty bits = refl
+none_touched : (world : World) (operation : Operation) (ty : «Type») (types : List «Type») (bits : List ℕ) → touched_ranges world operation ty types bits ≡ []
+none_touched world (Compute arithmetic) ty types bits = refl
+none_touched world Jump ty types bits = refl
+none_touched world Brif ty types bits = refl
+none_touched world Return ty types bits = refl
 
-none_claimed : (world : World) (operation : Operation) (ty : «Type») (bits : List ℕ) → claims_of world operation ty bits ≡ []
-none_claimed world (Compute arithmetic) ty bits = refl
-none_claimed world Jump ty bits = refl
-none_claimed world Brif ty bits = refl
-none_claimed world Return ty bits = refl
+none_claimed : (world : World) (operation : Operation) (ty : «Type») (types : List «Type») (bits : List ℕ) → claims_of world operation ty types bits ≡ []
+none_claimed world (Compute arithmetic) ty types bits = refl
+none_claimed world Jump ty types bits = refl
+none_claimed world Brif ty types bits = refl
+none_claimed world Return ty types bits = refl
 
 -- it holds of each element of no list
 of_none : {X : Type 0} (P : X → Type 0) (xs : List X) → xs ≡ [] → AllByRecursion P xs
@@ -41,13 +41,13 @@ of_none P xs none = subst (λ (ys : List _). AllByRecursion P ys) (sym none) tt
 
 -- so far no item touches memory
 pub spares : (run : ScriptRun) (state : ScriptState) (item : Item) → SparesSpillSlots run state item
-spares run state (Instruct place instruction results) = of_none _ _ (none_touched run.world instruction.operation _ _)
+spares run state (Instruct place instruction results) = of_none _ _ (none_touched run.world instruction.operation _ _ _)
 spares run state (Use variable name) = tt
 spares run state (Assign variable name) = tt
 
 -- and none claims anything
 pub claims : (run : ScriptRun) (state : ScriptState) (item : Item) → ClaimsAreTrue run state item
-claims run state (Instruct place instruction results) = of_none _ _ (none_claimed run.world instruction.operation _ _)
+claims run state (Instruct place instruction results) = of_none _ _ (none_claimed run.world instruction.operation _ _ _)
 claims run state (Use variable name) = tt
 claims run state (Assign variable name) = tt
 
@@ -70,9 +70,9 @@ premises_beside function world = record {
     items = FirstRow.first_items _ (
       tt,
       (
-        record { made_at = refl; operands = refl; edges = tt },
+        record { made_at = refl; operands = tt; edges = tt },
         (
-          record { made_at = refl; operands = refl; edges = tt },
+          record { made_at = refl; operands = (refl, (refl, tt)); edges = tt },
           (
             refl,
             (

@@ -2,12 +2,14 @@
 -- documentation of Cranelift's `FunctionBuilder`.
 use Rattle.std.specs.Prelude.{ℕ, suc, not, ◌&&◌, ◌||◌, if◌then◌else◌, Bool, true, false, List, [], ◌∷◌, ◌++◌, Option, Some, None, is_some, find, ℤ}
 use Rattle.std.specs.List.{list_all}
+use Rattle.clif_types.specs.declared.opcodes.UnaryOpcode.{UnaryOpcode}
+use Rattle.clif_types.specs.declared.opcodes.BinaryOpcode.{BinaryOpcode}
 use Rattle.clif_types.specs.declared.types.«Type».{«Type»}
 use Rattle.clif_types.specs.declared.types.«Type».TheVariants as type
 use Rattle.clif_types.specs.declared.types.LaneType.TheVariants as lane
 use Rattle.clif_types.specs.Types.{is_int}
 use Rattle.clif_meaning.specs.SameType.{same_type}
-use Rattle.clif_meaning.specs.Instruction.{Iconst, Iadd, Isub, Operation, Compute, Jump, Brif, Return, Argument, Known, CallResult, CallPayload, Edge}
+use Rattle.clif_meaning.specs.Instruction.{Iconst, Unary, Binary, Operation, Compute, Jump, Brif, Return, Argument, Known, CallResult, CallPayload, Edge}
 use Rattle.clif_meaning.specs.Name.{Name}
 use Rattle.clif_meaning.specs.Request.{Request, CreateBlock, SwitchToBlock, SealBlock, SealAllBlocks, InsertBlockAfter, SetColdBlock, EnsureInsertedBlock, AppendBlockParams, AppendFunctionParams, DeclareVar, DefVar, UseVar, Build, Finalize, Script}
 use Rattle.clif_meaning.specs.Ledger.{BlockState, Ledger, empty_ledger, type_of, or_invalid, has_value, has_block, is_filled, is_sealed, is_inserted, is_pristine, has_predecessors, is_unreachable, variable_type, ledger_with}
@@ -48,8 +50,8 @@ can_lead ledger edge = has_block ledger edge.target && not (is_sealed ledger edg
 -- what an operation asks beside its operands: the table of operations
 abbrev pub can_operate : Operation → «Type» → Bool
 can_operate (Compute (Iconst number)) ty = is_int ty
-can_operate (Compute Iadd) ty = true
-can_operate (Compute Isub) ty = true
+can_operate (Compute (Unary opcode)) ty = true
+can_operate (Compute (Binary opcode)) ty = true
 can_operate Jump ty = true
 can_operate Brif ty = true
 can_operate Return ty = true
@@ -109,15 +111,15 @@ verdict_from place ledger (request ∷ script) =
 abbrev pub verdict_on : Script → Verdict
 verdict_on script = verdict_from 0 empty_ledger (script ++ Finalize ∷ [])
 
--- The instruction calls of this stage. `iadd`, `isub` and `brif` are made at the type of their first operand.
+-- The instruction calls. Operations on operands and `brif` are made at the type of their first operand.
 abbrev pub iconst : «Type» → ℤ → Request
 iconst ty number = Build (record { operation = Compute (Iconst number); controlling = ty; operands = []; edges = [] })
 
-abbrev pub iadd : Ledger → Name → Name → Request
-iadd ledger a b = Build (record { operation = Compute Iadd; controlling = or_invalid (type_of ledger a); operands = a ∷ b ∷ []; edges = [] })
+abbrev pub unary : Ledger → UnaryOpcode → Name → Request
+unary ledger opcode a = Build (record { operation = Compute (Unary opcode); controlling = or_invalid (type_of ledger a); operands = a ∷ []; edges = [] })
 
-abbrev pub isub : Ledger → Name → Name → Request
-isub ledger a b = Build (record { operation = Compute Isub; controlling = or_invalid (type_of ledger a); operands = a ∷ b ∷ []; edges = [] })
+abbrev pub binary : Ledger → BinaryOpcode → Name → Name → Request
+binary ledger opcode a b = Build (record { operation = Compute (Binary opcode); controlling = or_invalid (type_of ledger a); operands = a ∷ b ∷ []; edges = [] })
 
 abbrev pub jump : Edge Name Name → Request
 jump edge = Build (record { operation = Jump; controlling = type.Invalid; operands = []; edges = edge ∷ [] })

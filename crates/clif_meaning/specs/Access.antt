@@ -21,20 +21,20 @@ Holds world (Accessible range) = (k : ℕ) → k < range.size → IsTrue (world.
 Holds world (Aligned address alignment) = (shift : ℕ) × (alignment ≡ 2 ^ shift) × (address % 2 ^ shift ≡ 0)
 Holds world (Apart left right) = (address : ℕ) → (lies_in left address && lies_in right address) ≡ false
 
--- The table of operations, from the world, which places stack slots, and the bits of the operands: the ranges that the
+-- The table of operations, from the world, which places stack slots, and the operands' types and bits: the ranges that the
 -- instruction touches. No operation reaches memory so far.
-abbrev pub touched_ranges : World → Operation → «Type» → List Bits → List Range
-touched_ranges world (Compute arithmetic) ty operands = []
-touched_ranges world Jump ty operands = []
-touched_ranges world Brif ty operands = []
-touched_ranges world Return ty operands = []
+abbrev pub touched_ranges : World → Operation → «Type» → List «Type» → List Bits → List Range
+touched_ranges world (Compute arithmetic) ty types operands = []
+touched_ranges world Jump ty types operands = []
+touched_ranges world Brif ty types operands = []
+touched_ranges world Return ty types operands = []
 
 -- The table of operations: what the instruction claims.
-abbrev pub claims_of : World → Operation → «Type» → List Bits → List Claim
-claims_of world (Compute arithmetic) ty operands = []
-claims_of world Jump ty operands = []
-claims_of world Brif ty operands = []
-claims_of world Return ty operands = []
+abbrev pub claims_of : World → Operation → «Type» → List «Type» → List Bits → List Claim
+claims_of world (Compute arithmetic) ty types operands = []
+claims_of world Jump ty types operands = []
+claims_of world Brif ty types operands = []
+claims_of world Return ty types operands = []
 
 -- a call of a function of the C library, by the signature that it gives
 pub record LibraryCall : Type 0 where

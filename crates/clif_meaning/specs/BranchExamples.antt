@@ -6,7 +6,8 @@ use Rattle.clif_types.specs.declared.call_conv.CallConv.TheVariants.{SystemV}
 use Rattle.clif_types.specs.declared.target.PointerWidth.TheVariants.{U64}
 use Rattle.clif_types.specs.Signature.{SignatureShape}
 use Rattle.clif_meaning.specs.World.{World}
-use Rattle.clif_meaning.specs.Instruction.{Iconst, Iadd, Isub, Compute, Jump, Brif, Return, Known, Edge}
+use Rattle.clif_meaning.specs.Instruction.{Iconst, Binary, Compute, Jump, Brif, Return, Known, Edge}
+use Rattle.clif_types.specs.declared.opcodes.BinaryOpcode.TheVariants.{Iadd, Isub}
 use Rattle.clif_meaning.specs.Outcome.{Goes, Values, computed, outcome_of}
 use Rattle.clif_meaning.specs.Name.{Name, answer_of}
 use Rattle.clif_meaning.specs.Request.{Request, CreateBlock, SwitchToBlock, SealBlock, DeclareVar, DefVar, UseVar, Build, Script}
@@ -41,7 +42,7 @@ both_arms_script =
     ∷ SwitchToBlock (block 0) ∷ SealBlock (block 0) ∷ iconst i32 (pos 5) ∷ DefVar 0 (answer_of 7 1) ∷ jump (plain (block 1))
     ∷ SwitchToBlock (block 1) ∷ UseVar 0 ∷ branch (answer_of 11 0) (block 2) (block 3)
     ∷ SwitchToBlock (block 2) ∷ SealBlock (block 2) ∷ UseVar 0 ∷ iconst i32 (negsuc 0)
-    ∷ Build (record { operation = Compute Iadd; controlling = i32; operands = answer_of 15 0 ∷ answer_of 16 1 ∷ []; edges = [] })
+    ∷ Build (record { operation = Compute (Binary Iadd); controlling = i32; operands = answer_of 15 0 ∷ answer_of 16 1 ∷ []; edges = [] })
     ∷ DefVar 0 (answer_of 17 1) ∷ branch (answer_of 17 1) (block 1) (block 1) ∷ SealBlock (block 1)
     ∷ SwitchToBlock (block 3) ∷ SealBlock (block 3) ∷ UseVar 0 ∷ return_ (answer_of 23 0 ∷ []) ∷ []
 
@@ -69,7 +70,7 @@ both_arms_blocks first second (suc zero) = record { parameters = 1 ∷ []; items
 both_arms_blocks first second (suc (suc zero)) =
     record {
       parameters = [];
-      items = placed (Compute (Iconst (negsuc 0))) i32 [] (2 ∷ []) ∷ placed (Compute Iadd) i32 (1 ∷ 2 ∷ []) (3 ∷ []) ∷ going (3 ∷ []) second ∷ [];
+      items = placed (Compute (Iconst (negsuc 0))) i32 [] (2 ∷ []) ∷ placed (Compute (Binary Iadd)) i32 (1 ∷ 2 ∷ []) (3 ∷ []) ∷ going (3 ∷ []) second ∷ [];
     }
 both_arms_blocks first second (suc (suc (suc zero))) = record { parameters = []; items = placed Return type.Invalid (1 ∷ []) [] ∷ [] }
 both_arms_blocks first second (suc (suc (suc (suc number)))) = no_block
@@ -99,10 +100,10 @@ abbrev pub swapped_function : FunctionView
 swapped_function = both_arms_with (plain 3 ∷ plain 2 ∷ []) (passing 1 3 ∷ passing 1 3 ∷ [])
 
 pub record BranchExamples : Type 0 where
-  pub difference : computed Isub i8 (3 ∷ 5 ∷ []) ≡ Values (254 ∷ [])
-  pub no_difference : computed Isub i8 (200 ∷ 200 ∷ []) ≡ Values (0 ∷ [])
-  pub taken : (world : World) → outcome_of world Brif i8 (7 ∷ []) world.memory ≡ Goes 0 [] world.memory
-  pub other : (world : World) → outcome_of world Brif i8 (0 ∷ []) world.memory ≡ Goes 1 [] world.memory
+  pub difference : computed (Binary Isub) i8 (3 ∷ 5 ∷ []) ≡ Values (254 ∷ [])
+  pub no_difference : computed (Binary Isub) i8 (200 ∷ 200 ∷ []) ≡ Values (0 ∷ [])
+  pub taken : (world : World) → outcome_of world Brif i8 (i8 ∷ []) (7 ∷ []) world.memory ≡ Goes 0 [] world.memory
+  pub other : (world : World) → outcome_of world Brif i8 (i8 ∷ []) (0 ∷ []) world.memory ≡ Goes 1 [] world.memory
   -- the row answers 0 on both machines, in every world
   pub script : (world : World) → script_behaviour both_arms_script both_arms_function world 42 ≡ ended_with (0 ∷ []) world
   pub function : (world : World) → function_behaviour both_arms_script both_arms_function U64 world 24 ≡ ended_with (0 ∷ []) world

@@ -1,6 +1,6 @@
 -- Worked examples of the definitions. The rows, their texts and their answers are those of the crate's documentation
 -- and of its hostile scripts.
-use Rattle.std.specs.Prelude.{◌≡◌, ℕ, zero, suc, ◌+◌, ◌-◌, ◌%◌, ◌^◌, ◌==◌, nat_lt, if◌then◌else◌, List, [], ◌∷◌, ◌++◌, Some, None, pos, negsuc}
+use Rattle.std.specs.Prelude.{◌≡◌, ◌≢◌, ℕ, zero, suc, ◌+◌, ◌-◌, ◌%◌, ◌^◌, ◌==◌, nat_lt, if◌then◌else◌, List, [], ◌∷◌, ◌++◌, Some, None, pos, negsuc}
 use Rattle.std.specs.declared.cmp.Ordering.{Ordering}
 use Rattle.std.specs.declared.cmp.Ordering.TheVariants.{Less, Equal, Greater}
 use Rattle.clif_types.specs.declared.types.«Type».{«Type»}
@@ -14,7 +14,9 @@ use Rattle.clif_types.specs.Target.{pointer_type_of}
 use Rattle.clif_meaning.specs.Bits.{value_bytes, value_of_bytes}
 use Rattle.clif_meaning.specs.Memory.{Memory, bytes_in, copied, filled, written, byte_order}
 use Rattle.clif_meaning.specs.Switch.{switch_target}
-use Rattle.clif_meaning.specs.Instruction.{Iconst, Iadd, Operation, Compute, Return}
+use Rattle.clif_meaning.specs.Instruction.{Iconst, Unary, Binary, Operation, Compute, Return}
+use Rattle.clif_types.specs.declared.opcodes.BinaryOpcode.TheVariants.{Iadd, Imul, Band, Bor, Bxor}
+use Rattle.clif_types.specs.declared.opcodes.UnaryOpcode.TheVariants.{Ineg, Bnot}
 use Rattle.clif_meaning.specs.Event.{CallShape, Event}
 use Rattle.clif_meaning.specs.World.{World}
 use Rattle.clif_meaning.specs.Outcome.{Values, Undefined, computed}
@@ -23,7 +25,7 @@ use Rattle.clif_meaning.specs.SameMeaning.{SameMeaning}
 use Rattle.clif_meaning.specs.Name.{Name, answer_of}
 use Rattle.clif_meaning.specs.Request.{CreateBlock, SwitchToBlock, SealBlock, DeclareVar, DefVar, UseVar, Finalize, Script}
 use Rattle.clif_meaning.specs.Ledger.{ledger_after}
-use Rattle.clif_meaning.specs.Acceptance.{iconst, iadd, return_, Accepted, Misuse, Refused, verdict_on, Unsealed, Unfilled, refusal_of}
+use Rattle.clif_meaning.specs.Acceptance.{iconst, binary, return_, Accepted, Misuse, Refused, verdict_on, Unsealed, Unfilled, refusal_of}
 use Rattle.clif_meaning.specs.FunctionView.{Placed, BlockView, FunctionView}
 use Rattle.clif_meaning.specs.WellPlaced.{WellPlaced, Records, RecordsWellPlaced}
 use Rattle.clif_meaning.specs.Typing.{EdgesMatch}
@@ -39,15 +41,26 @@ i32 = type.Lane lane.I32
 abbrev pub i128 : «Type»
 i128 = type.Lane lane.I128
 
--- Constants are cut to their width, or have their sign repeated; sums wrap.
+-- Constants are cut to their width, or have their sign repeated; sums and products wrap.
 pub record ArithmeticExamples : Type 0 where
   pub cut : computed (Iconst (pos 300)) i8 [] ≡ Values (44 ∷ [])
   pub negative : computed (Iconst (negsuc 6)) i8 [] ≡ Values (249 ∷ [])
   pub wide : computed (Iconst (negsuc 0)) i128 [] ≡ Values ((2 ^ 128 - 1) ∷ [])
-  pub sum : computed Iadd i32 (0 ∷ 7 ∷ []) ≡ Values (7 ∷ [])
-  pub wraps : computed Iadd i8 (200 ∷ 100 ∷ []) ≡ Values (44 ∷ [])
-  pub wraps_at_128 : computed Iadd i128 ((2 ^ 128 - 1) ∷ 2 ∷ []) ≡ Values (1 ∷ [])
-  pub too_few : computed Iadd i8 (200 ∷ []) ≡ Undefined
+  pub sum : computed (Binary Iadd) i32 (0 ∷ 7 ∷ []) ≡ Values (7 ∷ [])
+  pub wraps : computed (Binary Iadd) i8 (200 ∷ 100 ∷ []) ≡ Values (44 ∷ [])
+  pub wraps_at_128 : computed (Binary Iadd) i128 ((2 ^ 128 - 1) ∷ 2 ∷ []) ≡ Values (1 ∷ [])
+  pub too_few : computed (Binary Iadd) i8 (200 ∷ []) ≡ Undefined
+  -- two's complement, and bit by bit; 300 - 256 is 44
+  pub least : computed (Unary Ineg) i8 (128 ∷ []) ≡ Values (128 ∷ [])
+  pub of_zero : computed (Unary Ineg) i8 (0 ∷ []) ≡ Values (0 ∷ [])
+  pub turned : computed (Unary Bnot) i8 (5 ∷ []) ≡ Values (250 ∷ [])
+  pub product : computed (Binary Imul) i8 (20 ∷ 15 ∷ []) ≡ Values (44 ∷ [])
+  pub both : computed (Binary Band) i8 (12 ∷ 10 ∷ []) ≡ Values (8 ∷ [])
+  pub either : computed (Binary Bor) i8 (12 ∷ 10 ∷ []) ≡ Values (14 ∷ [])
+  pub one_of_two : computed (Binary Bxor) i8 (12 ∷ 10 ∷ []) ≡ Values (6 ∷ [])
+  -- wrong rows
+  pub not_one : computed (Unary Ineg) i8 (1 ∷ []) ≢ Values (1 ∷ [])
+  pub not_either : computed (Binary Bxor) i8 (12 ∷ 10 ∷ []) ≢ Values (14 ∷ [])
 
 -- the byte at an address of a memory that holds 1, 2, 3 .. from an address on
 abbrev pub counting_from : ℕ → Memory
@@ -84,7 +97,7 @@ first_calls = CreateBlock ∷ SwitchToBlock block0 ∷ DeclareVar i32 ∷ UseVar
 abbrev pub first_script : Script
 first_script =
     CreateBlock ∷ SwitchToBlock block0 ∷ DeclareVar i32 ∷ UseVar 0 ∷ iconst i32 (pos 7)
-    ∷ iadd (ledger_after first_calls) (answer_of 3 0) (answer_of 4 1) ∷ DefVar 0 (answer_of 5 1) ∷ UseVar 0
+    ∷ binary (ledger_after first_calls) Iadd (answer_of 3 0) (answer_of 4 1) ∷ DefVar 0 (answer_of 5 1) ∷ UseVar 0
     ∷ return_ (answer_of 7 0 ∷ []) ∷ SealBlock block0 ∷ []
 
 -- an instruction without edges and stack map
@@ -117,7 +130,7 @@ first_function_with number = record {
   blocks = one_block (
       placed (Compute (Iconst (pos 0))) i32 [] (3 ∷ [])
       ∷ placed (Compute (Iconst (pos number))) i32 [] (1 ∷ [])
-      ∷ placed (Compute Iadd) i32 (0 ∷ 1 ∷ []) (2 ∷ [])
+      ∷ placed (Compute (Binary Iadd)) i32 (0 ∷ 1 ∷ []) (2 ∷ [])
       ∷ placed Return type.Invalid (2 ∷ []) []
       ∷ []);
   resolved = λ v. if v == 0 then 3 else v;
@@ -211,7 +224,7 @@ pub record VerdictExamples : Type 0 where
   pub no_such_value : verdict_on (CreateBlock ∷ SwitchToBlock block0 ∷ iconst i32 (pos 1) ∷ return_ (answer_of 2 0 ∷ []) ∷ []) ≡ Misuse 3
   -- operands of two types: types aren't a condition
   pub mixed : verdict_on (CreateBlock ∷ SwitchToBlock block0 ∷ SealBlock block0 ∷ iconst i32 (pos 1) ∷ iconst i8 (pos 1)
-      ∷ iadd (ledger_after (CreateBlock ∷ SwitchToBlock block0 ∷ SealBlock block0 ∷ iconst i32 (pos 1) ∷ [])) (answer_of 3 1) (answer_of 4 1) ∷ return_ [] ∷ [])
+      ∷ binary (ledger_after (CreateBlock ∷ SwitchToBlock block0 ∷ SealBlock block0 ∷ iconst i32 (pos 1) ∷ [])) Iadd (answer_of 3 1) (answer_of 4 1) ∷ return_ [] ∷ [])
       ≡ Accepted
   -- a constant that is no integer
   pub no_integer : verdict_on (CreateBlock ∷ SwitchToBlock block0 ∷ iconst (type.Lane lane.F32) (pos 1) ∷ []) ≡ Misuse 2

@@ -121,7 +121,8 @@ carry_out run state placed rest NoStep = record state { control = IsStuck }
 abbrev pub run_placed : FunctionRun → FunctionState → Placed → List Placed → FunctionState
 run_placed run state placed rest =
     carry_out run state placed rest
-    (outcome_of run.world placed.instruction.operation placed.instruction.controlling (map (value_bits run state) placed.instruction.operands) state.memory)
+    (outcome_of run.world placed.instruction.operation placed.instruction.controlling
+    (map run.function.value_type placed.instruction.operands) (map (value_bits run state) placed.instruction.operands) state.memory)
 
 -- A block that ends without a terminator leaves the machine stuck. What ended stays.
 abbrev pub step_at : FunctionRun → FunctionState → Control Placed → FunctionState

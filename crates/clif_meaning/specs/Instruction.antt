@@ -1,16 +1,19 @@
 -- The one shape of an instruction, for the script's machine and for the function's: what operands are is a parameter,
 -- a name or a value. After Cranelift's `InstructionData`, its opcode and controlling type apart from its operands.
 use Rattle.std.specs.Prelude.{ℕ, List, ℤ}
+use Rattle.clif_types.specs.declared.opcodes.UnaryOpcode.{UnaryOpcode}
+use Rattle.clif_types.specs.declared.opcodes.BinaryOpcode.{BinaryOpcode}
+use Rattle.clif_types.specs.Typing.{Typing, constant_typing, unary_typing, binary_typing, jump_typing, brif_typing, return_typing}
 use Rattle.clif_types.specs.declared.types.«Type».{«Type»}
 
 -- operations that compute bits from bits, without memory, world or control
 pub data Arithmetic : Type 0 where
   -- the constant, a number of 64 bits
   Iconst : (number : ℤ) → Arithmetic
-  -- the sum modulo 2 to the width
-  Iadd : Arithmetic
-  -- the difference modulo 2 to the width
-  Isub : Arithmetic
+  -- an operation on one operand
+  Unary : UnaryOpcode → Arithmetic
+  -- an operation on two operands
+  Binary : BinaryOpcode → Arithmetic
 
 -- what an instruction does
 pub data Operation : Type 0 where
@@ -22,6 +25,15 @@ pub data Operation : Type 0 where
   Brif : Operation
   -- ends the run with the operands
   Return : Operation
+
+-- its row of the typing table
+abbrev pub operation_typing : Operation → Typing
+operation_typing (Compute (Iconst number)) = constant_typing
+operation_typing (Compute (Unary opcode)) = unary_typing opcode
+operation_typing (Compute (Binary opcode)) = binary_typing opcode
+operation_typing Jump = jump_typing
+operation_typing Brif = brif_typing
+operation_typing Return = return_typing
 
 -- what an edge passes to a parameter of its target
 pub data Argument (Operand : Type 0) : Type 0 where

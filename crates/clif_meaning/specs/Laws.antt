@@ -1,10 +1,17 @@
 -- Laws of the definitions, as the contracts of this crate's functions state them.
-use Rattle.std.specs.Prelude.{◌≡◌, ℕ, List, [], ◌∷◌, ◌++◌, length, slice_get, Some}
+use Rattle.std.specs.Prelude.{◌≡◌, ℕ, List, [], ◌∷◌, ◌++◌, length, slice_get, Some, IsTrue}
+use Rattle.clif_types.specs.declared.types.«Type».{«Type»}
+use Rattle.clif_types.specs.Typing.{FitOperands, meets}
+use Rattle.clif_meaning.specs.Bits.{Bits, AreValues}
+use Rattle.clif_meaning.specs.Instruction.{Operation, operation_typing}
+use Rattle.clif_meaning.specs.Memory.{Memory}
+use Rattle.clif_meaning.specs.Outcome.{Outcome, Gives, Goes, Returns, Traps, Calls, NoStep, outcome_of}
+use Rattle.clif_meaning.specs.World.{World}
 use Rattle.clif_meaning.specs.Machine.{observed, EndStays}
 use Rattle.clif_meaning.specs.Name.{Name, answer_of}
 use Rattle.clif_meaning.specs.Request.{Request, Script, AnsweredCall, number_of}
 use Rattle.clif_meaning.specs.Ledger.{ledger_after, ledger_with}
-use Rattle.clif_meaning.specs.Program.{program_of, with_call}
+use Rattle.clif_meaning.specs.Program.{program_of, result_types, with_call}
 use Rattle.clif_meaning.specs.ScriptMachine.{ScriptRun, script_machine}
 use Rattle.clif_meaning.specs.FunctionMachine.{FunctionRun, function_machine}
 
@@ -27,3 +34,21 @@ pub record PlacesCount : Type 0 where
 pub record NumbersStay : Type 0 where
   pub kept : (calls : List AnsweredCall) (call : AnsweredCall) (name : Name) (number : ℕ) → number_of calls name ≡ Some number → number_of (calls ++ call ∷ []) name ≡ Some number
   pub new : (calls : List AnsweredCall) (call : AnsweredCall) (index : ℕ) → number_of (calls ++ call ∷ []) (answer_of (length calls) index) ≡ slice_get call.numbers index
+
+-- An outcome is that of an instruction whose results have these types, in a function that returns those: it is there,
+-- and what it gives or returns are values of these types.
+abbrev pub FitsTypes : List «Type» → List «Type» → Outcome → Type 0
+FitsTypes results returns (Gives bits memory) = AreValues results bits
+FitsTypes results returns (Goes edge given memory) = Unit {0}
+FitsTypes results returns (Returns bits) = AreValues returns bits
+FitsTypes results returns (Traps reason) = Unit {0}
+FitsTypes results returns (Calls callee call arguments) = Unit {0}
+FitsTypes results returns NoStep = ⊥
+
+-- Outcomes fit the typing table: an instruction that is made at a type at which it is there, on values of the types that
+-- the table asks for, has a meaning, and gives values of the types of its results.
+abbrev pub OutcomesFit : Type 0
+OutcomesFit =
+    (world : World) (operation : Operation) (ty : «Type») (returns types : List «Type») (operands : List Bits) (memory : Memory)
+    → IsTrue (meets (operation_typing operation).demand ty) → FitOperands returns ty (operation_typing operation).operands types
+    → AreValues types operands → FitsTypes (result_types operation ty) returns (outcome_of world operation ty types operands memory)

@@ -5,7 +5,7 @@ use Rattle.std.specs.Prelude.{ℕ, zero, suc, not, ◌&&◌, if◌then◌else◌
 use Rattle.std.specs.List.{list_any}
 use Rattle.clif_types.specs.declared.types.«Type».{«Type»}
 use Rattle.clif_types.specs.declared.types.«Type».TheVariants as type
-use Rattle.clif_meaning.specs.Instruction.{Operation, Compute, Jump, Brif, Return, Edge}
+use Rattle.clif_meaning.specs.Instruction.{Operation, operation_typing, Edge}
 use Rattle.clif_meaning.specs.Name.{Name, answer_of, same_name}
 use Rattle.clif_meaning.specs.Request.{Request, CreateBlock, SwitchToBlock, SealBlock, SealAllBlocks, InsertBlockAfter, SetColdBlock, EnsureInsertedBlock, AppendBlockParams, AppendFunctionParams, DeclareVar, DefVar, UseVar, Build, Finalize, Script}
 use Rattle.clif_meaning.specs.Program.{result_types}
@@ -151,12 +151,9 @@ abbrev pub with_filled_at : Ledger → Option Name → Ledger
 with_filled_at ledger None = ledger
 with_filled_at ledger (Some block) = with_state ledger block (λ state. record state { is_filled = true })
 
--- the operation ends its block: the table of operations
+-- the operation ends its block
 abbrev pub is_terminator : Operation → Bool
-is_terminator (Compute arithmetic) = false
-is_terminator Jump = true
-is_terminator Brif = true
-is_terminator Return = true
+is_terminator operation = (operation_typing operation).ends
 
 -- a terminator fills the current block
 abbrev pub with_terminator : Ledger → Operation → Ledger

@@ -1,12 +1,17 @@
 -- What an instruction does, from the bits of its operands, memory and the world: the table of the instruction set, by
 -- operation. Both machines read it. After the documentation of Cranelift's instructions.
-use Rattle.std.specs.Prelude.{ℕ, ◌+◌, ◌-◌, ◌%◌, ◌^◌, ◌==◌, if◌then◌else◌, List, [], ◌∷◌}
+use Rattle.std.specs.Prelude.{ℕ, ◌+◌, ◌-◌, ◌*◌, ◌%◌, ◌^◌, ◌==◌, if◌then◌else◌, List, [], ◌∷◌}
+use Rattle.std.specs.Int.Bits.{bit_and, bit_or, bit_xor}
+use Rattle.clif_types.specs.declared.opcodes.UnaryOpcode.{UnaryOpcode}
+use Rattle.clif_types.specs.declared.opcodes.UnaryOpcode.TheVariants.{Ineg, Bnot}
+use Rattle.clif_types.specs.declared.opcodes.BinaryOpcode.{BinaryOpcode}
+use Rattle.clif_types.specs.declared.opcodes.BinaryOpcode.TheVariants.{Iadd, Isub, Imul, Band, Bor, Bxor}
 use Rattle.clif_types.specs.declared.types.«Type».{«Type»}
 use Rattle.clif_types.specs.declared.trapcode.TrapCode.{TrapCode}
 use Rattle.clif_types.specs.Types.{bits_of}
 use Rattle.clif_meaning.specs.Bits.{Bits, wrapped}
 use Rattle.clif_meaning.specs.Memory.{Memory}
-use Rattle.clif_meaning.specs.Instruction.{Arithmetic, Iconst, Iadd, Isub, Operation, Compute, Jump, Brif, Return}
+use Rattle.clif_meaning.specs.Instruction.{Arithmetic, Iconst, Unary, Binary, Operation, Compute, Jump, Brif, Return}
 use Rattle.clif_meaning.specs.Event.{Callee, CallShape}
 use Rattle.clif_meaning.specs.World.{World}
 
@@ -32,22 +37,32 @@ pub data Computed : Type 0 where
   Fault : TrapCode → Computed
   Undefined : Computed
 
--- the table of arithmetic, at the controlling type, which is an integer
+-- Operations on one operand: the number whose low bits are the result, at a width.
+abbrev pub unary_number : UnaryOpcode → ℕ → Bits → ℕ
+unary_number Ineg width x = 2 ^ width - x
+unary_number Bnot width x = 2 ^ width - 1 - x
+
+-- Operations on two operands: the same.
+abbrev pub binary_number : BinaryOpcode → ℕ → Bits → Bits → ℕ
+binary_number Iadd width x y = x + y
+binary_number Isub width x y = x + 2 ^ width - y
+binary_number Imul width x y = x * y
+binary_number Band width x y = bit_and x y
+binary_number Bor width x y = bit_or x y
+binary_number Bxor width x y = bit_xor x y
+
+-- the low bits of a number, as many as the type has
+abbrev pub low_bits_at : «Type» → ℕ → Bits
+low_bits_at ty number = number % 2 ^ bits_of ty
+
+-- The table of arithmetic, by the number of operands, at the controlling type, which is an integer. Another number of
+-- operands has no meaning.
 abbrev pub computed : Arithmetic → «Type» → List Bits → Computed
 -- the low bits of the constant, or its sign repeated
 computed (Iconst number) ty [] = Values (wrapped (bits_of ty) number ∷ [])
--- the sum modulo 2 to the width
-computed Iadd ty (x ∷ y ∷ []) = Values ((x + y) % 2 ^ bits_of ty ∷ [])
--- the difference modulo 2 to the width
-computed Isub ty (x ∷ y ∷ []) = Values ((x + 2 ^ bits_of ty - y) % 2 ^ bits_of ty ∷ [])
--- another number of operands has no meaning
-computed (Iconst number) ty (x ∷ operands) = Undefined
-computed Iadd ty [] = Undefined
-computed Iadd ty (x ∷ []) = Undefined
-computed Iadd ty (x ∷ y ∷ z ∷ operands) = Undefined
-computed Isub ty [] = Undefined
-computed Isub ty (x ∷ []) = Undefined
-computed Isub ty (x ∷ y ∷ z ∷ operands) = Undefined
+computed (Unary opcode) ty (x ∷ []) = Values (low_bits_at ty (unary_number opcode (bits_of ty) x) ∷ [])
+computed (Binary opcode) ty (x ∷ y ∷ []) = Values (low_bits_at ty (binary_number opcode (bits_of ty) x y) ∷ [])
+computed _ ty _ = Undefined
 
 -- arithmetic as an instruction: it leaves memory
 abbrev pub outcome_of_computed : Computed → Memory → Outcome
@@ -59,12 +74,10 @@ outcome_of_computed Undefined memory = NoStep
 abbrev pub edge_by : Bits → ℕ
 edge_by condition = if condition == 0 then 1 else 0
 
--- the table of operations: world, controlling type, the operands' bits, memory
-abbrev pub outcome_of : World → Operation → «Type» → List Bits → Memory → Outcome
-outcome_of world (Compute arithmetic) ty operands memory = outcome_of_computed (computed arithmetic ty operands) memory
-outcome_of world Jump ty [] memory = Goes 0 [] memory
-outcome_of world Jump ty (x ∷ operands) memory = NoStep
-outcome_of world Brif ty (condition ∷ []) memory = Goes (edge_by condition) [] memory
-outcome_of world Brif ty [] memory = NoStep
-outcome_of world Brif ty (x ∷ y ∷ operands) memory = NoStep
-outcome_of world Return ty operands memory = Returns operands
+-- the table of operations: world, controlling type, the operands' types and bits, memory
+abbrev pub outcome_of : World → Operation → «Type» → List «Type» → List Bits → Memory → Outcome
+outcome_of world (Compute arithmetic) ty types operands memory = outcome_of_computed (computed arithmetic ty operands) memory
+outcome_of world Jump ty types [] memory = Goes 0 [] memory
+outcome_of world Brif ty types (condition ∷ []) memory = Goes (edge_by condition) [] memory
+outcome_of world Return ty types operands memory = Returns operands
+outcome_of world _ ty types _ memory = NoStep

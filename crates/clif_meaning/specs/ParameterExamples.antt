@@ -6,7 +6,8 @@ use Rattle.clif_types.specs.declared.call_conv.CallConv.TheVariants.{SystemV}
 use Rattle.clif_types.specs.declared.target.PointerWidth.TheVariants.{U64}
 use Rattle.clif_types.specs.Signature.{SignatureShape}
 use Rattle.clif_meaning.specs.World.{World}
-use Rattle.clif_meaning.specs.Instruction.{Isub, Compute, Return, Known}
+use Rattle.clif_meaning.specs.Instruction.{Binary, Compute, Return, Known}
+use Rattle.clif_types.specs.declared.opcodes.BinaryOpcode.TheVariants.{Isub}
 use Rattle.clif_meaning.specs.Name.{answer_of}
 use Rattle.clif_meaning.specs.Request.{CreateBlock, SwitchToBlock, SealBlock, AppendBlockParams, AppendFunctionParams, Build, Script}
 use Rattle.clif_meaning.specs.Ledger.{ledger_after, type_of}
@@ -22,7 +23,7 @@ abbrev pub difference_script : Script
 difference_script =
     CreateBlock ∷ CreateBlock ∷ AppendFunctionParams (block 0) (i32 ∷ i32 ∷ []) ∷ AppendBlockParams (block 1) (i32 ∷ [])
     ∷ SwitchToBlock (block 0) ∷ SealBlock (block 0)
-    ∷ Build (record { operation = Compute Isub; controlling = i32; operands = answer_of 2 0 ∷ answer_of 2 1 ∷ []; edges = [] })
+    ∷ Build (record { operation = Compute (Binary Isub); controlling = i32; operands = answer_of 2 0 ∷ answer_of 2 1 ∷ []; edges = [] })
     ∷ jump (record { target = block 1; arguments = Known (answer_of 6 1) ∷ [] })
     ∷ SealBlock (block 1) ∷ SwitchToBlock (block 1) ∷ return_ (answer_of 3 0 ∷ []) ∷ []
 
@@ -33,7 +34,7 @@ difference_signature =
 -- the function of the script, whose entry has these parameters
 abbrev pub difference_blocks : List ℕ → ℕ → BlockView
 difference_blocks parameters zero =
-    record { parameters = parameters; items = placed (Compute Isub) i32 (0 ∷ 1 ∷ []) (3 ∷ []) ∷ going [] (passing 1 3 ∷ []) ∷ [] }
+    record { parameters = parameters; items = placed (Compute (Binary Isub)) i32 (0 ∷ 1 ∷ []) (3 ∷ []) ∷ going [] (passing 1 3 ∷ []) ∷ [] }
 difference_blocks parameters (suc zero) = record { parameters = 2 ∷ []; items = placed Return type.Invalid (2 ∷ []) [] ∷ [] }
 difference_blocks parameters (suc (suc number)) = no_block
 

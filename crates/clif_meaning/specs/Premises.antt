@@ -82,14 +82,14 @@ OfNextItem P IsStuck = Unit {0}
 -- the item's accesses spare spill slots, in this state
 abbrev pub SparesSpillSlots : ScriptRun → ScriptState → Item → Type 0
 SparesSpillSlots run state (Instruct place instruction results) =
-    AllByRecursion (SparesRange run.hidden) (touched_ranges run.world instruction.operation instruction.controlling (map state.names instruction.operands))
+    AllByRecursion (SparesRange run.hidden) (touched_ranges run.world instruction.operation instruction.controlling (map run.name_type instruction.operands) (map state.names instruction.operands))
 SparesSpillSlots run state (Use variable name) = Unit {0}
 SparesSpillSlots run state (Assign variable name) = Unit {0}
 
 -- what the item claims is true, in this state
 abbrev pub ClaimsAreTrue : ScriptRun → ScriptState → Item → Type 0
 ClaimsAreTrue run state (Instruct place instruction results) =
-    AllByRecursion (Holds run.world) (claims_of run.world instruction.operation instruction.controlling (map state.names instruction.operands))
+    AllByRecursion (Holds run.world) (claims_of run.world instruction.operation instruction.controlling (map run.name_type instruction.operands) (map state.names instruction.operands))
 ClaimsAreTrue run state (Use variable name) = Unit {0}
 ClaimsAreTrue run state (Assign variable name) = Unit {0}
 

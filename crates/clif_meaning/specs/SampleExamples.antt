@@ -8,7 +8,8 @@ use Rattle.clif_types.specs.declared.call_conv.CallConv.TheVariants.{SystemV}
 use Rattle.clif_types.specs.declared.target.PointerWidth.TheVariants.{U64}
 use Rattle.clif_types.specs.Signature.{SignatureShape}
 use Rattle.clif_meaning.specs.World.{World}
-use Rattle.clif_meaning.specs.Instruction.{Arithmetic, Iconst, Iadd, Isub, Compute, Return, Known, Edge}
+use Rattle.clif_meaning.specs.Instruction.{Arithmetic, Iconst, Binary, Compute, Return, Known, Edge}
+use Rattle.clif_types.specs.declared.opcodes.BinaryOpcode.TheVariants.{Iadd, Isub}
 use Rattle.clif_meaning.specs.Name.{Name, answer_of}
 use Rattle.clif_meaning.specs.Request.{Request, CreateBlock, SwitchToBlock, SealBlock, SealAllBlocks, AppendFunctionParams, DeclareVar, DefVar, UseVar, Build, Script}
 use Rattle.clif_meaning.specs.Acceptance.{iconst, jump, return_, Accepted, verdict_on}
@@ -27,12 +28,12 @@ abbrev pub sample_script : Script
 sample_script =
     CreateBlock ∷ CreateBlock ∷ CreateBlock ∷ CreateBlock ∷ DeclareVar i32 ∷ DeclareVar i32 ∷ DeclareVar i32 ∷ AppendFunctionParams (block 0) (i32 ∷ [])
     ∷ SwitchToBlock (block 0) ∷ SealBlock (block 0) ∷ DefVar 0 (answer_of 7 0) ∷ iconst i32 (pos 2) ∷ DefVar 1 (answer_of 11 1)
-    ∷ UseVar 0 ∷ UseVar 1 ∷ of_two Iadd (answer_of 13 0) (answer_of 14 0) ∷ DefVar 2 (answer_of 15 1) ∷ jump (plain (block 1))
-    ∷ SwitchToBlock (block 1) ∷ UseVar 1 ∷ UseVar 2 ∷ of_two Iadd (answer_of 19 0) (answer_of 20 0) ∷ DefVar 2 (answer_of 21 1)
+    ∷ UseVar 0 ∷ UseVar 1 ∷ of_two (Binary Iadd) (answer_of 13 0) (answer_of 14 0) ∷ DefVar 2 (answer_of 15 1) ∷ jump (plain (block 1))
+    ∷ SwitchToBlock (block 1) ∷ UseVar 1 ∷ UseVar 2 ∷ of_two (Binary Iadd) (answer_of 19 0) (answer_of 20 0) ∷ DefVar 2 (answer_of 21 1)
     ∷ UseVar 1 ∷ branch (answer_of 23 0) (block 3) (block 2)
-    ∷ SwitchToBlock (block 2) ∷ SealBlock (block 2) ∷ UseVar 2 ∷ UseVar 0 ∷ of_two Isub (answer_of 27 0) (answer_of 28 0) ∷ DefVar 2 (answer_of 29 1)
+    ∷ SwitchToBlock (block 2) ∷ SealBlock (block 2) ∷ UseVar 2 ∷ UseVar 0 ∷ of_two (Binary Isub) (answer_of 27 0) (answer_of 28 0) ∷ DefVar 2 (answer_of 29 1)
     ∷ UseVar 1 ∷ return_ (answer_of 31 0 ∷ [])
-    ∷ SwitchToBlock (block 3) ∷ SealBlock (block 3) ∷ UseVar 1 ∷ UseVar 0 ∷ of_two Isub (answer_of 35 0) (answer_of 36 0) ∷ DefVar 1 (answer_of 37 1)
+    ∷ SwitchToBlock (block 3) ∷ SealBlock (block 3) ∷ UseVar 1 ∷ UseVar 0 ∷ of_two (Binary Isub) (answer_of 35 0) (answer_of 36 0) ∷ DefVar 1 (answer_of 37 1)
     ∷ jump (plain (block 1)) ∷ SealBlock (block 1) ∷ []
 
 -- the same, with all blocks sealed at the end
@@ -40,12 +41,12 @@ abbrev pub sample_late_script : Script
 sample_late_script =
     CreateBlock ∷ CreateBlock ∷ CreateBlock ∷ CreateBlock ∷ DeclareVar i32 ∷ DeclareVar i32 ∷ DeclareVar i32 ∷ AppendFunctionParams (block 0) (i32 ∷ [])
     ∷ SwitchToBlock (block 0) ∷ DefVar 0 (answer_of 7 0) ∷ iconst i32 (pos 2) ∷ DefVar 1 (answer_of 10 1)
-    ∷ UseVar 0 ∷ UseVar 1 ∷ of_two Iadd (answer_of 12 0) (answer_of 13 0) ∷ DefVar 2 (answer_of 14 1) ∷ jump (plain (block 1))
-    ∷ SwitchToBlock (block 1) ∷ UseVar 1 ∷ UseVar 2 ∷ of_two Iadd (answer_of 18 0) (answer_of 19 0) ∷ DefVar 2 (answer_of 20 1)
+    ∷ UseVar 0 ∷ UseVar 1 ∷ of_two (Binary Iadd) (answer_of 12 0) (answer_of 13 0) ∷ DefVar 2 (answer_of 14 1) ∷ jump (plain (block 1))
+    ∷ SwitchToBlock (block 1) ∷ UseVar 1 ∷ UseVar 2 ∷ of_two (Binary Iadd) (answer_of 18 0) (answer_of 19 0) ∷ DefVar 2 (answer_of 20 1)
     ∷ UseVar 1 ∷ branch (answer_of 22 0) (block 3) (block 2)
-    ∷ SwitchToBlock (block 2) ∷ UseVar 2 ∷ UseVar 0 ∷ of_two Isub (answer_of 25 0) (answer_of 26 0) ∷ DefVar 2 (answer_of 27 1)
+    ∷ SwitchToBlock (block 2) ∷ UseVar 2 ∷ UseVar 0 ∷ of_two (Binary Isub) (answer_of 25 0) (answer_of 26 0) ∷ DefVar 2 (answer_of 27 1)
     ∷ UseVar 1 ∷ return_ (answer_of 29 0 ∷ [])
-    ∷ SwitchToBlock (block 3) ∷ UseVar 1 ∷ UseVar 0 ∷ of_two Isub (answer_of 32 0) (answer_of 33 0) ∷ DefVar 1 (answer_of 34 1)
+    ∷ SwitchToBlock (block 3) ∷ UseVar 1 ∷ UseVar 0 ∷ of_two (Binary Isub) (answer_of 32 0) (answer_of 33 0) ∷ DefVar 1 (answer_of 34 1)
     ∷ jump (plain (block 1)) ∷ SealAllBlocks ∷ []
 
 abbrev pub sample_signature : SignatureShape
@@ -56,10 +57,10 @@ abbrev pub to_second : List ℕ → Edge ℕ ℕ
 to_second values = record { target = 1; arguments = map Known values }
 
 abbrev pub sum : ℕ → ℕ → ℕ → Placed
-sum x y result = placed (Compute Iadd) i32 (x ∷ y ∷ []) (result ∷ [])
+sum x y result = placed (Compute (Binary Iadd)) i32 (x ∷ y ∷ []) (result ∷ [])
 
 abbrev pub difference : ℕ → ℕ → ℕ → Placed
-difference x y result = placed (Compute Isub) i32 (x ∷ y ∷ []) (result ∷ [])
+difference x y result = placed (Compute (Binary Isub)) i32 (x ∷ y ∷ []) (result ∷ [])
 
 abbrev pub two : Placed
 two = placed (Compute (Iconst (pos 2))) i32 [] (1 ∷ [])
@@ -137,7 +138,7 @@ reading_script =
     CreateBlock ∷ CreateBlock ∷ CreateBlock ∷ CreateBlock ∷ DeclareVar i32 ∷ AppendFunctionParams (block 0) (i32 ∷ [])
     ∷ SwitchToBlock (block 0) ∷ SealBlock (block 0) ∷ DefVar 0 (answer_of 5 0) ∷ jump (plain (block 1))
     ∷ SwitchToBlock (block 1) ∷ UseVar 0 ∷ branch (answer_of 11 0) (block 2) (block 3)
-    ∷ SwitchToBlock (block 2) ∷ SealBlock (block 2) ∷ UseVar 0 ∷ iconst i32 (negsuc 0) ∷ of_two Iadd (answer_of 15 0) (answer_of 16 1) ∷ DefVar 0 (answer_of 17 1)
+    ∷ SwitchToBlock (block 2) ∷ SealBlock (block 2) ∷ UseVar 0 ∷ iconst i32 (negsuc 0) ∷ of_two (Binary Iadd) (answer_of 15 0) (answer_of 16 1) ∷ DefVar 0 (answer_of 17 1)
     ∷ jump (plain (block 1)) ∷ SealBlock (block 1)
     ∷ SwitchToBlock (block 3) ∷ SealBlock (block 3) ∷ return_ (answer_of 11 0 ∷ []) ∷ []
 

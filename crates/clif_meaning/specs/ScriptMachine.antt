@@ -88,7 +88,8 @@ carry_out run state edges results rest NoStep = record state { control = IsStuck
 abbrev pub run_item : ScriptRun → ScriptState → Item → List Item → ScriptState
 run_item run state (Instruct place instruction results) rest =
     carry_out run state instruction.edges results rest
-    (outcome_of run.world instruction.operation instruction.controlling (map state.names instruction.operands) state.memory)
+    (outcome_of run.world instruction.operation instruction.controlling
+    (map run.name_type instruction.operands) (map state.names instruction.operands) state.memory)
 run_item run state (Use variable name) rest =
     record state { names = assigned same_name (name ∷ []) (state.variables variable ∷ []) state.names; control = At rest }
 run_item run state (Assign variable name) rest =

@@ -1,28 +1,11 @@
--- Types of operands and of what edges pass. After the documentation of Cranelift's instructions.
-use Rattle.std.specs.Prelude.{◌≡◌, ℕ, Bool, true, List, [], ◌∷◌, map, Option, Some, None, slice_get, IsTrue}
+-- Types of operands, by the typing table, and of what edges pass. After the documentation of Cranelift's instructions.
+use Rattle.std.specs.Prelude.{◌≡◌, ℕ, List, [], ◌∷◌, map, Option, Some, None, slice_get, IsTrue}
 use Rattle.std.specs.List.{AllByRecursion}
 use Rattle.clif_types.specs.declared.types.«Type».{«Type»}
-use Rattle.clif_types.specs.Types.{is_int}
-use Rattle.clif_meaning.specs.Instruction.{Iconst, Iadd, Isub, Operation, Compute, Jump, Brif, Return, Argument, Known, CallResult, CallPayload, Edge, Instruction}
+use Rattle.clif_types.specs.Typing.{FitOperands, meets}
+use Rattle.clif_meaning.specs.Instruction.{Operation, operation_typing, Compute, Jump, Brif, Return, Argument, Known, CallResult, CallPayload, Edge, Instruction}
 use Rattle.clif_meaning.specs.Event.{CallShape, types_of, payload_types}
 use Rattle.clif_meaning.specs.FunctionView.{FunctionView}
-
--- The table of operations: whether the operation is there at the controlling type. Arithmetic is on integers only, and
--- so are conditions.
-abbrev pub is_made_at : Operation → «Type» → Bool
-is_made_at (Compute arithmetic) ty = is_int ty
-is_made_at Jump ty = true
-is_made_at Brif ty = is_int ty
-is_made_at Return ty = true
-
--- The table of operations: the types of the operands, in a function that returns these types.
-abbrev pub operand_types : List «Type» → Operation → «Type» → List «Type»
-operand_types returns (Compute (Iconst number)) ty = []
-operand_types returns (Compute Iadd) ty = ty ∷ ty ∷ []
-operand_types returns (Compute Isub) ty = ty ∷ ty ∷ []
-operand_types returns Jump ty = []
-operand_types returns Brif ty = ty ∷ []
-operand_types returns Return ty = returns
 
 -- The table of operations: the shape of the call that it makes, if it makes one. No operation does so far.
 abbrev pub call_shape : Operation → Option CallShape
@@ -54,8 +37,8 @@ EachEdgeMatches type_of parameter_types (Some call) (normal ∷ items) =
 
 -- the operands have their types, and so has what each edge passes
 pub record IsWellTyped {Block Operand : Type 0} (type_of : Operand → «Type») (parameter_types : Block → List «Type») (returns : List «Type») (instruction : Instruction Block Operand) : Type 0 where
-  pub made_at : IsTrue (is_made_at instruction.operation instruction.controlling)
-  pub operands : map type_of instruction.operands ≡ operand_types returns instruction.operation instruction.controlling
+  pub made_at : IsTrue (meets (operation_typing instruction.operation).demand instruction.controlling)
+  pub operands : FitOperands returns instruction.controlling (operation_typing instruction.operation).operands (map type_of instruction.operands)
   pub edges : EachEdgeMatches type_of parameter_types (call_shape instruction.operation) instruction.edges
 
 -- the types of a block's parameters in a function

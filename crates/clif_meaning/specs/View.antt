@@ -3,24 +3,23 @@ use Rattle.std.specs.Prelude.{ℕ, ◌==◌, if◌then◌else◌, List, [], ◌�
 use Rattle.std.specs.List.{list_any}
 use Rattle.clif_types.specs.declared.types.«Type».{«Type»}
 use Rattle.clif_types.specs.declared.types.«Type».TheVariants as type
-use Rattle.clif_ir.specs.declared.instructions.BinaryOpcode.TheVariants as binary
 use Rattle.clif_ir.specs.declared.instructions.InstructionData.{InstructionData}
-use Rattle.clif_ir.specs.declared.instructions.InstructionData.TheVariants.{UnaryImm, Binary, Jump, Brif, MultiAry}
+use Rattle.clif_ir.specs.declared.instructions.InstructionData.TheVariants.{UnaryImm, Unary, Binary, Jump, Brif, MultiAry}
 use Rattle.clif_ir.specs.declared.function.InstNode.{InstNode}
 use Rattle.clif_ir.specs.declared.block_call.BlockArg.{BlockArg}
 use Rattle.clif_ir.specs.declared.block_call.BlockArg.TheVariants as arg
 use Rattle.clif_ir.specs.declared.block_call.BlockCall.{BlockCall}
 use Rattle.clif_ir.specs.Instruction.{operands, destinations}
 use Rattle.clif_ir.specs.Body.{Body, value_at, inst_at, block_at, resolved}
-use Rattle.clif_meaning.specs.Instruction.{Operation, Compute, Iconst, Iadd, Isub, Return, Edge, Argument, Known, CallResult, CallPayload}
+use Rattle.clif_meaning.specs.Instruction.{Operation, Compute, Iconst, Return, Edge, Argument, Known, CallResult, CallPayload}
 use Rattle.clif_meaning.specs.Instruction as operation
 use Rattle.clif_meaning.specs.FunctionView.{Placed, BlockView, FunctionView}
 
 -- The table of instructions: what each one does,
 abbrev pub operation_of : InstructionData → Operation
 operation_of (UnaryImm imm) = Compute (Iconst imm)
-operation_of (Binary binary.Iadd args) = Compute Iadd
-operation_of (Binary binary.Isub args) = Compute Isub
+operation_of (Unary opcode arg) = Compute (operation.Unary opcode)
+operation_of (Binary opcode args) = Compute (operation.Binary opcode)
 operation_of (Jump destination) = operation.Jump
 operation_of (Brif arg blocks) = operation.Brif
 operation_of (MultiAry args) = Return
@@ -47,6 +46,7 @@ first_type body (value ∷ values) = (value_at body value).ty
 -- The table of instructions: the type that each one is made at.
 abbrev pub controlling_of : Body → InstructionData → List ℕ → «Type»
 controlling_of body (UnaryImm imm) results = first_type body results
+controlling_of body (Unary opcode arg) results = first_type body results
 controlling_of body (Binary opcode args) results = first_type body results
 controlling_of body (Jump destination) results = type.Invalid
 controlling_of body (Brif arg blocks) results = (value_at body arg).ty

@@ -10,8 +10,8 @@ use Rattle.clif_types.specs.Signature.{SignatureShape}
 use Rattle.clif_ir.specs.Body.{value_at}
 use Rattle.clif_ir.specs.Instruction.{destinations, operands}
 use Rattle.clif_ir.specs.declared.block_call.BlockCall.{BlockCall}
-use Rattle.clif_ir.specs.declared.instructions.BinaryOpcode.{BinaryOpcode}
-use Rattle.clif_ir.specs.declared.instructions.BinaryOpcode.TheVariants as opcode
+use Rattle.clif_types.specs.declared.opcodes.BinaryOpcode.{BinaryOpcode}
+use Rattle.clif_types.specs.declared.opcodes.UnaryOpcode.{UnaryOpcode}
 use Rattle.clif_ir.specs.declared.instructions.InstructionData.{InstructionData}
 use Rattle.clif_ir.specs.declared.instructions.InstructionData.TheVariants as shape
 use Rattle.clif_meaning.specs.Acceptance.{allows, can_lead}
@@ -57,6 +57,7 @@ type-same calls b answers ready name = by (value_of b.func.now answers name) ref
 
 controlling-same : (first second : Name → «Type») → ((name : Name) → first name ≡ second name) → (p : Plan) → controlling_in first p ≡ controlling_in second p
 controlling-same first second same (plan.UnaryImm ty imm) = refl
+controlling-same first second same (plan.Unary opcode arg) = same arg
 controlling-same first second same (plan.Binary opcode []) = refl
 controlling-same first second same (plan.Binary opcode (x ∷ args)) = same x
 controlling-same first second same (plan.Jump destination) = refl
@@ -125,20 +126,21 @@ destinations-lead calls b answers ready p s ty planned = edges-lead calls b answ
 pub planned-constant : (b : FunctionBuilder) (answers : List Answer) (ty : «Type») (imm : ℤ) → IsPlanned b answers (plan.UnaryImm ty imm) (shape.UnaryImm imm) ty
 planned-constant b answers ty imm = record { operation = refl; controlling = refl; operands = refl; edges = tt }
 
+pub planned-unary : (b : FunctionBuilder) (answers : List Answer) (code : UnaryOpcode) (name : Name) (x : ℕ) → value_of b.func.now answers name ≡ Some x
+    → IsPlanned b answers (plan.Unary code name) (shape.Unary code x) (value_at b.func.now x).ty
+planned-unary b answers code name x found =
+    record { operation = refl; controlling = ap (type_in b.func.now) found; operands = ap (λ (o : Option ℕ). o ∷ []) found; edges = tt }
+
 pub planned-binary : (b : FunctionBuilder) (answers : List Answer) (code : BinaryOpcode) (args : List Name) (x y : ℕ) (ty : «Type»)
     → map (value_of b.func.now answers) args ≡ map Some (x ∷ y ∷ []) → ty ≡ (value_at b.func.now x).ty
     → IsPlanned b answers (plan.Binary code args) (shape.Binary code (x ∷ y ∷ [])) ty
 planned-binary b answers code args x y ty found typed = record {
-  operation = same code;
+  operation = refl;
   controlling = by args found ∙ sym typed;
   operands = found;
   edges = tt;
 }
   where
-    same : (c : BinaryOpcode) → operation_in (plan.Binary c args) ≡ operation_of (shape.Binary c (x ∷ y ∷ []))
-    same opcode.Iadd = refl
-    same opcode.Isub = refl
-
     by : (names : List Name) → map (value_of b.func.now answers) names ≡ map Some (x ∷ y ∷ [])
         → controlling_in (λ name. type_in b.func.now (value_of b.func.now answers name)) (plan.Binary code names) ≡ (value_at b.func.now x).ty
     by [] found = let no_way : ⊥ = cc in absurd no_way

@@ -3,7 +3,7 @@ use Rattle.std.specs.Prelude.{◌≡◌, ℕ, List, [], ◌∷◌, ◌++◌, map
 use Rattle.clif_ir.specs.Body.{Body}
 use Rattle.clif_meaning.specs.Event.{types_of}
 use Rattle.clif_meaning.specs.Name.{Name}
-use Rattle.clif_meaning.specs.Instruction.{Brif, Compute, Edge, Iadd, Iconst, Isub, Jump, Known, Operation, Return}
+use Rattle.clif_meaning.specs.Instruction.{Binary, Brif, Compute, Edge, Iconst, Jump, Known, Operation, Return, Unary}
 use Rattle.clif_meaning.specs.Request.{Request, CreateBlock, SwitchToBlock, SealBlock, SealAllBlocks, InsertBlockAfter, SetColdBlock, EnsureInsertedBlock, AppendBlockParams, AppendFunctionParams, DeclareVar, DefVar, UseVar, Build, Finalize, Script, AnsweredCall, script_of}
 use Rattle.clif_meaning.specs.Ledger.{Ledger, empty_ledger, ledger_after, ledger_with, or_invalid, type_of}
 use Rattle.clif_meaning.specs.Acceptance.{Verdict, Accepted, Misuse, Refused, jump, brif, return_, allows, verdict_from, verdict_on}
@@ -20,7 +20,6 @@ use Rattle.clif_calls.specs.declared.call.Call.TheVariants as call
 use Rattle.clif_calls.specs.Plan.{edges_in, operands_in, plan_of}
 use Rattle.clif_calls.specs.declared.plan.Plan.{Plan}
 use Rattle.clif_calls.specs.declared.plan.Plan.TheVariants as plan
-use Rattle.clif_ir.specs.declared.instructions.BinaryOpcode.TheVariants as opcode
 use Rattle.clif_script.specs.declared.script.ReplayError.{ReplayError}
 use Rattle.clif_script.specs.declared.script.ReplayError.TheVariants as replay
 use Rattle.clif_script.specs.Limits.{MeetsFullTable}
@@ -36,8 +35,8 @@ edge_of destination = record { target = name_of destination.block; arguments = m
 -- what an instruction of a plan does
 abbrev pub operation_in : Plan → Operation
 operation_in (plan.UnaryImm ty imm) = Compute (Iconst imm)
-operation_in (plan.Binary opcode.Iadd args) = Compute Iadd
-operation_in (plan.Binary opcode.Isub args) = Compute Isub
+operation_in (plan.Unary opcode arg) = Compute (Unary opcode)
+operation_in (plan.Binary opcode args) = Compute (Binary opcode)
 operation_in (plan.Jump destination) = Jump
 operation_in (plan.Brif condition block_then block_else) = Brif
 operation_in (plan.MultiAry args) = Return
@@ -50,6 +49,7 @@ first_type typed (name ∷ names) = typed name
 -- the type at which it is made: its own, or that of its first operand
 abbrev pub controlling_in : (named.Name → «Type») → Plan → «Type»
 controlling_in typed (plan.UnaryImm ty imm) = ty
+controlling_in typed (plan.Unary opcode arg) = typed arg
 controlling_in typed (plan.Binary opcode args) = first_type typed args
 controlling_in typed (plan.Jump destination) = Invalid
 controlling_in typed (plan.Brif condition block_then block_else) = typed condition

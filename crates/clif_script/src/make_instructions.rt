@@ -1,16 +1,10 @@
 //! The instructions of a script, each made on a builder by its plan, if its condition holds.
 ghost use Rattle.std.specs.Prelude.{◌≡◌, ◌<◌, ◌-◌, ◌^◌, ◌⊎◌, ◌↔◌, ◌++◌, ◌∷◌, [], List, length, slice_index, slice_index_or, EachIndex, All, OnOk, IfOk, Err, IsTrue, is_err};
-ghost use Rattle.clif_types.specs.Signature.{SignatureShape};
-ghost use Rattle.clif_ir.specs.Body.{inst_at, value_at};
+ghost use Rattle.clif_ir.specs.Body.{value_at};
 ghost use Rattle.clif_ir.specs.Instruction.{destinations, operands};
 ghost use Rattle.clif_meaning.specs.Acceptance.{can_operate};
-ghost use Rattle.clif_meaning.specs.Instruction.{Instruction};
-ghost use Rattle.clif_meaning.specs.Name as meaning;
-ghost use Rattle.clif_meaning.specs.Request.{AnsweredCall, Build};
-ghost use Rattle.cranelift_frontend.specs.Builder.{CanLead, HasCurrent, SameLoans};
-ghost use Rattle.cranelift_frontend.specs.Growth.{Grows};
-ghost use Rattle.cranelift_frontend.specs.Ledger.{HasShape};
-ghost use Rattle.cranelift_frontend.specs.StandsFor.{StandsFor};
+ghost use Rattle.cranelift_frontend.specs.Builder.{CanLead, HasCurrent};
+ghost use Rattle.cranelift_frontend.specs.Built.{Builds};
 ghost use Rattle.clif_script.specs.Makes.{Finds, IsPlanned, MakesPlan, ValuesExist, can_make, has_names};
 ghost use Rattle.clif_script.specs.Ready.{IsSound, AnswerExists};
 ghost use Rattle.clif_script.specs.Requests.{operation_in};
@@ -19,8 +13,8 @@ use crate::make::has_current;
 use crate::names::{edge_named, two_edges, two_values, value_named, values_named};
 use crate::script::{Answer, CallError};
 use clif_calls::Plan;
-use clif_ir::{BinaryOpcode, Function, InstructionData};
-use clif_types::{BuildError, Inst, Type, Value};
+use clif_ir::{Function, InstructionData};
+use clif_types::{BinaryOpcode, BuildError, Inst, Type, UnaryOpcode, Value};
 use cranelift_frontend::{FunctionBuilder, InstBuilderBase};
 
 // An instruction, before it is made: its shape and its controlling type.
@@ -53,13 +47,7 @@ fn append(
     requires current { HasCurrent builder.old }
     requires operands_exist { EachIndex (operands shape) (λ k. slice_index (operands shape) k < length builder.old.func.now.values) }
     requires edges { All (CanLead builder.old) (destinations shape) }
-    ensures loans { SameLoans builder.old builder.new }
-    ensures stands { (declared : SignatureShape) (calls : List AnsweredCall) (instruction : Instruction meaning.Name meaning.Name) → StandsFor declared calls builder.old → HasShape calls builder.old.func.now instruction shape ty → IfOk result (λ inst. StandsFor declared (calls ++ record { request = Build instruction; numbers = inst ∷ (inst_at builder.new.func.now inst).results } ∷ []) builder.new) }
-    ensures variables { builder.new.ctx.now.variables ≡ builder.old.ctx.now.variables }
-    ensures full { result ≡ Err BuildError.Full → (length builder.old.func.now.insts ≡ 2 ^ 32 - 1) ⊎ (length builder.old.func.now.values ≡ 2 ^ 32 - 1) }
-    ensures failed { (result ≡ Err BuildError.Failed) ↔ IsTrue builder.old.failed }
-    ensures fails { builder.new.failed ≡ is_err result }
-    ensures grows { OnOk result (Grows builder.old.func.now builder.new.func.now) }
+    ensures { Builds builder.old builder.new shape ty result }
 {
     builder.ins().build(shape, ty)
 }
@@ -90,7 +78,11 @@ fn can_operate(plan: &Plan<'_>, ty: Type) -> bool
 {
     match plan {
         Plan::UnaryImm { .. } => ty.is_int(),
-        Plan::Binary { .. } | Plan::Jump { .. } | Plan::Brif { .. } | Plan::MultiAry { .. } => true,
+        Plan::Unary { .. }
+        | Plan::Binary { .. }
+        | Plan::Jump { .. }
+        | Plan::Brif { .. }
+        | Plan::MultiAry { .. } => true,
     }
 }
 
@@ -109,6 +101,12 @@ fn shaped(
         Plan::UnaryImm { ty, imm } => {
             let shape = InstructionData::UnaryImm { imm: *imm };
             Ok(Planned { shape, ty: *ty })
+        }
+        Plan::Unary { opcode, arg } => {
+            let Some(x) = value_named(func, answers, *arg) else {
+                return Err(CallError::Misuse);
+            };
+            Ok(unary(func, *opcode, x))
         }
         Plan::Binary { opcode, args } => {
             let (x, y) = two_values(func, answers, args)?;
@@ -131,6 +129,17 @@ fn shaped(
             let args = values_named(func, answers, args)?;
             Ok(untyped(InstructionData::MultiAry { args }))
         }
+    }
+}
+
+// An instruction of one value, which is made at its type.
+fn unary(func: &Function, opcode: UnaryOpcode, x: Value) -> Planned
+    requires { x < length func.now.values }
+    ensures { result ≡ record { shape = InstructionData.Unary opcode x; ty = (value_at func.now x).ty } }
+{
+    Planned {
+        shape: InstructionData::Unary { opcode, arg: x },
+        ty: func.value_type(x),
     }
 }
 

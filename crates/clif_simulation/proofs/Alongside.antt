@@ -34,7 +34,7 @@ use Rattle.clif_simulation.proofs.Unbranched.{CarriesUnbranched, PlainlyEarlier}
 use Rattle.clif_simulation.proofs.Giving.{In, in_contained, name_keeps, value_keeps, same_or_other}
 use Rattle.clif_simulation.proofs.Agreement.{any_value, Agrees, GivesThere, given_agrees, UsesThere, used_agrees, AssignsThere, assigned_agrees}
 use Rattle.clif_simulation.proofs.Straight.{next_arm, straight, straight_end, straight_follows, visits_so_far, absent_name, absent_value, same_step}
-use Rattle.clif_simulation.proofs.Matching.{item_here, rest_behind, same_bits, IsPlain, outcome_plain}
+use Rattle.clif_simulation.proofs.Matching.{item_here, rest_behind, same_bits, IsPlain, outcome_plain, same_outcomes}
 use Rattle.clif_simulation.proofs.Listed.{all_at, place_within}
 use Rattle.clif_simulation.proofs.Ended.{with_ends_only, defined-end, is-end, denotes-end, name_stays, value_stays, visited_place}
 use Rattle.clif_simulation.proofs.Opened.{Opens, opened}
@@ -444,7 +444,7 @@ module _ (calls : List AnsweredCall) (f : Body) (ssa : SsaState) (consistent : I
     -- whatever it does, if the run goes on
     after_outcome : (k place : ℕ) (instruction : Instruction Name Name) (results : List Name) (rest : List Item) (p : ScriptState) (q : FunctionState)
         → drop k items ≡ Instruct place instruction results ∷ rest → Alongside k p q → (o : Outcome) → IsPlain o
-        → outcome_of world instruction.operation instruction.controlling (map p.names instruction.operands) p.memory ≡ o
+        → outcome_of world instruction.operation instruction.controlling (map left_run.name_type instruction.operands) (map p.names instruction.operands) p.memory ≡ o
         → (left : List Item) → (script.carry_out left_run p instruction.edges results rest o).control ≡ At left
         → Alongside (suc k) (script.carry_out left_run p instruction.edges results rest o)
         (function_machine_of.carry_out right_run q (answered_placed instruction results) (flat_map (carried calls) rest) o)
@@ -453,7 +453,7 @@ module _ (calls : List AnsweredCall) (f : Body) (ssa : SsaState) (consistent : I
         given_step k place instruction results rest p q here a bits memory
         (as_many world place instruction results
         (gives_results (script_of calls) entry k (Instruct place instruction results) (item_here items k (Instruct place instruction results) rest here))
-        (map p.names instruction.operands) p.memory memory bits is)
+        (map left_run.name_type instruction.operands) (map p.names instruction.operands) p.memory memory bits is)
     after_outcome k place instruction results rest p q here a (Goes edge given memory) plain is left on =
         absurd (no_edge_taken p ((all_at (PlainlyEarlier calls) items k (Instruct place instruction results) (carries.earlier entry) (item_here items k (Instruct place instruction results) rest here)).2)
         edge given memory left on)
@@ -472,10 +472,10 @@ module _ (calls : List AnsweredCall) (f : Body) (ssa : SsaState) (consistent : I
         let operands : map p.names instruction.operands ≡ map (value_bits right_run q) (map (answered calls) instruction.operands) =
         same_bits instruction.operands p.names (value_bits right_run q) (answered calls) (λ x there.
         given_bits k p q a x (Entry.named_before calls f ssa carries entry is_entry placed k (Instruct place instruction results) stands x (in_contained instruction.operands x there))) in
-        let outcome : Outcome = outcome_of world instruction.operation instruction.controlling (map p.names instruction.operands) p.memory in
-        let same : outcome_of world instruction.operation instruction.controlling (map (value_bits right_run q) (map (answered calls) instruction.operands)) q.memory
-        ≡ outcome_of world instruction.operation instruction.controlling (map p.names instruction.operands) p.memory =
-        ap₂ (λ (bits : List ℕ) (m : Memory). outcome_of world instruction.operation instruction.controlling bits m) (sym operands) (sym a.same_memory) in
+        let outcome : Outcome = outcome_of world instruction.operation instruction.controlling (map left_run.name_type instruction.operands) (map p.names instruction.operands) p.memory in
+        let same : outcome_of world instruction.operation instruction.controlling (map right_run.function.value_type (map (answered calls) instruction.operands)) (map (value_bits right_run q) (map (answered calls) instruction.operands)) q.memory
+        ≡ outcome_of world instruction.operation instruction.controlling (map left_run.name_type instruction.operands) (map p.names instruction.operands) p.memory =
+        same_outcomes world instruction.operation instruction.controlling _ _ _ _ _ _ operands a.same_memory in
         let function_here : q.control ≡ At (answered_placed instruction results ∷ flat_map (carried calls) rest) =
         a.function_at ∙ ap (λ (ahead : List Item). At (flat_map (carried calls) ahead)) here in
         let right_is : function_machine_of.function_step right_run q ≡ function_machine_of.carry_out right_run q (answered_placed instruction results) (flat_map (carried calls) rest) outcome =
@@ -483,7 +483,7 @@ module _ (calls : List AnsweredCall) (f : Body) (ssa : SsaState) (consistent : I
         ∙ ap (λ (o : Outcome). function_machine_of.carry_out right_run q (answered_placed instruction results) (flat_map (carried calls) rest) o) same in
         subst (λ (state : FunctionState). Alongside (suc k) (script.run_item left_run p (Instruct place instruction results) rest) state) (sym right_is)
         (after_outcome k place instruction results rest p q here a outcome
-        (outcome_plain world instruction.operation instruction.controlling (map p.names instruction.operands) p.memory) refl left on)
+        (outcome_plain world instruction.operation instruction.controlling (map left_run.name_type instruction.operands) (map p.names instruction.operands) p.memory) refl left on)
 
     -- One step of the script's machine that goes on is one of the function's, or none.
     abbrev pub Kept : ℕ → ScriptState → FunctionState → Type 0

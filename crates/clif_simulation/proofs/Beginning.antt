@@ -1,5 +1,5 @@
 -- A new function carries the empty list of calls; and the current block of a list is one for program and ledger.
-use Rattle.std.proofs.Common.{◌≡◌, List, [], ◌∷◌, ◌++◌, length, refl, sym, ◌∙◌, arith, Some, None, inl, Bool, true, false}
+use Rattle.std.proofs.Common.{◌≡◌, List, [], ◌∷◌, ◌++◌, length, refl, sym, ◌∙◌, ap, subst, arith, Some, None, inl, Bool, true, false}
 use Rattle.std.specs.Prelude.{ℕ, zero, suc, Option, fold, if◌then◌else◌, option_and_then, slice_get}
 use Rattle.clif_types.specs.declared.types.«Type».{«Type»}
 use Rattle.clif_types.specs.declared.extname.UserFuncName.{UserFuncName}
@@ -12,11 +12,12 @@ use Rattle.clif_ssa.proofs.StructuredLaws.{first_structured}
 use Rattle.clif_ssa.proofs.Writing.{first_described}
 use Rattle.clif_meaning.specs.Name.{Name, answer_of}
 use Rattle.clif_meaning.specs.Instruction.{Operation, Edge}
-use Rattle.clif_meaning.specs.Request.{Request, CreateBlock, SwitchToBlock, SealBlock, SealAllBlocks, InsertBlockAfter, SetColdBlock, EnsureInsertedBlock, AppendBlockParams, AppendFunctionParams, DeclareVar, DefVar, UseVar, Build, Finalize, Script, AnsweredCall, script_of}
-use Rattle.clif_meaning.specs.Ledger.{Answered, Ledger, type_of, value_answer_type, ledger_after, ledger_with, empty_ledger, with_layout, with_begun_at, with_begun, with_filled_at, with_terminator, with_predecessor, is_inserted, is_terminator}
-use Rattle.clif_meaning.specs.Program.{Program, Item, with_call, empty_program, with_item_at, with_inserted}
+use Rattle.clif_meaning.specs.Request.{Request, Script, AnsweredCall, script_of}
+use Rattle.clif_meaning.specs.Ledger.{Answered, Ledger, changed_by, type_of, value_answer_type, ledger_after, ledger_with, empty_ledger, with_layout, with_begun_at, with_begun, with_filled_at, with_terminator, with_predecessor, is_inserted, is_terminator}
+use Rattle.clif_meaning.specs.Program.{Program, Item, extended, first_block, with_call, empty_program, with_item_at, with_inserted}
 use Rattle.clif_simulation.specs.Tables.{program_so_far, IsProgramOf}
 use Rattle.clif_simulation.specs.Carries.{Carries}
+use Rattle.clif_simulation.proofs.Effects.{switch_of, ProgramEffect, program_effect, Leaves, Inserts, Takes, Switches, Assigns, Uses, Builds, LedgerEffect, ledger_effect, Keeps, Lays, Changes, Begins, Creates, Enters, Seals, Declares, Touches, Reads, Appends}
 use Rattle.clif_simulation.proofs.Values.{false_is}
 
 some_none : {X : Type 0} (x : X) → None ≡ Some x → ⊥
@@ -53,24 +54,60 @@ current-edges : (branch : Name) (ledger : Ledger) (edges : List (Edge Name Name)
 current-edges branch ledger [] = refl
 current-edges branch ledger (edge ∷ edges) = current-edges branch (with_predecessor branch ledger edge) edges
 
+-- the current block after one more call: the one that it switches to, or else the one before
+pub current_of_program : (program : Program) (request : Request) → (with_call program request).current ≡ first_block (switch_of request) program.current
+current_of_program program request = by (program_effect request)
+  where
+    of_program : (other : Program) → extended program request ≡ other → other.current ≡ program.current → switch_of request ≡ None
+        → (with_call program request).current ≡ first_block (switch_of request) program.current
+    of_program other is same stays =
+        ap (λ (p : Program). p.current) is ∙ same ∙ sym (ap (λ (o : Option Name). first_block o program.current) stays)
+
+    of_request : (other : Request) → request ≡ other → (with_call program other).current ≡ first_block (switch_of other) program.current
+        → (with_call program request).current ≡ first_block (switch_of request) program.current
+    of_request other is holds = subst (λ (r : Request). (with_call program r).current ≡ first_block (switch_of r) program.current) (sym is) holds
+
+    by : ProgramEffect request → (with_call program request).current ≡ first_block (switch_of request) program.current
+    by (Leaves stays is) = of_program _ (is program) refl stays
+    by (Inserts stays is) = of_program _ (is program) refl stays
+    by (Takes block types stays makes is) = of_program _ (is program) refl stays
+    by (Switches block is) = of_request _ is refl
+    by (Assigns variable value is) = of_request _ is (current-item program program.current _)
+    by (Uses variable is) = of_request _ is (current-item (with_inserted program) program.current _)
+    by (Builds instruction is) = of_request _ is (current-item (with_inserted program) program.current _)
+
+current_of_ledger : (ledger : Ledger) (request : Request) → (ledger_with ledger request).current ≡ first_block (switch_of request) ledger.current
+current_of_ledger ledger request = by (ledger_effect request)
+  where
+    of_ledger : (other : Ledger) → changed_by ledger request ≡ other → other.current ≡ ledger.current → switch_of request ≡ None
+        → (ledger_with ledger request).current ≡ first_block (switch_of request) ledger.current
+    of_ledger other is same stays =
+        ap (λ (l : Ledger). l.current) is ∙ same ∙ sym (ap (λ (o : Option Name). first_block o ledger.current) stays)
+
+    of_request : (other : Request) → request ≡ other → (ledger_with ledger other).current ≡ first_block (switch_of other) ledger.current
+        → (ledger_with ledger request).current ≡ first_block (switch_of request) ledger.current
+    of_request other is holds = subst (λ (r : Request). (ledger_with ledger r).current ≡ first_block (switch_of r) ledger.current) (sym is) holds
+
+    by : LedgerEffect request → (ledger_with ledger request).current ≡ first_block (switch_of request) ledger.current
+    by (Keeps stays is) = of_ledger _ (is ledger) refl stays
+    by (Lays layout stays is) = of_ledger _ (is ledger) refl stays
+    by (Changes block change keeps stays is) = of_ledger _ (is ledger) refl stays
+    by (Begins stays is) = of_ledger _ (is ledger) (current-begun ledger ledger.current) stays
+    by (Creates is) = of_request _ is refl
+    by (Enters block is) = of_request _ is refl
+    by (Seals is) = of_request _ is refl
+    by (Declares ty is) = of_request _ is refl
+    by (Touches variable value is) = of_request _ is refl
+    by (Reads variable is) = of_request _ is (current-begun ledger ledger.current)
+    by (Appends instruction is) =
+        of_request _ is
+        (current-edges (answer_of (length ledger.answers) 0) (with_terminator (with_begun ledger) instruction.operation) instruction.edges
+        ∙ current-terminator (with_begun ledger) instruction.operation ∙ current-begun ledger ledger.current)
+
 -- one more call leaves program and ledger with one current block
 current_next : (program : Program) (ledger : Ledger) (request : Request) → program.current ≡ ledger.current → (with_call program request).current ≡ (ledger_with ledger request).current
-current_next program ledger CreateBlock same = same
-current_next program ledger (SwitchToBlock block) same = refl
-current_next program ledger (SealBlock block) same = same
-current_next program ledger SealAllBlocks same = same
-current_next program ledger (InsertBlockAfter block after) same = same
-current_next program ledger (SetColdBlock block) same = same
-current_next program ledger EnsureInsertedBlock same = same ∙ sym (current-begun ledger ledger.current)
-current_next program ledger (AppendBlockParams block types) same = same
-current_next program ledger (AppendFunctionParams block types) same = same
-current_next program ledger (DeclareVar ty) same = same
-current_next program ledger (DefVar variable value) same = current-item program program.current _ ∙ same
-current_next program ledger (UseVar variable) same = current-item (with_inserted program) program.current _ ∙ same ∙ sym (current-begun ledger ledger.current)
-current_next program ledger (Build instruction) same =
-    current-item (with_inserted program) program.current _ ∙ same
-    ∙ sym (current-edges (answer_of (length ledger.answers) 0) (with_terminator (with_begun ledger) instruction.operation) instruction.edges ∙ current-terminator (with_begun ledger) instruction.operation ∙ current-begun ledger ledger.current)
-current_next program ledger Finalize same = same
+current_next program ledger request same =
+    current_of_program program request ∙ ap (first_block (switch_of request)) same ∙ sym (current_of_ledger ledger request)
 
 current_fold : (script : Script) (program : Program) (ledger : Ledger) → program.current ≡ ledger.current → (fold with_call program script).current ≡ (fold ledger_with ledger script).current
 current_fold [] program ledger same = same

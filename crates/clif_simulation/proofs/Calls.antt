@@ -133,7 +133,7 @@ module _ (calls : List AnsweredCall) (f : Body) (s : SsaState) (c : Carries call
       → Carries (with_answers CreateBlock numbers) (with_block f) t
   carries_created t numbers as_many records same leads =
       let call : AnsweredCall = the_call CreateBlock numbers in
-      let items = Requests.items_created calls call refl in
+      let items = Requests.items_left calls call (λ program. refl) in
       record {
         own = c.own;
         holds = holds_on calls call (kept calls call refl) c.own c.own f (with_block f) s t c.holds (λ i below. refl) (omega arith) (λ b out. out)
@@ -143,12 +143,12 @@ module _ (calls : List AnsweredCall) (f : Body) (s : SsaState) (c : Carries call
             (typed_on calls call f (with_block f) c.holds.values_typed (λ v ty typed. typed) (λ index ty is. absurd (none_new calls call one_answer_none index ty is))) blocks named items
             (declared_kept c.own f (with_block f) s t (insts_same f (with_block f) refl refl) leads c.holds.own_exist c.holds.declared)
             (leads_kept calls call c.own c.own s t (kept calls call refl) (λ b i h. h) leads c.holds.leads_own)
-            (entry_stays calls (calls ++ call ∷ []) f (with_block f) (Requests.entry_created calls call refl) refl (kept calls call refl) c.holds.entry)
+            (entry_stays calls (calls ++ call ∷ []) f (with_block f) (Requests.entry_left calls call (λ program. refl)) refl (kept calls call refl) c.holds.entry)
             (λ types are.
             same_structured types c.own (with_block f) s t [] records same leads (block_structured types c.own f s (c.holds.structured types (types_before calls call types are))));
         on_paths = λ spares.
             let p : SoundOnPaths calls c.own f s = c.on_paths
-            (spares_before calls call (λ e is. Requests.entry_created calls call refl ∙ is) (λ N. ([], items N ∙ sym (append-nil ((program_so_far calls).items N)))) spares) in
+            (spares_before calls call (λ e is. Requests.entry_left calls call (λ program. refl) ∙ is) (λ N. ([], items N ∙ sym (append-nil ((program_so_far calls).items N)))) spares) in
             record {
               tables = p.tables;
               program = created calls call refl p.tables p.tables (same_program p.tables) items p.program;
@@ -233,7 +233,7 @@ module _ (calls : List AnsweredCall) (f : Body) (s : SsaState) (c : Carries call
 
           stay : (N : Name) → ((program_so_far calls).items N ≡ []) ⊎ ((b : ℕ) × (block_name calls b ≡ Some N))
               → ((program_so_far (with_answers CreateBlock numbers)).items N ≡ []) ⊎ ((b : ℕ) × (block_name (with_answers CreateBlock numbers) b ≡ Some N))
-          stay N (inl none) = inl (Requests.items_created calls (the_call CreateBlock numbers) refl N ∙ none)
+          stay N (inl none) = inl (Requests.items_left calls (the_call CreateBlock numbers) (λ program. refl) N ∙ none)
           stay N (inr block) = inr (block.0, kept calls (the_call CreateBlock numbers) refl block.0 N block.1)
 
           still : (N : Name) → ((program_so_far calls).parameters N ≡ []) ⊎ ((b : ℕ) × (block_name calls b ≡ Some N))
@@ -325,7 +325,7 @@ module _ (calls : List AnsweredCall) (f : Body) (s : SsaState) (c : Carries call
   pub carries_declared : (ty : «Type») (numbers : List ℕ) → Carries (with_answers (DeclareVar ty) numbers) f s
   carries_declared ty numbers =
       let call : AnsweredCall = the_call (DeclareVar ty) numbers in
-      carries_kept call f s tt tt (Requests.items_declared calls call ty refl) (Requests.entry_declared calls call ty refl)
+      carries_kept call f s tt tt (Requests.items_left calls call (λ program. refl)) (Requests.entry_left calls call (λ program. refl))
       (one_variable_none (length (ledger_after (script_of calls)).variables))
       (insts_same f f refl refl) refl (λ b. refl) (λ types own h. h) still
 
@@ -337,7 +337,7 @@ module _ (calls : List AnsweredCall) (f : Body) (s : SsaState) (c : Carries call
       → Carries (with_answers (SealBlock block) numbers) g t
   carries_sealed g t block numbers consistent keeps structured constructs layout leads =
       let call : AnsweredCall = the_call (SealBlock block) numbers in
-      carries_kept call g t tt tt (Requests.items_sealed calls call block refl) (Requests.entry_sealed calls call block refl) (λ index. refl)
+      carries_kept call g t tt tt (Requests.items_left calls call (λ program. refl)) (Requests.entry_left calls call (λ program. refl)) (λ index. refl)
       (insts_kept f g consistent (goes_on-constructs f g constructs)) layout leads structured keeps
 
   -- IN THE CURRENT BLOCK, WHICH HAS NO TERMINATOR -----------------------------------------------------------------------

@@ -6,12 +6,13 @@ use Rattle.clif_types.specs.declared.types.«Type».{«Type»}
 use Rattle.clif_meaning.specs.Bits.{Bits}
 use Rattle.clif_meaning.specs.Memory.{Memory}
 use Rattle.clif_meaning.specs.Name.{Name, same_name, answer_of}
-use Rattle.clif_meaning.specs.Instruction.{Instruction, Operation, Compute, Jump, Brif, Return, Arithmetic, Iconst, Iadd, Isub}
-use Rattle.clif_meaning.specs.Request.{Request, CreateBlock, SwitchToBlock, SealBlock, SealAllBlocks, InsertBlockAfter, SetColdBlock, EnsureInsertedBlock, AppendBlockParams, AppendFunctionParams, DeclareVar, DefVar, UseVar, Build, Finalize, Script}
+use Rattle.clif_meaning.specs.Instruction.{Instruction, Operation, Compute, Jump, Brif, Return, Arithmetic, Iconst, Unary, Binary}
+use Rattle.clif_meaning.specs.Request.{Request, Script}
 use Rattle.clif_meaning.specs.Program.{Program, Item, Instruct, Use, Assign, result_types, result_names, answers_from, with_item_at, with_inserted, extended, with_call, empty_program, program_of}
 use Rattle.clif_meaning.specs.Ledger.{is_terminator}
 use Rattle.clif_meaning.specs.World.{World}
 use Rattle.clif_meaning.specs.Outcome.{Outcome, Gives, Goes, Returns, Traps, Calls, NoStep, computed, outcome_of_computed, outcome_of}
+use Rattle.clif_simulation.proofs.Effects.{ProgramEffect, program_effect, Leaves, Inserts, Takes, Switches, Assigns, Uses, Builds}
 
 -- an instruction gives the names of its results
 abbrev pub GivesResults : Item → Type 0
@@ -35,21 +36,21 @@ with_one program (Some current) item all one block = by (same_name block current
     by false = all block
 
 with_request : (program : Program) (request : Request) → AllGive program → AllGive (extended program request)
-with_request program CreateBlock all = all
-with_request program (SwitchToBlock block) all = all
-with_request program (SealBlock block) all = all
-with_request program SealAllBlocks all = all
-with_request program (InsertBlockAfter block after) all = all
-with_request program (SetColdBlock block) all = all
-with_request program EnsureInsertedBlock all = all
-with_request program (AppendBlockParams block types) all = all
-with_request program (AppendFunctionParams block types) all = all
-with_request program (DeclareVar ty) all = all
-with_request program (DefVar variable value) all = with_one program program.current (Assign variable value) all tt
-with_request program (UseVar variable) all = with_one (with_inserted program) program.current (Use variable (answer_of program.place 0)) all tt
-with_request program (Build instruction) all =
-    with_one (with_inserted program) program.current (Instruct program.place instruction (result_names program.place instruction)) all refl
-with_request program Finalize all = all
+with_request program request all = by (program_effect request)
+  where
+    by : ProgramEffect request → AllGive (extended program request)
+    by (Leaves stays is) = subst AllGive (sym (is program)) all
+    by (Inserts stays is) = subst AllGive (sym (is program)) all
+    by (Takes block types stays makes is) = subst AllGive (sym (is program)) all
+    by (Switches block is) = subst (λ (r : Request). AllGive (extended program r)) (sym is) all
+    by (Assigns variable value is) =
+        subst (λ (r : Request). AllGive (extended program r)) (sym is) (with_one program program.current (Assign variable value) all tt)
+    by (Uses variable is) =
+        subst (λ (r : Request). AllGive (extended program r)) (sym is)
+        (with_one (with_inserted program) program.current (Use variable (answer_of program.place 0)) all tt)
+    by (Builds instruction is) =
+        subst (λ (r : Request). AllGive (extended program r)) (sym is)
+        (with_one (with_inserted program) program.current (Instruct program.place instruction (result_names program.place instruction)) all refl)
 
 all_from : (program : Program) (script : Script) → AllGive program → AllGive (fold with_call program script)
 all_from program [] all = all
@@ -86,39 +87,38 @@ counted_arithmetic : (arithmetic : Arithmetic) (ty : «Type») (operands : List 
     → GivesCount 1 (outcome_of_computed (computed arithmetic ty operands) memory)
 counted_arithmetic (Iconst number) ty [] memory = refl
 counted_arithmetic (Iconst number) ty (x ∷ operands) memory = tt
-counted_arithmetic Iadd ty [] memory = tt
-counted_arithmetic Iadd ty (x ∷ []) memory = tt
-counted_arithmetic Iadd ty (x ∷ y ∷ []) memory = refl
-counted_arithmetic Iadd ty (x ∷ y ∷ z ∷ operands) memory = tt
-counted_arithmetic Isub ty [] memory = tt
-counted_arithmetic Isub ty (x ∷ []) memory = tt
-counted_arithmetic Isub ty (x ∷ y ∷ []) memory = refl
-counted_arithmetic Isub ty (x ∷ y ∷ z ∷ operands) memory = tt
+counted_arithmetic (Unary opcode) ty [] memory = tt
+counted_arithmetic (Unary opcode) ty (x ∷ []) memory = refl
+counted_arithmetic (Unary opcode) ty (x ∷ y ∷ operands) memory = tt
+counted_arithmetic (Binary opcode) ty [] memory = tt
+counted_arithmetic (Binary opcode) ty (x ∷ []) memory = tt
+counted_arithmetic (Binary opcode) ty (x ∷ y ∷ []) memory = refl
+counted_arithmetic (Binary opcode) ty (x ∷ y ∷ z ∷ operands) memory = tt
 
 one_type : (arithmetic : Arithmetic) (ty : «Type») → length (result_types (Compute arithmetic) ty) ≡ 1
 one_type (Iconst number) ty = refl
-one_type Iadd ty = refl
-one_type Isub ty = refl
+one_type (Unary opcode) ty = refl
+one_type (Binary opcode) ty = refl
 
-counted_outcome : (world : World) (operation : Operation) (ty : «Type») (operands : List Bits) (memory : Memory)
-    → GivesCount (length (result_types operation ty)) (outcome_of world operation ty operands memory)
-counted_outcome world (Compute arithmetic) ty operands memory =
+counted_outcome : (world : World) (operation : Operation) (ty : «Type») (types : List «Type») (operands : List Bits) (memory : Memory)
+    → GivesCount (length (result_types operation ty)) (outcome_of world operation ty types operands memory)
+counted_outcome world (Compute arithmetic) ty types operands memory =
     subst (λ (n : ℕ). GivesCount n (outcome_of_computed (computed arithmetic ty operands) memory)) (sym (one_type arithmetic ty))
     (counted_arithmetic arithmetic ty operands memory)
-counted_outcome world Jump ty [] memory = tt
-counted_outcome world Jump ty (x ∷ operands) memory = tt
-counted_outcome world Brif ty [] memory = tt
-counted_outcome world Brif ty (x ∷ []) memory = tt
-counted_outcome world Brif ty (x ∷ y ∷ operands) memory = tt
-counted_outcome world Return ty operands memory = tt
+counted_outcome world Jump ty types [] memory = tt
+counted_outcome world Jump ty types (x ∷ operands) memory = tt
+counted_outcome world Brif ty types [] memory = tt
+counted_outcome world Brif ty types (x ∷ []) memory = tt
+counted_outcome world Brif ty types (x ∷ y ∷ operands) memory = tt
+counted_outcome world Return ty types operands memory = tt
 
 -- an instruction that gives bits gives one for each name
 pub as_many : (world : World) (place : ℕ) (instruction : Instruction Name Name) (results : List Name) → results ≡ result_names place instruction
-    → (operands : List Bits) (memory after : Memory) (bits : List Bits)
-    → outcome_of world instruction.operation instruction.controlling operands memory ≡ Gives bits after → length bits ≡ length results
-as_many world place instruction results named operands memory after bits is =
+    → (types : List «Type») (operands : List Bits) (memory after : Memory) (bits : List Bits)
+    → outcome_of world instruction.operation instruction.controlling types operands memory ≡ Gives bits after → length bits ≡ length results
+as_many world place instruction results named types operands memory after bits is =
     subst (λ (o : Outcome). GivesCount (length (result_types instruction.operation instruction.controlling)) o) is
-    (counted_outcome world instruction.operation instruction.controlling operands memory)
+    (counted_outcome world instruction.operation instruction.controlling types operands memory)
     ∙ sym (as_many_names place 1 (result_types instruction.operation instruction.controlling)) ∙ ap length (sym named)
 
 -- an instruction that ends its block gives nothing
@@ -126,7 +126,9 @@ pub terminator_gives_none : (place : ℕ) (instruction : Instruction Name Name) 
 terminator_gives_none place instruction ends = ap (answers_from place 1) (none instruction.operation ends)
   where
     none : (operation : Operation) → IsTrue (is_terminator operation) → result_types operation instruction.controlling ≡ []
-    none (Compute arithmetic) ends = cc
+    none (Compute (Iconst number)) ends = cc
+    none (Compute (Unary opcode)) ends = cc
+    none (Compute (Binary opcode)) ends = cc
     none Jump ends = refl
     none Brif ends = refl
     none Return ends = refl

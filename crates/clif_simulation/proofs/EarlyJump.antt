@@ -191,7 +191,7 @@ premises = record {
     items = each_items
         (AllByRecursion (IsItemTypedSoFar (may_grow early_jump_calls) (ledger_after (script_of early_jump_calls)) (program_so_far early_jump_calls)
         (types_of sample_signature.returns))) tt
-        ((record { made_at = refl; operands = refl; edges = tt }, (λ settled. cc, tt)), tt);
+        ((record { made_at = refl; operands = tt; edges = tt }, (λ settled. cc, tt)), tt);
     entry = refl;
   };
   given_before = record {

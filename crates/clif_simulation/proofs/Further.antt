@@ -104,17 +104,17 @@ module _ (calls : List AnsweredCall) (f : Body) (s : SsaState) (c : Carries call
       → OnlyConstructs f g → g.layout ≡ f.layout → SamePredecessors s t
       → Carries (calls ++ the_call SealAllBlocks ∷ []) g t
   carries_sealed_all g t consistent keeps structured constructs layout leads =
-      carries_kept calls f s c (the_call SealAllBlocks) g t tt tt (Requests.items_sealed_all calls (the_call SealAllBlocks) refl)
-      (Requests.entry_sealed_all calls (the_call SealAllBlocks) refl) (λ index. refl)
+      carries_kept calls f s c (the_call SealAllBlocks) g t tt tt (Requests.items_left calls (the_call SealAllBlocks) (λ program. refl))
+      (Requests.entry_left calls (the_call SealAllBlocks) (λ program. refl)) (λ index. refl)
       (insts_kept f g consistent (goes_on-constructs f g constructs)) layout leads structured keeps
 
   -- a block comes behind another one
   pub carries_after : (block after : Name) (b a : ℕ) → Carries (calls ++ the_call (InsertBlockAfter block after) ∷ []) (with_layout_after f b a) s
   carries_after block after b a =
       let call : AnsweredCall = the_call (InsertBlockAfter block after) in
-      carries_on calls f s c call (with_layout_after f b a) s tt tt (Requests.items_after calls call block after refl)
-      (λ e is. Requests.entry_after calls call block after refl ∙ is)
-      (Requests.entry_stays calls (calls ++ call ∷ []) f (with_layout_after f b a) (Requests.entry_after calls call block after refl) (first_stays b a f.layout)
+      carries_on calls f s c call (with_layout_after f b a) s tt tt (Requests.items_left calls call (λ program. refl))
+      (λ e is. Requests.entry_left calls call (λ program. refl) ∙ is)
+      (Requests.entry_stays calls (calls ++ call ∷ []) f (with_layout_after f b a) (Requests.entry_left calls call (λ program. refl)) (first_stays b a f.layout)
       (name_stays calls call tt) c.holds.entry)
       (λ index. refl) (insts_same f (with_layout_after f b a) refl refl) (λ x out. out_before b a x f.layout out) (λ x. refl)
       (relaid_structured f f.blocks (put_behind b a f.layout) s (λ x. refl) (λ x. refl) (first_stays b a f.layout))
@@ -125,7 +125,7 @@ module _ (calls : List AnsweredCall) (f : Body) (s : SsaState) (c : Carries call
   carries_cold block b =
       let call : AnsweredCall = the_call (SetColdBlock block) in
       let nodes : List BlockNode = (with_cold f b).blocks in
-      carries_kept calls f s c call (with_cold f b) s tt tt (Requests.items_cold calls call block refl) (Requests.entry_cold calls call block refl) (λ index. refl)
+      carries_kept calls f s c call (with_cold f b) s tt tt (Requests.items_left calls call (λ program. refl)) (Requests.entry_left calls call (λ program. refl)) (λ index. refl)
       (insts_same f (with_cold f b) refl refl) refl (λ x. refl)
       (relaid_structured f nodes f.layout s (cold_params f.blocks b) (cold_insts f.blocks b) refl)
       (relaid_keeps f nodes f.layout s (cold_params f.blocks b) (cold_insts f.blocks b) refl)

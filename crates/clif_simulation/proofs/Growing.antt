@@ -10,9 +10,8 @@ use Rattle.clif_ir.specs.declared.block_call.BlockCall.{BlockCall}
 use Rattle.clif_ir.specs.declared.function.InstNode.{InstNode}
 use Rattle.clif_ir.specs.declared.function.ValueNode.{ValueNode}
 use Rattle.clif_ir.specs.declared.inst_list.BlockEnd.{BlockEnd}
-use Rattle.clif_ir.specs.declared.instructions.BinaryOpcode.TheVariants.{Iadd, Isub}
 use Rattle.clif_ir.specs.declared.instructions.InstructionData.{InstructionData}
-use Rattle.clif_ir.specs.declared.instructions.InstructionData.TheVariants.{UnaryImm, Binary, Jump, Brif, MultiAry}
+use Rattle.clif_ir.specs.declared.instructions.InstructionData.TheVariants.{UnaryImm, Unary, Binary, Jump, Brif, MultiAry}
 use Rattle.clif_ir.specs.Edges.{with_argument_to}
 use Rattle.clif_ir.specs.Instruction.{operands, destinations, with_argument}
 use Rattle.clif_ir.specs.Reading.{targets}
@@ -115,6 +114,7 @@ targets_appended b v (edge ∷ edges) = ap₂ (λ (t : ℕ) (ts : List ℕ). t �
 
 targets_with : (b v : ℕ) (shape : InstructionData) → targets (destinations (with_argument b v shape)) ≡ targets (destinations shape)
 targets_with b v (UnaryImm imm) = refl
+targets_with b v (Unary opcode arg) = refl
 targets_with b v (Binary opcode args) = refl
 targets_with b v (Jump destination) = targets_appended b v (destination ∷ [])
 targets_with b v (Brif arg blocks) = targets_appended b v blocks
@@ -122,14 +122,15 @@ targets_with b v (MultiAry args) = refl
 
 operation_with : (b v : ℕ) (shape : InstructionData) → operation_of (with_argument b v shape) ≡ operation_of shape
 operation_with b v (UnaryImm imm) = refl
-operation_with b v (Binary Iadd args) = refl
-operation_with b v (Binary Isub args) = refl
+operation_with b v (Unary opcode arg) = refl
+operation_with b v (Binary opcode args) = refl
 operation_with b v (Jump destination) = refl
 operation_with b v (Brif arg blocks) = refl
 operation_with b v (MultiAry args) = refl
 
 operands_with : (b v : ℕ) (shape : InstructionData) → operands (with_argument b v shape) ≡ operands shape
 operands_with b v (UnaryImm imm) = refl
+operands_with b v (Unary opcode arg) = refl
 operands_with b v (Binary opcode args) = refl
 operands_with b v (Jump destination) = refl
 operands_with b v (Brif arg blocks) = refl
@@ -137,6 +138,7 @@ operands_with b v (MultiAry args) = refl
 
 controlling_with : (g : Body) (b v : ℕ) (shape : InstructionData) (values : List ℕ) → controlling_of g (with_argument b v shape) values ≡ controlling_of g shape values
 controlling_with g b v (UnaryImm imm) values = refl
+controlling_with g b v (Unary opcode arg) values = refl
 controlling_with g b v (Binary opcode args) values = refl
 controlling_with g b v (Jump destination) values = refl
 controlling_with g b v (Brif arg blocks) values = refl
@@ -186,6 +188,7 @@ controlling_kept : (f g : Body) → GoesOn f g → (shape : InstructionData) (va
     → ((k : ℕ) → k < length (operands shape) → slice_index (operands shape) k < length f.values)
     → controlling_of g shape values ≡ controlling_of f shape values
 controlling_kept f g on (UnaryImm imm) values exist operands_exist = first_kept f g on values exist
+controlling_kept f g on (Unary opcode arg) values exist operands_exist = first_kept f g on values exist
 controlling_kept f g on (Binary opcode args) values exist operands_exist = first_kept f g on values exist
 controlling_kept f g on (Jump destination) values exist operands_exist = refl
 controlling_kept f g on (Brif arg blocks) values exist operands_exist = on.types arg (operands_exist 0 (omega arith))

@@ -250,7 +250,7 @@ nothing_of of none all p x there =
 pub premises : PremisesSoFar (may_grow answered_calls) answered_calls first_signature
 premises = record {
   well_typed = typed_so_far (may_grow answered_calls) (ledger_after (script_of answered_calls)) (program_so_far answered_calls) first_signature
-      (record { items = each_item _ (tt, (record { made_at = refl; operands = refl; edges = tt }, tt)); entry = refl });
+      (record { items = each_item _ (tt, (record { made_at = refl; operands = tt; edges = tt }, tt)); entry = refl });
   given_before = record {
     named = λ q x there. absurd (nothing_of item_names refl (refl, (refl, tt)) q x there);
     passed = λ q x there. absurd (nothing_of item_passes refl (refl, (refl, tt)) q x there);

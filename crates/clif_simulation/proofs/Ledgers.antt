@@ -6,12 +6,13 @@ use Rattle.std.specs.List.{list_any}
 use Rattle.clif_types.specs.declared.types.«Type».{«Type»}
 use Rattle.clif_meaning.specs.Name.{Name, answer_of, same_name}
 use Rattle.clif_meaning.specs.Instruction.{Operation, Edge, Instruction}
-use Rattle.clif_meaning.specs.Request.{Request, CreateBlock, SwitchToBlock, SealBlock, SealAllBlocks, InsertBlockAfter, SetColdBlock, EnsureInsertedBlock, AppendBlockParams, AppendFunctionParams, DeclareVar, DefVar, UseVar, Build, Finalize, AnsweredCall, script_of}
-use Rattle.clif_meaning.specs.Ledger.{BlockState, Ledger, VariableState, ledger_after, ledger_with, with_state, with_layout, with_begun_at, with_begun, with_filled_at, with_terminator, with_predecessor, touched_at, new_variable, is_inserted, is_filled, is_terminator, state_has, variable_type, sealed, with_parameter_types}
+use Rattle.clif_meaning.specs.Request.{Request, Build, AnsweredCall, script_of}
+use Rattle.clif_meaning.specs.Ledger.{BlockState, Ledger, VariableState, changed_by, ledger_after, ledger_with, with_state, with_layout, with_begun_at, with_begun, with_filled_at, with_terminator, with_predecessor, touched_at, new_variable, is_inserted, is_filled, is_terminator, state_has, variable_type, sealed, with_parameter_types}
 use Rattle.clif_simulation.specs.Carries.{AreTypes}
 use Rattle.clif_simulation.specs.Carries as carries
 use Rattle.clif_ssa.specs.Structured.{VariableTypes}
 use Rattle.clif_simulation.proofs.Beginning.{current-begun, one_current}
+use Rattle.clif_simulation.proofs.Effects.{KeepsFilled, LedgerEffect, ledger_effect, Keeps, Lays, Changes, Begins, Creates, Enters, Seals, Declares, Touches, Reads, Appends}
 use Rattle.clif_simulation.proofs.NameLists.{same_name-equal, names-with_begun_at}
 use Rattle.clif_simulation.proofs.Numbers.{ledger_longer}
 use Rattle.clif_simulation.proofs.Values.{false_is}
@@ -25,11 +26,6 @@ is_filled_in states name = state_has (λ (state : BlockState). state.is_filled) 
 abbrev first_or : Name → Bool → BlockState → List BlockState → Bool
 first_or name test first rest =
     state_has (λ (state : BlockState). state.is_filled) (if test then Some first else find (λ (state : BlockState). same_name state.block name) rest)
-
--- a change of states that keeps names and filled blocks
-record KeepsFilled (change : BlockState → BlockState) : Type 0 where
-  pub name : (state : BlockState) → (change state).block ≡ state.block
-  pub filled : (state : BlockState) → IsTrue state.is_filled → IsTrue (change state).is_filled
 
 filled_changed : (change : BlockState → BlockState) → KeepsFilled change → (states : List BlockState) (name : Name)
     → IsTrue (is_filled_in states name) → IsTrue (is_filled_in (map change states) name)
@@ -124,22 +120,29 @@ module _ (name : Name) where
       by false rest is = rest is
 
   filled_with : (ledger : Ledger) (request : Request) → IsTrue (is_filled ledger name) → IsTrue (is_filled (ledger_with ledger request) name)
-  filled_with ledger CreateBlock filled = filled_longer ledger.blocks _ name filled
-  filled_with ledger (SwitchToBlock block) filled = filled
-  filled_with ledger (SealBlock block) filled = filled-with_state ledger block (λ state. record state { is_sealed = true }) (record { name = λ state. refl; filled = λ state is. is }) filled
-  filled_with ledger SealAllBlocks filled = filled_sealed ledger.blocks filled
-  filled_with ledger (InsertBlockAfter block after) filled = filled
-  filled_with ledger (SetColdBlock block) filled = filled
-  filled_with ledger EnsureInsertedBlock filled = filled-with_begun_at ledger ledger.current filled
-  filled_with ledger (AppendBlockParams block types) filled = filled-with_state ledger block (with_parameter_types types) (record { name = λ state. refl; filled = λ state is. is }) filled
-  filled_with ledger (AppendFunctionParams block types) filled = filled-with_state ledger block (with_parameter_types types) (record { name = λ state. refl; filled = λ state is. is }) filled
-  filled_with ledger (DeclareVar ty) filled = filled
-  filled_with ledger (DefVar variable value) filled = filled
-  filled_with ledger (UseVar variable) filled = filled-with_begun_at ledger ledger.current filled
-  filled_with ledger (Build instruction) filled =
-      filled-with_edges (answer_of (length ledger.answers) 0) (with_terminator (with_begun ledger) instruction.operation) instruction.edges
-      (filled-with_terminator (with_begun ledger) instruction.operation (filled-with_begun_at ledger ledger.current filled))
-  filled_with ledger Finalize filled = filled
+  filled_with ledger request filled = by (ledger_effect request)
+    where
+      of_ledger : (other : Ledger) → changed_by ledger request ≡ other → IsTrue (is_filled other name) → IsTrue (is_filled (ledger_with ledger request) name)
+      of_ledger other is holds = subst (λ (l : Ledger). IsTrue (is_filled l name)) (sym is) holds
+
+      of_request : (other : Request) → request ≡ other → IsTrue (is_filled (ledger_with ledger other) name) → IsTrue (is_filled (ledger_with ledger request) name)
+      of_request other is holds = subst (λ (r : Request). IsTrue (is_filled (ledger_with ledger r) name)) (sym is) holds
+
+      by : LedgerEffect request → IsTrue (is_filled (ledger_with ledger request) name)
+      by (Keeps stays is) = of_ledger _ (is ledger) filled
+      by (Lays layout stays is) = of_ledger _ (is ledger) filled
+      by (Changes block change keeps stays is) = of_ledger _ (is ledger) (filled-with_state ledger block change keeps filled)
+      by (Begins stays is) = of_ledger _ (is ledger) (filled-with_begun_at ledger ledger.current filled)
+      by (Creates is) = of_request _ is (filled_longer ledger.blocks _ name filled)
+      by (Enters block is) = of_request _ is filled
+      by (Seals is) = of_request _ is (filled_sealed ledger.blocks filled)
+      by (Declares ty is) = of_request _ is filled
+      by (Touches variable value is) = of_request _ is filled
+      by (Reads variable is) = of_request _ is (filled-with_begun_at ledger ledger.current filled)
+      by (Appends instruction is) =
+          of_request _ is
+          (filled-with_edges (answer_of (length ledger.answers) 0) (with_terminator (with_begun ledger) instruction.operation) instruction.edges
+          (filled-with_terminator (with_begun ledger) instruction.operation (filled-with_begun_at ledger ledger.current filled)))
 
 -- a block that has its terminator has it after one more call
 pub filled_stays : (calls : List AnsweredCall) (call : AnsweredCall) (name : Name) → IsTrue (is_filled (ledger_after (script_of calls)) name)
@@ -236,25 +239,34 @@ variables-edges branch ledger [] = refl
 variables-edges branch ledger (edge ∷ edges) = variables-edges branch (with_predecessor branch ledger edge) edges
 
 type_with : (ledger : Ledger) (request : Request) (x : ℕ) (ty : «Type») → variable_type ledger x ≡ Some ty → variable_type (ledger_with ledger request) x ≡ Some ty
-type_with ledger CreateBlock x ty is = is
-type_with ledger (SwitchToBlock block) x ty is = is
-type_with ledger (SealBlock block) x ty is = is
-type_with ledger SealAllBlocks x ty is = is
-type_with ledger (InsertBlockAfter block after) x ty is = is
-type_with ledger (SetColdBlock block) x ty is = is
-type_with ledger EnsureInsertedBlock x ty is = ap (λ (states : List VariableState). type_in states x) (variables-begun ledger ledger.current) ∙ is
-type_with ledger (AppendBlockParams block types) x ty is = is
-type_with ledger (AppendFunctionParams block types) x ty is = is
-type_with ledger (DeclareVar declared) x ty is = type_longer ledger.variables (new_variable declared ∷ []) x ty is
-type_with ledger (DefVar variable value) x ty is = type_touched ledger.variables variable x ∙ is
-type_with ledger (UseVar variable) x ty is =
-    type_touched (with_begun ledger).variables variable x ∙ ap (λ (states : List VariableState). type_in states x) (variables-begun ledger ledger.current) ∙ is
-type_with ledger (Build instruction) x ty is =
-    ap (λ (states : List VariableState). type_in states x)
-    (variables-edges (answer_of (length ledger.answers) 0) (with_terminator (with_begun ledger) instruction.operation) instruction.edges
-    ∙ variables-terminator (with_begun ledger) instruction.operation ∙ variables-begun ledger ledger.current)
-    ∙ is
-type_with ledger Finalize x ty is = is
+type_with ledger request x ty typed = by (ledger_effect request)
+  where
+    of_ledger : (other : Ledger) → changed_by ledger request ≡ other → variable_type other x ≡ Some ty → variable_type (ledger_with ledger request) x ≡ Some ty
+    of_ledger other is holds = ap (λ (l : Ledger). variable_type l x) is ∙ holds
+
+    of_request : (other : Request) → request ≡ other → variable_type (ledger_with ledger other) x ≡ Some ty → variable_type (ledger_with ledger request) x ≡ Some ty
+    of_request other is holds = ap (λ (r : Request). variable_type (ledger_with ledger r) x) is ∙ holds
+
+    begun : variable_type (with_begun ledger) x ≡ Some ty
+    begun = ap (λ (states : List VariableState). type_in states x) (variables-begun ledger ledger.current) ∙ typed
+
+    by : LedgerEffect request → variable_type (ledger_with ledger request) x ≡ Some ty
+    by (Keeps stays is) = of_ledger _ (is ledger) typed
+    by (Lays layout stays is) = of_ledger _ (is ledger) typed
+    by (Changes block change keeps stays is) = of_ledger _ (is ledger) typed
+    by (Begins stays is) = of_ledger _ (is ledger) begun
+    by (Creates is) = of_request _ is typed
+    by (Enters block is) = of_request _ is typed
+    by (Seals is) = of_request _ is typed
+    by (Declares declared is) = of_request _ is (type_longer ledger.variables (new_variable declared ∷ []) x ty typed)
+    by (Touches variable value is) = of_request _ is (type_touched ledger.variables variable x ∙ typed)
+    by (Reads variable is) = of_request _ is (type_touched (with_begun ledger).variables variable x ∙ begun)
+    by (Appends instruction is) =
+        of_request _ is
+        (ap (λ (states : List VariableState). type_in states x)
+        (variables-edges (answer_of (length ledger.answers) 0) (with_terminator (with_begun ledger) instruction.operation) instruction.edges
+        ∙ variables-terminator (with_begun ledger) instruction.operation)
+        ∙ begun)
 
 -- types that agree with what the longer list declares agree with what the shorter one does
 pub types_before : (calls : List AnsweredCall) (call : AnsweredCall) (types : VariableTypes) → AreTypes (calls ++ call ∷ []) types → AreTypes calls types

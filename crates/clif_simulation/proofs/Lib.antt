@@ -12,6 +12,7 @@ pub mod TwoParts
 pub mod InLists
 pub mod GivenNames
 mod Straight
+mod Effects
 pub mod Listed
 mod Entry
 mod ItemsAt

@@ -2,52 +2,36 @@
 use Rattle.std.proofs.Common.{◌≡◌, ℕ, zero, suc, ◌<◌, List, [], ◌∷◌, ◌++◌, length, map, slice_get, Option, Some, None, Contains, ◌⊎◌, inl, inr, refl, ◌∙◌, ap, subst, arith}
 use Rattle.std.specs.List.{AllByRecursion}
 use Rattle.clif_meaning.specs.Name.{Name}
-use Rattle.clif_meaning.specs.Request.{Request, CreateBlock, SwitchToBlock, SealBlock, SealAllBlocks, InsertBlockAfter, SetColdBlock, EnsureInsertedBlock, AppendBlockParams, AppendFunctionParams, DeclareVar, DefVar, UseVar, Build, Finalize, AnsweredCall}
+use Rattle.clif_meaning.specs.Request.{Request, AnsweredCall}
 use Rattle.clif_meaning.specs.Program.{Program, Item, with_item_at, with_inserted, extended}
 use Rattle.clif_meaning.specs.Path.{Place, IsPath}
 use Rattle.clif_meaning.specs.WellPlaced.{item_gives, program_flow, program_code, IsGivenAlong, given_on_entry}
 use Rattle.clif_simulation.specs.Tables.{program_so_far}
+pub use Rattle.clif_simulation.proofs.Effects.{MakesNoParameter}
+use Rattle.clif_simulation.proofs.Effects.{ProgramEffect, program_effect, Leaves, Inserts, Takes, Switches, Assigns, Uses, Builds}
 use Rattle.clif_simulation.proofs.Numbers.{program_longer}
 use Rattle.clif_meaning.proofs.StraightLine.{nothing_contained}
 
 -- Parameters of the caller's -------------------------------------------------------------------------------------
-
--- the call makes no parameter of the caller's
-abbrev pub MakesNoParameter : Request → Type 0
-MakesNoParameter CreateBlock = Unit {0}
-MakesNoParameter (SwitchToBlock block) = Unit {0}
-MakesNoParameter (SealBlock block) = Unit {0}
-MakesNoParameter SealAllBlocks = Unit {0}
-MakesNoParameter (InsertBlockAfter block after) = Unit {0}
-MakesNoParameter (SetColdBlock block) = Unit {0}
-MakesNoParameter EnsureInsertedBlock = Unit {0}
-MakesNoParameter (AppendBlockParams block types) = ⊥
-MakesNoParameter (AppendFunctionParams block types) = ⊥
-MakesNoParameter (DeclareVar ty) = Unit {0}
-MakesNoParameter (DefVar variable value) = Unit {0}
-MakesNoParameter (UseVar variable) = Unit {0}
-MakesNoParameter (Build instruction) = Unit {0}
-MakesNoParameter Finalize = Unit {0}
 
 item_leaves : (program : Program) (current : Option Name) (item : Item) → (with_item_at program current item).parameters ≡ program.parameters
 item_leaves program None item = refl
 item_leaves program (Some block) item = refl
 
 call_leaves : (program : Program) (request : Request) → MakesNoParameter request → (extended program request).parameters ≡ program.parameters
-call_leaves program CreateBlock none = refl
-call_leaves program (SwitchToBlock block) none = refl
-call_leaves program (SealBlock block) none = refl
-call_leaves program SealAllBlocks none = refl
-call_leaves program (InsertBlockAfter block after) none = refl
-call_leaves program (SetColdBlock block) none = refl
-call_leaves program EnsureInsertedBlock none = refl
-call_leaves program (AppendBlockParams block types) none = absurd none
-call_leaves program (AppendFunctionParams block types) none = absurd none
-call_leaves program (DeclareVar ty) none = refl
-call_leaves program (DefVar variable value) none = item_leaves program program.current _
-call_leaves program (UseVar variable) none = item_leaves (with_inserted program) program.current _
-call_leaves program (Build instruction) none = item_leaves (with_inserted program) program.current _
-call_leaves program Finalize none = refl
+call_leaves program request none = by (program_effect request)
+  where
+    of_request : (other : Request) → request ≡ other → (extended program other).parameters ≡ program.parameters → (extended program request).parameters ≡ program.parameters
+    of_request other is same = ap (λ (r : Request). (extended program r).parameters) is ∙ same
+
+    by : ProgramEffect request → (extended program request).parameters ≡ program.parameters
+    by (Leaves stays is) = ap (λ (p : Program). p.parameters) (is program)
+    by (Inserts stays is) = ap (λ (p : Program). p.parameters) (is program)
+    by (Takes block types stays makes is) = absurd (makes none)
+    by (Switches block is) = of_request _ is refl
+    by (Assigns variable value is) = of_request _ is (item_leaves program program.current _)
+    by (Uses variable is) = of_request _ is (item_leaves (with_inserted program) program.current _)
+    by (Builds instruction is) = of_request _ is (item_leaves (with_inserted program) program.current _)
 
 -- such a call leaves each block's
 pub parameters_stay : (calls : List AnsweredCall) (call : AnsweredCall) → MakesNoParameter call.request → (block : Name)

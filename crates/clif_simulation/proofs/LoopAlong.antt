@@ -123,14 +123,14 @@ well_placed = record {
 pub well_typed : WellTyped (ledger_after (script_of loop_calls)) (program_so_far loop_calls) both_arms_signature
 well_typed = record {
   items = each_items_of_row (AllByRecursion (IsItemWellTyped (ledger_after (script_of loop_calls)) (program_so_far loop_calls) (types_of both_arms_signature.returns))) tt
-      (record { made_at = refl; operands = refl; edges = tt }, (refl, (record { made_at = refl; operands = refl; edges = (refl, tt) }, tt)))
-      (tt, (record { made_at = refl; operands = refl; edges = (refl, (refl, tt)) }, tt)) (
+      (record { made_at = refl; operands = tt; edges = tt }, (refl, (record { made_at = refl; operands = tt; edges = (refl, tt) }, tt)))
+      (tt, (record { made_at = refl; operands = (refl, tt); edges = (refl, (refl, tt)) }, tt)) (
         tt,
         (
-          record { made_at = refl; operands = refl; edges = tt },
+          record { made_at = refl; operands = tt; edges = tt },
           (
-            record { made_at = refl; operands = refl; edges = tt },
-            (refl, (record { made_at = refl; operands = refl; edges = (refl, (refl, tt)) }, tt)),
+            record { made_at = refl; operands = (refl, (refl, tt)); edges = tt },
+            (refl, (record { made_at = refl; operands = (refl, tt); edges = (refl, (refl, tt)) }, tt)),
           ),
         ),
       )

@@ -359,8 +359,8 @@ premises : PremisesSoFar (may_grow passing_loop_calls) passing_loop_calls sample
 premises = record {
   well_typed = typed_so_far (may_grow passing_loop_calls) (ledger_after (script_of passing_loop_calls)) (program_so_far passing_loop_calls) sample_signature (record {
     items = each_items (AllByRecursion (IsItemWellTyped (ledger_after (script_of passing_loop_calls)) (program_so_far passing_loop_calls) (types_of sample_signature.returns))) tt
-        (record { made_at = refl; operands = refl; edges = (refl, tt) }, tt)
-        (tt, (record { made_at = refl; operands = refl; edges = (refl, tt) }, tt));
+        (record { made_at = refl; operands = tt; edges = (refl, tt) }, tt)
+        (tt, (record { made_at = refl; operands = tt; edges = (refl, tt) }, tt));
     entry = refl;
   });
   given_before = record {

@@ -1,10 +1,11 @@
 -- The row `both_arms`: its tables are the program's.
 use Rattle.std.proofs.Common.{◌≡◌, ◌≢◌, ℕ, zero, suc, ◌<◌, false, Option, Some, None, List, [], ◌∷◌, ◌⊎◌, inl, inr, refl, sym, ◌∙◌, ap, subst, arith, Contains, slice_get, length, ◌==◌, if◌then◌else◌, fold}
 use Rattle.std.proofs.lemmas.Bool.Decides.{nat_tests}
+use Rattle.std.specs.List.{AllByRecursion}
 use Rattle.clif_paths.specs.Places.{Place, start, inside}
 use Rattle.clif_meaning.specs.Name.{Name, answer_of, same_name}
-use Rattle.clif_meaning.specs.Request.{CreateBlock, SwitchToBlock, SealBlock, DeclareVar, DefVar, UseVar, Build, Finalize, Script, script_of, SealAllBlocks, InsertBlockAfter, SetColdBlock, EnsureInsertedBlock, AppendBlockParams, AppendFunctionParams}
-use Rattle.clif_meaning.specs.Program.{Program, Item, Instruct, Use, Assign, with_call, with_item_at, with_inserted, result_names, empty_program}
+use Rattle.clif_meaning.specs.Request.{Request, Script, script_of}
+use Rattle.clif_meaning.specs.Program.{Program, Item, Instruct, Use, Assign, first_block, with_call, with_item_at, with_inserted, result_names, empty_program}
 use Rattle.clif_meaning.specs.BranchExamples.{block}
 use Rattle.clif_meaning.specs.WellPlaced.{item_gives}
 use Rattle.clif_meaning.proofs.FirstRow.{one_of, first_of_one}
@@ -12,7 +13,8 @@ use Rattle.clif_meaning.proofs.StraightLine.{none_of, nothing_contained}
 use Rattle.clif_simulation.specs.Tables.{code, answered, program_so_far, block_name, item_at, assigned_by, origin_of, IsGiven, IsProgramOf}
 use Rattle.clif_simulation.specs.CarryingExamples.{loop_calls}
 use Rattle.clif_simulation.proofs.NameLists.{same_name_cases}
-use Rattle.clif_simulation.proofs.Beginning.{current-item}
+use Rattle.clif_simulation.proofs.Beginning.{current_of_program}
+use Rattle.clif_simulation.proofs.Effects.{switch_of, ProgramEffect, program_effect, Leaves, Inserts, Takes, Switches, Assigns, Uses, Builds}
 use Rattle.clif_simulation.proofs.LoopTables.{loop_tables, computing_row, each_name_of_row, each_write_of_row}
 
 abbrev items_of_block : Name → List Item
@@ -42,11 +44,18 @@ each_block_of_row P a b c d (suc (suc (suc (suc number)))) name e = absurd (is e
     is : None ≡ Some name → ⊥
     is e = cc
 
+-- the blocks that the calls switch to
+abbrev pub with_switch : Option Name → List Name → List Name
+with_switch None blocks = blocks
+with_switch (Some block) blocks = block ∷ blocks
+
+abbrev pub switches : Script → List Name
+switches [] = []
+switches (request ∷ rest) = with_switch (switch_of request) (switches rest)
+
 -- the calls never switch to the block with this name
 abbrev pub NeverAt : Name → Script → Type 0
-NeverAt name [] = Unit {0}
-NeverAt name (SwitchToBlock block ∷ rest) = (same_name name block ≡ false) × NeverAt name rest
-NeverAt name (request ∷ rest) = NeverAt name rest
+NeverAt name script = AllByRecursion (λ block. same_name name block ≡ false) (switches script)
 
 abbrev pub IsNotAt : Name → Option Name → Type 0
 IsNotAt name None = Unit {0}
@@ -60,30 +69,29 @@ no_new_item program (Some block) item name apart = rw apart refl
 pub nothing_there : (name : Name) (script : Script) (program : Program) → NeverAt name script → IsNotAt name program.current → program.items name ≡ []
     → (fold with_call program script).items name ≡ []
 nothing_there name [] program never apart none = none
-nothing_there name (CreateBlock ∷ rest) program never apart none = nothing_there name rest (with_call program CreateBlock) never apart none
-nothing_there name (SwitchToBlock block ∷ rest) program never apart none = nothing_there name rest (with_call program (SwitchToBlock block)) never.1 never.0 none
-nothing_there name (SealBlock block ∷ rest) program never apart none = nothing_there name rest (with_call program (SealBlock block)) never apart none
-nothing_there name (SealAllBlocks ∷ rest) program never apart none = nothing_there name rest (with_call program SealAllBlocks) never apart none
-nothing_there name (InsertBlockAfter block after ∷ rest) program never apart none = nothing_there name rest (with_call program (InsertBlockAfter block after)) never apart none
-nothing_there name (SetColdBlock block ∷ rest) program never apart none = nothing_there name rest (with_call program (SetColdBlock block)) never apart none
-nothing_there name (EnsureInsertedBlock ∷ rest) program never apart none = nothing_there name rest (with_call program EnsureInsertedBlock) never apart none
-nothing_there name (AppendBlockParams to types ∷ rest) program never apart none = nothing_there name rest (with_call program (AppendBlockParams to types)) never apart none
-nothing_there name (AppendFunctionParams to types ∷ rest) program never apart none = nothing_there name rest (with_call program (AppendFunctionParams to types)) never apart none
-nothing_there name (DeclareVar ty ∷ rest) program never apart none = nothing_there name rest (with_call program (DeclareVar ty)) never apart none
-nothing_there name (DefVar variable value ∷ rest) program never apart none =
-    nothing_there name rest (with_call program (DefVar variable value)) never
-    (subst (IsNotAt name) (sym (current-item program program.current (Assign variable value))) apart)
-    (no_new_item program program.current (Assign variable value) name apart ∙ none)
-nothing_there name (UseVar variable ∷ rest) program never apart none =
-    nothing_there name rest (with_call program (UseVar variable)) never
-    (subst (IsNotAt name) (sym (current-item (with_inserted program) program.current (Use variable (answer_of program.place 0)))) apart)
-    (no_new_item (with_inserted program) program.current (Use variable (answer_of program.place 0)) name apart ∙ none)
-nothing_there name (Build instruction ∷ rest) program never apart none =
-    let item : Item = Instruct program.place instruction (result_names program.place instruction) in
-    nothing_there name rest (with_call program (Build instruction)) never
-    (subst (IsNotAt name) (sym (current-item (with_inserted program) program.current item)) apart)
-    (no_new_item (with_inserted program) program.current item name apart ∙ none)
-nothing_there name (Finalize ∷ rest) program never apart none = nothing_there name rest (with_call program Finalize) never apart none
+nothing_there name (request ∷ rest) program never apart none =
+    nothing_there name rest (with_call program request) (others (switch_of request) never)
+    (subst (IsNotAt name) (sym (current_of_program program request)) (not_there (switch_of request) never)) (items (program_effect request))
+  where
+    others : (o : Option Name) → AllByRecursion (λ block. same_name name block ≡ false) (with_switch o (switches rest)) → NeverAt name rest
+    others None all = all
+    others (Some block) all = all.1
+
+    not_there : (o : Option Name) → AllByRecursion (λ block. same_name name block ≡ false) (with_switch o (switches rest)) → IsNotAt name (first_block o program.current)
+    not_there None all = apart
+    not_there (Some block) all = all.0
+
+    of_request : (other : Request) → request ≡ other → (with_call program other).items name ≡ [] → (with_call program request).items name ≡ []
+    of_request other is holds = ap (λ (r : Request). (with_call program r).items name) is ∙ holds
+
+    items : ProgramEffect request → (with_call program request).items name ≡ []
+    items (Leaves stays is) = ap (λ (p : Program). p.items name) (is program) ∙ none
+    items (Inserts stays is) = ap (λ (p : Program). p.items name) (is program) ∙ none
+    items (Takes block types stays makes is) = ap (λ (p : Program). p.items name) (is program) ∙ none
+    items (Switches block is) = of_request _ is none
+    items (Assigns variable value is) = of_request _ is (no_new_item program program.current _ name apart ∙ none)
+    items (Uses variable is) = of_request _ is (no_new_item (with_inserted program) program.current _ name apart ∙ none)
+    items (Builds instruction is) = of_request _ is (no_new_item (with_inserted program) program.current _ name apart ∙ none)
 
 data FourCases (name : Name) : Type 0 where
   is_first : block 0 ≡ name → FourCases name

@@ -260,8 +260,8 @@ premises : PremisesSoFar (may_grow waiting_loop_calls) waiting_loop_calls both_a
 premises = record {
   well_typed = typed_so_far (may_grow waiting_loop_calls) (ledger_after (script_of waiting_loop_calls)) (program_so_far waiting_loop_calls) both_arms_signature (record {
     items = each_items (AllByRecursion (IsItemWellTyped (ledger_after (script_of waiting_loop_calls)) (program_so_far waiting_loop_calls) (types_of both_arms_signature.returns))) tt
-        (record { made_at = refl; operands = refl; edges = (refl, tt) }, tt)
-        (tt, (record { made_at = refl; operands = refl; edges = (refl, tt) }, tt));
+        (record { made_at = refl; operands = tt; edges = (refl, tt) }, tt)
+        (tt, (record { made_at = refl; operands = tt; edges = (refl, tt) }, tt));
     entry = refl;
   });
   given_before = record {

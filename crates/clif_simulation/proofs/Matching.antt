@@ -1,5 +1,5 @@
 -- How one step of the script's machine is matched, and what both machines show at an end.
-use Rattle.std.proofs.Common.{◌≡◌, ℕ, zero, suc, ◌<◌, ◌≤◌, List, [], ◌∷◌, length, map, drop, slice_get, Some, inl, inr, refl, ap₂, arith}
+use Rattle.std.proofs.Common.{sym, ◌∙◌, ◌≡◌, ℕ, zero, suc, ◌<◌, ◌≤◌, List, [], ◌∷◌, length, map, drop, slice_get, Some, inl, inr, refl, ap₂, arith}
 use Rattle.clif_meaning.specs.Bits.{Bits}
 use Rattle.clif_meaning.specs.Memory.{Memory}
 use Rattle.clif_meaning.specs.Machine.{Machine, Control, At, HasReturned, HasTrapped, IsStuck, Observation, Ending, ending_of}
@@ -126,17 +126,41 @@ computed_plain (Fault reason) memory = tt
 computed_plain Undefined memory = tt
 
 -- what a condition takes is an edge
-goes_plain : (ty : «Type») (world : World) (operands : List Bits) (memory : Memory) → IsPlain (outcome_of world Jump ty operands memory) × IsPlain (outcome_of world Brif ty operands memory)
-goes_plain ty world [] memory = (tt, tt)
-goes_plain ty world (x ∷ []) memory = (tt, tt)
-goes_plain ty world (x ∷ y ∷ operands) memory = (tt, tt)
+goes_plain : (ty : «Type») (world : World) (types : List «Type») (operands : List Bits) (memory : Memory)
+    → IsPlain (outcome_of world Jump ty types operands memory) × IsPlain (outcome_of world Brif ty types operands memory)
+goes_plain ty world types [] memory = (tt, tt)
+goes_plain ty world types (x ∷ []) memory = (tt, tt)
+goes_plain ty world types (x ∷ y ∷ operands) memory = (tt, tt)
 
 -- no instruction so far is a call
-pub outcome_plain : (world : World) (operation : Operation) (ty : «Type») (operands : List Bits) (memory : Memory) → IsPlain (outcome_of world operation ty operands memory)
-outcome_plain world (Compute arithmetic) ty operands memory = computed_plain (computed arithmetic ty operands) memory
-outcome_plain world Jump ty operands memory = (goes_plain ty world operands memory).0
-outcome_plain world Brif ty operands memory = (goes_plain ty world operands memory).1
-outcome_plain world Return ty operands memory = tt
+pub outcome_plain : (world : World) (operation : Operation) (ty : «Type») (types : List «Type») (operands : List Bits) (memory : Memory)
+    → IsPlain (outcome_of world operation ty types operands memory)
+outcome_plain world (Compute arithmetic) ty types operands memory = computed_plain (computed arithmetic ty operands) memory
+outcome_plain world Jump ty types operands memory = (goes_plain ty world types operands memory).0
+outcome_plain world Brif ty types operands memory = (goes_plain ty world types operands memory).1
+outcome_plain world Return ty types operands memory = tt
+
+goes_alike : (ty : «Type») (world : World) (types others : List «Type») (operands : List Bits) (memory : Memory)
+    → (outcome_of world Jump ty types operands memory ≡ outcome_of world Jump ty others operands memory)
+    × (outcome_of world Brif ty types operands memory ≡ outcome_of world Brif ty others operands memory)
+goes_alike ty world types others [] memory = (refl, refl)
+goes_alike ty world types others (x ∷ []) memory = (refl, refl)
+goes_alike ty world types others (x ∷ y ∷ operands) memory = (refl, refl)
+
+-- nor does one ask for the types of its operands
+types_aside : (world : World) (operation : Operation) (ty : «Type») (types others : List «Type») (operands : List Bits) (memory : Memory)
+    → outcome_of world operation ty types operands memory ≡ outcome_of world operation ty others operands memory
+types_aside world (Compute arithmetic) ty types others operands memory = refl
+types_aside world Jump ty types others operands memory = (goes_alike ty world types others operands memory).0
+types_aside world Brif ty types others operands memory = (goes_alike ty world types others operands memory).1
+types_aside world Return ty types others operands memory = refl
+
+-- the same operation on the same bits, in the same memory
+pub same_outcomes : (world : World) (operation : Operation) (ty : «Type») (types others : List «Type») (operands bits : List Bits) (memory other : Memory)
+    → operands ≡ bits → memory ≡ other → outcome_of world operation ty others bits other ≡ outcome_of world operation ty types operands memory
+same_outcomes world operation ty types others operands bits memory other same_bits same_memory =
+    types_aside world operation ty others types bits other
+    ∙ ap₂ (λ (xs : List Bits) (m : Memory). outcome_of world operation ty types xs m) (sym same_bits) (sym same_memory)
 
 -- Steps and measures -------------------------------------------------------------------------------------------------------
 

@@ -1,14 +1,16 @@
 -- Names, and the names of blocks after one more call.
-use Rattle.std.proofs.Common.{◌≡◌, ◌≢◌, ℕ, zero, suc, ◌==◌, Bool, true, false, List, [], ◌∷◌, ◌++◌, length, map, refl, ◌∙◌, ap, arith, Some, None, ◌⊎◌, inl, inr}
+use Rattle.std.proofs.Common.{◌≡◌, ◌≢◌, ℕ, zero, suc, ◌==◌, Bool, true, false, List, [], ◌∷◌, ◌++◌, length, map, refl, ◌∙◌, ap, subst, arith, Some, None, ◌⊎◌, inl, inr}
 use Rattle.std.specs.Prelude.{slice_get, Option, fold, Contains, if◌then◌else◌, slice_index_or, ◌<◌}
 use Rattle.std.specs.List.{list_any}
 use Rattle.std.proofs.lemmas.Bool.Decides.{nat_tests}
 use Rattle.clif_paths.proofs.Tables.{number_equal}
 use Rattle.clif_meaning.specs.Name.{Name, answer_of, same_name}
 use Rattle.clif_meaning.specs.Instruction.{Operation, Edge}
-use Rattle.clif_meaning.specs.Request.{Request, CreateBlock, SwitchToBlock, SealBlock, SealAllBlocks, InsertBlockAfter, SetColdBlock, EnsureInsertedBlock, AppendBlockParams, AppendFunctionParams, DeclareVar, DefVar, UseVar, Build, Finalize, AnsweredCall, script_of}
+use Rattle.clif_meaning.specs.Request.{Request, AnsweredCall, script_of}
 use Rattle.clif_meaning.specs.Ledger.{BlockState, Ledger, ledger_after, ledger_with, with_state, with_layout, with_begun_at, with_begun, with_filled_at, with_terminator, with_predecessor, is_inserted, is_terminator, sealed, with_parameter_types}
 use Rattle.clif_simulation.specs.Tables.{block_name}
+pub use Rattle.clif_simulation.proofs.Effects.{MakesNoBlock}
+use Rattle.clif_simulation.proofs.Effects.{LedgerEffect, ledger_effect, Keeps, Lays, Changes, Begins, Creates, Enters, Seals, Declares, Touches, Reads, Appends}
 use Rattle.clif_simulation.proofs.Numbers.{ledger_longer}
 
 pub same_name-equal : (a b : Name) → a ≡ b → same_name a b ≡ true
@@ -97,44 +99,32 @@ names-with_edges branch ledger (edge ∷ edges) =
     name_of state true = refl
     name_of state false = refl
 
--- the call makes no block
-abbrev pub MakesNoBlock : Request → Type 0
-MakesNoBlock CreateBlock = ⊥
-MakesNoBlock (SwitchToBlock block) = Unit {0}
-MakesNoBlock (SealBlock block) = Unit {0}
-MakesNoBlock SealAllBlocks = Unit {0}
-MakesNoBlock (InsertBlockAfter block after) = Unit {0}
-MakesNoBlock (SetColdBlock block) = Unit {0}
-MakesNoBlock EnsureInsertedBlock = Unit {0}
-MakesNoBlock (AppendBlockParams block types) = Unit {0}
-MakesNoBlock (AppendFunctionParams block types) = Unit {0}
-MakesNoBlock (DeclareVar ty) = Unit {0}
-MakesNoBlock (DefVar variable value) = Unit {0}
-MakesNoBlock (UseVar variable) = Unit {0}
-MakesNoBlock (Build instruction) = Unit {0}
-MakesNoBlock Finalize = Unit {0}
-
 names-sealed : (states : List BlockState) → names_of (map sealed states) ≡ names_of states
 names-sealed [] = refl
 names-sealed (state ∷ states) = ap (λ (names : List Name). state.block ∷ names) (names-sealed states)
 
 names_after : (ledger : Ledger) (request : Request) → MakesNoBlock request → names_of (ledger_with ledger request).blocks ≡ names_of ledger.blocks
-names_after ledger CreateBlock made = absurd made
-names_after ledger (SwitchToBlock block) made = refl
-names_after ledger (SealBlock block) made = names-with_state block (λ state. record state { is_sealed = true }) (λ state. refl) ledger
-names_after ledger SealAllBlocks made = names-sealed ledger.blocks
-names_after ledger (InsertBlockAfter block after) made = refl
-names_after ledger (SetColdBlock block) made = refl
-names_after ledger EnsureInsertedBlock made = names-with_begun_at ledger ledger.current
-names_after ledger (AppendBlockParams block types) made = names-with_state block (with_parameter_types types) (λ state. refl) ledger
-names_after ledger (AppendFunctionParams block types) made = names-with_state block (with_parameter_types types) (λ state. refl) ledger
-names_after ledger (DeclareVar ty) made = refl
-names_after ledger (DefVar variable value) made = refl
-names_after ledger (UseVar variable) made = names-with_begun_at ledger ledger.current
-names_after ledger (Build instruction) made =
-    names-with_edges (answer_of (length ledger.answers) 0) (with_terminator (with_begun ledger) instruction.operation) instruction.edges
-    ∙ names-with_terminator (with_begun ledger) instruction.operation ∙ names-with_begun_at ledger ledger.current
-names_after ledger Finalize made = refl
+names_after ledger request made = by (ledger_effect request)
+  where
+    of_request : (other : Request) → request ≡ other → names_of (ledger_with ledger other).blocks ≡ names_of ledger.blocks
+        → names_of (ledger_with ledger request).blocks ≡ names_of ledger.blocks
+    of_request other is same = ap (λ (r : Request). names_of (ledger_with ledger r).blocks) is ∙ same
+
+    by : LedgerEffect request → names_of (ledger_with ledger request).blocks ≡ names_of ledger.blocks
+    by (Keeps stays is) = ap (λ (l : Ledger). names_of l.blocks) (is ledger)
+    by (Lays layout stays is) = ap (λ (l : Ledger). names_of l.blocks) (is ledger)
+    by (Changes block change keeps stays is) = ap (λ (l : Ledger). names_of l.blocks) (is ledger) ∙ names-with_state block change keeps.name ledger
+    by (Begins stays is) = ap (λ (l : Ledger). names_of l.blocks) (is ledger) ∙ names-with_begun_at ledger ledger.current
+    by (Creates is) = absurd (subst MakesNoBlock is made)
+    by (Enters block is) = of_request _ is refl
+    by (Seals is) = of_request _ is (names-sealed ledger.blocks)
+    by (Declares ty is) = of_request _ is refl
+    by (Touches variable value is) = of_request _ is refl
+    by (Reads variable is) = of_request _ is (names-with_begun_at ledger ledger.current)
+    by (Appends instruction is) =
+        of_request _ is
+        (names-with_edges (answer_of (length ledger.answers) 0) (with_terminator (with_begun ledger) instruction.operation) instruction.edges
+        ∙ names-with_terminator (with_begun ledger) instruction.operation ∙ names-with_begun_at ledger ledger.current)
 
 -- the blocks keep their names
 pub names_stay : (calls : List AnsweredCall) (call : AnsweredCall) → MakesNoBlock call.request → (block : ℕ) → block_name (calls ++ call ∷ []) block ≡ block_name calls block

@@ -70,7 +70,7 @@ module _ (s : SsaState) (unknowns : Unknowns) (entry : ℕ) (run : FunctionRun) 
             ap (λ (item : Placed). function_edge run state (At (item ∷ (map (placed_inst f) left ++ rest))))
             (is_zero_placed f (inst_at f inst) all.0.value all.0.shape all.0.result)
             ∙ none_taken (outcome_of run.world (zero_placed f all.0.value).instruction.operation (zero_placed f all.0.value).instruction.controlling
-            (map (value_bits run state) (zero_placed f all.0.value).instruction.operands) state.memory)
+            (map run.function.value_type (zero_placed f all.0.value).instruction.operands) (map (value_bits run state) (zero_placed f all.0.value).instruction.operands) state.memory)
 
     pub zeros_pass : (j n m : ℕ) → j + n ≡ m → Left m c.state → steps_from (interrupted_function s unknowns entry run) j c ≡ standing (steps_from machine j c.state)
     zeros_pass zero n m is z = refl

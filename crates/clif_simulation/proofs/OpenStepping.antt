@@ -47,7 +47,7 @@ use Rattle.clif_simulation.proofs.Fronts.{placed_inst, steps_behind}
 use Rattle.clif_simulation.proofs.ItemsAt
 use Rattle.clif_simulation.proofs.ItemsAt.{same_instance}
 use Rattle.clif_simulation.proofs.Listed.{place_within}
-use Rattle.clif_simulation.proofs.Matching.{first_is, rest_is, item_here, rest_behind, same_bits, IsPlain, outcome_plain}
+use Rattle.clif_simulation.proofs.Matching.{first_is, rest_is, item_here, rest_behind, same_bits, IsPlain, outcome_plain, same_outcomes}
 use Rattle.clif_simulation.proofs.OpenArms
 use Rattle.clif_simulation.proofs.OpenEdges
 use Rattle.clif_simulation.proofs.OpenFlow
@@ -260,7 +260,7 @@ module _ (calls : List AnsweredCall) (f : Body) (ssa : SsaState) (consistent : I
           there = ap (λ (xs : List ℕ). slice_get xs (length r.front)) r.own_is ∙ at_second r.front (i ∷ left) (length r.front) 0 (omega arith)
 
           outcome : Outcome
-          outcome = outcome_of world instruction.operation instruction.controlling (map a.state.names instruction.operands) a.state.memory
+          outcome = outcome_of world instruction.operation instruction.controlling (map left_run.name_type instruction.operands) (map a.state.names instruction.operands) a.state.memory
 
           -- a name that it names has the bits that its answer has
           operand_agrees : (x : Name) → Contains (item_names (Some (Instruct place instruction results))) x → a.state.names x ≡ c.state.values (resolved f (answered calls x))
@@ -280,13 +280,13 @@ module _ (calls : List AnsweredCall) (f : Body) (ssa : SsaState) (consistent : I
               operand_agrees x (in_contained instruction.operands x named_there))
 
           same_outcome :
-              outcome_of world (placed_inst f i).instruction.operation (placed_inst f i).instruction.controlling (map (value_bits right_run c.state) (placed_inst f i).instruction.operands)
+              outcome_of world (placed_inst f i).instruction.operation (placed_inst f i).instruction.controlling (map right_run.function.value_type (placed_inst f i).instruction.operands) (map (value_bits right_run c.state) (placed_inst f i).instruction.operands)
               c.state.memory
               ≡ outcome
           unfolding outcome
           same_outcome =
-              ap (λ (o : Placed). outcome_of world o.instruction.operation o.instruction.controlling (map (value_bits right_run c.state) o.instruction.operands) c.state.memory) is
-              ∙ ap₂ (λ (bits : List ℕ) (m : Memory). outcome_of world instruction.operation instruction.controlling bits m) (sym same_operands) (sym r.same_memory)
+              ap (λ (o : Placed). outcome_of world o.instruction.operation o.instruction.controlling (map right_run.function.value_type o.instruction.operands) (map (value_bits right_run c.state) o.instruction.operands) c.state.memory) is
+              ∙ same_outcomes world instruction.operation instruction.controlling _ _ _ _ _ _ same_operands r.same_memory
 
           left_goes : left_machine.next a ≡ script_goes calls ssa unknowns a (taken_of instruction.edges outcome) (script.carry_out left_run a.state instruction.edges results rest outcome)
           unfolding outcome
@@ -523,7 +523,7 @@ module _ (calls : List AnsweredCall) (f : Body) (ssa : SsaState) (consistent : I
           instruct_step : (ahead : List Item) → (left_machine.next a).state.control ≡ At ahead → Comes (left_machine.next a) c
           unfolding outcome
           instruct_step =
-              after_outcome outcome (outcome_plain world instruction.operation instruction.controlling (map a.state.names instruction.operands) a.state.memory) left_goes right_goes
+              after_outcome outcome (outcome_plain world instruction.operation instruction.controlling (map left_run.name_type instruction.operands) (map a.state.names instruction.operands) a.state.memory) left_goes right_goes
 
       running_step : (rest : List Item) (left : List ℕ) → Stands b B k rest left path a.state c.state
           → (ahead : List Item) → (left_machine.next a).state.control ≡ At ahead → Comes (left_machine.next a) c

@@ -8,13 +8,13 @@ use Rattle.clif_ssa.specs.Sound.{entry_of}
 use Rattle.clif_types.specs.declared.types.«Type».{«Type»}
 use Rattle.clif_meaning.specs.Name.{Name, answer_of}
 use Rattle.clif_meaning.specs.Instruction.{Instruction}
-use Rattle.clif_meaning.specs.Request.{Request, CreateBlock, SwitchToBlock, SealBlock, SealAllBlocks, InsertBlockAfter, SetColdBlock, EnsureInsertedBlock, DeclareVar, DefVar, UseVar, Build, AnsweredCall}
-use Rattle.clif_meaning.specs.Program.{Program, Instruct, Use, Assign, with_call, with_item_at, with_inserted, first_block, result_names}
+use Rattle.clif_meaning.specs.Request.{Request, SwitchToBlock, EnsureInsertedBlock, DefVar, UseVar, Build, AnsweredCall}
+use Rattle.clif_meaning.specs.Program.{Program, Instruct, Use, Assign, extended, with_call, with_item_at, with_inserted, first_block, result_names}
 use Rattle.clif_simulation.specs.Tables.{program_so_far, block_name}
 use Rattle.clif_simulation.specs.Carries.{HasEntry}
 use Rattle.clif_simulation.proofs.Numbers.{program_longer, place_so_far}
-use Rattle.clif_simulation.proofs.Listed.{MakesNoParameter}
-use Rattle.clif_simulation.proofs.NameLists.{MakesNoBlock}
+use Rattle.clif_simulation.proofs.Effects.{MakesNoParameter}
+use Rattle.clif_simulation.proofs.Effects.{MakesNoBlock}
 use Rattle.clif_simulation.proofs.ItemCalls.{PutsItem}
 
 module _ (calls : List AnsweredCall) (call : AnsweredCall) where
@@ -28,54 +28,26 @@ module _ (calls : List AnsweredCall) (call : AnsweredCall) where
   program_with : (request : Request) → call.request ≡ request → longer ≡ with_call before request
   program_with request is = program_longer calls call ∙ ap (with_call before) is
 
-  -- a call that makes, switches to or seals a block, or declares a variable, adds no item
-  pub items_created : call.request ≡ CreateBlock → (N : Name) → longer.items N ≡ before.items N
-  items_created is N = ap (λ (p : Program). p.items N) (program_with CreateBlock is)
+  -- a call that adds nothing to the program leaves items and entry
+  pub items_left : ((program : Program) → extended program call.request ≡ program) → (N : Name) → longer.items N ≡ before.items N
+  items_left leaves N = ap (λ (p : Program). p.items N) (program_longer calls call) ∙ ap (λ (p : Program). p.items N) (leaves before)
 
+  pub entry_left : ((program : Program) → extended program call.request ≡ program) → longer.entry ≡ before.entry
+  entry_left leaves = ap (λ (p : Program). p.entry) (program_longer calls call) ∙ ap (λ (p : Program). p.entry) (leaves before)
+
+  -- so does one that switches to a block
   pub items_switched : (block : Name) → call.request ≡ SwitchToBlock block → (N : Name) → longer.items N ≡ before.items N
   items_switched block is N = ap (λ (p : Program). p.items N) (program_with (SwitchToBlock block) is)
-
-  pub items_sealed : (block : Name) → call.request ≡ SealBlock block → (N : Name) → longer.items N ≡ before.items N
-  items_sealed block is N = ap (λ (p : Program). p.items N) (program_with (SealBlock block) is)
-
-  pub items_sealed_all : call.request ≡ SealAllBlocks → (N : Name) → longer.items N ≡ before.items N
-  items_sealed_all is N = ap (λ (p : Program). p.items N) (program_with SealAllBlocks is)
-
-  pub items_after : (block after : Name) → call.request ≡ InsertBlockAfter block after → (N : Name) → longer.items N ≡ before.items N
-  items_after block after is N = ap (λ (p : Program). p.items N) (program_with (InsertBlockAfter block after) is)
-
-  pub items_cold : (block : Name) → call.request ≡ SetColdBlock block → (N : Name) → longer.items N ≡ before.items N
-  items_cold block is N = ap (λ (p : Program). p.items N) (program_with (SetColdBlock block) is)
-
-  pub items_ensured : call.request ≡ EnsureInsertedBlock → (N : Name) → longer.items N ≡ before.items N
-  items_ensured is N = ap (λ (p : Program). p.items N) (program_with EnsureInsertedBlock is)
-
-  pub items_declared : (ty : «Type») → call.request ≡ DeclareVar ty → (N : Name) → longer.items N ≡ before.items N
-  items_declared ty is N = ap (λ (p : Program). p.items N) (program_with (DeclareVar ty) is)
-
-  pub entry_created : call.request ≡ CreateBlock → longer.entry ≡ before.entry
-  entry_created is = ap (λ (p : Program). p.entry) (program_with CreateBlock is)
 
   pub entry_switched : (block : Name) → call.request ≡ SwitchToBlock block → longer.entry ≡ before.entry
   entry_switched block is = ap (λ (p : Program). p.entry) (program_with (SwitchToBlock block) is)
 
-  pub entry_sealed : (block : Name) → call.request ≡ SealBlock block → longer.entry ≡ before.entry
-  entry_sealed block is = ap (λ (p : Program). p.entry) (program_with (SealBlock block) is)
-
-  pub entry_sealed_all : call.request ≡ SealAllBlocks → longer.entry ≡ before.entry
-  entry_sealed_all is = ap (λ (p : Program). p.entry) (program_with SealAllBlocks is)
-
-  pub entry_after : (block after : Name) → call.request ≡ InsertBlockAfter block after → longer.entry ≡ before.entry
-  entry_after block after is = ap (λ (p : Program). p.entry) (program_with (InsertBlockAfter block after) is)
-
-  pub entry_cold : (block : Name) → call.request ≡ SetColdBlock block → longer.entry ≡ before.entry
-  entry_cold block is = ap (λ (p : Program). p.entry) (program_with (SetColdBlock block) is)
+  -- one that puts the current block into the layout leaves items
+  pub items_ensured : call.request ≡ EnsureInsertedBlock → (N : Name) → longer.items N ≡ before.items N
+  items_ensured is N = ap (λ (p : Program). p.items N) (program_with EnsureInsertedBlock is)
 
   pub entry_ensured : (B : Name) → before.current ≡ Some B → call.request ≡ EnsureInsertedBlock → longer.entry ≡ first_block before.entry (Some B)
   entry_ensured B current is = ap (λ (p : Program). p.entry) (program_with EnsureInsertedBlock is) ∙ ap (first_block before.entry) current
-
-  pub entry_declared : (ty : «Type») → call.request ≡ DeclareVar ty → longer.entry ≡ before.entry
-  entry_declared ty is = ap (λ (p : Program). p.entry) (program_with (DeclareVar ty) is)
 
   -- an item in the current block
   module _ (B : Name) (current : before.current ≡ Some B) where

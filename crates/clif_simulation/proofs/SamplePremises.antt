@@ -174,10 +174,10 @@ well_placed = record {
 well_typed : WellTyped (ledger_after sample_script) (program_of sample_script) sample_signature
 well_typed = record {
   items = each_item (IsItemWellTyped (ledger_after sample_script) (program_of sample_script) (types_of sample_signature.returns))
-      (refl, (record { made_at = refl; operands = refl; edges = tt }, (refl, (tt, (tt, (record { made_at = refl; operands = refl; edges = tt }, (refl, (record { made_at = refl; operands = refl; edges = (refl, tt) }, tt))))))))
-      (tt, (tt, (record { made_at = refl; operands = refl; edges = tt }, (refl, (tt, (record { made_at = refl; operands = refl; edges = (refl, (refl, tt)) }, tt))))))
-      (tt, (tt, (record { made_at = refl; operands = refl; edges = tt }, (refl, (tt, (record { made_at = refl; operands = refl; edges = tt }, tt))))))
-      (tt, (tt, (record { made_at = refl; operands = refl; edges = tt }, (refl, (record { made_at = refl; operands = refl; edges = (refl, tt) }, tt)))));
+      (refl, (record { made_at = refl; operands = tt; edges = tt }, (refl, (tt, (tt, (record { made_at = refl; operands = (refl, (refl, tt)); edges = tt }, (refl, (record { made_at = refl; operands = tt; edges = (refl, tt) }, tt))))))))
+      (tt, (tt, (record { made_at = refl; operands = (refl, (refl, tt)); edges = tt }, (refl, (tt, (record { made_at = refl; operands = (refl, tt); edges = (refl, (refl, tt)) }, tt))))))
+      (tt, (tt, (record { made_at = refl; operands = (refl, (refl, tt)); edges = tt }, (refl, (tt, (record { made_at = refl; operands = refl; edges = tt }, tt))))))
+      (tt, (tt, (record { made_at = refl; operands = (refl, (refl, tt)); edges = tt }, (refl, (record { made_at = refl; operands = tt; edges = (refl, tt) }, tt)))));
   entry = refl;
 }
 

@@ -58,7 +58,7 @@ use Rattle.clif_simulation.proofs.OwnEdges.{last_item}
 use Rattle.clif_simulation.proofs.Targets
 use Rattle.clif_simulation.proofs.Placing.{at_second, map_at, map_length, placed_item}
 use Rattle.clif_simulation.proofs.TwoParts.{nothing_assigned}
-use Rattle.clif_simulation.proofs.Matching.{script_still, function_still, observation, remaining, first_is, rest_is, item_here, rest_behind, same_bits, matched_by_one, matched_by_none, matched_by_more, SameEnd, same_ending, IsPlain, outcome_plain}
+use Rattle.clif_simulation.proofs.Matching.{script_still, function_still, observation, remaining, first_is, rest_is, item_here, rest_behind, same_bits, matched_by_one, matched_by_none, matched_by_more, SameEnd, same_ending, IsPlain, outcome_plain, same_outcomes}
 
 -- what is passed has the same bits where the names have those of their answers
 pub same_arguments : (calls : List AnsweredCall) (names : Name → ℕ) (values : ℕ → ℕ) (given : List ℕ) (arguments : List (Argument Name))
@@ -303,7 +303,7 @@ module _ (calls : List AnsweredCall) (f : Body) (ssa : SsaState) (consistent : I
         there = ap (λ (xs : List ℕ). slice_get xs (length r.front)) r.own_is ∙ at_second r.front (i ∷ left) (length r.front) 0 (omega arith)
 
         outcome : Outcome
-        outcome = outcome_of world instruction.operation instruction.controlling (map p.names instruction.operands) p.memory
+        outcome = outcome_of world instruction.operation instruction.controlling (map left_run.name_type instruction.operands) (map p.names instruction.operands) p.memory
 
         same_operands : map p.names instruction.operands ≡ map (value_bits right_run q) (map (answered calls) instruction.operands)
         same_operands =
@@ -312,12 +312,12 @@ module _ (calls : List AnsweredCall) (f : Body) (ssa : SsaState) (consistent : I
             (in_contained instruction.operands x named_there))
 
         same_outcome :
-            outcome_of world (placed_inst f i).instruction.operation (placed_inst f i).instruction.controlling (map (value_bits right_run q) (placed_inst f i).instruction.operands) q.memory
+            outcome_of world (placed_inst f i).instruction.operation (placed_inst f i).instruction.controlling (map right_run.function.value_type (placed_inst f i).instruction.operands) (map (value_bits right_run q) (placed_inst f i).instruction.operands) q.memory
             ≡ outcome
         unfolding outcome
         same_outcome =
-            ap (λ (o : Placed). outcome_of world o.instruction.operation o.instruction.controlling (map (value_bits right_run q) o.instruction.operands) q.memory) is
-            ∙ ap₂ (λ (bits : List ℕ) (m : Memory). outcome_of world instruction.operation instruction.controlling bits m) (sym same_operands) (sym r.same_memory)
+            ap (λ (o : Placed). outcome_of world o.instruction.operation o.instruction.controlling (map right_run.function.value_type o.instruction.operands) (map (value_bits right_run q) o.instruction.operands) q.memory) is
+            ∙ same_outcomes world instruction.operation instruction.controlling _ _ _ _ _ _ same_operands r.same_memory
 
         left_goes : left_machine.next p ≡ script.carry_out left_run p instruction.edges results rest outcome
         unfolding outcome
@@ -598,7 +598,7 @@ module _ (calls : List AnsweredCall) (f : Body) (ssa : SsaState) (consistent : I
         pub instruct_step : IsMatched p q
         unfolding outcome
         instruct_step =
-            after_outcome outcome (outcome_plain world instruction.operation instruction.controlling (map p.names instruction.operands) p.memory) left_goes right_goes
+            after_outcome outcome (outcome_plain world instruction.operation instruction.controlling (map left_run.name_type instruction.operands) (map p.names instruction.operands) p.memory) left_goes right_goes
 
     running_step : (b : ℕ) (B : Name) (k : ℕ) (rest : List Item) (left : List ℕ) (path : Path) (p : ScriptState) (q : FunctionState) → IsAt b B k rest left path p q → IsMatched p q
     running_step b B k [] left path p q r = stuck_step b B k path left p q r

@@ -6,7 +6,6 @@ use Rattle.clif_types.specs.declared.extname.UserFuncName.TheVariants.{Testcase}
 use Rattle.clif_ir.specs.declared.block_call.BlockArg.{BlockArg}
 use Rattle.clif_ir.specs.declared.block_call.BlockArg.TheVariants.{Value}
 use Rattle.clif_ir.specs.declared.block_call.BlockCall.{BlockCall}
-use Rattle.clif_ir.specs.declared.instructions.BinaryOpcode.TheVariants as binary
 use Rattle.clif_ir.specs.declared.instructions.InstructionData.TheVariants.{UnaryImm, Binary, Jump, Brif, MultiAry}
 use Rattle.clif_ir.specs.declared.function.ValueOrigin.TheVariants.{Result, Param}
 use Rattle.clif_ir.specs.Body.{Body}
@@ -14,7 +13,9 @@ use Rattle.clif_ir.specs.Consistent.{IsConsistent}
 use Rattle.clif_ssa.specs.declared.tables.Sealed.{Sealed}
 use Rattle.clif_ssa.specs.declared.tables.Sealed.TheVariants.{No, Yes}
 use Rattle.clif_ssa.specs.Ssa.{SsaState}
-use Rattle.clif_meaning.specs.Instruction.{Iadd, Compute}
+use Rattle.clif_types.specs.declared.opcodes.BinaryOpcode.TheVariants as binary
+use Rattle.clif_meaning.specs.Instruction.{Compute}
+use Rattle.clif_meaning.specs.Instruction as operation
 use Rattle.clif_meaning.specs.Name.{answer_of}
 use Rattle.clif_meaning.specs.Request.{CreateBlock, SwitchToBlock, SealBlock, DeclareVar, DefVar, UseVar, Build, AnsweredCall, script_of}
 use Rattle.clif_meaning.specs.Acceptance.{iconst, jump, return_}
@@ -51,7 +52,7 @@ loop_calls =
     ∷ record { request = UseVar 0; numbers = 1 ∷ [] }
     ∷ record { request = iconst i32 (negsuc 0); numbers = 3 ∷ 2 ∷ [] }
     ∷ record {
-      request = Build (record { operation = Compute Iadd; controlling = i32; operands = answer_of 15 0 ∷ answer_of 16 1 ∷ []; edges = [] });
+      request = Build (record { operation = Compute (operation.Binary binary.Iadd); controlling = i32; operands = answer_of 15 0 ∷ answer_of 16 1 ∷ []; edges = [] });
       numbers = 4 ∷ 3 ∷ [];
     }
     ∷ record { request = DefVar 0 (answer_of 17 1); numbers = [] }

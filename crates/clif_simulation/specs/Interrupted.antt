@@ -52,7 +52,8 @@ pub record ScriptStanding : Type 0 where
 -- the edge that the next step takes
 abbrev pub item_edge : ScriptRun → ScriptState → Item → Option (Edge Name Name)
 item_edge run state (Instruct place instruction results) =
-    taken_of instruction.edges (outcome_of run.world instruction.operation instruction.controlling (map state.names instruction.operands) state.memory)
+    taken_of instruction.edges (outcome_of run.world instruction.operation instruction.controlling
+    (map run.name_type instruction.operands) (map state.names instruction.operands) state.memory)
 item_edge run state (Use variable name) = None
 item_edge run state (Assign variable name) = None
 
@@ -100,7 +101,8 @@ abbrev pub function_edge : FunctionRun → FunctionState → Control Placed → 
 function_edge run state (At []) = None
 function_edge run state (At (placed ∷ rest)) =
     taken_of placed.instruction.edges
-    (outcome_of run.world placed.instruction.operation placed.instruction.controlling (map (value_bits run state) placed.instruction.operands) state.memory)
+    (outcome_of run.world placed.instruction.operation placed.instruction.controlling
+    (map run.function.value_type placed.instruction.operands) (map (value_bits run state) placed.instruction.operands) state.memory)
 function_edge run state (HasReturned results) = None
 function_edge run state (HasTrapped reason) = None
 function_edge run state IsStuck = None

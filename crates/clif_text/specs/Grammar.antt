@@ -3,7 +3,7 @@ use Rattle.std.specs.Prelude.{ℤ, ◌+◌, ◌%◌, ◌^◌, ◌<◌, ◌≤◌
 use Rattle.std.specs.Int.{cast_signed, w64}
 use Rattle.std.specs.Str.Parse.{IsNumeral, digits_value}
 use Rattle.clif_types.specs.Types.{IsType}
-use Rattle.clif_types.specs.Texts.{type_text}
+use Rattle.clif_types.specs.Texts.{binary_opcode_text, type_text, unary_opcode_text}
 use Rattle.clif_types.specs.declared.types.«Type».{«Type»}
 use Rattle.clif_calls.specs.declared.call.Name.{Name}
 use Rattle.clif_calls.specs.declared.call.Edge.{Edge}
@@ -12,7 +12,6 @@ use Rattle.clif_calls.specs.declared.call.Call.TheVariants as call
 use Rattle.clif_calls.specs.Plan.{plan_of}
 use Rattle.clif_calls.specs.declared.plan.Plan.{Plan}
 use Rattle.clif_calls.specs.declared.plan.Plan.TheVariants as plan
-use Rattle.clif_ir.specs.Instruction.{opcode_text}
 
 -- what names stand for: the answer that a given name stands for, and the number of the variable that an answer is
 pub record Names : Type 0 where
@@ -81,7 +80,8 @@ IsNumber word number = ((bits : ℕ) × (bits < 2 ^ 64) × IsMagnitude word bits
 -- The words stand for an instruction of this plan, which neither branches nor ends its block.
 abbrev pub IsPlain : Names → List (List ℕ) → Plan → Type 0
 IsPlain names words (plan.UnaryImm ty imm) = (t n : List ℕ) × (words ≡ (codes "iconst." ++ t) ∷ n ∷ []) × IsTypeWord t ty × IsNumber n imm
-IsPlain names words (plan.Binary opcode args) = (operands : List (List ℕ)) × (words ≡ opcode_text opcode ∷ operands) × AreAnswers names operands args
+IsPlain names words (plan.Unary opcode arg) = (operand : List ℕ) × (words ≡ unary_opcode_text opcode ∷ operand ∷ []) × IsAnswer names operand arg
+IsPlain names words (plan.Binary opcode args) = (operands : List (List ℕ)) × (words ≡ binary_opcode_text opcode ∷ operands) × AreAnswers names operands args
 IsPlain names words _ = ⊥
 
 -- The words stand for the call: its name, and then what it takes, in order.

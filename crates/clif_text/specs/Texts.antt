@@ -1,7 +1,7 @@
 -- The text of a call, as a line of a script that gives no names. Source: own; docs/SCRIPTS.md describes the format.
 use Rattle.std.specs.Prelude.{ℕ, List, [], ◌∷◌, ◌++◌, codes, flat_map}
 use Rattle.std.specs.Fmt.{decimal, signed_decimal}
-use Rattle.clif_types.specs.Texts.{type_text, call_conv_text, signature_text, user_func_name_text}
+use Rattle.clif_types.specs.Texts.{binary_opcode_text, unary_opcode_text, type_text, call_conv_text, signature_text, user_func_name_text}
 use Rattle.clif_types.specs.Signature.{SignatureShape}
 use Rattle.clif_types.specs.declared.extname.UserFuncName.{UserFuncName}
 use Rattle.clif_types.specs.declared.target.TargetFrontendConfig.{TargetFrontendConfig}
@@ -14,7 +14,6 @@ use Rattle.clif_calls.specs.declared.call.Call.TheVariants as call
 use Rattle.clif_calls.specs.Plan.{plan_of}
 use Rattle.clif_calls.specs.declared.plan.Plan.{Plan}
 use Rattle.clif_calls.specs.declared.plan.Plan.TheVariants as plan
-use Rattle.clif_ir.specs.Instruction.{opcode_text}
 
 -- `$5.1`
 abbrev pub answer_text : Name → List ℕ
@@ -35,7 +34,8 @@ variable_text number = codes "var" ++ decimal number
 -- an instruction of this plan: its name, and what it takes
 abbrev pub plan_text : Plan → List ℕ
 plan_text (plan.UnaryImm ty imm) = codes "iconst." ++ (type_text ty ++ (codes " " ++ signed_decimal imm))
-plan_text (plan.Binary opcode args) = opcode_text opcode ++ answers_text args
+plan_text (plan.Unary opcode arg) = unary_opcode_text opcode ++ (codes " " ++ answer_text arg)
+plan_text (plan.Binary opcode args) = binary_opcode_text opcode ++ answers_text args
 plan_text (plan.Jump destination) = codes "jump " ++ edge_text destination.now
 plan_text (plan.Brif condition first second) = codes "brif " ++ (answer_text condition ++ (codes " " ++ (edge_text first.now ++ (codes " " ++ edge_text second.now))))
 plan_text (plan.MultiAry args) = codes "return" ++ answers_text args.now

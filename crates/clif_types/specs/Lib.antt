@@ -6,3 +6,4 @@ pub mod StackSlot
 pub mod Target
 pub mod Texts
 pub mod Types
+pub mod Typing

@@ -148,7 +148,7 @@ still_current o p f g c d position grows fills current =
     (current.0, position ∙ current.1, omega (arith, current.2, grows.2), λ filled. current.3 (fills current.0 filled))
 
 -- a fact of the current block
-at_current : (old : FunctionBuilder) (P : ℕ → Type 0) (current : HasCurrent old) → IfSome old.position P → P current.0
+pub at_current : (old : FunctionBuilder) (P : ℕ → Type 0) (current : HasCurrent old) → IfSome old.position P → P current.0
 at_current old P current holds = let Q : Option ℕ → Type 0 = λ o. IfSome o P in subst Q current.1 holds
 
 -- where an instruction was appended that doesn't end its block

@@ -29,5 +29,6 @@ pub mod Finishing
 pub mod StandingBuilt
 pub mod StandingShaped
 mod Remembered
+pub mod Built
 pub mod Parameters
 pub mod StandingParameters

@@ -5,5 +5,7 @@ pub mod Construction
 pub mod Ledger
 pub mod Growth
 pub mod StandsFor
+pub mod Shapes
+pub mod Built
 pub mod Laws
 pub mod LedgerLaws

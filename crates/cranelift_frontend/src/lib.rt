@@ -7,6 +7,7 @@ pub mod context;
 pub mod error;
 pub mod finalize;
 pub mod frontend;
+pub mod inst_builder;
 pub mod instructions;
 pub mod laws;
 
@@ -25,7 +26,8 @@ pub use clif_types::{
 };
 pub use context::FunctionBuilderContext;
 pub use error::FinalizeError;
-pub use instructions::{FuncInstBuilder, InstBuilder, InstBuilderBase};
+pub use inst_builder::{InstBuilder, InstBuilderBase};
+pub use instructions::FuncInstBuilder;
 
 /// The version of the crate whose behaviour this one has.
 pub const VERSION: &str = "0.137.1";

@@ -2,7 +2,7 @@
 #![tactic(auto)]
 
 use crate::steps::Ending::{Return, ReturnNone};
-use crate::steps::Operand::{Constant, Read, Sum};
+use crate::steps::Operand::{ByDouble, Constant, Read, Sum};
 use crate::steps::State::{Filled, Pristine, Sealed};
 use crate::steps::Step::{
     Create, Current, Define, End, Enter, Is, Make, Seal, SealAll, Shaped, Unreachable,
@@ -69,4 +69,20 @@ fn built_by_shape(rt: HostRuntime) -> Result<(), Fail> {
     let text =
         "function %shape() -> i32 system_v {\nblock0:\n    v0 = iconst.i32 5\n    return\n}\n";
     builds(&rt, rt.alloc(), "shape", 0, &steps, text)
+}
+
+/// A generic caller makes two instructions, of which the second names the first.
+#[test]
+fn built_by_a_generic_caller(rt: HostRuntime) -> Result<(), Fail> {
+    let steps = [
+        Create,
+        Enter(0),
+        Make(Constant(5)),
+        Make(ByDouble(0)),
+        End(Return(1)),
+        SealAll,
+    ];
+    let text =
+        "function %generic() -> i32 system_v {\nblock0:\n    v0 = iconst.i32 5\n    v1 = iadd v0, v0  ; v0 = 5, v0 = 5\n    v2 = isub v1, v0  ; v0 = 5\n    return v2\n}\n";
+    builds(&rt, rt.alloc(), "generic", 0, &steps, text)
 }

@@ -4,6 +4,7 @@
 ghost use Rattle.std.specs.Prelude.{◌≡◌, ◌<◌, length, slice_get, Some};
 ghost use Rattle.cranelift_frontend.specs.Builder.{HasCurrent};
 
+use crate::generic::there_and_back;
 use clif_types::types::I32;
 use cranelift_frontend::{
     Block, BlockArg, EntityRef, FunctionBuilder, InstBuilder, InstBuilderBase, InstructionData,
@@ -223,6 +224,15 @@ pub fn difference(rt: &impl Abort, builder: &mut FunctionBuilder<'_>, x: Value, 
     asserts_value(rt, builder, x);
     asserts_value(rt, builder, y);
     builder.ins().isub(x, y).expect(rt, "a difference")
+}
+
+/// A value, by way of its double, which a generic caller makes.
+pub fn by_double(rt: &impl Abort, builder: &mut FunctionBuilder<'_>, x: Value) -> Value
+    ensures { builder.new.ctx.now.variables ≡ builder.old.ctx.now.variables }
+{
+    asserts_current(rt, builder);
+    asserts_value(rt, builder, x);
+    there_and_back(builder, x).expect(rt, "a difference")
 }
 
 /// Ends the current block with a jump.

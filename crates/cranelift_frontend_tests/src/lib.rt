@@ -9,6 +9,8 @@ mod by_calls;
 #[cfg(test)]
 mod front_end;
 #[cfg(test)]
+mod generic;
+#[cfg(test)]
 mod parameters;
 #[cfg(test)]
 mod refusals;

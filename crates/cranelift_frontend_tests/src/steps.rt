@@ -67,6 +67,8 @@ pub enum Operand {
     Constant(i64),
     Sum(usize, usize),
     Difference(usize, usize),
+    /// What a generic caller makes of a value.
+    ByDouble(usize),
 }
 
 /// How a block ends.
@@ -129,6 +131,7 @@ fn make(
         Operand::Difference(x, y) => {
             front_end::difference(rt, builder, named(rt, values, x), named(rt, values, y))
         }
+        Operand::ByDouble(x) => front_end::by_double(rt, builder, named(rt, values, x)),
     }
 }
 

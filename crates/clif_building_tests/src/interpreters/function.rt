@@ -1,8 +1,8 @@
 //! The interpreter of functions. It has the bits of all values, and follows aliases.
 #![tactic(auto)]
 
-use crate::interpreters::{End, STEPS, constant, difference, sum};
-use clif_ir::{BinaryOpcode, BlockArg, BlockCall, Function, InstructionData};
+use crate::interpreters::{End, STEPS, binary, constant, unary};
+use clif_ir::{BlockArg, BlockCall, Function, InstructionData};
 use clif_types::{Block, EntityRef, Inst, Type, Value, types};
 use std::alloc::{AllocError, Global};
 
@@ -86,15 +86,6 @@ impl<'a> State<'a> {
         Ok(Next::At(self.enter(edge.block, bits.as_slice())?))
     }
 
-    fn binary(&self, opcode: BinaryOpcode, args: [Value; 2]) -> u128 {
-        let [x, y] = args;
-        let ty = self.type_of(x);
-        match opcode {
-            BinaryOpcode::Iadd => sum(ty, self.bits(x), self.bits(y)),
-            BinaryOpcode::Isub => difference(ty, self.bits(x), self.bits(y)),
-        }
-    }
-
     /// Makes an instruction of this shape and with these results.
     fn make(&mut self, shape: &InstructionData, results: &[Value]) -> Result<Next, AllocError> {
         match shape {
@@ -103,8 +94,13 @@ impl<'a> State<'a> {
                 let ty = first.map_or(types::INVALID, |value| self.type_of(*value));
                 self.give(results, &[constant(ty, *imm)])?;
             }
+            InstructionData::Unary { opcode, arg } => {
+                let bits = unary(*opcode, self.type_of(*arg), self.bits(*arg));
+                self.give(results, &[bits])?;
+            }
             InstructionData::Binary { opcode, args } => {
-                let bits = self.binary(*opcode, *args);
+                let [x, y] = *args;
+                let bits = binary(*opcode, self.type_of(x), self.bits(x), self.bits(y));
                 self.give(results, &[bits])?;
             }
             InstructionData::Jump { destination } => return self.follow(destination),

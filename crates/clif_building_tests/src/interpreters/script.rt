@@ -1,8 +1,7 @@
 //! The interpreter of scripts. It has variables and names of answers, and no aliases, slots or parameters of its own.
 #![tactic(auto)]
 
-use crate::interpreters::{End, STEPS, constant, difference, sum};
-use clif_ir::BinaryOpcode;
+use crate::interpreters::{End, STEPS, binary, constant, unary};
 use clif_script::{Call, Edge, Name, Plan};
 use clif_types::{AbiParam, EntityRef, Signature, Type, types};
 use std::alloc::{AllocError, Global};
@@ -56,13 +55,14 @@ impl<'a> State<'a> {
                 ty: *ty,
                 bits: constant(*ty, *imm),
             },
+            Plan::Unary { opcode, arg } => {
+                let Typed { ty, bits } = self.name(*arg);
+                let bits = unary(*opcode, ty, bits);
+                Typed { ty, bits }
+            }
             Plan::Binary { opcode, args } => {
                 let Typed { ty, bits } = self.name(args[0]);
-                let other = self.name(args[1]).bits;
-                let bits = match opcode {
-                    BinaryOpcode::Iadd => sum(ty, bits, other),
-                    BinaryOpcode::Isub => difference(ty, bits, other),
-                };
+                let bits = binary(*opcode, ty, bits, self.name(args[1]).bits);
                 Typed { ty, bits }
             }
             Plan::Jump { .. } | Plan::Brif { .. } | Plan::MultiAry { .. } => NOTHING,

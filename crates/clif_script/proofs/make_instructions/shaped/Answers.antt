@@ -26,3 +26,9 @@ binary-requires c =
     let x = c.in_ok-x-in-Binary.x in
     let found = subst (λ (f : Body). map (value_of f c.args.answers.now) c.in-Binary.args ≡ map Some (x ∷ c.in_ok-x-in-Binary.y ∷ [])) c.func-func.ensures c.in_ok-x-in-Binary.ensures.found in
     subst (λ (f : Body). x < length f.values) (sym c.func-func.ensures) (first-exists b c.args.answers.now c.in-Binary.args x c.in_ok-x-in-Binary.y c.requires.values found)
+
+pub unary-requires : goal.unary-requires
+unary-requires c = ?
+
+pub returns-in_ok-x-in-Binary : goal.returns-in_ok-x-in-Binary
+returns-in_ok-x-in-Binary c = ?

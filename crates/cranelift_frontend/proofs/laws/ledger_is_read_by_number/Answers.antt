@@ -1,12 +1,9 @@
-use Rattle.std.proofs.Common.{◌≡◌, ℕ, List, ap, ◌∙◌}
-use Rattle.std.specs.Prelude.{Option, Some, option_map, true}
-use Rattle.clif_ir.specs.Body.{Body}
+use Rattle.std.proofs.Common.{◌≡◌, ℕ, ap, ◌∙◌}
+use Rattle.std.specs.Prelude.{Some, option_map, true}
 use Rattle.clif_meaning.specs.Name.{Name}
-use Rattle.clif_meaning.specs.Request.{AnsweredCall}
 use Rattle.clif_meaning.specs.Ledger.{BlockState, block_state, has_block}
-use Rattle.cranelift_frontend.specs.Context.{ContextState}
-use Rattle.cranelift_frontend.specs.Ledger.{LedgerAgrees, block_name, ledger_of}
-use Rattle.cranelift_frontend.specs.LedgerLaws.{IsReadByNumber, IsStateOf, LedgerIsReadByNumber}
+use Rattle.cranelift_frontend.specs.Ledger.{block_name, ledger_of}
+use Rattle.cranelift_frontend.specs.LedgerLaws.{IsStateOf, LedgerIsReadByNumber}
 use Rattle.cranelift_frontend.proofs.LedgerLists.{some-is}
 use Rattle.cranelift_frontend.proofs.LedgerNames.{IsNumbered, block-inserted, find-some, name-number, named-block, same-block, state-by-name}
 use Rattle.cranelift_frontend.proofs.LedgerKept.{named-value}

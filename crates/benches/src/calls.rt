@@ -1,0 +1,204 @@
+//! Calls on a builder of eight variables of type I32. Each asks first whether it may be made.
+ghost use Rattle.std.specs.Prelude.{◌≡◌, ◌<◌, length, slice_get, Some, OnOk, [], false};
+ghost use Rattle.clif_ssa.specs.Ssa.{sealed_of};
+ghost use Rattle.clif_ssa.specs.Tables.{is_yes};
+ghost use Rattle.cranelift_frontend.specs.Builder.{HasCurrent};
+ghost use Rattle.benches.specs.Variables.{eight, refused, word};
+
+use clif_types::types::I32;
+use cranelift_frontend::{
+    Block, BuildError, EntityRef, FunctionBuilder, InstBuilder, Value, Variable,
+};
+
+/// Why a function wasn't built.
+#[derive(Clone, Copy, PartialEq, Eq)]
+pub enum Fault {
+    /// A call was refused.
+    Refused(BuildError),
+    /// A call may not be made.
+    Misuse,
+}
+
+impl From<BuildError> for Fault {
+    ghost from_gives = { λ error fault. fault ≡ refused error };
+
+    fn from(error: BuildError) -> Fault {
+        Fault::Refused(error)
+    }
+}
+
+/// One of the eight variables.
+pub fn variable(number: usize) -> Variable
+    ensures exists { result < 8 }
+    ensures has_type { slice_get eight result ≡ Some word }
+{
+    let place = match number % 8 {
+        0 => 0,
+        1 => 1,
+        2 => 2,
+        3 => 3,
+        4 => 4,
+        5 => 5,
+        6 => 6,
+        _ => 7,
+    };
+    Variable::from_u32(place)
+}
+
+/// Declares the eight variables.
+pub fn declare_all(builder: &mut FunctionBuilder<'_>) -> Result<(), Fault>
+    requires { builder.old.ctx.now.variables ≡ [] }
+    ensures { OnOk result (builder.new.ctx.now.variables ≡ eight) }
+{
+    builder.declare_var(I32)?;
+    builder.declare_var(I32)?;
+    builder.declare_var(I32)?;
+    builder.declare_var(I32)?;
+    builder.declare_var(I32)?;
+    builder.declare_var(I32)?;
+    builder.declare_var(I32)?;
+    builder.declare_var(I32)?;
+    Ok(())
+}
+
+// There is a current block, which isn't filled.
+fn open(builder: &FunctionBuilder<'_>) -> Result<(), Fault>
+    ensures { OnOk result (HasCurrent builder.now) }
+{
+    match builder.current_block() {
+        Some(block) if block.index() < builder.func().block_count() && !builder.is_filled(block) =>
+            { Ok(()) }
+        _ => Err(Fault::Misuse),
+    }
+}
+
+// A block exists and isn't sealed.
+fn unsealed(builder: &FunctionBuilder<'_>, block: Block) -> Result<(), Fault>
+    ensures exists { OnOk result (block < length builder.now.func.now.blocks) }
+    ensures unsealed { OnOk result (is_yes (sealed_of builder.now.ctx.now.ssa block) ≡ false) }
+{
+    if block.index() >= builder.func().block_count() || builder.is_sealed(block) {
+        return Err(Fault::Misuse);
+    }
+    Ok(())
+}
+
+// A value exists.
+fn exists(builder: &FunctionBuilder<'_>, value: Value) -> Result<(), Fault>
+    ensures { OnOk result (value < length builder.now.func.now.values) }
+{
+    if value.index() >= builder.func().value_count() {
+        return Err(Fault::Misuse);
+    }
+    Ok(())
+}
+
+/// A new block.
+pub fn create(builder: &mut FunctionBuilder<'_>) -> Result<Block, Fault>
+    ensures { builder.new.ctx.now.variables ≡ builder.old.ctx.now.variables }
+{
+    Ok(builder.create_block()?)
+}
+
+/// Goes on in a block, where the one before is filled.
+pub fn enter(builder: &mut FunctionBuilder<'_>, block: Block) -> Result<(), Fault>
+    ensures { builder.new.ctx.now.variables ≡ builder.old.ctx.now.variables }
+{
+    if block.index() >= builder.func().block_count() || builder.is_filled(block) {
+        return Err(Fault::Misuse);
+    }
+    if let Some(current) = builder.current_block() {
+        if current.index() >= builder.func().block_count() || !builder.is_filled(current) {
+            return Err(Fault::Misuse);
+        }
+    }
+    builder.switch_to_block(block);
+    Ok(())
+}
+
+/// Seals a block.
+pub fn seal(builder: &mut FunctionBuilder<'_>, block: Block) -> Result<(), Fault>
+    ensures { builder.new.ctx.now.variables ≡ builder.old.ctx.now.variables }
+{
+    unsealed(builder, block)?;
+    builder.seal_block(block)?;
+    Ok(())
+}
+
+/// What a variable holds.
+pub fn read(builder: &mut FunctionBuilder<'_>, number: usize) -> Result<Value, Fault>
+    requires { builder.old.ctx.now.variables ≡ eight }
+    ensures { builder.new.ctx.now.variables ≡ builder.old.ctx.now.variables }
+{
+    open(builder)?;
+    Ok(builder.use_var(variable(number))?)
+}
+
+/// Assigns a value to a variable.
+pub fn assign(builder: &mut FunctionBuilder<'_>, number: usize, value: Value) -> Result<(), Fault>
+    requires { builder.old.ctx.now.variables ≡ eight }
+    ensures { builder.new.ctx.now.variables ≡ builder.old.ctx.now.variables }
+{
+    open(builder)?;
+    exists(builder, value)?;
+    if builder.func().value_type(value) != I32 {
+        return Err(Fault::Misuse);
+    }
+    builder.def_var(variable(number), value)?;
+    Ok(())
+}
+
+/// A constant.
+pub fn constant(builder: &mut FunctionBuilder<'_>, number: i64) -> Result<Value, Fault>
+    ensures { builder.new.ctx.now.variables ≡ builder.old.ctx.now.variables }
+{
+    open(builder)?;
+    Ok(builder.ins().iconst(I32, number)?)
+}
+
+/// A sum.
+pub fn sum(builder: &mut FunctionBuilder<'_>, x: Value, y: Value) -> Result<Value, Fault>
+    ensures { builder.new.ctx.now.variables ≡ builder.old.ctx.now.variables }
+{
+    open(builder)?;
+    exists(builder, x)?;
+    exists(builder, y)?;
+    Ok(builder.ins().iadd(x, y)?)
+}
+
+/// Ends the current block with a jump.
+pub fn jump(builder: &mut FunctionBuilder<'_>, block: Block) -> Result<(), Fault>
+    ensures { builder.new.ctx.now.variables ≡ builder.old.ctx.now.variables }
+{
+    open(builder)?;
+    unsealed(builder, block)?;
+    builder.ins().jump(block, &[])?;
+    Ok(())
+}
+
+/// Ends the current block with a branch.
+pub fn branch(
+    builder: &mut FunctionBuilder<'_>,
+    condition: Value,
+    taken: Block,
+    other: Block,
+) -> Result<(), Fault>
+    ensures { builder.new.ctx.now.variables ≡ builder.old.ctx.now.variables }
+{
+    open(builder)?;
+    exists(builder, condition)?;
+    unsealed(builder, taken)?;
+    unsealed(builder, other)?;
+    builder.ins().brif(condition, taken, &[], other, &[])?;
+    Ok(())
+}
+
+/// Ends the current block with a return of a value.
+pub fn give_back(builder: &mut FunctionBuilder<'_>, value: Value) -> Result<(), Fault>
+    ensures { builder.new.ctx.now.variables ≡ builder.old.ctx.now.variables }
+{
+    open(builder)?;
+    exists(builder, value)?;
+    builder.ins().return_(&[value])?;
+    Ok(())
+}

@@ -1,0 +1,148 @@
+//! The kinds of functions that are measured.
+ghost use Rattle.std.specs.Prelude.{◌≡◌};
+ghost use Rattle.benches.specs.Variables.{eight};
+
+use crate::calls::{
+    Fault, assign, branch, constant, create, enter, give_back, jump, read, seal, sum,
+};
+use cranelift_frontend::{Block, FunctionBuilder};
+
+/// What repeats in a function.
+#[derive(Clone, Copy, PartialEq, Eq)]
+pub enum Kind {
+    /// A sum in one block.
+    Block,
+    /// A block with a sum, which is sealed as it is entered.
+    Chain,
+    /// The same, sealed at the end of the function.
+    ChainLate,
+    /// A block with nothing; variables that the first block assigns are used in the last one.
+    Far,
+    /// A branch, two arms of which one assigns, and a join.
+    Diamonds,
+    /// A loop of one block.
+    Loops,
+}
+
+// A variable gets the sum of itself and another one.
+fn add(builder: &mut FunctionBuilder<'_>, number: usize) -> Result<(), Fault>
+    requires { builder.old.ctx.now.variables ≡ eight }
+    ensures { builder.new.ctx.now.variables ≡ builder.old.ctx.now.variables }
+{
+    let x = read(builder, number)?;
+    let y = read(builder, number / 8)?;
+    let total = sum(builder, x, y)?;
+    assign(builder, number, total)
+}
+
+// A jump to a new block, which is entered, and sealed where it is asked for.
+fn go_on(builder: &mut FunctionBuilder<'_>, seals: bool) -> Result<(), Fault>
+    ensures { builder.new.ctx.now.variables ≡ builder.old.ctx.now.variables }
+{
+    let next = create(builder)?;
+    jump(builder, next)?;
+    if seals {
+        seal(builder, next)?;
+    }
+    enter(builder, next)
+}
+
+// One arm of a branch: it is entered and left for the join.
+fn arm(
+    builder: &mut FunctionBuilder<'_>,
+    block: Block,
+    join: Block,
+    number: Option<usize>,
+) -> Result<(), Fault>
+    requires { builder.old.ctx.now.variables ≡ eight }
+    ensures { builder.new.ctx.now.variables ≡ builder.old.ctx.now.variables }
+{
+    seal(builder, block)?;
+    enter(builder, block)?;
+    if let Some(number) = number {
+        add(builder, number)?;
+    }
+    jump(builder, join)
+}
+
+fn diamond(builder: &mut FunctionBuilder<'_>, number: usize) -> Result<(), Fault>
+    requires { builder.old.ctx.now.variables ≡ eight }
+    ensures { builder.new.ctx.now.variables ≡ builder.old.ctx.now.variables }
+{
+    let taken = create(builder)?;
+    let other = create(builder)?;
+    let join = create(builder)?;
+    let condition = read(builder, number)?;
+    branch(builder, condition, taken, other)?;
+    arm(builder, taken, join, Some(number))?;
+    arm(builder, other, join, None)?;
+    seal(builder, join)?;
+    enter(builder, join)
+}
+
+fn loop_once(builder: &mut FunctionBuilder<'_>, number: usize) -> Result<(), Fault>
+    requires { builder.old.ctx.now.variables ≡ eight }
+    ensures { builder.new.ctx.now.variables ≡ builder.old.ctx.now.variables }
+{
+    let body = create(builder)?;
+    let exit = create(builder)?;
+    jump(builder, body)?;
+    enter(builder, body)?;
+    add(builder, number)?;
+    let condition = read(builder, number)?;
+    branch(builder, condition, body, exit)?;
+    seal(builder, body)?;
+    seal(builder, exit)?;
+    enter(builder, exit)
+}
+
+// What repeats.
+fn turn(builder: &mut FunctionBuilder<'_>, kind: Kind, number: usize) -> Result<(), Fault>
+    requires { builder.old.ctx.now.variables ≡ eight }
+    ensures { builder.new.ctx.now.variables ≡ builder.old.ctx.now.variables }
+{
+    match kind {
+        Kind::Block => add(builder, number),
+        Kind::Chain => {
+            add(builder, number)?;
+            go_on(builder, true)
+        }
+        Kind::ChainLate => {
+            add(builder, number)?;
+            go_on(builder, false)
+        }
+        Kind::Far => go_on(builder, true),
+        Kind::Diamonds => diamond(builder, number),
+        Kind::Loops => loop_once(builder, number),
+    }
+}
+
+// The first block assigns each variable.
+fn assign_all(builder: &mut FunctionBuilder<'_>) -> Result<(), Fault>
+    requires { builder.old.ctx.now.variables ≡ eight }
+    ensures { builder.new.ctx.now.variables ≡ builder.old.ctx.now.variables }
+{
+    for number in 0..8 {
+        let value = constant(builder, 1)?;
+        assign(builder, number, value)?;
+    }
+    Ok(())
+}
+
+/// Makes a function of a kind, with so many turns, which returns a variable.
+pub fn make(builder: &mut FunctionBuilder<'_>, kind: Kind, turns: usize) -> Result<(), Fault>
+    requires { builder.old.ctx.now.variables ≡ eight }
+{
+    let entry = create(builder)?;
+    seal(builder, entry)?;
+    enter(builder, entry)?;
+    assign_all(builder)?;
+    for number in 0..turns {
+        turn(builder, kind, number)?;
+    }
+    add(builder, 1)?;
+    let value = read(builder, 1)?;
+    give_back(builder, value)?;
+    builder.seal_all_blocks()?;
+    Ok(())
+}

@@ -1,0 +1,51 @@
+-- Outcomes fit the typing table.
+use Rattle.std.proofs.Common.{◌≡◌, ◌+◌, ◌-◌, ◌%◌, ◌^◌, ◌<◌, ℕ, List, [], ◌∷◌, arith, refl, subst, sym}
+use Rattle.std.specs.Prelude.{IsTrue, ℤ, pos, negsuc}
+use Rattle.std.proofs.Math.Nat.{mod-lt}
+use Rattle.clif_types.specs.declared.types.«Type».{«Type»}
+use Rattle.clif_types.specs.Types.{bits_of}
+use Rattle.clif_types.specs.Typing.{FitOperands, meets}
+use Rattle.clif_meaning.specs.Bits.{Bits, HasWidth, IsValue, AreValues, wrapped}
+use Rattle.clif_meaning.specs.Memory.{Memory}
+use Rattle.clif_meaning.specs.Instruction.{Arithmetic, Iconst, Unary, Binary, Operation, Compute, Jump, Brif, Return, operation_typing}
+use Rattle.clif_meaning.specs.Program.{result_types}
+use Rattle.clif_meaning.specs.Outcome.{Outcome, outcome_of, low_bits_at, unary_number, binary_number}
+use Rattle.clif_meaning.specs.Laws.{FitsTypes, OutcomesFit}
+use Rattle.clif_meaning.specs.World.{World}
+use Rattle.clif_meaning.proofs.SampleWorld.{pow_pos}
+
+low_fits : (ty : «Type») (number : ℕ) → IsValue ty (low_bits_at ty number)
+low_fits ty number = mod-lt number (pow_pos (bits_of ty))
+
+constant_fits : (width : ℕ) (number : ℤ) → HasWidth width (wrapped width number)
+constant_fits width (pos n) = mod-lt n (pow_pos width)
+constant_fits width (negsuc n) =
+    let positive : 0 < 2 ^ width = pow_pos width in
+    omega (arith, positive)
+
+pub outcomes_fit : OutcomesFit
+outcomes_fit world (Compute (Iconst number)) ty returns [] [] memory at fits values = (constant_fits (bits_of ty) number, tt)
+outcomes_fit world (Compute (Iconst number)) ty returns [] (x ∷ operands) memory at fits values = absurd values
+outcomes_fit world (Compute (Iconst number)) ty returns (t ∷ types) operands memory at fits values = absurd fits
+outcomes_fit world (Compute (Unary opcode)) ty returns [] operands memory at fits values = absurd fits
+outcomes_fit world (Compute (Unary opcode)) ty returns (t ∷ u ∷ types) operands memory at fits values = absurd fits.1
+outcomes_fit world (Compute (Unary opcode)) ty returns (t ∷ []) [] memory at fits values = absurd values
+outcomes_fit world (Compute (Unary opcode)) ty returns (t ∷ []) (x ∷ y ∷ operands) memory at fits values = absurd values.1
+outcomes_fit world (Compute (Unary opcode)) ty returns (t ∷ []) (x ∷ []) memory at fits values = (low_fits ty (unary_number opcode (bits_of ty) x), tt)
+outcomes_fit world (Compute (Binary opcode)) ty returns [] operands memory at fits values = absurd fits
+outcomes_fit world (Compute (Binary opcode)) ty returns (t ∷ []) operands memory at fits values = absurd fits.1
+outcomes_fit world (Compute (Binary opcode)) ty returns (t ∷ u ∷ v ∷ types) operands memory at fits values = absurd fits.1.1
+outcomes_fit world (Compute (Binary opcode)) ty returns (t ∷ u ∷ []) [] memory at fits values = absurd values
+outcomes_fit world (Compute (Binary opcode)) ty returns (t ∷ u ∷ []) (x ∷ []) memory at fits values = absurd values.1
+outcomes_fit world (Compute (Binary opcode)) ty returns (t ∷ u ∷ []) (x ∷ y ∷ z ∷ operands) memory at fits values = absurd values.1.1
+outcomes_fit world (Compute (Binary opcode)) ty returns (t ∷ u ∷ []) (x ∷ y ∷ []) memory at fits values =
+    (low_fits ty (binary_number opcode (bits_of ty) x y), tt)
+outcomes_fit world Jump ty returns [] [] memory at fits values = tt
+outcomes_fit world Jump ty returns [] (x ∷ operands) memory at fits values = absurd values
+outcomes_fit world Jump ty returns (t ∷ types) operands memory at fits values = absurd fits
+outcomes_fit world Brif ty returns [] operands memory at fits values = absurd fits
+outcomes_fit world Brif ty returns (t ∷ u ∷ types) operands memory at fits values = absurd fits.1
+outcomes_fit world Brif ty returns (t ∷ []) [] memory at fits values = absurd values
+outcomes_fit world Brif ty returns (t ∷ []) (x ∷ y ∷ operands) memory at fits values = absurd values.1
+outcomes_fit world Brif ty returns (t ∷ []) (x ∷ []) memory at fits values = tt
+outcomes_fit world Return ty returns types operands memory at fits values = subst (λ (ts : List «Type»). AreValues ts operands) fits values

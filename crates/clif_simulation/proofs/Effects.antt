@@ -1,0 +1,105 @@
+-- What a call does to the variable program and to the ledger: a few effects serve all calls. Laws of one more call are by
+-- these effects, so that a new call needs its two rows here, and none there.
+use Rattle.std.proofs.Common.{◌≡◌, ℕ, List, refl, Some, None, IsTrue}
+use Rattle.std.specs.Prelude.{Option}
+use Rattle.clif_types.specs.declared.types.«Type».{«Type»}
+use Rattle.clif_meaning.specs.Name.{Name}
+use Rattle.clif_meaning.specs.Instruction.{Instruction}
+use Rattle.clif_meaning.specs.Request.{Request, CreateBlock, SwitchToBlock, SealBlock, SealAllBlocks, InsertBlockAfter, SetColdBlock, EnsureInsertedBlock, AppendBlockParams, AppendFunctionParams, DeclareVar, DefVar, UseVar, Build, Finalize}
+use Rattle.clif_meaning.specs.Program.{Program, answers_from, extended, with_inserted, with_parameters}
+use Rattle.clif_meaning.specs.Ledger.{BlockState, Ledger, changed_by, put_after, sealed, with_begun, with_parameter_types, with_state}
+
+-- the call makes no block
+abbrev pub MakesNoBlock : Request → Type 0
+MakesNoBlock CreateBlock = ⊥
+MakesNoBlock _ = Unit {0}
+
+-- the call makes no parameter of the caller's
+abbrev pub MakesNoParameter : Request → Type 0
+MakesNoParameter (AppendBlockParams block types) = ⊥
+MakesNoParameter (AppendFunctionParams block types) = ⊥
+MakesNoParameter _ = Unit {0}
+
+-- the block that the call switches to, if it switches to one
+abbrev pub switch_of : Request → Option Name
+switch_of (SwitchToBlock block) = Some block
+switch_of _ = None
+
+-- THE PROGRAM -------------------------------------------------------------------------------------------------------------
+
+pub data ProgramEffect (request : Request) : Type 0 where
+  -- it adds nothing
+  Leaves : switch_of request ≡ None → ((program : Program) → extended program request ≡ program) → ProgramEffect request
+  -- the current block comes into the layout
+  Inserts : switch_of request ≡ None → ((program : Program) → extended program request ≡ with_inserted program) → ProgramEffect request
+  -- parameters of the caller's
+  Takes : (block : Name) (types : List «Type») → switch_of request ≡ None → (MakesNoParameter request → ⊥)
+      → ((program : Program) → extended program request ≡ with_parameters program block (answers_from program.place 0 types)) → ProgramEffect request
+  Switches : (block : Name) → request ≡ SwitchToBlock block → ProgramEffect request
+  -- an item of the current block
+  Assigns : (variable : ℕ) (value : Name) → request ≡ DefVar variable value → ProgramEffect request
+  Uses : (variable : ℕ) → request ≡ UseVar variable → ProgramEffect request
+  Builds : (instruction : Instruction Name Name) → request ≡ Build instruction → ProgramEffect request
+
+pub program_effect : (request : Request) → ProgramEffect request
+program_effect CreateBlock = Leaves refl (λ program. refl)
+program_effect (SwitchToBlock block) = Switches block refl
+program_effect (SealBlock block) = Leaves refl (λ program. refl)
+program_effect SealAllBlocks = Leaves refl (λ program. refl)
+program_effect (InsertBlockAfter block after) = Leaves refl (λ program. refl)
+program_effect (SetColdBlock block) = Leaves refl (λ program. refl)
+program_effect EnsureInsertedBlock = Inserts refl (λ program. refl)
+program_effect (AppendBlockParams block types) = Takes block types refl (λ none. none) (λ program. refl)
+program_effect (AppendFunctionParams block types) = Takes block types refl (λ none. none) (λ program. refl)
+program_effect (DeclareVar ty) = Leaves refl (λ program. refl)
+program_effect (DefVar variable value) = Assigns variable value refl
+program_effect (UseVar variable) = Uses variable refl
+program_effect (Build instruction) = Builds instruction refl
+program_effect Finalize = Leaves refl (λ program. refl)
+
+-- THE LEDGER --------------------------------------------------------------------------------------------------------------
+
+-- a change of states that keeps names and filled blocks
+pub record KeepsFilled (change : BlockState → BlockState) : Type 0 where
+  pub name : (state : BlockState) → (change state).block ≡ state.block
+  pub filled : (state : BlockState) → IsTrue state.is_filled → IsTrue (change state).is_filled
+
+pub data LedgerEffect (request : Request) : Type 0 where
+  -- its answers aside, it changes nothing
+  Keeps : switch_of request ≡ None → ((ledger : Ledger) → changed_by ledger request ≡ ledger) → LedgerEffect request
+  -- the order of the layout
+  Lays : (layout : Ledger → List Name) → switch_of request ≡ None → ((ledger : Ledger) → changed_by ledger request ≡ record ledger { layout = layout ledger }) → LedgerEffect request
+  -- the state of one block
+  Changes : (block : Name) (change : BlockState → BlockState) → KeepsFilled change → switch_of request ≡ None
+      → ((ledger : Ledger) → changed_by ledger request ≡ with_state ledger block change) → LedgerEffect request
+  -- something is made in the current block
+  Begins : switch_of request ≡ None → ((ledger : Ledger) → changed_by ledger request ≡ with_begun ledger) → LedgerEffect request
+  Creates : request ≡ CreateBlock → LedgerEffect request
+  Enters : (block : Name) → request ≡ SwitchToBlock block → LedgerEffect request
+  Seals : request ≡ SealAllBlocks → LedgerEffect request
+  Declares : (ty : «Type») → request ≡ DeclareVar ty → LedgerEffect request
+  Touches : (variable : ℕ) (value : Name) → request ≡ DefVar variable value → LedgerEffect request
+  Reads : (variable : ℕ) → request ≡ UseVar variable → LedgerEffect request
+  Appends : (instruction : Instruction Name Name) → request ≡ Build instruction → LedgerEffect request
+
+seals : KeepsFilled sealed
+seals = record { name = λ state. refl; filled = λ state is. is }
+
+takes : (types : List «Type») → KeepsFilled (with_parameter_types types)
+takes types = record { name = λ state. refl; filled = λ state is. is }
+
+pub ledger_effect : (request : Request) → LedgerEffect request
+ledger_effect CreateBlock = Creates refl
+ledger_effect (SwitchToBlock block) = Enters block refl
+ledger_effect (SealBlock block) = Changes block sealed seals refl (λ ledger. refl)
+ledger_effect SealAllBlocks = Seals refl
+ledger_effect (InsertBlockAfter block after) = Lays (λ ledger. put_after block after ledger.layout) refl (λ ledger. refl)
+ledger_effect (SetColdBlock block) = Keeps refl (λ ledger. refl)
+ledger_effect EnsureInsertedBlock = Begins refl (λ ledger. refl)
+ledger_effect (AppendBlockParams block types) = Changes block (with_parameter_types types) (takes types) refl (λ ledger. refl)
+ledger_effect (AppendFunctionParams block types) = Changes block (with_parameter_types types) (takes types) refl (λ ledger. refl)
+ledger_effect (DeclareVar ty) = Declares ty refl
+ledger_effect (DefVar variable value) = Touches variable value refl
+ledger_effect (UseVar variable) = Reads variable refl
+ledger_effect (Build instruction) = Appends instruction refl
+ledger_effect Finalize = Keeps refl (λ ledger. refl)

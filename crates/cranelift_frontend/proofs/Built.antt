@@ -1,0 +1,113 @@
+-- What building an instruction makes of a builder.
+use Rattle.std.proofs.Common.{◌≡◌, ◌≢◌, ◌<◌, ℕ, List, [], ◌∷◌, sym, ◌∙◌, ap, subst}
+use Rattle.std.specs.Prelude.{All, false, is_err, Option, Some, IfSome, IfOk, Result, Ok, Err, length}
+use Rattle.clif_types.specs.declared.error.BuildError.{BuildError}
+use Rattle.clif_types.specs.declared.error.BuildError.TheVariants.{Full, Failed}
+use Rattle.clif_types.specs.declared.types.«Type».{«Type»}
+use Rattle.clif_ir.specs.declared.instructions.InstructionData.{InstructionData}
+use Rattle.clif_ir.specs.Body.{inst_at}
+use Rattle.clif_ir.specs.Consistent.{IsConsistent}
+use Rattle.clif_ir.specs.Instruction.{destinations, is_branch, is_terminator, result_types}
+use Rattle.clif_ir.specs.Reading.{targets}
+use Rattle.cranelift_frontend.specs.declared.builder.FunctionBuilder.{FunctionBuilder}
+use Rattle.cranelift_frontend.specs.Builder.{Appends, CanLead, HasCurrent, SameLoans}
+use Rattle.cranelift_frontend.specs.Built.{Builds, BuildsValue, HasFullTable, after_build, numbers_of, numbers_with}
+use Rattle.cranelift_frontend.specs.Construction.{IsDeclared}
+use Rattle.clif_meaning.specs.Instruction.{Instruction}
+use Rattle.clif_meaning.specs.Name.{Name}
+use Rattle.clif_meaning.specs.Request.{AnsweredCall}
+use Rattle.cranelift_frontend.specs.Ledger.{AgreesWithLedger, HasShape, LedgerAgrees, ledger_of}
+use Rattle.cranelift_frontend.specs.StandsFor.{StandsFor, StandsIn}
+use Rattle.cranelift_frontend.proofs.Growing.{append_exists, append_grows, appends_value, at_current, current_appended, current_results}
+use Rattle.cranelift_frontend.proofs.LedgerShaped.{current-is, ledger-shaped}
+use Rattle.cranelift_frontend.proofs.Remembered.{remembers_appended}
+use Rattle.cranelift_frontend.proofs.Standing.{current_exists, current_open}
+use Rattle.cranelift_frontend.proofs.StandingShaped.{stands_shaped}
+
+-- an instruction was appended to the current block, or that was refused
+module _ (old new : FunctionBuilder) (shape : InstructionData) (ty : «Type») (block : ℕ) (r : Result ℕ BuildError)
+    (sound : old.failed ≡ false) (current : HasCurrent old) (at : old.position ≡ Some block) (consistent : IsConsistent old.func.now)
+    (edges : All (CanLead old) (destinations shape)) (loans : SameLoans old new) (position : new.position ≡ old.position)
+    (fails : new.failed ≡ is_err r) (appends : IfOk r (Appends old new block shape ty))
+    (declares : IfOk r (λ inst. IsDeclared old.ctx.now.ssa inst (targets (destinations shape)) new.ctx.now.ssa))
+    (ssa : is_branch shape ≡ false → new.ctx.now.ssa ≡ old.ctx.now.ssa) (variables : new.ctx.now.variables ≡ old.ctx.now.variables)
+    (full : r ≡ Err Full → HasFullTable old) (never_failed : r ≢ Err Failed) where
+  appends_at : IfSome old.position (λ block. IfOk r (Appends old new block shape ty))
+  appends_at = subst (λ (o : Option ℕ). IfSome o (λ b. IfOk r (Appends old new b shape ty))) (sym at) appends
+
+  -- the calls after it, on a builder of these parts
+  abbrev Agrees : List AnsweredCall → Instruction Name Name → Option ℕ → Type 0
+  Agrees calls instruction position =
+      IfOk r (λ inst. LedgerAgrees (after_build calls instruction (numbers_of new inst))
+      (ledger_of (after_build calls instruction (numbers_of new inst))) new.func.now new.ctx.now position)
+
+  agrees_after : (calls : List AnsweredCall) (instruction : Instruction Name Name) → AgreesWithLedger calls old
+      → HasShape calls old.func.now instruction shape ty → Agrees calls instruction old.position
+  agrees_after calls instruction agrees has =
+      ledger-shaped calls old.func.now new.func.now old.ctx.now new.ctx.now old.position block instruction shape ty r agrees at
+      (current-is old current block at) consistent has edges appends declares ssa variables
+
+  pub builds_appended : Builds old new shape ty r
+  builds_appended =
+      record {
+        loans = loans;
+        appends = appends_at;
+        declares = declares;
+        ssa = ssa;
+        variables = variables;
+        position = position;
+        full = full;
+        failed = (λ is. absurd (never_failed is), λ failed. let no_way : ⊥ = cc in absurd no_way);
+        unchanged = λ failed. let no_way : ⊥ = cc in absurd no_way;
+        fails = fails;
+        ledger = λ calls instruction agrees has.
+            subst (Agrees calls instruction) (sym position) (agrees_after calls instruction agrees has);
+        stands = λ signature calls instruction stands has.
+            subst (λ (o : Option ℕ). IfOk r (λ inst. StandsIn signature (after_build calls instruction (numbers_of new inst)) new.func.now new.ctx.now o))
+            (sym position)
+            (stands_shaped signature calls old.func.now new.func.now old.ctx.now new.ctx.now old.position instruction shape ty r block
+            stands consistent has at (current_exists old current block at) (current_open old current block at) appends edges declares ssa
+            (agrees_after calls instruction stands.ledger has));
+        exists = append_exists r old.func.now old.ctx.now new.func.now new.ctx.now block shape ty appends;
+        grows = append_grows r old.func.now old.ctx.now new.func.now new.ctx.now block shape ty appends;
+        remembers = λ v b.
+            remembers_appended r v b old.func.now new.func.now old.ctx.now new.ctx.now block shape ty consistent appends declares;
+        current = λ goes_on. current_appended r old new shape ty current position appends_at goes_on;
+      }
+
+-- its result is answered
+module _ (old new : FunctionBuilder) (shape : InstructionData) (ty : «Type») (inst value : ℕ)
+    (current : HasCurrent old) (built : Builds old new shape ty (Ok inst)) (no_branch : is_branch shape ≡ false)
+    (one : result_types shape ty ≡ ty ∷ []) (goes_on : is_terminator shape ≡ false) (is : value ≡ length old.func.now.values)
+    (exists : value < length new.func.now.values) where
+  numbers : numbers_of new inst ≡ numbers_with old value
+  numbers =
+      let number : inst ≡ length old.func.now.insts =
+      (at_current old (λ block. Appends old new block shape ty inst) current built.appends).number in
+      let results : (inst_at new.func.now inst).results ≡ value ∷ [] =
+      current_results old new shape ty inst current built.appends one ∙ ap (λ (v : ℕ). v ∷ []) (sym is) in
+      ap (λ (i : ℕ). i ∷ (inst_at new.func.now inst).results) number ∙ ap (λ (vs : List ℕ). length old.func.now.insts ∷ vs) results
+
+  pub builds_value : BuildsValue old new shape ty (Ok value)
+  builds_value = record {
+    loans = built.loans;
+    appends = appends_value old new shape ty inst value built.appends is;
+    ssa = built.ssa no_branch;
+    variables = built.variables;
+    position = built.position;
+    full = λ full. let no_way : ⊥ = cc in absurd no_way;
+    failed = (
+      λ failed. let no_way : ⊥ = cc in absurd no_way,
+      λ failed. let refused : ◌≡◌ {A = Result ℕ BuildError} (Ok inst) (Err Failed) = built.failed.1 failed in let no_way : ⊥ = cc in absurd no_way,
+    );
+    unchanged = built.unchanged;
+    fails = built.fails;
+    ledger = λ calls instruction agrees has.
+        subst (λ (ns : List ℕ). AgreesWithLedger (after_build calls instruction ns) new) numbers (built.ledger calls instruction agrees has);
+    stands = λ signature calls instruction stands has.
+        subst (λ (ns : List ℕ). StandsFor signature (after_build calls instruction ns) new) numbers (built.stands signature calls instruction stands has);
+    exists = exists;
+    grows = built.grows;
+    remembers = built.remembers;
+    current = built.current goes_on;
+  }

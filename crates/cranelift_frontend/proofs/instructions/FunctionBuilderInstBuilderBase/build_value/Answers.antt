@@ -1,0 +1,35 @@
+use Rattle.std.proofs.Common.{◌≡◌, ◌<◌, ℕ, List, [], ◌∷◌, Ok, length, get_or, arith, ap, sym, subst, ◌∙◌}
+use Rattle.cranelift_frontend.specs.declared.builder.FunctionBuilder.{FunctionBuilder}
+use Rattle.cranelift_frontend.specs.Built.{BuildsValue}
+use Rattle.cranelift_frontend.proofs.Built.{builds_value}
+use Rattle.cranelift_frontend.proofs.Growing.{current_results}
+use Rattle.cranelift_frontend.proofs.Named.{same_builder}
+use Rattle.cranelift_frontend.proofs.instructions.FunctionBuilderInstBuilderBase.build_value.Goals as goal
+
+pub bounds-inst_results-0 : goal.bounds-inst_results-0
+bounds-inst_results-0 c =
+    let results : c.inst_results.result.now ≡ length c.args.self.now.func.now.values ∷ [] =
+    c.inst_results.ensures.exact
+    ∙ current_results c.args.self.now c.build.new.self c.args.shape c.args.ctrl_type c.in_ok-inst.inst c.requires.current c.in_ok-inst.ensures.built.appends (c.requires.value.one_result c.args.ctrl_type) in
+    let one : length c.inst_results.result.now ≡ 1 = ap (λ (xs : List ℕ). length xs) results in
+    omega (arith, one)
+
+pub returns : goal.returns
+returns c =
+    let value : ℕ = c.index-inst_results-0.result in
+    let results : c.inst_results.result.now ≡ length c.args.self.now.func.now.values ∷ [] =
+    c.inst_results.ensures.exact
+    ∙ current_results c.args.self.now c.build.new.self c.args.shape c.args.ctrl_type c.in_ok-inst.inst c.requires.current c.in_ok-inst.ensures.built.appends (c.requires.value.one_result c.args.ctrl_type) in
+    let is : value ≡ length c.args.self.now.func.now.values =
+    c.index-inst_results-0.is ∙ ap (λ (xs : List ℕ). get_or xs 0 value) results in
+    let one : length c.inst_results.result.now ≡ 1 = ap (λ (xs : List ℕ). length xs) results in
+    let first : get_or c.inst_results.result.now 0 0 ≡ length c.args.self.now.func.now.values = ap (λ (xs : List ℕ). get_or xs 0 0) results in
+    let exist : get_or c.inst_results.result.now 0 0 < length c.build.new.self.func.now.values =
+    c.inst_results.ensures.exist 0 (omega (arith, one)) in
+    let here : value < length c.build.new.self.func.now.values = omega (arith, is, first, exist) in
+    record {
+      built =
+          subst (λ (b : FunctionBuilder). BuildsValue c.args.self.now b c.args.shape c.args.ctrl_type (Ok value)) (sym (same_builder c.build.new.self _))
+          (builds_value c.args.self.now c.build.new.self c.args.shape c.args.ctrl_type c.in_ok-inst.inst value
+          c.requires.current c.in_ok-inst.ensures.built c.requires.value.no_branch (c.requires.value.one_result c.args.ctrl_type) c.requires.value.goes_on is here);
+    }

@@ -1,0 +1,81 @@
+-- What building an instruction makes of a builder, whatever it answers. Source: own, after the crate's documentation of
+-- `InstBuilder`.
+use Rattle.std.specs.Prelude.{◌≡◌, ◌<◌, ◌-◌, ◌^◌, ◌⊎◌, ◌↔◌, ℕ, List, [], ◌∷◌, ◌++◌, length, false, is_err, IsTrue, Result, Err, IfOk, OnOk, IfSome}
+use Rattle.clif_types.specs.declared.error.BuildError.{BuildError}
+use Rattle.clif_types.specs.declared.error.BuildError.TheVariants.{Full, Failed}
+use Rattle.clif_types.specs.declared.types.«Type».{«Type»}
+use Rattle.clif_types.specs.Signature.{SignatureShape}
+use Rattle.clif_ir.specs.Body.{inst_at}
+use Rattle.clif_ir.specs.Instruction.{destinations, is_branch, is_terminator}
+use Rattle.clif_ir.specs.Reading.{targets}
+use Rattle.clif_ir.specs.declared.instructions.InstructionData.{InstructionData}
+use Rattle.clif_meaning.specs.Instruction.{Instruction}
+use Rattle.clif_meaning.specs.Name.{Name}
+use Rattle.clif_meaning.specs.Request.{AnsweredCall, Build}
+use Rattle.cranelift_frontend.specs.declared.builder.FunctionBuilder.{FunctionBuilder}
+use Rattle.cranelift_frontend.specs.Builder.{Appends, AppendsValue, HasCurrent, SameLoans}
+use Rattle.cranelift_frontend.specs.Construction.{IsDeclared}
+use Rattle.cranelift_frontend.specs.Growth.{Grows, RemembersIn}
+use Rattle.cranelift_frontend.specs.Ledger.{AgreesWithLedger, HasShape}
+use Rattle.cranelift_frontend.specs.StandsFor.{StandsFor}
+
+-- the calls, and at their end the one that builds an instruction, answered by these numbers
+abbrev pub after_build : List AnsweredCall → Instruction Name Name → List ℕ → List AnsweredCall
+after_build calls instruction numbers = calls ++ record { request = Build instruction; numbers = numbers } ∷ []
+
+-- the numbers that answer an instruction: its own, and those of its results
+abbrev pub numbers_of : FunctionBuilder → ℕ → List ℕ
+numbers_of b inst = inst ∷ (inst_at b.func.now inst).results
+
+-- the numbers that answer the next instruction, if this value is its only result
+abbrev pub numbers_with : FunctionBuilder → ℕ → List ℕ
+numbers_with b value = length b.func.now.insts ∷ value ∷ []
+
+-- the table of instructions or that of values is full
+abbrev pub HasFullTable : FunctionBuilder → Type 0
+HasFullTable b = (length b.func.now.insts ≡ 2 ^ 32 - 1) ⊎ (length b.func.now.values ≡ 2 ^ 32 - 1)
+
+-- An instruction of this shape was to be built at the end of the current block; the answer is its number, or an error.
+pub record Builds (old new : FunctionBuilder) (shape : InstructionData) (ty : «Type») (answer : Result ℕ BuildError) : Type 0 where
+  pub loans : SameLoans old new
+  pub appends : IfSome old.position (λ block. IfOk answer (Appends old new block shape ty))
+  pub declares : IfOk answer (λ inst. IsDeclared old.ctx.now.ssa inst (targets (destinations shape)) new.ctx.now.ssa)
+  pub ssa : is_branch shape ≡ false → new.ctx.now.ssa ≡ old.ctx.now.ssa
+  pub variables : new.ctx.now.variables ≡ old.ctx.now.variables
+  pub position : new.position ≡ old.position
+  pub full : answer ≡ Err Full → HasFullTable old
+  pub failed : (answer ≡ Err Failed) ↔ IsTrue old.failed
+  pub unchanged : IsTrue old.failed → new ≡ old
+  pub fails : new.failed ≡ is_err answer
+  pub ledger : (calls : List AnsweredCall) (instruction : Instruction Name Name)
+      → AgreesWithLedger calls old → HasShape calls old.func.now instruction shape ty
+      → IfOk answer (λ inst. AgreesWithLedger (after_build calls instruction (numbers_of new inst)) new)
+  pub stands : (signature : SignatureShape) (calls : List AnsweredCall) (instruction : Instruction Name Name)
+      → StandsFor signature calls old → HasShape calls old.func.now instruction shape ty
+      → IfOk answer (λ inst. StandsFor signature (after_build calls instruction (numbers_of new inst)) new)
+  pub exists : IfOk answer (λ inst. inst < length new.func.now.insts)
+  pub grows : OnOk answer (Grows old.func.now new.func.now)
+  pub remembers : (v b : ℕ) → OnOk answer (RemembersIn v b old new)
+  pub current : is_terminator shape ≡ false → OnOk answer (HasCurrent new)
+
+-- The same of an instruction that has one result and ends no block; the answer is that result.
+pub record BuildsValue (old new : FunctionBuilder) (shape : InstructionData) (ty : «Type») (answer : Result ℕ BuildError) : Type 0 where
+  pub loans : SameLoans old new
+  pub appends : IfSome old.position (λ block. IfOk answer (AppendsValue old new block shape ty))
+  pub ssa : new.ctx.now.ssa ≡ old.ctx.now.ssa
+  pub variables : new.ctx.now.variables ≡ old.ctx.now.variables
+  pub position : new.position ≡ old.position
+  pub full : answer ≡ Err Full → HasFullTable old
+  pub failed : (answer ≡ Err Failed) ↔ IsTrue old.failed
+  pub unchanged : IsTrue old.failed → new ≡ old
+  pub fails : new.failed ≡ is_err answer
+  pub ledger : (calls : List AnsweredCall) (instruction : Instruction Name Name)
+      → AgreesWithLedger calls old → HasShape calls old.func.now instruction shape ty
+      → IfOk answer (λ value. AgreesWithLedger (after_build calls instruction (numbers_with old value)) new)
+  pub stands : (signature : SignatureShape) (calls : List AnsweredCall) (instruction : Instruction Name Name)
+      → StandsFor signature calls old → HasShape calls old.func.now instruction shape ty
+      → IfOk answer (λ value. StandsFor signature (after_build calls instruction (numbers_with old value)) new)
+  pub exists : IfOk answer (λ value. value < length new.func.now.values)
+  pub grows : OnOk answer (Grows old.func.now new.func.now)
+  pub remembers : (v b : ℕ) → OnOk answer (RemembersIn v b old new)
+  pub current : OnOk answer (HasCurrent new)

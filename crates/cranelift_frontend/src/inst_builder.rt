@@ -1,0 +1,212 @@
+//! The instructions by name, over anything that makes an instruction of any shape: `builder.ins().iadd(x, y)?`.
+ghost use Rattle.std.specs.Prelude.{◌≡◌, ◌∷◌, [], IsTrue, IfOk, OnErr, Err, All};
+ghost use Rattle.clif_types.specs.Types.{is_int};
+ghost use Rattle.clif_ir.specs.Instruction.{operands, destinations};
+ghost use Rattle.cranelift_frontend.specs.Shapes.{GivesValue, AfterValue, binary, brif, edge_to};
+
+use clif_ir::{BinaryOpcode, BlockArg, BlockCall, InstructionData, ValueList};
+use clif_types::{Block, BuildError, Inst, Type, Value};
+use std::alloc::Global;
+
+/// What makes an instruction of any shape at the end of the current block.
+pub trait InstBuilderBase {
+    ghost use Rattle.std.specs.Prelude.{ℕ, Result, Err};
+    ghost use Rattle.clif_types.specs.declared.error.BuildError.{BuildError};
+    ghost use Rattle.clif_types.specs.declared.types.«Type».{«Type»};
+    ghost use Rattle.clif_ir.specs.declared.block_call.BlockCall.{BlockCall};
+    ghost use Rattle.clif_ir.specs.declared.instructions.InstructionData.{InstructionData};
+
+    // there is a current block, which may get an instruction
+    ghost can_build: { Self → Type 0 };
+
+    // the function has this value
+    ghost has_value: { Self → ℕ → Type 0 };
+
+    // an edge may be made: its target exists and isn't sealed, and the function has what it passes
+    ghost can_lead: { Self → BlockCall → Type 0 };
+
+    // the type of a value
+    ghost type_of: { Self → ℕ → «Type» };
+
+    // what `build` makes of the builder, by its answer
+    ghost builds: { Self → Self → InstructionData → «Type» → Result ℕ BuildError → Type 0 };
+
+    // what `build_value` makes of it
+    ghost builds_value: { Self → Self → InstructionData → «Type» → Result ℕ BuildError → Type 0 };
+
+    // what `build_like` makes of it
+    ghost builds_like: { Self → Self → InstructionData → ℕ → Result ℕ BuildError → Type 0 };
+
+    /// The type of a value.
+    fn value_type(&self, value: Value) -> Type
+        requires exists { has_value self.now value }
+        ensures { result ≡ type_of self.now value };
+
+    /// The allocator of what an instruction holds.
+    fn allocator(&self) -> Global;
+
+    /// Appends an instruction; `ctrl_type` is its controlling type.
+    ///
+    /// A terminator fills the block. A branch becomes a predecessor of the target of each edge, once.
+    fn build(&mut self, shape: InstructionData, ctrl_type: Type) -> Result<Inst, BuildError>
+        requires current { can_build self.old }
+        requires operands_exist { All (has_value self.old) (operands shape) }
+        requires edges { All (can_lead self.old) (destinations shape) }
+        ensures built { builds self.old self.new shape ctrl_type result };
+
+    /// Appends an instruction that gives a value, and answers the value.
+    fn build_value(&mut self, shape: InstructionData, ctrl_type: Type) -> Result<Value, BuildError>
+        requires current { can_build self.old }
+        requires operands_exist { All (has_value self.old) (operands shape) }
+        requires value { GivesValue shape }
+        ensures built { builds_value self.old self.new shape ctrl_type result };
+
+    /// The same at the type of a value.
+    fn build_like(&mut self, shape: InstructionData, like: Value) -> Result<Value, BuildError>
+        requires current { can_build self.old }
+        requires operands_exist { All (has_value self.old) (operands shape) }
+        requires value { GivesValue shape }
+        requires like_exists { has_value self.old like }
+        ensures built { builds_like self.old self.new shape like result };
+
+    /// Fails, since memory was refused for what an instruction was to hold.
+    fn refuse(&mut self) -> BuildError
+        ensures refused { (shape : InstructionData) (ty : «Type») → builds self.old self.new shape ty (Err result) };
+
+    // after a value was built one can build on, with this value and with those that there were before
+    ghost builds_on: { AfterValue builds_value (λ old new value. can_build new) };
+
+    ghost built_exists: { AfterValue builds_value (λ old new value. has_value new value) };
+
+    ghost others_exist: { AfterValue builds_value (λ old new value. (x : ℕ) → has_value old x → has_value new x) };
+
+    ghost like_is_value: { (old new : Self) (shape : InstructionData) (x : ℕ) (answer : Result ℕ BuildError) → builds_like old new shape x answer → builds_value old new shape (type_of old x) answer };
+}
+
+/// The instructions, by name. Each goes through the method of its format.
+pub trait InstBuilder: InstBuilderBase {
+    /// `iconst.ty imm`: the low bits of a 64-bit number, at an integer type.
+    final fn iconst(&mut self, ty: Type, imm: i64) -> Result<Value, BuildError>
+        requires current { Self.can_build self.old }
+        requires integer { IsTrue (is_int ty) }
+        ensures built { Self.builds_value self.old self.new (InstructionData.UnaryImm imm) ty result }
+    {
+        self.unary_imm(ty, imm)
+    }
+
+    /// `iadd x, y`: the sum, modulo two to the width of the type.
+    final fn iadd(&mut self, x: Value, y: Value) -> Result<Value, BuildError>
+        requires current { Self.can_build self.old }
+        requires x_exists { Self.has_value self.old x }
+        requires y_exists { Self.has_value self.old y }
+        ensures built { Self.builds_like self.old self.new (binary BinaryOpcode.Iadd x y) x result }
+    {
+        self.binary(BinaryOpcode::Iadd, x, y)
+    }
+
+    /// `isub x, y`: the difference, modulo two to the width of the type.
+    final fn isub(&mut self, x: Value, y: Value) -> Result<Value, BuildError>
+        requires current { Self.can_build self.old }
+        requires x_exists { Self.has_value self.old x }
+        requires y_exists { Self.has_value self.old y }
+        ensures built { Self.builds_like self.old self.new (binary BinaryOpcode.Isub x y) x result }
+    {
+        self.binary(BinaryOpcode::Isub, x, y)
+    }
+
+    /// `jump block(x, ..)`: goes to `block`, and passes `args` to its parameters.
+    final fn jump(&mut self, block: Block, args: &[BlockArg]) -> Result<Inst, BuildError>
+        requires current { Self.can_build self.old }
+        requires leads { Self.can_lead self.old (edge_to block args.now) }
+        ensures built { Self.builds self.old self.new (InstructionData.Jump (edge_to block args.now)) Type.Invalid result }
+    {
+        match BlockCall::new(self.allocator(), block, args) {
+            Ok(destination) => self.build(InstructionData::Jump { destination }, Type::Invalid),
+            Err(_) => Err(self.refuse()),
+        }
+    }
+
+    /// `brif c, block_then(x, ..), block_else(y, ..)`: goes to `block_then` where `c` isn't zero, and else to
+    /// `block_else`, with the arguments of that block.
+    final fn brif(
+        &mut self,
+        c: Value,
+        block_then: Block,
+        block_then_args: &[BlockArg],
+        block_else: Block,
+        block_else_args: &[BlockArg],
+    ) -> Result<Inst, BuildError>
+        requires current { Self.can_build self.old }
+        requires c_exists { Self.has_value self.old c }
+        requires leads_then { Self.can_lead self.old (edge_to block_then block_then_args.now) }
+        requires leads_else { Self.can_lead self.old (edge_to block_else block_else_args.now) }
+        ensures built { Self.builds self.old self.new (brif c (edge_to block_then block_then_args.now) (edge_to block_else block_else_args.now)) Type.Invalid result }
+    {
+        let alloc = self.allocator();
+        let made = two_edges(
+            alloc,
+            block_then,
+            block_then_args,
+            block_else,
+            block_else_args,
+        );
+        match made {
+            Ok(blocks) => self.build(InstructionData::Brif { arg: c, blocks }, Type::Invalid),
+            Err(_) => Err(self.refuse()),
+        }
+    }
+
+    /// `return x, ..`: ends the function with these values.
+    final fn return_(&mut self, values: &[Value]) -> Result<Inst, BuildError>
+        requires current { Self.can_build self.old }
+        requires values_exist { All (Self.has_value self.old) values.now }
+        ensures built { Self.builds self.old self.new (InstructionData.MultiAry values.now) Type.Invalid result }
+    {
+        match ValueList::from_slice(self.allocator(), values) {
+            Ok(args) => self.build(InstructionData::MultiAry { args }, Type::Invalid),
+            Err(_) => Err(self.refuse()),
+        }
+    }
+
+    /// An instruction of a number alone.
+    final fn unary_imm(&mut self, ty: Type, imm: i64) -> Result<Value, BuildError>
+        requires current { Self.can_build self.old }
+        ensures built { Self.builds_value self.old self.new (InstructionData.UnaryImm imm) ty result }
+    {
+        self.build_value(InstructionData::UnaryImm { imm }, ty)
+    }
+
+    /// An instruction of two operands, whose result has the type of the first.
+    final fn binary(
+        &mut self,
+        opcode: BinaryOpcode,
+        x: Value,
+        y: Value,
+    ) -> Result<Value, BuildError>
+        requires current { Self.can_build self.old }
+        requires x_exists { Self.has_value self.old x }
+        requires y_exists { Self.has_value self.old y }
+        ensures built { Self.builds_like self.old self.new (binary opcode x y) x result }
+    {
+        let args = [x, y];
+        self.build_like(InstructionData::Binary { opcode, args }, x)
+    }
+}
+
+impl<B: InstBuilderBase> InstBuilder for B {}
+
+// The edges of a `brif`.
+fn two_edges(
+    alloc: Global,
+    block_then: Block,
+    block_then_args: &[BlockArg],
+    block_else: Block,
+    block_else_args: &[BlockArg],
+) -> Result<[BlockCall; 2], BuildError>
+    ensures ok { IfOk result (λ edges. edges ≡ edge_to block_then block_then_args.now ∷ edge_to block_else block_else_args.now ∷ []) }
+    ensures only_memory { OnErr result (result ≡ Err BuildError.Memory) }
+{
+    let taken = BlockCall::new(alloc, block_then, block_then_args)?;
+    let other = BlockCall::new(alloc, block_else, block_else_args)?;
+    Ok([taken, other])
+}
