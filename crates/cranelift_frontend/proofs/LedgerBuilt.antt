@@ -17,7 +17,7 @@ use Rattle.clif_ir.specs.Instruction.{destinations}
 use Rattle.clif_ir.specs.Reading.{stands_in, targets}
 use Rattle.clif_paths.proofs.Tables.{updated-same}
 use Rattle.clif_meaning.specs.Name.{Name}
-use Rattle.clif_meaning.specs.Instruction.{Arithmetic, Iconst, Iadd, Isub, Compute, Instruction}
+use Rattle.clif_meaning.specs.Instruction.{Arithmetic, Iconst, Unary, Binary, Compute, Instruction}
 use Rattle.clif_meaning.specs.Request.{AnsweredCall, Build, Request, number_of}
 use Rattle.clif_meaning.specs.Program as program
 use Rattle.clif_meaning.specs.Ledger.{Answered, AValue, AnInstruction, BlockState, Ledger, is_terminator, ledger_with, next_answer, with_begun, with_filled_at, with_predecessor, with_state}
@@ -124,9 +124,7 @@ agrees-computed calls ledger f g c d p block shape arithmetic ty operands inst v
     let call : AnsweredCall = record { request = request; numbers = inst ∷ value ∷ [] } in
     let current = name-of-some (block_name ledger) ledger.current block (agrees.current ∙ ap (option_map (block_name ledger)) at) in
     let new : Ledger = ledger_with ledger request in
-    let begins = begun-ledger ledger current.0 current.1 in
-    let changed : MadeLedger ledger new current.0 unpristine =
-    record { blocks = begins.blocks; layout = begins.layout; current = begins.current; variables = begins.variables } in
+    let changed : MadeLedger ledger new current.0 unpristine = begun_by arithmetic current.0 current.1 in
     let node : InstNode = inst_node (inserted_in f block) block shape (ty ∷ []) no_srcloc in
     let there : slice_get g.insts inst ≡ Some node = ap (slice_get g.insts) is_inst ∙ node-there f g block shape (ty ∷ []) function in
     let results : node.results ≡ value ∷ [] = ap (λ (n : ℕ). n ∷ []) (inserted-values f block ∙ sym is_value) in
@@ -138,8 +136,20 @@ agrees-computed calls ledger f g c d p block shape arithmetic ty operands inst v
   where
     types_of : (a : Arithmetic) → program.result_types (Compute a) ty ≡ ty ∷ []
     types_of (Iconst number) = refl
-    types_of Iadd = refl
-    types_of Isub = refl
+    types_of (Unary opcode) = refl
+    types_of (Binary opcode) = refl
+
+    begun_by : (a : Arithmetic) (x : Name) → ledger.current ≡ Some x
+        → MadeLedger ledger (ledger_with ledger (Build (record { operation = Compute a; controlling = ty; operands = operands; edges = [] }))) x unpristine
+    begun_by (Iconst number) x is =
+        let begins = begun-ledger ledger x is in
+        record { blocks = begins.blocks; layout = begins.layout; current = begins.current; variables = begins.variables }
+    begun_by (Unary opcode) x is =
+        let begins = begun-ledger ledger x is in
+        record { blocks = begins.blocks; layout = begins.layout; current = begins.current; variables = begins.variables }
+    begun_by (Binary opcode) x is =
+        let begins = begun-ledger ledger x is in
+        record { blocks = begins.blocks; layout = begins.layout; current = begins.current; variables = begins.variables }
 
 -- the state of a block that gets its terminator
 abbrev pub filled : BlockState → BlockState

@@ -9,17 +9,17 @@ use Rattle.clif_ir.specs.declared.block_call.BlockCall.{BlockCall}
 use Rattle.clif_ir.specs.declared.function.InstNode.{InstNode}
 use Rattle.clif_ir.specs.declared.function.ValueNode.{ValueNode}
 use Rattle.clif_ir.specs.declared.inst_list.BlockEnd.TheVariants.{Back}
-use Rattle.clif_ir.specs.declared.instructions.BinaryOpcode.{BinaryOpcode}
-use Rattle.clif_ir.specs.declared.instructions.BinaryOpcode.TheVariants as binary
+use Rattle.clif_types.specs.declared.opcodes.BinaryOpcode.{BinaryOpcode}
+use Rattle.clif_types.specs.declared.opcodes.UnaryOpcode.{UnaryOpcode}
 use Rattle.clif_ir.specs.declared.instructions.InstructionData.{InstructionData}
-use Rattle.clif_ir.specs.declared.instructions.InstructionData.TheVariants.{UnaryImm, Binary, Jump, Brif, MultiAry}
+use Rattle.clif_ir.specs.declared.instructions.InstructionData.TheVariants.{UnaryImm, Unary, Binary, Jump, Brif, MultiAry}
 use Rattle.clif_ir.specs.Body.{Body, inst_at, no_inst, no_value, value_at}
 use Rattle.clif_ir.specs.Changes.{inserted_in, with_inst, inst_node}
 use Rattle.clif_ir.specs.Consistent.{IsConsistent}
 use Rattle.clif_ir.specs.Instruction.{destinations, is_branch, is_terminator, result_types}
 use Rattle.clif_ir.specs.Reading.{targets}
 use Rattle.clif_meaning.specs.Name.{Name}
-use Rattle.clif_meaning.specs.Instruction.{Arithmetic, Edge, Instruction, Operation, Iconst, Iadd, Isub, Compute}
+use Rattle.clif_meaning.specs.Instruction.{Arithmetic, Edge, Instruction, Operation, Iconst, Compute}
 use Rattle.clif_meaning.specs.Instruction as operation
 use Rattle.clif_meaning.specs.Program as program
 use Rattle.clif_meaning.specs.Request.{AnsweredCall, Build, number_of}
@@ -68,6 +68,7 @@ pub record Computes (f : Body) (shape : InstructionData) (ty : «Type») : Type 
 
 pub computes : (f : Body) (shape : InstructionData) (ty : «Type») (arithmetic : Arithmetic) → operation_of shape ≡ Compute arithmetic → Computes f shape ty
 computes f (UnaryImm imm) ty arithmetic is = record { one = refl; goes_on = refl; typed = refl; no_edges = refl }
+computes f (Unary opcode arg) ty arithmetic is = record { one = refl; goes_on = refl; typed = refl; no_edges = refl }
 computes f (Binary opcode args) ty arithmetic is = record { one = refl; goes_on = refl; typed = refl; no_edges = refl }
 computes f (Jump destination) ty arithmetic is = let no_way : ⊥ = cc in absurd no_way
 computes f (Brif arg blocks) ty arithmetic is = let no_way : ⊥ = cc in absurd no_way
@@ -132,10 +133,10 @@ pub shaped-ledger : (calls : List AnsweredCall) (f g : Body) (c d : ContextState
     → LedgerAgrees (calls ++ built instruction (inst ∷ (inst_at g inst).results) ∷ []) (ledger_of (calls ++ built instruction (inst ∷ (inst_at g inst).results) ∷ [])) g d p
 shaped-ledger calls f g c d p block instruction (UnaryImm imm) ty inst agrees at exists open_in consistent has may appends declared ssa variables =
     with_results calls f g c d p block instruction (UnaryImm imm) ty inst agrees at exists consistent has appends variables (Iconst imm) refl (ssa refl)
-shaped-ledger calls f g c d p block instruction (Binary binary.Iadd args) ty inst agrees at exists open_in consistent has may appends declared ssa variables =
-    with_results calls f g c d p block instruction (Binary binary.Iadd args) ty inst agrees at exists consistent has appends variables Iadd refl (ssa refl)
-shaped-ledger calls f g c d p block instruction (Binary binary.Isub args) ty inst agrees at exists open_in consistent has may appends declared ssa variables =
-    with_results calls f g c d p block instruction (Binary binary.Isub args) ty inst agrees at exists consistent has appends variables Isub refl (ssa refl)
+shaped-ledger calls f g c d p block instruction (Unary opcode arg) ty inst agrees at exists open_in consistent has may appends declared ssa variables =
+    with_results calls f g c d p block instruction (Unary opcode arg) ty inst agrees at exists consistent has appends variables (operation.Unary opcode) refl (ssa refl)
+shaped-ledger calls f g c d p block instruction (Binary opcode args) ty inst agrees at exists open_in consistent has may appends declared ssa variables =
+    with_results calls f g c d p block instruction (Binary opcode args) ty inst agrees at exists consistent has appends variables (operation.Binary opcode) refl (ssa refl)
 shaped-ledger calls f g c d p block instruction (Jump destination) ty inst agrees at exists open_in consistent has may appends declared ssa variables =
     ending calls f g c d p block instruction (Jump destination) ty inst agrees at exists consistent has appends variables refl refl refl refl open_in may declared
 shaped-ledger calls f g c d p block instruction (Brif arg blocks) ty inst agrees at exists open_in consistent has may appends declared ssa variables =
@@ -161,44 +162,6 @@ current-is b current block at =
     let same : current.0 ≡ block = same_Some current.0 block (sym current.1 ∙ at) in
     subst (λ (n : ℕ). (n < length b.func.now.blocks) × (status_of b.ctx.now n ≢ Filled)) same (current.2, current.3)
 
--- what comes of an instruction that computes a value
-pub ledger-value : {E : Type 0} (calls : List AnsweredCall) (old new : FunctionBuilder) (instruction : Instruction Name Name) (shape : InstructionData) (ty : «Type») (arithmetic : Arithmetic) (r : Result ℕ E)
-    → operation_of shape ≡ Compute arithmetic → AgreesWithLedger calls old → IsConsistent old.func.now → HasShape calls old.func.now instruction shape ty → HasCurrent old
-    → IfSome old.position (λ block. IfOk r (AppendsValue old new block shape ty))
-    → new.ctx.now.ssa ≡ old.ctx.now.ssa → new.ctx.now.variables ≡ old.ctx.now.variables → new.position ≡ old.position
-    → IfOk r (λ value. AgreesWithLedger (calls ++ built instruction (length old.func.now.insts ∷ value ∷ []) ∷ []) new)
-ledger-value calls old new instruction shape ty arithmetic (Err e) is agrees consistent has current appends ssa variables position = tt
-ledger-value calls old new instruction shape ty arithmetic (Ok value) is agrees consistent has current appends ssa variables position =
-    let here : AppendsValue old new current.0 shape ty value = subst (λ (o : Option ℕ). IfSome o (λ block. AppendsValue old new block shape ty value)) current.1 appends in
-    let inst : ℕ = length old.func.now.insts in
-    let f : Body = old.func.now in
-    let after = agrees-value calls f new.func.now old.ctx.now new.ctx.now old.position current.0 instruction shape ty inst agrees current.1 current.2 consistent has here.0 variables arithmetic is ssa in
-    subst (λ (v : ℕ). AgreesWithLedger (calls ++ built instruction (inst ∷ v ∷ []) ∷ []) new) (sym here.1)
-    (subst (λ (o : Option ℕ). LedgerAgrees (calls ++ built instruction (inst ∷ length f.values ∷ []) ∷ []) (ledger_of (calls ++ built instruction (inst ∷ length f.values ∷ []) ∷ [])) new.func.now new.ctx.now o)
-    (sym position) after)
-
--- what comes of a terminator
-pub ledger-ended : {E : Type 0} (calls : List AnsweredCall) (old new : FunctionBuilder) (instruction : Instruction Name Name) (shape : InstructionData) (ty : «Type») (r : Result ℕ E)
-    → result_types shape ty ≡ [] → HasCurrent old → IfSome old.position (λ block. IfOk r (Appends old new block shape ty))
-    → IfOk r (λ inst. AgreesWithLedger (calls ++ built instruction (inst ∷ (inst_at new.func.now inst).results) ∷ []) new)
-    → IfOk r (λ inst. AgreesWithLedger (calls ++ built instruction (inst ∷ []) ∷ []) new)
-ledger-ended calls old new instruction shape ty (Err e) none current appends after = tt
-ledger-ended calls old new instruction shape ty (Ok inst) none current appends after =
-    subst (λ (rs : List ℕ). AgreesWithLedger (calls ++ built instruction (inst ∷ rs) ∷ []) new) no_results after
-  where
-    here : Appends old new current.0 shape ty inst
-    here = subst (λ (o : Option ℕ). IfSome o (λ block. Appends old new block shape ty inst)) current.1 appends
-
-    no_results : (inst_at new.func.now inst).results ≡ []
-    no_results =
-        let f : Body = old.func.now in
-        let g : Body = new.func.now in
-        let function : g ≡ with_inst (inserted_in f current.0) current.0 Back shape [] no_srcloc =
-        here.function ∙ ap (λ (ts : List «Type»). with_inst (inserted_in f current.0) current.0 Back shape ts no_srcloc) none in
-        ap (λ (n : InstNode). n.results)
-        (get_or_from_slice_get g.insts inst (inst_node (inserted_in f current.0) current.0 shape [] no_srcloc) no_inst
-        (ap (slice_get g.insts) here.number ∙ node-there f g current.0 shape [] function))
-
 -- THE CALLS -------------------------------------------------------------------------------------------------------
 
 -- the type of a value with a name
@@ -212,7 +175,17 @@ named-type calls f c p agrees name value names =
 pub iconst-shape : (calls : List AnsweredCall) (f : Body) (ty : «Type») (imm : ℤ) → HasShape calls f (plain (Compute (Iconst imm)) ty []) (UnaryImm imm) ty
 iconst-shape calls f ty imm = record { operation = refl; controlling = refl; operands_numbered = refl; edges = tt }
 
--- `iadd` and `isub`
+pub unary-shape : (calls : List AnsweredCall) (f : Body) (c : ContextState) (p : Option ℕ) → LedgerAgrees calls (ledger_of calls) f c p
+    → (opcode : UnaryOpcode) (a : Name) (x : ℕ) → NamesValue calls a x
+    → HasShape calls f (plain (Compute (operation.Unary opcode)) (or_invalid (type_of (ledger_of calls) a)) (a ∷ [])) (Unary opcode x) (value_at f x).ty
+unary-shape calls f c p agrees opcode a x first =
+    record {
+      operation = refl;
+      controlling = named-type calls f c p agrees a x first;
+      operands_numbered = ap (λ (o : Option ℕ). o ∷ []) first.number;
+      edges = tt;
+    }
+
 pub binary-shape : (calls : List AnsweredCall) (f : Body) (c : ContextState) (p : Option ℕ) → LedgerAgrees calls (ledger_of calls) f c p
     → (opcode : BinaryOpcode) (a b : Name) (x y : ℕ) → NamesValue calls a x → NamesValue calls b y
     → HasShape calls f (plain (operation_of (Binary opcode (x ∷ y ∷ []))) (or_invalid (type_of (ledger_of calls) a)) (a ∷ b ∷ [])) (Binary opcode (x ∷ y ∷ [])) (value_at f x).ty

@@ -109,13 +109,6 @@ remembers_appended (Err error) y e f g c d b shape ty known appends declares = t
 remembers_appended (Ok inst) y e f g c d b shape ty known appends declares =
     appended_in y e f g c d b shape ty inst known appends (declared_same c.ssa inst (targets (destinations shape)) d.ssa declares).0
 
-pub remembers_value : {E : Type 0} (r : Result ℕ E) (y e : ℕ) (old new : FunctionBuilder) (shape : InstructionData) (ty : «Type») → IsConsistent old.func.now → HasCurrent old
-    → IfSome old.position (λ block. IfOk r (AppendsValue old new block shape ty)) → new.ctx.now.ssa ≡ old.ctx.now.ssa → OnOk r (RemembersIn y e old new)
-remembers_value (Err error) y e old new shape ty known current appends same = tt
-remembers_value (Ok value) y e old new shape ty known current appends same =
-    appended_in y e old.func.now new.func.now old.ctx.now new.ctx.now current.0 shape ty (length old.func.now.insts) known
-    (subst (λ (o : Option ℕ). IfSome o (λ block. AppendsValue old new block shape ty value)) current.1 appends).0 (λ v c. ap (λ r. record_of r v c) same)
-
 -- THE LAW ---------------------------------------------------------------------------------------------------------
 
 same_some : {x y : ℕ} → ◌≡◌ {A = Option ℕ} (Some x) (Some y) → x ≡ y

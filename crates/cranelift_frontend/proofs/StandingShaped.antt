@@ -8,9 +8,8 @@ use Rattle.clif_types.specs.declared.types.«Type».{«Type»}
 use Rattle.clif_types.specs.Signature.{SignatureShape}
 use Rattle.clif_ir.specs.declared.block_call.BlockCall.{BlockCall}
 use Rattle.clif_ir.specs.declared.function.ValueNode.{ValueNode}
-use Rattle.clif_ir.specs.declared.instructions.BinaryOpcode.TheVariants as binary
 use Rattle.clif_ir.specs.declared.instructions.InstructionData.{InstructionData}
-use Rattle.clif_ir.specs.declared.instructions.InstructionData.TheVariants.{UnaryImm, Binary, Jump, Brif, MultiAry}
+use Rattle.clif_ir.specs.declared.instructions.InstructionData.TheVariants.{UnaryImm, Unary, Binary, Jump, Brif, MultiAry}
 use Rattle.clif_ir.specs.Body.{Body, inst_at, value_at}
 use Rattle.clif_ir.specs.Changes.{inserted_in, with_inst}
 use Rattle.clif_ir.specs.Consistent.{IsConsistent}
@@ -21,7 +20,8 @@ use Rattle.clif_ssa.specs.Ssa.{no_srcloc, predecessors_of, record_of, sealed_of,
 use Rattle.clif_ssa.specs.Tables.{is_yes}
 use Rattle.clif_ssa.proofs.Completing.{inserted_same}
 use Rattle.clif_meaning.specs.Name.{Name}
-use Rattle.clif_meaning.specs.Instruction.{Arithmetic, Compute, Iadd, Iconst, Instruction, Isub, Operation}
+use Rattle.clif_meaning.specs.Instruction.{Arithmetic, Compute, Iconst, Instruction, Operation}
+use Rattle.clif_meaning.specs.Instruction as operation
 use Rattle.clif_meaning.specs.Ledger as ledger
 use Rattle.clif_meaning.specs.Program as program
 use Rattle.clif_meaning.specs.Request.{AnsweredCall, Build}
@@ -130,8 +130,8 @@ module _ (declared : SignatureShape) (calls : List AnsweredCall) (f g : Body) (c
     where
       types_of : (a : Arithmetic) (t : «Type») → program.result_types (Compute a) t ≡ t ∷ []
       types_of (Iconst number) t = refl
-      types_of Iadd t = refl
-      types_of Isub t = refl
+      types_of (operation.Unary opcode) t = refl
+      types_of (operation.Binary opcode) t = refl
 
   -- it ends its block, and goes nowhere
   stands_ended : destinations shape ≡ [] → result_types shape ty ≡ [] → program.result_types instruction.operation instruction.controlling ≡ []
@@ -167,12 +167,12 @@ pub shaped_stands : (declared : SignatureShape) (calls : List AnsweredCall) (f g
 shaped_stands declared calls f g c d p instruction (UnaryImm imm) ty inst block stands consistent has at there open_block appends edges declares same kept =
     stands_computed declared calls f g c d p instruction (UnaryImm imm) ty inst block stands consistent has at there open_block appends kept
     (Iconst imm) refl refl refl has.controlling (λ h values. refl) (same refl)
-shaped_stands declared calls f g c d p instruction (Binary binary.Iadd args) ty inst block stands consistent has at there open_block appends edges declares same kept =
-    stands_computed declared calls f g c d p instruction (Binary binary.Iadd args) ty inst block stands consistent has at there open_block appends kept
-    Iadd refl refl refl has.controlling (λ h values. refl) (same refl)
-shaped_stands declared calls f g c d p instruction (Binary binary.Isub args) ty inst block stands consistent has at there open_block appends edges declares same kept =
-    stands_computed declared calls f g c d p instruction (Binary binary.Isub args) ty inst block stands consistent has at there open_block appends kept
-    Isub refl refl refl has.controlling (λ h values. refl) (same refl)
+shaped_stands declared calls f g c d p instruction (Unary opcode arg) ty inst block stands consistent has at there open_block appends edges declares same kept =
+    stands_computed declared calls f g c d p instruction (Unary opcode arg) ty inst block stands consistent has at there open_block appends kept
+    (operation.Unary opcode) refl refl refl has.controlling (λ h values. refl) (same refl)
+shaped_stands declared calls f g c d p instruction (Binary opcode args) ty inst block stands consistent has at there open_block appends edges declares same kept =
+    stands_computed declared calls f g c d p instruction (Binary opcode args) ty inst block stands consistent has at there open_block appends kept
+    (operation.Binary opcode) refl refl refl has.controlling (λ h values. refl) (same refl)
 shaped_stands declared calls f g c d p instruction (Jump destination) ty inst block stands consistent has at there open_block appends edges declares same kept =
     stands_branch declared calls f g c d p instruction (Jump destination) ty inst block stands consistent has at there open_block appends kept
     refl (ap (λ (o : Operation). program.result_types o instruction.controlling) has.operation) (ap ledger.is_terminator has.operation) (sym has.controlling) edges declares
@@ -194,40 +194,3 @@ pub stands_shaped : {E : Type 0} (declared : SignatureShape) (calls : List Answe
 stands_shaped declared calls f g c d p instruction shape ty (Err e) block stands consistent has at there open_block appends edges declares same kept = tt
 stands_shaped declared calls f g c d p instruction shape ty (Ok inst) block stands consistent has at there open_block appends edges declares same kept =
     shaped_stands declared calls f g c d p instruction shape ty inst block stands consistent has at there open_block appends edges declares same kept
-
--- CALLS BY NAME ---------------------------------------------------------------------------------------------------------
-
--- an instruction whose result is a value
-pub value_stands : {E : Type 0} (declared : SignatureShape) (calls : List AnsweredCall) (old new : FunctionBuilder) (instruction : Instruction Name Name) (shape : InstructionData)
-    (ty : «Type») (r : Result ℕ E) → StandsFor declared calls old → IsConsistent old.func.now → HasShape calls old.func.now instruction shape ty → HasCurrent old
-    → IfSome old.position (λ block. IfOk r (AppendsValue old new block shape ty)) → is_branch shape ≡ false → destinations shape ≡ [] → result_types shape ty ≡ ty ∷ []
-    → new.ctx.now.ssa ≡ old.ctx.now.ssa → new.position ≡ old.position
-    → IfOk r (λ value. AgreesWithLedger (calls ++ built instruction (length old.func.now.insts ∷ value ∷ []) ∷ []) new)
-    → IfOk r (λ value. StandsFor declared (calls ++ built instruction (length old.func.now.insts ∷ value ∷ []) ∷ []) new)
-value_stands declared calls old new instruction shape ty (Err e) stands consistent has current appends no_branch none one ssa position kept = tt
-value_stands declared calls old new instruction shape ty (Ok value) stands consistent has current appends no_branch none one ssa position kept =
-    let here : AppendsValue old new current.0 shape ty value = subst (λ (o : Option ℕ). IfSome o (λ b. AppendsValue old new b shape ty value)) current.1 appends in
-    let inst : ℕ = length old.func.now.insts in
-    let results : (inst_at new.func.now inst).results ≡ value ∷ [] =
-    appended_results old.func.now old.ctx.now new.func.now new.ctx.now current.0 shape ty inst here.0 one ∙ ap (λ (v : ℕ). v ∷ []) (sym here.1) in
-    let after : List ℕ → List AnsweredCall = λ rs. calls ++ built instruction (inst ∷ rs) ∷ [] in
-    let ledger : LedgerAgrees (after (inst_at new.func.now inst).results) (ledger_of (after (inst_at new.func.now inst).results)) new.func.now new.ctx.now old.position =
-    subst (λ (rs : List ℕ). LedgerAgrees (after rs) (ledger_of (after rs)) new.func.now new.ctx.now old.position) (sym results)
-    (subst (λ (o : Option ℕ). LedgerAgrees (after (value ∷ [])) (ledger_of (after (value ∷ []))) new.func.now new.ctx.now o) position kept) in
-    subst (λ (o : Option ℕ). StandsIn declared (after (value ∷ [])) new.func.now new.ctx.now o) (sym position)
-    (subst (λ (rs : List ℕ). StandsIn declared (after rs) new.func.now new.ctx.now old.position) results
-    (shaped_stands declared calls old.func.now new.func.now old.ctx.now new.ctx.now old.position instruction shape ty inst current.0 stands consistent has current.1 current.2 current.3 here.0
-    (subst (All (CanLeadIn old.func.now old.ctx.now)) (sym none) (λ k d inside. absurd (omega (arith, inside))))
-    (subst (λ (edges : List BlockCall). IsDeclared old.ctx.now.ssa inst (targets edges) new.ctx.now.ssa) (sym none) (declared_nowhere old.ctx.now.ssa new.ctx.now.ssa inst ssa))
-    (λ is. ssa) ledger))
-
--- an instruction without results, by what `build` says of it
-pub plain_stands : {E : Type 0} (declared : SignatureShape) (calls : List AnsweredCall) (old new : FunctionBuilder) (instruction : Instruction Name Name) (shape : InstructionData)
-    (ty : «Type») (r : Result ℕ E) → HasCurrent old → IfSome old.position (λ block. IfOk r (Appends old new block shape ty)) → result_types shape ty ≡ []
-    → IfOk r (λ inst. StandsFor declared (calls ++ built instruction (inst ∷ (inst_at new.func.now inst).results) ∷ []) new)
-    → IfOk r (λ inst. StandsFor declared (calls ++ built instruction (inst ∷ []) ∷ []) new)
-plain_stands declared calls old new instruction shape ty (Err e) current appends none stands = tt
-plain_stands declared calls old new instruction shape ty (Ok inst) current appends none stands =
-    let here : Appends old new current.0 shape ty inst = subst (λ (o : Option ℕ). IfSome o (λ b. Appends old new b shape ty inst)) current.1 appends in
-    subst (λ (rs : List ℕ). StandsFor declared (calls ++ built instruction (inst ∷ rs) ∷ []) new)
-    (appended_no_results old.func.now old.ctx.now new.func.now new.ctx.now current.0 shape ty inst here none) stands

@@ -4,7 +4,7 @@ ghost use Rattle.clif_types.specs.Types.{is_int};
 ghost use Rattle.clif_ir.specs.Instruction.{operands, destinations};
 ghost use Rattle.cranelift_frontend.specs.Shapes.{GivesValue, AfterValue, binary, brif, edge_to};
 
-use clif_ir::{BinaryOpcode, BlockArg, BlockCall, InstructionData, ValueList};
+use clif_ir::{BinaryOpcode, BlockArg, BlockCall, InstructionData, UnaryOpcode, ValueList};
 use clif_types::{Block, BuildError, Inst, Type, Value};
 use std::alloc::Global;
 
@@ -114,6 +114,64 @@ pub trait InstBuilder: InstBuilderBase {
         self.binary(BinaryOpcode::Isub, x, y)
     }
 
+    /// `imul x, y`: the product, modulo two to the width of the type.
+    final fn imul(&mut self, x: Value, y: Value) -> Result<Value, BuildError>
+        requires current { Self.can_build self.old }
+        requires x_exists { Self.has_value self.old x }
+        requires y_exists { Self.has_value self.old y }
+        ensures built { Self.builds_like self.old self.new (binary BinaryOpcode.Imul x y) x result }
+    {
+        self.binary(BinaryOpcode::Imul, x, y)
+    }
+
+    /// `band x, y`: the bits that are set in both.
+    final fn band(&mut self, x: Value, y: Value) -> Result<Value, BuildError>
+        requires current { Self.can_build self.old }
+        requires x_exists { Self.has_value self.old x }
+        requires y_exists { Self.has_value self.old y }
+        ensures built { Self.builds_like self.old self.new (binary BinaryOpcode.Band x y) x result }
+    {
+        self.binary(BinaryOpcode::Band, x, y)
+    }
+
+    /// `bor x, y`: the bits that are set in one or both.
+    final fn bor(&mut self, x: Value, y: Value) -> Result<Value, BuildError>
+        requires current { Self.can_build self.old }
+        requires x_exists { Self.has_value self.old x }
+        requires y_exists { Self.has_value self.old y }
+        ensures built { Self.builds_like self.old self.new (binary BinaryOpcode.Bor x y) x result }
+    {
+        self.binary(BinaryOpcode::Bor, x, y)
+    }
+
+    /// `bxor x, y`: the bits that are set in one of the two.
+    final fn bxor(&mut self, x: Value, y: Value) -> Result<Value, BuildError>
+        requires current { Self.can_build self.old }
+        requires x_exists { Self.has_value self.old x }
+        requires y_exists { Self.has_value self.old y }
+        ensures built { Self.builds_like self.old self.new (binary BinaryOpcode.Bxor x y) x result }
+    {
+        self.binary(BinaryOpcode::Bxor, x, y)
+    }
+
+    /// `ineg x`: the negative, in two's complement.
+    final fn ineg(&mut self, x: Value) -> Result<Value, BuildError>
+        requires current { Self.can_build self.old }
+        requires x_exists { Self.has_value self.old x }
+        ensures built { Self.builds_like self.old self.new (InstructionData.Unary UnaryOpcode.Ineg x) x result }
+    {
+        self.unary(UnaryOpcode::Ineg, x)
+    }
+
+    /// `bnot x`: each bit turned.
+    final fn bnot(&mut self, x: Value) -> Result<Value, BuildError>
+        requires current { Self.can_build self.old }
+        requires x_exists { Self.has_value self.old x }
+        ensures built { Self.builds_like self.old self.new (InstructionData.Unary UnaryOpcode.Bnot x) x result }
+    {
+        self.unary(UnaryOpcode::Bnot, x)
+    }
+
     /// `jump block(x, ..)`: goes to `block`, and passes `args` to its parameters.
     final fn jump(&mut self, block: Block, args: &[BlockArg]) -> Result<Inst, BuildError>
         requires current { Self.can_build self.old }
@@ -174,6 +232,15 @@ pub trait InstBuilder: InstBuilderBase {
         ensures built { Self.builds_value self.old self.new (InstructionData.UnaryImm imm) ty result }
     {
         self.build_value(InstructionData::UnaryImm { imm }, ty)
+    }
+
+    /// An instruction of one operand, whose result has its type.
+    final fn unary(&mut self, opcode: UnaryOpcode, x: Value) -> Result<Value, BuildError>
+        requires current { Self.can_build self.old }
+        requires x_exists { Self.has_value self.old x }
+        ensures built { Self.builds_like self.old self.new (InstructionData.Unary opcode x) x result }
+    {
+        self.build_like(InstructionData::Unary { opcode, arg: x }, x)
     }
 
     /// An instruction of two operands, whose result has the type of the first.

@@ -13,7 +13,8 @@ pub mod laws;
 
 pub use builder::FunctionBuilder;
 pub use clif_ir::{
-    BinaryOpcode, BlockArg, BlockArgs, BlockCall, Function, InstructionData, ValueDef, ValueList,
+    BinaryOpcode, BlockArg, BlockArgs, BlockCall, Function, InstructionData, UnaryOpcode, ValueDef,
+    ValueList,
 };
 pub use clif_ssa::Variable;
 pub use clif_types::{
