@@ -1,6 +1,6 @@
 -- What an instruction of a plan is, by numbers, and when it may be made.
-use Rattle.std.proofs.Common.{◌≡◌, ℕ, zero, suc, ◌<◌, List, [], ◌∷◌, length, refl, ap, arith, sym, ◌∙◌}
-use Rattle.std.specs.Prelude.{map, Option, Some, None, is_some, Bool, true, false, ◌&&◌, ℤ, slice_index}
+use Rattle.std.proofs.Common.{◌≡◌, ℕ, zero, suc, ◌<◌, List, [], ◌∷◌, length, refl, ap, arith, sym, ◌∙◌, subst}
+use Rattle.std.specs.Prelude.{map, Option, Some, None, is_some, Bool, true, false, ◌&&◌, Ok, slice_index}
 use Rattle.std.specs.List.{All, list_all}
 use Rattle.std.specs.Borrow.{Bor}
 use Rattle.std.proofs.lemmas.Bool.{and_from, and_parts}
@@ -17,7 +17,6 @@ use Rattle.clif_ir.specs.declared.instructions.InstructionData.TheVariants as sh
 use Rattle.clif_meaning.specs.Acceptance.{allows, can_lead}
 use Rattle.clif_meaning.specs.Ledger.{or_invalid, type_of}
 use Rattle.clif_meaning.specs.Request.{AnsweredCall}
-use Rattle.clif_meaning.specs.View.{operation_of}
 use Rattle.cranelift_frontend.specs.declared.builder.FunctionBuilder.{FunctionBuilder}
 use Rattle.cranelift_frontend.specs.Builder.{CanLead}
 use Rattle.cranelift_frontend.specs.Ledger.{HasShape, NamesEdges, ledger_of}
@@ -27,10 +26,12 @@ use Rattle.clif_calls.specs.declared.call.Name.{Name}
 use Rattle.clif_calls.specs.declared.plan.Plan.{Plan}
 use Rattle.clif_calls.specs.declared.plan.Plan.TheVariants as plan
 use Rattle.clif_script.specs.declared.script.Answer.{Answer}
-use Rattle.clif_script.specs.Makes.{AreFound, IsPlanned, ValuesExist, can_make, has_names, type_in}
+use Rattle.clif_script.specs.declared.make_instructions.Planned.{Planned}
+use Rattle.clif_script.specs.Makes.{AreFound, Finds, IsPlanned, ValuesExist, can_make, has_names, type_in}
 use Rattle.clif_script.specs.Ready.{IsReady, all_values, is_open, may_lead, value_of}
 use Rattle.clif_script.specs.Requests.{controlling_in, edge_of, name_of, operation_in, request_in}
 use Rattle.clif_script.proofs.Conditions.{all-exist, all-found, all-numbered, found-exists, found-leads, found-names, lead-same, open-same, value-type-same, values-same}
+use Rattle.clif_script.proofs.Making.{found-one}
 use Rattle.clif_script.proofs.ReadyLaws.{value-missing}
 
 -- THE CONDITION -----------------------------------------------------------------------------------------------------
@@ -123,9 +124,6 @@ destinations-lead calls b answers ready p s ty planned = edges-lead calls b answ
 
 -- FORMATS -------------------------------------------------------------------------------------------------------------
 
-pub planned-constant : (b : FunctionBuilder) (answers : List Answer) (ty : «Type») (imm : ℤ) → IsPlanned b answers (plan.UnaryImm ty imm) (shape.UnaryImm imm) ty
-planned-constant b answers ty imm = record { operation = refl; controlling = refl; operands = refl; edges = tt }
-
 pub planned-unary : (b : FunctionBuilder) (answers : List Answer) (code : UnaryOpcode) (name : Name) (x : ℕ) → value_of b.func.now answers name ≡ Some x
     → IsPlanned b answers (plan.Unary code name) (shape.Unary code x) (value_at b.func.now x).ty
 planned-unary b answers code name x found =
@@ -162,6 +160,14 @@ planned-named b answers p s ty planned =
 pub planned-returns : (b : FunctionBuilder) (answers : List Answer) (args : Bor (List Name)) (values : List ℕ) → map (value_of b.func.now answers) args.now ≡ map Some values
     → IsPlanned b answers (plan.MultiAry args) (shape.MultiAry values) Invalid
 planned-returns b answers args values found = record { operation = refl; controlling = refl; operands = found; edges = tt }
+
+-- the instruction was found
+pub planned-found : (b : FunctionBuilder) (answers : List Answer) (given p : Plan) (made : Planned) (s : InstructionData) (ty : «Type») → given ≡ p → made ≡ record { shape = s; ty = ty } → IsPlanned b answers p s ty
+    → Finds (λ (x : Planned). IsPlanned b answers given x.shape x.ty) (has_names b answers given) (Ok made)
+planned-found b answers given p made s ty is same planned =
+    let here : IsPlanned b answers given made.shape made.ty =
+    subst (λ (x : Planned). IsPlanned b answers given x.shape x.ty) (sym same) (subst (λ (q : Plan). IsPlanned b answers q s ty) (sym is) planned) in
+    found-one made here (planned-named b answers given made.shape made.ty here)
 
 -- the first of two values exists
 pub first-exists : (b : FunctionBuilder) (answers : List Answer) (names : List Name) (x y : ℕ) → ValuesExist b answers → map (value_of b.func.now answers) names ≡ map Some (x ∷ y ∷ []) → x < length b.func.now.values
