@@ -41,16 +41,6 @@ pub fn constant(ty: Type, number: i64) -> u128 {
     }
 }
 
-/// The sum modulo 2 to the width.
-pub fn sum(ty: Type, a: u128, b: u128) -> u128 {
-    a.wrapping_add(b) & greatest(ty)
-}
-
-/// The difference modulo 2 to the width.
-pub fn difference(ty: Type, a: u128, b: u128) -> u128 {
-    a.wrapping_sub(b) & greatest(ty)
-}
-
 /// An operation on one operand, of a type.
 pub fn unary(opcode: UnaryOpcode, ty: Type, x: u128) -> u128 {
     let bits = match opcode {

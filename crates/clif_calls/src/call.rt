@@ -25,9 +25,34 @@ pub struct Edge {
     pub args: Vec<Name>,
 }
 
+/// An instruction that neither branches nor ends its block, with names in place of values.
+///
+/// Each variant is the instruction of its name, and has one result.
+#[derive(Clone, Copy, Debug)]
+pub enum PlainInstruction {
+    /// `iconst.ty imm`, at a type of integers.
+    Iconst { ty: Type, imm: i64 },
+    /// `iadd x, y`.
+    Iadd { x: Name, y: Name },
+    /// `isub x, y`.
+    Isub { x: Name, y: Name },
+    /// `imul x, y`.
+    Imul { x: Name, y: Name },
+    /// `band x, y`.
+    Band { x: Name, y: Name },
+    /// `bor x, y`.
+    Bor { x: Name, y: Name },
+    /// `bxor x, y`.
+    Bxor { x: Name, y: Name },
+    /// `ineg x`.
+    Ineg { x: Name },
+    /// `bnot x`.
+    Bnot { x: Name },
+}
+
 /// One call on a builder, with names in place of what earlier calls answered.
 ///
-/// Each variant is the builder's method, or the instruction, of its name, and has its conditions. A
+/// Each variant but `Plain` is the builder's method, or the instruction, of its name, and has its conditions. A
 /// variable is named by its number.
 #[derive(Debug, Drop)]
 pub enum Call {
@@ -87,22 +112,9 @@ pub enum Call {
     UseVar {
         variable: Variable,
     },
-    /// `iconst.ty imm`, an instruction with one result. The type is one of integers, and there is a
-    /// current block that isn't filled, as for each instruction.
-    Iconst {
-        ty: Type,
-        imm: i64,
-    },
-    /// `iadd x, y`, an instruction with one result.
-    Iadd {
-        x: Name,
-        y: Name,
-    },
-    /// `isub x, y`, an instruction with one result.
-    Isub {
-        x: Name,
-        y: Name,
-    },
+    /// An instruction that neither branches nor ends a block. There is a current block that isn't filled, as for each
+    /// instruction.
+    Plain(PlainInstruction),
     /// `jump destination`, an instruction without results, which fills the block.
     Jump {
         destination: Edge,

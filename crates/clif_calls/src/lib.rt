@@ -2,5 +2,7 @@
 #![tactic(auto)]
 
 mod call;
+mod plan;
 
-pub use call::{Call, Edge, Name};
+pub use call::{Call, Edge, Name, PlainInstruction};
+pub use plan::Plan;

@@ -3,7 +3,7 @@
 ghost use Rattle.std.specs.Prelude.{◌≡◌, ◌<◌, ◌-◌, ◌^◌, ◌↔◌, length, string_bytes, slice_get, IfOk, IfSome, IsSome};
 ghost use Rattle.clif_rows.specs.Rows.{IsRowName};
 
-use clif_calls::{Call, Edge, Name};
+use clif_calls::{Call, Edge, Name, PlainInstruction};
 use clif_ir::Function;
 use clif_script::{ReplayError, replay};
 use clif_ssa::Variable;
@@ -129,8 +129,13 @@ impl Row {
         )
     }
 
+    // The result of an instruction.
+    fn plain(&mut self, instruction: PlainInstruction) -> Name {
+        answer(self.add(Call::Plain(instruction)), 1)
+    }
+
     fn constant(&mut self, imm: i64) -> Name {
-        answer(self.add(Call::Iconst { ty: I32, imm }), 1)
+        self.plain(PlainInstruction::Iconst { ty: I32, imm })
     }
 
     fn use_var(&mut self, variable: Variable) -> Name {
@@ -142,11 +147,11 @@ impl Row {
     }
 
     fn iadd(&mut self, x: Name, y: Name) -> Name {
-        answer(self.add(Call::Iadd { x, y }), 1)
+        self.plain(PlainInstruction::Iadd { x, y })
     }
 
     fn isub(&mut self, x: Name, y: Name) -> Name {
-        answer(self.add(Call::Isub { x, y }), 1)
+        self.plain(PlainInstruction::Isub { x, y })
     }
 
     fn assign_sum(&mut self, variable: Variable, x: Variable, y: Variable) {

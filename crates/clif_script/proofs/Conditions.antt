@@ -1,12 +1,10 @@
 -- The tests before a call are the condition of its request in the ledger.
 use Rattle.std.proofs.Common.{◌≡◌, ◌≢◌, ℕ, zero, suc, ◌<◌, List, [], ◌∷◌, length, refl, ap, arith, sym, ◌∙◌, subst}
-use Rattle.std.specs.Prelude.{map, slice_get, Option, Some, None, option_map, is_some, IfSome, Bool, true, false, not, ◌&&◌, ◌||◌, if◌then◌else◌, ◌==◌, Err, Result, ℤ, slice_index, ◌↔◌, IsTrue}
+use Rattle.std.specs.Prelude.{map, slice_get, Option, Some, None, option_map, is_some, Bool, true, false, not, ◌&&◌, ◌||◌, if◌then◌else◌, ◌==◌, slice_index, ◌↔◌, IsTrue}
 use Rattle.std.specs.List.{All, list_all}
 use Rattle.std.proofs.Math.Bool.{not-not}
 use Rattle.std.proofs.lemmas.Option.{slice_get_within, get_or_from_slice_get}
 use Rattle.std.proofs.lemmas.Bool.{and_from, and_parts, and_right, not-true, eq-eqb, eqb-true, false_from_ne_true, false≢true}
-use Rattle.clif_types.specs.declared.error.BuildError.{BuildError}
-use Rattle.clif_types.specs.declared.error.BuildError.TheVariants as build
 use Rattle.clif_types.specs.declared.types.LaneType.{LaneType}
 use Rattle.clif_types.specs.declared.types.LaneType.TheVariants as lane
 use Rattle.clif_types.specs.declared.types.LaneCount.{LaneCount}
@@ -14,49 +12,35 @@ use Rattle.clif_types.specs.declared.types.LaneCount.TheVariants as count
 use Rattle.clif_types.specs.declared.types.«Type».{«Type»}
 use Rattle.clif_types.specs.Signature.{SignatureShape}
 use Rattle.clif_types.specs.declared.types.«Type».TheVariants as type
-use Rattle.clif_types.specs.Types.{is_int, lanes_of}
+use Rattle.clif_types.specs.Types.{lanes_of}
 use Rattle.clif_ir.specs.declared.function.ValueNode.{ValueNode}
-use Rattle.clif_ir.specs.declared.function.ValueOrigin.TheVariants as origin
 use Rattle.clif_ir.specs.Consistent.{PassedExists}
 use Rattle.clif_ir.specs.declared.block_call.BlockArg.{BlockArg}
 use Rattle.clif_ir.specs.declared.block_call.BlockArg.TheVariants as arg
-use Rattle.clif_ir.specs.declared.inst_list.BlockEnd.TheVariants.{Back}
-use Rattle.clif_ir.specs.declared.instructions.InstructionData.{InstructionData}
-use Rattle.clif_ir.specs.Reading.{def_of, stands_in}
-use Rattle.clif_ir.specs.Changes.{inserted_in, with_inst, with_layout}
-use Rattle.clif_ir.specs.Body.{Body, alias_of, alias_of_origin, follow, follow_link, no_value, resolved, value_at}
+use Rattle.clif_ir.specs.declared.block_call.BlockCall.{BlockCall}
+use Rattle.clif_ir.specs.Body.{Body, no_value, value_at}
 use Rattle.clif_meaning.specs.Name as meaning
 use Rattle.clif_meaning.specs.Instruction.{Known}
 use Rattle.clif_meaning.specs.SameType.{lane_number, same_lane, same_type}
 use Rattle.clif_meaning.specs.Request.{AnsweredCall, number_of, AppendBlockParams, AppendFunctionParams, SwitchToBlock, SealBlock, DefVar, UseVar}
 use Rattle.clif_meaning.specs.Ledger.{BlockState, Ledger, begins_with, block_state, has_block, has_predecessors, has_value, is_empty, is_filled, is_pristine, is_sealed, state_has, type_of, variable_type}
-use Rattle.clif_meaning.specs.Acceptance.{allows, can_assign, can_lead, can_leave, has_argument, is_variable_type, iconst, iadd, jump, brif, return_}
+use Rattle.clif_meaning.specs.Acceptance.{allows, can_assign, can_lead, can_leave, has_argument, is_variable_type}
 use Rattle.clif_meaning.specs.Acceptance as acceptance
 use Rattle.clif_ssa.specs.Tables.{is_yes}
-use Rattle.clif_ssa.specs.Ssa.{no_srcloc, predecessors_of, sealed_of}
+use Rattle.clif_ssa.specs.Ssa.{predecessors_of, sealed_of}
 use Rattle.cranelift_frontend.specs.declared.context.BlockStatus.{BlockStatus}
 use Rattle.cranelift_frontend.specs.declared.context.BlockStatus.TheVariants.{Empty, Partial, Filled}
 use Rattle.cranelift_frontend.specs.declared.builder.FunctionBuilder.{FunctionBuilder}
 use Rattle.cranelift_frontend.specs.Context.{status_of}
-use Rattle.cranelift_frontend.specs.Builder.{AppendsValue, CanLead, HasCurrent, is_declarable, is_elsewhere, is_empty_status, is_filled_status, is_free, is_free_at, is_nothing, may_be_left}
+use Rattle.cranelift_frontend.specs.Builder.{CanLead, HasCurrent, is_declarable, is_elsewhere, is_empty_status, is_filled_status, is_free, is_free_at, is_nothing, may_be_left}
 use Rattle.cranelift_frontend.specs.Ledger.{NamesArguments, NamesEdge, block_name, ledger_of}
 use Rattle.clif_calls.specs.declared.call.Edge.{Edge}
 use Rattle.clif_calls.specs.declared.call.Name.{Name}
 use Rattle.clif_script.specs.declared.script.Answer.{Answer}
-use Rattle.clif_script.specs.declared.script.Answer.TheVariants as answer
-use Rattle.clif_script.specs.declared.script.CallError.{CallError}
-use Rattle.clif_script.specs.declared.script.CallError.TheVariants as error
-use Rattle.clif_script.specs.Errors.{call_error_of}
 use Rattle.clif_script.specs.Requests.{edge_of, name_of}
-use Rattle.clif_script.specs.Ready.{IsReady, IsFound, IsJudged, all_values, block_of, can_append, can_append_function_params, can_define, can_seal, can_switch, can_use, instruction_answer, instruction_in, is_open, is_open_at, is_target, may_lead, value_of}
-use Rattle.clif_script.proofs.Options.{get-last, map-some, name-of-none, name-of-some, some-is}
+use Rattle.clif_script.specs.Ready.{IsReady, IsFound, all_values, argument_of, block_of, can_append, can_append_function_params, can_define, can_seal, can_switch, can_use, is_open, is_open_at, is_target, may_lead, value_of}
+use Rattle.clif_script.proofs.Options.{map-some, name-of-none, name-of-some, some-is}
 use Rattle.clif_script.proofs.ReadyLaws.{block-found, block-missing, block-there, read, value-exists, value-found, value-missing}
-
--- a refusal of the builder is no misuse
-pub judged-from : (allowed : Bool) (e : BuildError) → allowed ≡ true → IsJudged allowed (Err (call_error_of e))
-judged-from allowed build.Memory is = tt
-judged-from allowed build.Full is = is
-judged-from allowed build.Failed is = is
 
 filled-same : {declared : SignatureShape} (calls : List AnsweredCall) (b : FunctionBuilder) (answers : List Answer) → IsReady declared calls b answers
     → (name : meaning.Name) (block : ℕ) → block_name (ledger_of calls) block ≡ Some name → is_filled (ledger_of calls) name ≡ is_filled_status (status_of b.ctx.now block)
@@ -268,7 +252,7 @@ define-undeclared calls b answers ready variable name missing =
     and_right _ _ (ap (λ (o : Option «Type»). can_assign o (type_of (ledger_of calls) name)) none ∙ no-variable-assigned (type_of (ledger_of calls) name))
 
 -- the ledger's type of a value is the function's
-value-type-same : {declared : SignatureShape} (calls : List AnsweredCall) (b : FunctionBuilder) (answers : List Answer) → IsReady declared calls b answers
+pub value-type-same : {declared : SignatureShape} (calls : List AnsweredCall) (b : FunctionBuilder) (answers : List Answer) → IsReady declared calls b answers
     → (name : Name) (value : ℕ) → value_of b.func.now answers name ≡ Some value → type_of (ledger_of calls) (name_of name) ≡ Some (value_at b.func.now value).ty
 value-type-same calls b answers ready name value found =
     let names = value-found calls b answers ready name value found in
@@ -293,52 +277,8 @@ use-same calls b answers ready variable =
     let of_variable = (read calls b answers ready).variable variable in
     rw (opens, of_variable) refl
 
--- `iconst`
-pub iconst-same : {declared : SignatureShape} (calls : List AnsweredCall) (b : FunctionBuilder) (answers : List Answer) → IsReady declared calls b answers
-    → (ty : «Type») (imm : ℤ) → allows (ledger_of calls) (iconst ty imm) ≡ (is_open b && is_int ty)
-iconst-same calls b answers ready ty imm = let opens = open-same calls b answers ready in rw opens (by (is_open b))
-  where
-    by : (test : Bool) → (((test && true) && true) && is_int ty) ≡ (test && is_int ty)
-    by true = refl
-    by false = refl
-
--- `iadd`, and `isub`, which asks the same
-pub iadd-first : {declared : SignatureShape} (calls : List AnsweredCall) (b : FunctionBuilder) (answers : List Answer) → IsReady declared calls b answers
-    → (x y : Name) → value_of b.func.now answers x ≡ None → allows (ledger_of calls) (iadd (ledger_of calls) (name_of x) (name_of y)) ≡ false
-iadd-first calls b answers ready x y missing =
-    let none = value-missing calls b answers ready x missing in
-    rw none (by (acceptance.is_open (ledger_of calls) (ledger_of calls).current))
-  where
-    by : (test : Bool) → (((test && false) && true) && true) ≡ false
-    by true = refl
-    by false = refl
-
-pub iadd-second : {declared : SignatureShape} (calls : List AnsweredCall) (b : FunctionBuilder) (answers : List Answer) → IsReady declared calls b answers
-    → (x y : Name) → value_of b.func.now answers y ≡ None → allows (ledger_of calls) (iadd (ledger_of calls) (name_of x) (name_of y)) ≡ false
-iadd-second calls b answers ready x y missing =
-    let none = value-missing calls b answers ready y missing in
-    rw none (by (acceptance.is_open (ledger_of calls) (ledger_of calls).current) (has_value (ledger_of calls) (name_of x)))
-  where
-    by : (test other : Bool) → (((test && (other && false)) && true) && true) ≡ false
-    by true true = refl
-    by true false = refl
-    by false other = refl
-
-pub iadd-some : {declared : SignatureShape} (calls : List AnsweredCall) (b : FunctionBuilder) (answers : List Answer) → IsReady declared calls b answers
-    → (x y : Name) (v w : ℕ) → value_of b.func.now answers x ≡ Some v → value_of b.func.now answers y ≡ Some w
-    → allows (ledger_of calls) (iadd (ledger_of calls) (name_of x) (name_of y)) ≡ is_open b
-iadd-some calls b answers ready x y v w first second =
-    let left = (value-found calls b answers ready x v first).is_value in
-    let right = (value-found calls b answers ready y w second).is_value in
-    let opens = open-same calls b answers ready in
-    rw (left, right, opens) (by (is_open b))
-  where
-    by : (test : Bool) → (((test && true) && true) && true) ≡ test
-    by true = refl
-    by false = refl
-
--- `return_`
-values-same : {declared : SignatureShape} (calls : List AnsweredCall) (b : FunctionBuilder) (answers : List Answer) → IsReady declared calls b answers
+-- the values that names lead to are there
+pub values-same : {declared : SignatureShape} (calls : List AnsweredCall) (b : FunctionBuilder) (answers : List Answer) → IsReady declared calls b answers
     → (names : List Name) → list_all (has_value (ledger_of calls)) (map name_of names) ≡ all_values b.func.now answers names
 values-same calls b answers ready [] = refl
 values-same calls b answers ready (name ∷ names) =
@@ -349,17 +289,6 @@ values-same calls b answers ready (name ∷ names) =
     by : (o : Option ℕ) → value_of b.func.now answers name ≡ o → has_value (ledger_of calls) (name_of name) ≡ is_some (value_of b.func.now answers name)
     by None is = value-missing calls b answers ready name is ∙ ap is_some (sym is)
     by (Some value) is = (value-found calls b answers ready name value is).is_value ∙ ap is_some (sym is)
-
-pub return-same : {declared : SignatureShape} (calls : List AnsweredCall) (b : FunctionBuilder) (answers : List Answer) → IsReady declared calls b answers
-    → (names : List Name) → allows (ledger_of calls) (return_ (map name_of names)) ≡ (is_open b && all_values b.func.now answers names)
-return-same calls b answers ready names =
-    let opens = open-same calls b answers ready in
-    let all = values-same calls b answers ready names in
-    rw (opens, all) (by (is_open b && all_values b.func.now answers names))
-  where
-    by : (test : Bool) → ((test && true) && true) ≡ test
-    by true = refl
-    by false = refl
 
 -- values that were found are all there
 pub all-found : (f : Body) (answers : List Answer) (names : List Name) (values : List ℕ) → map (value_of f answers) names ≡ map Some values → all_values f answers names ≡ true
@@ -384,23 +313,6 @@ has-current calls b answers ready opens = by b.position refl opens
     by (Some block) at is =
         let current = name-of-some (block_name (ledger_of calls)) (ledger_of calls).current block (ready.stands.ledger.current ∙ ap (option_map (block_name (ledger_of calls))) at) in
         (block, at, (read calls b answers ready).exists block current.0 current.2, not_filled (status_of b.ctx.now block) is)
-
--- a refusal of the builder, told as that of a call
-pub judged-err : (allowed : Bool) (r : Result Answer CallError) (y : CallError) (e : BuildError) → r ≡ Err y → y ≡ call_error_of e → allowed ≡ true → IsJudged allowed r
-judged-err allowed r y e is gives holds =
-    subst (λ (s : Result Answer CallError). IsJudged allowed s) (sym (is ∙ ap Err gives)) (judged-from allowed e holds)
-
--- a refusal of names, told as that of a call
-pub judged-names : {X : Type 0} (allowed all : Bool) (v : Result X CallError) (r : Result Answer CallError) (e : CallError) → r ≡ Err e → v ≡ Err e
-    → (v ≡ Err error.Misuse → all ≡ false) → (all ≡ false → allowed ≡ false) → v ≢ Err error.Refused → v ≢ Err error.Full → IsJudged allowed r
-judged-names allowed all v r e is was misuse condition never_refused never_full =
-    subst (λ (s : Result Answer CallError). IsJudged allowed s) (sym is) (by e was)
-  where
-    by : (e : CallError) → v ≡ Err e → IsJudged allowed (Err e)
-    by error.Misuse was = condition (misuse was)
-    by error.Refused was = absurd (never_refused was)
-    by error.Memory was = tt
-    by error.Full was = absurd (never_full was)
 
 -- equal by the test is equal
 lane_of : ℕ → LaneType
@@ -486,49 +398,6 @@ all-numbered calls b answers ready (name ∷ names) (value ∷ values) found =
     let others = all-numbered calls b answers ready names values rest in
     cc
 
--- a value that is no other name stands for itself
-follow-stays : (steps : ℕ) (values : List ValueNode) (v : ℕ) → alias_of values v ≡ None → follow steps values v ≡ v
-unfolding follow
-follow-stays zero values v none = refl
-follow-stays (suc steps) values v none = ap (λ (o : Option ℕ). follow_link o (follow steps values) v) none
-
--- a block that enters the layout leaves the tables of values and of instructions
-inserted-values : (f : Body) (b : ℕ) → length (inserted_in f b).values ≡ length f.values
-inserted-values f b = by (stands_in b f.layout)
-  where
-    by : (there : Bool) → length (if there then f else with_layout f b).values ≡ length f.values
-    by true = refl
-    by false = refl
-
-inserted-insts : (f : Body) (b : ℕ) → length (inserted_in f b).insts ≡ length f.insts
-inserted-insts f b = by (stands_in b f.layout)
-  where
-    by : (there : Bool) → length (if there then f else with_layout f b).insts ≡ length f.insts
-    by true = refl
-    by false = refl
-
--- the new value of an instruction is its result
-pub new-instruction : (f g : Body) (block : ℕ) (form : InstructionData) (ty : «Type») → g ≡ with_inst (inserted_in f block) block Back form (ty ∷ []) no_srcloc
-    → (length f.values < length g.values) × (instruction_answer g (length f.values) ≡ answer.Inst (length f.insts))
-new-instruction f g block form ty function =
-    let made : Body = with_inst (inserted_in f block) block Back form (ty ∷ []) no_srcloc in
-    let node : ValueNode = record { ty = ty; origin = origin.Result (length (inserted_in f block).insts) 0 } in
-    let there : slice_get g.values (length f.values) ≡ Some node =
-    ap (λ (h : Body). slice_get h.values (length f.values)) function ∙ ap (slice_get made.values) (sym (inserted-values f block)) ∙ get-last (inserted_in f block).values node in
-    let value : value_at g (length f.values) ≡ node = get_or_from_slice_get g.values (length f.values) node no_value there in
-    let stays : resolved g (length f.values) ≡ length f.values = follow-stays (length g.values) g.values (length f.values) (ap (λ (n : ValueNode). alias_of_origin n.origin) value) in (
-      slice_get_within g.values (length f.values) node there,
-      ap (λ (v : ℕ). instruction_in (def_of g v (value_at g v).origin) (length f.values)) stays
-          ∙ ap (λ (n : ValueNode). instruction_in (def_of g (length f.values) n.origin) (length f.values)) value
-          ∙ ap answer.Inst (inserted-insts f block),
-    )
-
--- what was appended with a value
-pub appended : (old new : FunctionBuilder) (form : InstructionData) (ty : «Type») (value : ℕ) → HasCurrent old
-    → IfSome old.position (λ block. AppendsValue old new block form ty value)
-    → (block : ℕ) × AppendsValue old new block form ty value
-appended old new form ty value current appends = (current.0, subst (λ (o : Option ℕ). IfSome o (λ block. AppendsValue old new block form ty value)) current.1 appends)
-
 -- a variable that may be used was declared
 pub declared-there : (b : FunctionBuilder) (types variables : List «Type») (variable : ℕ) → types ≡ variables → can_use b types variable ≡ true → variable < length variables
 declared-there b types variables variable same holds =
@@ -568,57 +437,29 @@ lead-same calls b answers ready edge =
     ∙ ap (λ (all : Bool). is_target b (block_of answers edge.block) && all)
     (arguments-same (ledger_of calls) edge.args.items ∙ values-same calls b answers ready edge.args.items)
 
--- `jump`
-pub jump-same : {declared : SignatureShape} (calls : List AnsweredCall) (b : FunctionBuilder) (answers : List Answer) → IsReady declared calls b answers
-    → (edge : Edge) → allows (ledger_of calls) (jump (edge_of edge)) ≡ (is_open b && may_lead b answers edge)
-jump-same calls b answers ready edge =
-    by (acceptance.is_open (ledger_of calls) (ledger_of calls).current) (can_lead (ledger_of calls) (edge_of edge))
-    ∙ ap (λ (test : Bool). test && can_lead (ledger_of calls) (edge_of edge)) (open-same calls b answers ready)
-    ∙ ap (λ (test : Bool). is_open b && test) (lead-same calls b answers ready edge)
-  where
-    by : (test leads : Bool) → (((test && true) && (leads && true)) && true) ≡ (test && leads)
-    by true true = refl
-    by true false = refl
-    by false leads = refl
-
--- `brif`
-pub brif-same : {declared : SignatureShape} (calls : List AnsweredCall) (b : FunctionBuilder) (answers : List Answer) → IsReady declared calls b answers
-    → (condition : Name) (taken other : Edge) → allows (ledger_of calls) (brif (ledger_of calls) (name_of condition) (edge_of taken) (edge_of other))
-    ≡ (is_open b && (is_some (value_of b.func.now answers condition) && (may_lead b answers taken && may_lead b answers other)))
-brif-same calls b answers ready condition taken other =
-    let values = values-same calls b answers ready (condition ∷ []) in
-    let here : has_value (ledger_of calls) (name_of condition) ≡ is_some (value_of b.func.now answers condition) =
-    sym (always (has_value (ledger_of calls) (name_of condition))) ∙ values ∙ always (is_some (value_of b.func.now answers condition)) in
-    by (acceptance.is_open (ledger_of calls) (ledger_of calls).current) (has_value (ledger_of calls) (name_of condition)) (can_lead (ledger_of calls) (edge_of taken)) (can_lead (ledger_of calls) (edge_of other))
-    ∙ ap (λ (test : Bool). test && (has_value (ledger_of calls) (name_of condition) && (can_lead (ledger_of calls) (edge_of taken) && can_lead (ledger_of calls) (edge_of other)))) (open-same calls b answers ready)
-    ∙ ap (λ (test : Bool). is_open b && (test && (can_lead (ledger_of calls) (edge_of taken) && can_lead (ledger_of calls) (edge_of other)))) here
-    ∙ ap (λ (test : Bool). is_open b && (is_some (value_of b.func.now answers condition) && (test && can_lead (ledger_of calls) (edge_of other)))) (lead-same calls b answers ready taken)
-    ∙ ap (λ (test : Bool). is_open b && (is_some (value_of b.func.now answers condition) && (may_lead b answers taken && test))) (lead-same calls b answers ready other)
-  where
-    always : (test : Bool) → (test && true) ≡ test
-    always true = refl
-    always false = refl
-
-    by : (test there first second : Bool) → (((test && (there && true)) && (first && (second && true))) && true) ≡ (test && (there && (first && second)))
-    by true true true true = refl
-    by true true true false = refl
-    by true true false second = refl
-    by true false first second = refl
-    by false there first second = refl
-
-pub brif-other : {declared : SignatureShape} (calls : List AnsweredCall) (b : FunctionBuilder) (answers : List Answer) → IsReady declared calls b answers
-    → (condition : Name) (taken other : Edge) → may_lead b answers other ≡ false
-    → allows (ledger_of calls) (brif (ledger_of calls) (name_of condition) (edge_of taken) (edge_of other)) ≡ false
-brif-other calls b answers ready condition taken other none =
-    brif-same calls b answers ready condition taken other
-    ∙ and_right (is_open b) (is_some (value_of b.func.now answers condition) && (may_lead b answers taken && may_lead b answers other))
-    (and_right (is_some (value_of b.func.now answers condition)) (may_lead b answers taken && may_lead b answers other) (and_right (may_lead b answers taken) (may_lead b answers other) none))
+-- what names pass is what they lead to
+passed-values : (f : Body) (answers : List Answer) (names : List Name) (args : List BlockArg) → map (argument_of f answers) names ≡ map Some args
+    → (values : List ℕ) × (map (value_of f answers) names ≡ map Some values) × (args ≡ map arg.Value values)
+passed-values f answers [] [] found = ([], refl, refl)
+passed-values f answers [] (a ∷ args) found = let no_way : ⊥ = cc in absurd no_way
+passed-values f answers (name ∷ names) [] found = let no_way : ⊥ = cc in absurd no_way
+passed-values f answers (name ∷ names) (a ∷ args) found =
+    let here : argument_of f answers name ≡ Some a = cc in
+    let rest : map (argument_of f answers) names ≡ map Some args = cc in
+    let value = map-some arg.Value (value_of f answers name) a here in
+    let others = passed-values f answers names args rest in
+    let first : value_of f answers name ≡ Some value.0 = value.1 in
+    let same : arg.Value value.0 ≡ a = value.2 in
+    let more : map (value_of f answers) names ≡ map Some others.0 = others.1 in
+    let same_args : args ≡ map arg.Value others.0 = others.2 in
+    (value.0 ∷ others.0, cc, cc)
 
 -- an edge that was found may be made
-pub found-leads : (b : FunctionBuilder) (answers : List Answer) (edge : Edge) (block : ℕ) (args : List BlockArg) → IsFound b answers edge block args → may_lead b answers edge ≡ true
-found-leads b answers edge block args found =
+pub found-leads : (b : FunctionBuilder) (answers : List Answer) (edge : Edge) (call : BlockCall) → IsFound b answers edge call → may_lead b answers edge ≡ true
+found-leads b answers edge call found =
+    let passed = passed-values b.func.now answers edge.args.items call.args found.passed in
     and_from (is_target b (block_of answers edge.block)) (all_values b.func.now answers edge.args.items)
-    (ap (is_target b) found.target ∙ found.unsealed) (all-found b.func.now answers edge.args.items found.values found.found)
+    (ap (is_target b) found.target ∙ found.unsealed) (all-found b.func.now answers edge.args.items passed.0 passed.1)
 
 -- what names lead to is passed
 passed-named : {declared : SignatureShape} (calls : List AnsweredCall) (b : FunctionBuilder) (answers : List Answer) → IsReady declared calls b answers
@@ -632,12 +473,14 @@ passed-named calls b answers ready (name ∷ names) (value ∷ values) found =
     (value-found calls b answers ready name value here, passed-named calls b answers ready names values rest)
 
 pub found-names : {declared : SignatureShape} (calls : List AnsweredCall) (b : FunctionBuilder) (answers : List Answer) → IsReady declared calls b answers
-    → (edge : Edge) (block : ℕ) (args : List BlockArg) → IsFound b answers edge block args → NamesEdge calls (edge_of edge) (record { block = block; args = args })
-found-names calls b answers ready edge block args found = record {
-  target = block-found calls b answers ready edge.block block found.target;
-  arguments = subst (λ (xs : List BlockArg). NamesArguments calls (map (λ name. Known (name_of name)) edge.args.items) xs) (sym found.passed)
-      (passed-named calls b answers ready edge.args.items found.values found.found);
-}
+    → (edge : Edge) (call : BlockCall) → IsFound b answers edge call → NamesEdge calls (edge_of edge) call
+found-names calls b answers ready edge call found =
+    let passed = passed-values b.func.now answers edge.args.items call.args found.passed in
+    record {
+      target = block-found calls b answers ready edge.block call.block found.target;
+      arguments = subst (λ (xs : List BlockArg). NamesArguments calls (map (λ name. Known (name_of name)) edge.args.items) xs) (sym passed.2)
+          (passed-named calls b answers ready edge.args.items passed.0 passed.1);
+    }
 
 -- and exists
 passed-exist : (f : Body) (values : List ℕ) → ((k : ℕ) → k < length values → slice_index values k < length f.values) → All (PassedExists f) (map arg.Value values)
@@ -646,12 +489,13 @@ passed-exist f (value ∷ values) exist zero d inside = exist zero (omega arith)
 passed-exist f (value ∷ values) exist (suc k) d inside = passed-exist f values (λ j below. exist (suc j) (omega (arith, below))) k d (omega (arith, inside))
 
 pub found-exists : {declared : SignatureShape} (calls : List AnsweredCall) (b : FunctionBuilder) (answers : List Answer) → IsReady declared calls b answers
-    → (edge : Edge) (block : ℕ) (args : List BlockArg) → IsFound b answers edge block args → CanLead b (record { block = block; args = args })
-found-exists calls b answers ready edge block args found =
-    let exist = passed-exist b.func.now found.values (all-exist calls b answers ready edge.args.items found.values found.found) in (
+    → (edge : Edge) (call : BlockCall) → IsFound b answers edge call → CanLead b call
+found-exists calls b answers ready edge call found =
+    let passed = passed-values b.func.now answers edge.args.items call.args found.passed in
+    let exist = passed-exist b.func.now passed.0 (all-exist calls b answers ready edge.args.items passed.0 passed.1) in (
       (
-        block-there calls b answers ready edge.block block found.target,
-        subst (λ (xs : List BlockArg). All (PassedExists b.func.now) xs) (sym found.passed) exist,
+        block-there calls b answers ready edge.block call.block found.target,
+        subst (λ (xs : List BlockArg). All (PassedExists b.func.now) xs) (sym passed.2) exist,
       ),
-      not-true (is_yes (sealed_of b.ctx.now.ssa block)) found.unsealed,
+      not-true (is_yes (sealed_of b.ctx.now.ssa call.block)) found.unsealed,
     )

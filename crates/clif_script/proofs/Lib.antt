@@ -1,10 +1,8 @@
 pub mod Options
-pub mod Limits
-pub mod Costs
-pub mod Leading
 pub mod ReadyLaws
 pub mod Parameters
 pub mod Conditions
+pub mod Planning
 pub mod Verdicts
 pub mod Placements
 pub mod Making

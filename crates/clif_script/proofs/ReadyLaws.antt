@@ -26,7 +26,7 @@ use Rattle.clif_script.proofs.Options.{get-push, get-below, map-some, some-is, i
 
 -- what the ledger says of a name, the builder says of its number
 pub read : {declared : SignatureShape} (calls : List AnsweredCall) (b : FunctionBuilder) (answers : List Answer) → IsReady declared calls b answers → IsReadByNumber calls b.func.now b.ctx.now
-read calls b answers ready = ready.laws.ledger calls b.func.now b.ctx.now b.position ready.stands.ledger
+read calls b answers ready = ready.reads calls b.func.now b.ctx.now b.position ready.stands.ledger
 
 -- the ledger with one more call
 pub ledger-more : (calls : List AnsweredCall) (call : AnsweredCall) → ledger_of (calls ++ call ∷ []) ≡ ledger_with (ledger_of calls) call.request
@@ -370,7 +370,7 @@ pub ready-more : {declared : SignatureShape} (calls : List AnsweredCall) (call :
     → IsReady declared (calls ++ call ∷ []) new (answers ++ a ∷ [])
 ready-more calls call old new answers a ready stands is =
     record {
-      laws = ready.laws;
+      reads = ready.reads;
       stands = stands;
       count = length-append answers (a ∷ []) ∙ ap (λ (n : ℕ). n + 1) ready.count ∙ sym (length-append calls (call ∷ []));
       answered = answered;

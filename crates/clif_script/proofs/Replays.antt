@@ -1,6 +1,6 @@
 -- What a replay answers, from what the calls and `finalize` answered.
-use Rattle.std.proofs.Common.{arith, ◌≡◌, ◌+◌, ◌*◌, ◌-◌, ◌^◌, ◌<◌, ◌≤◌, ℕ, List, length, refl, ap, sym, ◌∙◌, subst}
-use Rattle.std.specs.Prelude.{◌≢◌, false, Err, IfErr, IfOk, Ok, OnOk, Result, Some}
+use Rattle.std.proofs.Common.{arith, ◌≡◌, ◌<◌, ◌≤◌, ℕ, List, length, refl, ap, sym, ◌∙◌, subst}
+use Rattle.std.specs.Prelude.{◌≢◌, false, Err, IfOk, Ok, OnOk, Result, Some}
 use Rattle.clif_types.specs.Signature.{SignatureShape}
 use Rattle.clif_types.specs.declared.extname.UserFuncName.{UserFuncName}
 use Rattle.clif_types.specs.declared.target.PointerWidth.{PointerWidth}
@@ -24,9 +24,8 @@ use Rattle.clif_script.specs.declared.script.CallError.TheVariants as error
 use Rattle.clif_script.specs.Errors.{replay_error_at}
 use Rattle.clif_script.specs.declared.script.ReplayError.{ReplayError}
 use Rattle.clif_script.specs.declared.script.ReplayError.TheVariants as replay
-use Rattle.clif_script.specs.Limits.{HasNoBranch, cost}
 use Rattle.clif_script.specs.Replay.{ReplayMakes, ReplayTells}
-use Rattle.clif_script.specs.Requests.{IsReplayed, IsStoppedByTable, requests_of, verdict_of}
+use Rattle.clif_script.specs.Requests.{IsReplayed, IsStoppedByTable, requests_of}
 use Rattle.clif_script.proofs.Verdicts.{all-replayed, means-replayed, verdict-accepted}
 
 -- all calls were made, and `finalize` succeeded: `f` is the function that it left
@@ -70,8 +69,6 @@ told-refused calls start old place begins is refused =
     subst (λ (x : Body). ReplayTells calls x.name x.signature (Err (replay.Refused place))) begins (record {
       misuse = λ i told. absurd (no-misuse i told);
       refused = λ i told. sym (same i told) ∙ is;
-      full = λ told. absurd (no-full told);
-      full_straight = λ told. absurd (no-full told);
       table_full = λ told. absurd (no-full told);
       verdict = λ not_memory not_full. ap (λ (i : ℕ). Some (Refused i)) is ∙ ap Some (sym refused);
     })
@@ -90,8 +87,6 @@ pub told-memory : (calls : List Call) (old : Body) → ReplayTells calls old.nam
 told-memory calls old = record {
   misuse = λ i told. absurd (no-misuse i told);
   refused = λ i told. absurd (no-refusal i told);
-  full = λ told. absurd (no-full told);
-  full_straight = λ told. absurd (no-full told);
   table_full = λ told. absurd (no-full told);
   verdict = λ not_memory not_full. absurd (not_memory refl);
 }
@@ -110,8 +105,6 @@ pub told-answer : (calls : List Call) (name : UserFuncName) (declared : Signatur
 told-answer calls name declared f accepted = record {
   misuse = λ i told. absurd (no-error (replay.Misuse i) told);
   refused = λ i told. absurd (no-error (replay.Refused i) told);
-  full = λ told. absurd (no-error replay.Full told);
-  full_straight = λ told. absurd (no-error replay.Full told);
   table_full = λ told. absurd (no-error replay.Full told);
   verdict = λ not_memory not_full. ap Some (sym accepted);
 }
@@ -139,8 +132,6 @@ pub record AreMade (calls : List Call) (old new : FunctionBuilder) (result : Res
   pub misuse : (i : ℕ) → result ≡ Err (replay.Misuse i) → i < length calls
   pub judged : (i : ℕ) → result ≡ Err (replay.Misuse i) → verdict_on (requests_of old.func.now.signature calls) ≡ Misuse i
   pub never_refused : (i : ℕ) → result ≢ Err (replay.Refused i)
-  pub full : result ≡ Err replay.Full → 2 ^ 32 - 1 ≤ cost old.func.now.signature calls + length calls * length calls
-  pub full_straight : result ≡ Err replay.Full → HasNoBranch calls → 2 ^ 32 - 1 ≤ 2 * cost old.func.now.signature calls
   pub table_full : result ≡ Err replay.Full → IsStoppedByTable calls old.func.now.name old.func.now.signature
 
 -- loans are kept over two steps
@@ -157,8 +148,6 @@ made-memory calls old new result is loans = subst (λ (r : Result (Unit {0}) Rep
   misuse = λ i told. absurd (no-misuse i told);
   judged = λ i told. absurd (no-misuse i told);
   never_refused = no-refusal;
-  full = λ told. absurd (no-full told);
-  full_straight = λ told. absurd (no-full told);
   table_full = λ told. absurd (no-full told);
 })
   where
@@ -182,8 +171,6 @@ made-all calls old new made loans name stands replayed sound = record {
   misuse = λ i told. absurd (no-error (replay.Misuse i) told);
   judged = λ i told. absurd (no-error (replay.Misuse i) told);
   never_refused = λ i told. no-error (replay.Refused i) told;
-  full = λ told. absurd (no-error replay.Full told);
-  full_straight = λ told. absurd (no-error replay.Full told);
   table_full = λ told. absurd (no-error replay.Full told);
 }
   where

@@ -1,6 +1,6 @@
-pub mod Laws
 pub mod Errors
 pub mod Limits
 pub mod Ready
 pub mod Requests
+pub mod Makes
 pub mod Replay

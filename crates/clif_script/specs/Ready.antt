@@ -1,15 +1,13 @@
 -- What holds between the calls of a script: the builder stands for the calls that were made, whose numbers are those
 -- that were answered. Own.
-use Rattle.std.specs.Prelude.{◌≡◌, ℕ, ◌<◌, List, [], ◌∷◌, ◌++◌, length, map, slice_get, is_some, not, ◌&&◌, ◌+◌, ◌-◌, ◌==◌, nat_lt, Bool, true, false, Option, Some, None, if◌then◌else◌, Result, Ok, Err}
+use Rattle.std.specs.Prelude.{◌≡◌, ℕ, ◌<◌, List, [], ◌∷◌, ◌++◌, length, map, option_map, slice_get, is_some, not, ◌&&◌, ◌+◌, ◌-◌, ◌==◌, nat_lt, Bool, true, false, Option, Some, None, if◌then◌else◌, Result, Ok, Err}
 use Rattle.std.specs.List.{list_all}
 use Rattle.clif_types.specs.declared.types.«Type».{«Type»}
-use Rattle.clif_types.specs.Types.{is_int}
-use Rattle.clif_ir.specs.Body.{Body, inst_at, value_at, resolved}
-use Rattle.clif_ir.specs.Reading.{def_of, stands_in}
+use Rattle.clif_ir.specs.Body.{Body, inst_at, value_at}
+use Rattle.clif_ir.specs.Reading.{stands_in}
 use Rattle.clif_ir.specs.declared.block_call.BlockArg.{BlockArg}
 use Rattle.clif_ir.specs.declared.block_call.BlockArg.TheVariants.{Value}
-use Rattle.clif_ir.specs.declared.function.ValueDef.{ValueDef}
-use Rattle.clif_ir.specs.declared.function.ValueDef.TheVariants as def
+use Rattle.clif_ir.specs.declared.block_call.BlockCall.{BlockCall}
 use Rattle.clif_meaning.specs.SameType.{same_type}
 use Rattle.clif_meaning.specs.Request.{AnsweredCall, Request}
 use Rattle.clif_meaning.specs.Ledger.{Answered, ABlock, AVariable, AValue, AnInstruction}
@@ -22,7 +20,7 @@ use Rattle.cranelift_frontend.specs.Builder.{is_empty_status, is_filled_status, 
 use Rattle.clif_types.specs.Signature.{SignatureShape}
 use Rattle.cranelift_frontend.specs.Ledger.{ledger_of}
 use Rattle.cranelift_frontend.specs.StandsFor.{StandsFor}
-use Rattle.clif_script.specs.Laws.{BuilderLaws}
+use Rattle.cranelift_frontend.specs.LedgerLaws.{LedgerIsReadByNumber}
 use Rattle.clif_calls.specs.declared.call.Edge.{Edge}
 use Rattle.clif_calls.specs.declared.call.Name.{Name}
 use Rattle.clif_calls.specs.declared.call.Call.{Call}
@@ -42,23 +40,22 @@ AnswerIs (answer.Values first count) answered numbers =
 AnswerIs (answer.Inst i) answered numbers =
     (types : List «Type») × (results : List ℕ) × (answered ≡ AnInstruction ∷ map AValue types) × (numbers ≡ i ∷ results)
 
--- the builder stands for these calls, on a function of this signature, and these are their answers; and the laws of the
--- crates below are known
+-- the builder stands for these calls, on a function of this signature, and these are their answers; and it is known how a
+-- ledger is read
 pub record IsReady (declared : SignatureShape) (calls : List AnsweredCall) (b : FunctionBuilder) (answers : List Answer) : Type 0 where
-  pub laws : BuilderLaws
+  pub reads : LedgerIsReadByNumber
   pub stands : StandsFor declared calls b
   pub count : length answers ≡ length calls
   pub answered : (place : ℕ) (answer : Answer) (call : AnsweredCall) (answered : List Answered)
       → slice_get answers place ≡ Some answer → slice_get calls place ≡ Some call → slice_get (ledger_of calls).answers place ≡ Some answered
       → AnswerIs answer answered call.numbers
 
--- it stands for these calls, on a function of some signature
-abbrev pub IsReadyWith : List AnsweredCall → FunctionBuilder → List Answer → Type 0
-IsReadyWith calls b answers = (declared : SignatureShape) × IsReady declared calls b answers
-
--- it stands for some calls
-abbrev pub IsReadyNow : FunctionBuilder → List Answer → Type 0
-IsReadyNow b answers = (declared : SignatureShape) × (calls : List AnsweredCall) × IsReady declared calls b answers
+-- it stands for some calls, and hasn't failed
+pub record IsSound (b : FunctionBuilder) (answers : List Answer) : Type 0 where
+  pub declared : SignatureShape
+  pub calls : List AnsweredCall
+  pub ready : IsReady declared calls b answers
+  pub sound : b.failed ≡ false
 
 -- it stands for one more call, which was this request and gave this answer
 abbrev pub IsReadyAfter : SignatureShape → List AnsweredCall → Request → FunctionBuilder → List Answer → Answer → Type 0
@@ -105,14 +102,6 @@ AnswerExists f (answer.Block b) = Unit {0}
 AnswerExists f (answer.Variable v) = Unit {0}
 AnswerExists f (answer.Values first count) = (k : ℕ) → k < count → first + k < length f.values
 
--- the answer of an instruction call: the instruction of which the value is the result
-abbrev pub instruction_in : ValueDef → ℕ → Answer
-instruction_in (def.Result i k) value = answer.Inst i
-instruction_in (def.Param b k) value = answer.Values value 1
-
-abbrev pub instruction_answer : Body → ℕ → Answer
-instruction_answer f value = instruction_in (def_of f (resolved f value) (value_at f (resolved f value)).origin) value
-
 -- there is a current block, and no terminator was appended to it
 abbrev pub is_open_at : Option ℕ → ContextState → Bool
 is_open_at None c = false
@@ -158,10 +147,6 @@ can_define b ty value = is_open b && same_type ty (value_at b.func.now value).ty
 abbrev pub can_use : FunctionBuilder → List «Type» → ℕ → Bool
 can_use b types variable = is_open b && is_some (slice_get types variable)
 
--- a constant of this type may be made
-abbrev pub can_make_constant : FunctionBuilder → «Type» → Bool
-can_make_constant b ty = is_open b && is_int ty
-
 -- each name leads to a value
 abbrev pub all_values : Body → List Answer → List Name → Bool
 all_values f answers names = list_all (λ name. is_some (value_of f answers name)) names
@@ -175,13 +160,15 @@ is_target b (Some block) = can_seal b block
 abbrev pub may_lead : FunctionBuilder → List Answer → Edge → Bool
 may_lead b answers edge = is_target b (block_of answers edge.block) && all_values b.func.now answers edge.args.items
 
--- the block and the arguments to which the names of such an edge lead
-pub record IsFound (b : FunctionBuilder) (answers : List Answer) (edge : Edge) (block : ℕ) (args : List BlockArg) : Type 0 where
-  pub values : List ℕ
-  pub target : block_of answers edge.block ≡ Some block
-  pub unsealed : can_seal b block ≡ true
-  pub found : map (value_of b.func.now answers) edge.args.items ≡ map Some values
-  pub passed : args ≡ map Value values
+-- what a name passes along an edge: the value that it leads to
+abbrev pub argument_of : Body → List Answer → Name → Option BlockArg
+argument_of f answers name = option_map Value (value_of f answers name)
+
+-- the edge to which the names of such an edge lead
+pub record IsFound (b : FunctionBuilder) (answers : List Answer) (edge : Edge) (call : BlockCall) : Type 0 where
+  pub target : block_of answers edge.block ≡ Some call.block
+  pub unsealed : can_seal b call.block ≡ true
+  pub passed : map (argument_of b.func.now answers) edge.args.items ≡ map Some call.args
 
 -- the types of the variables after a call that succeeded
 abbrev pub types_after : Call → List «Type» → List «Type»
@@ -198,9 +185,7 @@ types_after (call.AppendBlockParamsForFunctionParams block) types = types
 types_after (call.AppendBlockParamsForFunctionReturns block) types = types
 types_after (call.DefVar variable value) types = types
 types_after (call.UseVar variable) types = types
-types_after (call.Iconst ty imm) types = types
-types_after (call.Iadd x y) types = types
-types_after (call.Isub x y) types = types
+types_after (call.Plain instruction) types = types
 types_after (call.Jump destination) types = types
 types_after (call.Brif condition block_then block_else) types = types
 types_after (call.Return values) types = types

@@ -1,5 +1,5 @@
 -- What a replay answers, of the calls, the name and the signature. Own.
-use Rattle.std.specs.Prelude.{◌≡◌, ◌≢◌, ◌<◌, ◌≤◌, ◌+◌, ◌*◌, ◌-◌, ◌^◌, ℕ, List, length, Some, Result, Err}
+use Rattle.std.specs.Prelude.{◌≡◌, ◌≢◌, ◌<◌, ℕ, List, length, Some, Result, Err}
 use Rattle.clif_types.specs.Signature.{SignatureShape}
 use Rattle.clif_types.specs.declared.extname.UserFuncName.{UserFuncName}
 use Rattle.clif_types.specs.declared.target.PointerWidth.{PointerWidth}
@@ -13,7 +13,6 @@ use Rattle.clif_meaning.specs.Acceptance.{Accepted, verdict_on}
 use Rattle.clif_calls.specs.declared.call.Call.{Call}
 use Rattle.clif_script.specs.declared.script.ReplayError.{ReplayError}
 use Rattle.clif_script.specs.declared.script.ReplayError.TheVariants as replay
-use Rattle.clif_script.specs.Limits.{HasNoBranch, cost}
 use Rattle.clif_script.specs.Requests.{IsBuiltBy, IsStoppedByTable, requests_of, verdict_of}
 
 -- the function that the calls make
@@ -29,7 +28,5 @@ pub record ReplayMakes (calls : List Call) (name : UserFuncName) (declared : Sig
 pub record ReplayTells (calls : List Call) (name : UserFuncName) (declared : SignatureShape) (answer : Result Body ReplayError) : Type 0 where
   pub misuse : (i : ℕ) → answer ≡ Err (replay.Misuse i) → i < length calls
   pub refused : (i : ℕ) → answer ≡ Err (replay.Refused i) → i ≡ length calls
-  pub full : answer ≡ Err replay.Full → 2 ^ 32 - 1 ≤ cost declared calls + length calls * length calls
-  pub full_straight : answer ≡ Err replay.Full → HasNoBranch calls → 2 ^ 32 - 1 ≤ 2 * cost declared calls
   pub table_full : answer ≡ Err replay.Full → IsStoppedByTable calls name declared
   pub verdict : answer ≢ Err replay.Memory → answer ≢ Err replay.Full → verdict_of answer ≡ Some (verdict_on (requests_of declared calls))

@@ -3,10 +3,12 @@ use Rattle.std.specs.Prelude.{◌≡◌, ℕ, List, [], ◌∷◌, ◌++◌, map
 use Rattle.clif_ir.specs.Body.{Body}
 use Rattle.clif_meaning.specs.Event.{types_of}
 use Rattle.clif_meaning.specs.Name.{Name}
-use Rattle.clif_meaning.specs.Instruction.{Edge, Known}
-use Rattle.clif_meaning.specs.Request.{Request, CreateBlock, SwitchToBlock, SealBlock, SealAllBlocks, InsertBlockAfter, SetColdBlock, EnsureInsertedBlock, AppendBlockParams, AppendFunctionParams, DeclareVar, DefVar, UseVar, Finalize, Script, AnsweredCall, script_of}
-use Rattle.clif_meaning.specs.Ledger.{Ledger, empty_ledger, ledger_after, ledger_with}
-use Rattle.clif_meaning.specs.Acceptance.{Verdict, Accepted, Misuse, Refused, iconst, iadd, isub, jump, brif, return_, allows, verdict_from, verdict_on}
+use Rattle.clif_meaning.specs.Instruction.{Binary, Brif, Compute, Edge, Iconst, Jump, Known, Operation, Return, Unary}
+use Rattle.clif_meaning.specs.Request.{Request, CreateBlock, SwitchToBlock, SealBlock, SealAllBlocks, InsertBlockAfter, SetColdBlock, EnsureInsertedBlock, AppendBlockParams, AppendFunctionParams, DeclareVar, DefVar, UseVar, Build, Finalize, Script, AnsweredCall, script_of}
+use Rattle.clif_meaning.specs.Ledger.{Ledger, empty_ledger, ledger_after, ledger_with, or_invalid, type_of}
+use Rattle.clif_meaning.specs.Acceptance.{Verdict, Accepted, Misuse, Refused, jump, brif, return_, allows, verdict_from, verdict_on}
+use Rattle.clif_types.specs.declared.types.«Type».{«Type»}
+use Rattle.clif_types.specs.declared.types.«Type».TheVariants.{Invalid}
 use Rattle.clif_types.specs.Signature.{SignatureShape}
 use Rattle.clif_types.specs.declared.extname.UserFuncName.{UserFuncName}
 use Rattle.cranelift_frontend.specs.Context.{ContextState}
@@ -15,9 +17,12 @@ use Rattle.clif_calls.specs.declared.call.Name as named
 use Rattle.clif_calls.specs.declared.call.Edge as script
 use Rattle.clif_calls.specs.declared.call.Call.{Call}
 use Rattle.clif_calls.specs.declared.call.Call.TheVariants as call
+use Rattle.clif_calls.specs.Plan.{edges_in, operands_in, plan_of}
+use Rattle.clif_calls.specs.declared.plan.Plan.{Plan}
+use Rattle.clif_calls.specs.declared.plan.Plan.TheVariants as plan
 use Rattle.clif_script.specs.declared.script.ReplayError.{ReplayError}
 use Rattle.clif_script.specs.declared.script.ReplayError.TheVariants as replay
-use Rattle.clif_script.specs.Limits.{IsNearlyFullIn, MayStop, cost_of}
+use Rattle.clif_script.specs.Limits.{MeetsFullTable}
 
 -- an answer's name: the place of the call, and the number among its answers
 abbrev pub name_of : named.Name → Name
@@ -27,8 +32,36 @@ name_of name = record { place = name.place; index = name.answer }
 abbrev pub edge_of : script.Edge → Edge Name Name
 edge_of destination = record { target = name_of destination.block; arguments = map (λ name. Known (name_of name)) destination.args.items }
 
--- the request of a call, on a function of this signature. `iadd`, `isub` and `brif` are made at the type of their first
--- operand, which the ledger tells.
+-- what an instruction of a plan does
+abbrev pub operation_in : Plan → Operation
+operation_in (plan.UnaryImm ty imm) = Compute (Iconst imm)
+operation_in (plan.Unary opcode arg) = Compute (Unary opcode)
+operation_in (plan.Binary opcode args) = Compute (Binary opcode)
+operation_in (plan.Jump destination) = Jump
+operation_in (plan.Brif condition block_then block_else) = Brif
+operation_in (plan.MultiAry args) = Return
+
+-- the type of the first operand, by the types of names
+abbrev pub first_type : (named.Name → «Type») → List named.Name → «Type»
+first_type typed [] = Invalid
+first_type typed (name ∷ names) = typed name
+
+-- the type at which it is made: its own, or that of its first operand
+abbrev pub controlling_in : (named.Name → «Type») → Plan → «Type»
+controlling_in typed (plan.UnaryImm ty imm) = ty
+controlling_in typed (plan.Unary opcode arg) = typed arg
+controlling_in typed (plan.Binary opcode args) = first_type typed args
+controlling_in typed (plan.Jump destination) = Invalid
+controlling_in typed (plan.Brif condition block_then block_else) = typed condition
+controlling_in typed (plan.MultiAry args) = Invalid
+
+-- the request of an instruction, which is made at types that the ledger tells
+abbrev pub request_in : Ledger → Plan → Request
+request_in ledger plan =
+    Build (record { operation = operation_in plan; controlling = controlling_in (λ name. or_invalid (type_of ledger (name_of name))) plan; operands = map name_of (operands_in plan); edges = map edge_of (edges_in plan) })
+
+-- the request of a call, on a function of this signature. `brif` is made at the type of its condition, which the ledger
+-- tells.
 abbrev pub request_of : SignatureShape → Ledger → Call → Request
 request_of signature ledger call.CreateBlock = CreateBlock
 request_of signature ledger (call.SwitchToBlock block) = SwitchToBlock (name_of block)
@@ -43,9 +76,7 @@ request_of signature ledger (call.AppendBlockParamsForFunctionReturns block) = A
 request_of signature ledger (call.DeclareVar ty) = DeclareVar ty
 request_of signature ledger (call.DefVar variable value) = DefVar variable (name_of value)
 request_of signature ledger (call.UseVar variable) = UseVar variable
-request_of signature ledger (call.Iconst ty imm) = iconst ty imm
-request_of signature ledger (call.Iadd x y) = iadd ledger (name_of x) (name_of y)
-request_of signature ledger (call.Isub x y) = isub ledger (name_of x) (name_of y)
+request_of signature ledger (call.Plain instruction) = request_in ledger (plan_of instruction)
 request_of signature ledger (call.Jump destination) = jump (edge_of destination)
 request_of signature ledger (call.Brif condition block_then block_else) = brif ledger (name_of condition) (edge_of block_then) (edge_of block_else)
 request_of signature ledger (call.Return values) = return_ (map name_of values.items)
@@ -85,8 +116,8 @@ pub record IsBuiltBy (calls : List Call) (declared : SignatureShape) (f : Body) 
   pub parameters : LeavesNoParameter made f context.ssa
 
 -- A full table ends a list of calls: the calls before some place were made, and a builder of a function of this name and
--- signature, with this context and current block, stands for them; and the call at that place is allowed then, and may find the
--- table full that it would lengthen.
+-- signature, with this context and current block, stands for them; and the call at that place is allowed then, and meets a full
+-- table.
 pub record IsStoppedByTable (calls : List Call) (name : UserFuncName) (declared : SignatureShape) : Type 0 where
   pub place : ℕ
   pub call : Call
@@ -98,6 +129,5 @@ pub record IsStoppedByTable (calls : List Call) (name : UserFuncName) (declared 
   pub position : Option ℕ
   pub stands : StandsIn declared made function context position
   pub named : function.name ≡ name
-  pub table : IsNearlyFullIn (cost_of declared call) function context
   pub allowed : allows (ledger_after (script_of made)) (request_of declared (ledger_after (script_of made)) call) ≡ true
-  pub stops : MayStop call function context
+  pub meets : MeetsFullTable call function context

@@ -1,11 +1,12 @@
 //! Scripts: lists of builder calls that are made in order.
 #![tactic(auto)]
 
-mod laws;
 mod make;
 mod make_blocks;
+mod make_instructions;
 mod make_parameters;
+mod names;
 mod script;
 
-pub use clif_calls::{Call, Edge, Name};
+pub use clif_calls::{Call, Edge, Name, PlainInstruction, Plan};
 pub use script::{ReplayError, replay};

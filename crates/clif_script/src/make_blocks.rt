@@ -1,17 +1,13 @@
 //! The calls of a script that make, mark and place blocks, each made on a builder if its condition holds.
-ghost use Rattle.std.specs.Prelude.{◌≡◌, ◌≢◌, ◌<◌, ◌-◌, ◌^◌, List, OnOk, IfOk, Err, length, false};
-ghost use Rattle.cranelift_frontend.specs.Builder.{SameLoans, is_free};
-ghost use Rattle.clif_types.specs.Signature.{SignatureShape};
-ghost use Rattle.cranelift_frontend.specs.Ledger.{ledger_of};
-ghost use Rattle.clif_meaning.specs.Request.{AnsweredCall, CreateBlock, SwitchToBlock, SealBlock, SealAllBlocks, InsertBlockAfter, SetColdBlock, EnsureInsertedBlock};
-ghost use Rattle.clif_meaning.specs.Acceptance.{allows};
-ghost use Rattle.clif_script.specs.Limits.{IsOneCall, IsNearlyFull};
-ghost use Rattle.clif_script.specs.Requests.{name_of};
-ghost use Rattle.clif_script.specs.Ready.{IsReady, IsReadyNow, IsReadyWith, IsReadyAfter, IsJudged, can_switch, can_seal, can_insert};
+ghost use Rattle.std.specs.Prelude.{◌≡◌, ◌<◌, length};
+ghost use Rattle.cranelift_frontend.specs.Builder.{is_free};
+ghost use Rattle.clif_script.specs.Makes.{MakesCall};
+ghost use Rattle.clif_script.specs.Ready.{IsSound, can_switch, can_seal, can_insert};
 
-use crate::make::{block_named, has_current};
+use crate::make::has_current;
+use crate::names::block_named;
 use crate::script::{Answer, CallError};
-use clif_calls::Name;
+use clif_calls::{Call, Name};
 use clif_types::Block;
 use cranelift_frontend::FunctionBuilder;
 
@@ -20,17 +16,8 @@ pub(crate) fn create_block(
     builder: &mut FunctionBuilder<'_>,
     answers: &[Answer],
 ) -> Result<Answer, CallError>
-    requires ready { IsReadyNow builder.old answers.now }
-    requires sound { builder.old.failed ≡ false }
-    ensures loans { SameLoans builder.old builder.new }
-    ensures ready { (declared : SignatureShape) (calls : List AnsweredCall) → IsReady declared calls builder.old answers.now → IfOk result (IsReadyAfter declared calls CreateBlock builder.new answers.now) }
-    ensures judged { (calls : List AnsweredCall) → IsReadyWith calls builder.old answers.now → IsJudged (allows (ledger_of calls) CreateBlock) result }
-    ensures sound { OnOk result (builder.new.failed ≡ false) }
-    ensures never_refused { result ≢ Err CallError.Refused }
-    ensures one_call { OnOk result (IsOneCall 1 builder.old builder.new) }
-    ensures full { result ≡ Err CallError.Full → IsNearlyFull 1 builder.old }
-    ensures stops { result ≡ Err CallError.Full → length builder.old.func.now.blocks ≡ 2 ^ 32 - 1 }
-    ensures variables { builder.new.ctx.now.variables ≡ builder.old.ctx.now.variables }
+    requires { IsSound builder.old answers.now }
+    ensures { MakesCall Call.CreateBlock builder.old builder.new answers.now result }
 {
     let block = builder.create_block()?;
     Ok(Answer::Block(block))
@@ -42,17 +29,8 @@ pub(crate) fn switch_to_block(
     answers: &[Answer],
     name: Name,
 ) -> Result<Answer, CallError>
-    requires ready { IsReadyNow builder.old answers.now }
-    requires sound { builder.old.failed ≡ false }
-    ensures loans { SameLoans builder.old builder.new }
-    ensures ready { (declared : SignatureShape) (calls : List AnsweredCall) → IsReady declared calls builder.old answers.now → IfOk result (IsReadyAfter declared calls (SwitchToBlock (name_of name)) builder.new answers.now) }
-    ensures judged { (calls : List AnsweredCall) → IsReadyWith calls builder.old answers.now → IsJudged (allows (ledger_of calls) (SwitchToBlock (name_of name))) result }
-    ensures sound { OnOk result (builder.new.failed ≡ false) }
-    ensures never_refused { result ≢ Err CallError.Refused }
-    ensures one_call { OnOk result (IsOneCall 1 builder.old builder.new) }
-    ensures full { result ≡ Err CallError.Full → IsNearlyFull 1 builder.old }
-    ensures never_full { result ≢ Err CallError.Full }
-    ensures variables { builder.new.ctx.now.variables ≡ builder.old.ctx.now.variables }
+    requires { IsSound builder.old answers.now }
+    ensures { MakesCall (Call.SwitchToBlock name) builder.old builder.new answers.now result }
 {
     let Some(block) = block_named(answers, name) else {
         return Err(CallError::Misuse);
@@ -96,16 +74,8 @@ pub(crate) fn seal_block(
     answers: &[Answer],
     name: Name,
 ) -> Result<Answer, CallError>
-    requires ready { IsReadyNow builder.old answers.now }
-    requires sound { builder.old.failed ≡ false }
-    ensures loans { SameLoans builder.old builder.new }
-    ensures ready { (declared : SignatureShape) (calls : List AnsweredCall) → IsReady declared calls builder.old answers.now → IfOk result (IsReadyAfter declared calls (SealBlock (name_of name)) builder.new answers.now) }
-    ensures judged { (calls : List AnsweredCall) → IsReadyWith calls builder.old answers.now → IsJudged (allows (ledger_of calls) (SealBlock (name_of name))) result }
-    ensures sound { OnOk result (builder.new.failed ≡ false) }
-    ensures never_refused { result ≢ Err CallError.Refused }
-    ensures one_call { OnOk result (IsOneCall 1 builder.old builder.new) }
-    ensures full { result ≡ Err CallError.Full → IsNearlyFull 1 builder.old }
-    ensures variables { builder.new.ctx.now.variables ≡ builder.old.ctx.now.variables }
+    requires { IsSound builder.old answers.now }
+    ensures { MakesCall (Call.SealBlock name) builder.old builder.new answers.now result }
 {
     let Some(block) = block_named(answers, name) else {
         return Err(CallError::Misuse);
@@ -122,16 +92,8 @@ pub(crate) fn seal_all_blocks(
     builder: &mut FunctionBuilder<'_>,
     answers: &[Answer],
 ) -> Result<Answer, CallError>
-    requires ready { IsReadyNow builder.old answers.now }
-    requires sound { builder.old.failed ≡ false }
-    ensures loans { SameLoans builder.old builder.new }
-    ensures ready { (declared : SignatureShape) (calls : List AnsweredCall) → IsReady declared calls builder.old answers.now → IfOk result (IsReadyAfter declared calls SealAllBlocks builder.new answers.now) }
-    ensures judged { (calls : List AnsweredCall) → IsReadyWith calls builder.old answers.now → IsJudged (allows (ledger_of calls) SealAllBlocks) result }
-    ensures sound { OnOk result (builder.new.failed ≡ false) }
-    ensures never_refused { result ≢ Err CallError.Refused }
-    ensures one_call { OnOk result (IsOneCall 1 builder.old builder.new) }
-    ensures full { result ≡ Err CallError.Full → IsNearlyFull 1 builder.old }
-    ensures variables { builder.new.ctx.now.variables ≡ builder.old.ctx.now.variables }
+    requires { IsSound builder.old answers.now }
+    ensures { MakesCall Call.SealAllBlocks builder.old builder.new answers.now result }
 {
     builder.seal_all_blocks()?;
     Ok(Answer::Nothing)
@@ -154,17 +116,8 @@ pub(crate) fn insert_block_after(
     name: Name,
     behind: Name,
 ) -> Result<Answer, CallError>
-    requires ready { IsReadyNow builder.old answers.now }
-    requires sound { builder.old.failed ≡ false }
-    ensures loans { SameLoans builder.old builder.new }
-    ensures ready { (declared : SignatureShape) (calls : List AnsweredCall) → IsReady declared calls builder.old answers.now → IfOk result (IsReadyAfter declared calls (InsertBlockAfter (name_of name) (name_of behind)) builder.new answers.now) }
-    ensures judged { (calls : List AnsweredCall) → IsReadyWith calls builder.old answers.now → IsJudged (allows (ledger_of calls) (InsertBlockAfter (name_of name) (name_of behind))) result }
-    ensures sound { OnOk result (builder.new.failed ≡ false) }
-    ensures never_refused { result ≢ Err CallError.Refused }
-    ensures one_call { OnOk result (IsOneCall 1 builder.old builder.new) }
-    ensures full { result ≡ Err CallError.Full → IsNearlyFull 1 builder.old }
-    ensures never_full { result ≢ Err CallError.Full }
-    ensures variables { builder.new.ctx.now.variables ≡ builder.old.ctx.now.variables }
+    requires { IsSound builder.old answers.now }
+    ensures { MakesCall (Call.InsertBlockAfter name behind) builder.old builder.new answers.now result }
 {
     let Some(block) = block_named(answers, name) else {
         return Err(CallError::Misuse);
@@ -185,17 +138,8 @@ pub(crate) fn set_cold_block(
     answers: &[Answer],
     name: Name,
 ) -> Result<Answer, CallError>
-    requires ready { IsReadyNow builder.old answers.now }
-    requires sound { builder.old.failed ≡ false }
-    ensures loans { SameLoans builder.old builder.new }
-    ensures ready { (declared : SignatureShape) (calls : List AnsweredCall) → IsReady declared calls builder.old answers.now → IfOk result (IsReadyAfter declared calls (SetColdBlock (name_of name)) builder.new answers.now) }
-    ensures judged { (calls : List AnsweredCall) → IsReadyWith calls builder.old answers.now → IsJudged (allows (ledger_of calls) (SetColdBlock (name_of name))) result }
-    ensures sound { OnOk result (builder.new.failed ≡ false) }
-    ensures never_refused { result ≢ Err CallError.Refused }
-    ensures one_call { OnOk result (IsOneCall 1 builder.old builder.new) }
-    ensures full { result ≡ Err CallError.Full → IsNearlyFull 1 builder.old }
-    ensures never_full { result ≢ Err CallError.Full }
-    ensures variables { builder.new.ctx.now.variables ≡ builder.old.ctx.now.variables }
+    requires { IsSound builder.old answers.now }
+    ensures { MakesCall (Call.SetColdBlock name) builder.old builder.new answers.now result }
 {
     let Some(block) = block_named(answers, name) else {
         return Err(CallError::Misuse);
@@ -209,17 +153,8 @@ pub(crate) fn ensure_inserted_block(
     builder: &mut FunctionBuilder<'_>,
     answers: &[Answer],
 ) -> Result<Answer, CallError>
-    requires ready { IsReadyNow builder.old answers.now }
-    requires sound { builder.old.failed ≡ false }
-    ensures loans { SameLoans builder.old builder.new }
-    ensures ready { (declared : SignatureShape) (calls : List AnsweredCall) → IsReady declared calls builder.old answers.now → IfOk result (IsReadyAfter declared calls EnsureInsertedBlock builder.new answers.now) }
-    ensures judged { (calls : List AnsweredCall) → IsReadyWith calls builder.old answers.now → IsJudged (allows (ledger_of calls) EnsureInsertedBlock) result }
-    ensures sound { OnOk result (builder.new.failed ≡ false) }
-    ensures never_refused { result ≢ Err CallError.Refused }
-    ensures one_call { OnOk result (IsOneCall 1 builder.old builder.new) }
-    ensures full { result ≡ Err CallError.Full → IsNearlyFull 1 builder.old }
-    ensures never_full { result ≢ Err CallError.Full }
-    ensures variables { builder.new.ctx.now.variables ≡ builder.old.ctx.now.variables }
+    requires { IsSound builder.old answers.now }
+    ensures { MakesCall Call.EnsureInsertedBlock builder.old builder.new answers.now result }
 {
     if !has_current(builder) {
         return Err(CallError::Misuse);

@@ -1,20 +1,15 @@
 //! The calls of a script that make parameters, each made on a builder if its condition holds.
-ghost use Rattle.std.specs.Prelude.{◌≡◌, ◌≢◌, ◌<◌, ◌≤◌, ◌+◌, ◌*◌, ◌-◌, ◌^◌, ◌∷◌, [], List, OnOk, IfOk, Err, false, length, max};
+ghost use Rattle.std.specs.Prelude.{◌≡◌, ◌<◌, ◌≤◌, length};
 ghost use Rattle.clif_ir.specs.Body.{block_at};
 ghost use Rattle.clif_ssa.specs.Ssa.{predecessors_of};
-ghost use Rattle.cranelift_frontend.specs.Builder.{SameLoans, is_nothing};
-ghost use Rattle.clif_types.specs.Signature.{SignatureShape};
-ghost use Rattle.cranelift_frontend.specs.Ledger.{ledger_of};
-ghost use Rattle.clif_meaning.specs.Request.{AnsweredCall, AppendBlockParams, AppendFunctionParams};
-ghost use Rattle.clif_meaning.specs.Event.{types_of};
-ghost use Rattle.clif_meaning.specs.Acceptance.{allows};
-ghost use Rattle.clif_script.specs.Limits.{IsOneCall, IsNearlyFull};
-ghost use Rattle.clif_script.specs.Requests.{name_of};
-ghost use Rattle.clif_script.specs.Ready.{IsReady, IsReadyNow, IsReadyWith, IsReadyAfter, IsJudged, can_append, can_append_function_params, last_params};
+ghost use Rattle.cranelift_frontend.specs.Builder.{is_nothing};
+ghost use Rattle.clif_script.specs.Makes.{MakesCall};
+ghost use Rattle.clif_script.specs.Ready.{IsSound, can_append, can_append_function_params, last_params};
 
-use crate::make::{block_named, one_value};
+use crate::make::one_value;
+use crate::names::block_named;
 use crate::script::{Answer, CallError};
-use clif_calls::Name;
+use clif_calls::{Call, Name};
 use clif_types::{Block, Type};
 use cranelift_frontend::FunctionBuilder;
 
@@ -25,17 +20,8 @@ pub(crate) fn append_block_param(
     name: Name,
     ty: Type,
 ) -> Result<Answer, CallError>
-    requires ready { IsReadyNow builder.old answers.now }
-    requires sound { builder.old.failed ≡ false }
-    ensures loans { SameLoans builder.old builder.new }
-    ensures ready { (declared : SignatureShape) (calls : List AnsweredCall) → IsReady declared calls builder.old answers.now → IfOk result (IsReadyAfter declared calls (AppendBlockParams (name_of name) (ty ∷ [])) builder.new answers.now) }
-    ensures judged { (calls : List AnsweredCall) → IsReadyWith calls builder.old answers.now → IsJudged (allows (ledger_of calls) (AppendBlockParams (name_of name) (ty ∷ []))) result }
-    ensures sound { OnOk result (builder.new.failed ≡ false) }
-    ensures never_refused { result ≢ Err CallError.Refused }
-    ensures one_call { OnOk result (IsOneCall 2 builder.old builder.new) }
-    ensures full { result ≡ Err CallError.Full → IsNearlyFull 2 builder.old }
-    ensures stops { result ≡ Err CallError.Full → length builder.old.func.now.values ≡ 2 ^ 32 - 1 }
-    ensures variables { builder.new.ctx.now.variables ≡ builder.old.ctx.now.variables }
+    requires { IsSound builder.old answers.now }
+    ensures { MakesCall (Call.AppendBlockParam name ty) builder.old builder.new answers.now result }
 {
     let Some(block) = block_named(answers, name) else {
         return Err(CallError::Misuse);
@@ -53,17 +39,8 @@ pub(crate) fn append_block_params_for_function_params(
     answers: &[Answer],
     name: Name,
 ) -> Result<Answer, CallError>
-    requires ready { IsReadyNow builder.old answers.now }
-    requires sound { builder.old.failed ≡ false }
-    ensures loans { SameLoans builder.old builder.new }
-    ensures ready { (declared : SignatureShape) (calls : List AnsweredCall) → IsReady declared calls builder.old answers.now → IfOk result (IsReadyAfter declared calls (AppendFunctionParams (name_of name) (types_of declared.params)) builder.new answers.now) }
-    ensures judged { (declared : SignatureShape) (calls : List AnsweredCall) → IsReady declared calls builder.old answers.now → IsJudged (allows (ledger_of calls) (AppendFunctionParams (name_of name) (types_of declared.params))) result }
-    ensures sound { OnOk result (builder.new.failed ≡ false) }
-    ensures never_refused { result ≢ Err CallError.Refused }
-    ensures one_call { OnOk result (IsOneCall (max 1 (2 * length builder.old.func.now.signature.params)) builder.old builder.new) }
-    ensures full { result ≡ Err CallError.Full → IsNearlyFull (max 1 (2 * length builder.old.func.now.signature.params)) builder.old }
-    ensures stops { result ≡ Err CallError.Full → 2 ^ 32 - 1 ≤ length builder.old.func.now.values + length builder.old.func.now.signature.params }
-    ensures variables { builder.new.ctx.now.variables ≡ builder.old.ctx.now.variables }
+    requires { IsSound builder.old answers.now }
+    ensures { MakesCall (Call.AppendBlockParamsForFunctionParams name) builder.old builder.new answers.now result }
 {
     let Some(block) = block_named(answers, name) else {
         return Err(CallError::Misuse);
@@ -82,17 +59,8 @@ pub(crate) fn append_block_params_for_function_returns(
     answers: &[Answer],
     name: Name,
 ) -> Result<Answer, CallError>
-    requires ready { IsReadyNow builder.old answers.now }
-    requires sound { builder.old.failed ≡ false }
-    ensures loans { SameLoans builder.old builder.new }
-    ensures ready { (declared : SignatureShape) (calls : List AnsweredCall) → IsReady declared calls builder.old answers.now → IfOk result (IsReadyAfter declared calls (AppendBlockParams (name_of name) (types_of declared.returns)) builder.new answers.now) }
-    ensures judged { (declared : SignatureShape) (calls : List AnsweredCall) → IsReady declared calls builder.old answers.now → IsJudged (allows (ledger_of calls) (AppendBlockParams (name_of name) (types_of declared.returns))) result }
-    ensures sound { OnOk result (builder.new.failed ≡ false) }
-    ensures never_refused { result ≢ Err CallError.Refused }
-    ensures one_call { OnOk result (IsOneCall (max 1 (2 * length builder.old.func.now.signature.returns)) builder.old builder.new) }
-    ensures full { result ≡ Err CallError.Full → IsNearlyFull (max 1 (2 * length builder.old.func.now.signature.returns)) builder.old }
-    ensures stops { result ≡ Err CallError.Full → 2 ^ 32 - 1 ≤ length builder.old.func.now.values + length builder.old.func.now.signature.returns }
-    ensures variables { builder.new.ctx.now.variables ≡ builder.old.ctx.now.variables }
+    requires { IsSound builder.old answers.now }
+    ensures { MakesCall (Call.AppendBlockParamsForFunctionReturns name) builder.old builder.new answers.now result }
 {
     let Some(block) = block_named(answers, name) else {
         return Err(CallError::Misuse);

@@ -1,5 +1,5 @@
 //! Scripts are replayed: each call is made on a builder, in order, if its condition holds.
-ghost use Rattle.std.specs.Prelude.{◌≡◌, ◌≢◌, ℕ, ◌<◌, ◌≤◌, ◌+◌, ◌*◌, ◌-◌, ◌^◌, List, [], length, false, OnOk, IfOk, IfErr, Err, Some};
+ghost use Rattle.std.specs.Prelude.{◌≡◌, ◌≢◌, ℕ, ◌<◌, List, [], length, false, OnOk, IfOk, IfErr, Err, Some};
 ghost use Rattle.clif_meaning.specs.Request.{AnsweredCall};
 ghost use Rattle.clif_meaning.specs.Acceptance as acceptance;
 ghost use Rattle.cranelift_frontend.specs.StandsFor.{StandsFor};
@@ -8,7 +8,6 @@ ghost use Rattle.clif_meaning.specs.Headline.{MeansTheSame};
 ghost use Rattle.clif_meaning.specs.Premises.{CallersEdgesMatch, PlacementPremises};
 ghost use Rattle.clif_meaning.specs.Typing.{EdgesMatch};
 ghost use Rattle.clif_meaning.specs.WellPlaced.{WellPlaced};
-ghost use Rattle.clif_script.specs.Limits.{HasNoBranch, IsWithin, cost};
 ghost use Rattle.clif_script.specs.Replay.{ReplayMakes, ReplayTells};
 ghost use Rattle.clif_script.specs.Requests.{IsBuiltBy, IsReplayed, IsStoppedByTable, requests_of, verdict_of};
 ghost use Rattle.clif_ir.specs.Body.{empty_body};
@@ -16,7 +15,6 @@ ghost use Rattle.cranelift_frontend.specs.Builder.{SameLoans};
 ghost use Rattle.cranelift_frontend.specs.Context.{empty_context};
 ghost use Rattle.clif_script.specs.Errors.{call_error_of, replay_error_at, call_memory, replay_memory, replay_error_text};
 
-use crate::laws::builder_laws;
 use crate::make::make_call;
 use clif_calls::Call;
 use clif_ir::Function;
@@ -24,6 +22,7 @@ use clif_ssa::Variable;
 use clif_types::{
     Block, BuildError, Inst, Signature, TargetFrontendConfig, Type, UserFuncName, Value,
 };
+use cranelift_frontend::laws::ledger_is_read_by_number;
 use cranelift_frontend::{FinalizeError, FunctionBuilder, FunctionBuilderContext};
 use std::alloc::{AllocFailed, Global};
 use std::error::Error;
@@ -44,8 +43,7 @@ pub enum ReplayError {
     Refused(usize),
     /// Memory was refused. It prints as `no memory`.
     Memory,
-    /// A table holds 2^32 - 1 entries. So there are 2^16 calls or more, and 2^31 where none is a branch, if a call
-    /// that makes parameters counts twice for each. It prints as `table full`.
+    /// A call that may be made met a table that holds 2^32 - 1 entries. It prints as `table full`.
     Full,
 }
 
@@ -152,8 +150,6 @@ pub fn replay(
     ensures context { ctx.new ≡ empty_context }
     ensures misuse { (i : ℕ) → result ≡ Err (ReplayError.Misuse i) → i < length calls.now }
     ensures refused { (i : ℕ) → result ≡ Err (ReplayError.Refused i) → i ≡ length calls.now }
-    ensures full { result ≡ Err ReplayError.Full → 2 ^ 32 - 1 ≤ cost signature calls.now + length calls.now * length calls.now }
-    ensures full_straight { result ≡ Err ReplayError.Full → HasNoBranch calls.now → 2 ^ 32 - 1 ≤ 2 * cost signature calls.now }
     ensures table_full { result ≡ Err ReplayError.Full → IsStoppedByTable calls.now name signature }
     ensures verdict { result ≢ Err ReplayError.Memory → result ≢ Err ReplayError.Full → verdict_of result ≡ Some (acceptance.verdict_on (requests_of signature calls.now)) }
 {
@@ -197,7 +193,6 @@ fn make_calls(
     requires ready { StandsFor builder.old.func.now.signature [] builder.old }
     requires types { builder.old.ctx.now.variables ≡ [] }
     requires sound { builder.old.failed ≡ false }
-    requires within { IsWithin 0 0 builder.old }
     ensures loans { SameLoans builder.old builder.new }
     ensures name { OnOk result (builder.new.func.now.name ≡ builder.old.func.now.name) }
     ensures ready { OnOk result ((made : List AnsweredCall) × StandsFor builder.old.func.now.signature made builder.new × IsReplayed builder.old.func.now.signature calls.now (length calls.now) made) }
@@ -205,11 +200,9 @@ fn make_calls(
     ensures misuse { (i : ℕ) → result ≡ Err (ReplayError.Misuse i) → i < length calls.now }
     ensures judged { (i : ℕ) → result ≡ Err (ReplayError.Misuse i) → acceptance.verdict_on (requests_of builder.old.func.now.signature calls.now) ≡ acceptance.Misuse i }
     ensures never_refused { (i : ℕ) → result ≢ Err (ReplayError.Refused i) }
-    ensures full { result ≡ Err ReplayError.Full → 2 ^ 32 - 1 ≤ cost builder.old.func.now.signature calls.now + length calls.now * length calls.now }
-    ensures full_straight { result ≡ Err ReplayError.Full → HasNoBranch calls.now → 2 ^ 32 - 1 ≤ 2 * cost builder.old.func.now.signature calls.now }
     ensures table_full { result ≡ Err ReplayError.Full → IsStoppedByTable calls.now builder.old.func.now.name builder.old.func.now.signature }
 {
-    builder_laws();
+    ledger_is_read_by_number();
     let mut answers = Vec::new(alloc);
     let mut types = Vec::new(alloc);
     for (place, call) in calls.iter().enumerate() {

@@ -5,7 +5,7 @@ ghost use Rattle.std.specs.Prelude.{◌≡◌};
 ghost use Rattle.cranelift_frontend.specs.Context.{empty_context};
 
 use clif_ir::Function;
-use clif_script::{Call, Edge, Name, ReplayError, replay};
+use clif_script::{Call, Edge, Name, PlainInstruction, ReplayError, replay};
 use clif_ssa::Variable;
 use clif_types::{
     AbiParam, CallConv, LaneType, PointerWidth, Signature, TargetFrontendConfig, Type, UserFuncName,
@@ -92,15 +92,15 @@ pub fn call_of(alloc: Global, step: Step) -> Result<Call, AllocError> {
         Step::Use(number) => Call::UseVar {
             variable: variable(number),
         },
-        Step::Iconst(ty) => Call::Iconst { ty, imm: 1 },
-        Step::Iadd(x, y) => Call::Iadd {
+        Step::Iconst(ty) => Call::Plain(PlainInstruction::Iconst { ty, imm: 1 }),
+        Step::Iadd(x, y) => Call::Plain(PlainInstruction::Iadd {
             x: name(x.0, x.1),
             y: name(y.0, y.1),
-        },
-        Step::Isub(x, y) => Call::Isub {
+        }),
+        Step::Isub(x, y) => Call::Plain(PlainInstruction::Isub {
             x: name(x.0, x.1),
             y: name(y.0, y.1),
-        },
+        }),
         Step::Jump(place, answer) => Call::Jump {
             destination: edge(alloc, (place, answer)),
         },

@@ -12,9 +12,7 @@ declares _ = false
 
 -- whether the call makes an instruction
 abbrev pub is_instruction : Call → Bool
-is_instruction (call.Iconst ty imm) = true
-is_instruction (call.Iadd x y) = true
-is_instruction (call.Isub x y) = true
+is_instruction (call.Plain instruction) = true
 is_instruction (call.Jump edge) = true
 is_instruction (call.Brif condition first second) = true
 is_instruction (call.Return values) = true

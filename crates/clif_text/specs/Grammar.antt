@@ -3,12 +3,15 @@ use Rattle.std.specs.Prelude.{ℤ, ◌+◌, ◌%◌, ◌^◌, ◌<◌, ◌≤◌
 use Rattle.std.specs.Int.{cast_signed, w64}
 use Rattle.std.specs.Str.Parse.{IsNumeral, digits_value}
 use Rattle.clif_types.specs.Types.{IsType}
-use Rattle.clif_types.specs.Texts.{type_text}
+use Rattle.clif_types.specs.Texts.{binary_opcode_text, type_text, unary_opcode_text}
 use Rattle.clif_types.specs.declared.types.«Type».{«Type»}
 use Rattle.clif_calls.specs.declared.call.Name.{Name}
 use Rattle.clif_calls.specs.declared.call.Edge.{Edge}
 use Rattle.clif_calls.specs.declared.call.Call.{Call}
 use Rattle.clif_calls.specs.declared.call.Call.TheVariants as call
+use Rattle.clif_calls.specs.Plan.{plan_of}
+use Rattle.clif_calls.specs.declared.plan.Plan.{Plan}
+use Rattle.clif_calls.specs.declared.plan.Plan.TheVariants as plan
 
 -- what names stand for: the answer that a given name stands for, and the number of the variable that an answer is
 pub record Names : Type 0 where
@@ -74,6 +77,13 @@ abbrev pub IsNumber : List ℕ → ℤ → Type 0
 IsNumber word number = ((bits : ℕ) × (bits < 2 ^ 64) × IsMagnitude word bits × (number ≡ cast_signed w64 bits))
     ⊎ ((digits : List ℕ) × (magnitude bits : ℕ) × (bits < 2 ^ 64) × (word ≡ codes "-" ++ digits) × IsMagnitude digits magnitude × (magnitude ≤ 2 ^ 63) × ((bits + magnitude) % 2 ^ 64 ≡ 0) × (number ≡ cast_signed w64 bits))
 
+-- The words stand for an instruction of this plan, which neither branches nor ends its block.
+abbrev pub IsPlain : Names → List (List ℕ) → Plan → Type 0
+IsPlain names words (plan.UnaryImm ty imm) = (t n : List ℕ) × (words ≡ (codes "iconst." ++ t) ∷ n ∷ []) × IsTypeWord t ty × IsNumber n imm
+IsPlain names words (plan.Unary opcode arg) = (operand : List ℕ) × (words ≡ unary_opcode_text opcode ∷ operand ∷ []) × IsAnswer names operand arg
+IsPlain names words (plan.Binary opcode args) = (operands : List (List ℕ)) × (words ≡ binary_opcode_text opcode ∷ operands) × AreAnswers names operands args
+IsPlain names words _ = ⊥
+
 -- The words stand for the call: its name, and then what it takes, in order.
 abbrev pub IsCall : Names → List (List ℕ) → Call → Type 0
 IsCall names words call.CreateBlock = words ≡ codes "create_block" ∷ []
@@ -89,9 +99,7 @@ IsCall names words (call.AppendBlockParamsForFunctionReturns block) = (b : List 
 IsCall names words (call.DeclareVar ty) = (t : List ℕ) × (words ≡ codes "declare_var" ∷ t ∷ []) × IsTypeWord t ty
 IsCall names words (call.DefVar variable value) = (a b : List ℕ) × (words ≡ codes "def_var" ∷ a ∷ b ∷ []) × IsVariable names a variable × IsAnswer names b value
 IsCall names words (call.UseVar variable) = (a : List ℕ) × (words ≡ codes "use_var" ∷ a ∷ []) × IsVariable names a variable
-IsCall names words (call.Iconst ty imm) = (t n : List ℕ) × (words ≡ (codes "iconst." ++ t) ∷ n ∷ []) × IsTypeWord t ty × IsNumber n imm
-IsCall names words (call.Iadd x y) = (a b : List ℕ) × (words ≡ codes "iadd" ∷ a ∷ b ∷ []) × IsAnswer names a x × IsAnswer names b y
-IsCall names words (call.Isub x y) = (a b : List ℕ) × (words ≡ codes "isub" ∷ a ∷ b ∷ []) × IsAnswer names a x × IsAnswer names b y
+IsCall names words (call.Plain instruction) = IsPlain names words (plan_of instruction)
 IsCall names words (call.Jump edge) = (e : List (List ℕ)) × (words ≡ codes "jump" ∷ e) × IsLastEdge names e edge
 IsCall names words (call.Brif condition first second) = (a : List ℕ) × (e f : List (List ℕ)) × (words ≡ codes "brif" ∷ a ∷ (e ++ f)) × IsAnswer names a condition × IsEdge names e first × IsLastEdge names f second
 IsCall names words (call.Return values) = (v : List (List ℕ)) × (words ≡ codes "return" ∷ v) × AreLast names v values.items

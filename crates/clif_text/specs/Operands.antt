@@ -1,8 +1,7 @@
 -- The text behind the name of a call. Source: own; docs/SCRIPTS.md describes the format.
 use Rattle.std.specs.Prelude.{List, [], ◌++◌, ℕ, codes}
-use Rattle.std.specs.Fmt.{signed_decimal}
 use Rattle.clif_types.specs.Texts.{type_text}
-use Rattle.clif_text.specs.Texts.{answer_text, answers_text, edge_text, variable_text}
+use Rattle.clif_text.specs.Texts.{answer_text, plan_text, variable_text}
 use Rattle.clif_text.specs.declared.writer.Operands.{Operands}
 use Rattle.clif_text.specs.declared.writer.Operands.TheVariants as operands
 
@@ -15,7 +14,4 @@ operands_text (operands.Param block ty) = codes " " ++ (answer_text block ++ (co
 operands_text (operands.«Type» ty) = codes " " ++ type_text ty
 operands_text (operands.Definition variable x) = codes " " ++ (variable_text variable ++ (codes " " ++ answer_text x))
 operands_text (operands.Variable variable) = codes " " ++ variable_text variable
-operands_text (operands.Constant ty imm) = codes "." ++ (type_text ty ++ (codes " " ++ signed_decimal imm))
-operands_text (operands.Edge edge) = codes " " ++ edge_text edge.now
-operands_text (operands.Branch condition first second) = codes " " ++ (answer_text condition ++ (codes " " ++ (edge_text first.now ++ (codes " " ++ edge_text second.now))))
-operands_text (operands.Values values) = answers_text values.now
+operands_text (operands.Instruction plan) = plan_text plan

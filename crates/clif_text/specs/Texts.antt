@@ -1,7 +1,7 @@
 -- The text of a call, as a line of a script that gives no names. Source: own; docs/SCRIPTS.md describes the format.
 use Rattle.std.specs.Prelude.{ℕ, List, [], ◌∷◌, ◌++◌, codes, flat_map}
 use Rattle.std.specs.Fmt.{decimal, signed_decimal}
-use Rattle.clif_types.specs.Texts.{type_text, call_conv_text, signature_text, user_func_name_text}
+use Rattle.clif_types.specs.Texts.{binary_opcode_text, unary_opcode_text, type_text, call_conv_text, signature_text, user_func_name_text}
 use Rattle.clif_types.specs.Signature.{SignatureShape}
 use Rattle.clif_types.specs.declared.extname.UserFuncName.{UserFuncName}
 use Rattle.clif_types.specs.declared.target.TargetFrontendConfig.{TargetFrontendConfig}
@@ -11,6 +11,9 @@ use Rattle.clif_calls.specs.declared.call.Name.{Name}
 use Rattle.clif_calls.specs.declared.call.Edge.{Edge}
 use Rattle.clif_calls.specs.declared.call.Call.{Call}
 use Rattle.clif_calls.specs.declared.call.Call.TheVariants as call
+use Rattle.clif_calls.specs.Plan.{plan_of}
+use Rattle.clif_calls.specs.declared.plan.Plan.{Plan}
+use Rattle.clif_calls.specs.declared.plan.Plan.TheVariants as plan
 
 -- `$5.1`
 abbrev pub answer_text : Name → List ℕ
@@ -28,6 +31,15 @@ edge_text edge = answer_text edge.block ++ (codes "(" ++ (answers_text edge.args
 abbrev pub variable_text : ℕ → List ℕ
 variable_text number = codes "var" ++ decimal number
 
+-- an instruction of this plan: its name, and what it takes
+abbrev pub plan_text : Plan → List ℕ
+plan_text (plan.UnaryImm ty imm) = codes "iconst." ++ (type_text ty ++ (codes " " ++ signed_decimal imm))
+plan_text (plan.Unary opcode arg) = unary_opcode_text opcode ++ (codes " " ++ answer_text arg)
+plan_text (plan.Binary opcode args) = binary_opcode_text opcode ++ answers_text args
+plan_text (plan.Jump destination) = codes "jump " ++ edge_text destination.now
+plan_text (plan.Brif condition first second) = codes "brif " ++ (answer_text condition ++ (codes " " ++ (edge_text first.now ++ (codes " " ++ edge_text second.now))))
+plan_text (plan.MultiAry args) = codes "return" ++ answers_text args.now
+
 abbrev pub call_text : Call → List ℕ
 call_text call.CreateBlock = codes "create_block"
 call_text (call.SwitchToBlock block) = codes "switch_to_block " ++ answer_text block
@@ -42,9 +54,7 @@ call_text (call.AppendBlockParamsForFunctionReturns block) = codes "append_block
 call_text (call.DeclareVar ty) = codes "declare_var " ++ type_text ty
 call_text (call.DefVar variable value) = codes "def_var " ++ (variable_text variable ++ (codes " " ++ answer_text value))
 call_text (call.UseVar variable) = codes "use_var " ++ variable_text variable
-call_text (call.Iconst ty imm) = codes "iconst." ++ (type_text ty ++ (codes " " ++ signed_decimal imm))
-call_text (call.Iadd x y) = codes "iadd " ++ (answer_text x ++ (codes " " ++ answer_text y))
-call_text (call.Isub x y) = codes "isub " ++ (answer_text x ++ (codes " " ++ answer_text y))
+call_text (call.Plain instruction) = plan_text (plan_of instruction)
 call_text (call.Jump edge) = codes "jump " ++ edge_text edge
 call_text (call.Brif condition first second) = codes "brif " ++ (answer_text condition ++ (codes " " ++ (edge_text first ++ (codes " " ++ edge_text second))))
 call_text (call.Return values) = codes "return" ++ answers_text values.items

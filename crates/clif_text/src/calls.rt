@@ -1,5 +1,6 @@
 //! The calls that are understood: one arm each.
 ghost use Rattle.std.specs.Prelude.{◌≡◌, ◌++◌, ◌∷◌, ℕ, List, IfOk, IfSome, codes};
+ghost use Rattle.clif_types.specs.Texts.{binary_opcode_text, unary_opcode_text};
 ghost use Rattle.clif_text.specs.Cursor.{texts, words_left};
 ghost use Rattle.clif_text.specs.Given.{is_instruction};
 ghost use Rattle.clif_text.specs.Grammar.{IsCall};
@@ -9,11 +10,12 @@ use crate::args::Args;
 use crate::error::{Expected, Fault, LineError};
 use crate::scope::Scope;
 use crate::types::type_named;
-use clif_calls::Call;
+use clif_calls::{Call, PlainInstruction};
+use clif_types::{BinaryOpcode, UnaryOpcode};
 use std::alloc::Global;
 
 // The calls of the format that aren't understood so far, without the type that may follow their name.
-const NOT_SUPPORTED: [&str; 66] = [
+const NOT_SUPPORTED: [&str; 60] = [
     "declare_var_needs_stack_map",
     "declare_value_needs_stack_map",
     "try_use_var",
@@ -50,13 +52,7 @@ const NOT_SUPPORTED: [&str; 66] = [
     "uextend",
     "sextend",
     "ireduce",
-    "ineg",
-    "bnot",
     "isplit",
-    "imul",
-    "band",
-    "bor",
-    "bxor",
     "ishl",
     "ushr",
     "sshr",
@@ -99,7 +95,6 @@ fn read_call<'a>(
         "use_var" => Ok(Call::UseVar {
             variable: args.variable()?,
         }),
-        "iadd" | "isub" => read_binary_call(head, args),
         "jump" => Ok(Call::Jump {
             destination: args.last_edge(alloc)?,
         }),
@@ -111,21 +106,74 @@ fn read_call<'a>(
         "return" => Ok(Call::Return {
             values: args.last_values(alloc)?,
         }),
-        _ => read_block_call(head, args),
+        _ => read_instruction(head, args),
     }
 }
 
+// The same for an instruction of values.
+fn read_instruction<'a>(head: &'a str, args: &mut Args<'_, 'a>) -> Result<Call, LineError<'a>>
+    ensures { IfOk result (λ call. (words : List (List ℕ)) × (words_left args.old.words ≡ words ++ words_left args.new.words) × IsCall (names_of args.old.scope.now) (head.now ∷ words) call) }
+{
+    if let Some(opcode) = unary_named(head) {
+        return read_unary_call(head, opcode, args);
+    }
+    match binary_named(head) {
+        Some(opcode) => read_binary_call(head, opcode, args),
+        None => read_block_call(head, args),
+    }
+}
+
+// The operation of this name, of one value: a row an instruction.
+fn unary_named(name: &str) -> Option<UnaryOpcode>
+    ensures { IfSome result (λ opcode. name.now ≡ unary_opcode_text opcode) }
+{
+    match name {
+        "ineg" => Some(UnaryOpcode::Ineg),
+        "bnot" => Some(UnaryOpcode::Bnot),
+        _ => None,
+    }
+}
+
+// The operation of this name, of two values: a row an instruction.
+fn binary_named(name: &str) -> Option<BinaryOpcode>
+    ensures { IfSome result (λ opcode. name.now ≡ binary_opcode_text opcode) }
+{
+    match name {
+        "iadd" => Some(BinaryOpcode::Iadd),
+        "isub" => Some(BinaryOpcode::Isub),
+        "imul" => Some(BinaryOpcode::Imul),
+        "band" => Some(BinaryOpcode::Band),
+        "bor" => Some(BinaryOpcode::Bor),
+        "bxor" => Some(BinaryOpcode::Bxor),
+        _ => None,
+    }
+}
+
+// The same for an instruction of one value.
+fn read_unary_call<'a>(
+    head: &'a str,
+    opcode: UnaryOpcode,
+    args: &mut Args<'_, 'a>,
+) -> Result<Call, LineError<'a>>
+    requires { head.now ≡ unary_opcode_text opcode }
+    ensures { IfOk result (λ call. (words : List (List ℕ)) × (words_left args.old.words ≡ words ++ words_left args.new.words) × IsCall (names_of args.old.scope.now) (head.now ∷ words) call) }
+{
+    let x = args.value()?;
+    Ok(Call::Plain(PlainInstruction::unary(opcode, x)))
+}
+
 // The same for an instruction of two values.
-fn read_binary_call<'a>(head: &'a str, args: &mut Args<'_, 'a>) -> Result<Call, LineError<'a>>
+fn read_binary_call<'a>(
+    head: &'a str,
+    opcode: BinaryOpcode,
+    args: &mut Args<'_, 'a>,
+) -> Result<Call, LineError<'a>>
+    requires { head.now ≡ binary_opcode_text opcode }
     ensures { IfOk result (λ call. (words : List (List ℕ)) × (words_left args.old.words ≡ words ++ words_left args.new.words) × IsCall (names_of args.old.scope.now) (head.now ∷ words) call) }
 {
     let x = args.value()?;
     let y = args.value()?;
-    match head {
-        "iadd" => Ok(Call::Iadd { x, y }),
-        "isub" => Ok(Call::Isub { x, y }),
-        _ => Err(LineError::Fault(Fault::UnknownCall(head))),
-    }
+    Ok(Call::Plain(PlainInstruction::binary(opcode, x, y)))
 }
 
 // The same for a call that makes, marks or places blocks.
@@ -186,10 +234,8 @@ fn read_typed_call<'a>(head: &'a str, args: &mut Args<'_, 'a>) -> Result<Call, L
             let Some(ty) = type_named(suffix) else {
                 return Err(LineError::wanted(Expected::Type));
             };
-            Ok(Call::Iconst {
-                ty,
-                imm: args.number()?,
-            })
+            let imm = args.number()?;
+            Ok(Call::Plain(PlainInstruction::Iconst { ty, imm }))
         }
         _ => Err(not_understood(head, name)),
     }
@@ -256,7 +302,7 @@ pub(crate) fn answers_of(call: &Call) -> Answers
         | Call::SetColdBlock { .. }
         | Call::EnsureInsertedBlock
         | Call::DefVar { .. } => (false, 0),
-        Call::Iconst { .. } | Call::Iadd { .. } | Call::Isub { .. } => (true, 1),
+        Call::Plain(_) => (true, 1),
         Call::Jump { .. } | Call::Brif { .. } | Call::Return { .. } => (true, 0),
     };
     Answers { instruction, names }

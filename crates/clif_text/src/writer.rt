@@ -1,9 +1,9 @@
 //! Scripts as text, written.
 ghost use Rattle.std.specs.Prelude.{◌≡◌, ◌++◌, Some, IfOk, string_bytes};
-ghost use Rattle.clif_text.specs.Texts.{answer_text, answers_text, edge_text, call_text, calls_text, header_text};
+ghost use Rattle.clif_text.specs.Texts.{answer_text, answers_text, edge_text, plan_text, call_text, calls_text, header_text};
 ghost use Rattle.clif_text.specs.Operands.{operands_text};
 
-use clif_calls::{Call, Edge, Name};
+use clif_calls::{Call, Edge, Name, Plan};
 use clif_ssa::Variable;
 use clif_types::{PointerWidth, Signature, TargetFrontendConfig, Type, UserFuncName};
 use std::alloc::{AllocError, Global};
@@ -52,7 +52,34 @@ impl fmt::Display for EdgeText<'_> {
     }
 }
 
-// What is written behind the name of a call.
+// An instruction of this plan: its name, and what it takes.
+#[derive(Clone, Copy)]
+struct PlanText<'a>(Plan<'a>);
+
+impl fmt::Display for PlanText<'_> {
+    ghost output = { λ text. Some (plan_text text.0) };
+
+    fn fmt<W: fmt::Write>(&self, f: &mut fmt::Formatter<W>) -> fmt::Result {
+        match &self.0 {
+            Plan::UnaryImm { ty, imm } => write!(f, "iconst.{ty} {imm}"),
+            Plan::Unary { opcode, arg } => write!(f, "{opcode} {}", AnswerText(*arg)),
+            Plan::Binary { opcode, args } => write!(f, "{opcode}{}", AnswersText(args)),
+            Plan::Jump { destination } => write!(f, "jump {}", EdgeText(destination)),
+            Plan::Brif {
+                condition,
+                block_then,
+                block_else,
+            } => {
+                let condition = AnswerText(*condition);
+                let (first, second) = (EdgeText(block_then), EdgeText(block_else));
+                write!(f, "brif {condition} {first} {second}")
+            }
+            Plan::MultiAry { args } => write!(f, "return{}", AnswersText(args)),
+        }
+    }
+}
+
+// What is written behind the name of a call, or, of an instruction, with its name.
 #[derive(Clone, Copy)]
 enum Operands<'a> {
     None,
@@ -62,10 +89,7 @@ enum Operands<'a> {
     Type(Type),
     Definition(Variable, Name),
     Variable(Variable),
-    Constant(Type, i64),
-    Edge(&'a Edge),
-    Branch(Name, &'a Edge, &'a Edge),
-    Values(&'a [Name]),
+    Instruction(Plan<'a>),
 }
 
 impl fmt::Display for Operands<'_> {
@@ -80,13 +104,7 @@ impl fmt::Display for Operands<'_> {
             Operands::Type(ty) => write!(f, " {ty}"),
             Operands::Definition(variable, x) => write!(f, " {variable} {}", AnswerText(*x)),
             Operands::Variable(variable) => write!(f, " {variable}"),
-            Operands::Constant(ty, imm) => write!(f, ".{ty} {imm}"),
-            Operands::Edge(edge) => write!(f, " {}", EdgeText(edge)),
-            Operands::Branch(condition, first, second) => {
-                let condition = AnswerText(*condition);
-                write!(f, " {condition} {} {}", EdgeText(first), EdgeText(second))
-            }
-            Operands::Values(values) => write!(f, "{}", AnswersText(values)),
+            Operands::Instruction(plan) => write!(f, "{}", PlanText(*plan)),
         }
     }
 }
@@ -96,7 +114,7 @@ const PARAMS: &str = "append_block_params_for_function_params";
 
 const RETURNS: &str = "append_block_params_for_function_returns";
 
-// The name of a call and what is written behind it.
+// The name of a call and what is written behind it; an instruction brings its name.
 fn parts(call: &Call) -> (&'static str, Operands<'_>)
     ensures { result.0.now ++ operands_text result.1 ≡ call_text call.now }
 {
@@ -120,16 +138,25 @@ fn parts(call: &Call) -> (&'static str, Operands<'_>)
         Call::DeclareVar { ty } => ("declare_var", Operands::Type(*ty)),
         Call::DefVar { variable, value } => ("def_var", Operands::Definition(*variable, *value)),
         Call::UseVar { variable } => ("use_var", Operands::Variable(*variable)),
-        Call::Iconst { ty, imm } => ("iconst", Operands::Constant(*ty, *imm)),
-        Call::Iadd { x, y } => ("iadd", Operands::Answers(*x, *y)),
-        Call::Isub { x, y } => ("isub", Operands::Answers(*x, *y)),
-        Call::Jump { destination } => ("jump", Operands::Edge(destination)),
+        Call::Plain(instruction) => ("", Operands::Instruction(instruction.plan())),
+        Call::Jump { destination } => ("", Operands::Instruction(Plan::Jump { destination })),
         Call::Brif {
             condition,
             block_then,
             block_else,
-        } => ("brif", Operands::Branch(*condition, block_then, block_else)),
-        Call::Return { values } => ("return", Operands::Values(values.as_slice())),
+        } => {
+            let condition = *condition;
+            let plan = Plan::Brif {
+                condition,
+                block_then,
+                block_else,
+            };
+            ("", Operands::Instruction(plan))
+        }
+        Call::Return { values } => {
+            let args = values.as_slice();
+            ("", Operands::Instruction(Plan::MultiAry { args }))
+        }
     }
 }
 

@@ -28,7 +28,7 @@ use Rattle.cranelift_frontend.specs.declared.context.BlockStatus.TheVariants.{Em
 use Rattle.cranelift_frontend.specs.Context.{ContextState, status_of}
 use Rattle.cranelift_frontend.specs.Ledger.{LedgerAgrees, NamesBlock, ledger_of}
 use Rattle.clif_meaning.specs.Event.{types_of}
-use Rattle.cranelift_frontend.specs.Growth.{Grows}
+use Rattle.cranelift_frontend.specs.Growth.{Grows, NoRoomFor}
 use Rattle.cranelift_frontend.specs.StandsFor.{StandsIn}
 use Rattle.cranelift_frontend.proofs.Growing.{Grows-same, Grows-then, Grows-with_param}
 use Rattle.cranelift_frontend.proofs.LedgerKept.{concluded}
@@ -127,13 +127,13 @@ values_more f b (ty ∷ types) =
 
 -- no more parameters were made than there are
 pub no-room : (f g : Body) (b : ℕ) (params : List AbiParam) (index : ℕ) → index < length params → g ≡ with_params f b (types_of (take index params)) → length g.values ≡ 2 ^ 32 - 1
-    → 2 ^ 32 - 1 ≤ length f.values + length params
+    → NoRoomFor f (length params)
 no-room f g b params index inside is full =
     let same : length g.values ≡ length (with_params f b (types_of (take index params))).values = ap (λ (h : Body). length h.values) is in
     let more = values_more f b (types_of (take index params)) in
     let typed : length (types_of (take index params)) ≡ length (take index params) = length-map (take index params) (λ (p : AbiParam). p.value_type) in
     let few : length (take index params) ≡ index = length-take-le index params (omega (arith, inside)) in
-    omega (arith, same, more, typed, few, inside, full)
+    (index, inside, omega (arith, same, more, typed, few, full))
 
 -- each value stands for the value that it stood for
 params_resolved : (f : Body) (b : ℕ) (types : List «Type») → Firm f → b < length f.blocks → (v : ℕ) → resolved (with_params f b types) v ≡ resolved f v

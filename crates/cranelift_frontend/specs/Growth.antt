@@ -1,5 +1,5 @@
 -- What goes on existing, and goes on standing for one value, as calls are made. Source: own.
-use Rattle.std.specs.Prelude.{◌≡◌, ◌≤◌, ℕ, List, [], ◌∷◌, length}
+use Rattle.std.specs.Prelude.{◌≡◌, ◌<◌, ◌≤◌, ◌+◌, ◌-◌, ◌^◌, ℕ, List, [], ◌∷◌, length}
 use Rattle.clif_ir.specs.Body.{Body, resolved}
 use Rattle.clif_ssa.specs.Structure.{HasRecordOf, Remembers}
 use Rattle.cranelift_frontend.specs.declared.builder.FunctionBuilder.{FunctionBuilder}
@@ -9,6 +9,10 @@ abbrev pub Grows : Body → Body → Type 0
 Grows f g =
     (length f.values ≤ length g.values) × (length f.insts ≤ length g.insts) × (length f.blocks ≤ length g.blocks)
     × (g.name ≡ f.name) × (g.signature ≡ f.signature)
+
+-- with some of so many parameters, and not with all, the function's table of values holds 2^32 - 1 entries
+abbrev pub NoRoomFor : Body → ℕ → Type 0
+NoRoomFor f count = (made : ℕ) × (made < count) × (length f.values + made ≡ 2 ^ 32 - 1)
 
 -- the block's record of the variable stays, if there is one, and values that stand for one value go on doing so
 abbrev pub RemembersIn : ℕ → ℕ → FunctionBuilder → FunctionBuilder → Type 0

@@ -3,7 +3,7 @@ ghost use Rattle.std.specs.Prelude.{◌≡◌, ◌≢◌, ◌<◌, ◌≤◌, �
 ghost use Rattle.cranelift_frontend.specs.Context.{status_of, begun, SetsStatus};
 ghost use Rattle.clif_ssa.specs.Ssa.{predecessors_of};
 ghost use Rattle.clif_simulation.specs.Carries.{numbers_from, with_params};
-ghost use Rattle.cranelift_frontend.specs.Growth.{Grows, RemembersIn};
+ghost use Rattle.cranelift_frontend.specs.Growth.{Grows, NoRoomFor, RemembersIn};
 ghost use Rattle.cranelift_frontend.specs.Builder.{SameLoans, HasCurrent};
 ghost use Rattle.clif_ir.specs.Body.{block_at};
 ghost use Rattle.clif_ir.specs.Changes.{inserted_in, with_cold, with_layout_after, with_param};
@@ -153,7 +153,7 @@ impl<'a> FunctionBuilder<'a> {
         ensures context { self.new.ctx.now ≡ self.old.ctx.now }
         ensures position { self.new.position ≡ self.old.position }
         ensures full { result ≡ Err BuildError.Full → length self.new.func.now.values ≡ 2 ^ 32 - 1 }
-        ensures room { result ≡ Err BuildError.Full → 2 ^ 32 - 1 ≤ length self.old.func.now.values + length self.old.func.now.signature.params }
+        ensures room { result ≡ Err BuildError.Full → NoRoomFor self.old.func.now (length self.old.func.now.signature.params) }
         ensures failed { (result ≡ Err BuildError.Failed) ↔ IsTrue self.old.failed }
         ensures unchanged { IsTrue self.old.failed → self.new ≡ self.old }
         ensures fails { self.new.failed ≡ is_err result }
@@ -186,7 +186,7 @@ impl<'a> FunctionBuilder<'a> {
         ensures context { self.new.ctx.now ≡ self.old.ctx.now }
         ensures position { self.new.position ≡ self.old.position }
         ensures full { result ≡ Err BuildError.Full → length self.new.func.now.values ≡ 2 ^ 32 - 1 }
-        ensures room { result ≡ Err BuildError.Full → 2 ^ 32 - 1 ≤ length self.old.func.now.values + length self.old.func.now.signature.returns }
+        ensures room { result ≡ Err BuildError.Full → NoRoomFor self.old.func.now (length self.old.func.now.signature.returns) }
         ensures failed { (result ≡ Err BuildError.Failed) ↔ IsTrue self.old.failed }
         ensures unchanged { IsTrue self.old.failed → self.new ≡ self.old }
         ensures fails { self.new.failed ≡ is_err result }
@@ -212,7 +212,7 @@ fn append_function_params(func: &mut Function, block: Block) -> Result<(), Build
     ensures ok { OnOk result (func.new ≡ with_params func.old block (types_of func.old.signature.params)) }
     ensures grows { Grows func.old func.new }
     ensures full { result ≡ Err BuildError.Full → length func.new.values ≡ 2 ^ 32 - 1 }
-    ensures room { result ≡ Err BuildError.Full → 2 ^ 32 - 1 ≤ length func.old.values + length func.old.signature.params }
+    ensures room { result ≡ Err BuildError.Full → NoRoomFor func.old (length func.old.signature.params) }
     ensures never_failed { result ≢ Err BuildError.Failed }
 {
     for index in 0..func.signature().params.len() {
@@ -228,7 +228,7 @@ fn append_function_returns(func: &mut Function, block: Block) -> Result<(), Buil
     ensures ok { OnOk result (func.new ≡ with_params func.old block (types_of func.old.signature.returns)) }
     ensures grows { Grows func.old func.new }
     ensures full { result ≡ Err BuildError.Full → length func.new.values ≡ 2 ^ 32 - 1 }
-    ensures room { result ≡ Err BuildError.Full → 2 ^ 32 - 1 ≤ length func.old.values + length func.old.signature.returns }
+    ensures room { result ≡ Err BuildError.Full → NoRoomFor func.old (length func.old.signature.returns) }
     ensures never_failed { result ≢ Err BuildError.Failed }
 {
     for index in 0..func.signature().returns.len() {

@@ -115,6 +115,7 @@ impl FunctionBuilderContext {
     ghost use Rattle.clif_ssa.specs.Ssa.{record_of, sealed_of, predecessors_of, completed, HasMore, IsLocal, NamesExist, Records, RecordsStay, SameBlocks, SamePredecessors, SameRecords, Seals, Waits, Zeroes};
     ghost use Rattle.clif_ssa.specs.Zeros.{steps_before};
     ghost use Rattle.clif_ssa.specs.Limits.{IsFull};
+    ghost use Rattle.clif_ssa.specs.Constructs.{OnlyConstructs};
     ghost use Rattle.clif_ssa.specs.Tables.{is_yes, pending_of};
 
     /// A context for a first function.
@@ -249,6 +250,7 @@ impl FunctionBuilderContext {
         ensures exists { IfOk result (λ w. w < length func.new.values) }
         ensures more { HasMore func.old func.new }
         ensures variables { self.new.variables ≡ self.old.variables }
+        ensures constructs { OnlyConstructs func.old func.new }
         ensures full { result ≡ Err BuildError.Full → IsFull func.new }
         ensures never_failed { result ≢ Err BuildError.Failed }
     {
@@ -269,6 +271,7 @@ impl FunctionBuilderContext {
         ensures more { HasMore func.old func.new }
         ensures stay { RecordsStay self.old.ssa self.new.ssa }
         ensures variables { self.new.variables ≡ self.old.variables }
+        ensures constructs { OnlyConstructs func.old func.new }
         ensures full { result ≡ Err BuildError.Full → IsFull func.new }
         ensures never_failed { result ≢ Err BuildError.Failed }
     {
@@ -285,6 +288,7 @@ impl FunctionBuilderContext {
         ensures more { HasMore func.old func.new }
         ensures stay { RecordsStay self.old.ssa self.new.ssa }
         ensures variables { self.new.variables ≡ self.old.variables }
+        ensures constructs { OnlyConstructs func.old func.new }
         ensures full { result ≡ Err BuildError.Full → IsFull func.new }
         ensures never_failed { result ≢ Err BuildError.Failed }
     {

@@ -5,6 +5,7 @@ ghost use Rattle.cranelift_frontend.specs.Growth.{Grows, HasRecordIn, RemembersI
 ghost use Rattle.cranelift_frontend.specs.Construction.{IsUse, IsSealing, IsSealingAll};
 ghost use Rattle.cranelift_frontend.specs.Builder.{SameLoans, with_position, is_unreachable, is_free, is_declarable, HasCurrent, Uses, UsesIn};
 ghost use Rattle.clif_ssa.specs.Limits.{IsFull};
+ghost use Rattle.clif_ssa.specs.Constructs.{OnlyConstructs};
 ghost use Rattle.clif_ssa.specs.Tables.{is_yes, pending_of};
 ghost use Rattle.clif_ssa.specs.Sealing.{SealsBelow, SealsByLookUp};
 ghost use Rattle.clif_ssa.specs.Ssa.{record_of, sealed_of, predecessors_of, completed, IsLocal, NamesExist, Records, RecordsStay, SameBlocks, SamePredecessors, SameRecords, Seals, Waits, Zeroes};
@@ -172,6 +173,7 @@ impl<'a> FunctionBuilder<'a> {
         ensures variables { self.new.ctx.now.variables ≡ self.old.ctx.now.variables }
         ensures position { self.new.position ≡ self.old.position }
         ensures full { result ≡ Err BuildError.Full → IsFull self.new.func.now }
+        ensures constructs { result ≡ Err BuildError.Full → OnlyConstructs self.old.func.now self.new.func.now }
         ensures failed { (result ≡ Err BuildError.Failed) ↔ IsTrue self.old.failed }
         ensures unchanged { IsTrue self.old.failed → self.new ≡ self.old }
         ensures fails { self.new.failed ≡ is_err result }
@@ -202,6 +204,7 @@ impl<'a> FunctionBuilder<'a> {
         ensures variables { self.new.ctx.now.variables ≡ self.old.ctx.now.variables }
         ensures position { self.new.position ≡ self.old.position }
         ensures full { result ≡ Err BuildError.Full → IsFull self.new.func.now }
+        ensures constructs { result ≡ Err BuildError.Full → OnlyConstructs self.old.func.now self.new.func.now }
         ensures failed { (result ≡ Err BuildError.Failed) ↔ IsTrue self.old.failed }
         ensures unchanged { IsTrue self.old.failed → self.new ≡ self.old }
         ensures fails { self.new.failed ≡ is_err result }
@@ -298,6 +301,7 @@ impl<'a> FunctionBuilder<'a> {
         ensures variables { self.new.ctx.now.variables ≡ self.old.ctx.now.variables }
         ensures position { self.new.position ≡ self.old.position }
         ensures full { result ≡ Err BuildError.Full → IsFull self.new.func.now }
+        ensures constructs { IfSome self.old.position (λ block. result ≡ Err BuildError.Full → OnlyConstructs (inserted_in self.old.func.now block) self.new.func.now) }
         ensures failed { (result ≡ Err BuildError.Failed) ↔ IsTrue self.old.failed }
         ensures unchanged { IsTrue self.old.failed → self.new ≡ self.old }
         ensures fails { self.new.failed ≡ is_err result }
@@ -366,6 +370,7 @@ fn use_variable(
     ensures exists { IfOk result (λ value. value < length func.new.values) }
     ensures variables { ctx.new.variables ≡ ctx.old.variables }
     ensures full { result ≡ Err BuildError.Full → IsFull func.new }
+    ensures constructs { result ≡ Err BuildError.Full → OnlyConstructs (inserted_in func.old block) func.new }
     ensures never_failed { result ≢ Err BuildError.Failed }
 {
     begin_block(func, ctx, block)?;

@@ -1,8 +1,8 @@
 //! The interpreter of scripts. It has variables and names of answers, and no aliases, slots or parameters of its own.
 #![tactic(auto)]
 
-use crate::interpreters::{End, STEPS, constant, difference, sum};
-use clif_script::{Call, Edge, Name};
+use crate::interpreters::{End, STEPS, binary, constant, unary};
+use clif_script::{Call, Edge, Name, Plan};
 use clif_types::{AbiParam, EntityRef, Signature, Type, types};
 use std::alloc::{AllocError, Global};
 use std::slice;
@@ -48,16 +48,25 @@ impl<'a> State<'a> {
         Ok(())
     }
 
-    fn sum_of(&self, x: Name, y: Name) -> Typed {
-        let Typed { ty, bits } = self.name(x);
-        let bits = sum(ty, bits, self.name(y).bits);
-        Typed { ty, bits }
-    }
-
-    fn difference_of(&self, x: Name, y: Name) -> Typed {
-        let Typed { ty, bits } = self.name(x);
-        let bits = difference(ty, bits, self.name(y).bits);
-        Typed { ty, bits }
+    /// What an instruction computes that neither branches nor ends a block.
+    fn computed(&self, plan: &Plan<'_>) -> Typed {
+        match plan {
+            Plan::UnaryImm { ty, imm } => Typed {
+                ty: *ty,
+                bits: constant(*ty, *imm),
+            },
+            Plan::Unary { opcode, arg } => {
+                let Typed { ty, bits } = self.name(*arg);
+                let bits = unary(*opcode, ty, bits);
+                Typed { ty, bits }
+            }
+            Plan::Binary { opcode, args } => {
+                let Typed { ty, bits } = self.name(args[0]);
+                let bits = binary(*opcode, ty, bits, self.name(args[1]).bits);
+                Typed { ty, bits }
+            }
+            Plan::Jump { .. } | Plan::Brif { .. } | Plan::MultiAry { .. } => NOTHING,
+        }
     }
 
     fn assign(&mut self, variable: usize, value: Typed) {
@@ -119,12 +128,7 @@ impl<'a> State<'a> {
                 self.give(Name { place, answer: 0 }, held.unwrap_or(NOTHING))?;
             }
             Call::DefVar { variable, value } => self.assign(variable.index(), self.name(*value)),
-            Call::Iconst { ty, imm } => {
-                let bits = constant(*ty, *imm);
-                self.give(result, Typed { ty: *ty, bits })?;
-            }
-            Call::Iadd { x, y } => self.give(result, self.sum_of(*x, *y))?,
-            Call::Isub { x, y } => self.give(result, self.difference_of(*x, *y))?,
+            Call::Plain(instruction) => self.give(result, self.computed(&instruction.plan()))?,
             Call::Jump { destination } => return Ok(Did::Left(destination)),
             Call::Brif {
                 condition,
@@ -157,9 +161,7 @@ fn is_of_block(call: &Call) -> bool {
     match call {
         Call::UseVar { .. }
         | Call::EnsureInsertedBlock
-        | Call::Iconst { .. }
-        | Call::Iadd { .. }
-        | Call::Isub { .. }
+        | Call::Plain(_)
         | Call::Jump { .. }
         | Call::Brif { .. }
         | Call::Return { .. } => true,

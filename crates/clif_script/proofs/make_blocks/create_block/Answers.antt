@@ -1,21 +1,21 @@
-use Rattle.std.proofs.Common.{List, [], ◌∷◌, refl, ap}
-use Rattle.clif_ssa.specs.declared.tables.Cell.{Cell}
-use Rattle.clif_ssa.specs.Ssa.{SameRecords, record_of}
+use Rattle.std.proofs.Common.{[], ◌∷◌, refl}
+use Rattle.std.proofs.lemmas.Result.{err_from_is_err_and}
 use Rattle.clif_script.specs.declared.script.Answer.TheVariants as answer
+use Rattle.clif_script.proofs.Making.{answered-sound, made-answer, made-refused}
 use Rattle.clif_script.proofs.ReadyLaws.{ready-more}
-use Rattle.clif_script.proofs.Leading.{leads-created}
-use Rattle.clif_script.proofs.Limits.{one-created}
 use Rattle.clif_script.proofs.make_blocks.create_block.Goals as goal
 
-pub returns-clause-ready : goal.returns-clause-ready
-returns-clause-ready c = λ declared calls ready.
-    (c.in_ok-block.block ∷ [], ready-more calls _ c.args.builder.now c.create_block.new.self _ (answer.Block c.in_ok-block.block) ready (c.in_ok-block.ensures.stands declared calls ready.stands) (refl, refl))
+pub returns-in_err-block : goal.returns-in_err-block
+returns-in_err-block c =
+    let done = c.create_block.ensures in
+    let p = err_from_is_err_and c.from_residual.result c.from_residual.ensures.1 in
+    made-refused c.args.builder.now c.create_block.new.self c.args.answers.now c.create_block.result c.in_err-block.field-0.0 p.0 c.from_residual.result c.in_err-block.was p.1 p.2 done.loans c.requires.sound done.failed
+    (λ declared calls ready. refl) done.full
 
-pub returns-clause-one_call : goal.returns-clause-one_call
-returns-clause-one_call c =
+pub returns : goal.returns
+returns c =
     let done = c.in_ok-block.ensures in
-    let ready = c.requires.ready in
-    let records : SameRecords c.args.builder.now.ctx.now.ssa c.create_block.new.self.ctx.now.ssa =
-    λ v b. ap (λ (rows : List (List Cell)). record_of (record { records = rows; blocks = [] }) v b) done.records in
-    one-created c.requires.ready.2.laws.tables c.args.builder.now c.create_block.new.self done.function records done.sealed
-    (leads-created ready.1 (c.in_ok-block.block ∷ []) c.args.builder.now c.create_block.new.self ready.2.stands (done.stands ready.0 ready.1 ready.2.stands)) done.variables
+    made-answer c.args.builder.now c.create_block.new.self c.args.answers.now (answer.Block c.in_ok-block.block) c.create_block.ensures.loans done.grows.3
+    (answered-sound _ c.create_block.result _ c.create_block.ensures.fails c.in_ok-block.was) c.create_block.ensures.variables
+    (λ declared calls ready. refl)
+    (λ declared calls ready. (c.in_ok-block.block ∷ [], ready-more calls _ c.args.builder.now c.create_block.new.self _ (answer.Block c.in_ok-block.block) ready (done.stands declared calls ready.stands) (refl, refl)))

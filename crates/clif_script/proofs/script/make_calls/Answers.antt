@@ -1,4 +1,4 @@
-use Rattle.std.proofs.Common.{◌≡◌, ◌+◌, ◌<◌, List, [], ◌∷◌, ◌++◌, rules, arith, ap, sym, ◌∙◌, subst, take}
+use Rattle.std.proofs.Common.{◌≡◌, ◌<◌, List, [], ◌∷◌, ◌++◌, rules, arith, ap, sym, ◌∙◌, subst}
 use Rattle.std.proofs.lemmas.Grind.{common_steps}
 use Rattle.clif_meaning.specs.Request.{AnsweredCall}
 use Rattle.cranelift_frontend.specs.Ledger.{ledger_of}
@@ -11,11 +11,6 @@ use Rattle.clif_script.specs.declared.script.CallError.TheVariants as error
 use Rattle.clif_script.specs.declared.script.ReplayError.{ReplayError}
 use Rattle.clif_script.specs.declared.script.ReplayError.TheVariants.{Full, Misuse}
 use Rattle.std.proofs.lemmas.Option.{slice_get-get_or}
-use Rattle.clif_types.specs.Signature.{SignatureShape}
-use Rattle.clif_script.specs.Limits.{IsNearlyFull, IsOneCall, IsWithin, cost, cost_of}
-use Rattle.clif_script.proofs.Costs.{cost-next, cost-until, costs-some}
-use Rattle.clif_script.proofs.Leading.{straight-leads}
-use Rattle.clif_script.proofs.Limits.{within-more, full-late, full-late-straight}
 use Rattle.clif_script.proofs.Replays.{last-place, loans-then, made-all, made-memory, misuse-place, no-refusal-told}
 use Rattle.std.proofs.lemmas.Result.{err_from_is_err_and}
 use Rattle.clif_script.proofs.Verdicts.{full-told, replayed-more, misuse-told}
@@ -25,9 +20,7 @@ pub loop-place-preserved : goal.loop-place-preserved
 loop-place-preserved c =
     let made = c.loop-place.invariant.made.0 in
     let call = c.index-calls-place.result in
-    let declared = c.args.builder.now.func.now.signature in
     let ready = subst (λ (xs : List Answer). IsReady c.args.builder.now.func.now.signature made c.loop-place.builder xs) (sym c.as_slice.ensures.value) c.loop-place.invariant.made.1 in
-    let one = subst (λ (s : SignatureShape). IsOneCall (cost_of s call) c.loop-place.builder c.make_call.new.builder) ready.stands.signature c.in-Ok.ensures.one_call in
     let after = c.in-Ok.ensures.ready c.args.builder.now.func.now.signature made ready in
     let more : AnsweredCall = record { request = request_of c.args.builder.now.func.now.signature (ledger_of made) call; numbers = after.0 } in
     let answers = ap (λ (xs : List Answer). xs ++ c.in-Ok.answer ∷ []) c.as_slice.ensures.value ∙ sym c.in_ok-push-in-Ok.ensures.items in
@@ -40,10 +33,7 @@ loop-place-preserved c =
       types = first_of (search rules, grind (arith, common_steps));
       loans = loans-then c.args.builder.now c.loop-place.builder c.make_call.new.builder c.loop-place.invariant.loans c.in-Ok.ensures.loans;
       sound = c.in-Ok.ensures.sound;
-      within = subst (λ (spent : ℕ). IsWithin (c.loop-place.place + 1) spent c.make_call.new.builder)
-          (sym (cost-next declared c.args.calls.now c.loop-place.place call c.loop-place-test.true c.index-calls-place.is))
-          (within-more c.loop-place.place (cost declared (take c.loop-place.place c.args.calls.now)) (cost_of declared call) c.loop-place.builder c.make_call.new.builder (costs-some declared call) c.loop-place.invariant.within one);
-      name = c.in-Ok.ensures.one_call.name ∙ c.loop-place.invariant.name;
+      name = c.in-Ok.ensures.name ∙ c.loop-place.invariant.name;
     }
 
 pub returns-in-Err-clause-judged : goal.returns-in-Err-clause-judged
@@ -70,7 +60,6 @@ returns-in-Err-clause-table_full c = λ told.
     let builder = c.loop-place.builder in
     let call = c.index-calls-place.result in
     let is_full = full-told c.in-Err.error c.loop-place.place c.at.result c.at.ensures (same-full c.at.result told) in
-    let full = c.in-Err.ensures.full (ap Err is_full) in
     let ready = subst (λ (xs : List Answer). IsReady c.args.builder.now.func.now.signature invariant.made.0 builder xs) (sym c.as_slice.ensures.value) invariant.made.1 in
     let judged = c.in-Err.ensures.judged c.args.builder.now.func.now.signature invariant.made.0 ready in
     record {
@@ -84,49 +73,23 @@ returns-in-Err-clause-table_full c = λ told.
       position = builder.position;
       stands = invariant.made.1.stands;
       named = invariant.name;
-      table = subst (λ (s : SignatureShape). IsNearlyFull (cost_of s call) builder) invariant.made.1.stands.signature full invariant.within.records;
       allowed = allowed-full c.in-Err.error is_full _ judged;
-      stops = c.in-Err.ensures.stops (ap Err is_full) invariant.within.records;
+      meets = c.in-Err.ensures.full (ap Err is_full);
     }
-
-pub returns-in-Err-clause-full : goal.returns-in-Err-clause-full
-returns-in-Err-clause-full c = λ told.
-    let invariant = c.loop-place.invariant in
-    let declared = c.args.builder.now.func.now.signature in
-    let calls = c.args.calls.now in
-    let place = c.loop-place.place in
-    let call = c.index-calls-place.result in
-    let full = c.in-Err.ensures.full (ap Err (full-told c.in-Err.error place c.at.result c.at.ensures (same-full c.at.result told))) in
-    full-late place (length calls) (cost declared (take place calls)) (cost_of declared call) (cost declared calls) c.loop-place.builder c.loop-place-test.true
-    (cost-until declared calls place call c.loop-place-test.true c.index-calls-place.is) invariant.within
-    (subst (λ (s : SignatureShape). IsNearlyFull (cost_of s call) c.loop-place.builder) invariant.made.1.stands.signature full)
-
-pub returns-in-Err-clause-full_straight : goal.returns-in-Err-clause-full_straight
-returns-in-Err-clause-full_straight c = λ told straight.
-    let invariant = c.loop-place.invariant in
-    let declared = c.args.builder.now.func.now.signature in
-    let calls = c.args.calls.now in
-    let place = c.loop-place.place in
-    let call = c.index-calls-place.result in
-    let full = c.in-Err.ensures.full (ap Err (full-told c.in-Err.error place c.at.result c.at.ensures (same-full c.at.result told))) in
-    full-late-straight place (cost declared (take place calls)) (cost_of declared call) (cost declared calls) c.loop-place.builder
-    (cost-until declared calls place call c.loop-place-test.true c.index-calls-place.is) invariant.within
-    (straight-leads declared calls place invariant.made.0 c.loop-place.builder straight invariant.made.2 invariant.made.1.stands)
-    (subst (λ (s : SignatureShape). IsNearlyFull (cost_of s call) c.loop-place.builder) invariant.made.1.stands.signature full)
 
 pub returns-in_err-push-in-Ok : goal.returns-in_err-push-in-Ok
 returns-in_err-push-in-Ok c =
     let p = err_from_is_err_and c.from_residual.result c.from_residual.ensures.1 in
     let made = made-memory c.args.calls.now c.args.builder.now c.make_call.new.builder c.from_residual.result (p.1 ∙ ap Err p.2)
     (loans-then c.args.builder.now c.loop-place.builder c.make_call.new.builder c.loop-place.invariant.loans c.in-Ok.ensures.loans) in
-    record { loans = made.loans; name = made.name; ready = made.ready; sound = made.sound; misuse = made.misuse; judged = made.judged; never_refused = made.never_refused; full = made.full; full_straight = made.full_straight; table_full = made.table_full }
+    record { loans = made.loans; name = made.name; ready = made.ready; sound = made.sound; misuse = made.misuse; judged = made.judged; never_refused = made.never_refused; table_full = made.table_full }
 
 pub returns-in_err-push : goal.returns-in_err-push
 returns-in_err-push c =
     let p = err_from_is_err_and c.from_residual-in_err-push.result c.from_residual-in_err-push.ensures.1 in
     let made = made-memory c.args.calls.now c.args.builder.now c.make_call.new.builder c.from_residual-in_err-push.result (p.1 ∙ ap Err p.2)
     (loans-then c.args.builder.now c.loop-place.builder c.make_call.new.builder c.loop-place.invariant.loans c.in-Ok.ensures.loans) in
-    record { loans = made.loans; name = made.name; ready = made.ready; sound = made.sound; misuse = made.misuse; judged = made.judged; never_refused = made.never_refused; full = made.full; full_straight = made.full_straight; table_full = made.table_full }
+    record { loans = made.loans; name = made.name; ready = made.ready; sound = made.sound; misuse = made.misuse; judged = made.judged; never_refused = made.never_refused; table_full = made.table_full }
 
 pub returns : goal.returns
 returns c =
@@ -134,7 +97,7 @@ returns c =
     let ended = last-place c.loop-place.place (length c.args.calls.now) c.loop-place.auto.place-end c.loop-place-test.false in
     let replayed = subst (λ (place : ℕ). IsReplayed c.args.builder.now.func.now.signature c.args.calls.now place invariant.made.0) ended invariant.made.2 in
     let made = made-all c.args.calls.now c.args.builder.now c.loop-place.builder invariant.made.0 invariant.loans invariant.name invariant.made.1.stands replayed invariant.sound in
-    record { loans = made.loans; name = made.name; ready = made.ready; sound = made.sound; misuse = made.misuse; judged = made.judged; never_refused = made.never_refused; full = made.full; full_straight = made.full_straight; table_full = made.table_full }
+    record { loans = made.loans; name = made.name; ready = made.ready; sound = made.sound; misuse = made.misuse; judged = made.judged; never_refused = made.never_refused; table_full = made.table_full }
 
 pub returns-in-Err-clause-loans : goal.returns-in-Err-clause-loans
 returns-in-Err-clause-loans c = loans-then c.args.builder.now c.loop-place.builder c.make_call.new.builder c.loop-place.invariant.loans c.in-Err.ensures.loans

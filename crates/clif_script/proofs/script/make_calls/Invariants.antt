@@ -1,8 +1,7 @@
-use Rattle.std.proofs.Common.{◌≡◌, List, take}
+use Rattle.std.proofs.Common.{◌≡◌, List}
 use Rattle.std.specs.Prelude.{false}
 use Rattle.clif_meaning.specs.Request.{AnsweredCall}
 use Rattle.cranelift_frontend.specs.Builder.{SameLoans}
-use Rattle.clif_script.specs.Limits.{IsWithin, cost}
 use Rattle.clif_script.specs.Ready.{IsReady}
 use Rattle.clif_script.specs.Requests.{IsReplayed}
 use Rattle.clif_script.proofs.script.make_calls.Given as goal
@@ -13,6 +12,5 @@ invariant-loop-place l = record {
   types : l.types.items ≡ l.builder.ctx.now.variables;
   loans : SameLoans l.initial.builder l.builder;
   sound : l.builder.failed ≡ false;
-  within : IsWithin l.place (cost l.initial.builder.func.now.signature (take l.place l.calls)) l.builder;
   name : l.builder.func.now.name ≡ l.initial.builder.func.now.name;
 }

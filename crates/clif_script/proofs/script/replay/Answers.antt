@@ -20,8 +20,6 @@ returns-in_err-build c =
       context = c.build.ensures.context;
       misuse = told.misuse;
       refused = told.refused;
-      full = told.full;
-      full_straight = told.full_straight;
       table_full = told.table_full;
       verdict = told.verdict;
     }
@@ -39,8 +37,6 @@ returns c =
       context = c.build.ensures.context;
       misuse = told.misuse;
       refused = told.refused;
-      full = told.full;
-      full_straight = told.full_straight;
       table_full = told.table_full;
       verdict = told.verdict;
     }

@@ -6,9 +6,9 @@ use Rattle.clif_text.specs.Grammar.{IsNumber}
 use Rattle.clif_text.proofs.Figures.{number_fits}
 use Rattle.clif_text.proofs.calls.read_typed_call.Goals as goal
 
-pub returns-in_ok-number-in-iconst : goal.returns-in_ok-number-in-iconst
-returns-in_ok-number-in-iconst c =
-    let number = c.in_ok-number-in-iconst.ensures.ok in
+pub returns-in_ok-imm-in-iconst : goal.returns-in_ok-imm-in-iconst
+returns-in_ok-imm-in-iconst c =
+    let number = c.in_ok-imm-in-iconst.ensures.ok in
     let suffix = c.in-Some.suffix.now in
     let head = c.in-Some.ensures ∙ ap (λ (name : List ℕ). name ++ (codes "." ++ suffix)) c.in-iconst.is in
-    (number.0 ∷ [], number.1, (suffix, number.0, ap (λ (word : List ℕ). word ∷ number.0 ∷ []) head, c.in-Some-type_named.ensures, subst (IsNumber number.0) (sym (to_z-of_z w64 c.in_ok-number-in-iconst.field-0 (number_fits number.0 c.in_ok-number-in-iconst.field-0 number.2))) number.2))
+    (number.0 ∷ [], number.1, (suffix, number.0, ap (λ (word : List ℕ). word ∷ number.0 ∷ []) head, c.in-Some-type_named.ensures, subst (IsNumber number.0) (sym (to_z-of_z w64 c.in_ok-imm-in-iconst.imm (number_fits number.0 c.in_ok-imm-in-iconst.imm number.2))) number.2))

@@ -1,0 +1,41 @@
+-- What an instruction of a script is: its format, opcode and operands. After Cranelift's `InstructionData`, with names in
+-- place of values.
+use Rattle.std.specs.Prelude.{List, [], ◌∷◌}
+use Rattle.clif_types.specs.declared.opcodes.BinaryOpcode.TheVariants as binary
+use Rattle.clif_types.specs.declared.opcodes.UnaryOpcode.TheVariants as unary
+use Rattle.clif_calls.specs.declared.call.Edge.{Edge}
+use Rattle.clif_calls.specs.declared.call.Name.{Name}
+use Rattle.clif_calls.specs.declared.call.PlainInstruction.{PlainInstruction}
+use Rattle.clif_calls.specs.declared.call.PlainInstruction.TheVariants as plain
+use Rattle.clif_calls.specs.declared.plan.Plan.{Plan}
+use Rattle.clif_calls.specs.declared.plan.Plan.TheVariants as plan
+
+-- the format of each instruction that neither branches nor ends its block
+abbrev pub plan_of : PlainInstruction → Plan
+plan_of (plain.Iconst ty imm) = plan.UnaryImm ty imm
+plan_of (plain.Iadd x y) = plan.Binary binary.Iadd (x ∷ y ∷ [])
+plan_of (plain.Isub x y) = plan.Binary binary.Isub (x ∷ y ∷ [])
+plan_of (plain.Imul x y) = plan.Binary binary.Imul (x ∷ y ∷ [])
+plan_of (plain.Band x y) = plan.Binary binary.Band (x ∷ y ∷ [])
+plan_of (plain.Bor x y) = plan.Binary binary.Bor (x ∷ y ∷ [])
+plan_of (plain.Bxor x y) = plan.Binary binary.Bxor (x ∷ y ∷ [])
+plan_of (plain.Ineg x) = plan.Unary unary.Ineg x
+plan_of (plain.Bnot x) = plan.Unary unary.Bnot x
+
+-- the names of the operands, in order
+abbrev pub operands_in : Plan → List Name
+operands_in (plan.UnaryImm ty imm) = []
+operands_in (plan.Unary opcode arg) = arg ∷ []
+operands_in (plan.Binary opcode args) = args
+operands_in (plan.Jump destination) = []
+operands_in (plan.Brif condition block_then block_else) = condition ∷ []
+operands_in (plan.MultiAry args) = args.now
+
+-- the edges, in order
+abbrev pub edges_in : Plan → List Edge
+edges_in (plan.UnaryImm ty imm) = []
+edges_in (plan.Unary opcode arg) = []
+edges_in (plan.Binary opcode args) = []
+edges_in (plan.Jump destination) = destination.now ∷ []
+edges_in (plan.Brif condition block_then block_else) = block_then.now ∷ block_else.now ∷ []
+edges_in (plan.MultiAry args) = []
