@@ -179,9 +179,9 @@ constructs-inserted f g block = by (stands_in block f.layout)
       same_values = made.same_values;
       insts = made.insts;
       same_insts = made.same_insts;
-      zeros = λ i old new. let zero = made.zeros i old new in record { value = zero.value; is_new = zero.is_new; shape = zero.shape; results = zero.results; srcloc = zero.srcloc };
+      zeros = λ i old new. let zero = made.zeros i old new in record { ty = zero.ty; place = zero.place; step = zero.step; is_step = zero.is_step; value = zero.value; is_new = zero.is_new; shape = zero.shape; results = zero.results; srcloc = zero.srcloc };
       block_count = made.block_count;
-      blocks = λ b. let node = made.blocks b in record { zeros = node.zeros; stays = node.stays; added = node.added; node = node.node; zeros_new = node.zeros_new; added_new = node.added_new };
+      blocks = λ b. let node = made.blocks b in record { zeros = node.zeros; stays = node.stays; added = node.added; node = node.node; zeros_fit = node.zeros_fit; zeros_new = node.zeros_new; added_new = node.added_new };
       layout = (block ∷ made.layout.0, made.layout.1 ∙ append_assoc f.layout (block ∷ []) made.layout.0);
     }
 
