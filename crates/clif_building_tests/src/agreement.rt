@@ -233,3 +233,30 @@ fn nest_sealed_in_every_order(rt: HostRuntime) -> Result<(), Fail> {
     }
     Ok(())
 }
+
+/// The sum of what each operation makes of 12 and 10 in eight bits: 120, 8, 14, 6, 244 and 243, so 635 - 512.
+const OPERATIONS: &str = "\
+function %operations (i8, i8) -> i8 system_v
+block0 = create_block
+a, b = append_block_params_for_function_params block0
+switch_to_block block0
+product = imul a b
+both = band a b
+either = bor a b
+one = bxor a b
+negative = ineg a
+turned = bnot a
+s1 = iadd product both
+s2 = iadd s1 either
+s3 = iadd s2 one
+s4 = iadd s3 negative
+s5 = iadd s4 turned
+return s5
+seal_block block0
+";
+
+/// Each operation on both interpreters, in one script.
+#[test]
+fn operations(rt: HostRuntime) -> Result<(), Fail> {
+    text_answers(&rt, rt.alloc(), OPERATIONS, &[&[12, 10]], 123)
+}

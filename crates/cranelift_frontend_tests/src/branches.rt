@@ -2,12 +2,13 @@
 #![tactic(auto)]
 
 use crate::steps::Ending::{Branch, Jump, Return};
-use crate::steps::Operand::{Constant, Difference, Read, Sum};
+use crate::steps::Operand::{Binary, Constant, Read};
 use crate::steps::State::{LaidOut, Pristine, Reached};
 use crate::steps::Step::{
     Cool, Create, Define, End, Enter, Is, LayOut, Make, ParamCount, Place, Seal,
 };
 use crate::steps::builds;
+use cranelift_frontend::BinaryOpcode::{Iadd, Isub};
 use std::test::Fail;
 
 /// The row `both_arms`, with its last block cold: the header of a cold block says so.
@@ -31,7 +32,7 @@ fn both_arms(rt: HostRuntime) -> Result<(), Fail> {
         Seal(2),
         Make(Read),
         Make(Constant(-1)),
-        Make(Sum(2, 3)),
+        Make(Binary(Iadd, 2, 3)),
         Define(4),
         End(Branch(4, 1, 1)),
         Seal(1),
@@ -60,7 +61,7 @@ fn differences(rt: HostRuntime) -> Result<(), Fail> {
         Is(Pristine, 0, false),
         Make(Constant(3)),
         Make(Constant(1)),
-        Make(Difference(0, 1)),
+        Make(Binary(Isub, 0, 1)),
         End(Return(2)),
         Seal(0),
     ];

@@ -2,12 +2,14 @@
 #![tactic(auto)]
 
 use crate::steps::Ending::{Return, ReturnNone};
-use crate::steps::Operand::{ByDouble, Constant, Read, Sum};
+use crate::steps::Operand::{Binary, ByDouble, Constant, Param, Read, Unary};
 use crate::steps::State::{Filled, Pristine, Sealed};
 use crate::steps::Step::{
     Create, Current, Define, End, Enter, Is, Make, Seal, SealAll, Shaped, Unreachable,
 };
 use crate::steps::{builds, built};
+use cranelift_frontend::BinaryOpcode::{Band, Bor, Bxor, Iadd, Imul, Isub};
+use cranelift_frontend::UnaryOpcode::{Bnot, Ineg};
 use cranelift_frontend::{Block, FinalizeError};
 use std::test::Fail;
 
@@ -19,7 +21,7 @@ fn first_example(rt: HostRuntime) -> Result<(), Fail> {
         Enter(0),
         Make(Read),
         Make(Constant(7)),
-        Make(Sum(0, 1)),
+        Make(Binary(Iadd, 0, 1)),
         Define(2),
         Make(Read),
         End(Return(3)),
@@ -85,4 +87,28 @@ fn built_by_a_generic_caller(rt: HostRuntime) -> Result<(), Fail> {
     let text =
         "function %generic() -> i32 system_v {\nblock0:\n    v0 = iconst.i32 5\n    v1 = iadd v0, v0  ; v0 = 5, v0 = 5\n    v2 = isub v1, v0  ; v0 = 5\n    return v2\n}\n";
     builds(&rt, rt.alloc(), "generic", 0, &steps, text)
+}
+
+/// Each operation by its method.
+#[test]
+fn operations(rt: HostRuntime) -> Result<(), Fail> {
+    let steps = [
+        Create,
+        Enter(0),
+        Make(Param(0)),
+        Make(Param(0)),
+        Make(Unary(Ineg, 0)),
+        Make(Unary(Bnot, 2)),
+        Make(Binary(Iadd, 0, 1)),
+        Make(Binary(Isub, 0, 1)),
+        Make(Binary(Imul, 4, 5)),
+        Make(Binary(Band, 3, 6)),
+        Make(Binary(Bor, 7, 0)),
+        Make(Binary(Bxor, 8, 1)),
+        End(Return(9)),
+        Seal(0),
+    ];
+    let text =
+        "function %operations() -> i32 system_v {\nblock0(v0: i32, v1: i32):\n    v2 = ineg v0\n    v3 = bnot v2\n    v4 = iadd v0, v1\n    v5 = isub v0, v1\n    v6 = imul v4, v5\n    v7 = band v3, v6\n    v8 = bor v7, v0\n    v9 = bxor v8, v1\n    return v9\n}\n";
+    builds(&rt, rt.alloc(), "operations", 0, &steps, text)
 }

@@ -7,8 +7,8 @@ ghost use Rattle.cranelift_frontend.specs.Builder.{HasCurrent};
 use crate::generic::there_and_back;
 use clif_types::types::I32;
 use cranelift_frontend::{
-    Block, BlockArg, EntityRef, FunctionBuilder, InstBuilder, InstBuilderBase, InstructionData,
-    Value, Variable,
+    BinaryOpcode, Block, BlockArg, EntityRef, FunctionBuilder, InstBuilder, InstBuilderBase,
+    InstructionData, UnaryOpcode, Value, Variable,
 };
 use std::process::Abort;
 
@@ -206,26 +206,6 @@ pub fn shaped_constant(rt: &impl Abort, builder: &mut FunctionBuilder<'_>, imm: 
     assert!(rt; builder.inst_results(inst).len() == 1);
 }
 
-/// The sum of two values.
-pub fn sum(rt: &impl Abort, builder: &mut FunctionBuilder<'_>, x: Value, y: Value) -> Value
-    ensures { builder.new.ctx.now.variables ≡ builder.old.ctx.now.variables }
-{
-    asserts_current(rt, builder);
-    asserts_value(rt, builder, x);
-    asserts_value(rt, builder, y);
-    builder.ins().iadd(x, y).expect(rt, "a sum")
-}
-
-/// The difference of two values.
-pub fn difference(rt: &impl Abort, builder: &mut FunctionBuilder<'_>, x: Value, y: Value) -> Value
-    ensures { builder.new.ctx.now.variables ≡ builder.old.ctx.now.variables }
-{
-    asserts_current(rt, builder);
-    asserts_value(rt, builder, x);
-    asserts_value(rt, builder, y);
-    builder.ins().isub(x, y).expect(rt, "a difference")
-}
-
 /// A value, by way of its double, which a generic caller makes.
 pub fn by_double(rt: &impl Abort, builder: &mut FunctionBuilder<'_>, x: Value) -> Value
     ensures { builder.new.ctx.now.variables ≡ builder.old.ctx.now.variables }
@@ -233,6 +213,48 @@ pub fn by_double(rt: &impl Abort, builder: &mut FunctionBuilder<'_>, x: Value) -
     asserts_current(rt, builder);
     asserts_value(rt, builder, x);
     there_and_back(builder, x).expect(rt, "a difference")
+}
+
+/// An operation on a value, by its method.
+pub fn unary(
+    rt: &impl Abort,
+    builder: &mut FunctionBuilder<'_>,
+    opcode: UnaryOpcode,
+    x: Value,
+) -> Value
+    ensures { builder.new.ctx.now.variables ≡ builder.old.ctx.now.variables }
+{
+    asserts_current(rt, builder);
+    asserts_value(rt, builder, x);
+    let made = match opcode {
+        UnaryOpcode::Ineg => builder.ins().ineg(x),
+        UnaryOpcode::Bnot => builder.ins().bnot(x),
+    };
+    made.expect(rt, "a value")
+}
+
+/// An operation on two values, by its method.
+pub fn binary(
+    rt: &impl Abort,
+    builder: &mut FunctionBuilder<'_>,
+    opcode: BinaryOpcode,
+    x: Value,
+    y: Value,
+) -> Value
+    ensures { builder.new.ctx.now.variables ≡ builder.old.ctx.now.variables }
+{
+    asserts_current(rt, builder);
+    asserts_value(rt, builder, x);
+    asserts_value(rt, builder, y);
+    let made = match opcode {
+        BinaryOpcode::Iadd => builder.ins().iadd(x, y),
+        BinaryOpcode::Isub => builder.ins().isub(x, y),
+        BinaryOpcode::Imul => builder.ins().imul(x, y),
+        BinaryOpcode::Band => builder.ins().band(x, y),
+        BinaryOpcode::Bor => builder.ins().bor(x, y),
+        BinaryOpcode::Bxor => builder.ins().bxor(x, y),
+    };
+    made.expect(rt, "a value")
 }
 
 /// Ends the current block with a jump.

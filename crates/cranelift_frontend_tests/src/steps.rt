@@ -10,8 +10,9 @@ ghost use Rattle.clif_ir.specs.Body.{empty_body};
 use crate::front_end;
 use clif_types::types::I32;
 use cranelift_frontend::{
-    AbiParam, Block, CallConv, FinalizeError, Function, FunctionBuilder, FunctionBuilderContext,
-    PointerWidth, Signature, TargetFrontendConfig, UserFuncName, Value, Variable,
+    AbiParam, BinaryOpcode, Block, CallConv, FinalizeError, Function, FunctionBuilder,
+    FunctionBuilderContext, PointerWidth, Signature, TargetFrontendConfig, UnaryOpcode,
+    UserFuncName, Value, Variable,
 };
 use std::alloc::{AllocError, Global};
 use std::fmt::Write;
@@ -65,8 +66,8 @@ pub enum Operand {
     /// What the variable holds.
     Read,
     Constant(i64),
-    Sum(usize, usize),
-    Difference(usize, usize),
+    Unary(UnaryOpcode, usize),
+    Binary(BinaryOpcode, usize, usize),
     /// What a generic caller makes of a value.
     ByDouble(usize),
 }
@@ -125,11 +126,10 @@ fn make(
         Operand::FirstParam(number) => front_end::first_param(rt, builder, block(number)),
         Operand::Read => front_end::read(rt, builder, variable),
         Operand::Constant(imm) => front_end::constant(rt, builder, imm),
-        Operand::Sum(x, y) => {
-            front_end::sum(rt, builder, named(rt, values, x), named(rt, values, y))
-        }
-        Operand::Difference(x, y) => {
-            front_end::difference(rt, builder, named(rt, values, x), named(rt, values, y))
+        Operand::Unary(opcode, x) => front_end::unary(rt, builder, opcode, named(rt, values, x)),
+        Operand::Binary(opcode, x, y) => {
+            let (x, y) = (named(rt, values, x), named(rt, values, y));
+            front_end::binary(rt, builder, opcode, x, y)
         }
         Operand::ByDouble(x) => front_end::by_double(rt, builder, named(rt, values, x)),
     }
