@@ -16,7 +16,7 @@ fn main(rt: HostRuntime) -> ExitCode {
         Ok(bytes) => {
             let mut out = io::writer(&rt);
             let mut err = rt.stderr();
-            ExitCode::from(clif_building::build(rt.alloc(), bytes.as_slice(), &mut out, &mut err))
+            ExitCode::from(clif_script::build(rt.alloc(), bytes.as_slice(), &mut out, &mut err))
         }
         Err(error) => {
             let _ = eprintln!(rt; "{}: {error}", path.as_str());

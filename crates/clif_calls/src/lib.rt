@@ -1,4 +1,4 @@
-//! The calls of scripts, which `clif_script` makes and `clif_text` reads and writes.
+//! The calls of scripts, which `clif_replay` makes and `clif_text` reads and writes.
 #![tactic(auto)]
 
 mod call;

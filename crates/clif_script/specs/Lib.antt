@@ -1,6 +1,2 @@
-pub mod Errors
-pub mod Limits
-pub mod Ready
-pub mod Requests
-pub mod Makes
-pub mod Replay
+pub mod Program
+pub mod Rows

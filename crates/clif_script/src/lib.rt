@@ -1,12 +1,11 @@
-//! Scripts: lists of builder calls that are made in order.
+//! Scripts: `Call` and `replay`, the rows with the program that prints them, and a function from the text of a script.
 #![tactic(auto)]
 
-mod make;
-mod make_blocks;
-mod make_instructions;
-mod make_parameters;
-mod names;
-mod script;
+mod program;
+mod row_texts;
+mod rows;
 
 pub use clif_calls::{Call, Edge, Name, PlainInstruction, Plan};
-pub use script::{ReplayError, replay};
+pub use clif_replay::{ReplayError, replay};
+pub use program::build;
+pub use rows::{row_text, run};

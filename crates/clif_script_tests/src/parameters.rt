@@ -1,11 +1,11 @@
 //! Scripts whose blocks have parameters of the caller's.
 #![tactic(auto)]
 
-use crate::support::Step::{
+use crate::steps::Step::{
     Create, Declare, FunctionParams, FunctionReturns, Iadd, Iconst, Jump, JumpWith, Param, Return,
     ReturnNone, Seal, SealAll, Switch,
 };
-use crate::support::{F32, I32, I64, Step, all_refuse, builds, builds_on};
+use crate::steps::{F32, I32, I64, Step, all_refuse, builds, builds_on};
 use clif_script::ReplayError;
 use clif_script::ReplayError::Misuse;
 use std::test::Fail;

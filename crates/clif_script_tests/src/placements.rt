@@ -1,11 +1,11 @@
 //! Scripts that mark blocks and place them in the layout.
 #![tactic(auto)]
 
-use crate::support::Step::{
+use crate::steps::Step::{
     Cold, Create, Declare, Def, Ensure, Iadd, Iconst, InsertAfter, Jump, ReturnNone, Seal, SealAll,
     Switch, Use,
 };
-use crate::support::{I32, Step, all_refuse, builds};
+use crate::steps::{I32, Step, all_refuse, builds};
 use clif_script::ReplayError;
 use clif_script::ReplayError::{Misuse, Refused};
 use std::test::Fail;

@@ -1,11 +1,11 @@
 //! Scripts that are refused: which call is told, and as what.
 #![tactic(auto)]
 
-use crate::support::Step::{
+use crate::steps::Step::{
     Brif, Create, Declare, Def, Iadd, Iconst, Isub, Jump, JumpWith, Return, ReturnNone, Seal,
     Switch, Use,
 };
-use crate::support::{F32, I32, I64, Step, all_refuse};
+use crate::steps::{F32, I32, I64, Step, all_refuse};
 use clif_script::ReplayError;
 use clif_script::ReplayError::{Misuse, Refused};
 use std::test::Fail;

@@ -12,7 +12,7 @@ fn main(rt: HostRuntime) -> ExitCode {
     }
     let mut out = io::writer(&rt);
     let mut err = rt.stderr();
-    ExitCode::from(clif_rows::run(rt.alloc(), args.as_slice(), &mut out, &mut err))
+    ExitCode::from(clif_script::run(rt.alloc(), args.as_slice(), &mut out, &mut err))
 }
 
 // The arguments after the program's name; answers whether there was memory for them.

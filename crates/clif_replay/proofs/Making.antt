@@ -1,0 +1,193 @@
+-- What is known once a call was made, or wasn't.
+use Rattle.std.proofs.Common.{◌≡◌, ℕ, ◌-◌, ◌^◌, List, [], ◌∷◌, length, refl, ap, sym, ◌∙◌, subst, append_assoc, ◌⊎◌, inl, inr}
+use Rattle.std.specs.Prelude.{◌≢◌, ◌↔◌, Option, IfSome, IsTrue, Bool, true, false, if◌then◌else◌, is_err, Err, Ok, Result}
+use Rattle.clif_types.specs.declared.error.BuildError.{BuildError}
+use Rattle.clif_types.specs.declared.error.BuildError.TheVariants as build
+use Rattle.clif_types.specs.declared.types.«Type».{«Type»}
+use Rattle.clif_types.specs.Signature.{SignatureShape}
+use Rattle.clif_ir.specs.Body.{Body}
+use Rattle.clif_ir.specs.Changes.{inserted_in, with_layout}
+use Rattle.clif_ir.specs.Reading.{stands_in}
+use Rattle.clif_ssa.specs.Constructs.{OnlyConstructs}
+use Rattle.clif_ssa.specs.Limits.{IsFull}
+use Rattle.clif_meaning.specs.Ledger.{Ledger}
+use Rattle.clif_meaning.specs.Request.{AnsweredCall, Request}
+use Rattle.clif_meaning.specs.Acceptance.{allows}
+use Rattle.cranelift_frontend.specs.declared.builder.FunctionBuilder.{FunctionBuilder}
+use Rattle.cranelift_frontend.specs.Builder.{HasCurrent, SameLoans}
+use Rattle.cranelift_frontend.specs.Ledger.{ledger_of}
+use Rattle.clif_replay.specs.Errors.{call_error_of}
+use Rattle.clif_replay.specs.declared.script.Answer.{Answer}
+use Rattle.clif_replay.specs.declared.script.CallError.{CallError}
+use Rattle.clif_replay.specs.declared.script.CallError.TheVariants as error
+use Rattle.clif_replay.specs.Limits.{ConstructsUntilFull}
+use Rattle.clif_replay.specs.Makes.{Finds, Makes}
+use Rattle.clif_replay.specs.Ready.{IsJudged, IsReady, IsReadyAfter}
+
+-- the request is allowed in each ledger with which the builder agrees, or in none
+abbrev pub Judges : (SignatureShape → Ledger → Request) → FunctionBuilder → List Answer → Bool → Type 0
+Judges asks b answers allowed =
+    (declared : SignatureShape) (calls : List AnsweredCall) → IsReady declared calls b answers → allows (ledger_of calls) (asks declared (ledger_of calls)) ≡ allowed
+
+pub loans-stay : (b : FunctionBuilder) → SameLoans b b
+loans-stay b = record { func = refl; ctx = refl }
+
+-- it isn't allowed
+pub made-misuse : {asks : SignatureShape → Ledger → Request} {Meets : Type 0} {types : List «Type»} (b : FunctionBuilder) (answers : List Answer) → Judges asks b answers false
+    → Makes asks Meets types b b answers (Err error.Misuse)
+made-misuse b answers judges = record {
+  loans = loans-stay b;
+  name = tt;
+  ready = λ declared calls ready. tt;
+  judged = judges;
+  sound = tt;
+  never_refused = λ same. cc;
+  full = λ same. absurd (no-full same);
+  variables = tt;
+}
+  where
+    no-full : ◌≡◌ {A = Result Answer CallError} (Err error.Misuse) (Err error.Full) → ⊥
+    no-full same = cc
+
+-- a builder that answered hasn't failed
+pub answered-sound : {T : Type 0} (failed : Bool) (told : Result T BuildError) (x : T) → failed ≡ is_err told → told ≡ Ok x → failed ≡ false
+answered-sound failed told x fails was = fails ∙ ap is_err was
+
+-- it was made
+pub made-answer : {asks : SignatureShape → Ledger → Request} {Meets : Type 0} {types : List «Type»} (old new : FunctionBuilder) (answers : List Answer) (a : Answer)
+    → SameLoans old new → new.func.now.name ≡ old.func.now.name → new.failed ≡ false → new.ctx.now.variables ≡ types → Judges asks old answers true
+    → ((declared : SignatureShape) (calls : List AnsweredCall) → IsReady declared calls old answers → IsReadyAfter declared calls (asks declared (ledger_of calls)) new answers a)
+    → Makes asks Meets types old new answers (Ok a)
+made-answer old new answers a loans name sound variables judges ready = record {
+  loans = loans;
+  name = name;
+  ready = ready;
+  judged = judges;
+  sound = sound;
+  never_refused = λ same. cc;
+  full = λ same. absurd (no-error error.Full same);
+  variables = variables;
+}
+  where
+    no-error : (e : CallError) → ◌≡◌ {A = Result Answer CallError} (Ok a) (Err e) → ⊥
+    no-error e same = cc
+
+-- a refusal is told as itself
+told-full : (e : BuildError) → ◌≡◌ {A = Result Answer CallError} (Err (call_error_of e)) (Err error.Full) → e ≡ build.Full
+told-full build.Memory same = let no_way : ⊥ = cc in absurd no_way
+told-full build.Full same = refl
+told-full build.Failed same = let no_way : ⊥ = cc in absurd no_way
+
+told-refused : (e : BuildError) → ◌≡◌ {A = Result Answer CallError} (Err (call_error_of e)) (Err error.Refused) → e ≡ build.Failed
+told-refused build.Memory same = let no_way : ⊥ = cc in absurd no_way
+told-refused build.Full same = let no_way : ⊥ = cc in absurd no_way
+told-refused build.Failed same = refl
+
+judged-from : (allowed : Bool) (e : BuildError) → allowed ≡ true → IsJudged allowed (Err (call_error_of e))
+judged-from allowed build.Memory is = tt
+judged-from allowed build.Full is = is
+judged-from allowed build.Failed is = is
+
+-- the builder refused it, which hadn't failed
+pub made-refused : {T : Type 0} {asks : SignatureShape → Ledger → Request} {Meets : Type 0} {types : List «Type»} (old new : FunctionBuilder) (answers : List Answer) (told : Result T BuildError)
+    (e : BuildError) (y : CallError) (r : Result Answer CallError) → told ≡ Err e → r ≡ Err y → y ≡ call_error_of e → SameLoans old new → old.failed ≡ false
+    → ((told ≡ Err build.Failed) ↔ IsTrue old.failed) → Judges asks old answers true → (told ≡ Err build.Full → Meets)
+    → Makes asks Meets types old new answers r
+made-refused {asks = asks} {Meets = Meets} {types = types} old new answers told e y r was is gives loans sound failed judges full =
+    subst (λ (x : Result Answer CallError). Makes asks Meets types old new answers x) (sym (is ∙ ap Err gives)) (record {
+      loans = loans;
+      name = tt;
+      ready = λ declared calls ready. tt;
+      judged = λ declared calls ready. judged-from _ e (judges declared calls ready);
+      sound = tt;
+      never_refused = λ same. not-failed (was ∙ ap Err (told-refused e same));
+      full = λ same. full (was ∙ ap Err (told-full e same));
+      variables = tt;
+    })
+  where
+    not-failed : told ≡ Err build.Failed → ⊥
+    not-failed same = let has : old.failed ≡ true = failed.0 same in cc
+
+-- what it names isn't there, or memory was refused
+pub made-misused : {X : Type 0} {Found : X → Type 0} {there : Bool} {asks : SignatureShape → Ledger → Request} {Meets : Type 0} {types : List «Type»} (b : FunctionBuilder) (answers : List Answer)
+    (v : Result X CallError) (r : Result Answer CallError) (e : CallError) → v ≡ Err e → r ≡ Err e → Finds Found there v → (there ≡ false → Judges asks b answers false)
+    → Makes asks Meets types b b answers r
+made-misused {asks = asks} {Meets = Meets} {types = types} b answers v r e was is finds judges =
+    subst (λ (x : Result Answer CallError). Makes asks Meets types b b answers x) (sym is) (by e was)
+  where
+    no-full : ◌≡◌ {A = Result Answer CallError} (Err error.Memory) (Err error.Full) → ⊥
+    no-full same = cc
+
+    by : (e : CallError) → v ≡ Err e → Makes asks Meets types b b answers (Err e)
+    by error.Misuse was = made-misuse b answers (judges (finds.misuse was))
+    by error.Refused was = absurd (finds.never_refused was)
+    by error.Full was = absurd (finds.never_full was)
+    by error.Memory was = record {
+      loans = loans-stay b;
+      name = tt;
+      ready = λ declared calls ready. tt;
+      judged = λ declared calls ready. tt;
+      sound = tt;
+      never_refused = λ same. cc;
+      full = λ same. absurd (no-full same);
+      variables = tt;
+    }
+
+-- one of the tables is full
+pub full-either : (f : Body) → (length f.insts ≡ 2 ^ 32 - 1) ⊎ (length f.values ≡ 2 ^ 32 - 1) → IsFull f
+full-either f (inl insts) = inr insts
+full-either f (inr values) = inl values
+
+-- FINDING -----------------------------------------------------------------------------------------------------------
+
+pub found-misuse : {X : Type 0} {Found : X → Type 0} {there : Bool} → there ≡ false → Finds Found there (Err error.Misuse)
+found-misuse none = record { found = tt; may = tt; misuse = λ same. none; never_refused = λ same. cc; never_full = λ same. cc }
+
+pub found-one : {X : Type 0} {Found : X → Type 0} {there : Bool} (x : X) → Found x → there ≡ true → Finds Found there (Ok x)
+found-one {X = X} x found may = record { found = found; may = may; misuse = λ same. absurd (no-error error.Misuse same); never_refused = no-error error.Refused; never_full = no-error error.Full }
+  where
+    no-error : (e : CallError) → ◌≡◌ {A = Result X CallError} (Ok x) (Err e) → ⊥
+    no-error e same = cc
+
+-- what a part of it told
+pub found-none : {X Y : Type 0} {Found : Y → Type 0} (there other : Bool) (v : Result X CallError) (r : Result Y CallError) (e : CallError) → v ≡ Err e → r ≡ Err e
+    → (v ≡ Err error.Misuse → there ≡ false) → v ≢ Err error.Refused → v ≢ Err error.Full → (there ≡ false → other ≡ false)
+    → Finds Found other r
+found-none {X = X} {Y = Y} {Found = Found} there other v r e was is misuse never_refused never_full less =
+    subst (λ (x : Result Y CallError). Finds Found other x) (sym is) (record {
+      found = tt;
+      may = tt;
+      misuse = λ same. less (misuse (was ∙ ap Err (error-is e error.Misuse same)));
+      never_refused = λ same. never_refused (was ∙ ap Err (error-is e error.Refused same));
+      never_full = λ same. never_full (was ∙ ap Err (error-is e error.Full same));
+    })
+  where
+    error-is : (x y : CallError) → ◌≡◌ {A = Result Y CallError} (Err x) (Err y) → x ≡ y
+    error-is x y same = cc
+
+-- CONSTRUCTING --------------------------------------------------------------------------------------------------------
+
+-- a block comes into the layout first
+pub constructs-inserted : (f g : Body) (block : ℕ) → OnlyConstructs (inserted_in f block) g → OnlyConstructs f g
+constructs-inserted f g block = by (stands_in block f.layout)
+  where
+    by : (there : Bool) → OnlyConstructs (if there then f else with_layout f block) g → OnlyConstructs f g
+    by true made = made
+    by false made = record {
+      same = made.same;
+      values = made.values;
+      same_values = made.same_values;
+      insts = made.insts;
+      same_insts = made.same_insts;
+      zeros = λ i old new. let zero = made.zeros i old new in record { ty = zero.ty; place = zero.place; step = zero.step; is_step = zero.is_step; value = zero.value; is_new = zero.is_new; shape = zero.shape; results = zero.results; srcloc = zero.srcloc };
+      block_count = made.block_count;
+      blocks = λ b. let node = made.blocks b in record { zeros = node.zeros; stays = node.stays; added = node.added; node = node.node; zeros_fit = node.zeros_fit; zeros_new = node.zeros_new; added_new = node.added_new };
+      layout = (block ∷ made.layout.0, made.layout.1 ∙ append_assoc f.layout (block ∷ []) made.layout.0);
+    }
+
+-- a use of a variable did, in the current block
+pub constructs-met : {T : Type 0} (b : FunctionBuilder) (g : Body) (told : Result T BuildError) → HasCurrent b
+    → IfSome b.position (λ block. told ≡ Err build.Full → OnlyConstructs (inserted_in b.func.now block) g) → told ≡ Err build.Full → IsFull g
+    → ConstructsUntilFull b.func.now
+constructs-met b g told current made full is_full =
+    (g, constructs-inserted b.func.now g current.0 (subst (λ (o : Option ℕ). IfSome o (λ block. told ≡ Err build.Full → OnlyConstructs (inserted_in b.func.now block) g)) current.1 made full), is_full)

@@ -1,0 +1,411 @@
+-- What names lead to, where the builder agrees with the ledger of the calls.
+use Rattle.std.proofs.Common.{◌≡◌, ℕ, zero, suc, ◌+◌, ◌-◌, ◌<◌, List, [], ◌∷◌, ◌++◌, length, refl, ap, arith, sym, ◌∙◌, subst, ◌⊎◌, inl, inr, length-append}
+use Rattle.std.specs.Prelude.{fold, map, slice_get, slice_index_or, Option, Some, None, option_map, option_and_then, is_some, IfSome, Bool, true, false, nat_lt, if◌then◌else◌, ◌==◌}
+use Rattle.std.proofs.lemmas.Option.{slice_get_within, slice_get_past, same_Some, none-some, get_or_from_slice_get, slice_get-map}
+use Rattle.std.proofs.lemmas.Bool.{cases_lt, ne_eqb, false_from_ne_true, false≢true, ltb-true, lt-ltb}
+use Rattle.std.proofs.lemmas.List.{length-map, map_push}
+use Rattle.std.proofs.lemmas.List.Sums.{fold-append}
+use Rattle.clif_types.specs.declared.types.«Type».{«Type»}
+use Rattle.clif_types.specs.Signature.{SignatureShape}
+use Rattle.clif_ir.specs.declared.function.InstNode.{InstNode}
+use Rattle.clif_ir.specs.declared.function.ValueNode.{ValueNode}
+use Rattle.clif_ir.specs.Body.{inst_at, no_inst}
+use Rattle.clif_meaning.specs.Request.{AnsweredCall, number_of, script_of}
+use Rattle.clif_meaning.specs.Ledger.{Answered, ABlock, AVariable, AValue, AnInstruction, Ledger, answer_at, answers_to, empty_ledger, has_block, ledger_with, has_value, type_of, value_answer_type}
+use Rattle.clif_simulation.specs.Carries.{numbers_from}
+use Rattle.cranelift_frontend.specs.declared.builder.FunctionBuilder.{FunctionBuilder}
+use Rattle.cranelift_frontend.specs.StandsFor.{StandsFor}
+use Rattle.cranelift_frontend.specs.Ledger.{AnswersAgree, ResultsFollow, NamesBlock, NamesValue, block_name, value_type, ledger_of}
+use Rattle.cranelift_frontend.specs.LedgerLaws.{IsReadByNumber}
+use Rattle.clif_calls.specs.declared.call.Name.{Name}
+use Rattle.clif_replay.specs.declared.script.Answer.{Answer}
+use Rattle.clif_replay.specs.declared.script.Answer.TheVariants as answer
+use Rattle.clif_replay.specs.Requests.{name_of}
+use Rattle.clif_replay.specs.Ready.{AnswerIs, AnswerExists, IsReady, block_in, block_of, value_in, value_of}
+use Rattle.clif_replay.proofs.Options.{get-push, get-below, map-some, some-is, if-no, name-of-some}
+
+-- what the ledger says of a name, the builder says of its number
+pub read : {declared : SignatureShape} (calls : List AnsweredCall) (b : FunctionBuilder) (answers : List Answer) → IsReady declared calls b answers → IsReadByNumber calls b.func.now b.ctx.now
+read calls b answers ready = ready.reads calls b.func.now b.ctx.now b.position ready.stands.ledger
+
+-- the ledger with one more call
+pub ledger-more : (calls : List AnsweredCall) (call : AnsweredCall) → ledger_of (calls ++ call ∷ []) ≡ ledger_with (ledger_of calls) call.request
+ledger-more calls call =
+    ap (fold ledger_with empty_ledger) (map_push (λ (c : AnsweredCall). c.request) calls call)
+    ∙ fold-append ledger_with empty_ledger (script_of calls) (call.request ∷ [])
+
+-- a number that isn't 0
+past : {X : Type 0} (k : ℕ) (x y : X) → (if suc k == 0 then x else y) ≡ y
+past k x y = if-no (suc k == 0) x y (ne_eqb (suc k) 0 (λ same. omega (arith, same)))
+
+-- an answer of a call, with what the ledger and the builder say of it
+record Entry (calls : List AnsweredCall) (b : FunctionBuilder) (place : ℕ) (a : Answer) : Type 0 where
+  pub call : AnsweredCall
+  pub given : List Answered
+  pub at_call : slice_get calls place ≡ Some call
+  pub at_given : slice_get (ledger_of calls).answers place ≡ Some given
+  pub is : AnswerIs a given call.numbers
+  pub agree : AnswersAgree (ledger_of calls) b.func.now place given call.numbers
+
+entry : {declared : SignatureShape} (calls : List AnsweredCall) (b : FunctionBuilder) (answers : List Answer) → IsReady declared calls b answers
+    → (place : ℕ) (a : Answer) → slice_get answers place ≡ Some a → Entry calls b place a
+entry calls b answers ready place a at =
+    let inside : place < length answers = slice_get_within answers place a at in
+    let call = get-below calls place (omega (arith, inside, ready.count)) in
+    let given = get-below (ledger_of calls).answers place (omega (arith, inside, ready.count, ready.stands.ledger.places)) in
+    record {
+      call = call.0;
+      given = given.0;
+      at_call = call.1;
+      at_given = given.1;
+      is = ready.answered place a call.0 given.0 at call.1 given.1;
+      agree = ready.stands.ledger.answers place call.0 given.0 call.1 given.1;
+    }
+
+-- a name's number and its answer are those of its call
+number-at : (calls : List AnsweredCall) (b : FunctionBuilder) (place index : ℕ) (a : Answer) (e : Entry calls b place a)
+    → number_of calls (record { place = place; index = index }) ≡ slice_get e.call.numbers index
+number-at calls b place index a e = ap (option_and_then (λ (call : AnsweredCall). slice_get call.numbers index)) e.at_call
+
+answer-at : (calls : List AnsweredCall) (b : FunctionBuilder) (place index : ℕ) (a : Answer) (e : Entry calls b place a)
+    → answer_at (ledger_of calls) (record { place = place; index = index }) ≡ slice_get e.given index
+answer-at calls b place index a e = ap (option_and_then (λ (answers : List Answered). slice_get answers index)) e.at_given
+
+-- there is no answer behind the last call
+answer-past : {declared : SignatureShape} (calls : List AnsweredCall) (b : FunctionBuilder) (answers : List Answer) → IsReady declared calls b answers
+    → (place index : ℕ) → slice_get answers place ≡ None → answer_at (ledger_of calls) (record { place = place; index = index }) ≡ None
+answer-past calls b answers ready place index none =
+    elim (cases_lt place (length answers)) [
+      | inl inside ↦ let there = get-below answers place inside in absurd (none-some there.0 (sym none ∙ there.1))
+      | inr past ↦
+          ap (option_and_then (λ (xs : List Answered). slice_get xs index))
+          (slice_get_past (ledger_of calls).answers place (omega (arith, past, ready.count, ready.stands.ledger.places)))
+    ]
+
+-- what a call with one answer answered
+one-answer : (given : List Answered) (a : Answered) (index : ℕ) (x : Answered) → given ≡ a ∷ [] → slice_get given index ≡ Some x → (index ≡ 0) × (a ≡ x)
+one-answer given a zero x is at = (refl, same_Some a x (ap (λ (xs : List Answered). slice_get xs 0) (sym is) ∙ at))
+one-answer given a (suc index) x is at = absurd (none-some x (ap (λ (xs : List Answered). slice_get xs (suc index)) (sym is) ∙ at))
+
+no-answer : (given : List Answered) (index : ℕ) (x : Answered) → given ≡ [] → slice_get given index ≡ Some x → ⊥
+no-answer given index x is at = none-some x (ap (λ (xs : List Answered). slice_get xs index) (sym is) ∙ at)
+
+-- what a call answered that answers values
+values-answer : (given : List Answered) (types : List «Type») (index : ℕ) (x : Answered) → given ≡ map AValue types → slice_get given index ≡ Some x → (ty : «Type») × (AValue ty ≡ x)
+values-answer given types index x is at =
+    let value = map-some AValue (slice_get types index) x (sym (slice_get-map AValue types index) ∙ ap (λ (xs : List Answered). slice_get xs index) (sym is) ∙ at) in
+    (value.0, value.2)
+
+-- numbers that follow one another
+number-from : (n : ℕ) (types : List «Type») (k : ℕ) → k < length types → slice_get (numbers_from n types) k ≡ Some (n + k)
+number-from n [] k inside = absurd (omega (arith, inside))
+number-from n (ty ∷ types) zero inside = let same : n ≡ n + 0 = omega arith in ap Some same
+number-from n (ty ∷ types) (suc k) inside =
+    let same : suc n + k ≡ n + suc k = omega arith in
+    number-from (suc n) types k (omega (arith, inside)) ∙ ap Some same
+
+-- what an instruction answered
+instruction-answer : (given : List Answered) (types : List «Type») (index : ℕ) (x : Answered) → given ≡ AnInstruction ∷ map AValue types → slice_get given index ≡ Some x
+    → ((index ≡ 0) × (AnInstruction ≡ x)) ⊎ ((k : ℕ) × (index ≡ suc k) × (ty : «Type») × (AValue ty ≡ x))
+instruction-answer given types zero x is at = inl (refl, same_Some AnInstruction x (ap (λ (xs : List Answered). slice_get xs 0) (sym is) ∙ at))
+instruction-answer given types (suc k) x is at =
+    let value = map-some AValue (slice_get types k) x (sym (slice_get-map AValue types k) ∙ ap (λ (xs : List Answered). slice_get xs (suc k)) (sym is) ∙ at) in
+    inr (k, refl, value.0, value.2)
+
+-- a name that leads to a block names it
+pub block-found : {declared : SignatureShape} (calls : List AnsweredCall) (b : FunctionBuilder) (answers : List Answer) → IsReady declared calls b answers
+    → (name : Name) (block : ℕ) → block_of answers name ≡ Some block → NamesBlock calls (name_of name) block
+block-found calls b answers ready name block found = by (slice_get answers name.place) refl found
+  where
+    by_block : (x : ℕ) → slice_get answers name.place ≡ Some (answer.Block x) → (index : ℕ) → name.answer ≡ index → (if index == 0 then Some x else None) ≡ Some block → NamesBlock calls (name_of name) block
+    by_block x at zero is found =
+        let e = entry calls b answers ready name.place (answer.Block x) at in
+        let number : number_of calls (name_of name) ≡ Some x =
+        number-at calls b name.place name.answer (answer.Block x) e ∙ ap (slice_get e.call.numbers) is ∙ ap (λ (xs : List ℕ). slice_get xs 0) e.is.1 in
+        let answered : slice_get e.given 0 ≡ Some ABlock = ap (λ (xs : List Answered). slice_get xs 0) e.is.0 in
+        let named : block_name (ledger_of calls) x ≡ Some (record { place = name.place; index = 0 }) = e.agree.each 0 ABlock x answered (ap (λ (xs : List ℕ). slice_get xs 0) e.is.1) in
+        let here : block_name (ledger_of calls) x ≡ Some (name_of name) = named ∙ ap (λ (n : ℕ). Some (name_of (record { place = name.place; answer = n }))) (sym is) in
+        record { number = number ∙ found; is_block = ap is_some ((read calls b answers ready).state x (name_of name) here).found }
+    by_block x at (suc k) is found = absurd (none-some block (sym (past k (Some x) None) ∙ found))
+
+    by : (o : Option Answer) → slice_get answers name.place ≡ o → block_in name.answer o ≡ Some block → NamesBlock calls (name_of name) block
+    by None at found = absurd (none-some block found)
+    by (Some answer.Nothing) at found = absurd (none-some block found)
+    by (Some (answer.Variable v)) at found = absurd (none-some block found)
+    by (Some (answer.Values first count)) at found = absurd (none-some block found)
+    by (Some (answer.Inst i)) at found = absurd (none-some block found)
+    by (Some (answer.Block x)) at found = by_block x at name.answer refl found
+
+-- a name that leads to no block names none
+pub block-missing : {declared : SignatureShape} (calls : List AnsweredCall) (b : FunctionBuilder) (answers : List Answer) → IsReady declared calls b answers
+    → (name : Name) → block_of answers name ≡ None → has_block (ledger_of calls) (name_of name) ≡ false
+block-missing calls b answers ready name missing =
+    false_from_ne_true (has_block (ledger_of calls) (name_of name)) (λ there.
+    let found = (read calls b answers ready).numbered (name_of name) there in
+    by (slice_get answers name.place) refl missing (ready.stands.ledger.block_answers found.0 (name_of name) found.1))
+  where
+    by_block : (x : ℕ) (index : ℕ) → index ≡ 0 → (if index == 0 then Some x else None) ≡ None → ⊥
+    by_block x zero is missing = none-some x (sym missing)
+    by_block x (suc k) is missing = omega (arith, is)
+
+    by : (o : Option Answer) → slice_get answers name.place ≡ o → block_in name.answer o ≡ None → answer_at (ledger_of calls) (name_of name) ≡ Some ABlock → ⊥
+    by None at missing answered = none-some ABlock (sym (answer-past calls b answers ready name.place name.answer at) ∙ answered)
+    by (Some answer.Nothing) at missing answered =
+        let e = entry calls b answers ready name.place answer.Nothing at in
+        no-answer e.given name.answer ABlock e.is.0 (sym (answer-at calls b name.place name.answer answer.Nothing e) ∙ answered)
+    by (Some (answer.Variable v)) at missing answered =
+        let e = entry calls b answers ready name.place (answer.Variable v) at in
+        let one = one-answer e.given (AVariable v) name.answer ABlock e.is.0 (sym (answer-at calls b name.place name.answer (answer.Variable v) e) ∙ answered) in
+        let wrong : AVariable v ≡ ABlock = one.1 in
+        cc
+    by (Some (answer.Values first count)) at missing answered =
+        let e = entry calls b answers ready name.place (answer.Values first count) at in
+        let one = values-answer e.given e.is.0 name.answer ABlock e.is.1 (sym (answer-at calls b name.place name.answer (answer.Values first count) e) ∙ answered) in
+        let wrong : AValue one.0 ≡ ABlock = one.1 in
+        cc
+    by (Some (answer.Inst i)) at missing answered =
+        let e = entry calls b answers ready name.place (answer.Inst i) at in
+        elim (instruction-answer e.given e.is.0 name.answer ABlock e.is.2 (sym (answer-at calls b name.place name.answer (answer.Inst i) e) ∙ answered)) [
+          | inl first ↦ let wrong : AnInstruction ≡ ABlock = first.1 in cc
+          | inr later ↦ let wrong : AValue later.2 ≡ ABlock = later.3 in cc
+        ]
+    by (Some (answer.Block x)) at missing answered =
+        let e = entry calls b answers ready name.place (answer.Block x) at in
+        let one = one-answer e.given ABlock name.answer ABlock e.is.0 (sym (answer-at calls b name.place name.answer (answer.Block x) e) ∙ answered) in
+        by_block x name.answer one.0 missing
+
+-- the results of an instruction that was answered
+record Results (calls : List AnsweredCall) (b : FunctionBuilder) (place i : ℕ) : Type 0 where
+  pub types : List «Type»
+  pub call : AnsweredCall
+  pub given : List Answered
+  pub at_call : slice_get calls place ≡ Some call
+  pub at_given : slice_get (ledger_of calls).answers place ≡ Some given
+  pub answered : given ≡ AnInstruction ∷ map AValue types
+  pub node : InstNode
+  pub there : slice_get b.func.now.insts i ≡ Some node
+  pub numbers : call.numbers ≡ i ∷ node.results
+  pub count : length node.results ≡ length types
+
+results-of : {declared : SignatureShape} (calls : List AnsweredCall) (b : FunctionBuilder) (answers : List Answer) → IsReady declared calls b answers
+    → (place i : ℕ) → slice_get answers place ≡ Some (answer.Inst i) → Results calls b place i
+results-of calls b answers ready place i at =
+    let e = entry calls b answers ready place (answer.Inst i) at in
+    let follow = subst (λ (xs : List ℕ). ResultsFollow b.func.now (AnInstruction ∷ map AValue e.is.0) xs) e.is.3
+    (subst (λ (xs : List Answered). ResultsFollow b.func.now xs e.call.numbers) e.is.2 e.agree.results) in
+    let many : suc (length e.is.1) ≡ suc (length (map AValue e.is.0)) =
+    ap (λ (xs : List ℕ). length xs) (sym e.is.3) ∙ e.agree.count ∙ ap (λ (xs : List Answered). length xs) e.is.2 in
+    record {
+      types = e.is.0;
+      call = e.call;
+      given = e.given;
+      at_call = e.at_call;
+      at_given = e.at_given;
+      answered = e.is.2;
+      node = follow.0;
+      there = follow.1;
+      numbers = e.is.3 ∙ ap (λ (xs : List ℕ). i ∷ xs) follow.2;
+      count = ap (λ (xs : List ℕ). length xs) (sym follow.2) ∙ omega (arith, many, length-map e.is.0 AValue);
+    }
+
+-- a name that leads to a value names it
+pub value-found : {declared : SignatureShape} (calls : List AnsweredCall) (b : FunctionBuilder) (answers : List Answer) → IsReady declared calls b answers
+    → (name : Name) (value : ℕ) → value_of b.func.now answers name ≡ Some value → NamesValue calls (name_of name) value
+value-found calls b answers ready name value found = by (slice_get answers name.place) refl found
+  where
+    by_values : (first count : ℕ) → slice_get answers name.place ≡ Some (answer.Values first count) → (test : Bool) → nat_lt name.answer count ≡ test
+        → (if test then Some (first + name.answer) else None) ≡ Some value → NamesValue calls (name_of name) value
+    by_values first count at true is found =
+        let e = entry calls b answers ready name.place (answer.Values first count) at in
+        let below : name.answer < count = ltb-true name.answer count is in
+        let inside : name.answer < length e.is.0 = omega (arith, below, e.is.3) in
+        let ty = get-below e.is.0 name.answer inside in
+        let answered : answer_at (ledger_of calls) (name_of name) ≡ Some (AValue ty.0) =
+        answer-at calls b name.place name.answer (answer.Values first count) e ∙ ap (λ (xs : List Answered). slice_get xs name.answer) e.is.1
+        ∙ slice_get-map AValue e.is.0 name.answer ∙ ap (option_map AValue) ty.1 in
+        record {
+          number = number-at calls b name.place name.answer (answer.Values first count) e ∙ ap (λ (xs : List ℕ). slice_get xs name.answer) e.is.2
+              ∙ number-from first e.is.0 name.answer inside ∙ found;
+          is_value = ap (λ (o : Option Answered). is_some (value_answer_type o)) answered;
+        }
+    by_values first count at false is found = absurd (none-some value found)
+
+    by_inst : (i : ℕ) → slice_get answers name.place ≡ Some (answer.Inst i) → (index : ℕ) → name.answer ≡ index
+        → (if index == 0 then None else slice_get (inst_at b.func.now i).results (index - 1)) ≡ Some value → NamesValue calls (name_of name) value
+    by_inst i at zero is found = absurd (none-some value found)
+    by_inst i at (suc k) is found =
+        let r = results-of calls b answers ready name.place i at in
+        let less : suc k - 1 ≡ k = omega arith in
+        let result : slice_get r.node.results k ≡ Some value =
+        ap (λ (n : InstNode). slice_get n.results k) (sym (get_or_from_slice_get b.func.now.insts i r.node no_inst r.there))
+        ∙ ap (slice_get (inst_at b.func.now i).results) (sym less) ∙ sym (past k None (slice_get (inst_at b.func.now i).results (suc k - 1))) ∙ found in
+        let inside : k < length r.node.results = slice_get_within r.node.results k value result in
+        let ty = get-below r.types k (omega (arith, inside, r.count)) in
+        let answered : answer_at (ledger_of calls) (name_of name) ≡ Some (AValue ty.0) =
+        ap (option_and_then (λ (xs : List Answered). slice_get xs name.answer)) r.at_given ∙ ap (slice_get r.given) is
+        ∙ ap (λ (xs : List Answered). slice_get xs (suc k)) r.answered ∙ slice_get-map AValue r.types k ∙ ap (option_map AValue) ty.1 in
+        record {
+          number = ap (option_and_then (λ (call : AnsweredCall). slice_get call.numbers name.answer)) r.at_call ∙ ap (slice_get r.call.numbers) is
+              ∙ ap (λ (xs : List ℕ). slice_get xs (suc k)) r.numbers ∙ result;
+          is_value = ap (λ (o : Option Answered). is_some (value_answer_type o)) answered;
+        }
+
+    by : (o : Option Answer) → slice_get answers name.place ≡ o → value_in b.func.now name.answer o ≡ Some value → NamesValue calls (name_of name) value
+    by None at found = absurd (none-some value found)
+    by (Some answer.Nothing) at found = absurd (none-some value found)
+    by (Some (answer.Variable v)) at found = absurd (none-some value found)
+    by (Some (answer.Block x)) at found = absurd (none-some value found)
+    by (Some (answer.Values first count)) at found = by_values first count at (nat_lt name.answer count) refl found
+    by (Some (answer.Inst i)) at found = by_inst i at name.answer refl found
+
+-- a name that leads to no value names none
+pub value-missing : {declared : SignatureShape} (calls : List AnsweredCall) (b : FunctionBuilder) (answers : List Answer) → IsReady declared calls b answers
+    → (name : Name) → value_of b.func.now answers name ≡ None → has_value (ledger_of calls) (name_of name) ≡ false
+value-missing calls b answers ready name missing =
+    false_from_ne_true (has_value (ledger_of calls) (name_of name)) (λ there.
+    let typed = some-is (type_of (ledger_of calls) (name_of name)) there in
+    by typed.0 (slice_get answers name.place) refl missing (answer_is (answer_at (ledger_of calls) (name_of name)) typed.0 typed.1))
+  where
+    answer_is : (o : Option Answered) (ty : «Type») → value_answer_type o ≡ Some ty → o ≡ Some (AValue ty)
+    answer_is None ty is = absurd (none-some ty is)
+    answer_is (Some ABlock) ty is = absurd (none-some ty is)
+    answer_is (Some (AVariable variable)) ty is = absurd (none-some ty is)
+    answer_is (Some (AValue other)) ty is = ap (λ (t : «Type»). Some (AValue t)) (same_Some other ty is)
+    answer_is (Some AnInstruction) ty is = absurd (none-some ty is)
+
+    by_values : (first count index : ℕ) → index < count → (test : Bool) → nat_lt index count ≡ test → (if test then Some (first + index) else None) ≡ None → ⊥
+    by_values first count index inside true is missing = none-some (first + index) (sym missing)
+    by_values first count index inside false is missing = false≢true (sym is ∙ lt-ltb index count inside)
+
+    by : (ty : «Type») (o : Option Answer) → slice_get answers name.place ≡ o → value_in b.func.now name.answer o ≡ None → answer_at (ledger_of calls) (name_of name) ≡ Some (AValue ty) → ⊥
+    by ty None at missing answered = none-some (AValue ty) (sym (answer-past calls b answers ready name.place name.answer at) ∙ answered)
+    by ty (Some answer.Nothing) at missing answered =
+        let e = entry calls b answers ready name.place answer.Nothing at in
+        no-answer e.given name.answer (AValue ty) e.is.0 (sym (answer-at calls b name.place name.answer answer.Nothing e) ∙ answered)
+    by ty (Some (answer.Variable v)) at missing answered =
+        let e = entry calls b answers ready name.place (answer.Variable v) at in
+        let one = one-answer e.given (AVariable v) name.answer (AValue ty) e.is.0 (sym (answer-at calls b name.place name.answer (answer.Variable v) e) ∙ answered) in
+        let wrong : AVariable v ≡ AValue ty = one.1 in
+        cc
+    by ty (Some (answer.Block x)) at missing answered =
+        let e = entry calls b answers ready name.place (answer.Block x) at in
+        let one = one-answer e.given ABlock name.answer (AValue ty) e.is.0 (sym (answer-at calls b name.place name.answer (answer.Block x) e) ∙ answered) in
+        let wrong : ABlock ≡ AValue ty = one.1 in
+        cc
+    by ty (Some (answer.Values first count)) at missing answered =
+        let e = entry calls b answers ready name.place (answer.Values first count) at in
+        let given_at : slice_get e.given name.answer ≡ Some (AValue ty) = sym (answer-at calls b name.place name.answer (answer.Values first count) e) ∙ answered in
+        let inside : name.answer < length e.given = slice_get_within e.given name.answer (AValue ty) given_at in
+        let many : length e.given ≡ length e.is.0 = ap (λ (xs : List Answered). length xs) e.is.1 ∙ length-map e.is.0 AValue in
+        by_values first count name.answer (omega (arith, inside, many, e.is.3)) (nat_lt name.answer count) refl missing
+    by ty (Some (answer.Inst i)) at missing answered =
+        let r = results-of calls b answers ready name.place i at in
+        let given_at : slice_get r.given name.answer ≡ Some (AValue ty) = sym (ap (option_and_then (λ (xs : List Answered). slice_get xs name.answer)) r.at_given) ∙ answered in
+        elim (instruction-answer r.given r.types name.answer (AValue ty) r.answered given_at) [
+          | inl first ↦ let wrong : AnInstruction ≡ AValue ty = first.1 in cc
+          | inr later ↦
+              let k : ℕ = later.0 in
+              let inside : name.answer < length r.given = slice_get_within r.given name.answer (AValue ty) given_at in
+              let many : length r.given ≡ suc (length r.types) = ap (λ (xs : List Answered). length xs) r.answered ∙ ap suc (length-map r.types AValue) in
+              let result = get-below r.node.results k (omega (arith, inside, later.1, many, r.count)) in
+              let less : name.answer - 1 ≡ k = omega (arith, later.1) in
+              let not_zero : (name.answer == 0) ≡ false = ne_eqb name.answer 0 (λ same. omega (arith, same, later.1)) in
+              let found : slice_get (inst_at b.func.now i).results (name.answer - 1) ≡ Some result.0 =
+              ap (slice_get (inst_at b.func.now i).results) less ∙ ap (λ (n : InstNode). slice_get n.results k) (get_or_from_slice_get b.func.now.insts i r.node no_inst r.there) ∙ result.1 in
+              none-some result.0 (sym missing ∙ if-no (name.answer == 0) None (slice_get (inst_at b.func.now i).results (name.answer - 1)) not_zero ∙ found)
+        ]
+
+-- every answer exists
+pub answers-exist : {declared : SignatureShape} (calls : List AnsweredCall) (b : FunctionBuilder) (answers : List Answer) → IsReady declared calls b answers
+    → (k : ℕ) → k < length answers → AnswerExists b.func.now (slice_index_or answers k answer.Nothing)
+answers-exist calls b answers ready k inside =
+    let there = get-below answers k inside in
+    subst (AnswerExists b.func.now) (sym (get_or_from_slice_get answers k there.0 answer.Nothing there.1)) (by there.0 there.1)
+  where
+    by : (a : Answer) → slice_get answers k ≡ Some a → AnswerExists b.func.now a
+    by answer.Nothing at = tt
+    by (answer.Block x) at = tt
+    by (answer.Variable v) at = tt
+    by (answer.Values first count) at = λ j below.
+        let e = entry calls b answers ready k (answer.Values first count) at in
+        let there : j < length e.is.0 = omega (arith, below, e.is.3) in
+        let ty = get-below e.is.0 j there in
+        let answered : slice_get e.given j ≡ Some (AValue ty.0) = ap (λ (xs : List Answered). slice_get xs j) e.is.1 ∙ slice_get-map AValue e.is.0 j ∙ ap (option_map AValue) ty.1 in
+        let numbered : slice_get e.call.numbers j ≡ Some (first + j) = ap (λ (xs : List ℕ). slice_get xs j) e.is.2 ∙ number-from first e.is.0 j there in
+        let typed : value_type b.func.now (first + j) ≡ Some ty.0 = e.agree.each j (AValue ty.0) (first + j) answered numbered in
+        let node = map-some (λ (n : ValueNode). n.ty) (slice_get b.func.now.values (first + j)) ty.0 typed in
+        slice_get_within b.func.now.values (first + j) node.0 node.1
+    by (answer.Inst i) at = let r = results-of calls b answers ready k i at in slice_get_within b.func.now.insts i r.node r.there
+
+-- a value that is named exists
+pub value-exists : {declared : SignatureShape} (calls : List AnsweredCall) (b : FunctionBuilder) (answers : List Answer) → IsReady declared calls b answers
+    → (name : Name) (value : ℕ) → value_of b.func.now answers name ≡ Some value → value < length b.func.now.values
+value-exists calls b answers ready name value found =
+    let names = value-found calls b answers ready name value found in
+    let typed = (read calls b answers ready).value (name_of name) value names in
+    let node = map-some (λ (n : ValueNode). n.ty) (slice_get b.func.now.values value) typed.0 typed.2 in
+    slice_get_within b.func.now.values value node.0 node.1
+
+-- a block that is named exists
+pub block-there : {declared : SignatureShape} (calls : List AnsweredCall) (b : FunctionBuilder) (answers : List Answer) → IsReady declared calls b answers
+    → (name : Name) (block : ℕ) → block_of answers name ≡ Some block → block < length b.func.now.blocks
+block-there calls b answers ready name block found =
+    let names = block-found calls b answers ready name block found in
+    let r = read calls b answers ready in
+    r.exists block (name_of name) (r.named (name_of name) block names)
+
+-- the current block exists
+pub current-exists : {declared : SignatureShape} (calls : List AnsweredCall) (b : FunctionBuilder) (answers : List Answer) → IsReady declared calls b answers → IfSome b.position (λ block. block < length b.func.now.blocks)
+current-exists calls b answers ready = by b.position refl
+  where
+    by : (o : Option ℕ) → b.position ≡ o → IfSome o (λ block. block < length b.func.now.blocks)
+    by None at = tt
+    by (Some block) at =
+        let current = name-of-some (block_name (ledger_of calls)) (ledger_of calls).current block (ready.stands.ledger.current ∙ ap (option_map (block_name (ledger_of calls))) at) in
+        (read calls b answers ready).exists block current.0 current.2
+
+-- one more call was answered
+pub ready-more : {declared : SignatureShape} (calls : List AnsweredCall) (call : AnsweredCall) (old new : FunctionBuilder) (answers : List Answer) (a : Answer)
+    → IsReady declared calls old answers → StandsFor declared (calls ++ call ∷ []) new → AnswerIs a (answers_to (ledger_of calls) call.request) call.numbers
+    → IsReady declared (calls ++ call ∷ []) new (answers ++ a ∷ [])
+ready-more calls call old new answers a ready stands is =
+    record {
+      reads = ready.reads;
+      stands = stands;
+      count = length-append answers (a ∷ []) ∙ ap (λ (n : ℕ). n + 1) ready.count ∙ sym (length-append calls (call ∷ []));
+      answered = answered;
+    }
+  where
+    more : (ledger_of (calls ++ call ∷ [])).answers ≡ (ledger_of calls).answers ++ answers_to (ledger_of calls) call.request ∷ []
+    more = ap (λ (l : Ledger). l.answers) (ledger-more calls call)
+
+    answered : (place : ℕ) (x : Answer) (other : AnsweredCall) (given : List Answered) → slice_get (answers ++ a ∷ []) place ≡ Some x → slice_get (calls ++ call ∷ []) place ≡ Some other
+        → slice_get (ledger_of (calls ++ call ∷ [])).answers place ≡ Some given → AnswerIs x given other.numbers
+    answered place x other given at_answer at_call at_given =
+        let at_more : slice_get ((ledger_of calls).answers ++ answers_to (ledger_of calls) call.request ∷ []) place ≡ Some given = ap (λ (xs : List (List Answered)). slice_get xs place) (sym more) ∙ at_given in
+        elim (get-push answers a place x at_answer) [
+          | inl old_answer ↦
+              let inside : place < length answers = slice_get_within answers place x old_answer in
+              elim (get-push calls call place other at_call) [
+                | inl old_call ↦
+                    elim (get-push (ledger_of calls).answers (answers_to (ledger_of calls) call.request) place given at_more) [
+                      | inl old_given ↦ ready.answered place x other given old_answer old_call old_given
+                      | inr last ↦ absurd (omega (arith, inside, last.0, ready.count, ready.stands.ledger.places))
+                    ]
+                | inr last ↦ absurd (omega (arith, inside, last.0, ready.count))
+              ]
+          | inr last ↦
+              elim (get-push calls call place other at_call) [
+                | inl old_call ↦ let inside : place < length calls = slice_get_within calls place other old_call in absurd (omega (arith, inside, last.0, ready.count))
+                | inr last_call ↦
+                    elim (get-push (ledger_of calls).answers (answers_to (ledger_of calls) call.request) place given at_more) [
+                      | inl old_given ↦
+                          let inside : place < length (ledger_of calls).answers = slice_get_within (ledger_of calls).answers place given old_given in
+                          absurd (omega (arith, inside, last.0, ready.count, ready.stands.ledger.places))
+                      | inr last_given ↦
+                          subst (λ (y : Answer). AnswerIs y given other.numbers) last.1
+                          (subst (λ (g : List Answered). AnswerIs a g other.numbers) last_given.1
+                          (subst (λ (y : AnsweredCall). AnswerIs a (answers_to (ledger_of calls) call.request) y.numbers) last_call.1 is))
+                    ]
+              ]
+        ]

@@ -1,0 +1,196 @@
+-- What a replay answers, from what the calls and `finalize` answered.
+use Rattle.std.proofs.Common.{arith, ◌≡◌, ◌<◌, ◌≤◌, ℕ, List, length, refl, ap, sym, ◌∙◌, subst}
+use Rattle.std.specs.Prelude.{◌≢◌, false, Err, IfOk, Ok, OnOk, Result, Some}
+use Rattle.clif_types.specs.Signature.{SignatureShape}
+use Rattle.clif_types.specs.declared.extname.UserFuncName.{UserFuncName}
+use Rattle.clif_types.specs.declared.target.PointerWidth.{PointerWidth}
+use Rattle.clif_ir.specs.Body.{Body, empty_body}
+use Rattle.clif_meaning.specs.View.{view_of}
+use Rattle.clif_meaning.specs.Headline.{MeansTheSame}
+use Rattle.clif_meaning.specs.Premises.{CallersEdgesMatch, PlacementPremises}
+use Rattle.clif_meaning.specs.Typing.{EdgesMatch}
+use Rattle.clif_meaning.specs.WellPlaced.{WellPlaced}
+use Rattle.clif_meaning.specs.Request.{AnsweredCall, Finalize, Script, script_of}
+use Rattle.clif_meaning.specs.Acceptance.{Accepted, Misuse, Refused, refusal_of, verdict_on}
+use Rattle.cranelift_frontend.specs.declared.builder.FunctionBuilder.{FunctionBuilder}
+use Rattle.cranelift_frontend.specs.declared.error.FinalizeError.{FinalizeError}
+use Rattle.cranelift_frontend.specs.Builder.{SameLoans}
+use Rattle.cranelift_frontend.specs.Ledger.{RefusalAgrees, ledger_of}
+use Rattle.cranelift_frontend.specs.StandsFor.{LeavesNoParameter, StandsFor, StandsIn}
+use Rattle.clif_calls.specs.declared.call.Call.{Call}
+use Rattle.clif_replay.specs.declared.script.Answer.{Answer}
+use Rattle.clif_replay.specs.declared.script.CallError.{CallError}
+use Rattle.clif_replay.specs.declared.script.CallError.TheVariants as error
+use Rattle.clif_replay.specs.Errors.{replay_error_at}
+use Rattle.clif_replay.specs.declared.script.ReplayError.{ReplayError}
+use Rattle.clif_replay.specs.declared.script.ReplayError.TheVariants as replay
+use Rattle.clif_replay.specs.Replay.{ReplayMakes, ReplayTells}
+use Rattle.clif_replay.specs.Requests.{IsReplayed, IsStoppedByTable, requests_of}
+use Rattle.clif_replay.proofs.Verdicts.{all-replayed, means-replayed, verdict-accepted}
+
+-- all calls were made, and `finalize` succeeded: `f` is the function that it left
+pub finished-replay : (calls : List Call) (declared : SignatureShape) (width : PointerWidth) (made : List AnsweredCall) (b : FunctionBuilder) (f : Body) (r : Result (Unit {0}) FinalizeError)
+    → (named : UserFuncName) → b.func.now.name ≡ named → f ≡ b.func.now
+    → StandsFor declared made b → IsReplayed declared calls (length calls) made
+    → MeansTheSame (script_of made) declared width (view_of f)
+    → LeavesNoParameter made f b.ctx.now.ssa
+    → (CallersEdgesMatch (script_of made) → EdgesMatch (view_of f))
+    → (PlacementPremises (script_of made) declared → WellPlaced (view_of f))
+    → RefusalAgrees made (refusal_of (ledger_of made) Finalize) r → r ≡ Ok tt
+    → ReplayMakes calls named declared width f
+finished-replay calls declared width made b f r named name same stands replayed meaning parameters matches placed agrees is =
+    let all = all-replayed declared calls made replayed in
+    record {
+      same_meaning = means-replayed declared calls made width f replayed meaning;
+      built = record {
+        made = made;
+        script = all;
+        context = b.ctx.now;
+        position = b.position;
+        stands = subst (λ (g : Body). StandsIn declared made g b.ctx.now b.position) (sym same) stands;
+        parameters = parameters;
+      };
+      edges_match = λ typed. matches (subst (λ (script : Script). CallersEdgesMatch script) (sym all) typed);
+      well_placed = λ premises. placed (subst (λ (script : Script). PlacementPremises script declared) (sym all) premises);
+      named = ap (λ (g : Body). g.name) same ∙ name;
+      accepted = verdict-accepted declared calls made r replayed agrees is;
+    }
+
+-- the function is this one
+pub finished-as : (calls : List Call) (old : Body) (width : PointerWidth) (start f g : Body) → start ≡ old → g ≡ f → ReplayMakes calls start.name start.signature width f → ReplayMakes calls old.name old.signature width g
+finished-as calls old width start f g begins ends done =
+    subst (λ (x : Body). ReplayMakes calls x.name x.signature width g) begins
+    (subst (λ (x : Body). ReplayMakes calls start.name start.signature width x) (sym ends) done)
+
+-- `finalize` refused
+pub told-refused : (calls : List Call) (start old : Body) (place : ℕ) → start ≡ old → place ≡ length calls → verdict_on (requests_of start.signature calls) ≡ Refused (length calls)
+    → ReplayTells calls old.name old.signature (Err (replay.Refused place))
+told-refused calls start old place begins is refused =
+    subst (λ (x : Body). ReplayTells calls x.name x.signature (Err (replay.Refused place))) begins (record {
+      misuse = λ i told. absurd (no-misuse i told);
+      refused = λ i told. sym (same i told) ∙ is;
+      table_full = λ told. absurd (no-full told);
+      verdict = λ not_memory not_full. ap (λ (i : ℕ). Some (Refused i)) is ∙ ap Some (sym refused);
+    })
+  where
+    no-misuse : (i : ℕ) → ◌≡◌ {A = Result Body ReplayError} (Err (replay.Refused place)) (Err (replay.Misuse i)) → ⊥
+    no-misuse i h = cc
+
+    no-full : ◌≡◌ {A = Result Body ReplayError} (Err (replay.Refused place)) (Err replay.Full) → ⊥
+    no-full h = cc
+
+    same : (i : ℕ) → ◌≡◌ {A = Result Body ReplayError} (Err (replay.Refused place)) (Err (replay.Refused i)) → place ≡ i
+    same i h = cc
+
+-- memory was refused
+pub told-memory : (calls : List Call) (old : Body) → ReplayTells calls old.name old.signature (Err replay.Memory)
+told-memory calls old = record {
+  misuse = λ i told. absurd (no-misuse i told);
+  refused = λ i told. absurd (no-refusal i told);
+  table_full = λ told. absurd (no-full told);
+  verdict = λ not_memory not_full. absurd (not_memory refl);
+}
+  where
+    no-misuse : (i : ℕ) → ◌≡◌ {A = Result Body ReplayError} (Err replay.Memory) (Err (replay.Misuse i)) → ⊥
+    no-misuse i h = cc
+
+    no-refusal : (i : ℕ) → ◌≡◌ {A = Result Body ReplayError} (Err replay.Memory) (Err (replay.Refused i)) → ⊥
+    no-refusal i h = cc
+
+    no-full : ◌≡◌ {A = Result Body ReplayError} (Err replay.Memory) (Err replay.Full) → ⊥
+    no-full h = cc
+
+-- a function was made
+pub told-answer : (calls : List Call) (name : UserFuncName) (declared : SignatureShape) (f : Body) → verdict_on (requests_of declared calls) ≡ Accepted → ReplayTells calls name declared (Ok f)
+told-answer calls name declared f accepted = record {
+  misuse = λ i told. absurd (no-error (replay.Misuse i) told);
+  refused = λ i told. absurd (no-error (replay.Refused i) told);
+  table_full = λ told. absurd (no-error replay.Full told);
+  verdict = λ not_memory not_full. ap Some (sym accepted);
+}
+  where
+    no-error : (e : ReplayError) → ◌≡◌ {A = Result Body ReplayError} (Ok f) (Err e) → ⊥
+    no-error e h = cc
+
+-- the error is this one, of a replay with this name and this signature
+pub told-as : (calls : List Call) (name : UserFuncName) (declared : SignatureShape) (start : Body) (e : ReplayError) (back : Result Body ReplayError) → start ≡ empty_body name declared → back ≡ Err e
+    → ReplayTells calls start.name start.signature (Err e) → ReplayTells calls name declared back
+told-as calls name declared start e back begins came told =
+    subst (λ (r : Result Body ReplayError). ReplayTells calls name declared r) (sym came)
+    (subst (λ (x : Body). ReplayTells calls x.name x.signature (Err e)) begins told)
+
+-- nothing is said of a function where there is none
+pub of-none : (back : Result Body ReplayError) (e : ReplayError) (P : Body → Type 0) → back ≡ Err e → IfOk back P
+of-none back e P came = subst (λ (r : Result Body ReplayError). IfOk r P) (sym came) tt
+
+-- Calls of a list were made on a builder: all of them, or those before the one that ended them.
+pub record AreMade (calls : List Call) (old new : FunctionBuilder) (result : Result (Unit {0}) ReplayError) : Type 0 where
+  pub loans : SameLoans old new
+  pub name : OnOk result (new.func.now.name ≡ old.func.now.name)
+  pub ready : OnOk result ((made : List AnsweredCall) × StandsFor old.func.now.signature made new × IsReplayed old.func.now.signature calls (length calls) made)
+  pub sound : OnOk result (new.failed ≡ false)
+  pub misuse : (i : ℕ) → result ≡ Err (replay.Misuse i) → i < length calls
+  pub judged : (i : ℕ) → result ≡ Err (replay.Misuse i) → verdict_on (requests_of old.func.now.signature calls) ≡ Misuse i
+  pub never_refused : (i : ℕ) → result ≢ Err (replay.Refused i)
+  pub table_full : result ≡ Err replay.Full → IsStoppedByTable calls old.func.now.name old.func.now.signature
+
+-- loans are kept over two steps
+pub loans-then : (old middle new : FunctionBuilder) → SameLoans old middle → SameLoans middle new → SameLoans old new
+loans-then old middle new first second = record { func = second.func ∙ first.func; ctx = second.ctx ∙ first.ctx }
+
+-- memory was refused on the way
+pub made-memory : (calls : List Call) (old new : FunctionBuilder) (result : Result (Unit {0}) ReplayError) → result ≡ Err replay.Memory → SameLoans old new → AreMade calls old new result
+made-memory calls old new result is loans = subst (λ (r : Result (Unit {0}) ReplayError). AreMade calls old new r) (sym is) (record {
+  loans = loans;
+  name = tt;
+  ready = tt;
+  sound = tt;
+  misuse = λ i told. absurd (no-misuse i told);
+  judged = λ i told. absurd (no-misuse i told);
+  never_refused = no-refusal;
+  table_full = λ told. absurd (no-full told);
+})
+  where
+    no-misuse : (i : ℕ) → ◌≡◌ {A = Result (Unit {0}) ReplayError} (Err replay.Memory) (Err (replay.Misuse i)) → ⊥
+    no-misuse i h = cc
+
+    no-refusal : (i : ℕ) → ◌≡◌ {A = Result (Unit {0}) ReplayError} (Err replay.Memory) (Err (replay.Refused i)) → ⊥
+    no-refusal i h = cc
+
+    no-full : ◌≡◌ {A = Result (Unit {0}) ReplayError} (Err replay.Memory) (Err replay.Full) → ⊥
+    no-full h = cc
+
+-- all calls were made
+pub made-all : (calls : List Call) (old new : FunctionBuilder) (made : List AnsweredCall) → SameLoans old new → new.func.now.name ≡ old.func.now.name
+    → StandsFor old.func.now.signature made new → IsReplayed old.func.now.signature calls (length calls) made → new.failed ≡ false → AreMade calls old new (Ok tt)
+made-all calls old new made loans name stands replayed sound = record {
+  loans = loans;
+  name = name;
+  ready = (made, stands, replayed);
+  sound = sound;
+  misuse = λ i told. absurd (no-error (replay.Misuse i) told);
+  judged = λ i told. absurd (no-error (replay.Misuse i) told);
+  never_refused = λ i told. no-error (replay.Refused i) told;
+  table_full = λ told. absurd (no-error replay.Full told);
+}
+  where
+    no-error : (e : ReplayError) → ◌≡◌ {A = Result (Unit {0}) ReplayError} (Ok tt) (Err e) → ⊥
+    no-error e h = cc
+
+-- the error of a call is told at its place, and isn't a refusal
+pub misuse-place : (refusal : CallError) (place i : ℕ) (told : ReplayError) → told ≡ replay_error_at refusal place → ◌≡◌ {A = Result (Unit {0}) ReplayError} (Err told) (Err (replay.Misuse i)) → i ≡ place
+misuse-place error.Misuse place i told at is = cc
+misuse-place error.Refused place i told at is = let no_way : ⊥ = cc in absurd no_way
+misuse-place error.Memory place i told at is = let no_way : ⊥ = cc in absurd no_way
+misuse-place error.Full place i told at is = let no_way : ⊥ = cc in absurd no_way
+
+pub no-refusal-told : (refusal : CallError) (place i : ℕ) (told : ReplayError) → told ≡ replay_error_at refusal place → ◌≢◌ {A = Result Answer CallError} (Err refusal) (Err error.Refused)
+    → ◌≢◌ {A = Result (Unit {0}) ReplayError} (Err told) (Err (replay.Refused i))
+no-refusal-told error.Misuse place i told at never is = cc
+no-refusal-told error.Refused place i told at never is = never refl
+no-refusal-told error.Memory place i told at never is = cc
+no-refusal-told error.Full place i told at never is = cc
+
+-- a loop ends at the length
+pub last-place : (place end : ℕ) → place ≤ end → end ≤ place → place ≡ end
+last-place place end inside over = omega arith

@@ -1,0 +1,180 @@
+-- The verdict on a list of calls, call by call.
+use Rattle.std.proofs.Common.{◌≡◌, ℕ, suc, ◌+◌, ◌<◌, List, [], ◌∷◌, ◌++◌, length, get_or, take, drop, refl, ap, arith, sym, ◌∙◌, subst}
+use Rattle.std.specs.Prelude.{fold, Option, Some, None, is_some, Bool, true, false, not, if◌then◌else◌, Result, Ok, Err}
+use Rattle.std.proofs.lemmas.List.{map_push, take_more, drop_more, drop_all, take_all}
+use Rattle.clif_types.specs.Signature.{SignatureShape}
+use Rattle.clif_types.specs.declared.target.PointerWidth.{PointerWidth}
+use Rattle.clif_ir.specs.Body.{Body}
+use Rattle.clif_meaning.specs.View.{view_of}
+use Rattle.clif_meaning.specs.Headline.{MeansTheSame}
+use Rattle.clif_meaning.specs.Request.{AnsweredCall, Finalize, Request, Script, script_of}
+use Rattle.clif_meaning.specs.Ledger.{Ledger, empty_ledger, ledger_after, ledger_with}
+use Rattle.clif_meaning.specs.Acceptance.{Accepted, Misuse, Refusal, Refused, allows, refusal_of, verdict_from, verdict_on}
+use Rattle.clif_meaning.specs.Acceptance as refusal
+use Rattle.cranelift_frontend.specs.declared.error.FinalizeError.{FinalizeError}
+use Rattle.cranelift_frontend.specs.declared.error.FinalizeError.TheVariants as ending
+use Rattle.cranelift_frontend.specs.Ledger.{RefusalAgrees, ledger_of}
+use Rattle.clif_calls.specs.declared.call.Call.{Call}
+use Rattle.clif_calls.specs.declared.call.Call.TheVariants as call
+use Rattle.clif_replay.specs.declared.script.CallError.{CallError}
+use Rattle.clif_replay.specs.declared.script.CallError.TheVariants as error
+use Rattle.clif_replay.specs.declared.script.ReplayError.{ReplayError}
+use Rattle.clif_replay.specs.declared.script.ReplayError.TheVariants as replay
+use Rattle.clif_replay.specs.Errors.{replay_error_at}
+use Rattle.clif_replay.specs.Ready.{IsJudged}
+use Rattle.clif_replay.specs.Requests.{IsReplayed, request_of, requests_from, requests_of}
+use Rattle.clif_replay.proofs.Options.{if-no}
+use Rattle.clif_replay.proofs.ReadyLaws.{ledger-more}
+
+-- no call of a list is `finalize`
+no-refusal : (declared : SignatureShape) (ledger : Ledger) (c : Call) → refusal_of ledger (request_of declared ledger c) ≡ None
+no-refusal declared ledger call.CreateBlock = refl
+no-refusal declared ledger (call.SwitchToBlock block) = refl
+no-refusal declared ledger (call.SealBlock block) = refl
+no-refusal declared ledger call.SealAllBlocks = refl
+no-refusal declared ledger (call.InsertBlockAfter block after) = refl
+no-refusal declared ledger (call.SetColdBlock block) = refl
+no-refusal declared ledger call.EnsureInsertedBlock = refl
+no-refusal declared ledger (call.AppendBlockParam block ty) = refl
+no-refusal declared ledger (call.AppendBlockParamsForFunctionParams block) = refl
+no-refusal declared ledger (call.AppendBlockParamsForFunctionReturns block) = refl
+no-refusal declared ledger (call.DeclareVar ty) = refl
+no-refusal declared ledger (call.DefVar variable value) = refl
+no-refusal declared ledger (call.UseVar variable) = refl
+no-refusal declared ledger (call.Plain instruction) = refl
+no-refusal declared ledger (call.Jump destination) = refl
+no-refusal declared ledger (call.Brif condition block_then block_else) = refl
+no-refusal declared ledger (call.Return values) = refl
+
+-- the requests of a list with one more call
+requests-push : (declared : SignatureShape) (ledger : Ledger) (calls : List Call) (c : Call)
+    → requests_from declared ledger (calls ++ c ∷ []) ≡ requests_from declared ledger calls ++ request_of declared (fold ledger_with ledger (requests_from declared ledger calls)) c ∷ []
+requests-push declared ledger [] c = refl
+requests-push declared ledger (x ∷ calls) c = ap (λ (script : List Request). request_of declared ledger x ∷ script) (requests-push declared (ledger_with ledger (request_of declared ledger x)) calls c)
+
+-- the rest begins with this call
+rest-begins : (declared : SignatureShape) (calls : List Call) (place : ℕ) (c : Call) (made : List AnsweredCall) → place < length calls → c ≡ get_or calls place c → IsReplayed declared calls place made
+    → verdict_on (requests_of declared calls) ≡ verdict_from place (ledger_of made) (request_of declared (ledger_of made) c ∷ (requests_from declared (ledger_with (ledger_of made) (request_of declared (ledger_of made) c)) (drop (place + 1) calls) ++ Finalize ∷ []))
+rest-begins declared calls place c made inside is replayed =
+    replayed.rest
+    ∙ ap (λ (rest : List Call). verdict_from place (ledger_of made) (requests_from declared (ledger_of made) rest ++ Finalize ∷ []))
+    (drop_more calls place c inside ∙ ap (λ (x : Call). x ∷ drop (place + 1) calls) (sym is))
+
+-- one that is allowed leaves the verdict to the calls behind it
+pub replayed-more : (declared : SignatureShape) (calls : List Call) (place : ℕ) (c : Call) (made : List AnsweredCall) (numbers : List ℕ) → place < length calls → c ≡ get_or calls place c → IsReplayed declared calls place made
+    → allows (ledger_of made) (request_of declared (ledger_of made) c) ≡ true
+    → IsReplayed declared calls (place + 1) (made ++ record { request = request_of declared (ledger_of made) c; numbers = numbers } ∷ [])
+replayed-more declared calls place c made numbers inside is replayed allowed =
+    let request : Request = request_of declared (ledger_of made) c in
+    let call : AnsweredCall = record { request = request; numbers = numbers } in
+    let next : List Request = requests_from declared (ledger_with (ledger_of made) request) (drop (place + 1) calls) ++ Finalize ∷ [] in
+    let first = rest-begins declared calls place c made inside is replayed in
+    let goes_on = if-no (not (allows (ledger_of made) request)) (Misuse place) (if is_some (refusal_of (ledger_of made) request) then Refused place else verdict_from (suc place) (ledger_with (ledger_of made) request) next) (ap not allowed) in
+    let fine = if-no (is_some (refusal_of (ledger_of made) request)) (Refused place) (verdict_from (suc place) (ledger_with (ledger_of made) request) next) (ap is_some (no-refusal declared (ledger_of made) c)) in
+    let one_on : suc place ≡ place + 1 = omega arith in
+    record {
+      script = map_push (λ (a : AnsweredCall). a.request) made call
+          ∙ ap (λ (script : List Request). script ++ request ∷ []) replayed.script
+          ∙ ap (λ (script : List Request). requests_of declared (take place calls) ++ request_of declared (ledger_after script) c ∷ []) replayed.script
+          ∙ sym (requests-push declared empty_ledger (take place calls) c)
+          ∙ ap (λ (x : Call). requests_of declared (take place calls ++ x ∷ [])) is
+          ∙ ap (requests_of declared) (sym (take_more calls place c inside));
+      rest = first ∙ goes_on ∙ fine
+          ∙ ap (λ (n : ℕ). verdict_from n (ledger_with (ledger_of made) request) next) one_on
+          ∙ ap (λ (l : Ledger). verdict_from (place + 1) l (requests_from declared l (drop (place + 1) calls) ++ Finalize ∷ [])) (sym (ledger-more made call));
+    }
+
+-- one that isn't allowed decides
+pub misuse-here : (declared : SignatureShape) (calls : List Call) (place : ℕ) (c : Call) (made : List AnsweredCall) → place < length calls → c ≡ get_or calls place c → IsReplayed declared calls place made
+    → allows (ledger_of made) (request_of declared (ledger_of made) c) ≡ false → verdict_on (requests_of declared calls) ≡ Misuse place
+misuse-here declared calls place c made inside is replayed denied =
+    rest-begins declared calls place c made inside is replayed
+    ∙ ap (λ (allowed : Bool). if not allowed then Misuse place
+    else (if is_some (refusal_of (ledger_of made) (request_of declared (ledger_of made) c)) then Refused place
+    else verdict_from (suc place) (ledger_with (ledger_of made) (request_of declared (ledger_of made) c)) (requests_from declared (ledger_with (ledger_of made) (request_of declared (ledger_of made) c)) (drop (place + 1) calls) ++ Finalize ∷ []))) denied
+
+-- the error of a call that isn't allowed, and of no other, tells a misuse at its place
+pub misuse-told : (declared : SignatureShape) (calls : List Call) (place i : ℕ) (c : Call) (made : List AnsweredCall) (refusal : CallError) (told : ReplayError) → place < length calls → c ≡ get_or calls place c → IsReplayed declared calls place made
+    → IsJudged (allows (ledger_of made) (request_of declared (ledger_of made) c)) (Err refusal) → told ≡ replay_error_at refusal place → told ≡ replay.Misuse i
+    → verdict_on (requests_of declared calls) ≡ Misuse i
+misuse-told declared calls place i c made error.Misuse told inside is replayed denied at misuse =
+    misuse-here declared calls place c made inside is replayed denied ∙ ap Misuse (same place i (sym at ∙ misuse))
+  where
+    same : (j k : ℕ) → replay.Misuse j ≡ replay.Misuse k → j ≡ k
+    same j k h = cc
+misuse-told declared calls place i c made error.Refused told inside is replayed judged at misuse = absurd (other place i (sym at ∙ misuse))
+  where
+    other : (j k : ℕ) → replay.Refused j ≡ replay.Misuse k → ⊥
+    other j k h = cc
+misuse-told declared calls place i c made error.Memory told inside is replayed judged at misuse = absurd (other i (sym at ∙ misuse))
+  where
+    other : (k : ℕ) → replay.Memory ≡ replay.Misuse k → ⊥
+    other k h = cc
+misuse-told declared calls place i c made error.Full told inside is replayed judged at misuse = absurd (other i (sym at ∙ misuse))
+  where
+    other : (k : ℕ) → replay.Full ≡ replay.Misuse k → ⊥
+    other k h = cc
+
+-- all calls were made: their script is that of the list
+pub all-replayed : (declared : SignatureShape) (calls : List Call) (made : List AnsweredCall) → IsReplayed declared calls (length calls) made → script_of made ≡ requests_of declared calls
+all-replayed declared calls made replayed = replayed.script ∙ ap (requests_of declared) (take_all (length calls) calls (omega arith))
+
+-- and so is what it means
+pub means-replayed : (declared : SignatureShape) (calls : List Call) (made : List AnsweredCall) (width : PointerWidth) (f : Body) → IsReplayed declared calls (length calls) made
+    → MeansTheSame (script_of made) declared width (view_of f) → MeansTheSame (requests_of declared calls) declared width (view_of f)
+means-replayed declared calls made width f replayed =
+    subst (λ (script : Script). MeansTheSame script declared width (view_of f)) (all-replayed declared calls made replayed)
+
+-- behind the last call `finalize` decides
+verdict-end : (declared : SignatureShape) (calls : List Call) (made : List AnsweredCall) → IsReplayed declared calls (length calls) made
+    → verdict_on (requests_of declared calls) ≡ (if is_some (refusal_of (ledger_of made) Finalize) then Refused (length calls) else Accepted)
+verdict-end declared calls made replayed =
+    replayed.rest
+    ∙ ap (λ (rest : List Call). verdict_from (length calls) (ledger_of made) (requests_from declared (ledger_of made) rest ++ Finalize ∷ [])) (drop_all (length calls) calls (omega arith))
+
+-- `finalize` is refused where the script is
+pub verdict-refused : (declared : SignatureShape) (calls : List Call) (made : List AnsweredCall) (r : Result (Unit {0}) FinalizeError) (e : FinalizeError) → IsReplayed declared calls (length calls) made
+    → RefusalAgrees made (refusal_of (ledger_of made) Finalize) r → r ≡ Err e → verdict_on (requests_of declared calls) ≡ Refused (length calls)
+verdict-refused declared calls made r e replayed agrees is =
+    verdict-end declared calls made replayed ∙ by (refusal_of (ledger_of made) Finalize) agrees
+  where
+    by : (o : Option Refusal) → RefusalAgrees made o r → (if is_some o then Refused (length calls) else Accepted) ≡ Refused (length calls)
+    by None agrees = let no_way : ⊥ = cc in absurd no_way
+    by (Some refusal) agrees = refl
+
+-- and it succeeds where the script is accepted
+pub verdict-accepted : (declared : SignatureShape) (calls : List Call) (made : List AnsweredCall) (r : Result (Unit {0}) FinalizeError) → IsReplayed declared calls (length calls) made
+    → RefusalAgrees made (refusal_of (ledger_of made) Finalize) r → r ≡ Ok tt → verdict_on (requests_of declared calls) ≡ Accepted
+verdict-accepted declared calls made r replayed agrees is =
+    verdict-end declared calls made replayed ∙ by (refusal_of (ledger_of made) Finalize) agrees
+  where
+    by : (o : Option Refusal) → RefusalAgrees made o r → (if is_some o then Refused (length calls) else Accepted) ≡ Accepted
+    by None agrees = refl
+    by (Some (refusal.Unsealed name)) (block, number, found) = let no_way : ⊥ = cc in absurd no_way
+    by (Some (refusal.Unfilled name)) (block, number, found) = let no_way : ⊥ = cc in absurd no_way
+
+-- `finalize` answers no full table, where the builder didn't fail
+pub never-full : (made : List AnsweredCall) (r : Result (Unit {0}) FinalizeError) (e : FinalizeError) → RefusalAgrees made (refusal_of (ledger_of made) Finalize) r
+    → r ≡ Err e → e ≡ ending.Full → ⊥
+never-full made r e agrees is full = by (refusal_of (ledger_of made) Finalize) agrees
+  where
+    by : (o : Option Refusal) → RefusalAgrees made o r → ⊥
+    by None ok = cc
+    by (Some (refusal.Unsealed name)) (block, number, found) = cc
+    by (Some (refusal.Unfilled name)) (block, number, found) = cc
+
+-- only the error of a full table tells one
+pub full-told : (refusal : CallError) (place : ℕ) (told : ReplayError) → told ≡ replay_error_at refusal place → told ≡ replay.Full → refusal ≡ error.Full
+full-told error.Misuse place told at full = absurd (other place (sym at ∙ full))
+  where
+    other : (j : ℕ) → replay.Misuse j ≡ replay.Full → ⊥
+    other j h = cc
+full-told error.Refused place told at full = absurd (other place (sym at ∙ full))
+  where
+    other : (j : ℕ) → replay.Refused j ≡ replay.Full → ⊥
+    other j h = cc
+full-told error.Memory place told at full = absurd (other (sym at ∙ full))
+  where
+    other : replay.Memory ≡ replay.Full → ⊥
+    other h = cc
+full-told error.Full place told at full = refl

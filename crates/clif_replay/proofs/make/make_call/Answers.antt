@@ -1,0 +1,68 @@
+use Rattle.std.proofs.Common.{List, sym, subst}
+use Rattle.std.specs.Prelude.{map}
+use Rattle.clif_ssa.specs.Limits.{IsFull}
+use Rattle.clif_meaning.specs.Acceptance.{return_}
+use Rattle.clif_calls.specs.declared.call.Name.{Name}
+use Rattle.clif_calls.specs.declared.plan.Plan.{Plan}
+use Rattle.clif_calls.specs.declared.call.Call.{Call}
+use Rattle.clif_replay.specs.Makes.{Makes, MakesCall, MakesPlan}
+use Rattle.clif_replay.specs.Requests.{name_of}
+use Rattle.clif_replay.proofs.make.make_call.Goals as goal
+
+pub returns-in-CreateBlock : goal.returns-in-CreateBlock
+returns-in-CreateBlock c = subst (λ (x : Call). MakesCall x c.args.builder.now c.create_block.new.builder c.args.answers.now c.create_block.result) (sym c.in-CreateBlock.is) c.create_block.ensures
+
+pub returns-in-SwitchToBlock : goal.returns-in-SwitchToBlock
+returns-in-SwitchToBlock c = subst (λ (x : Call). MakesCall x c.args.builder.now c.switch_to_block.new.builder c.args.answers.now c.switch_to_block.result) (sym c.in-SwitchToBlock.is) c.switch_to_block.ensures
+
+pub returns-in-SealBlock : goal.returns-in-SealBlock
+returns-in-SealBlock c = subst (λ (x : Call). MakesCall x c.args.builder.now c.seal_block.new.builder c.args.answers.now c.seal_block.result) (sym c.in-SealBlock.is) c.seal_block.ensures
+
+pub returns-in-SealAllBlocks : goal.returns-in-SealAllBlocks
+returns-in-SealAllBlocks c = subst (λ (x : Call). MakesCall x c.args.builder.now c.seal_all_blocks.new.builder c.args.answers.now c.seal_all_blocks.result) (sym c.in-SealAllBlocks.is) c.seal_all_blocks.ensures
+
+pub returns-in-InsertBlockAfter : goal.returns-in-InsertBlockAfter
+returns-in-InsertBlockAfter c = subst (λ (x : Call). MakesCall x c.args.builder.now c.insert_block_after.new.builder c.args.answers.now c.insert_block_after.result) (sym c.in-InsertBlockAfter.is) c.insert_block_after.ensures
+
+pub returns-in-SetColdBlock : goal.returns-in-SetColdBlock
+returns-in-SetColdBlock c = subst (λ (x : Call). MakesCall x c.args.builder.now c.set_cold_block.new.builder c.args.answers.now c.set_cold_block.result) (sym c.in-SetColdBlock.is) c.set_cold_block.ensures
+
+pub returns-in-EnsureInsertedBlock : goal.returns-in-EnsureInsertedBlock
+returns-in-EnsureInsertedBlock c = subst (λ (x : Call). MakesCall x c.args.builder.now c.ensure_inserted_block.new.builder c.args.answers.now c.ensure_inserted_block.result) (sym c.in-EnsureInsertedBlock.is) c.ensure_inserted_block.ensures
+
+pub returns-in-AppendBlockParam : goal.returns-in-AppendBlockParam
+returns-in-AppendBlockParam c = subst (λ (x : Call). MakesCall x c.args.builder.now c.append_block_param.new.builder c.args.answers.now c.append_block_param.result) (sym c.in-AppendBlockParam.is) c.append_block_param.ensures
+
+pub returns-in-AppendBlockParamsForFunctionParams : goal.returns-in-AppendBlockParamsForFunctionParams
+returns-in-AppendBlockParamsForFunctionParams c = subst (λ (x : Call). MakesCall x c.args.builder.now c.append_block_params_for_function_params.new.builder c.args.answers.now c.append_block_params_for_function_params.result) (sym c.in-AppendBlockParamsForFunctionParams.is) c.append_block_params_for_function_params.ensures
+
+pub returns-in-AppendBlockParamsForFunctionReturns : goal.returns-in-AppendBlockParamsForFunctionReturns
+returns-in-AppendBlockParamsForFunctionReturns c = subst (λ (x : Call). MakesCall x c.args.builder.now c.append_block_params_for_function_returns.new.builder c.args.answers.now c.append_block_params_for_function_returns.result) (sym c.in-AppendBlockParamsForFunctionReturns.is) c.append_block_params_for_function_returns.ensures
+
+pub returns-in-DeclareVar : goal.returns-in-DeclareVar
+returns-in-DeclareVar c = subst (λ (x : Call). MakesCall x c.args.builder.now c.declare_var.new.builder c.args.answers.now c.declare_var.result) (sym c.in-DeclareVar.is) c.declare_var.ensures
+
+pub returns-in-DefVar : goal.returns-in-DefVar
+returns-in-DefVar c = subst (λ (x : Call). MakesCall x c.args.builder.now c.def_var.new.builder c.args.answers.now c.def_var.result) (sym c.in-DefVar.is) c.def_var.ensures
+
+pub returns-in-UseVar : goal.returns-in-UseVar
+returns-in-UseVar c = subst (λ (x : Call). MakesCall x c.args.builder.now c.use_var.new.builder c.args.answers.now c.use_var.result) (sym c.in-UseVar.is) c.use_var.ensures
+
+pub returns-in-Plain : goal.returns-in-Plain
+returns-in-Plain c =
+    let new = c.make_instruction.new.builder in
+    subst (λ (x : Call). MakesCall x c.args.builder.now new c.args.answers.now c.make_instruction.result) (sym c.in-Plain.is)
+    (subst (λ (p : Plan). MakesPlan p c.args.builder.now new c.args.answers.now c.make_instruction.result) c.plan.ensures c.make_instruction.ensures)
+
+pub returns-in-Jump : goal.returns-in-Jump
+returns-in-Jump c = subst (λ (x : Call). MakesCall x c.args.builder.now c.make_instruction-in-Jump.new.builder c.args.answers.now c.make_instruction-in-Jump.result) (sym c.in-Jump.is) c.make_instruction-in-Jump.ensures
+
+pub returns-in-Brif : goal.returns-in-Brif
+returns-in-Brif c = subst (λ (x : Call). MakesCall x c.args.builder.now c.make_instruction-in-Brif.new.builder c.args.answers.now c.make_instruction-in-Brif.result) (sym c.in-Brif.is) c.make_instruction-in-Brif.ensures
+
+pub returns-in-Return : goal.returns-in-Return
+returns-in-Return c =
+    let new = c.make_instruction-in-Return.new.builder in
+    subst (λ (x : Call). MakesCall x c.args.builder.now new c.args.answers.now c.make_instruction-in-Return.result) (sym c.in-Return.is)
+    (subst (λ (names : List Name). Makes (λ declared ledger. return_ (map name_of names)) (IsFull c.args.builder.now.func.now) c.args.builder.now.ctx.now.variables c.args.builder.now new c.args.answers.now c.make_instruction-in-Return.result)
+    c.as_slice-args.ensures.value c.make_instruction-in-Return.ensures)

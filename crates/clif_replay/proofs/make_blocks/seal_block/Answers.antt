@@ -1,0 +1,38 @@
+use Rattle.std.proofs.Common.{[], sym, ◌∙◌, refl}
+use Rattle.std.proofs.lemmas.Result.{err_from_is_err_and}
+use Rattle.clif_replay.specs.declared.script.Answer.TheVariants as answer
+use Rattle.clif_replay.proofs.Making.{answered-sound, made-answer, made-misuse, made-refused}
+use Rattle.std.proofs.lemmas.Bool.{not-true}
+use Rattle.clif_ssa.specs.Tables.{is_yes}
+use Rattle.clif_ssa.specs.Ssa.{sealed_of}
+use Rattle.clif_replay.specs.Requests.{name_of}
+use Rattle.clif_replay.proofs.ReadyLaws.{ready-more, block-found, block-there}
+use Rattle.clif_replay.proofs.Conditions
+use Rattle.clif_replay.proofs.make_blocks.seal_block.Goals as goal
+
+pub returns-in_default : goal.returns-in_default
+returns-in_default c = made-misuse c.args.builder.now c.args.answers.now (λ declared calls ready. Conditions.seal-none calls c.args.builder.now c.args.answers.now ready c.args.name (sym c.block_named.ensures ∙ c.in_default.is))
+
+pub returns-then-not-may_seal : goal.returns-then-not-may_seal
+returns-then-not-may_seal c = made-misuse c.args.builder.now c.args.answers.now (λ declared calls ready. Conditions.seal-some calls c.args.builder.now c.args.answers.now ready c.args.name c.in-Some.block (sym c.block_named.ensures ∙ c.in-Some.is) ∙ sym c.may_seal.ensures ∙ c.if-not-may_seal.true)
+
+pub seal_block-requires-clause-exists : goal.seal_block-requires-clause-exists
+seal_block-requires-clause-exists c = block-there c.requires.calls c.args.builder.now c.args.answers.now c.requires.ready c.args.name c.in-Some.block (sym c.block_named.ensures ∙ c.in-Some.is)
+
+pub seal_block-requires-clause-unsealed : goal.seal_block-requires-clause-unsealed
+seal_block-requires-clause-unsealed c = not-true (is_yes (sealed_of c.args.builder.now.ctx.now.ssa c.in-Some.block)) (sym c.may_seal.ensures ∙ c.if-not-may_seal.false)
+
+pub returns-in_err-seal_block : goal.returns-in_err-seal_block
+returns-in_err-seal_block c =
+    let done = c.seal_block.ensures in
+    let p = err_from_is_err_and c.from_residual.result c.from_residual.ensures.1 in
+    made-refused c.args.builder.now c.seal_block.new.self c.args.answers.now c.seal_block.result c.in_err-seal_block.field-0.0 p.0 c.from_residual.result c.in_err-seal_block.was p.1 p.2 done.loans c.requires.sound done.failed
+    (λ declared calls ready. Conditions.seal-some calls c.args.builder.now c.args.answers.now ready c.args.name c.in-Some.block (sym c.block_named.ensures ∙ c.in-Some.is) ∙ sym c.may_seal.ensures ∙ c.if-not-may_seal.false) (λ full. (c.seal_block.new.self.func.now, done.constructs full, done.full full))
+
+pub returns : goal.returns
+returns c =
+    let done = c.in_ok-seal_block.ensures in
+    made-answer c.args.builder.now c.seal_block.new.self c.args.answers.now answer.Nothing c.seal_block.ensures.loans done.grows.3
+    (answered-sound _ c.seal_block.result _ c.seal_block.ensures.fails c.in_ok-seal_block.was) c.seal_block.ensures.variables
+    (λ declared calls ready. Conditions.seal-some calls c.args.builder.now c.args.answers.now ready c.args.name c.in-Some.block (sym c.block_named.ensures ∙ c.in-Some.is) ∙ sym c.may_seal.ensures ∙ c.if-not-may_seal.false)
+    (λ declared calls ready. ([], ready-more calls _ c.args.builder.now c.seal_block.new.self _ answer.Nothing ready (done.stands declared calls (name_of c.args.name) ready.stands (block-found calls c.args.builder.now c.args.answers.now ready c.args.name c.in-Some.block (sym c.block_named.ensures ∙ c.in-Some.is))) (refl, refl)))

@@ -1,0 +1,48 @@
+use Rattle.std.proofs.Common.{◌∙◌, ap, refl}
+use Rattle.std.proofs.lemmas.Result.{err_from_is_err_and}
+use Rattle.clif_replay.specs.declared.script.Answer.TheVariants as answer
+use Rattle.clif_replay.proofs.Making.{answered-sound, full-either, made-answer, made-misused, made-refused}
+use Rattle.std.specs.Prelude.{Err}
+use Rattle.clif_replay.proofs.ReadyLaws.{answers-exist, ready-more, value-exists}
+use Rattle.clif_replay.proofs.Conditions.{has-current}
+use Rattle.clif_replay.proofs.Planning.{destinations-lead, instruction-named, operands-exist, opens-planned, plan-same}
+use Rattle.clif_replay.proofs.make_instructions.make_instruction.Goals as goal
+
+pub checked-requires : goal.checked-requires
+checked-requires c = record {
+  answers = answers-exist c.requires.calls c.args.builder.now c.args.answers.now c.requires.ready;
+  values = value-exists c.requires.calls c.args.builder.now c.args.answers.now c.requires.ready;
+}
+
+pub returns-in_err-planned : goal.returns-in_err-planned
+returns-in_err-planned c =
+    let p = err_from_is_err_and c.from_residual.result c.from_residual.ensures.1 in
+    made-misused c.args.builder.now c.args.answers.now c.checked.result c.from_residual.result c.in_err-planned.field-0.0 c.in_err-planned.was (p.1 ∙ ap Err p.2) c.checked.ensures
+    (λ none declared calls ready. plan-same calls c.args.builder.now c.args.answers.now ready c.args.plan.now ∙ none)
+
+pub append-requires-clause-current : goal.append-requires-clause-current
+append-requires-clause-current c = has-current c.requires.calls c.args.builder.now c.args.answers.now c.requires.ready (opens-planned c.args.builder.now c.args.answers.now c.args.plan.now c.in_ok-planned.ensures.may)
+
+pub append-requires-clause-operands_exist : goal.append-requires-clause-operands_exist
+append-requires-clause-operands_exist c = operands-exist c.requires.calls c.args.builder.now c.args.answers.now c.requires.ready c.args.plan.now _ _ c.in_ok-planned.ensures.found
+
+pub append-requires-clause-edges : goal.append-requires-clause-edges
+append-requires-clause-edges c = destinations-lead c.requires.calls c.args.builder.now c.args.answers.now c.requires.ready c.args.plan.now _ _ c.in_ok-planned.ensures.found
+
+pub returns-in_err-inst : goal.returns-in_err-inst
+returns-in_err-inst c =
+    let done = c.append.ensures in
+    let p = err_from_is_err_and c.from_residual-in_err-inst.result c.from_residual-in_err-inst.ensures.1 in
+    made-refused c.args.builder.now c.append.new.builder c.args.answers.now c.append.result c.in_err-inst.field-0.0 p.0 c.from_residual-in_err-inst.result c.in_err-inst.was p.1 p.2 done.loans c.requires.sound done.failed
+    (λ declared calls ready. plan-same calls c.args.builder.now c.args.answers.now ready c.args.plan.now ∙ c.in_ok-planned.ensures.may) (λ full. full-either c.args.builder.now.func.now (done.full full))
+
+pub returns : goal.returns
+returns c =
+    let done = c.in_ok-inst.ensures in
+    let new = c.append.new.builder in
+    made-answer c.args.builder.now new c.args.answers.now (answer.Inst c.in_ok-inst.inst) c.append.ensures.loans done.grows.3
+    (answered-sound _ c.append.result _ c.append.ensures.fails c.in_ok-inst.was) c.append.ensures.variables
+    (λ declared calls ready. plan-same calls c.args.builder.now c.args.answers.now ready c.args.plan.now ∙ c.in_ok-planned.ensures.may)
+    (λ declared calls ready.
+    let shape = instruction-named calls c.args.builder.now c.args.answers.now ready c.args.plan.now _ _ c.in_ok-planned.ensures.found in
+    (_, ready-more calls _ c.args.builder.now new _ (answer.Inst c.in_ok-inst.inst) ready (done.stands declared calls _ ready.stands shape) (_, _, refl, refl)))

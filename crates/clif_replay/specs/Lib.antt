@@ -1,0 +1,6 @@
+pub mod Errors
+pub mod Limits
+pub mod Ready
+pub mod Requests
+pub mod Makes
+pub mod Replay

@@ -1,0 +1,92 @@
+-- What the functions that make calls do. Own.
+use Rattle.std.specs.Prelude.{◌≡◌, ◌≢◌, ◌<◌, ℕ, ◌&&◌, length, List, [], ◌∷◌, map, Bool, true, false, Some, Option, None, OnOk, IfOk, Result, Err}
+use Rattle.std.specs.List.{list_all}
+use Rattle.clif_types.specs.Signature.{SignatureShape}
+use Rattle.clif_types.specs.declared.types.«Type».{«Type»}
+use Rattle.clif_types.specs.declared.types.«Type».TheVariants.{Invalid}
+use Rattle.clif_ir.specs.Body.{Body, value_at}
+use Rattle.clif_ir.specs.Instruction.{destinations, operands}
+use Rattle.clif_ir.specs.declared.block_call.BlockCall.{BlockCall}
+use Rattle.clif_ir.specs.declared.instructions.InstructionData.{InstructionData}
+use Rattle.clif_meaning.specs.Acceptance.{allows, can_operate}
+use Rattle.clif_meaning.specs.Ledger.{Ledger}
+use Rattle.clif_meaning.specs.Request.{AnsweredCall, Request}
+use Rattle.clif_meaning.specs.View.{operation_of}
+use Rattle.clif_ssa.specs.Limits.{IsFull}
+use Rattle.cranelift_frontend.specs.declared.builder.FunctionBuilder.{FunctionBuilder}
+use Rattle.cranelift_frontend.specs.Builder.{SameLoans}
+use Rattle.cranelift_frontend.specs.Ledger.{ledger_of, made_at}
+use Rattle.clif_calls.specs.Plan.{edges_in, operands_in}
+use Rattle.clif_calls.specs.declared.call.Call.{Call}
+use Rattle.clif_calls.specs.declared.call.Edge.{Edge}
+use Rattle.clif_calls.specs.declared.call.Name.{Name}
+use Rattle.clif_calls.specs.declared.plan.Plan.{Plan}
+use Rattle.clif_replay.specs.declared.script.Answer.{Answer}
+use Rattle.clif_replay.specs.declared.script.CallError.{CallError}
+use Rattle.clif_replay.specs.declared.script.CallError.TheVariants as error
+use Rattle.clif_replay.specs.Limits.{MeetsFullTable}
+use Rattle.clif_replay.specs.Ready.{IsFound, IsJudged, IsReady, IsReadyAfter, all_values, is_open, may_lead, types_after, value_of}
+use Rattle.clif_replay.specs.Requests.{controlling_in, operation_in, request_in, request_of}
+
+-- A call was made, which asked this, or wasn't. `Full` is told only where `Meets` holds, and variables have these types
+-- afterwards.
+pub record Makes (asks : SignatureShape → Ledger → Request) (Meets : Type 0) (types : List «Type») (old new : FunctionBuilder) (answers : List Answer) (result : Result Answer CallError) : Type 0 where
+  pub loans : SameLoans old new
+  pub name : OnOk result (new.func.now.name ≡ old.func.now.name)
+  pub ready : (declared : SignatureShape) (calls : List AnsweredCall) → IsReady declared calls old answers
+      → IfOk result (IsReadyAfter declared calls (asks declared (ledger_of calls)) new answers)
+  pub judged : (declared : SignatureShape) (calls : List AnsweredCall) → IsReady declared calls old answers
+      → IsJudged (allows (ledger_of calls) (asks declared (ledger_of calls))) result
+  pub sound : OnOk result (new.failed ≡ false)
+  pub never_refused : result ≢ Err error.Refused
+  pub full : result ≡ Err error.Full → Meets
+  pub variables : OnOk result (new.ctx.now.variables ≡ types)
+
+-- for this call
+abbrev pub MakesCall : Call → FunctionBuilder → FunctionBuilder → List Answer → Result Answer CallError → Type 0
+MakesCall call old new answers result =
+    Makes (λ declared ledger. request_of declared ledger call) (MeetsFullTable call old.func.now old.ctx.now) (types_after call old.ctx.now.variables) old new answers result
+
+-- for an instruction of this plan
+abbrev pub MakesPlan : Plan → FunctionBuilder → FunctionBuilder → List Answer → Result Answer CallError → Type 0
+MakesPlan plan old new answers result =
+    Makes (λ declared ledger. request_in ledger plan) (IsFull old.func.now) old.ctx.now.variables old new answers result
+
+-- What is asked is found, where it is there; or memory is refused.
+pub record Finds {X : Type 0} (Found : X → Type 0) (there : Bool) (result : Result X CallError) : Type 0 where
+  pub found : IfOk result Found
+  pub may : OnOk result (there ≡ true)
+  pub misuse : result ≡ Err error.Misuse → there ≡ false
+  pub never_refused : result ≢ Err error.Refused
+  pub never_full : result ≢ Err error.Full
+
+-- each value to which a name leads exists
+abbrev pub ValuesExist : FunctionBuilder → List Answer → Type 0
+ValuesExist b answers = (name : Name) (value : ℕ) → value_of b.func.now answers name ≡ Some value → value < length b.func.now.values
+
+-- the type of the value, if there is one
+abbrev pub type_in : Body → Option ℕ → «Type»
+type_in f None = Invalid
+type_in f (Some value) = (value_at f value).ty
+
+-- the edges to which names lead
+abbrev pub AreFound : FunctionBuilder → List Answer → List Edge → List BlockCall → Type 0
+AreFound b answers [] [] = Unit {0}
+AreFound b answers (edge ∷ edges) (call ∷ calls) = IsFound b answers edge call × AreFound b answers edges calls
+AreFound b answers _ _ = ⊥
+
+-- an instruction of the plan has this shape and is made at this type
+pub record IsPlanned (b : FunctionBuilder) (answers : List Answer) (plan : Plan) (shape : InstructionData) (ty : «Type») : Type 0 where
+  pub operation : operation_in plan ≡ operation_of shape
+  pub controlling : controlling_in (λ name. type_in b.func.now (value_of b.func.now answers name)) plan ≡ made_at b.func.now shape ty
+  pub operands : map (value_of b.func.now answers) (operands_in plan) ≡ map Some (operands shape)
+  pub edges : AreFound b answers (edges_in plan) (destinations shape)
+
+-- its names lead to values, and its edges may be made
+abbrev pub has_names : FunctionBuilder → List Answer → Plan → Bool
+has_names b answers plan = all_values b.func.now answers (operands_in plan) && list_all (may_lead b answers) (edges_in plan)
+
+-- it may be made
+abbrev pub can_make : FunctionBuilder → List Answer → Plan → Bool
+can_make b answers plan =
+    (is_open b && has_names b answers plan) && can_operate (operation_in plan) (controlling_in (λ name. type_in b.func.now (value_of b.func.now answers name)) plan)

@@ -1,0 +1,191 @@
+-- What holds between the calls of a script: the builder stands for the calls that were made, whose numbers are those
+-- that were answered. Own.
+use Rattle.std.specs.Prelude.{◌≡◌, ℕ, ◌<◌, List, [], ◌∷◌, ◌++◌, length, map, option_map, slice_get, is_some, not, ◌&&◌, ◌+◌, ◌-◌, ◌==◌, nat_lt, Bool, true, false, Option, Some, None, if◌then◌else◌, Result, Ok, Err}
+use Rattle.std.specs.List.{list_all}
+use Rattle.clif_types.specs.declared.types.«Type».{«Type»}
+use Rattle.clif_ir.specs.Body.{Body, inst_at, value_at}
+use Rattle.clif_ir.specs.Reading.{stands_in}
+use Rattle.clif_ir.specs.declared.block_call.BlockArg.{BlockArg}
+use Rattle.clif_ir.specs.declared.block_call.BlockArg.TheVariants.{Value}
+use Rattle.clif_ir.specs.declared.block_call.BlockCall.{BlockCall}
+use Rattle.clif_meaning.specs.SameType.{same_type}
+use Rattle.clif_meaning.specs.Request.{AnsweredCall, Request}
+use Rattle.clif_meaning.specs.Ledger.{Answered, ABlock, AVariable, AValue, AnInstruction}
+use Rattle.clif_simulation.specs.Carries.{numbers_from}
+use Rattle.clif_ssa.specs.Tables.{is_yes}
+use Rattle.clif_ssa.specs.Ssa.{predecessors_of, sealed_of}
+use Rattle.cranelift_frontend.specs.declared.builder.FunctionBuilder.{FunctionBuilder}
+use Rattle.cranelift_frontend.specs.Context.{ContextState, status_of}
+use Rattle.cranelift_frontend.specs.Builder.{is_empty_status, is_filled_status, is_free, is_nothing}
+use Rattle.clif_types.specs.Signature.{SignatureShape}
+use Rattle.cranelift_frontend.specs.Ledger.{ledger_of}
+use Rattle.cranelift_frontend.specs.StandsFor.{StandsFor}
+use Rattle.cranelift_frontend.specs.LedgerLaws.{LedgerIsReadByNumber}
+use Rattle.clif_calls.specs.declared.call.Edge.{Edge}
+use Rattle.clif_calls.specs.declared.call.Name.{Name}
+use Rattle.clif_calls.specs.declared.call.Call.{Call}
+use Rattle.clif_calls.specs.declared.call.Call.TheVariants as call
+use Rattle.clif_replay.specs.declared.script.Answer.{Answer}
+use Rattle.clif_replay.specs.declared.script.Answer.TheVariants as answer
+use Rattle.clif_replay.specs.declared.script.CallError.{CallError}
+use Rattle.clif_replay.specs.declared.script.CallError.TheVariants as error
+
+-- what a call answered: the ledger's answers to it, and their numbers
+abbrev pub AnswerIs : Answer → List Answered → List ℕ → Type 0
+AnswerIs answer.Nothing answered numbers = (answered ≡ []) × (numbers ≡ [])
+AnswerIs (answer.Block b) answered numbers = (answered ≡ ABlock ∷ []) × (numbers ≡ b ∷ [])
+AnswerIs (answer.Variable v) answered numbers = (answered ≡ AVariable v ∷ []) × (numbers ≡ v ∷ [])
+AnswerIs (answer.Values first count) answered numbers =
+    (types : List «Type») × (answered ≡ map AValue types) × (numbers ≡ numbers_from first types) × (count ≡ length types)
+AnswerIs (answer.Inst i) answered numbers =
+    (types : List «Type») × (results : List ℕ) × (answered ≡ AnInstruction ∷ map AValue types) × (numbers ≡ i ∷ results)
+
+-- the builder stands for these calls, on a function of this signature, and these are their answers; and it is known how a
+-- ledger is read
+pub record IsReady (declared : SignatureShape) (calls : List AnsweredCall) (b : FunctionBuilder) (answers : List Answer) : Type 0 where
+  pub reads : LedgerIsReadByNumber
+  pub stands : StandsFor declared calls b
+  pub count : length answers ≡ length calls
+  pub answered : (place : ℕ) (answer : Answer) (call : AnsweredCall) (answered : List Answered)
+      → slice_get answers place ≡ Some answer → slice_get calls place ≡ Some call → slice_get (ledger_of calls).answers place ≡ Some answered
+      → AnswerIs answer answered call.numbers
+
+-- it stands for some calls, and hasn't failed
+pub record IsSound (b : FunctionBuilder) (answers : List Answer) : Type 0 where
+  pub declared : SignatureShape
+  pub calls : List AnsweredCall
+  pub ready : IsReady declared calls b answers
+  pub sound : b.failed ≡ false
+
+-- it stands for one more call, which was this request and gave this answer
+abbrev pub IsReadyAfter : SignatureShape → List AnsweredCall → Request → FunctionBuilder → List Answer → Answer → Type 0
+IsReadyAfter declared calls request b answers answer =
+    (numbers : List ℕ) × IsReady declared (calls ++ record { request = request; numbers = numbers } ∷ []) b (answers ++ answer ∷ [])
+
+-- a call succeeds only where it is allowed, and is a misuse only where it isn't
+abbrev pub IsJudged : Bool → Result Answer CallError → Type 0
+IsJudged allowed (Ok answer) = allowed ≡ true
+IsJudged allowed (Err error.Misuse) = allowed ≡ false
+IsJudged allowed (Err error.Refused) = allowed ≡ true
+IsJudged allowed (Err error.Memory) = Unit {0}
+IsJudged allowed (Err error.Full) = allowed ≡ true
+
+-- the block that a name leads to
+abbrev pub block_in : ℕ → Option Answer → Option ℕ
+block_in index (Some (answer.Block b)) = if index == 0 then Some b else None
+block_in index (Some answer.Nothing) = None
+block_in index (Some (answer.Variable v)) = None
+block_in index (Some (answer.Values first count)) = None
+block_in index (Some (answer.Inst i)) = None
+block_in index None = None
+
+abbrev pub block_of : List Answer → Name → Option ℕ
+block_of answers name = block_in name.answer (slice_get answers name.place)
+
+-- the value that a name leads to: the numbers of values follow one another, and results follow the number of an instruction
+abbrev pub value_in : Body → ℕ → Option Answer → Option ℕ
+value_in f index (Some (answer.Values first count)) = if nat_lt index count then Some (first + index) else None
+value_in f index (Some (answer.Inst i)) = if index == 0 then None else slice_get (inst_at f i).results (index - 1)
+value_in f index (Some answer.Nothing) = None
+value_in f index (Some (answer.Block b)) = None
+value_in f index (Some (answer.Variable v)) = None
+value_in f index None = None
+
+abbrev pub value_of : Body → List Answer → Name → Option ℕ
+value_of f answers name = value_in f name.answer (slice_get answers name.place)
+
+-- an answer that is an instruction is one of the function, and so are values
+abbrev pub AnswerExists : Body → Answer → Type 0
+AnswerExists f (answer.Inst i) = i < length f.insts
+AnswerExists f answer.Nothing = Unit {0}
+AnswerExists f (answer.Block b) = Unit {0}
+AnswerExists f (answer.Variable v) = Unit {0}
+AnswerExists f (answer.Values first count) = (k : ℕ) → k < count → first + k < length f.values
+
+-- there is a current block, and no terminator was appended to it
+abbrev pub is_open_at : Option ℕ → ContextState → Bool
+is_open_at None c = false
+is_open_at (Some block) c = not (is_filled_status (status_of c block))
+
+abbrev pub is_open : FunctionBuilder → Bool
+is_open b = is_open_at b.position b.ctx.now
+
+-- a block may be made current
+abbrev pub can_switch : FunctionBuilder → ℕ → Bool
+can_switch b block = not (is_filled_status (status_of b.ctx.now block)) && is_free b
+
+-- a block may be sealed
+abbrev pub can_seal : FunctionBuilder → ℕ → Bool
+can_seal b block = not (is_yes (sealed_of b.ctx.now.ssa block))
+
+-- a block may get a parameter of the caller's: nothing was made in it
+abbrev pub can_append : FunctionBuilder → ℕ → Bool
+can_append b block = is_empty_status (status_of b.ctx.now block)
+
+-- it may get the function's parameters: no branch leads to it, either
+abbrev pub can_append_function_params : FunctionBuilder → ℕ → Bool
+can_append_function_params b block = can_append b block && is_nothing (predecessors_of b.ctx.now.ssa block)
+
+-- so many values whose numbers follow one another, if there is a first one
+abbrev pub values_from : Option ℕ → ℕ → Answer
+values_from None count = answer.Nothing
+values_from (Some first) count = answer.Values first count
+
+-- the last values of a block's parameters, as many as `count` says
+abbrev pub last_params : List ℕ → ℕ → Answer
+last_params params count = values_from (slice_get params (length params - count)) count
+
+-- a block may be put behind another one: it isn't in the layout, and the other one is
+abbrev pub can_insert : FunctionBuilder → ℕ → ℕ → Bool
+can_insert b block after = not (stands_in block b.func.now.layout) && stands_in after b.func.now.layout
+
+-- a value may be assigned to a variable of this type
+abbrev pub can_define : FunctionBuilder → «Type» → ℕ → Bool
+can_define b ty value = is_open b && same_type ty (value_at b.func.now value).ty
+
+-- a variable of these may be used
+abbrev pub can_use : FunctionBuilder → List «Type» → ℕ → Bool
+can_use b types variable = is_open b && is_some (slice_get types variable)
+
+-- each name leads to a value
+abbrev pub all_values : Body → List Answer → List Name → Bool
+all_values f answers names = list_all (λ name. is_some (value_of f answers name)) names
+
+-- a name leads to a block that isn't sealed
+abbrev pub is_target : FunctionBuilder → Option ℕ → Bool
+is_target b None = false
+is_target b (Some block) = can_seal b block
+
+-- an edge may be made: its target isn't sealed, and each other name leads to a value
+abbrev pub may_lead : FunctionBuilder → List Answer → Edge → Bool
+may_lead b answers edge = is_target b (block_of answers edge.block) && all_values b.func.now answers edge.args.items
+
+-- what a name passes along an edge: the value that it leads to
+abbrev pub argument_of : Body → List Answer → Name → Option BlockArg
+argument_of f answers name = option_map Value (value_of f answers name)
+
+-- the edge to which the names of such an edge lead
+pub record IsFound (b : FunctionBuilder) (answers : List Answer) (edge : Edge) (call : BlockCall) : Type 0 where
+  pub target : block_of answers edge.block ≡ Some call.block
+  pub unsealed : can_seal b call.block ≡ true
+  pub passed : map (argument_of b.func.now answers) edge.args.items ≡ map Some call.args
+
+-- the types of the variables after a call that succeeded
+abbrev pub types_after : Call → List «Type» → List «Type»
+types_after (call.DeclareVar ty) types = types ++ ty ∷ []
+types_after call.CreateBlock types = types
+types_after (call.SwitchToBlock block) types = types
+types_after (call.SealBlock block) types = types
+types_after call.SealAllBlocks types = types
+types_after (call.InsertBlockAfter block after) types = types
+types_after (call.SetColdBlock block) types = types
+types_after call.EnsureInsertedBlock types = types
+types_after (call.AppendBlockParam block ty) types = types
+types_after (call.AppendBlockParamsForFunctionParams block) types = types
+types_after (call.AppendBlockParamsForFunctionReturns block) types = types
+types_after (call.DefVar variable value) types = types
+types_after (call.UseVar variable) types = types
+types_after (call.Plain instruction) types = types
+types_after (call.Jump destination) types = types
+types_after (call.Brif condition block_then block_else) types = types
+types_after (call.Return values) types = types

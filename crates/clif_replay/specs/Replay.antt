@@ -1,0 +1,32 @@
+-- What a replay answers, of the calls, the name and the signature. Own.
+use Rattle.std.specs.Prelude.{◌≡◌, ◌≢◌, ◌<◌, ℕ, List, length, Some, Result, Err}
+use Rattle.clif_types.specs.Signature.{SignatureShape}
+use Rattle.clif_types.specs.declared.extname.UserFuncName.{UserFuncName}
+use Rattle.clif_types.specs.declared.target.PointerWidth.{PointerWidth}
+use Rattle.clif_ir.specs.Body.{Body}
+use Rattle.clif_meaning.specs.View.{view_of}
+use Rattle.clif_meaning.specs.Headline.{MeansTheSame}
+use Rattle.clif_meaning.specs.Premises.{CallersEdgesMatch, PlacementPremises}
+use Rattle.clif_meaning.specs.Typing.{EdgesMatch}
+use Rattle.clif_meaning.specs.WellPlaced.{WellPlaced}
+use Rattle.clif_meaning.specs.Acceptance.{Accepted, verdict_on}
+use Rattle.clif_calls.specs.declared.call.Call.{Call}
+use Rattle.clif_replay.specs.declared.script.ReplayError.{ReplayError}
+use Rattle.clif_replay.specs.declared.script.ReplayError.TheVariants as replay
+use Rattle.clif_replay.specs.Requests.{IsBuiltBy, IsStoppedByTable, requests_of, verdict_of}
+
+-- the function that the calls make
+pub record ReplayMakes (calls : List Call) (name : UserFuncName) (declared : SignatureShape) (width : PointerWidth) (f : Body) : Type 0 where
+  pub same_meaning : MeansTheSame (requests_of declared calls) declared width (view_of f)
+  pub built : IsBuiltBy calls declared f
+  pub edges_match : CallersEdgesMatch (requests_of declared calls) → EdgesMatch (view_of f)
+  pub well_placed : PlacementPremises (requests_of declared calls) declared → WellPlaced (view_of f)
+  pub named : f.name ≡ name
+  pub accepted : verdict_on (requests_of declared calls) ≡ Accepted
+
+-- what an error tells of the calls
+pub record ReplayTells (calls : List Call) (name : UserFuncName) (declared : SignatureShape) (answer : Result Body ReplayError) : Type 0 where
+  pub misuse : (i : ℕ) → answer ≡ Err (replay.Misuse i) → i < length calls
+  pub refused : (i : ℕ) → answer ≡ Err (replay.Refused i) → i ≡ length calls
+  pub table_full : answer ≡ Err replay.Full → IsStoppedByTable calls name declared
+  pub verdict : answer ≢ Err replay.Memory → answer ≢ Err replay.Full → verdict_of answer ≡ Some (verdict_on (requests_of declared calls))

@@ -1,0 +1,133 @@
+-- What a list of calls is as a script, and what comes of it as a verdict on that script. Own.
+use Rattle.std.specs.Prelude.{◌≡◌, ℕ, List, [], ◌∷◌, ◌++◌, map, take, drop, slice_get, Option, Some, None, true, Result, Ok, Err}
+use Rattle.clif_ir.specs.Body.{Body}
+use Rattle.clif_meaning.specs.Event.{types_of}
+use Rattle.clif_meaning.specs.Name.{Name}
+use Rattle.clif_meaning.specs.Instruction.{Binary, Brif, Compute, Edge, Iconst, Jump, Known, Operation, Return, Unary}
+use Rattle.clif_meaning.specs.Request.{Request, CreateBlock, SwitchToBlock, SealBlock, SealAllBlocks, InsertBlockAfter, SetColdBlock, EnsureInsertedBlock, AppendBlockParams, AppendFunctionParams, DeclareVar, DefVar, UseVar, Build, Finalize, Script, AnsweredCall, script_of}
+use Rattle.clif_meaning.specs.Ledger.{Ledger, empty_ledger, ledger_after, ledger_with, or_invalid, type_of}
+use Rattle.clif_meaning.specs.Acceptance.{Verdict, Accepted, Misuse, Refused, jump, brif, return_, allows, verdict_from, verdict_on}
+use Rattle.clif_types.specs.declared.types.«Type».{«Type»}
+use Rattle.clif_types.specs.declared.types.«Type».TheVariants.{Invalid}
+use Rattle.clif_types.specs.Signature.{SignatureShape}
+use Rattle.clif_types.specs.declared.extname.UserFuncName.{UserFuncName}
+use Rattle.cranelift_frontend.specs.Context.{ContextState}
+use Rattle.cranelift_frontend.specs.StandsFor.{LeavesNoParameter, StandsIn}
+use Rattle.clif_calls.specs.declared.call.Name as named
+use Rattle.clif_calls.specs.declared.call.Edge as script
+use Rattle.clif_calls.specs.declared.call.Call.{Call}
+use Rattle.clif_calls.specs.declared.call.Call.TheVariants as call
+use Rattle.clif_calls.specs.Plan.{edges_in, operands_in, plan_of}
+use Rattle.clif_calls.specs.declared.plan.Plan.{Plan}
+use Rattle.clif_calls.specs.declared.plan.Plan.TheVariants as plan
+use Rattle.clif_replay.specs.declared.script.ReplayError.{ReplayError}
+use Rattle.clif_replay.specs.declared.script.ReplayError.TheVariants as replay
+use Rattle.clif_replay.specs.Limits.{MeetsFullTable}
+
+-- an answer's name: the place of the call, and the number among its answers
+abbrev pub name_of : named.Name → Name
+name_of name = record { place = name.place; index = name.answer }
+
+-- an edge, and what it passes
+abbrev pub edge_of : script.Edge → Edge Name Name
+edge_of destination = record { target = name_of destination.block; arguments = map (λ name. Known (name_of name)) destination.args.items }
+
+-- what an instruction of a plan does
+abbrev pub operation_in : Plan → Operation
+operation_in (plan.UnaryImm ty imm) = Compute (Iconst imm)
+operation_in (plan.Unary opcode arg) = Compute (Unary opcode)
+operation_in (plan.Binary opcode args) = Compute (Binary opcode)
+operation_in (plan.Jump destination) = Jump
+operation_in (plan.Brif condition block_then block_else) = Brif
+operation_in (plan.MultiAry args) = Return
+
+-- the type of the first operand, by the types of names
+abbrev pub first_type : (named.Name → «Type») → List named.Name → «Type»
+first_type typed [] = Invalid
+first_type typed (name ∷ names) = typed name
+
+-- the type at which it is made: its own, or that of its first operand
+abbrev pub controlling_in : (named.Name → «Type») → Plan → «Type»
+controlling_in typed (plan.UnaryImm ty imm) = ty
+controlling_in typed (plan.Unary opcode arg) = typed arg
+controlling_in typed (plan.Binary opcode args) = first_type typed args
+controlling_in typed (plan.Jump destination) = Invalid
+controlling_in typed (plan.Brif condition block_then block_else) = typed condition
+controlling_in typed (plan.MultiAry args) = Invalid
+
+-- the request of an instruction, which is made at types that the ledger tells
+abbrev pub request_in : Ledger → Plan → Request
+request_in ledger plan =
+    Build (record { operation = operation_in plan; controlling = controlling_in (λ name. or_invalid (type_of ledger (name_of name))) plan; operands = map name_of (operands_in plan); edges = map edge_of (edges_in plan) })
+
+-- the request of a call, on a function of this signature. `brif` is made at the type of its condition, which the ledger
+-- tells.
+abbrev pub request_of : SignatureShape → Ledger → Call → Request
+request_of signature ledger call.CreateBlock = CreateBlock
+request_of signature ledger (call.SwitchToBlock block) = SwitchToBlock (name_of block)
+request_of signature ledger (call.SealBlock block) = SealBlock (name_of block)
+request_of signature ledger call.SealAllBlocks = SealAllBlocks
+request_of signature ledger (call.InsertBlockAfter block after) = InsertBlockAfter (name_of block) (name_of after)
+request_of signature ledger (call.SetColdBlock block) = SetColdBlock (name_of block)
+request_of signature ledger call.EnsureInsertedBlock = EnsureInsertedBlock
+request_of signature ledger (call.AppendBlockParam block ty) = AppendBlockParams (name_of block) (ty ∷ [])
+request_of signature ledger (call.AppendBlockParamsForFunctionParams block) = AppendFunctionParams (name_of block) (types_of signature.params)
+request_of signature ledger (call.AppendBlockParamsForFunctionReturns block) = AppendBlockParams (name_of block) (types_of signature.returns)
+request_of signature ledger (call.DeclareVar ty) = DeclareVar ty
+request_of signature ledger (call.DefVar variable value) = DefVar variable (name_of value)
+request_of signature ledger (call.UseVar variable) = UseVar variable
+request_of signature ledger (call.Plain instruction) = request_in ledger (plan_of instruction)
+request_of signature ledger (call.Jump destination) = jump (edge_of destination)
+request_of signature ledger (call.Brif condition block_then block_else) = brif ledger (name_of condition) (edge_of block_then) (edge_of block_else)
+request_of signature ledger (call.Return values) = return_ (map name_of values.items)
+
+-- the requests of calls, each at the ledger of the ones before it
+abbrev pub requests_from : SignatureShape → Ledger → List Call → Script
+requests_from signature ledger [] = []
+requests_from signature ledger (call ∷ calls) =
+    request_of signature ledger call ∷ requests_from signature (ledger_with ledger (request_of signature ledger call)) calls
+
+abbrev pub requests_of : SignatureShape → List Call → Script
+requests_of signature calls = requests_from signature empty_ledger calls
+
+-- the first calls of a list were made, as many as `place` says, and the verdict on the list is that on the rest
+pub record IsReplayed (signature : SignatureShape) (calls : List Call) (place : ℕ) (made : List AnsweredCall) : Type 0 where
+  pub script : script_of made ≡ requests_of signature (take place calls)
+  pub rest : verdict_on (requests_of signature calls)
+      ≡ verdict_from place (ledger_after (script_of made)) (requests_from signature (ledger_after (script_of made)) (drop place calls) ++ Finalize ∷ [])
+
+-- the verdict that a replay's answer tells; refused memory and a full table tell none
+abbrev pub verdict_of : Result Body ReplayError → Option Verdict
+verdict_of (Ok function) = Some Accepted
+verdict_of (Err (replay.Misuse place)) = Some (Misuse place)
+verdict_of (Err (replay.Refused place)) = Some (Refused place)
+verdict_of (Err replay.Memory) = None
+verdict_of (Err replay.Full) = None
+
+-- The function was built by these calls, and by no others: a builder of it, with this context and current block, stands
+-- for them, on a function of the caller's signature; and no variable's parameter is left in a block to which at most one
+-- branch leads.
+pub record IsBuiltBy (calls : List Call) (declared : SignatureShape) (f : Body) : Type 0 where
+  pub made : List AnsweredCall
+  pub script : script_of made ≡ requests_of declared calls
+  pub context : ContextState
+  pub position : Option ℕ
+  pub stands : StandsIn declared made f context position
+  pub parameters : LeavesNoParameter made f context.ssa
+
+-- A full table ends a list of calls: the calls before some place were made, and a builder of a function of this name and
+-- signature, with this context and current block, stands for them; and the call at that place is allowed then, and meets a full
+-- table.
+pub record IsStoppedByTable (calls : List Call) (name : UserFuncName) (declared : SignatureShape) : Type 0 where
+  pub place : ℕ
+  pub call : Call
+  pub here : slice_get calls place ≡ Some call
+  pub made : List AnsweredCall
+  pub replayed : IsReplayed declared calls place made
+  pub function : Body
+  pub context : ContextState
+  pub position : Option ℕ
+  pub stands : StandsIn declared made function context position
+  pub named : function.name ≡ name
+  pub allowed : allows (ledger_after (script_of made)) (request_of declared (ledger_after (script_of made)) call) ≡ true
+  pub meets : MeetsFullTable call function context

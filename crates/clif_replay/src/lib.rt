@@ -1,0 +1,11 @@
+//! Scripts, lists of builder calls, are replayed: each call is made on a builder, in order.
+#![tactic(auto)]
+
+mod make;
+mod make_blocks;
+mod make_instructions;
+mod make_parameters;
+mod names;
+mod script;
+
+pub use script::{ReplayError, replay};

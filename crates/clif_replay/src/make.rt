@@ -1,0 +1,195 @@
+//! The calls of a script, each made on a builder if its condition holds.
+ghost use Rattle.std.specs.Prelude.{◌≡◌, ◌<◌, length, slice_get, IsTrue, ◌↔◌};
+ghost use Rattle.cranelift_frontend.specs.Builder.{is_declarable};
+ghost use Rattle.clif_replay.specs.Makes.{MakesCall};
+ghost use Rattle.clif_replay.specs.Ready.{IsSound, is_open, can_define, can_use};
+
+use crate::make_blocks::{
+    create_block, ensure_inserted_block, insert_block_after, seal_all_blocks, seal_block,
+    set_cold_block, switch_to_block,
+};
+use crate::make_instructions::make_instruction;
+use crate::make_parameters::{
+    append_block_param, append_block_params_for_function_params,
+    append_block_params_for_function_returns,
+};
+use crate::names::value_named;
+use crate::script::{Answer, CallError};
+use clif_calls::{Call, Name, Plan};
+use clif_ssa::Variable;
+use clif_types::{EntityRef, LaneType, Type, Value};
+use cranelift_frontend::FunctionBuilder;
+
+// Makes one call, where its conditions hold.
+pub(crate) fn make_call(
+    builder: &mut FunctionBuilder<'_>,
+    answers: &[Answer],
+    types: &[Type],
+    call: &Call,
+) -> Result<Answer, CallError>
+    requires sound { IsSound builder.old answers.now }
+    requires types { types.now ≡ builder.old.ctx.now.variables }
+    ensures { MakesCall call.now builder.old builder.new answers.now result }
+{
+    match call {
+        Call::CreateBlock => create_block(builder, answers),
+        Call::SwitchToBlock { block } => switch_to_block(builder, answers, *block),
+        Call::SealBlock { block } => seal_block(builder, answers, *block),
+        Call::SealAllBlocks => seal_all_blocks(builder, answers),
+        Call::InsertBlockAfter { block, after } => {
+            insert_block_after(builder, answers, *block, *after)
+        }
+        Call::SetColdBlock { block } => set_cold_block(builder, answers, *block),
+        Call::EnsureInsertedBlock => ensure_inserted_block(builder, answers),
+        Call::AppendBlockParam { block, ty } => append_block_param(builder, answers, *block, *ty),
+        Call::AppendBlockParamsForFunctionParams { block } => {
+            append_block_params_for_function_params(builder, answers, *block)
+        }
+        Call::AppendBlockParamsForFunctionReturns { block } => {
+            append_block_params_for_function_returns(builder, answers, *block)
+        }
+        Call::DeclareVar { ty } => declare_var(builder, answers, *ty),
+        Call::DefVar { variable, value } => def_var(builder, answers, types, *variable, *value),
+        Call::UseVar { variable } => use_var(builder, answers, types, *variable),
+        Call::Plain(instruction) => make_instruction(builder, answers, &instruction.plan()),
+        Call::Jump { destination } => {
+            make_instruction(builder, answers, &Plan::Jump { destination })
+        }
+        Call::Brif {
+            condition,
+            block_then,
+            block_else,
+        } => {
+            let condition = *condition;
+            let plan = Plan::Brif {
+                condition,
+                block_then,
+                block_else,
+            };
+            make_instruction(builder, answers, &plan)
+        }
+        Call::Return { values } => {
+            let args = values.as_slice();
+            make_instruction(builder, answers, &Plan::MultiAry { args })
+        }
+    }
+}
+
+// `declare_var(ty)`, for a type that a variable may have so far.
+fn declare_var(
+    builder: &mut FunctionBuilder<'_>,
+    answers: &[Answer],
+    ty: Type,
+) -> Result<Answer, CallError>
+    requires { IsSound builder.old answers.now }
+    ensures { MakesCall (Call.DeclareVar ty) builder.old builder.new answers.now result }
+{
+    if !is_declarable(ty) {
+        return Err(CallError::Misuse);
+    }
+    let variable = builder.declare_var(ty)?;
+    Ok(Answer::Variable(variable))
+}
+
+// Whether a variable may have this type so far.
+fn is_declarable(ty: Type) -> bool
+    ensures { result ≡ is_declarable ty }
+{
+    match ty {
+        Type::Lane(LaneType::I8 | LaneType::I16 | LaneType::I32 | LaneType::I64) => true,
+        Type::Lane(_) | Type::Vector(..) | Type::Invalid => false,
+    }
+}
+
+// Whether there is a current block to which no terminator was appended.
+pub(crate) fn has_current(builder: &FunctionBuilder<'_>) -> bool
+    ensures { result ≡ is_open builder.now }
+{
+    match builder.current_block() {
+        None => false,
+        Some(block) => !builder.is_filled(block),
+    }
+}
+
+// Whether two types are equal.
+fn is_same_type(a: Type, b: Type) -> bool
+    ensures { IsTrue result ↔ (a ≡ b) }
+{
+    a == b
+}
+
+// Whether a value may be assigned to a variable of a type: in a current unfilled block, if the value has the type.
+#[tactic(auto, using(crate::proofs::Conditions::same_from_iff))]
+fn may_define(builder: &FunctionBuilder<'_>, ty: Type, value: Value) -> bool
+    requires { value < length builder.now.func.now.values }
+    ensures { result ≡ can_define builder.now ty value }
+{
+    has_current(builder) && is_same_type(ty, builder.func().value_type(value))
+}
+
+// Whether a variable may be used: in a current unfilled block, if it is declared.
+fn may_use(builder: &FunctionBuilder<'_>, types: &[Type], variable: Variable) -> bool
+    ensures { result ≡ can_use builder.now types.now variable }
+{
+    has_current(builder) && type_of(types, variable).is_some()
+}
+
+// The type of a variable, if it is declared.
+fn type_of(types: &[Type], variable: Variable) -> Option<Type>
+    ensures { result ≡ slice_get types.now variable }
+{
+    types.get(variable.index()).copied()
+}
+
+// `def_var(variable, value)`, in a current unfilled block, where the variable is declared with the value's type.
+fn def_var(
+    builder: &mut FunctionBuilder<'_>,
+    answers: &[Answer],
+    types: &[Type],
+    variable: Variable,
+    name: Name,
+) -> Result<Answer, CallError>
+    requires sound { IsSound builder.old answers.now }
+    requires types { types.now ≡ builder.old.ctx.now.variables }
+    ensures { MakesCall (Call.DefVar variable name) builder.old builder.new answers.now result }
+{
+    let Some(value) = value_named(builder.func(), answers, name) else {
+        return Err(CallError::Misuse);
+    };
+    let Some(ty) = type_of(types, variable) else {
+        return Err(CallError::Misuse);
+    };
+    if !may_define(builder, ty, value) {
+        return Err(CallError::Misuse);
+    }
+    builder.def_var(variable, value)?;
+    Ok(Answer::Nothing)
+}
+
+// `use_var(variable)`, in a current unfilled block, where the variable is declared.
+fn use_var(
+    builder: &mut FunctionBuilder<'_>,
+    answers: &[Answer],
+    types: &[Type],
+    variable: Variable,
+) -> Result<Answer, CallError>
+    requires sound { IsSound builder.old answers.now }
+    requires types { types.now ≡ builder.old.ctx.now.variables }
+    ensures { MakesCall (Call.UseVar variable) builder.old builder.new answers.now result }
+{
+    if !may_use(builder, types, variable) {
+        return Err(CallError::Misuse);
+    }
+    let value = builder.use_var(variable)?;
+    Ok(one_value(value))
+}
+
+// The answer of a call that answers this value alone.
+pub(crate) fn one_value(value: Value) -> Answer
+    ensures { result ≡ Answer.Values value 1 }
+{
+    Answer::Values {
+        first: value,
+        count: 1,
+    }
+}

@@ -1,0 +1,150 @@
+//! What the names of a script lead to.
+ghost use Rattle.std.specs.Prelude.{◌≡◌, ◌≢◌, ◌<◌, ◌+◌, ◌-◌, ◌∷◌, [], ℕ, map, length, slice_index_or, EachIndex, Some, None, nat_lt, if◌then◌else◌, IfOk, Err, false};
+ghost use Rattle.std.specs.List.{list_all};
+ghost use Rattle.clif_replay.specs.Makes.{AreFound, Finds};
+ghost use Rattle.clif_replay.specs.Ready.{IsFound, AnswerExists, all_values, argument_of, block_of, may_lead, value_in, value_of};
+
+use crate::make_blocks::may_seal;
+use crate::script::{Answer, CallError};
+use clif_calls::{Edge, Name};
+use clif_ir::{BlockArg, BlockArgs, BlockCall, Function, ValueList};
+use clif_types::{Block, EntityRef, Value};
+use cranelift_frontend::FunctionBuilder;
+
+// The block that a name leads to.
+pub(crate) fn block_named(answers: &[Answer], name: Name) -> Option<Block>
+    ensures { result ≡ block_of answers.now name }
+{
+    match answers.get(name.place) {
+        Some(Answer::Block(block)) if name.answer == 0 => Some(*block),
+        _ => None,
+    }
+}
+
+// One of so many values whose numbers follow one another.
+fn value_among(func: &Function, first: Value, count: usize, place: usize) -> Option<Value>
+    requires { (k : ℕ) → k < count → first + k < length func.now.values }
+    ensures { result ≡ (if nat_lt place count then Some (first + place) else None) }
+{
+    if place >= count {
+        return None;
+    }
+    func.law_consistent();
+    Some(Value::new(first.index() + place))
+}
+
+// The value at a place among what one call answered.
+fn value_in(func: &Function, answer: Answer, place: usize) -> Option<Value>
+    requires { AnswerExists func.now answer }
+    ensures { result ≡ value_in func.now place (Some answer) }
+{
+    match answer {
+        Answer::Values { first, count } => value_among(func, first, count, place),
+        Answer::Inst(inst) if place > 0 => func.inst_results(inst).get(place - 1).copied(),
+        Answer::Inst(_) | Answer::Nothing | Answer::Block(_) | Answer::Variable(_) => None,
+    }
+}
+
+// The value that a name leads to.
+pub(crate) fn value_named(func: &Function, answers: &[Answer], name: Name) -> Option<Value>
+    requires { EachIndex answers.now (λ k. AnswerExists func.now (slice_index_or answers.now k Answer.Nothing)) }
+    ensures { result ≡ value_of func.now answers.now name }
+{
+    match answers.get(name.place) {
+        Some(answer) => value_in(func, *answer, name.answer),
+        None => None,
+    }
+}
+
+// The values that names lead to.
+pub(crate) fn values_named(
+    func: &Function,
+    answers: &[Answer],
+    names: &[Name],
+) -> Result<ValueList, CallError>
+    requires { EachIndex answers.now (λ k. AnswerExists func.now (slice_index_or answers.now k Answer.Nothing)) }
+    ensures values { IfOk result (λ values. map (value_of func.now answers.now) names.now ≡ map Some values) }
+    ensures misuse { result ≡ Err CallError.Misuse → all_values func.now answers.now names.now ≡ false }
+    ensures never_full { result ≢ Err CallError.Full }
+    ensures never_refused { result ≢ Err CallError.Refused }
+{
+    let mut values = ValueList::new(func.allocator());
+    for name in names.iter() {
+        let value = value_named(func, answers, *name).ok_or(CallError::Misuse)?;
+        values.push(value)?;
+    }
+    Ok(values)
+}
+
+// What names pass along an edge: the values that they lead to.
+fn arguments_named(
+    func: &Function,
+    answers: &[Answer],
+    names: &[Name],
+) -> Result<BlockArgs, CallError>
+    requires { EachIndex answers.now (λ k. AnswerExists func.now (slice_index_or answers.now k Answer.Nothing)) }
+    ensures passed { IfOk result (λ args. map (argument_of func.now answers.now) names.now ≡ map Some args) }
+    ensures misuse { result ≡ Err CallError.Misuse → all_values func.now answers.now names.now ≡ false }
+    ensures never_full { result ≢ Err CallError.Full }
+    ensures never_refused { result ≢ Err CallError.Refused }
+{
+    let mut args = BlockArgs::new(func.allocator());
+    for name in names.iter() {
+        let value = value_named(func, answers, *name).ok_or(CallError::Misuse)?;
+        args.push(BlockArg::Value(value))?;
+    }
+    Ok(args)
+}
+
+// The edge that names lead to, where its target isn't sealed.
+pub(crate) fn edge_named(
+    builder: &FunctionBuilder<'_>,
+    answers: &[Answer],
+    edge: &Edge,
+) -> Result<BlockCall, CallError>
+    requires { EachIndex answers.now (λ k. AnswerExists builder.now.func.now (slice_index_or answers.now k Answer.Nothing)) }
+    ensures { Finds (IsFound builder.now answers.now edge.now) (may_lead builder.now answers.now edge.now) result }
+{
+    let Some(block) = block_named(answers, edge.block) else {
+        return Err(CallError::Misuse);
+    };
+    if !may_seal(builder, block) {
+        return Err(CallError::Misuse);
+    }
+    let args = arguments_named(builder.func(), answers, edge.args.as_slice())?;
+    Ok(BlockCall { block, args })
+}
+
+// The two values that names lead to.
+pub(crate) fn two_values(
+    func: &Function,
+    answers: &[Answer],
+    names: &[Name; 2],
+) -> Result<(Value, Value), CallError>
+    requires { EachIndex answers.now (λ k. AnswerExists func.now (slice_index_or answers.now k Answer.Nothing)) }
+    ensures { Finds (λ pair. map (value_of func.now answers.now) names.now ≡ map Some (pair.0 ∷ pair.1 ∷ [])) (all_values func.now answers.now names.now) result }
+{
+    let [x, y] = *names;
+    let Some(x) = value_named(func, answers, x) else {
+        return Err(CallError::Misuse);
+    };
+    let Some(y) = value_named(func, answers, y) else {
+        return Err(CallError::Misuse);
+    };
+    Ok((x, y))
+}
+
+// The two edges that names lead to.
+pub(crate) fn two_edges(
+    builder: &FunctionBuilder<'_>,
+    answers: &[Answer],
+    first: &Edge,
+    second: &Edge,
+) -> Result<[BlockCall; 2], CallError>
+    requires { EachIndex answers.now (λ k. AnswerExists builder.now.func.now (slice_index_or answers.now k Answer.Nothing)) }
+    ensures { Finds (AreFound builder.now answers.now (first.now ∷ second.now ∷ [])) (list_all (may_lead builder.now answers.now) (first.now ∷ second.now ∷ [])) result }
+{
+    let first = edge_named(builder, answers, first)?;
+    let second = edge_named(builder, answers, second)?;
+    Ok([first, second])
+}

@@ -1,0 +1,218 @@
+//! Scripts are replayed: each call is made on a builder, in order, if its condition holds.
+ghost use Rattle.std.specs.Prelude.{◌≡◌, ◌≢◌, ℕ, ◌<◌, List, [], length, false, OnOk, IfOk, IfErr, Err, Some};
+ghost use Rattle.clif_meaning.specs.Request.{AnsweredCall};
+ghost use Rattle.clif_meaning.specs.Acceptance as acceptance;
+ghost use Rattle.cranelift_frontend.specs.StandsFor.{StandsFor};
+ghost use Rattle.clif_meaning.specs.View.{view_of};
+ghost use Rattle.clif_meaning.specs.Headline.{MeansTheSame};
+ghost use Rattle.clif_meaning.specs.Premises.{CallersEdgesMatch, PlacementPremises};
+ghost use Rattle.clif_meaning.specs.Typing.{EdgesMatch};
+ghost use Rattle.clif_meaning.specs.WellPlaced.{WellPlaced};
+ghost use Rattle.clif_replay.specs.Replay.{ReplayMakes, ReplayTells};
+ghost use Rattle.clif_replay.specs.Requests.{IsBuiltBy, IsReplayed, IsStoppedByTable, requests_of, verdict_of};
+ghost use Rattle.clif_ir.specs.Body.{empty_body};
+ghost use Rattle.cranelift_frontend.specs.Builder.{SameLoans};
+ghost use Rattle.cranelift_frontend.specs.Context.{empty_context};
+ghost use Rattle.clif_replay.specs.Errors.{call_error_of, replay_error_at, call_memory, replay_memory, replay_error_text};
+
+use crate::make::make_call;
+use clif_calls::Call;
+use clif_ir::Function;
+use clif_ssa::Variable;
+use clif_types::{
+    Block, BuildError, Inst, Signature, TargetFrontendConfig, Type, UserFuncName, Value,
+};
+use cranelift_frontend::laws::ledger_is_read_by_number;
+use cranelift_frontend::{FinalizeError, FunctionBuilder, FunctionBuilderContext};
+use std::alloc::{AllocFailed, Global};
+use std::error::Error;
+use std::fmt;
+
+/// Why a script didn't become a function.
+///
+/// Calls are numbered from 0 on; `finalize`, which follows the last call, has the number of calls as its
+/// place. What is told is the first call that didn't succeed, and no call after it was made.
+#[derive(Clone, Copy, Debug, PartialEq, Eq)]
+pub enum ReplayError {
+    /// A condition of the call at this place doesn't hold, or a name in it leads to no such answer: the
+    /// script is wrong. It prints as `misuse at call 3`.
+    Misuse(usize),
+    /// The call at this place was refused, for another cause than memory or a full table; so far only
+    /// `finalize` is, where a block was begun and not sealed or not filled. It prints as
+    /// `refused at call 4`.
+    Refused(usize),
+    /// Memory was refused. It prints as `no memory`.
+    Memory,
+    /// A call that may be made met a table that holds 2^32 - 1 entries. It prints as `table full`.
+    Full,
+}
+
+impl fmt::Display for ReplayError {
+    ghost output = { λ e. Some (replay_error_text e) };
+
+    fn fmt<W: fmt::Write>(&self, f: &mut fmt::Formatter<W>) -> fmt::Result {
+        match self {
+            ReplayError::Misuse(place) => write!(f, "misuse at call {place}"),
+            ReplayError::Refused(place) => write!(f, "refused at call {place}"),
+            ReplayError::Memory => write!(f, "no memory"),
+            ReplayError::Full => write!(f, "table full"),
+        }
+    }
+}
+
+impl Error for ReplayError {}
+
+// What a call answered: its values have numbers that follow one another, and the results of an
+// instruction are asked of the function.
+#[derive(Clone, Copy, Debug, PartialEq, Eq)]
+pub(crate) enum Answer {
+    Nothing,
+    Block(Block),
+    Variable(Variable),
+    Values { first: Value, count: usize },
+    Inst(Inst),
+}
+
+// Why one call didn't succeed.
+#[derive(Clone, Copy, Debug, PartialEq, Eq)]
+pub(crate) enum CallError {
+    Misuse,
+    Refused,
+    Memory,
+    Full,
+}
+
+impl From<BuildError> for CallError {
+    ghost from_gives = { λ refusal error. error ≡ call_error_of refusal };
+
+    fn from(error: BuildError) -> CallError {
+        match error {
+            BuildError::Memory => CallError::Memory,
+            BuildError::Full => CallError::Full,
+            BuildError::Failed => CallError::Refused,
+        }
+    }
+}
+
+impl<T: Drop> From<AllocFailed<T>> for CallError {
+    ghost from_gives = { λ _ error. error ≡ call_memory };
+
+    fn from(_error: AllocFailed<T>) -> CallError {
+        CallError::Memory
+    }
+}
+
+impl<T: Drop> From<AllocFailed<T>> for ReplayError {
+    ghost from_gives = { λ _ error. error ≡ replay_memory };
+
+    fn from(_error: AllocFailed<T>) -> ReplayError {
+        Self::Memory
+    }
+}
+
+impl CallError {
+    // The same, of the call at a place.
+    fn at(self, place: usize) -> ReplayError
+        ensures { result ≡ replay_error_at self place }
+    {
+        match self {
+            CallError::Misuse => ReplayError::Misuse(place),
+            CallError::Refused => ReplayError::Refused(place),
+            CallError::Memory => ReplayError::Memory,
+            CallError::Full => ReplayError::Full,
+        }
+    }
+}
+
+/// Makes the calls, in order, on a builder of a new function with this name and signature, and finishes
+/// the function by `finalize(config)`.
+///
+/// Each call is made only if its conditions hold, which are tested here, so every list of calls may be
+/// passed. `ctx` is empty, and is empty afterwards in every case, so it serves the next script.
+///
+/// # Errors
+///
+/// The first call that doesn't succeed ends the replay, and is told as [`ReplayError`] says.
+pub fn replay(
+    alloc: Global,
+    calls: &[Call],
+    name: UserFuncName,
+    signature: Signature,
+    ctx: &mut FunctionBuilderContext,
+    config: TargetFrontendConfig,
+) -> Result<Function, ReplayError>
+    requires { ctx.old ≡ empty_context }
+    ensures same_meaning { IfOk result (λ function. MeansTheSame (requests_of signature calls.now) signature config.pointer_width (view_of function)) }
+    ensures built { IfOk result (λ function. IsBuiltBy calls.now signature function) }
+    ensures edges_match { IfOk result (λ function. CallersEdgesMatch (requests_of signature calls.now) → EdgesMatch (view_of function)) }
+    ensures well_placed { IfOk result (λ function. PlacementPremises (requests_of signature calls.now) signature → WellPlaced (view_of function)) }
+    ensures name { IfOk result (λ function. function.name ≡ name) }
+    ensures context { ctx.new ≡ empty_context }
+    ensures misuse { (i : ℕ) → result ≡ Err (ReplayError.Misuse i) → i < length calls.now }
+    ensures refused { (i : ℕ) → result ≡ Err (ReplayError.Refused i) → i ≡ length calls.now }
+    ensures table_full { result ≡ Err ReplayError.Full → IsStoppedByTable calls.now name signature }
+    ensures verdict { result ≢ Err ReplayError.Memory → result ≢ Err ReplayError.Full → verdict_of result ≡ Some (acceptance.verdict_on (requests_of signature calls.now)) }
+{
+    let mut func = Function::with_name_signature(alloc, name, signature);
+    build(alloc, calls, &mut func, ctx, config)?;
+    Ok(func)
+}
+
+// Makes the calls, in order, on a builder of a function that is empty, and finishes it.
+fn build(
+    alloc: Global,
+    calls: &[Call],
+    func: &mut Function,
+    ctx: &mut FunctionBuilderContext,
+    config: TargetFrontendConfig,
+) -> Result<(), ReplayError>
+    requires fresh { func.old ≡ empty_body func.old.name func.old.signature }
+    requires empty { ctx.old ≡ empty_context }
+    ensures finished { OnOk result (ReplayMakes calls.now func.old.name func.old.signature config.pointer_width func.new) }
+    ensures told { IfErr result (λ error. ReplayTells calls.now func.old.name func.old.signature (Err error)) }
+    ensures context { ctx.new ≡ empty_context }
+{
+    let mut builder = FunctionBuilder::new(func, ctx);
+    let made = make_calls(alloc, &mut builder, calls);
+    let finished = builder.finalize(config);
+    made?;
+    match finished {
+        Ok(()) => Ok(()),
+        Err(FinalizeError::Memory) => Err(ReplayError::Memory),
+        Err(FinalizeError::Full) => Err(ReplayError::Full),
+        Err(_) => Err(ReplayError::Refused(calls.len())),
+    }
+}
+
+// Makes the calls, in order.
+fn make_calls(
+    alloc: Global,
+    builder: &mut FunctionBuilder<'_>,
+    calls: &[Call],
+) -> Result<(), ReplayError>
+    requires ready { StandsFor builder.old.func.now.signature [] builder.old }
+    requires types { builder.old.ctx.now.variables ≡ [] }
+    requires sound { builder.old.failed ≡ false }
+    ensures loans { SameLoans builder.old builder.new }
+    ensures name { OnOk result (builder.new.func.now.name ≡ builder.old.func.now.name) }
+    ensures ready { OnOk result ((made : List AnsweredCall) × StandsFor builder.old.func.now.signature made builder.new × IsReplayed builder.old.func.now.signature calls.now (length calls.now) made) }
+    ensures sound { OnOk result (builder.new.failed ≡ false) }
+    ensures misuse { (i : ℕ) → result ≡ Err (ReplayError.Misuse i) → i < length calls.now }
+    ensures judged { (i : ℕ) → result ≡ Err (ReplayError.Misuse i) → acceptance.verdict_on (requests_of builder.old.func.now.signature calls.now) ≡ acceptance.Misuse i }
+    ensures never_refused { (i : ℕ) → result ≢ Err (ReplayError.Refused i) }
+    ensures table_full { result ≡ Err ReplayError.Full → IsStoppedByTable calls.now builder.old.func.now.name builder.old.func.now.signature }
+{
+    ledger_is_read_by_number();
+    let mut answers = Vec::new(alloc);
+    let mut types = Vec::new(alloc);
+    for (place, call) in calls.iter().enumerate() {
+        match make_call(builder, answers.as_slice(), types.as_slice(), call) {
+            Ok(answer) => answers.push(answer)?,
+            Err(error) => return Err(error.at(place)),
+        }
+        if let Call::DeclareVar { ty } = call {
+            types.push(*ty)?;
+        }
+    }
+    Ok(())
+}

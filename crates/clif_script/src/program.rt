@@ -1,0 +1,136 @@
+//! A function from the text of a script: `build` is the program `clif_build` over two writers.
+ghost use Rattle.std.specs.Prelude.{◌≡◌, ◌<◌, IfOk};
+ghost use Rattle.clif_meaning.specs.Acceptance as acceptance;
+ghost use Rattle.clif_replay.specs.Requests.{requests_of};
+ghost use Rattle.clif_script.specs.Program.{IsAccepted};
+
+use clif_replay::{ReplayError, replay};
+use clif_text::{Expected, Fault, ReadError, Script, read};
+use cranelift_frontend::FunctionBuilderContext;
+use std::alloc::Global;
+use std::{io, str};
+
+/// Builds the function of a script, for the bytes of a file, and prints its text to `out`. Answers the exit
+/// status.
+///
+/// | Status | When |
+/// |---|---|
+/// | 0 | the function was finished and its text printed to `out`, and nothing to `err` |
+/// | 1 | the function couldn't be built, and `err` has the reason, as `misuse at call 3` and then `line 12: jump b1`, or `at the end`; or memory or a write was refused |
+/// | 2 | the bytes are no script, and `err` has the reason, as `script error at line 12: expected a block` |
+///
+/// Nothing is printed to `out` unless the function was finished. Where a write fails, what was written before
+/// it stays written.
+pub fn build<O: io::Write, E: io::Write>(
+    alloc: Global,
+    bytes: &[u8],
+    out: &mut O,
+    err: &mut E,
+) -> u8
+    ensures status { result < 3 }
+    ensures accepted { result ≡ 0 → IsAccepted bytes.now }
+{
+    let built = match str::from_utf8(bytes) {
+        Ok(text) => build_text(alloc, text, out, err),
+        Err(error) => {
+            let number = lines_to(&bytes[..error.valid_up_to()]);
+            let fault = Fault::Expected(Expected::Text);
+            tell_unread(ReadError::Line { number, fault }, err)
+        }
+    };
+    match built {
+        Ok(status) => status,
+        Err(_) => 1,
+    }
+}
+
+// The number of the line on which these bytes end.
+fn lines_to(bytes: &[u8]) -> usize {
+    bytes.iter().filter(|byte| **byte == b'\n').count() + 1
+}
+
+// Tells why a text is no script.
+fn tell_unread<E: io::Write>(error: ReadError<'_>, err: &mut E) -> io::Result<u8>
+    ensures { IfOk result (λ status. (0 < status) × (status < 3)) }
+{
+    writeln!(err, "{error}")?;
+    match error {
+        ReadError::Memory => Ok(1),
+        ReadError::Line { .. } => Ok(2),
+    }
+}
+
+pub(crate) fn build_text<O: io::Write, E: io::Write>(
+    alloc: Global,
+    text: &str,
+    out: &mut O,
+    err: &mut E,
+) -> io::Result<u8>
+    ensures status { IfOk result (λ status. status < 3) }
+    ensures accepted { IfOk result (λ status. status ≡ 0 → IsAccepted text.now) }
+{
+    match read(alloc, text) {
+        Ok(script) => build_script(alloc, text, script, out, err),
+        Err(error) => tell_unread(error, err),
+    }
+}
+
+fn build_script<O: io::Write, E: io::Write>(
+    alloc: Global,
+    text: &str,
+    script: Script,
+    out: &mut O,
+    err: &mut E,
+) -> io::Result<u8>
+    ensures status { IfOk result (λ status. status < 3) }
+    ensures accepted { IfOk result (λ status. status ≡ 0 → acceptance.verdict_on (requests_of script.signature script.calls.items) ≡ acceptance.Accepted) }
+{
+    let Script {
+        name,
+        signature,
+        config,
+        calls,
+        lines,
+    } = script;
+    let mut ctx = FunctionBuilderContext::new(alloc);
+    let func = match replay(alloc, calls.as_slice(), name, signature, &mut ctx, config) {
+        Ok(func) => func,
+        Err(error) => return tell_unbuilt(error, text, lines.as_slice(), err),
+    };
+    let shown = func.display();
+    let Ok(printed) = format!(in alloc; "{shown}") else {
+        return tell_unread(ReadError::Memory, err);
+    };
+    out.write_all(printed.as_bytes())?;
+    Ok(0)
+}
+
+// Tells why a function couldn't be built, and the line of the call.
+fn tell_unbuilt<E: io::Write>(
+    error: ReplayError,
+    text: &str,
+    lines: &[usize],
+    err: &mut E,
+) -> io::Result<u8>
+    ensures { IfOk result (λ status. status ≡ 1) }
+{
+    writeln!(err, "{error}")?;
+    if let ReplayError::Misuse(place) | ReplayError::Refused(place) = error {
+        match lines.get(place) {
+            Some(number) => {
+                let line = line_of(text, *number);
+                writeln!(err, "line {number}: {line}")?;
+            }
+            None => writeln!(err, "at the end")?,
+        }
+    }
+    Ok(1)
+}
+
+// The line with this number, without blanks at its ends.
+fn line_of(text: &str, number: usize) -> &str {
+    match text.split('\n').nth(number.saturating_sub(1)) {
+        Some(line) => line.trim_ascii(),
+        None => "",
+    }
+}

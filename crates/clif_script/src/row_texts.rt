@@ -1,0 +1,186 @@
+//! The scripts of the rows.
+
+/// A variable that is used before it is assigned, and before its block is sealed.
+pub(crate) const FIRST: &str = "\
+# A variable that is used before any assignment is zero.
+function %first () -> i32 system_v
+x = declare_var i32
+block0 = create_block
+switch_to_block block0
+before = use_var x
+seven = iconst.i32 7
+sum = iadd before seven
+def_var x sum
+after = use_var x
+return after
+seal_block block0
+";
+
+/// A loop whose block is sealed after it: a parameter that turns out to be one value is another name of it, and the
+/// others keep their order.
+pub(crate) const REORDERING: &str = "\
+# The loop's block is sealed once the branch back to it is made. x and y change in the loop and become its
+# parameters; z doesn't.
+function %reordering () system_v
+x = declare_var i32
+y = declare_var i32
+z = declare_var i32
+start = create_block
+loop = create_block
+
+switch_to_block start
+seal_block start
+zero = iconst.i32 0
+def_var x zero
+one = iconst.i32 1
+def_var y one
+two = iconst.i32 2
+def_var z two
+jump loop
+
+switch_to_block loop
+z1 = use_var z
+x1 = use_var x
+x2 = iadd x1, z1
+def_var x x2
+x3 = use_var x
+y1 = use_var y
+y2 = isub y1, x3
+def_var y y2
+jump loop
+seal_block loop
+";
+
+/// The documented example of the crate whose behaviour the builder has: a loop over three variables, whose first one is
+/// the function's parameter. Each block is sealed as soon as its branches are there.
+pub(crate) const SAMPLE: &str = "\
+# A loop over three variables, of which x is the function's parameter. It doesn't change in the loop.
+function %sample (i32) -> i32 system_v
+block0 = create_block
+block1 = create_block
+block2 = create_block
+block3 = create_block
+x = declare_var i32
+y = declare_var i32
+z = declare_var i32
+first = append_block_params_for_function_params block0
+
+switch_to_block block0
+seal_block block0
+def_var x first
+two = iconst.i32 2
+def_var y two
+x0 = use_var x
+y0 = use_var y
+z0 = iadd x0 y0
+def_var z z0
+jump block1
+
+switch_to_block block1
+y1 = use_var y
+z1 = use_var z
+z2 = iadd y1 z1
+def_var z z2
+y2 = use_var y
+brif y2 block3 block2
+
+switch_to_block block2
+seal_block block2
+z3 = use_var z
+x1 = use_var x
+z4 = isub z3 x1
+def_var z z4
+y3 = use_var y
+return y3
+
+switch_to_block block3
+seal_block block3
+y4 = use_var y
+x2 = use_var x
+y5 = isub y4 x2
+def_var y y5
+jump block1
+seal_block block1
+";
+
+/// The same, with all blocks sealed at the end.
+pub(crate) const SAMPLE_LATE: &str = "\
+# The same with all blocks sealed at the end: x is then a parameter of the loop's block.
+function %sample (i32) -> i32 system_v
+block0 = create_block
+block1 = create_block
+block2 = create_block
+block3 = create_block
+x = declare_var i32
+y = declare_var i32
+z = declare_var i32
+first = append_block_params_for_function_params block0
+
+switch_to_block block0
+def_var x first
+two = iconst.i32 2
+def_var y two
+x0 = use_var x
+y0 = use_var y
+z0 = iadd x0 y0
+def_var z z0
+jump block1
+
+switch_to_block block1
+y1 = use_var y
+z1 = use_var z
+z2 = iadd y1 z1
+def_var z z2
+y2 = use_var y
+brif y2 block3 block2
+
+switch_to_block block2
+z3 = use_var z
+x1 = use_var x
+z4 = isub z3 x1
+def_var z z4
+y3 = use_var y
+return y3
+
+switch_to_block block3
+y4 = use_var y
+x2 = use_var x
+y5 = isub y4 x2
+def_var y y5
+jump block1
+seal_all_blocks
+";
+
+/// A loop that both arms of one branch lead back to.
+pub(crate) const BOTH_ARMS: &str = "\
+function %both_arms () -> i32 system_v
+x = declare_var i32
+block0 = create_block
+block1 = create_block
+block2 = create_block
+block3 = create_block
+switch_to_block block0
+five = iconst.i32 5
+def_var x five
+jump block1
+switch_to_block block1
+value = use_var x
+brif value block2 block3
+switch_to_block block2
+seal_block block2
+value = use_var x
+minus_one = iconst.i32 -1
+sum = iadd value minus_one
+def_var x sum
+value = use_var x
+brif value block1 block1
+seal_block block1
+switch_to_block block3
+seal_block block3
+value = use_var x
+return value
+seal_block block0
+";
+
+/// No calls.
+pub(crate) const EMPTY: &str = "";

@@ -1,0 +1,105 @@
+//! The rows: scripts that stand in this crate, and the program `rows` that builds their functions, over two writers.
+ghost use Rattle.std.specs.Prelude.{◌≡◌, ◌<◌, ◌↔◌, length, string_bytes, slice_get, IfOk, IfSome, IsSome};
+ghost use Rattle.clif_script.specs.Rows.{IsRowName};
+
+use crate::program::build_text;
+use crate::row_texts::{BOTH_ARMS, EMPTY, FIRST, REORDERING, SAMPLE, SAMPLE_LATE};
+use std::alloc::Global;
+use std::io;
+
+// The names of the rows, in order.
+const NAMES: [&str; 6] = [
+    "first",
+    "reordering",
+    "sample",
+    "sample_late",
+    "both_arms",
+    "empty",
+];
+
+/// The script of the row of this name, compared byte for byte.
+pub fn row_text(name: &str) -> Option<&'static str>
+    ensures { IsSome result ↔ IsRowName name.now }
+{
+    match name {
+        "first" => Some(FIRST),
+        "reordering" => Some(REORDERING),
+        "sample" => Some(SAMPLE),
+        "sample_late" => Some(SAMPLE_LATE),
+        "both_arms" => Some(BOTH_ARMS),
+        "empty" => Some(EMPTY),
+        _ => None,
+    }
+}
+
+/// The program `rows NAME`: builds the function of the row that the argument names, for pointers of 64
+/// bits and the convention `system_v`, and prints it. Without an argument it prints the names of the
+/// rows, one a line. Answers the exit status.
+///
+/// | Status | When |
+/// |---|---|
+/// | 0 | the text was printed to `out`, and nothing to `err` |
+/// | 1 | the function couldn't be built, and `err` has the reason, as `no memory`; or a write failed |
+/// | 2 | `err` has `unknown row: NAME`, or `usage: rows [NAME]` where there is more than one argument |
+///
+/// Names are compared byte for byte. Where a write fails, what was written before it stays written.
+pub fn run<O: io::Write, E: io::Write>(
+    alloc: Global,
+    args: &[String],
+    out: &mut O,
+    err: &mut E,
+) -> u8
+    ensures status { result < 3 }
+    ensures names { length args.now ≡ 0 → result < 2 }
+    ensures known { length args.now ≡ 1 → IfSome (slice_get args.now 0) (λ name. IsRowName (string_bytes name) → result < 2) }
+    ensures unknown { length args.now ≡ 1 → IfSome (slice_get args.now 0) (λ name. result ≡ 0 → IsRowName (string_bytes name)) }
+    ensures usage { 1 < length args.now → 0 < result }
+{
+    let printed = match args {
+        [] => print_names(out),
+        [name] => print_row(alloc, name.as_str(), out, err),
+        _ => told(err, 2, "usage: rows [NAME]"),
+    };
+    match printed {
+        Ok(status) => status,
+        Err(_) => 1,
+    }
+}
+
+// Writes a line, and answers a status.
+fn told<E: io::Write>(err: &mut E, status: u8, line: &str) -> io::Result<u8>
+    ensures { IfOk result (λ answer. answer ≡ status) }
+{
+    writeln!(err, "{line}")?;
+    Ok(status)
+}
+
+fn print_names<O: io::Write>(out: &mut O) -> io::Result<u8>
+    ensures { IfOk result (λ status. status ≡ 0) }
+{
+    for name in NAMES.iter() {
+        writeln!(out, "{name}")?;
+    }
+    Ok(0)
+}
+
+// Builds the function of a row and prints it; whatever its script is refused for, the status is 1.
+fn print_row<O: io::Write, E: io::Write>(
+    alloc: Global,
+    name: &str,
+    out: &mut O,
+    err: &mut E,
+) -> io::Result<u8>
+    ensures known { IsRowName name.now → IfOk result (λ status. status < 2) }
+    ensures unknown { IfOk result (λ status. status ≡ 0 → IsRowName name.now) }
+    ensures status { IfOk result (λ status. status < 3) }
+{
+    let Some(text) = row_text(name) else {
+        writeln!(err, "unknown row: {name}")?;
+        return Ok(2);
+    };
+    match build_text(alloc, text, out, err)? {
+        0 => Ok(0),
+        _ => Ok(1),
+    }
+}

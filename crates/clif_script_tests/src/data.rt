@@ -1,0 +1,275 @@
+//! The rows by name, and more scripts, with the texts of their functions. The examples in the folder `examples` are these
+//! and some rows.
+#![tactic(auto)]
+
+/// The rows by their names, with the texts of their functions.
+pub const ROWS: [(&str, &str); 6] = [
+    ("first", FIRST_TEXT),
+    ("reordering", REORDERING_TEXT),
+    ("sample", SAMPLE_TEXT),
+    ("sample_late", SAMPLE_LATE_TEXT),
+    ("both_arms", BOTH_ARMS_TEXT),
+    ("empty", EMPTY_TEXT),
+];
+
+/// The function of no calls.
+pub const EMPTY_TEXT: &str = "function u0:0() fast {\n}\n";
+
+const FIRST_TEXT: &str = "\
+function %first() -> i32 system_v {
+block0:
+    v3 = iconst.i32 0
+    v0 -> v3
+    v1 = iconst.i32 7
+    v2 = iadd v0, v1  ; v0 = 0, v1 = 7
+    return v2
+}
+";
+
+const REORDERING_TEXT: &str = "\
+function %reordering() system_v {
+block0:
+    v0 = iconst.i32 0
+    v1 = iconst.i32 1
+    v2 = iconst.i32 2
+    v3 -> v2
+    jump block1(v0, v1)  ; v0 = 0, v1 = 1
+
+block1(v4: i32, v6: i32):
+    v5 = iadd v4, v3  ; v3 = 2
+    v7 = isub v6, v5
+    jump block1(v5, v7)
+}
+";
+
+pub const DIAMOND: &str = "\
+# Each arm assigns x, and the block where they meet gets it as a parameter.
+function %diamond () -> i32 system_v
+x = declare_var i32
+entry = create_block
+left = create_block
+right = create_block
+join = create_block
+
+switch_to_block entry
+seal_block entry
+zero = iconst.i32 0
+brif zero left right
+
+switch_to_block left
+seal_block left
+one = iconst.i32 1
+def_var x one
+jump join
+
+switch_to_block right
+seal_block right
+two = iconst.i32 2
+def_var x two
+jump join
+
+switch_to_block join
+seal_block join
+value = use_var x
+return value
+";
+
+pub const DIAMOND_TEXT: &str = "\
+function %diamond() -> i32 system_v {
+block0:
+    v0 = iconst.i32 0
+    brif v0, block1, block2  ; v0 = 0
+
+block1:
+    v1 = iconst.i32 1
+    jump block3(v1)  ; v1 = 1
+
+block2:
+    v2 = iconst.i32 2
+    jump block3(v2)  ; v2 = 2
+
+block3(v3: i32):
+    return v3
+}
+";
+
+pub const NESTED_LOOPS: &str = "\
+# The inner loop counts j down from i, the outer one counts i down. The inner loop doesn't change i, so it
+# doesn't get i as a parameter.
+function %nested () -> i32 system_v
+i = declare_var i32
+j = declare_var i32
+entry = create_block
+outer = create_block
+inner = create_block
+next = create_block
+exit = create_block
+
+switch_to_block entry
+seal_block entry
+three = iconst.i32 3
+def_var i three
+jump outer
+
+switch_to_block outer
+i1 = use_var i
+def_var j i1
+jump inner
+
+switch_to_block inner
+j1 = use_var j
+minus = iconst.i32 -1
+j2 = iadd j1 minus
+def_var j j2
+brif j2 inner next
+seal_block inner
+
+switch_to_block next
+seal_block next
+i2 = use_var i
+minus = iconst.i32 -1
+i3 = iadd i2 minus
+def_var i i3
+brif i3 outer exit
+seal_block outer
+
+switch_to_block exit
+seal_block exit
+i4 = use_var i
+return i4
+";
+
+pub const NESTED_LOOPS_TEXT: &str = "\
+function %nested() -> i32 system_v {
+block0:
+    v0 = iconst.i32 3
+    jump block1(v0)  ; v0 = 3
+
+block1(v1: i32):
+    v5 -> v1
+    jump block2(v1)
+
+block2(v2: i32):
+    v3 = iconst.i32 -1
+    v4 = iadd v2, v3  ; v3 = -1
+    brif v4, block2(v4), block3
+
+block3:
+    v6 = iconst.i32 -1
+    v7 = iadd.i32 v1, v6  ; v6 = -1
+    brif v7, block1(v7), block4
+
+block4:
+    return v7
+}
+";
+
+pub const MISUSE: &str = "\
+# No branch may lead to a block that is sealed.
+block0 = create_block
+switch_to_block block0
+seal_block block0
+jump block0
+";
+
+pub const MISUSE_TEXT: &str = "\
+misuse at call 3
+line 5: jump block0
+";
+
+const BOTH_ARMS_TEXT: &str = "\
+function %both_arms() -> i32 system_v {
+block0:
+    v0 = iconst.i32 5
+    jump block1(v0)  ; v0 = 5
+
+block1(v1: i32):
+    brif v1, block2, block3
+
+block2:
+    v2 = iconst.i32 -1
+    v3 = iadd.i32 v1, v2  ; v2 = -1
+    brif v3, block1(v3), block1(v3)
+
+block3:
+    return v1
+}
+";
+
+const SAMPLE_TEXT: &str = "\
+function %sample(i32) -> i32 system_v {
+block0(v0: i32):
+    v6 -> v0
+    v1 = iconst.i32 2
+    v2 = iadd v0, v1  ; v1 = 2
+    jump block1(v1, v2)  ; v1 = 2
+
+block1(v3: i32, v4: i32):
+    v5 = iadd v3, v4
+    brif v3, block3, block2
+
+block2:
+    v7 = isub.i32 v5, v6
+    return v3
+
+block3:
+    v8 = isub.i32 v3, v6
+    jump block1(v8, v5)
+}
+";
+
+const SAMPLE_LATE_TEXT: &str = "\
+function %sample(i32) -> i32 system_v {
+block0(v0: i32):
+    v1 = iconst.i32 2
+    v2 = iadd v0, v1  ; v1 = 2
+    jump block1(v1, v2, v0)  ; v1 = 2
+
+block1(v3: i32, v4: i32, v14: i32):
+    v9 -> v3
+    v10 -> v3
+    v7 -> v14
+    v11 -> v14
+    v5 = iadd v3, v4
+    v6 -> v5
+    v13 -> v5
+    brif v3, block3, block2
+
+block2:
+    v8 = isub.i32 v6, v7
+    return v9
+
+block3:
+    v12 = isub.i32 v10, v11
+    jump block1(v12, v13, v11)
+}
+";
+
+pub const PLACED: &str = "\
+b0 = create_block
+b1 = create_block
+b2 = create_block
+switch_to_block b0
+ensure_inserted_block
+jump b1
+insert_block_after b2 b0
+set_cold_block b2
+switch_to_block b1
+jump b2
+switch_to_block b2
+return
+seal_all_blocks
+";
+
+pub const PLACED_TEXT: &str = "\
+function u0:0() fast {
+block0:
+    jump block1
+
+block2 cold:
+    return
+
+block1:
+    jump block2
+}
+";

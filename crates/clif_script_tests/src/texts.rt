@@ -1,0 +1,246 @@
+//! Scripts that become functions, and those that are misused.
+#![tactic(auto)]
+
+use crate::data;
+use crate::support::{MANY, built, gives, row_of, script_of};
+use clif_text::write;
+use std::alloc::Global;
+use std::process::Abort;
+use std::test::Fail;
+
+const EXAMPLES: [(&str, &str); 4] = [
+    (data::DIAMOND, data::DIAMOND_TEXT),
+    (data::NESTED_LOOPS, data::NESTED_LOOPS_TEXT),
+    (data::PLACED, data::PLACED_TEXT),
+    ("\n# nothing is called\n \t\r\n,", data::EMPTY_TEXT),
+];
+
+#[test]
+fn rows_and_examples(rt: HostRuntime) -> Result<(), Fail> {
+    for (name, text) in data::ROWS.iter() {
+        same_when_written(&rt, rt.alloc(), row_of(name)?, text)?;
+    }
+    for (script, text) in EXAMPLES.iter() {
+        same_when_written(&rt, rt.alloc(), script, text)?;
+    }
+    Ok(())
+}
+
+// A script gives a function of this text, and so does what its calls are written as, which are written the same once
+// they are read.
+fn same_when_written(rt: &impl Abort, alloc: Global, script: &str, text: &str) -> Result<(), Fail> {
+    gives(rt, alloc, script.as_bytes(), 0, text, "")?;
+    let written = rewritten(alloc, script)?;
+    gives(rt, alloc, written.as_bytes(), 0, text, "")?;
+    is_written(rt, alloc, written.as_str(), written.as_str())
+}
+
+// The script that the calls of a script are written as.
+fn rewritten(alloc: Global, script: &str) -> Result<String, Fail> {
+    let read = script_of(alloc, script)?;
+    let calls = read.calls.as_slice();
+    Ok(write(alloc, &read.name, &read.signature, read.config, calls)?)
+}
+
+fn is_written(rt: &impl Abort, alloc: Global, script: &str, written: &str) -> Result<(), Fail> {
+    assert!(rt; rewritten(alloc, script)?.as_str() == written);
+    Ok(())
+}
+
+// Each call as it is written.
+#[test]
+fn written(rt: HostRuntime) -> Result<(), Fail> {
+    let script = "\
+conv tail
+pointer 32
+function u1:2 (i8, f32x4) -> i64x2 i128 fast
+declare_var i8x16
+create_block
+switch_to_block $1.0
+seal_block $7.18446744073709551615
+seal_all_blocks
+insert_block_after $1.0 $2.0
+set_cold_block $1.0
+ensure_inserted_block
+append_block_param $1.0 f32
+append_block_params_for_function_params $1.0
+append_block_params_for_function_returns $2.0
+def_var var3 $0.0
+use_var var4294967294
+iconst.i128 -0x8000_0000_0000_0000
+iconst.f16 0xffff_ffff_ffff_ffff
+iadd $1.2 $3.4
+isub $5.6 $7.8
+jump $1.0 $2.1
+brif $1.0 $2.0 $3.0
+brif $1.0, $2.0($3.1, $4.1), $5.0()
+return ($1.0 $2.0)
+return";
+    let written = "\
+function u1:2 (i8, f32x4) -> i64x2, i128 fast
+pointer 32
+conv tail
+declare_var i8x16
+create_block
+switch_to_block $1.0
+seal_block $7.18446744073709551615
+seal_all_blocks
+insert_block_after $1.0 $2.0
+set_cold_block $1.0
+ensure_inserted_block
+append_block_param $1.0 f32
+append_block_params_for_function_params $1.0
+append_block_params_for_function_returns $2.0
+def_var var3 $0.0
+use_var var4294967294
+iconst.i128 -9223372036854775808
+iconst.f16 -1
+iadd $1.2 $3.4
+isub $5.6 $7.8
+jump $1.0( $2.1)
+brif $1.0 $2.0() $3.0()
+brif $1.0 $2.0( $3.1 $4.1) $5.0()
+return $1.0 $2.0
+return
+";
+    is_written(&rt, rt.alloc(), script, written)
+}
+
+// Names lead to the latest answer of that name, also of a variable, and `$P.K` to any answer.
+#[test]
+fn names(rt: HostRuntime) -> Result<(), Fail> {
+    let script = "\
+function %f () -> i32 tail
+x = declare_var i8
+x = declare_var i32
+b = create_block
+switch_to_block $2.0
+@one, one = iconst.i32 1
+def_var x $4.1
+a = use_var var1
+a = use_var $1.0
+return (a)
+seal_block b";
+    let text = "\
+function %f() -> i32 tail {
+block0:
+    v0 = iconst.i32 1
+    return v0  ; v0 = 1
+}
+";
+    gives(&rt, rt.alloc(), script.as_bytes(), 0, text, "")
+}
+
+// The parameters of the function are named in order, also by a line that comes later.
+#[test]
+fn parameters(rt: HostRuntime) -> Result<(), Fail> {
+    let script = "\
+b = create_block
+x, y, z = append_block_params_for_function_params b
+switch_to_block b
+return y
+seal_block b
+function %f (i32, i64) -> i64 fast";
+    let text = "function %f(i32, i64) -> i64 fast {\nblock0(v0: i32, v1: i64):\n    return v1\n}\n";
+    gives(&rt, rt.alloc(), script.as_bytes(), 0, text, "")
+}
+
+// Variables are numbered by their declarations, wherever these stand among the calls.
+#[test]
+fn variables(rt: HostRuntime) -> Result<(), Fail> {
+    let script = "\
+b = create_block
+x = declare_var i32
+switch_to_block b
+y = declare_var i32
+one = iconst.i32 1
+def_var x one
+two = iconst.i32 2
+z = declare_var i32
+def_var y, two
+def_var z one
+u = use_var y
+return u
+seal_block b";
+    let text = "\
+function u0:0() fast {
+block0:
+    v0 = iconst.i32 1
+    v1 = iconst.i32 2
+    return v1  ; v1 = 2
+}
+";
+    gives(&rt, rt.alloc(), script.as_bytes(), 0, text, "")?;
+    let written = rewritten(rt.alloc(), script)?;
+    let lines = [
+        "def_var var0 $4.1\n",
+        "def_var var1 $6.1\n",
+        "def_var var2 $4.1\n",
+    ];
+    for line in lines {
+        assert!(rt; written.contains(line));
+    }
+    Ok(())
+}
+
+const MISUSES: [(&str, &str); 8] = [
+    (data::MISUSE, data::MISUSE_TEXT),
+    // an answer that isn't there, and one of another kind
+    (
+        "\n\n  seal_block $0.0 # late  ",
+        "misuse at call 0\nline 3: seal_block $0.0 # late\n",
+    ),
+    (
+        "b = create_block\nswitch_to_block b\nuse_var b",
+        "misuse at call 2\nline 3: use_var b\n",
+    ),
+    (
+        "b = create_block\nswitch_to_block b\nuse_var $7.0",
+        "misuse at call 2\nline 3: use_var $7.0\n",
+    ),
+    (
+        "b = create_block\nswitch_to_block b\nuse_var var0",
+        "misuse at call 2\nline 3: use_var var0\n",
+    ),
+    (
+        "b = create_block\nx, y = append_block_params_for_function_returns b\nswitch_to_block b\nreturn y\nfunction %f () -> i8 fast",
+        "misuse at call 3\nline 4: return y\n",
+    ),
+    (
+        "declare_var f32",
+        "misuse at call 0\nline 1: declare_var f32\n",
+    ),
+    // a block that isn't finished
+    (
+        "b = create_block\nswitch_to_block b\niconst.i8 1",
+        "refused at call 3\nat the end\n",
+    ),
+];
+
+#[test]
+fn misuses(rt: HostRuntime) -> Result<(), Fail> {
+    for (script, err) in MISUSES.iter() {
+        gives(&rt, rt.alloc(), script.as_bytes(), 1, "", err)?;
+    }
+    Ok(())
+}
+
+// A refused write ends with status 1, and what was written begins the text.
+#[test]
+fn refused_writes(rt: HostRuntime) -> Result<(), Fail> {
+    let ran = built(rt.alloc(), data::DIAMOND.as_bytes(), 0, MANY)?;
+    assert!(rt; ran.status == 1);
+    assert!(rt; ran.out.is_empty() && ran.err.is_empty());
+    for writes in 0..MANY {
+        let ran = built(rt.alloc(), b"\nx", MANY, writes)?;
+        assert!(rt; ran.out.is_empty());
+        let text = b"script error at line 2: unknown call: x\n";
+        assert!(rt; text.starts_with(ran.err.as_slice()));
+        if ran.status == 2 {
+            assert!(rt; ran.err.as_slice() == text.as_slice());
+            return Ok(());
+        }
+        assert!(rt; ran.status == 1);
+    }
+    Err("no run wrote its text")?
+}
