@@ -13,7 +13,7 @@ use crate::builder::FunctionBuilder;
 use crate::context::{BlockStatus, FunctionBuilderContext};
 use crate::frontend::begin_block;
 use crate::inst_builder::InstBuilderBase;
-use clif_ir::inst_list::BlockEnd;
+use clif_ir::inst_list::InsertAt;
 use clif_ir::{Function, InstructionData};
 use clif_types::{Block, BuildError, Inst, SourceLoc, Type, Value};
 use std::alloc::Global;
@@ -123,7 +123,7 @@ fn append(
     begin_block(func, ctx, block)?;
     let ends = shape.is_terminator();
     let no_place = SourceLoc::new(u32::MAX);
-    let inst = func.insert_inst(block, BlockEnd::Back, shape, ctrl_type, no_place)?;
+    let inst = func.insert_inst(block, InsertAt::Back, shape, ctrl_type, no_place)?;
     if ends {
         ctx.set_status(block, BlockStatus::Filled)?;
         ctx.declare_successors(inst, func.inst_data(inst).branch_destination())?;
