@@ -45,7 +45,8 @@ impl<'a> InstBuilderBase for FunctionBuilder<'a> {
 
     ghost builds_value = { BuildsValue };
 
-    ghost builds_like = { λ old new shape x answer. BuildsValue old new shape (value_at old.func.now x).ty answer };
+    ghost builds_like = { λ old new shape x answer.
+        BuildsValue old new shape (value_at old.func.now x).ty answer };
 
     ghost like_is_value = { λ old new shape x answer built. built };
 
@@ -53,7 +54,8 @@ impl<'a> InstBuilderBase for FunctionBuilder<'a> {
 
     ghost built_exists = { λ old new shape ty value built. built.exists };
 
-    ghost others_exist = { λ old new shape ty value built other here. lt_of_lt_of_le here built.grows.0 };
+    ghost others_exist = { λ old new shape ty value built other here.
+        lt_of_lt_of_le here built.grows.0 };
 
     fn value_type(&self, value: Value) -> Type {
         self.func.value_type(value)
