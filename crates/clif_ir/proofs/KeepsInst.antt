@@ -11,16 +11,16 @@ use Rattle.clif_ir.specs.declared.function.BlockNode.{BlockNode}
 use Rattle.clif_ir.specs.declared.function.InstNode.{InstNode}
 use Rattle.clif_ir.specs.declared.function.ValueNode.{ValueNode}
 use Rattle.clif_ir.specs.declared.function.ValueOrigin.TheVariants.{Result, Param}
-use Rattle.clif_ir.specs.declared.inst_list.BlockEnd.{BlockEnd}
-use Rattle.clif_ir.specs.declared.inst_list.BlockEnd.TheVariants.{Front, Back}
+use Rattle.clif_ir.specs.declared.inst_list.InsertAt.{InsertAt}
 use Rattle.clif_ir.specs.declared.instructions.InstructionData.{InstructionData}
 use Rattle.clif_ir.specs.declared.instructions.InstructionData.TheVariants.{UnaryImm, Unary, Binary, Jump, Brif, MultiAry}
 use Rattle.clif_ir.specs.Instruction.{operands, destinations, result_types}
 use Rattle.clif_ir.specs.Body.{Body, value_at, inst_at, block_at, empty_block, no_value, no_inst, alias_of_origin, resolved}
-use Rattle.clif_ir.specs.Changes.{with_inst, inst_node, put_at, result_nodes}
+use Rattle.clif_ir.specs.Changes.{IsPlaceOf, with_inst, inst_node, put_at, result_nodes}
 use Rattle.clif_ir.specs.Consistent.{IsConsistent, IsOrigin, Stands, Once, EdgeExists, alias_count}
 use Rattle.clif_ir.proofs.Lists.{at_push, at_set, at_append}
-use Rattle.clif_ir.proofs.Keeps.{larger_edges, leads_inside, larger_origin, Stands-append, Stands-push, Stands-cons, Once-push, Once-cons}
+use Rattle.clif_ir.proofs.Keeps.{larger_edges, leads_inside, larger_origin}
+use Rattle.clif_ir.proofs.Inserting.{put_at-each, put_at-Stands, put_at-stands, put_at-Once}
 use Rattle.clif_ir.proofs.Aliases.{ways_end-append, follow_end}
 
 -- no instruction has more than one result so far
@@ -64,38 +64,17 @@ alias_of-result_nodes i k [] j = refl
 alias_of-result_nodes i k (ty ∷ types) zero = refl
 alias_of-result_nodes i k (ty ∷ types) (suc j) = alias_of-result_nodes i (k + 1) types j
 
--- what holds of the entries of a list holds after one more is put at an end
-put_at-each : (P : ℕ → Type 0) (end : BlockEnd) (x : ℕ) (xs : List ℕ) → ((k : ℕ) → k < length xs → P (slice_index xs k)) → P x
-    → (k : ℕ) → k < length (put_at end x xs) → P (slice_index (put_at end x xs) k)
-put_at-each P Front x xs old new zero inside = new
-put_at-each P Front x xs old new (suc k) inside = old k (omega (arith, inside))
-put_at-each P Back x xs old new k inside =
-    let count : length (xs ++ x ∷ []) ≡ length xs + 1 = grind (arith, common_steps) in
-    at_push P xs x k 0 (old k) (λ _. new) (λ past. absurd (omega (arith, past, inside, count)))
-
-put_at-Stands : (y : ℕ) (end : BlockEnd) (x : ℕ) (xs : List ℕ) → Stands y xs → Stands y (put_at end x xs)
-put_at-Stands y Front x xs here = Stands-cons y x xs here
-put_at-Stands y Back x xs here = Stands-append y xs (x ∷ []) here
-
-put_at-stands : (end : BlockEnd) (x : ℕ) (xs : List ℕ) → Stands x (put_at end x xs)
-put_at-stands Front x xs = (0, omega arith, refl)
-put_at-stands Back x xs = Stands-push x xs
-
-put_at-Once : (end : BlockEnd) (x : ℕ) (xs : List ℕ) → Once xs → ((k : ℕ) → k < length xs → slice_index xs k < x) → Once (put_at end x xs)
-put_at-Once Front x xs once below = Once-cons xs x once below
-put_at-Once Back x xs once below = Once-push xs x once below
-
-pub with_inst_consistent : (f : Body) (b : ℕ) (end : BlockEnd) (shape : InstructionData) (types : List «Type») (loc : ℕ)
-    → IsConsistent f → b < length f.blocks → EachIndex (operands shape) (λ k. slice_index (operands shape) k < length f.values)
+pub with_inst_consistent : (f : Body) (b : ℕ) (at : InsertAt) (shape : InstructionData) (types : List «Type») (loc : ℕ)
+    → IsConsistent f → b < length f.blocks → IsPlaceOf at (length (block_at f b).insts) → EachIndex (operands shape) (λ k. slice_index (operands shape) k < length f.values)
     → All (EdgeExists f) (destinations shape) → (destinations shape ≢ [] → types ≡ []) → length f.insts < 2 ^ 32 - 1 → length f.values + length types < 2 ^ 32
-    → IsConsistent (with_inst f b end shape types loc)
-with_inst_consistent f b end shape types loc known exists operands_exist edges_exist without_results inst_room value_room =
-    let g : Body = with_inst f b end shape types loc in
+    → IsConsistent (with_inst f b at shape types loc)
+with_inst_consistent f b at shape types loc known exists fits operands_exist edges_exist without_results inst_room value_room =
+    let g : Body = with_inst f b at shape types loc in
     let n : ℕ = length f.values in
     let i0 : ℕ = length f.insts in
     let node : InstNode = inst_node f b shape types loc in
     let nodes : List ValueNode = result_nodes i0 0 types in
-    let changed : BlockNode = record (block_at f b) { insts = put_at end i0 (block_at f b).insts } in
+    let changed : BlockNode = record (block_at f b) { insts = put_at at i0 (block_at f b).insts } in
     let count : length g.values ≡ n + length types = grind (arith, common_steps, length-result_nodes i0 0 types) in
     let inst_count : length g.insts ≡ i0 + 1 = grind (arith, common_steps) in
     let block_count : length g.blocks ≡ length f.blocks = grind (arith, common_steps) in
@@ -110,7 +89,7 @@ with_inst_consistent f b end shape types loc known exists operands_exist edges_e
     at_set (λ (m : BlockNode). m.params ≡ (block_at f c).params) f.blocks b changed c empty_block exists (λ same. ap (λ d. (block_at f d).params) (sym same)) (λ _. refl) in
     let still_stands : (i c : ℕ) → Stands i (block_at f c).insts → Stands i (block_at g c).insts = λ i c stands.
     at_set (λ (m : BlockNode). Stands i m.insts) f.blocks b changed c empty_block exists
-    (λ same. put_at-Stands i end i0 _ (subst (λ d. Stands i (block_at f d).insts) same stands)) (λ _. stands) in
+    (λ same. put_at-Stands i at i0 _ fits (subst (λ d. Stands i (block_at f d).insts) same stands)) (λ _. stands) in
     record {
       values_fit = omega (arith, count, value_room);
       insts_fit = omega (arith, inst_count, inst_room);
@@ -146,8 +125,8 @@ with_inst_consistent f b end shape types loc known exists operands_exist edges_e
           (λ _ k inside. (omega (arith, count, (known.results_known i k inside).0), ap (λ (m : ValueNode). m.origin) (old_value _ (known.results_known i k inside).0) ∙ (known.results_known i k inside).1))
           (λ same k inside.
           let few : k < length types = omega (arith, inside, length-range_with_len n (length types)) in
-          let at : slice_index (range_with_len n (length types)) k ≡ n + k = get_or-range_with_len n (length types) k 0 few in
-          (omega (arith, count, few, at), ap (λ x. (value_at g x).origin) at ∙ new_value k few ∙ ap (λ j. Result j k) (sym same)))
+          let there : slice_index (range_with_len n (length types)) k ≡ n + k = get_or-range_with_len n (length types) k 0 few in
+          (omega (arith, count, few, there), ap (λ x. (value_at g x).origin) there ∙ new_value k few ∙ ap (λ j. Result j k) (sym same)))
           (λ _ k inside. absurd (omega (arith, inside)));
       params_known = λ c. subst (λ xs. (k : ℕ) → k < length xs → (slice_index xs k < length g.values) × ((value_at g (slice_index xs k)).origin ≡ Param c)) (sym (same_params c))
           (λ k inside. (omega (arith, count, (known.params_known c k inside).0), ap (λ (m : ValueNode). m.origin) (old_value _ (known.params_known c k inside).0) ∙ (known.params_known c k inside).1));
@@ -158,20 +137,20 @@ with_inst_consistent f b end shape types loc known exists operands_exist edges_e
           (λ same. (
             omega (arith, block_count, exists),
             at_set (λ (m : BlockNode). Stands i m.insts) f.blocks b changed b empty_block exists
-                (λ _. subst (λ x. Stands x (put_at end i0 (block_at f b).insts)) (sym same) (put_at-stands end i0 (block_at f b).insts)) (λ other. absurd (other refl)),
+                (λ _. subst (λ x. Stands x (put_at at i0 (block_at f b).insts)) (sym same) (put_at-stands at i0 (block_at f b).insts fits)) (λ other. absurd (other refl)),
           ))
           (λ past. absurd (omega (arith, past, inside, inst_count)));
       insts_known = λ c.
           let old : (k : ℕ) → k < length (block_at f c).insts → (slice_index (block_at f c).insts k < length g.insts) × ((inst_at g (slice_index (block_at f c).insts k)).block ≡ c) =
           λ k inside. (omega (arith, inst_count, (known.insts_known c k inside).0), ap (λ (m : InstNode). m.block) (old_inst _ (known.insts_known c k inside).0) ∙ (known.insts_known c k inside).1) in
           at_set (λ (m : BlockNode). (k : ℕ) → k < length m.insts → (slice_index m.insts k < length g.insts) × ((inst_at g (slice_index m.insts k)).block ≡ c)) f.blocks b changed c empty_block exists
-          (λ same. put_at-each (λ x. (x < length g.insts) × ((inst_at g x).block ≡ c)) end i0 (block_at f b).insts
+          (λ same. put_at-each (λ x. (x < length g.insts) × ((inst_at g x).block ≡ c)) at i0 (block_at f b).insts fits
           (subst (λ d. (k : ℕ) → k < length (block_at f d).insts → (slice_index (block_at f d).insts k < length g.insts) × ((inst_at g (slice_index (block_at f d).insts k)).block ≡ c)) same old)
           (omega (arith, inst_count), ap (λ (m : InstNode). m.block) new_inst ∙ sym same))
           (λ _. old);
       insts_once = λ c.
           at_set (λ (m : BlockNode). Once m.insts) f.blocks b changed c empty_block exists
-          (λ _. put_at-Once end i0 (block_at f b).insts (known.insts_once b) (λ k inside. (known.insts_known b k inside).0))
+          (λ _. put_at-Once at i0 (block_at f b).insts fits (known.insts_once b) (λ k inside. (known.insts_known b k inside).0))
           (λ _. known.insts_once c);
       layout_exists = λ k inside. omega (arith, block_count, known.layout_exists k inside);
       layout_once = known.layout_once;
@@ -185,9 +164,9 @@ with_inst_consistent f b end shape types loc known exists operands_exist edges_e
     }
 
 -- the first result of a new instruction stands for itself
-pub with_inst-unaliased : (f : Body) (b : ℕ) (end : BlockEnd) (shape : InstructionData) (types : List «Type») (loc : ℕ)
-    → resolved (with_inst f b end shape types loc) (length f.values) ≡ length f.values
-with_inst-unaliased f b end shape types loc =
+pub with_inst-unaliased : (f : Body) (b : ℕ) (at : InsertAt) (shape : InstructionData) (types : List «Type») (loc : ℕ)
+    → resolved (with_inst f b at shape types loc) (length f.values) ≡ length f.values
+with_inst-unaliased f b at shape types loc =
     let nodes : List ValueNode = result_nodes (length f.insts) 0 types in
     follow_end (f.values ++ nodes) (length (f.values ++ nodes)) (length f.values)
     (ap (λ (m : ValueNode). alias_of_origin m.origin) (get_or-append_right f.values nodes (length f.values) no_value (omega arith))

@@ -1,19 +1,19 @@
 -- The changes of a function keep the places of its instructions and blocks right.
-use Rattle.std.proofs.Common.{◌≡◌, ℕ, zero, suc, ◌+◌, ◌-◌, ◌^◌, ◌<◌, ◌≤◌, List, [], ◌∷◌, ◌++◌, length, get_or, set, refl, ap, arith, sym, ◌∙◌, subst}
+use Rattle.std.proofs.Common.{◌≡◌, ◌≢◌, ℕ, ◌+◌, ◌-◌, ◌^◌, ◌<◌, ◌≤◌, List, [], ◌∷◌, ◌++◌, length, get_or, set, refl, ap, arith, sym, ◌∙◌, subst}
 use Rattle.std.specs.Prelude.{slice_index, slice_index_or, Option}
-use Rattle.std.proofs.Math.ListN.{get_or-append}
 use Rattle.std.proofs.lemmas.Grind.{common_steps}
 use Rattle.clif_types.specs.declared.types.«Type».{«Type»}
 use Rattle.clif_ir.specs.declared.function.BlockNode.{BlockNode}
 use Rattle.clif_ir.specs.declared.function.BlockPlace.{BlockPlace}
-use Rattle.clif_ir.specs.declared.inst_list.BlockEnd.{BlockEnd}
-use Rattle.clif_ir.specs.declared.inst_list.BlockEnd.TheVariants.{Front, Back}
+use Rattle.clif_ir.specs.declared.inst_list.InsertAt.{InsertAt}
+use Rattle.clif_ir.specs.declared.inst_list.InsertAt.TheVariants.{Behind, Back}
 use Rattle.clif_ir.specs.declared.instructions.InstructionData.{InstructionData}
-use Rattle.clif_ir.specs.Body.{Body, block_at, empty_block}
-use Rattle.clif_ir.specs.Changes.{with_block, with_param, with_inst, put_at}
+use Rattle.clif_ir.specs.Body.{Body, block_at, empty_block, inst_at}
+use Rattle.clif_ir.specs.Changes.{IsPlaceOf, with_block, with_param, with_inst, put_at}
 use Rattle.clif_ir.specs.Consistent.{IsConsistent, Once}
-use Rattle.clif_ir.specs.Whole.{IsPlaced, IsLinked, chain, no_place, next_slot, placed_at}
+use Rattle.clif_ir.specs.Whole.{IsPlaced, IsLinked, chain, no_place, placed_at}
 use Rattle.clif_ir.proofs.Lists.{at_push, at_set}
+use Rattle.clif_ir.proofs.Inserting.{length-slots_with, slots_put, slots_with, slots_with-other}
 use Rattle.clif_ir.proofs.Keeps.{larger_edges, larger_origin}
 use Rattle.clif_ir.proofs.Links.{linked_same, linked-chain}
 
@@ -55,55 +55,45 @@ with_param_placed f b ty slots places exists placed =
       slots_right = λ c. subst (λ xs. (k : ℕ) → k < length xs → slice_index slots (slice_index xs k) + (slice_index_or places c no_place).front ≡ k + 2 ^ 32) (sym (same_insts c)) (placed.slots_right c);
     }
 
--- the slots of a block's instructions after one more was put at an end
-slots_put : (end : BlockEnd) (place : BlockPlace) (x : ℕ) (xs slots : List ℕ) → place.front < 2 ^ 32
-    → ((k : ℕ) → k < length xs → slice_index slots (slice_index xs k) + place.front ≡ k + 2 ^ 32)
-    → slice_index slots x ≡ next_slot end place.front (length xs)
-    → (k : ℕ) → k < length (put_at end x xs) → slice_index slots (slice_index (put_at end x xs) k) + (placed_at end place).front ≡ k + 2 ^ 32
-slots_put Front place x xs slots fits old new zero inside = omega (arith, new, fits)
-slots_put Front place x xs slots fits old new (suc k) inside = omega (arith, old k (omega (arith, inside)))
-slots_put Back place x xs slots fits old new k inside =
-    let count : length (xs ++ x ∷ []) ≡ length xs + 1 = grind (arith, common_steps) in
-    at_push (λ y. slice_index slots y + place.front ≡ k + 2 ^ 32) xs x k 0 (old k) (λ same. omega (arith, new, fits, same)) (λ past. absurd (omega (arith, past, inside, count)))
-
-pub with_inst_placed : (f : Body) (b : ℕ) (end : BlockEnd) (shape : InstructionData) (types : List «Type») (loc : ℕ) (slots : List ℕ) (places : List BlockPlace)
-    → b < length f.blocks → IsConsistent f → IsPlaced f slots places
-    → IsPlaced (with_inst f b end shape types loc) (slots ++ next_slot end (slice_index_or places b no_place).front (length (block_at f b).insts) ∷ []) (set places b (placed_at end (slice_index_or places b no_place)))
-with_inst_placed f b end shape types loc slots places exists known placed =
-    let g : Body = with_inst f b end shape types loc in
+pub with_inst_placed : (f : Body) (b : ℕ) (at : InsertAt) (shape : InstructionData) (types : List «Type») (loc : ℕ) (slots : List ℕ) (places : List BlockPlace)
+    → b < length f.blocks → IsPlaceOf at (length (block_at f b).insts) → IsConsistent f → IsPlaced f slots places
+    → IsPlaced (with_inst f b at shape types loc) (slots_with at (slice_index_or places b no_place).front (length f.insts) (block_at f b).insts slots) (set places b (placed_at at (slice_index_or places b no_place)))
+with_inst_placed f b at shape types loc slots places exists fits known placed =
+    let g : Body = with_inst f b at shape types loc in
     let i0 : ℕ = length f.insts in
+    let xs : List ℕ = (block_at f b).insts in
     let place : BlockPlace = slice_index_or places b no_place in
-    let slot : ℕ = next_slot end place.front (length (block_at f b).insts) in
+    let slots' : List ℕ = slots_with at place.front i0 xs slots in
     let inside_places : b < length places = omega (arith, exists, placed.place_count) in
-    let changed : BlockNode = record (block_at f b) { insts = put_at end i0 (block_at f b).insts } in
-    let old_slot : (i : ℕ) → i < i0 → slice_index (slots ++ slot ∷ []) i ≡ slice_index slots i =
-    λ i inside. get_or-append slots (slot ∷ []) 0 i (omega (arith, inside, placed.slot_count)) in
-    let new_slot : slice_index (slots ++ slot ∷ []) i0 ≡ slot =
-    ap (λ i. slice_index (slots ++ slot ∷ []) i) (sym placed.slot_count) ∙ grind (arith, common_steps) in
+    let changed : BlockNode = record (block_at f b) { insts = put_at at i0 xs } in
     let insts_count : length g.insts ≡ i0 + 1 = grind (arith, common_steps) in
-    let old_slots : (c k : ℕ) → k < length (block_at f c).insts → slice_index (slots ++ slot ∷ []) (slice_index (block_at f c).insts k) + (slice_index_or places c no_place).front ≡ k + 2 ^ 32 =
-    λ c k inside. ap (λ n. n + (slice_index_or places c no_place).front) (old_slot _ (known.insts_known c k inside).0) ∙ placed.slots_right c k inside in
+    let known_slot : (c k : ℕ) → k < length (block_at f c).insts → slice_index (block_at f c).insts k < length slots =
+    λ c k inside. omega (arith, (known.insts_known c k inside).0, placed.slot_count) in
+    let apart : (c : ℕ) → c ≢ b → (j k : ℕ) → k < length (block_at f c).insts → j < length xs → slice_index xs j ≢ slice_index (block_at f c).insts k =
+    λ c other j k inside here same. other (sym (known.insts_known c k inside).1 ∙ ap (λ i. (inst_at f i).block) (sym same) ∙ (known.insts_known b j here).1) in
     record {
-      slot_count = grind (arith, common_steps, placed.slot_count);
+      slot_count = length-slots_with at place.front i0 xs slots ∙ ap (λ n. n + 1) placed.slot_count ∙ sym insts_count;
       place_count = grind (arith, common_steps, placed.place_count);
       fronts_fit = λ c.
-          at_set (λ (p : BlockPlace). p.front ≤ length g.insts) places b (placed_at end place) c no_place inside_places
-          (λ _. placed_at-front end place (length g.insts) (omega (arith, insts_count, placed.fronts_fit b)))
+          at_set (λ (p : BlockPlace). p.front ≤ length g.insts) places b (placed_at at place) c no_place inside_places
+          (λ _. placed_at-front at place (length g.insts) (omega (arith, insts_count, placed.fronts_fit b)))
           (λ _. omega (arith, insts_count, placed.fronts_fit c));
       slots_right = λ c.
-          at_set (λ (p : BlockPlace). (k : ℕ) → k < length (block_at g c).insts → slice_index (slots ++ slot ∷ []) (slice_index (block_at g c).insts k) + p.front ≡ k + 2 ^ 32) places b (placed_at end place) c no_place inside_places
+          at_set (λ (p : BlockPlace). (k : ℕ) → k < length (block_at g c).insts → slice_index slots' (slice_index (block_at g c).insts k) + p.front ≡ k + 2 ^ 32) places b (placed_at at place) c no_place inside_places
           (λ same.
-          at_set (λ (m : BlockNode). (k : ℕ) → k < length m.insts → slice_index (slots ++ slot ∷ []) (slice_index m.insts k) + (placed_at end place).front ≡ k + 2 ^ 32) f.blocks b changed c empty_block exists
-          (λ _. slots_put end place i0 (block_at f b).insts (slots ++ slot ∷ []) (omega (arith, placed.fronts_fit b, known.insts_fit)) (old_slots b) new_slot)
+          at_set (λ (m : BlockNode). (k : ℕ) → k < length m.insts → slice_index slots' (slice_index m.insts k) + (placed_at at place).front ≡ k + 2 ^ 32) f.blocks b changed c empty_block exists
+          (λ _. slots_put at place i0 xs slots fits (omega (arith, placed.fronts_fit b, known.insts_fit)) (sym placed.slot_count) (known.insts_once b) (known_slot b) (placed.slots_right b))
           (λ other. absurd (other same)))
           (λ other.
-          at_set (λ (m : BlockNode). (k : ℕ) → k < length m.insts → slice_index (slots ++ slot ∷ []) (slice_index m.insts k) + (slice_index_or places c no_place).front ≡ k + 2 ^ 32) f.blocks b changed c empty_block exists
+          at_set (λ (m : BlockNode). (k : ℕ) → k < length m.insts → slice_index slots' (slice_index m.insts k) + (slice_index_or places c no_place).front ≡ k + 2 ^ 32) f.blocks b changed c empty_block exists
           (λ same. absurd (other same))
-          (λ _. old_slots c));
+          (λ _ k inside.
+          ap (λ n. n + (slice_index_or places c no_place).front) (slots_with-other at place.front i0 xs slots (slice_index (block_at f c).insts k) fits (known_slot c k inside) (λ j here. apart c other j k inside here))
+          ∙ placed.slots_right c k inside));
     }
   where
-    placed_at-front : (end : BlockEnd) (p : BlockPlace) (n : ℕ) → p.front + 1 ≤ n → (placed_at end p).front ≤ n
-    placed_at-front Front p n fits = fits
+    placed_at-front : (at : InsertAt) (p : BlockPlace) (n : ℕ) → p.front + 1 ≤ n → (placed_at at p).front ≤ n
+    placed_at-front (Behind count) p n fits = fits
     placed_at-front Back p n fits = omega (arith, fits)
 
 -- the front of a block that is there is below the number of instructions
@@ -155,23 +145,23 @@ with_block_linked layout places first last linked =
     λ b. at_push (λ p. p ≡ slice_index_or places b no_place) places no_place b no_place (λ _. refl) (λ same. grind (arith, common_steps, same)) (λ past. grind (arith, common_steps, past)) in
     linked_same layout places (places ++ no_place ∷ []) first last (λ c. ap (λ (p : BlockPlace). p.next) (same_place c)) (λ c. ap (λ (p : BlockPlace). p.is_inserted) (same_place c)) linked
 
-pub with_inst_linked : (layout : List ℕ) (places : List BlockPlace) (first last : Option ℕ) (b : ℕ) (end : BlockEnd) → b < length places
-    → IsLinked layout places first last → IsLinked layout (set places b (placed_at end (slice_index_or places b no_place))) first last
-with_inst_linked layout places first last b end inside linked =
-    let new : BlockPlace = placed_at end (slice_index_or places b no_place) in
+pub with_inst_linked : (layout : List ℕ) (places : List BlockPlace) (first last : Option ℕ) (b : ℕ) (at : InsertAt) → b < length places
+    → IsLinked layout places first last → IsLinked layout (set places b (placed_at at (slice_index_or places b no_place))) first last
+with_inst_linked layout places first last b at inside linked =
+    let new : BlockPlace = placed_at at (slice_index_or places b no_place) in
     linked_same layout places (set places b new) first last
     (λ c. at_set (λ (p : BlockPlace). p.next ≡ (slice_index_or places c no_place).next) places b new c no_place inside
-    (λ same. placed_at-next end (slice_index_or places b no_place) ∙ ap (λ d. (slice_index_or places d no_place).next) (sym same)) (λ _. refl))
+    (λ same. placed_at-next at (slice_index_or places b no_place) ∙ ap (λ d. (slice_index_or places d no_place).next) (sym same)) (λ _. refl))
     (λ c. at_set (λ (p : BlockPlace). p.is_inserted ≡ (slice_index_or places c no_place).is_inserted) places b new c no_place inside
-    (λ same. placed_at-inserted end (slice_index_or places b no_place) ∙ ap (λ d. (slice_index_or places d no_place).is_inserted) (sym same)) (λ _. refl))
+    (λ same. placed_at-inserted at (slice_index_or places b no_place) ∙ ap (λ d. (slice_index_or places d no_place).is_inserted) (sym same)) (λ _. refl))
     linked
   where
-    placed_at-next : (end : BlockEnd) (p : BlockPlace) → (placed_at end p).next ≡ p.next
-    placed_at-next Front p = refl
+    placed_at-next : (at : InsertAt) (p : BlockPlace) → (placed_at at p).next ≡ p.next
+    placed_at-next (Behind count) p = refl
     placed_at-next Back p = refl
 
-    placed_at-inserted : (end : BlockEnd) (p : BlockPlace) → (placed_at end p).is_inserted ≡ p.is_inserted
-    placed_at-inserted Front p = refl
+    placed_at-inserted : (at : InsertAt) (p : BlockPlace) → (placed_at at p).is_inserted ≡ p.is_inserted
+    placed_at-inserted (Behind count) p = refl
     placed_at-inserted Back p = refl
 
 -- and the links lead along the layout still
@@ -182,11 +172,11 @@ with_block_chained f slots places first last known placed linked =
     linked-chain f.layout (places ++ no_place ∷ []) first last known.layout_once (λ k here. omega (arith, known.layout_exists k here, more))
     (with_block_linked f.layout places first last linked)
 
-pub with_inst_chained : (f : Body) (slots : List ℕ) (places : List BlockPlace) (first last : Option ℕ) (b : ℕ) (end : BlockEnd) → b < length f.blocks
+pub with_inst_chained : (f : Body) (slots : List ℕ) (places : List BlockPlace) (first last : Option ℕ) (b : ℕ) (at : InsertAt) → b < length f.blocks
     → IsConsistent f → IsPlaced f slots places → IsLinked f.layout places first last
-    → chain (length (set places b (placed_at end (slice_index_or places b no_place)))) (set places b (placed_at end (slice_index_or places b no_place))) first ≡ f.layout
-with_inst_chained f slots places first last b end exists known placed linked =
+    → chain (length (set places b (placed_at at (slice_index_or places b no_place)))) (set places b (placed_at at (slice_index_or places b no_place))) first ≡ f.layout
+with_inst_chained f slots places first last b at exists known placed linked =
     let inside : b < length places = omega (arith, exists, placed.place_count) in
-    let same : length (set places b (placed_at end (slice_index_or places b no_place))) ≡ length f.blocks = grind (arith, common_steps, placed.place_count) in
-    linked-chain f.layout (set places b (placed_at end (slice_index_or places b no_place))) first last known.layout_once (λ k here. omega (arith, known.layout_exists k here, same))
-    (with_inst_linked f.layout places first last b end inside linked)
+    let same : length (set places b (placed_at at (slice_index_or places b no_place))) ≡ length f.blocks = grind (arith, common_steps, placed.place_count) in
+    linked-chain f.layout (set places b (placed_at at (slice_index_or places b no_place))) first last known.layout_once (λ k here. omega (arith, known.layout_exists k here, same))
+    (with_inst_linked f.layout places first last b at inside linked)

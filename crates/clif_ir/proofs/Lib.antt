@@ -4,6 +4,7 @@ pub mod Lists
 pub mod Keeps
 pub mod KeepsBlock
 pub mod KeepsParam
+pub mod Inserting
 pub mod KeepsInst
 pub mod KeepsPlaces
 pub mod Reading

@@ -1,14 +1,14 @@
 -- What each call that changes a function makes of it. Source: own.
-use Rattle.std.specs.Prelude.{ℕ, List, [], ◌∷◌, ◌++◌, ◌+◌, ◌==◌, length, slice_set, if◌then◌else◌, true}
-use Rattle.std.specs.List.{range_with_len}
+use Rattle.std.specs.Prelude.{ℕ, List, [], ◌∷◌, ◌++◌, ◌+◌, ◌≤◌, ◌==◌, length, slice_set, if◌then◌else◌, true}
+use Rattle.std.specs.List.{insert, range_with_len}
 use Rattle.clif_types.specs.declared.types.«Type».{«Type»}
 use Rattle.clif_ir.specs.declared.instructions.InstructionData.{InstructionData}
 use Rattle.clif_ir.specs.declared.function.ValueOrigin.{ValueOrigin}
 use Rattle.clif_ir.specs.declared.function.ValueOrigin.TheVariants.{Result, Param, Alias}
 use Rattle.clif_ir.specs.declared.function.ValueNode.{ValueNode}
 use Rattle.clif_ir.specs.declared.function.InstNode.{InstNode}
-use Rattle.clif_ir.specs.declared.inst_list.BlockEnd.{BlockEnd}
-use Rattle.clif_ir.specs.declared.inst_list.BlockEnd.TheVariants.{Front, Back}
+use Rattle.clif_ir.specs.declared.inst_list.InsertAt.{InsertAt}
+use Rattle.clif_ir.specs.declared.inst_list.InsertAt.TheVariants.{Behind, Back}
 use Rattle.clif_ir.specs.Instruction.{with_argument}
 use Rattle.clif_ir.specs.Body.{Body, empty_block, block_at, inst_at, value_at, resolved}
 use Rattle.clif_ir.specs.Reading.{without, stands_in}
@@ -56,18 +56,23 @@ abbrev pub inst_node : Body → ℕ → InstructionData → List «Type» → �
 inst_node f b shape types loc =
     record { shape = shape; results = range_with_len (length f.values) (length types); block = b; srcloc = loc }
 
--- an instruction at one end of a list
-abbrev pub put_at : BlockEnd → ℕ → List ℕ → List ℕ
-put_at Front inst insts = inst ∷ insts
+-- there is such a place in a list of so many
+abbrev pub IsPlaceOf : InsertAt → ℕ → Type 0
+IsPlaceOf (Behind count) len = count ≤ len
+IsPlaceOf Back len = Unit {0}
+
+-- an instruction more, at this place
+abbrev pub put_at : InsertAt → ℕ → List ℕ → List ℕ
+put_at (Behind count) inst insts = insert insts count inst
 put_at Back inst insts = insts ++ inst ∷ []
 
--- with a new instruction at one end of block `b`
-abbrev pub with_inst : Body → ℕ → BlockEnd → InstructionData → List «Type» → ℕ → Body
-with_inst f b end shape types loc =
+-- with a new instruction at this place of block `b`
+abbrev pub with_inst : Body → ℕ → InsertAt → InstructionData → List «Type» → ℕ → Body
+with_inst f b at shape types loc =
     record f {
       values = f.values ++ result_nodes (length f.insts) 0 types;
       insts = f.insts ++ inst_node f b shape types loc ∷ [];
-      blocks = slice_set f.blocks b (record (block_at f b) { insts = put_at end (length f.insts) (block_at f b).insts });
+      blocks = slice_set f.blocks b (record (block_at f b) { insts = put_at at (length f.insts) (block_at f b).insts });
     }
 
 -- with one more argument at the end of each edge of instruction `i` that goes to block `b`

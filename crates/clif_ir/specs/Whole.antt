@@ -2,8 +2,8 @@
 -- Source: own. No contract of another crate speaks of it.
 use Rattle.std.specs.Prelude.{◌≡◌, ℕ, ◌+◌, ◌-◌, ◌^◌, ◌<◌, ◌≤◌, zero, suc, List, [], ◌∷◌, length, slice_index, slice_index_or, slice_get, slice_set, Option, Some, None, true, false, All, Contains}
 use Rattle.clif_ir.specs.declared.function.BlockPlace.{BlockPlace}
-use Rattle.clif_ir.specs.declared.inst_list.BlockEnd.{BlockEnd}
-use Rattle.clif_ir.specs.declared.inst_list.BlockEnd.TheVariants.{Front, Back}
+use Rattle.clif_ir.specs.declared.inst_list.InsertAt.{InsertAt}
+use Rattle.clif_ir.specs.declared.inst_list.InsertAt.TheVariants.{Behind, Back}
 use Rattle.clif_ir.specs.declared.function.Function.TheInside.{Inside}
 use Rattle.clif_ir.specs.declared.function.ValueNode.{ValueNode}
 use Rattle.clif_ir.specs.Body.{Body, empty_block, alias_of}
@@ -42,15 +42,26 @@ abbrev pub last_after : Option ℕ → Option ℕ → ℕ → Option ℕ
 last_after last None b = Some b
 last_after last (Some next) b = last
 
--- the slot of an instruction that is put at an end of a block of `len` instructions
-abbrev pub next_slot : BlockEnd → ℕ → ℕ → ℕ
-next_slot Front front len = 2 ^ 32 - 1 - front
+-- the slot of an instruction that is put into a block of `len` instructions
+abbrev pub next_slot : InsertAt → ℕ → ℕ → ℕ
+next_slot (Behind count) front len = 2 ^ 32 - 1 - front + count
 next_slot Back front len = 2 ^ 32 + len - front
 
--- the place of a block as an instruction is put at an end of it
-abbrev pub placed_at : BlockEnd → BlockPlace → BlockPlace
-placed_at Front place = record place { front = place.front + 1 }
+-- the place of a block as an instruction is put into it
+abbrev pub placed_at : InsertAt → BlockPlace → BlockPlace
+placed_at (Behind count) place = record place { front = place.front + 1 }
 placed_at Back place = place
+
+-- how many instructions get lower slots as one is put there
+abbrev pub moved_count : InsertAt → ℕ
+moved_count (Behind count) = count
+moved_count Back = 0
+
+-- the slots, with those of the first so many of these instructions lower by one
+unfoldable pub lowered : ℕ → List ℕ → List ℕ → List ℕ
+lowered zero insts slots = slots
+lowered (suc n) insts slots =
+    slice_set (lowered n insts slots) (slice_index insts n) (slice_index (lowered n insts slots) (slice_index insts n) - 1)
 
 -- where each instruction stands
 pub record IsPlaced (f : Body) (slots : List ℕ) (places : List BlockPlace) : Type 0 where

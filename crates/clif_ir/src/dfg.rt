@@ -8,12 +8,12 @@ ghost use Rattle.clif_types.specs.Typing.{type_of_kind};
 ghost use Rattle.clif_ir.specs.Body.{Body, value_at, block_at, empty_block, resolved};
 ghost use Rattle.clif_ir.specs.Consistent.{Stands, EdgeExists};
 ghost use Rattle.clif_ir.specs.Instruction.{operands, destinations, has_result, result_types};
-ghost use Rattle.clif_ir.specs.Whole.{next_slot, placed_at};
-ghost use Rattle.clif_ir.specs.Changes.{with_block, with_param, with_inst, with_branch_argument, with_alias, home_of, put_at, result_nodes};
+ghost use Rattle.clif_ir.specs.Whole.{lowered, moved_count, next_slot, placed_at};
+ghost use Rattle.clif_ir.specs.Changes.{IsPlaceOf, with_block, with_param, with_inst, with_branch_argument, with_alias, home_of, put_at, result_nodes};
 ghost use Rattle.std.specs.List.{range_with_len};
 
 use crate::function::{BlockNode, BlockPlace, Function, InstNode, ValueNode, ValueOrigin};
-use crate::inst_list::{BlockEnd, InstList};
+use crate::inst_list::{InsertAt, InstList};
 use crate::instructions::InstructionData;
 use crate::value_list::ValueList;
 use clif_types::{Block, BuildError, EntityRef, Inst, Kind, SourceLoc, Type, Value};
@@ -106,46 +106,70 @@ fn push_result_nodes(values: &mut Vec<ValueNode>, inst: Inst, controlling: Type,
     }
 }
 
-// Puts an instruction at one end of `block`.
+// Puts an instruction into `block`.
 fn put_inst(
     blocks: &mut [BlockNode],
     block: Block,
-    end: BlockEnd,
+    at: InsertAt,
     inst: Inst,
 ) -> Result<(), BuildError>
-    requires { block < length blocks.old }
-    ensures ok { OnOk result (blocks.new ≡ slice_set blocks.old block (record (slice_index_or blocks.old block empty_block) { insts = put_at end inst (slice_index_or blocks.old block empty_block).insts })) }
+    requires exists { block < length blocks.old }
+    requires fits { IsPlaceOf at (length (slice_index_or blocks.old block empty_block).insts) }
+    ensures ok { OnOk result (blocks.new ≡ slice_set blocks.old block (record (slice_index_or blocks.old block empty_block) { insts = put_at at inst (slice_index_or blocks.old block empty_block).insts })) }
     ensures err { OnErr result (blocks.new ≡ blocks.old) }
     ensures only_memory { OnErr result (result ≡ Err BuildError.Memory) }
 {
-    blocks[block.index()].insts.put(end, inst)
+    blocks[block.index()].insts.put(at, inst)
 }
 
-// The slot of an instruction that is put at an end of a block of `len` instructions, of which `front`
-// were put at its front.
-fn next_slot(end: BlockEnd, front: u32, len: usize) -> u64
+// The slot of an instruction that is put into a block of `len` instructions, of which `front` were put
+// behind none or some of those that were there.
+fn next_slot(at: InsertAt, front: u32, len: usize) -> u64
     requires fits { len < 2 ^ 63 }
+    requires inside { IsPlaceOf at len }
     requires room { front < 2 ^ 32 - 1 }
-    ensures { result ≡ next_slot end front len }
+    ensures { result ≡ next_slot at front len }
 {
-    match end {
-        BlockEnd::Front => 0xffff_ffff - u64::from(front),
-        BlockEnd::Back => 0x1_0000_0000 + len as u64 - u64::from(front),
+    match at {
+        InsertAt::Behind(count) => 0xffff_ffff - u64::from(front) + count as u64,
+        InsertAt::Back => 0x1_0000_0000 + len as u64 - u64::from(front),
     }
 }
 
-// The place of a block as an instruction is put at an end of it.
-fn placed_at(end: BlockEnd, place: BlockPlace) -> BlockPlace
+// The place of a block as an instruction is put into it.
+fn placed_at(at: InsertAt, place: BlockPlace) -> BlockPlace
     requires { place.front < 2 ^ 32 - 1 }
-    ensures { result ≡ placed_at end place }
+    ensures { result ≡ placed_at at place }
 {
-    match end {
-        BlockEnd::Front => BlockPlace {
+    match at {
+        InsertAt::Behind(_) => BlockPlace {
             front: place.front + 1,
             next: place.next,
             is_inserted: place.is_inserted,
         },
-        BlockEnd::Back => place,
+        InsertAt::Back => place,
+    }
+}
+
+// How many instructions get lower slots as one is put there.
+fn moved_count(at: InsertAt) -> usize
+    ensures { result ≡ moved_count at }
+{
+    match at {
+        InsertAt::Behind(count) => count,
+        InsertAt::Back => 0,
+    }
+}
+
+// Lowers the slots of the first `count` instructions by one. None of these slots is 0.
+fn lower_slots(slots: &mut [u64], insts: &InstList, count: usize)
+    requires fits { count ≤ length insts.now }
+    requires exist { (k : ℕ) → k < count → slice_index insts.now k < length slots.old }
+    ensures { slots.new ≡ lowered count insts.now slots.old }
+{
+    for place in 0..count {
+        let index = insts.at(place).index();
+        slots[index] = slots[index].saturating_sub(1);
     }
 }
 
@@ -197,7 +221,8 @@ impl Function {
         Ok(value)
     }
 
-    /// Makes an instruction and puts it at one end of `block`.
+    /// Makes an instruction and puts it into `block`, at a place that costs a step for each instruction
+    /// before it, or none at the back.
     ///
     /// It gets the next number of an instruction, and its results get the next numbers of values;
     /// `ctrl_type` is its controlling type, and `Type::Invalid` where it has no results. `Full` comes
@@ -206,15 +231,16 @@ impl Function {
     pub fn insert_inst(
         &mut self,
         block: Block,
-        end: BlockEnd,
+        at: InsertAt,
         shape: InstructionData,
         ctrl_type: Type,
         srcloc: SourceLoc,
     ) -> Result<Inst, BuildError>
         requires block_exists { block < length self.old.blocks }
+        requires place_exists { IsPlaceOf at (length (block_at self.old block).insts) }
         requires operands_exist { EachIndex (operands shape) (λ k. slice_index (operands shape) k < length self.old.values) }
         requires edges_exist { All (EdgeExists self.old) (destinations shape) }
-        ensures ok { OnOk result (self.new ≡ with_inst self.old block end shape (result_types shape ctrl_type) srcloc) }
+        ensures ok { OnOk result (self.new ≡ with_inst self.old block at shape (result_types shape ctrl_type) srcloc) }
         ensures number { IfOk result (λ i. i ≡ length self.old.insts) }
         ensures unaliased { OnOk result (has_result shape ≡ true → resolved self.new (length self.old.values) ≡ length self.old.values) }
         ensures full { result ≡ Err BuildError.Full → (length self.old.insts ≡ 2 ^ 32 - 1) ⊎ (length self.old.values ≡ 2 ^ 32 - 1) }
@@ -233,10 +259,12 @@ impl Function {
         )?;
         let inst = Inst::new(self.insts.len());
         let place = self.block_places[block.index()];
-        let slot = next_slot(end, place.front, self.blocks[block.index()].insts.len());
-        put_inst(&mut self.blocks, block, end, inst)?;
+        let slot = next_slot(at, place.front, self.blocks[block.index()].insts.len());
+        put_inst(&mut self.blocks, block, at, inst)?;
         // From here on nothing can fail.
-        self.block_places[block.index()] = placed_at(end, place);
+        let insts = &self.blocks[block.index()].insts;
+        lower_slots(&mut self.inst_slots, insts, moved_count(at));
+        self.block_places[block.index()] = placed_at(at, place);
         self.inst_slots.push_reserved(slot);
         push_result_nodes(&mut self.values, inst, ctrl_type, kinds);
         self.insts.push_reserved(InstNode {

@@ -57,8 +57,8 @@ pub struct BlockNode {
     pub is_cold: bool,
 }
 
-/// Where a block stands: how many of its instructions were put at its front, the block after it in the
-/// layout, and whether it is in the layout.
+/// Where a block stands: how many of its instructions were put behind so many and not at its back, the
+/// block after it in the layout, and whether it is in the layout.
 #[derive(Clone, Copy, Debug)]
 pub(crate) struct BlockPlace {
     pub(crate) front: u32,
@@ -71,8 +71,9 @@ pub(crate) struct BlockPlace {
 /// Contracts see it as a record of lists. The layout is kept as links from each block to the next, so
 /// that a block is put behind any other in a step. Beside these it keeps what makes some questions
 /// cheap, and what no contract speaks of: where each instruction stands, and the pairs of a value and
-/// an alias of it, in order. An instruction at place `k` of a block with `n` instructions put at its
-/// front has the slot 2^32 + `k` - `n`, so that no slot changes as instructions are put at either end.
+/// an alias of it, in order. An instruction at place `k` of a block into which `n` instructions were put
+/// elsewhere than at its back has the slot 2^32 + `k` - `n`, so that only those before a new one change
+/// their slots, and none does as instructions are put at either end.
 #[derive(Debug, Drop)]
 pub struct Function {
     pub(crate) alloc: Global,

@@ -1,18 +1,18 @@
 //! The instructions of a block, in order.
-ghost use Rattle.std.specs.Prelude.{◌≡◌, [], length, OnOk, OnErr, slice_get, ◌<◌, ◌^◌};
-ghost use Rattle.clif_ir.specs.Changes.{put_at};
+ghost use Rattle.std.specs.Prelude.{◌≡◌, [], length, OnOk, OnErr, slice_get, slice_index, ◌<◌, ◌^◌};
+ghost use Rattle.clif_ir.specs.Changes.{IsPlaceOf, put_at};
 
 use clif_types::{BuildError, Inst};
 use std::alloc::Global;
 use std::collections::VecDeque;
 use std::marker::Model;
 
-/// An end of a block.
+/// Where an instruction is put among those of a block.
 #[derive(Clone, Copy, Debug, PartialEq, Eq)]
-pub enum BlockEnd {
-    /// Before the first instruction.
-    Front,
-    /// After the last instruction.
+pub enum InsertAt {
+    /// Behind the first so many, and so before all others: behind none of them at the front.
+    Behind(usize),
+    /// After the last one.
     Back,
 }
 
@@ -55,15 +55,25 @@ impl InstList {
         self.insts.get(index).copied()
     }
 
-    /// Puts an instruction at one end. The only error is `Memory`, and the list is then as it was.
-    pub fn put(&mut self, end: BlockEnd, inst: Inst) -> Result<(), BuildError>
-        ensures ok { OnOk result (self.new ≡ put_at end inst self.old) }
+    // The instruction at `index`.
+    pub(crate) fn at(&self, index: usize) -> Inst
+        requires { index < length self.now }
+        ensures { result ≡ slice_index self.now index }
+    {
+        self.insts[index]
+    }
+
+    /// Puts an instruction among the others. It moves those before it or those after it, whichever are
+    /// fewer. The only error is `Memory`, and the list is then as it was.
+    pub fn put(&mut self, at: InsertAt, inst: Inst) -> Result<(), BuildError>
+        requires { IsPlaceOf at (length self.old) }
+        ensures ok { OnOk result (self.new ≡ put_at at inst self.old) }
         ensures err { OnErr result (self.new ≡ self.old) }
         ensures only_memory { OnErr result (result ≡ Err BuildError.Memory) }
     {
-        match end {
-            BlockEnd::Front => self.insts.push_front(inst)?,
-            BlockEnd::Back => self.insts.push_back(inst)?,
+        match at {
+            InsertAt::Behind(count) => self.insts.insert(count, inst)?,
+            InsertAt::Back => self.insts.push_back(inst)?,
         }
         Ok(())
     }

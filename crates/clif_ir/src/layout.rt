@@ -83,6 +83,14 @@ impl Function {
         insts.get(insts.len().saturating_sub(1))
     }
 
+    /// How many instructions a block has.
+    pub fn block_inst_count(&self, block: Block) -> usize
+        requires { block < length self.now.blocks }
+        ensures { result ≡ length (block_at self.now block).insts }
+    {
+        self.blocks[block.index()].insts.len()
+    }
+
     // The place of an instruction among those of its block, by its slot.
     fn inst_place(&self, inst: Inst) -> usize
         requires { inst < length self.now.insts }

@@ -8,7 +8,7 @@ use crate::steps::Step::{
 use crate::steps::{makes, makes_of, runs};
 use crate::support::typed;
 use clif_ir::block_call::{BlockArg, BlockArgs, BlockCall};
-use clif_ir::inst_list::BlockEnd::Back;
+use clif_ir::inst_list::InsertAt::Back;
 use clif_ir::instructions::InstructionData;
 use clif_types::BinaryOpcode::{Iadd, Isub};
 use clif_types::types::I32;

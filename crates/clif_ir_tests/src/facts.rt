@@ -29,6 +29,8 @@ pub enum Fact {
     LastInst(u32, Option<u32>),
     /// The instruction that follows an instruction in its block.
     NextInst(u32, Option<u32>),
+    /// There are so many instructions in a block.
+    InstCount(u32, usize),
     /// The block in which an instruction stands.
     StandsIn(u32, Option<u32>),
     /// The source place of an instruction.
@@ -114,6 +116,10 @@ fn last_inst(rt: &impl Abort, func: &Function, block: u32) -> Option<u32> {
     inst_number(func.last_inst(block_of(rt, func, block)))
 }
 
+fn inst_count(rt: &impl Abort, func: &Function, block: u32) -> usize {
+    func.block_inst_count(block_of(rt, func, block))
+}
+
 fn next_inst(rt: &impl Abort, func: &Function, inst: u32) -> Option<u32> {
     inst_number(func.next_inst(inst_of(rt, func, inst)))
 }
@@ -163,6 +169,7 @@ pub fn holds(rt: &impl Abort, func: &Function, fact: Fact) -> bool {
         Fact::FirstInst(block, first) => first_inst(rt, func, block) == first,
         Fact::LastInst(block, last) => last_inst(rt, func, block) == last,
         Fact::NextInst(inst, next) => next_inst(rt, func, inst) == next,
+        Fact::InstCount(block, count) => inst_count(rt, func, block) == count,
         Fact::StandsIn(inst, block) => inst_block(rt, func, inst) == block,
         Fact::Place(inst, bits) => place(rt, func, inst) == bits,
         Fact::ResultAt(inst, at, value) => result_at(rt, func, inst, at) == value,

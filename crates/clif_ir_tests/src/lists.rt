@@ -1,8 +1,8 @@
 //! Lists of values and of instructions.
 #![tactic(auto)]
 
-use crate::support::{i, v};
-use clif_ir::inst_list::{BlockEnd, InstList};
+use crate::support::{i, is_place_of, v};
+use clif_ir::inst_list::{InsertAt, InstList};
 use clif_ir::instructions::InstructionData;
 use clif_ir::value_list::ValueList;
 use clif_types::{BinaryOpcode, Value};
@@ -39,8 +39,9 @@ fn values(rt: HostRuntime) -> Result<(), Fail> {
     Ok(())
 }
 
-fn put(rt: &impl Abort, list: &mut InstList, end: BlockEnd, number: u32) -> Result<(), Fail> {
-    list.put(end, i(rt, number))?;
+fn put(rt: &impl Abort, list: &mut InstList, at: InsertAt, number: u32) -> Result<(), Fail> {
+    assert!(rt; is_place_of(at, list.len()));
+    list.put(at, i(rt, number))?;
     Ok(())
 }
 
@@ -54,16 +55,18 @@ fn has_at(rt: &impl Abort, list: &InstList, index: usize, number: Option<u32>) {
 }
 
 #[test]
-fn instructions_at_both_ends(rt: HostRuntime) -> Result<(), Fail> {
+fn instructions_behind_others(rt: HostRuntime) -> Result<(), Fail> {
     let mut list = InstList::new(rt.alloc());
-    put(&rt, &mut list, BlockEnd::Back, 4)?;
-    put(&rt, &mut list, BlockEnd::Front, 7)?;
-    put(&rt, &mut list, BlockEnd::Back, 1)?;
-    assert!(rt; list.len() == 3);
+    put(&rt, &mut list, InsertAt::Back, 4)?;
+    put(&rt, &mut list, InsertAt::Behind(0), 7)?;
+    put(&rt, &mut list, InsertAt::Back, 1)?;
+    put(&rt, &mut list, InsertAt::Behind(2), 9)?;
+    assert!(rt; list.len() == 4);
     has_at(&rt, &list, 0, Some(7));
     has_at(&rt, &list, 1, Some(4));
-    has_at(&rt, &list, 2, Some(1));
-    has_at(&rt, &list, 3, None);
+    has_at(&rt, &list, 2, Some(9));
+    has_at(&rt, &list, 3, Some(1));
+    has_at(&rt, &list, 4, None);
     Ok(())
 }
 

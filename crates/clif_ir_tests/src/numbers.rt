@@ -4,7 +4,7 @@
 use crate::steps::Step::{Create, Iconst, LayOut, ReturnTwo};
 use crate::steps::makes;
 use clif_ir::immediates::{Imm64, signed_at};
-use clif_ir::inst_list::BlockEnd::Back;
+use clif_ir::inst_list::InsertAt::Back;
 use clif_types::{Type, types};
 use std::alloc::Global;
 use std::process::Abort;

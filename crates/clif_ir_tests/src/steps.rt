@@ -3,11 +3,12 @@
 
 use crate::facts::{Fact, holds};
 use crate::support::{
-    PLACE, b, block_of, has_edges, has_operands, inst_of, is_param, prints, sample, v, value_of,
+    PLACE, b, block_of, has_edges, has_operands, inst_of, is_param, is_place_of, prints, sample, v,
+    value_of,
 };
 use clif_ir::block_call::BlockCall;
 use clif_ir::function::Function;
-use clif_ir::inst_list::BlockEnd;
+use clif_ir::inst_list::InsertAt;
 use clif_ir::instructions::InstructionData;
 use clif_ir::value_list::ValueList;
 use clif_types::{BinaryOpcode, SourceLoc, Type, UnaryOpcode, Value};
@@ -30,8 +31,8 @@ pub enum Step {
     Cold(u32),
     /// Puts a parameter at the end of those of a block.
     Param(u32, Type),
-    /// Puts a constant at an end of a block.
-    Iconst(u32, BlockEnd, Type, i64),
+    /// Puts a constant into a block.
+    Iconst(u32, InsertAt, Type, i64),
     /// Puts an operation on a value at the end of a block.
     Unary(UnaryOpcode, u32, Type, u32),
     /// Puts an operation on two values at the end of a block.
@@ -100,21 +101,22 @@ fn insert(
     rt: &impl Abort,
     func: &mut Function,
     block: u32,
-    end: BlockEnd,
+    at: InsertAt,
     shape: InstructionData,
     ty: Type,
 ) -> Result<(), Fail> {
     let block = block_of(rt, func, block);
     assert!(rt; has_operands(func, shape.arguments()));
     assert!(rt; has_edges(func, shape.branch_destination()));
-    func.insert_inst(block, end, shape, ty, SourceLoc::new(PLACE))?;
+    assert!(rt; is_place_of(at, func.block_inst_count(block)));
+    func.insert_inst(block, at, shape, ty, SourceLoc::new(PLACE))?;
     Ok(())
 }
 
 fn jump(rt: &impl Abort, func: &mut Function, block: u32, target: u32) -> Result<(), Fail> {
     let destination = BlockCall::new(func.allocator(), b(rt, target), &[])?;
     let shape = InstructionData::Jump { destination };
-    insert(rt, func, block, BlockEnd::Back, shape, Type::Invalid)
+    insert(rt, func, block, InsertAt::Back, shape, Type::Invalid)
 }
 
 fn brif(
@@ -130,7 +132,7 @@ fn brif(
         arg: v(rt, arg),
         blocks: [taken, other],
     };
-    insert(rt, func, block, BlockEnd::Back, shape, Type::Invalid)
+    insert(rt, func, block, InsertAt::Back, shape, Type::Invalid)
 }
 
 fn append(
@@ -149,7 +151,7 @@ fn append(
 fn ret(rt: &impl Abort, func: &mut Function, block: u32, values: &[Value]) -> Result<(), Fail> {
     let args = ValueList::from_slice(func.allocator(), values)?;
     let shape = InstructionData::MultiAry { args };
-    insert(rt, func, block, BlockEnd::Back, shape, Type::Invalid)
+    insert(rt, func, block, InsertAt::Back, shape, Type::Invalid)
 }
 
 fn alias(rt: &impl Abort, func: &mut Function, param: u32, original: u32) -> Result<(), Fail> {
@@ -169,8 +171,8 @@ fn make(rt: &impl Abort, func: &mut Function, step: Step) -> Result<(), Fail> {
         Step::Ensure(block) => ensure(rt, func, block),
         Step::Cold(block) => cold(rt, func, block),
         Step::Param(block, ty) => param(rt, func, block, ty),
-        Step::Iconst(block, end, ty, imm) => {
-            insert(rt, func, block, end, InstructionData::UnaryImm { imm }, ty)
+        Step::Iconst(block, at, ty, imm) => {
+            insert(rt, func, block, at, InstructionData::UnaryImm { imm }, ty)
         }
         Step::Unary(opcode, block, ty, x) => {
             let arg = v(rt, x);
@@ -178,7 +180,7 @@ fn make(rt: &impl Abort, func: &mut Function, step: Step) -> Result<(), Fail> {
                 rt,
                 func,
                 block,
-                BlockEnd::Back,
+                InsertAt::Back,
                 InstructionData::Unary { opcode, arg },
                 ty,
             )
@@ -189,7 +191,7 @@ fn make(rt: &impl Abort, func: &mut Function, step: Step) -> Result<(), Fail> {
                 rt,
                 func,
                 block,
-                BlockEnd::Back,
+                InsertAt::Back,
                 InstructionData::Binary { opcode, args },
                 ty,
             )

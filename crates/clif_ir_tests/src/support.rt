@@ -3,11 +3,12 @@
 
 ghost use Rattle.std.specs.Prelude.{◌≡◌, ◌<◌, length, IsTrue, EachIndex, All, slice_index};
 ghost use Rattle.clif_ir.specs.Body.{value_at};
-ghost use Rattle.clif_ir.specs.Changes.{home_of};
+ghost use Rattle.clif_ir.specs.Changes.{home_of, IsPlaceOf};
 ghost use Rattle.clif_ir.specs.Consistent.{EdgeExists};
 
 use clif_ir::block_call::BlockCall;
 use clif_ir::function::{Function, ValueOrigin};
+use clif_ir::inst_list::InsertAt;
 use clif_types::{
     AbiParam, Block, CallConv, EntityRef, Inst, Signature, Type, UserFuncName, Value,
 };
@@ -69,6 +70,16 @@ pub fn has_operands(func: &Function, args: &[Value]) -> bool
 {
     let count = func.value_count();
     args.iter().all(|value| value.index() < count)
+}
+
+/// Whether there is such a place in a list of so many.
+pub fn is_place_of(at: InsertAt, len: usize) -> bool
+    ensures { IsTrue result → IsPlaceOf at len }
+{
+    match at {
+        InsertAt::Behind(count) => count <= len,
+        InsertAt::Back => true,
+    }
 }
 
 // Whether the target of an edge exists, to which nothing is passed.

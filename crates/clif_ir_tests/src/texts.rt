@@ -7,7 +7,7 @@ use crate::steps::Step::{
 use crate::steps::{makes, makes_of};
 use crate::support::{prints, typed};
 use clif_ir::function::Function;
-use clif_ir::inst_list::BlockEnd::{Back, Front};
+use clif_ir::inst_list::InsertAt::{Back, Behind};
 use clif_types::BinaryOpcode::{Band, Bor, Bxor, Iadd, Imul, Isub};
 use clif_types::UnaryOpcode::{Bnot, Ineg};
 use clif_types::types::{F64, I8, I16, I32, I64};
@@ -33,7 +33,7 @@ fn first_row(rt: HostRuntime) -> Result<(), Fail> {
         Iconst(0, Back, I32, 7),
         Binary(Iadd, 0, I32, 0, 1),
         ReturnOne(0, 2),
-        Iconst(0, Front, I32, 0),
+        Iconst(0, Behind(0), I32, 0),
         Alias(0, 3),
     ];
     let text =

@@ -2,8 +2,8 @@
 #![tactic(auto)]
 
 use crate::facts::Fact::{
-    ArgumentAt, BlockCount, Entry, FirstInst, HasType, Home, IsCold, IsParam, IsResult, LaidOut,
-    LastInst, NextBlock, NextInst, ParamAt, Place, ResultAt, StandsFor, StandsIn,
+    ArgumentAt, BlockCount, Entry, FirstInst, HasType, Home, InstCount, IsCold, IsParam, IsResult,
+    LaidOut, LastInst, NextBlock, NextInst, ParamAt, Place, ResultAt, StandsFor, StandsIn,
 };
 use crate::steps::Step::{
     Alias, Binary, Cold, Create, Ensure, Iconst, Is, LayOut, LayOutAfter, Param, ReturnOne,
@@ -11,7 +11,7 @@ use crate::steps::Step::{
 use crate::steps::{makes, runs};
 use crate::support::{PLACE, sample};
 use clif_ir::function::Function;
-use clif_ir::inst_list::BlockEnd::{Back, Front};
+use clif_ir::inst_list::InsertAt::{Back, Behind};
 use clif_types::BinaryOpcode::Iadd;
 use clif_types::types::{I8, I32, I64};
 use clif_types::{CallConv, Inst};
@@ -91,7 +91,7 @@ fn along_instructions(rt: HostRuntime) -> Result<(), Fail> {
         LayOut(0),
         Iconst(0, Back, I32, 1),
         ReturnOne(0, 0),
-        Iconst(0, Front, I32, 2),
+        Iconst(0, Behind(0), I32, 2),
         Is(FirstInst(1, None)),
         Is(LastInst(1, None)),
         Is(FirstInst(0, Some(2))),
@@ -99,6 +99,16 @@ fn along_instructions(rt: HostRuntime) -> Result<(), Fail> {
         Is(NextInst(2, Some(0))),
         Is(NextInst(0, Some(1))),
         Is(NextInst(1, None)),
+        Iconst(0, Behind(2), I32, 3),
+        Iconst(0, Behind(1), I32, 4),
+        Is(FirstInst(0, Some(2))),
+        Is(NextInst(2, Some(4))),
+        Is(NextInst(4, Some(0))),
+        Is(NextInst(0, Some(3))),
+        Is(NextInst(3, Some(1))),
+        Is(NextInst(1, None)),
+        Is(InstCount(0, 5)),
+        Is(InstCount(1, 0)),
         Is(StandsIn(2, Some(0))),
         Is(Place(2, PLACE)),
     ];

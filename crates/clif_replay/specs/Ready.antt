@@ -1,6 +1,6 @@
 -- What holds between the calls of a script: the builder stands for the calls that were made, whose numbers are those
 -- that were answered. Own.
-use Rattle.std.specs.Prelude.{◌≡◌, ℕ, ◌<◌, List, [], ◌∷◌, ◌++◌, length, map, option_map, slice_get, is_some, not, ◌&&◌, ◌+◌, ◌-◌, ◌==◌, nat_lt, Bool, true, false, Option, Some, None, if◌then◌else◌, Result, Ok, Err}
+use Rattle.std.specs.Prelude.{◌≡◌, ℕ, ◌<◌, List, [], ◌∷◌, ◌++◌, length, map, option_map, slice_get, slice_index_or, EachIndex, is_some, not, ◌&&◌, ◌+◌, ◌-◌, ◌==◌, nat_lt, Bool, true, false, Option, Some, None, if◌then◌else◌, Result, Ok, Err}
 use Rattle.std.specs.List.{list_all}
 use Rattle.clif_types.specs.declared.types.«Type».{«Type»}
 use Rattle.clif_ir.specs.Body.{Body, inst_at, value_at}
@@ -101,6 +101,10 @@ AnswerExists f answer.Nothing = Unit {0}
 AnswerExists f (answer.Block b) = Unit {0}
 AnswerExists f (answer.Variable v) = Unit {0}
 AnswerExists f (answer.Values first count) = (k : ℕ) → k < count → first + k < length f.values
+
+-- what each answer names exists
+abbrev pub AnswersExist : Body → List Answer → Type 0
+AnswersExist f answers = EachIndex answers (λ k. AnswerExists f (slice_index_or answers k answer.Nothing))
 
 -- there is a current block, and no terminator was appended to it
 abbrev pub is_open_at : Option ℕ → ContextState → Bool

@@ -117,7 +117,8 @@ pub(crate) fn insert_block_after(
     behind: Name,
 ) -> Result<Answer, CallError>
     requires { IsSound builder.old answers.now }
-    ensures { MakesCall (Call.InsertBlockAfter name behind) builder.old builder.new answers.now result }
+    ensures { MakesCall (Call.InsertBlockAfter name behind)
+        builder.old builder.new answers.now result }
 {
     let Some(block) = block_named(answers, name) else {
         return Err(CallError::Misuse);

@@ -1,12 +1,12 @@
 //! The instructions of a script, each made on a builder by its plan, if its condition holds.
-ghost use Rattle.std.specs.Prelude.{◌≡◌, ◌<◌, ◌-◌, ◌^◌, ◌⊎◌, ◌↔◌, ◌++◌, ◌∷◌, [], List, length, slice_index, slice_index_or, EachIndex, All, OnOk, IfOk, Err, IsTrue, is_err};
+ghost use Rattle.std.specs.Prelude.{◌≡◌, ◌<◌, ◌-◌, ◌∷◌, [], length, slice_index, EachIndex, All, Err};
 ghost use Rattle.clif_ir.specs.Body.{value_at};
 ghost use Rattle.clif_ir.specs.Instruction.{destinations, operands};
 ghost use Rattle.clif_meaning.specs.Acceptance.{can_operate};
 ghost use Rattle.cranelift_frontend.specs.Builder.{CanLead, HasCurrent};
 ghost use Rattle.cranelift_frontend.specs.Built.{Builds};
 ghost use Rattle.clif_replay.specs.Makes.{Finds, IsPlanned, MakesPlan, ValuesExist, can_make, has_names};
-ghost use Rattle.clif_replay.specs.Ready.{IsSound, AnswerExists};
+ghost use Rattle.clif_replay.specs.Ready.{AnswersExist, IsSound};
 ghost use Rattle.clif_replay.specs.Requests.{operation_in};
 
 use crate::make::has_current;
@@ -58,9 +58,10 @@ fn checked(
     answers: &[Answer],
     plan: &Plan<'_>,
 ) -> Result<Planned, CallError>
-    requires answers { EachIndex answers.now (λ k. AnswerExists builder.now.func.now (slice_index_or answers.now k Answer.Nothing)) }
+    requires answers { AnswersExist builder.now.func.now answers.now }
     requires values { ValuesExist builder.now answers.now }
-    ensures { Finds (λ p. IsPlanned builder.now answers.now plan.now p.shape p.ty) (can_make builder.now answers.now plan.now) result }
+    ensures { Finds (λ p. IsPlanned builder.now answers.now plan.now p.shape p.ty)
+        (can_make builder.now answers.now plan.now) result }
 {
     if !has_current(builder) {
         return Err(CallError::Misuse);
@@ -92,9 +93,10 @@ fn shaped(
     answers: &[Answer],
     plan: &Plan<'_>,
 ) -> Result<Planned, CallError>
-    requires answers { EachIndex answers.now (λ k. AnswerExists builder.now.func.now (slice_index_or answers.now k Answer.Nothing)) }
+    requires answers { AnswersExist builder.now.func.now answers.now }
     requires values { ValuesExist builder.now answers.now }
-    ensures { Finds (λ p. IsPlanned builder.now answers.now plan.now p.shape p.ty) (has_names builder.now answers.now plan.now) result }
+    ensures { Finds (λ p. IsPlanned builder.now answers.now plan.now p.shape p.ty)
+        (has_names builder.now answers.now plan.now) result }
 {
     let func = builder.func();
     match plan {
@@ -135,7 +137,8 @@ fn shaped(
 // An instruction of one value, which is made at its type.
 fn unary(func: &Function, opcode: UnaryOpcode, x: Value) -> Planned
     requires { x < length func.now.values }
-    ensures { result ≡ record { shape = InstructionData.Unary opcode x; ty = (value_at func.now x).ty } }
+    ensures { result ≡
+        record { shape = InstructionData.Unary opcode x; ty = (value_at func.now x).ty } }
 {
     Planned {
         shape: InstructionData::Unary { opcode, arg: x },
@@ -146,7 +149,8 @@ fn unary(func: &Function, opcode: UnaryOpcode, x: Value) -> Planned
 // An instruction of two values, which is made at the type of the first.
 fn binary(func: &Function, opcode: BinaryOpcode, x: Value, y: Value) -> Planned
     requires { x < length func.now.values }
-    ensures { result ≡ record { shape = InstructionData.Binary opcode (x ∷ y ∷ []); ty = (value_at func.now x).ty } }
+    ensures { result ≡
+        record { shape = InstructionData.Binary opcode (x ∷ y ∷ []); ty = (value_at func.now x).ty } }
 {
     Planned {
         shape: InstructionData::Binary {

@@ -40,7 +40,8 @@ pub(crate) fn append_block_params_for_function_params(
     name: Name,
 ) -> Result<Answer, CallError>
     requires { IsSound builder.old answers.now }
-    ensures { MakesCall (Call.AppendBlockParamsForFunctionParams name) builder.old builder.new answers.now result }
+    ensures { MakesCall (Call.AppendBlockParamsForFunctionParams name)
+        builder.old builder.new answers.now result }
 {
     let Some(block) = block_named(answers, name) else {
         return Err(CallError::Misuse);
@@ -60,7 +61,8 @@ pub(crate) fn append_block_params_for_function_returns(
     name: Name,
 ) -> Result<Answer, CallError>
     requires { IsSound builder.old answers.now }
-    ensures { MakesCall (Call.AppendBlockParamsForFunctionReturns name) builder.old builder.new answers.now result }
+    ensures { MakesCall (Call.AppendBlockParamsForFunctionReturns name)
+        builder.old builder.new answers.now result }
 {
     let Some(block) = block_named(answers, name) else {
         return Err(CallError::Misuse);

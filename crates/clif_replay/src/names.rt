@@ -1,8 +1,8 @@
 //! What the names of a script lead to.
-ghost use Rattle.std.specs.Prelude.{◌≡◌, ◌≢◌, ◌<◌, ◌+◌, ◌-◌, ◌∷◌, [], ℕ, map, length, slice_index_or, EachIndex, Some, None, nat_lt, if◌then◌else◌, IfOk, Err, false};
+ghost use Rattle.std.specs.Prelude.{◌≡◌, ◌≢◌, ◌<◌, ◌+◌, ◌-◌, ◌∷◌, [], ℕ, map, length, Some, None, nat_lt, if◌then◌else◌, IfOk, Err, false};
 ghost use Rattle.std.specs.List.{list_all};
 ghost use Rattle.clif_replay.specs.Makes.{AreFound, Finds};
-ghost use Rattle.clif_replay.specs.Ready.{IsFound, AnswerExists, all_values, argument_of, block_of, may_lead, value_in, value_of};
+ghost use Rattle.clif_replay.specs.Ready.{IsFound, AnswerExists, AnswersExist, all_values, argument_of, block_of, may_lead, value_in, value_of};
 
 use crate::make_blocks::may_seal;
 use crate::script::{Answer, CallError};
@@ -47,7 +47,7 @@ fn value_in(func: &Function, answer: Answer, place: usize) -> Option<Value>
 
 // The value that a name leads to.
 pub(crate) fn value_named(func: &Function, answers: &[Answer], name: Name) -> Option<Value>
-    requires { EachIndex answers.now (λ k. AnswerExists func.now (slice_index_or answers.now k Answer.Nothing)) }
+    requires { AnswersExist func.now answers.now }
     ensures { result ≡ value_of func.now answers.now name }
 {
     match answers.get(name.place) {
@@ -62,8 +62,9 @@ pub(crate) fn values_named(
     answers: &[Answer],
     names: &[Name],
 ) -> Result<ValueList, CallError>
-    requires { EachIndex answers.now (λ k. AnswerExists func.now (slice_index_or answers.now k Answer.Nothing)) }
-    ensures values { IfOk result (λ values. map (value_of func.now answers.now) names.now ≡ map Some values) }
+    requires { AnswersExist func.now answers.now }
+    ensures values { IfOk result (λ values.
+        map (value_of func.now answers.now) names.now ≡ map Some values) }
     ensures misuse { result ≡ Err CallError.Misuse → all_values func.now answers.now names.now ≡ false }
     ensures never_full { result ≢ Err CallError.Full }
     ensures never_refused { result ≢ Err CallError.Refused }
@@ -82,8 +83,9 @@ fn arguments_named(
     answers: &[Answer],
     names: &[Name],
 ) -> Result<BlockArgs, CallError>
-    requires { EachIndex answers.now (λ k. AnswerExists func.now (slice_index_or answers.now k Answer.Nothing)) }
-    ensures passed { IfOk result (λ args. map (argument_of func.now answers.now) names.now ≡ map Some args) }
+    requires { AnswersExist func.now answers.now }
+    ensures passed { IfOk result (λ args.
+        map (argument_of func.now answers.now) names.now ≡ map Some args) }
     ensures misuse { result ≡ Err CallError.Misuse → all_values func.now answers.now names.now ≡ false }
     ensures never_full { result ≢ Err CallError.Full }
     ensures never_refused { result ≢ Err CallError.Refused }
@@ -102,8 +104,9 @@ pub(crate) fn edge_named(
     answers: &[Answer],
     edge: &Edge,
 ) -> Result<BlockCall, CallError>
-    requires { EachIndex answers.now (λ k. AnswerExists builder.now.func.now (slice_index_or answers.now k Answer.Nothing)) }
-    ensures { Finds (IsFound builder.now answers.now edge.now) (may_lead builder.now answers.now edge.now) result }
+    requires { AnswersExist builder.now.func.now answers.now }
+    ensures { Finds (IsFound builder.now answers.now edge.now)
+        (may_lead builder.now answers.now edge.now) result }
 {
     let Some(block) = block_named(answers, edge.block) else {
         return Err(CallError::Misuse);
@@ -121,8 +124,10 @@ pub(crate) fn two_values(
     answers: &[Answer],
     names: &[Name; 2],
 ) -> Result<(Value, Value), CallError>
-    requires { EachIndex answers.now (λ k. AnswerExists func.now (slice_index_or answers.now k Answer.Nothing)) }
-    ensures { Finds (λ pair. map (value_of func.now answers.now) names.now ≡ map Some (pair.0 ∷ pair.1 ∷ [])) (all_values func.now answers.now names.now) result }
+    requires { AnswersExist func.now answers.now }
+    ensures { Finds
+        (λ pair. map (value_of func.now answers.now) names.now ≡ map Some (pair.0 ∷ pair.1 ∷ []))
+        (all_values func.now answers.now names.now) result }
 {
     let [x, y] = *names;
     let Some(x) = value_named(func, answers, x) else {
@@ -141,8 +146,9 @@ pub(crate) fn two_edges(
     first: &Edge,
     second: &Edge,
 ) -> Result<[BlockCall; 2], CallError>
-    requires { EachIndex answers.now (λ k. AnswerExists builder.now.func.now (slice_index_or answers.now k Answer.Nothing)) }
-    ensures { Finds (AreFound builder.now answers.now (first.now ∷ second.now ∷ [])) (list_all (may_lead builder.now answers.now) (first.now ∷ second.now ∷ [])) result }
+    requires { AnswersExist builder.now.func.now answers.now }
+    ensures { Finds (AreFound builder.now answers.now (first.now ∷ second.now ∷ []))
+        (list_all (may_lead builder.now answers.now) (first.now ∷ second.now ∷ [])) result }
 {
     let first = edge_named(builder, answers, first)?;
     let second = edge_named(builder, answers, second)?;

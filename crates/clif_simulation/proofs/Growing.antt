@@ -9,7 +9,7 @@ use Rattle.clif_ir.specs.declared.block_call.BlockArg.TheVariants.{Value}
 use Rattle.clif_ir.specs.declared.block_call.BlockCall.{BlockCall}
 use Rattle.clif_ir.specs.declared.function.InstNode.{InstNode}
 use Rattle.clif_ir.specs.declared.function.ValueNode.{ValueNode}
-use Rattle.clif_ir.specs.declared.inst_list.BlockEnd.{BlockEnd}
+use Rattle.clif_ir.specs.declared.inst_list.InsertAt.{InsertAt}
 use Rattle.clif_ir.specs.declared.instructions.InstructionData.{InstructionData}
 use Rattle.clif_ir.specs.declared.instructions.InstructionData.TheVariants.{UnaryImm, Unary, Binary, Jump, Brif, MultiAry}
 use Rattle.clif_ir.specs.Edges.{with_argument_to}
@@ -49,8 +49,8 @@ goes_on-constructs f g constructs = record {
     of old new (inl same) = ap (λ (n : ValueNode). n.ty) same
     of old new (inr names) = ap (λ (n : ValueNode). n.ty) names.3
 
-pub goes_on-with_inst : (f : Body) (b : ℕ) (end : BlockEnd) (shape : InstructionData) (types : List «Type») (loc : ℕ) → GoesOn f (with_inst f b end shape types loc)
-goes_on-with_inst f b end shape types loc = record {
+pub goes_on-with_inst : (f : Body) (b : ℕ) (at : InsertAt) (shape : InstructionData) (types : List «Type») (loc : ℕ) → GoesOn f (with_inst f b at shape types loc)
+goes_on-with_inst f b at shape types loc = record {
   insts = λ i below.
       subst (λ (node : InstNode). MayPassMore (inst_at f i) node) (sym (get_or-append f.insts _ _ i below)) (more_none (inst_at f i));
   types = λ v below. ap (λ (n : ValueNode). n.ty) (get_or-append f.values _ no_value v below);

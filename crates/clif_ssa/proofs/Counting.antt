@@ -11,7 +11,7 @@ use Rattle.clif_ir.specs.Instruction.{destinations}
 use Rattle.clif_ir.specs.Reading.{param_home, place_of, targets, stands_in, without}
 use Rattle.clif_ir.specs.declared.function.BlockNode.{BlockNode}
 use Rattle.clif_ir.specs.declared.function.InstNode.{InstNode}
-use Rattle.clif_ir.specs.declared.inst_list.BlockEnd.{BlockEnd}
+use Rattle.clif_ir.specs.declared.inst_list.InsertAt.{InsertAt}
 use Rattle.clif_ir.specs.declared.instructions.InstructionData.{InstructionData}
 use Rattle.clif_ir.proofs.Reading.{if_true, if_false}
 use Rattle.clif_ir.proofs.Lists.{at_push, at_past}
@@ -100,22 +100,22 @@ housed_same f g params homes housed = record {
 }
 
 -- an instruction is put into a block
-pub inst_counted : (own : Own) (f : Body) (s : SsaState) (completing : List Pending) (blocks blocks' : Blocks) (b : ℕ) (end : BlockEnd) (shape : InstructionData) (types : List «Type») (loc : ℕ)
+pub inst_counted : (own : Own) (f : Body) (s : SsaState) (completing : List Pending) (blocks blocks' : Blocks) (b : ℕ) (at : InsertAt) (shape : InstructionData) (types : List «Type») (loc : ℕ)
     → Describes own f s completing blocks → ((v : ℕ) → v < length f.values → blocks'.function.definition v ≡ blocks.function.definition v)
-    → CountsArguments own f s blocks → CountsArguments own (with_inst f b end shape types loc) s blocks'
-inst_counted own f s completing blocks blocks' b end shape types loc before defined counts =
-    counts_same own f (with_inst f b end shape types loc) s s blocks blocks'
+    → CountsArguments own f s blocks → CountsArguments own (with_inst f b at shape types loc) s blocks'
+inst_counted own f s completing blocks blocks' b at shape types loc before defined counts =
+    counts_same own f (with_inst f b at shape types loc) s s blocks blocks'
     (record {
       predecessors = λ c. refl;
-      inst_same = λ c i here. inst_old f b end shape types loc i (before.leading c i here).0;
-      params = inst_params f b end shape types loc;
-      homes = inst_param_home f b end shape types loc;
+      inst_same = λ c i here. inst_old f b at shape types loc i (before.leading c i here).0;
+      params = inst_params f b at shape types loc;
+      homes = inst_param_home f b at shape types loc;
       defined = λ v c is. defined v (param_exists f v c is);
     }) counts
 
-pub inst_housed : (f : Body) (b : ℕ) (end : BlockEnd) (shape : InstructionData) (types : List «Type») (loc : ℕ) → Housed f → Housed (with_inst f b end shape types loc)
-inst_housed f b end shape types loc housed =
-    housed_same f (with_inst f b end shape types loc) (inst_params f b end shape types loc) (inst_param_home f b end shape types loc) housed
+pub inst_housed : (f : Body) (b : ℕ) (at : InsertAt) (shape : InstructionData) (types : List «Type») (loc : ℕ) → Housed f → Housed (with_inst f b at shape types loc)
+inst_housed f b at shape types loc housed =
+    housed_same f (with_inst f b at shape types loc) (inst_params f b at shape types loc) (inst_param_home f b at shape types loc) housed
 
 -- a zero is put
 pub zero_counted : (own : Own) (f : Body) (s : SsaState) (completing : List Pending) (blocks : Blocks) (b x : ℕ) (ty : «Type»)

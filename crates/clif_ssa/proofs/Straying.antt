@@ -18,7 +18,7 @@ use Rattle.clif_ir.specs.declared.instructions.InstructionData.{InstructionData}
 use Rattle.clif_ir.specs.declared.function.BlockNode.{BlockNode}
 use Rattle.clif_ir.specs.declared.function.ValueNode.{ValueNode}
 use Rattle.clif_ir.specs.declared.function.ValueOrigin.TheVariants.{Alias}
-use Rattle.clif_ir.specs.declared.inst_list.BlockEnd.TheVariants.{Back}
+use Rattle.clif_ir.specs.declared.inst_list.InsertAt.TheVariants.{Back}
 use Rattle.clif_ir.proofs.Aliases.{follow_end, follow-inside}
 use Rattle.clif_ir.proofs.Lists.{at_set, below_or_not}
 use Rattle.clif_paths.proofs.Tables.{updated-same, updated-other}

@@ -13,7 +13,7 @@ use Rattle.clif_ir.specs.Consistent.{Once}
 use Rattle.clif_ir.specs.Reading.{stands_in, without}
 use Rattle.clif_ir.specs.declared.block_call.BlockArg.{BlockArg}
 use Rattle.clif_ir.specs.declared.function.BlockNode.{BlockNode}
-use Rattle.clif_ir.specs.declared.inst_list.BlockEnd.TheVariants.{Back}
+use Rattle.clif_ir.specs.declared.inst_list.InsertAt.TheVariants.{Back}
 use Rattle.clif_ir.specs.declared.instructions.InstructionData.{InstructionData}
 use Rattle.clif_ir.proofs.Reading.{if_true, if_false, Once-without}
 use Rattle.clif_paths.specs.Steps.{updated}

@@ -11,7 +11,7 @@ use Rattle.clif_ir.specs.Body.{Body, block_at, inst_at, value_at, alias_of, empt
 use Rattle.clif_ir.specs.Reading.{param_home, place_of, home_of_node}
 use Rattle.clif_ir.specs.Consistent.{alias_count}
 use Rattle.clif_ir.specs.Changes.{with_inst, with_param}
-use Rattle.clif_ir.specs.declared.inst_list.BlockEnd.TheVariants.{Front}
+use Rattle.clif_ir.specs.declared.inst_list.InsertAt.TheVariants.{Behind}
 use Rattle.clif_ir.specs.declared.instructions.InstructionData.TheVariants.{UnaryImm}
 use Rattle.clif_ir.specs.declared.function.BlockNode.{BlockNode}
 use Rattle.clif_ir.specs.declared.function.InstNode.{InstNode}
@@ -200,12 +200,12 @@ param_zero_value f b ty =
 -- THE CODE --------------------------------------------------------------------------------------------------------
 
 -- each zero is one instruction so far
-one_is_put : (f : Body) (b : ℕ) (ty : «Type») → with_inst f b Front (UnaryImm (pos 0)) (ty ∷ []) no_srcloc ≡ put_zero f b ty
+one_is_put : (f : Body) (b : ℕ) (ty : «Type») → with_inst f b (Behind 0) (UnaryImm (pos 0)) (ty ∷ []) no_srcloc ≡ put_zero f b ty
 unfolding zero_row
 one_is_put f b ty = refl
 
-pub put_made : (f g : Body) (b : ℕ) (ty : «Type») (loc : ℕ) → g ≡ with_inst f b Front (UnaryImm (pos 0)) (ty ∷ []) loc → loc ≡ no_srcloc → g ≡ put_zero f b ty
-put_made f g b ty loc made none = made ∙ ap (λ n. with_inst f b Front (UnaryImm (pos 0)) (ty ∷ []) n) none ∙ one_is_put f b ty
+pub put_made : (f g : Body) (b : ℕ) (ty : «Type») (loc : ℕ) → g ≡ with_inst f b (Behind 0) (UnaryImm (pos 0)) (ty ∷ []) loc → loc ≡ no_srcloc → g ≡ put_zero f b ty
+put_made f g b ty loc made none = made ∙ ap (λ n. with_inst f b (Behind 0) (UnaryImm (pos 0)) (ty ∷ []) n) none ∙ one_is_put f b ty
 
 pub one_is_alone : (ty : «Type») → steps_before ty ≡ 0
 unfolding zero_row

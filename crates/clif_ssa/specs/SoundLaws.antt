@@ -11,7 +11,7 @@ use Rattle.clif_ir.specs.Instruction.{destinations}
 use Rattle.clif_ir.specs.Reading.{without}
 use Rattle.clif_ir.specs.declared.block_call.BlockArg.{BlockArg}
 use Rattle.clif_ir.specs.declared.instructions.InstructionData.{InstructionData}
-use Rattle.clif_ir.specs.declared.inst_list.BlockEnd.TheVariants.{Back}
+use Rattle.clif_ir.specs.declared.inst_list.InsertAt.TheVariants.{Back}
 use Rattle.clif_paths.specs.Places.{start, Edges, same_place}
 use Rattle.clif_paths.specs.Steps.{updated, IsNewName}
 use Rattle.clif_paths.specs.Blocks.{Blocks, front, last_place, state_of, no_blocks, with_blocks_sealed, with_block_sealed, with_zero_in, with_dropped, with_item, with_born, with_read, with_write, Knows}

@@ -11,7 +11,7 @@ use Rattle.clif_ir.specs.Changes.{inserted_in, with_block, with_inst, with_param
 use Rattle.clif_ir.specs.Consistent.{IsConsistent, Once}
 use Rattle.clif_ir.specs.declared.block_call.BlockArg.{BlockArg}
 use Rattle.clif_ir.specs.declared.block_call.BlockArg.TheVariants.{Value}
-use Rattle.clif_ir.specs.declared.inst_list.BlockEnd.TheVariants.{Back}
+use Rattle.clif_ir.specs.declared.inst_list.InsertAt.TheVariants.{Back}
 use Rattle.clif_ir.specs.declared.instructions.InstructionData.{InstructionData}
 use Rattle.clif_ssa.specs.declared.tables.Pending.{Pending}
 use Rattle.clif_ssa.specs.declared.tables.Sealed.{Sealed}

@@ -8,7 +8,7 @@ ghost use Rattle.clif_ssa.specs.Limits.{IsFull};
 ghost use Rattle.clif_ssa.specs.Ssa.{with_zero, zero_value, zeroed_in, HasMore};
 
 use crate::side_effects::SideEffects;
-use clif_ir::inst_list::BlockEnd;
+use clif_ir::inst_list::InsertAt;
 use clif_ir::{Function, InstructionData};
 use clif_types::{Block, BuildError, SourceLoc, Type, Value};
 
@@ -84,6 +84,6 @@ fn put_zero(func: &mut Function, block: Block, ty: Type) -> Result<Value, BuildE
 {
     func.ensure_block_inserted(block)?;
     let shape = InstructionData::UnaryImm { imm: 0 };
-    let inst = func.insert_inst(block, BlockEnd::Front, shape, ty, SourceLoc::new(u32::MAX))?;
+    let inst = func.insert_inst(block, InsertAt::Behind(0), shape, ty, SourceLoc::new(u32::MAX))?;
     Ok(func.inst_results(inst)[0])
 }

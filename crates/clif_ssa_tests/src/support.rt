@@ -6,7 +6,7 @@ ghost use Rattle.std.specs.Prelude.{◌≡◌, ◌<◌, length, IsTrue, EachInde
 ghost use Rattle.clif_ir.specs.Consistent.{EdgeExists};
 ghost use Rattle.clif_ssa.specs.Ssa.{Declares, NamesExist};
 
-use clif_ir::inst_list::BlockEnd;
+use clif_ir::inst_list::InsertAt;
 use clif_ir::{BlockCall, Function, InstructionData};
 use clif_ssa::{SSABuilder, SideEffects, Variable};
 use clif_types::{
@@ -144,7 +144,7 @@ impl Fixture {
         assert!(rt; has_edges(&self.func, shape.branch_destination()));
         let inst = self
             .func
-            .insert_inst(block, BlockEnd::Back, shape, ty, SourceLoc::new(PLACE))?;
+            .insert_inst(block, InsertAt::Back, shape, ty, SourceLoc::new(PLACE))?;
         Ok(inst.as_u32())
     }
 

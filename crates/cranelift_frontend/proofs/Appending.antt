@@ -4,7 +4,7 @@ use Rattle.std.specs.Prelude.{All, Contains}
 use Rattle.std.proofs.lemmas.Grind.{common_steps}
 use Rattle.clif_types.specs.declared.types.«Type».{«Type»}
 use Rattle.clif_ir.specs.declared.block_call.BlockCall.{BlockCall}
-use Rattle.clif_ir.specs.declared.inst_list.BlockEnd.{BlockEnd}
+use Rattle.clif_ir.specs.declared.inst_list.InsertAt.{InsertAt}
 use Rattle.clif_ir.specs.declared.instructions.InstructionData.{InstructionData}
 use Rattle.clif_ir.specs.declared.instructions.InstructionData.TheVariants.{UnaryImm, Unary, Binary, Jump, Brif, MultiAry}
 use Rattle.clif_ir.specs.Body.{Body, inst_at}
@@ -47,20 +47,20 @@ lead_unsealed f c edges may b (k, inside, at) = by edges may k inside at
     by (edge ∷ edges) may (suc k) inside at = by edges (λ j d below. may (suc j) d (omega (arith, below))) k (omega (arith, inside)) at
 
 -- the node of the instruction
-pub inserted_node : (f g : Body) (b : ℕ) (end : BlockEnd) (shape : InstructionData) (types : List «Type») (loc inst : ℕ) → g ≡ with_inst f b end shape types loc → inst ≡ length f.insts
+pub inserted_node : (f g : Body) (b : ℕ) (at : InsertAt) (shape : InstructionData) (types : List «Type») (loc inst : ℕ) → g ≡ with_inst f b at shape types loc → inst ≡ length f.insts
     → ((inst_at g inst).shape ≡ shape) × (inst < length g.insts)
-inserted_node f g b end shape types loc inst is number = (
+inserted_node f g b at shape types loc inst is number = (
   ap (λ (h : Body). (inst_at h inst).shape) is ∙ ap (λ (n : InstNode). n.shape) last,
   omega (arith, count, same_count, number),
 )
   where
-    last : inst_at (with_inst f b end shape types loc) inst ≡ inst_node f b shape types loc
+    last : inst_at (with_inst f b at shape types loc) inst ≡ inst_node f b shape types loc
     last = grind (arith, common_steps, number)
 
-    count : length (with_inst f b end shape types loc).insts ≡ length f.insts + 1
+    count : length (with_inst f b at shape types loc).insts ≡ length f.insts + 1
     count = grind (arith, common_steps)
 
-    same_count : length g.insts ≡ length (with_inst f b end shape types loc).insts
+    same_count : length g.insts ≡ length (with_inst f b at shape types loc).insts
     same_count = ap (λ (h : Body). length h.insts) is
 
 -- a new instruction leads nowhere so far

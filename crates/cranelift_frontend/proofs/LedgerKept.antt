@@ -6,7 +6,7 @@ use Rattle.std.proofs.lemmas.Option.{get_or_from_slice_get, slice_get-get_or, sl
 use Rattle.std.proofs.lemmas.Bool.{eq-eqb, or_left, or_right, or_cases, eqb-true}
 use Rattle.std.proofs.lemmas.List.{map_push}
 use Rattle.clif_types.specs.declared.types.«Type».{«Type»}
-use Rattle.clif_ir.specs.declared.inst_list.BlockEnd.{BlockEnd}
+use Rattle.clif_ir.specs.declared.inst_list.InsertAt.{InsertAt}
 use Rattle.clif_ir.specs.declared.instructions.InstructionData.{InstructionData}
 use Rattle.clif_ir.specs.declared.function.ValueNode.{ValueNode}
 use Rattle.clif_ir.specs.declared.function.ValueOrigin.{ValueOrigin}
@@ -252,12 +252,12 @@ pub home-param : (f : Body) (b : ℕ) (ty : «Type») (v h : ℕ) → param_home
 home-param f b ty v h is = elim (home-push f.values _ v h is) [ inl old ↦ inl old | inr new ↦ inr (same_Some b h new) ]
 
 -- a new instruction
-pub Continues-inst : (f : Body) (b : ℕ) (end : BlockEnd) (shape : InstructionData) (types : List «Type») (loc : ℕ) → Continues f (with_inst f b end shape types loc)
-Continues-inst f b end shape types loc =
+pub Continues-inst : (f : Body) (b : ℕ) (at : InsertAt) (shape : InstructionData) (types : List «Type») (loc : ℕ) → Continues f (with_inst f b at shape types loc)
+Continues-inst f b at shape types loc =
     record {
       extends = record {
         values = λ v t is. type-front f.values _ v t is;
-        insts = λ i node is. keeps-node (with_inst f b end shape types loc) i node (get-front f.insts _ i node is);
+        insts = λ i node is. keeps-node (with_inst f b at shape types loc) i node (get-front f.insts _ i node is);
         block_count = length-set f.blocks b _;
         cold = λ x. same_cold f.blocks b x _ refl;
       };

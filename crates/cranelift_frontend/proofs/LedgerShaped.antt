@@ -8,7 +8,7 @@ use Rattle.clif_types.specs.declared.types.«Type».TheVariants as type
 use Rattle.clif_ir.specs.declared.block_call.BlockCall.{BlockCall}
 use Rattle.clif_ir.specs.declared.function.InstNode.{InstNode}
 use Rattle.clif_ir.specs.declared.function.ValueNode.{ValueNode}
-use Rattle.clif_ir.specs.declared.inst_list.BlockEnd.TheVariants.{Back}
+use Rattle.clif_ir.specs.declared.inst_list.InsertAt.TheVariants.{Back}
 use Rattle.clif_types.specs.declared.opcodes.BinaryOpcode.{BinaryOpcode}
 use Rattle.clif_types.specs.declared.opcodes.UnaryOpcode.{UnaryOpcode}
 use Rattle.clif_ir.specs.declared.instructions.InstructionData.{InstructionData}

@@ -2,6 +2,7 @@ pub mod Faults
 pub mod LedgerLists
 pub mod LedgerNames
 pub mod Callers
+pub mod Calls
 pub mod LedgerKept
 pub mod Placed
 pub mod LedgerMade

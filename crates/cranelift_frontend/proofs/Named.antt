@@ -6,7 +6,7 @@ use denote.Struct.Props.{props}
 use Rattle.clif_types.specs.declared.types.«Type».{«Type»}
 use Rattle.clif_ir.specs.Body.{Body}
 use Rattle.clif_ir.specs.Changes.{inserted_in, with_block, with_inst, with_param}
-use Rattle.clif_ir.specs.declared.inst_list.BlockEnd.{BlockEnd}
+use Rattle.clif_ir.specs.declared.inst_list.InsertAt.{InsertAt}
 use Rattle.clif_ir.specs.declared.instructions.InstructionData.{InstructionData}
 use Rattle.clif_ssa.specs.declared.tables.SsaBlock.{SsaBlock}
 use Rattle.clif_ssa.specs.Tables.{predecessors_at, sealed_at, pending_of}
@@ -43,10 +43,10 @@ pub names_param : {X Y : Type 0} (r : Result X Y) (f g : Body) (s : SsaState) (b
 names_param (Ok x) f g s b ty is kept named = subst (λ h. NamesExist h s) (sym is) (names_grow f (with_param f b ty) s (Grows-with_param f b ty) named)
 names_param (Err y) f g s b ty is kept named = subst (λ h. NamesExist h s) (sym kept) named
 
-pub names_appended : {X Y : Type 0} (r : Result X Y) (f g : Body) (s : SsaState) (b : ℕ) (end : BlockEnd) (shape : InstructionData) (types : List «Type») (loc : ℕ)
-    → OnOk r (g ≡ with_inst f b end shape types loc) → OnErr r (g ≡ f) → NamesExist f s → NamesExist g s
-names_appended (Ok x) f g s b end shape types loc is kept named = subst (λ h. NamesExist h s) (sym is) (names_grow f (with_inst f b end shape types loc) s (Grows-with_inst f b end shape types loc) named)
-names_appended (Err y) f g s b end shape types loc is kept named = subst (λ h. NamesExist h s) (sym kept) named
+pub names_appended : {X Y : Type 0} (r : Result X Y) (f g : Body) (s : SsaState) (b : ℕ) (at : InsertAt) (shape : InstructionData) (types : List «Type») (loc : ℕ)
+    → OnOk r (g ≡ with_inst f b at shape types loc) → OnErr r (g ≡ f) → NamesExist f s → NamesExist g s
+names_appended (Ok x) f g s b at shape types loc is kept named = subst (λ h. NamesExist h s) (sym is) (names_grow f (with_inst f b at shape types loc) s (Grows-with_inst f b at shape types loc) named)
+names_appended (Err y) f g s b at shape types loc is kept named = subst (λ h. NamesExist h s) (sym kept) named
 
 -- a value that exists is recorded, or nothing is
 pub names_recorded : {X Y : Type 0} (r : Result X Y) (f : Body) (s t : SsaState) (variable block value : ℕ) → OnOk r (Records s t variable block value) → OnErr r (SameRecords s t) → t.blocks ≡ s.blocks

@@ -4,7 +4,7 @@ use Rattle.std.specs.Prelude.{Option, Some, OnOk, IfOk, IfSome, Result, Ok, Err}
 use Rattle.std.proofs.lemmas.Bool.Decides.{nat_tests}
 use Rattle.clif_types.specs.declared.types.«Type».{«Type»}
 use Rattle.clif_ir.specs.declared.instructions.InstructionData.{InstructionData}
-use Rattle.clif_ir.specs.declared.inst_list.BlockEnd.TheVariants.{Back}
+use Rattle.clif_ir.specs.declared.inst_list.InsertAt.TheVariants.{Back}
 use Rattle.clif_ir.specs.Body.{Body, resolved}
 use Rattle.clif_ir.specs.Instruction.{destinations, result_types}
 use Rattle.clif_ir.specs.Reading.{targets}

@@ -13,7 +13,7 @@ use Rattle.clif_ir.specs.declared.instructions.InstructionData.TheVariants.{Unar
 use Rattle.clif_ir.specs.Body.{Body, inst_at, value_at}
 use Rattle.clif_ir.specs.Changes.{inserted_in, with_inst}
 use Rattle.clif_ir.specs.Consistent.{IsConsistent}
-use Rattle.clif_ir.specs.declared.inst_list.BlockEnd.TheVariants.{Back}
+use Rattle.clif_ir.specs.declared.inst_list.InsertAt.TheVariants.{Back}
 use Rattle.clif_ir.specs.Instruction.{destinations, is_branch, operands, result_types}
 use Rattle.clif_ir.specs.Reading.{stands_in, targets}
 use Rattle.clif_ssa.specs.Ssa.{no_srcloc, predecessors_of, record_of, sealed_of, SsaState}

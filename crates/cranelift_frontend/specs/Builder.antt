@@ -8,7 +8,7 @@ use Rattle.clif_types.specs.declared.types.«Type».TheVariants.{Lane}
 use Rattle.clif_ir.specs.Body.{Body}
 use Rattle.clif_ir.specs.Consistent.{EdgeExists}
 use Rattle.clif_ir.specs.declared.block_call.BlockCall.{BlockCall}
-use Rattle.clif_ir.specs.declared.inst_list.BlockEnd.TheVariants.{Back}
+use Rattle.clif_ir.specs.declared.inst_list.InsertAt.TheVariants.{Back}
 use Rattle.clif_ir.specs.declared.instructions.InstructionData.{InstructionData}
 use Rattle.clif_ir.specs.Instruction.{is_terminator, result_types}
 use Rattle.clif_ir.specs.Changes.{inserted_in, with_inst}

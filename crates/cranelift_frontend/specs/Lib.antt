@@ -7,5 +7,6 @@ pub mod Growth
 pub mod StandsFor
 pub mod Shapes
 pub mod Built
+pub mod Calls
 pub mod Laws
 pub mod LedgerLaws

@@ -30,6 +30,11 @@ jump block args = Jump (edge_to block args)
 abbrev pub brif : ℕ → BlockCall → BlockCall → InstructionData
 brif c taken other = Brif c (taken ∷ other ∷ [])
 
+-- the same by the blocks and the arguments
+abbrev pub brif_to : ℕ → ℕ → List BlockArg → ℕ → List BlockArg → InstructionData
+brif_to c block_then then_args block_else else_args =
+    brif c (edge_to block_then then_args) (edge_to block_else else_args)
+
 abbrev pub multi_ary : List ℕ → InstructionData
 multi_ary values = MultiAry values
 

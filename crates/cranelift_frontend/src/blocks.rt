@@ -1,16 +1,17 @@
 //! The builder's calls that mark blocks, bring them into the layout and give them parameters.
-ghost use Rattle.std.specs.Prelude.{◌≡◌, ◌≢◌, ◌<◌, ◌≤◌, ◌+◌, ◌-◌, ◌^◌, ◌++◌, ◌∷◌, [], ℕ, List, IsTrue, ◌↔◌, OnOk, IfOk, IfSome, is_err, length, slice_index, EachIndex};
+ghost use Rattle.std.specs.Prelude.{◌≡◌, ◌≢◌, ◌<◌, ◌+◌, ◌-◌, ◌^◌, ◌++◌, ◌∷◌, [], ℕ, List, OnOk, IfOk, IfSome, is_err, length, slice_index, EachIndex};
 ghost use Rattle.cranelift_frontend.specs.Context.{status_of, begun, SetsStatus};
 ghost use Rattle.clif_ssa.specs.Ssa.{predecessors_of};
-ghost use Rattle.clif_simulation.specs.Carries.{numbers_from, with_params};
+ghost use Rattle.clif_simulation.specs.Carries.{with_params};
 ghost use Rattle.cranelift_frontend.specs.Growth.{Grows, NoRoomFor, RemembersIn};
+ghost use Rattle.cranelift_frontend.specs.Calls.{IsCall, IsTold, answered, appended_params, appended_returns};
 ghost use Rattle.cranelift_frontend.specs.Builder.{SameLoans, HasCurrent};
 ghost use Rattle.clif_ir.specs.Body.{block_at};
 ghost use Rattle.clif_ir.specs.Changes.{inserted_in, with_cold, with_layout_after, with_param};
 ghost use Rattle.clif_ir.specs.Consistent.{Stands};
 ghost use Rattle.clif_meaning.specs.Event.{types_of};
 ghost use Rattle.clif_meaning.specs.Name.{Name};
-ghost use Rattle.clif_meaning.specs.Request.{AnsweredCall, AppendBlockParams, AppendFunctionParams, EnsureInsertedBlock, InsertBlockAfter, SetColdBlock};
+ghost use Rattle.clif_meaning.specs.Request.{AnsweredCall, AppendBlockParams, EnsureInsertedBlock, InsertBlockAfter, SetColdBlock};
 ghost use Rattle.clif_types.specs.Signature.{SignatureShape};
 ghost use Rattle.cranelift_frontend.specs.StandsFor.{StandsFor};
 ghost use Rattle.cranelift_frontend.specs.Ledger.{AgreesWithLedger, NamesBlock};
@@ -38,17 +39,14 @@ impl<'a> FunctionBuilder<'a> {
         requires exists { block < length self.old.func.now.blocks }
         requires outside { Stands block self.old.func.now.layout → ⊥ }
         requires inside { Stands after self.old.func.now.layout }
-        ensures loans { SameLoans self.old self.new }
+        ensures call { IsCall self.old self.new result }
         ensures function { OnOk result (self.new.func.now ≡ with_layout_after self.old.func.now block after) }
         ensures context { self.new.ctx.now ≡ self.old.ctx.now }
-        ensures position { self.new.position ≡ self.old.position }
         ensures never_full { result ≢ Err BuildError.Full }
         ensures never_memory { result ≢ Err BuildError.Memory }
-        ensures failed { (result ≡ Err BuildError.Failed) ↔ IsTrue self.old.failed }
-        ensures unchanged { IsTrue self.old.failed → self.new ≡ self.old }
-        ensures fails { self.new.failed ≡ is_err result }
-        ensures ledger { (calls : List AnsweredCall) (name behind : Name) → AgreesWithLedger calls self.old → NamesBlock calls name block → NamesBlock calls behind after → OnOk result (AgreesWithLedger (calls ++ record { request = InsertBlockAfter name behind; numbers = [] } ∷ []) self.new) }
-        ensures stands { (signature : SignatureShape) (calls : List AnsweredCall) (name behind : Name) → StandsFor signature calls self.old → NamesBlock calls name block → NamesBlock calls behind after → OnOk result (StandsFor signature (calls ++ record { request = InsertBlockAfter name behind; numbers = [] } ∷ []) self.new) }
+        ensures told { (name behind : Name) → IsTold self.old self.new result
+            (λ calls. NamesBlock calls name block × NamesBlock calls behind after)
+            (λ _. answered (InsertBlockAfter name behind) []) }
         ensures grows { OnOk result (Grows self.old.func.now self.new.func.now) }
         ensures remembers { (x b : ℕ) → OnOk result (RemembersIn x b self.old self.new) }
         ensures current { HasCurrent self.old → OnOk result (HasCurrent self.new) }
@@ -80,18 +78,15 @@ impl<'a> FunctionBuilder<'a> {
     /// Brings the current block into the layout, as if something were made in it.
     pub fn ensure_inserted_block(&mut self) -> Result<(), BuildError>
         requires current { HasCurrent self.old }
-        ensures loans { SameLoans self.old self.new }
+        ensures call { IsCall self.old self.new result }
         ensures function { IfSome self.old.position (λ block. OnOk result (self.new.func.now ≡ inserted_in self.old.func.now block)) }
         ensures status { IfSome self.old.position (λ block. OnOk result (SetsStatus self.old.ctx.now self.new.ctx.now block (begun (status_of self.old.ctx.now block)))) }
         ensures ssa { self.new.ctx.now.ssa ≡ self.old.ctx.now.ssa }
         ensures variables { self.new.ctx.now.variables ≡ self.old.ctx.now.variables }
-        ensures position { self.new.position ≡ self.old.position }
         ensures never_full { result ≢ Err BuildError.Full }
-        ensures failed { (result ≡ Err BuildError.Failed) ↔ IsTrue self.old.failed }
-        ensures unchanged { IsTrue self.old.failed → self.new ≡ self.old }
-        ensures fails { self.new.failed ≡ is_err result }
-        ensures ledger { (calls : List AnsweredCall) → AgreesWithLedger calls self.old → OnOk result (AgreesWithLedger (calls ++ record { request = EnsureInsertedBlock; numbers = [] } ∷ []) self.new) }
-        ensures stands { (signature : SignatureShape) (calls : List AnsweredCall) → StandsFor signature calls self.old → OnOk result (StandsFor signature (calls ++ record { request = EnsureInsertedBlock; numbers = [] } ∷ []) self.new) }
+        ensures told { IsTold self.old self.new result
+            (λ _. Unit {0})
+            (λ _. answered EnsureInsertedBlock []) }
         ensures grows { OnOk result (Grows self.old.func.now self.new.func.now) }
         ensures remembers { (x b : ℕ) → OnOk result (RemembersIn x b self.old self.new) }
         ensures current { OnOk result (HasCurrent self.new) }
@@ -113,17 +108,14 @@ impl<'a> FunctionBuilder<'a> {
     pub fn append_block_param(&mut self, block: Block, ty: Type) -> Result<Value, BuildError>
         requires exists { block < length self.old.func.now.blocks }
         requires pristine { status_of self.old.ctx.now block ≡ BlockStatus.Empty }
-        ensures loans { SameLoans self.old self.new }
+        ensures call { IsCall self.old self.new result }
         ensures function { OnOk result (self.new.func.now ≡ with_param self.old.func.now block ty) }
         ensures number { IfOk result (λ value. value ≡ length self.old.func.now.values) }
         ensures context { self.new.ctx.now ≡ self.old.ctx.now }
-        ensures position { self.new.position ≡ self.old.position }
         ensures full { result ≡ Err BuildError.Full → length self.old.func.now.values ≡ 2 ^ 32 - 1 }
-        ensures failed { (result ≡ Err BuildError.Failed) ↔ IsTrue self.old.failed }
-        ensures unchanged { IsTrue self.old.failed → self.new ≡ self.old }
-        ensures fails { self.new.failed ≡ is_err result }
-        ensures ledger { (calls : List AnsweredCall) (name : Name) → AgreesWithLedger calls self.old → NamesBlock calls name block → IfOk result (λ value. AgreesWithLedger (calls ++ record { request = AppendBlockParams name (ty ∷ []); numbers = value ∷ [] } ∷ []) self.new) }
-        ensures stands { (signature : SignatureShape) (calls : List AnsweredCall) (name : Name) → StandsFor signature calls self.old → NamesBlock calls name block → IfOk result (λ value. StandsFor signature (calls ++ record { request = AppendBlockParams name (ty ∷ []); numbers = value ∷ [] } ∷ []) self.new) }
+        ensures told { (name : Name) → IsTold self.old self.new result
+            (λ calls. NamesBlock calls name block)
+            (λ value. answered (AppendBlockParams name (ty ∷ [])) (value ∷ [])) }
         ensures exists { IfOk result (λ value. value < length self.new.func.now.values) }
         ensures grows { OnOk result (Grows self.old.func.now self.new.func.now) }
         ensures remembers { (x b : ℕ) → OnOk result (RemembersIn x b self.old self.new) }
@@ -148,17 +140,15 @@ impl<'a> FunctionBuilder<'a> {
         requires exists { block < length self.old.func.now.blocks }
         requires pristine { status_of self.old.ctx.now block ≡ BlockStatus.Empty }
         requires alone { predecessors_of self.old.ctx.now.ssa block ≡ [] }
-        ensures loans { SameLoans self.old self.new }
+        ensures call { IsCall self.old self.new result }
         ensures function { OnOk result (self.new.func.now ≡ with_params self.old.func.now block (types_of self.old.func.now.signature.params)) }
         ensures context { self.new.ctx.now ≡ self.old.ctx.now }
-        ensures position { self.new.position ≡ self.old.position }
         ensures full { result ≡ Err BuildError.Full → length self.new.func.now.values ≡ 2 ^ 32 - 1 }
-        ensures room { result ≡ Err BuildError.Full → NoRoomFor self.old.func.now (length self.old.func.now.signature.params) }
-        ensures failed { (result ≡ Err BuildError.Failed) ↔ IsTrue self.old.failed }
-        ensures unchanged { IsTrue self.old.failed → self.new ≡ self.old }
-        ensures fails { self.new.failed ≡ is_err result }
-        ensures ledger { (calls : List AnsweredCall) (name : Name) → AgreesWithLedger calls self.old → NamesBlock calls name block → OnOk result (AgreesWithLedger (calls ++ record { request = AppendFunctionParams name (types_of self.old.func.now.signature.params); numbers = numbers_from (length self.old.func.now.values) (types_of self.old.func.now.signature.params) } ∷ []) self.new) }
-        ensures stands { (signature : SignatureShape) (calls : List AnsweredCall) (name : Name) → StandsFor signature calls self.old → NamesBlock calls name block → OnOk result (StandsFor signature (calls ++ record { request = AppendFunctionParams name (types_of self.old.func.now.signature.params); numbers = numbers_from (length self.old.func.now.values) (types_of self.old.func.now.signature.params) } ∷ []) self.new) }
+        ensures room { result ≡ Err BuildError.Full →
+            NoRoomFor self.old.func.now (length self.old.func.now.signature.params) }
+        ensures told { (name : Name) → IsTold self.old self.new result
+            (λ calls. NamesBlock calls name block)
+            (λ _. appended_params self.old name) }
         ensures grows { OnOk result (Grows self.old.func.now self.new.func.now) }
         ensures remembers { (x b : ℕ) → OnOk result (RemembersIn x b self.old self.new) }
         ensures current { HasCurrent self.old → OnOk result (HasCurrent self.new) }
@@ -181,17 +171,15 @@ impl<'a> FunctionBuilder<'a> {
     ) -> Result<(), BuildError>
         requires exists { block < length self.old.func.now.blocks }
         requires pristine { status_of self.old.ctx.now block ≡ BlockStatus.Empty }
-        ensures loans { SameLoans self.old self.new }
+        ensures call { IsCall self.old self.new result }
         ensures function { OnOk result (self.new.func.now ≡ with_params self.old.func.now block (types_of self.old.func.now.signature.returns)) }
         ensures context { self.new.ctx.now ≡ self.old.ctx.now }
-        ensures position { self.new.position ≡ self.old.position }
         ensures full { result ≡ Err BuildError.Full → length self.new.func.now.values ≡ 2 ^ 32 - 1 }
-        ensures room { result ≡ Err BuildError.Full → NoRoomFor self.old.func.now (length self.old.func.now.signature.returns) }
-        ensures failed { (result ≡ Err BuildError.Failed) ↔ IsTrue self.old.failed }
-        ensures unchanged { IsTrue self.old.failed → self.new ≡ self.old }
-        ensures fails { self.new.failed ≡ is_err result }
-        ensures ledger { (calls : List AnsweredCall) (name : Name) → AgreesWithLedger calls self.old → NamesBlock calls name block → OnOk result (AgreesWithLedger (calls ++ record { request = AppendBlockParams name (types_of self.old.func.now.signature.returns); numbers = numbers_from (length self.old.func.now.values) (types_of self.old.func.now.signature.returns) } ∷ []) self.new) }
-        ensures stands { (signature : SignatureShape) (calls : List AnsweredCall) (name : Name) → StandsFor signature calls self.old → NamesBlock calls name block → OnOk result (StandsFor signature (calls ++ record { request = AppendBlockParams name (types_of self.old.func.now.signature.returns); numbers = numbers_from (length self.old.func.now.values) (types_of self.old.func.now.signature.returns) } ∷ []) self.new) }
+        ensures room { result ≡ Err BuildError.Full →
+            NoRoomFor self.old.func.now (length self.old.func.now.signature.returns) }
+        ensures told { (name : Name) → IsTold self.old self.new result
+            (λ calls. NamesBlock calls name block)
+            (λ _. appended_returns self.old name) }
         ensures grows { OnOk result (Grows self.old.func.now self.new.func.now) }
         ensures remembers { (x b : ℕ) → OnOk result (RemembersIn x b self.old self.new) }
         ensures current { HasCurrent self.old → OnOk result (HasCurrent self.new) }
@@ -212,7 +200,8 @@ fn append_function_params(func: &mut Function, block: Block) -> Result<(), Build
     ensures ok { OnOk result (func.new ≡ with_params func.old block (types_of func.old.signature.params)) }
     ensures grows { Grows func.old func.new }
     ensures full { result ≡ Err BuildError.Full → length func.new.values ≡ 2 ^ 32 - 1 }
-    ensures room { result ≡ Err BuildError.Full → NoRoomFor func.old (length func.old.signature.params) }
+    ensures room { result ≡ Err BuildError.Full →
+        NoRoomFor func.old (length func.old.signature.params) }
     ensures never_failed { result ≢ Err BuildError.Failed }
 {
     for index in 0..func.signature().params.len() {
@@ -228,7 +217,8 @@ fn append_function_returns(func: &mut Function, block: Block) -> Result<(), Buil
     ensures ok { OnOk result (func.new ≡ with_params func.old block (types_of func.old.signature.returns)) }
     ensures grows { Grows func.old func.new }
     ensures full { result ≡ Err BuildError.Full → length func.new.values ≡ 2 ^ 32 - 1 }
-    ensures room { result ≡ Err BuildError.Full → NoRoomFor func.old (length func.old.signature.returns) }
+    ensures room { result ≡ Err BuildError.Full →
+        NoRoomFor func.old (length func.old.signature.returns) }
     ensures never_failed { result ≢ Err BuildError.Failed }
 {
     for index in 0..func.signature().returns.len() {

@@ -244,7 +244,10 @@ impl FunctionBuilderContext {
         requires named { NamesExist func.old self.old.ssa }
         ensures known { IfSome (record_of self.old.ssa variable block) (λ v. OnOk result ((func.new ≡ func.old) × (self.new.ssa ≡ self.old.ssa)) × IfOk result (λ w. w ≡ v)) }
         ensures waits { record_of self.old.ssa variable block ≡ None → is_yes (sealed_of self.old.ssa block) ≡ false → OnOk result (Waits self.old.ssa self.new.ssa func.old func.new variable ty block) × IfOk result (λ w. w ≡ length func.old.values) }
-        ensures zero { record_of self.old.ssa variable block ≡ None → is_yes (sealed_of self.old.ssa block) ≡ true → predecessors_of self.old.ssa block ≡ [] → OnOk result (Zeroes self.old.ssa self.new.ssa func.old func.new variable ty block) × IfOk result (λ w. w ≡ length func.old.values + 1 + steps_before ty) }
+        ensures zero { record_of self.old.ssa variable block ≡ None
+            → is_yes (sealed_of self.old.ssa block) ≡ true → predecessors_of self.old.ssa block ≡ []
+            → OnOk result (Zeroes self.old.ssa self.new.ssa func.old func.new variable ty block)
+            × IfOk result (λ w. w ≡ length func.old.values + 1 + steps_before ty) }
         ensures is_use { IfOk result (λ w. (told : List ℕ) × IsUse func.old self.old.ssa func.new self.new.ssa variable ty block w told × Begins self.old self.new told) }
         ensures names { NamesExist func.new self.new.ssa }
         ensures exists { IfOk result (λ w. w < length func.new.values) }

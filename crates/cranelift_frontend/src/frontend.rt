@@ -1,15 +1,15 @@
 //! The builder of a function.
-ghost use Rattle.std.specs.Prelude.{◌≡◌, ◌≢◌, ◌<◌, ◌-◌, ◌^◌, ◌+◌, ◌++◌, ◌∷◌, [], ◌==◌, ◌⊎◌, ℕ, List, IsTrue, ◌↔◌, OnOk, OnErr, IfOk, IfSome, IsSome, is_err, Some, None, true, false, length, slice_index, slice_get, EachIndex};
+ghost use Rattle.std.specs.Prelude.{◌≡◌, ◌≢◌, ◌<◌, ◌-◌, ◌^◌, ◌+◌, ◌++◌, ◌∷◌, [], ◌==◌, ℕ, List, IsTrue, ◌↔◌, OnOk, OnErr, IfOk, IfSome, IsSome, is_err, Some, None, true, false, length, slice_index, slice_get, EachIndex};
 ghost use Rattle.cranelift_frontend.specs.Context.{empty_context, status_of, begun, Begins, SetsStatus};
 ghost use Rattle.cranelift_frontend.specs.Growth.{Grows, HasRecordIn, RemembersIn};
 ghost use Rattle.cranelift_frontend.specs.Construction.{IsUse, IsSealing, IsSealingAll};
-ghost use Rattle.cranelift_frontend.specs.Builder.{SameLoans, with_position, is_unreachable, is_free, is_declarable, HasCurrent, Uses, UsesIn};
+ghost use Rattle.cranelift_frontend.specs.Calls.{IsCall, IsTold, answered};
+ghost use Rattle.cranelift_frontend.specs.Builder.{with_position, is_unreachable, is_free, is_declarable, HasCurrent, Uses, UsesIn};
 ghost use Rattle.clif_ssa.specs.Limits.{IsFull};
 ghost use Rattle.clif_ssa.specs.Constructs.{OnlyConstructs};
 ghost use Rattle.clif_ssa.specs.Tables.{is_yes, pending_of};
-ghost use Rattle.clif_ssa.specs.Sealing.{SealsBelow, SealsByLookUp};
-ghost use Rattle.clif_ssa.specs.Ssa.{record_of, sealed_of, predecessors_of, completed, IsLocal, NamesExist, Records, RecordsStay, SameBlocks, SamePredecessors, SameRecords, Seals, Waits, Zeroes};
-ghost use Rattle.clif_ir.specs.Body.{empty_body, inst_at, block_at, value_at};
+ghost use Rattle.clif_ssa.specs.Ssa.{sealed_of, predecessors_of, completed, NamesExist, Records, RecordsStay, SameBlocks, SamePredecessors, SameRecords, Seals};
+ghost use Rattle.clif_ir.specs.Body.{empty_body, inst_at, value_at};
 ghost use Rattle.clif_ir.specs.Changes.{with_block, inserted_in};
 ghost use Rattle.clif_meaning.specs.Name.{Name};
 ghost use Rattle.clif_meaning.specs.View.{view_of};
@@ -128,20 +128,17 @@ impl<'a> FunctionBuilder<'a> {
 
     /// Makes a block.
     pub fn create_block(&mut self) -> Result<Block, BuildError>
-        ensures loans { SameLoans self.old self.new }
+        ensures call { IsCall self.old self.new result }
         ensures function { OnOk result (self.new.func.now ≡ with_block self.old.func.now) }
         ensures number { IfOk result (λ b. b ≡ length self.old.func.now.blocks) }
         ensures records { self.new.ctx.now.ssa.records ≡ self.old.ctx.now.ssa.records }
         ensures sealed { SameBlocks self.old.ctx.now.ssa self.new.ctx.now.ssa }
         ensures status { self.new.ctx.now.status ≡ self.old.ctx.now.status }
         ensures variables { self.new.ctx.now.variables ≡ self.old.ctx.now.variables }
-        ensures position { self.new.position ≡ self.old.position }
         ensures full { result ≡ Err BuildError.Full → length self.old.func.now.blocks ≡ 2 ^ 32 - 1 }
-        ensures failed { (result ≡ Err BuildError.Failed) ↔ IsTrue self.old.failed }
-        ensures unchanged { IsTrue self.old.failed → self.new ≡ self.old }
-        ensures fails { self.new.failed ≡ is_err result }
-        ensures ledger { (calls : List AnsweredCall) → AgreesWithLedger calls self.old → IfOk result (λ block. AgreesWithLedger (calls ++ record { request = CreateBlock; numbers = block ∷ [] } ∷ []) self.new) }
-        ensures stands { (signature : SignatureShape) (calls : List AnsweredCall) → StandsFor signature calls self.old → IfOk result (λ block. StandsFor signature (calls ++ record { request = CreateBlock; numbers = block ∷ [] } ∷ []) self.new) }
+        ensures told { IsTold self.old self.new result
+            (λ _. Unit {0})
+            (λ block. answered CreateBlock (block ∷ [])) }
         ensures known { IfOk result (λ b. b < length self.new.ctx.now.ssa.blocks) }
         ensures exists { IfOk result (λ b. b < length self.new.func.now.blocks) }
         ensures grows { OnOk result (Grows self.old.func.now self.new.func.now) }
@@ -164,21 +161,18 @@ impl<'a> FunctionBuilder<'a> {
     pub fn seal_block(&mut self, block: Block) -> Result<(), BuildError>
         requires exists { block < length self.old.func.now.blocks }
         requires unsealed { is_yes (sealed_of self.old.ctx.now.ssa block) ≡ false }
-        ensures loans { SameLoans self.old self.new }
+        ensures call { IsCall self.old self.new result }
         ensures function { predecessors_of self.old.ctx.now.ssa block ≡ [] → OnOk result (self.new.func.now ≡ completed self.old.func.now (pending_of (sealed_of self.old.ctx.now.ssa block))) }
         ensures is_sealing { OnOk result ((told : List ℕ) × IsSealing self.old.func.now self.old.ctx.now.ssa self.new.func.now self.new.ctx.now.ssa block told × Begins self.old.ctx.now self.new.ctx.now told) }
         ensures sealed { predecessors_of self.old.ctx.now.ssa block ≡ [] → OnOk result (Seals self.old.ctx.now.ssa self.new.ctx.now.ssa block) }
         ensures records { predecessors_of self.old.ctx.now.ssa block ≡ [] → SameRecords self.old.ctx.now.ssa self.new.ctx.now.ssa }
         ensures stay { RecordsStay self.old.ctx.now.ssa self.new.ctx.now.ssa }
         ensures variables { self.new.ctx.now.variables ≡ self.old.ctx.now.variables }
-        ensures position { self.new.position ≡ self.old.position }
         ensures full { result ≡ Err BuildError.Full → IsFull self.new.func.now }
-        ensures constructs { result ≡ Err BuildError.Full → OnlyConstructs self.old.func.now self.new.func.now }
-        ensures failed { (result ≡ Err BuildError.Failed) ↔ IsTrue self.old.failed }
-        ensures unchanged { IsTrue self.old.failed → self.new ≡ self.old }
-        ensures fails { self.new.failed ≡ is_err result }
-        ensures ledger { (calls : List AnsweredCall) (name : Name) → AgreesWithLedger calls self.old → NamesBlock calls name block → OnOk result (AgreesWithLedger (calls ++ record { request = SealBlock name; numbers = [] } ∷ []) self.new) }
-        ensures stands { (signature : SignatureShape) (calls : List AnsweredCall) (name : Name) → StandsFor signature calls self.old → NamesBlock calls name block → OnOk result (StandsFor signature (calls ++ record { request = SealBlock name; numbers = [] } ∷ []) self.new) }
+        ensures constructs { OnlyConstructs self.old.func.now self.new.func.now }
+        ensures told { (name : Name) → IsTold self.old self.new result
+            (λ calls. NamesBlock calls name block)
+            (λ _. answered (SealBlock name) []) }
         ensures parameters { (signature : SignatureShape) (calls : List AnsweredCall) → StandsFor signature calls self.new → KeepsNoParameter calls self.new.func.now self.new.ctx.now.ssa }
         ensures edges_match { (signature : SignatureShape) (calls : List AnsweredCall) → StandsFor signature calls self.new → NoneWaits self.new.ctx.now.ssa → CallersEdgesMatch (script_of calls) → EdgesMatch (view_of self.new.func.now) }
         ensures grows { OnOk result (Grows self.old.func.now self.new.func.now) }
@@ -197,19 +191,16 @@ impl<'a> FunctionBuilder<'a> {
 
     /// Says that all predecessors of all blocks are known: seals each block that isn't sealed, by rising number.
     pub fn seal_all_blocks(&mut self) -> Result<(), BuildError>
-        ensures loans { SameLoans self.old self.new }
+        ensures call { IsCall self.old self.new result }
         ensures sealed { OnOk result ((b : ℕ) → b < length self.new.func.now.blocks → is_yes (sealed_of self.new.ctx.now.ssa b) ≡ true) }
         ensures is_sealing { OnOk result ((told : List ℕ) × IsSealingAll self.old.func.now self.old.ctx.now.ssa self.new.func.now self.new.ctx.now.ssa told × Begins self.old.ctx.now self.new.ctx.now told) }
         ensures stay { RecordsStay self.old.ctx.now.ssa self.new.ctx.now.ssa }
         ensures variables { self.new.ctx.now.variables ≡ self.old.ctx.now.variables }
-        ensures position { self.new.position ≡ self.old.position }
         ensures full { result ≡ Err BuildError.Full → IsFull self.new.func.now }
-        ensures constructs { result ≡ Err BuildError.Full → OnlyConstructs self.old.func.now self.new.func.now }
-        ensures failed { (result ≡ Err BuildError.Failed) ↔ IsTrue self.old.failed }
-        ensures unchanged { IsTrue self.old.failed → self.new ≡ self.old }
-        ensures fails { self.new.failed ≡ is_err result }
-        ensures ledger { (calls : List AnsweredCall) → AgreesWithLedger calls self.old → OnOk result (AgreesWithLedger (calls ++ record { request = SealAllBlocks; numbers = [] } ∷ []) self.new) }
-        ensures stands { (signature : SignatureShape) (calls : List AnsweredCall) → StandsFor signature calls self.old → OnOk result (StandsFor signature (calls ++ record { request = SealAllBlocks; numbers = [] } ∷ []) self.new) }
+        ensures constructs { OnlyConstructs self.old.func.now self.new.func.now }
+        ensures told { IsTold self.old self.new result
+            (λ _. Unit {0})
+            (λ _. answered SealAllBlocks []) }
         ensures parameters { (signature : SignatureShape) (calls : List AnsweredCall) → StandsFor signature calls self.new → KeepsNoParameter calls self.new.func.now self.new.ctx.now.ssa }
         ensures edges_match { (signature : SignatureShape) (calls : List AnsweredCall) → StandsFor signature calls self.new → CallersEdgesMatch (script_of calls) → OnOk result (EdgesMatch (view_of self.new.func.now)) }
         ensures grows { OnOk result (Grows self.old.func.now self.new.func.now) }
@@ -229,17 +220,14 @@ impl<'a> FunctionBuilder<'a> {
     /// Makes a variable. So far its type is one of I8 to I64.
     pub fn declare_var(&mut self, ty: Type) -> Result<Variable, BuildError>
         requires { IsTrue (is_declarable ty) }
-        ensures loans { SameLoans self.old self.new }
+        ensures call { IsCall self.old self.new result }
         ensures function { self.new.func.now ≡ self.old.func.now }
         ensures variables { OnOk result (self.new.ctx.now ≡ record self.old.ctx.now { variables = self.old.ctx.now.variables ++ ty ∷ [] }) }
         ensures number { IfOk result (λ v. v ≡ length self.old.ctx.now.variables) }
-        ensures position { self.new.position ≡ self.old.position }
         ensures full { result ≡ Err BuildError.Full → length self.old.ctx.now.variables ≡ 2 ^ 32 - 1 }
-        ensures failed { (result ≡ Err BuildError.Failed) ↔ IsTrue self.old.failed }
-        ensures unchanged { IsTrue self.old.failed → self.new ≡ self.old }
-        ensures fails { self.new.failed ≡ is_err result }
-        ensures ledger { (calls : List AnsweredCall) → AgreesWithLedger calls self.old → IfOk result (λ variable. AgreesWithLedger (calls ++ record { request = DeclareVar ty; numbers = variable ∷ [] } ∷ []) self.new) }
-        ensures stands { (signature : SignatureShape) (calls : List AnsweredCall) → StandsFor signature calls self.old → IfOk result (λ variable. StandsFor signature (calls ++ record { request = DeclareVar ty; numbers = variable ∷ [] } ∷ []) self.new) }
+        ensures told { IsTold self.old self.new result
+            (λ _. Unit {0})
+            (λ variable. answered (DeclareVar ty) (variable ∷ [])) }
         ensures grows { OnOk result (Grows self.old.func.now self.new.func.now) }
         ensures remembers { (x b : ℕ) → OnOk result (RemembersIn x b self.old self.new) }
         ensures current { HasCurrent self.old → OnOk result (HasCurrent self.new) }
@@ -258,19 +246,16 @@ impl<'a> FunctionBuilder<'a> {
         requires declared { variable < length self.old.ctx.now.variables }
         requires value_exists { value < length self.old.func.now.values }
         requires same_type { slice_get self.old.ctx.now.variables variable ≡ Some (value_at self.old.func.now value).ty }
-        ensures loans { SameLoans self.old self.new }
+        ensures call { IsCall self.old self.new result }
         ensures function { self.new.func.now ≡ self.old.func.now }
         ensures records { IfSome self.old.position (λ block. OnOk result (Records self.old.ctx.now.ssa self.new.ctx.now.ssa variable block value)) }
         ensures sealed { self.new.ctx.now.ssa.blocks ≡ self.old.ctx.now.ssa.blocks }
         ensures status { self.new.ctx.now.status ≡ self.old.ctx.now.status }
         ensures variables { self.new.ctx.now.variables ≡ self.old.ctx.now.variables }
-        ensures position { self.new.position ≡ self.old.position }
         ensures never_full { result ≢ Err BuildError.Full }
-        ensures failed { (result ≡ Err BuildError.Failed) ↔ IsTrue self.old.failed }
-        ensures unchanged { IsTrue self.old.failed → self.new ≡ self.old }
-        ensures fails { self.new.failed ≡ is_err result }
-        ensures ledger { (calls : List AnsweredCall) (name : Name) → AgreesWithLedger calls self.old → NamesValue calls name value → OnOk result (AgreesWithLedger (calls ++ record { request = DefVar variable name; numbers = [] } ∷ []) self.new) }
-        ensures stands { (signature : SignatureShape) (calls : List AnsweredCall) (name : Name) → StandsFor signature calls self.old → NamesValue calls name value → OnOk result (StandsFor signature (calls ++ record { request = DefVar variable name; numbers = [] } ∷ []) self.new) }
+        ensures told { (name : Name) → IsTold self.old self.new result
+            (λ calls. NamesValue calls name value)
+            (λ _. answered (DefVar variable name) []) }
         ensures grows { OnOk result (Grows self.old.func.now self.new.func.now) }
         ensures remembers { (x b : ℕ) → (x ≡ variable → self.old.position ≡ Some b → ⊥) → OnOk result (RemembersIn x b self.old self.new) }
         ensures current { OnOk result (HasCurrent self.new) }
@@ -294,19 +279,17 @@ impl<'a> FunctionBuilder<'a> {
     pub fn use_var(&mut self, variable: Variable) -> Result<Value, BuildError>
         requires current { HasCurrent self.old }
         requires declared { variable < length self.old.ctx.now.variables }
-        ensures loans { SameLoans self.old self.new }
+        ensures call { IsCall self.old self.new result }
         ensures uses { IfSome self.old.position (λ block. IfOk result (Uses self.old self.new variable block)) }
         ensures is_use { (ty : «Type») → slice_get self.old.ctx.now.variables variable ≡ Some ty → IfSome self.old.position (λ block. IfOk result (λ value. (told : List ℕ) × IsUse (inserted_in self.old.func.now block) self.old.ctx.now.ssa self.new.func.now self.new.ctx.now.ssa variable ty block value told × Begins self.old.ctx.now self.new.ctx.now (block ∷ told))) }
         ensures status { (calls : List AnsweredCall) → AgreesWithLedger calls self.old → IfSome self.old.position (λ block. OnOk result (SetsStatus self.old.ctx.now self.new.ctx.now block (begun (status_of self.old.ctx.now block)))) }
         ensures variables { self.new.ctx.now.variables ≡ self.old.ctx.now.variables }
-        ensures position { self.new.position ≡ self.old.position }
         ensures full { result ≡ Err BuildError.Full → IsFull self.new.func.now }
-        ensures constructs { IfSome self.old.position (λ block. result ≡ Err BuildError.Full → OnlyConstructs (inserted_in self.old.func.now block) self.new.func.now) }
-        ensures failed { (result ≡ Err BuildError.Failed) ↔ IsTrue self.old.failed }
-        ensures unchanged { IsTrue self.old.failed → self.new ≡ self.old }
-        ensures fails { self.new.failed ≡ is_err result }
-        ensures ledger { (calls : List AnsweredCall) → AgreesWithLedger calls self.old → IfOk result (λ value. AgreesWithLedger (calls ++ record { request = UseVar variable; numbers = value ∷ [] } ∷ []) self.new) }
-        ensures stands { (signature : SignatureShape) (calls : List AnsweredCall) → StandsFor signature calls self.old → IfOk result (λ value. StandsFor signature (calls ++ record { request = UseVar variable; numbers = value ∷ [] } ∷ []) self.new) }
+        ensures constructs { IfSome self.old.position (λ block. result ≡ Err BuildError.Full →
+            OnlyConstructs (inserted_in self.old.func.now block) self.new.func.now) }
+        ensures told { IsTold self.old self.new result
+            (λ _. Unit {0})
+            (λ value. answered (UseVar variable) (value ∷ [])) }
         ensures parameters { (signature : SignatureShape) (calls : List AnsweredCall) → StandsFor signature calls self.new → KeepsNoParameter calls self.new.func.now self.new.ctx.now.ssa }
         ensures exists { IfOk result (λ v. v < length self.new.func.now.values) }
         ensures grows { OnOk result (Grows self.old.func.now self.new.func.now) }
@@ -370,7 +353,8 @@ fn use_variable(
     ensures exists { IfOk result (λ value. value < length func.new.values) }
     ensures variables { ctx.new.variables ≡ ctx.old.variables }
     ensures full { result ≡ Err BuildError.Full → IsFull func.new }
-    ensures constructs { result ≡ Err BuildError.Full → OnlyConstructs (inserted_in func.old block) func.new }
+    ensures constructs { result ≡ Err BuildError.Full →
+        OnlyConstructs (inserted_in func.old block) func.new }
     ensures never_failed { result ≢ Err BuildError.Failed }
 {
     begin_block(func, ctx, block)?;

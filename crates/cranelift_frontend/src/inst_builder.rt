@@ -2,7 +2,7 @@
 ghost use Rattle.std.specs.Prelude.{◌≡◌, ◌∷◌, [], IsTrue, IfOk, OnErr, Err, All};
 ghost use Rattle.clif_types.specs.Types.{is_int};
 ghost use Rattle.clif_ir.specs.Instruction.{operands, destinations};
-ghost use Rattle.cranelift_frontend.specs.Shapes.{GivesValue, AfterValue, LikeIsValue, binary, brif, edge_to, jump, multi_ary, unary, unary_imm};
+ghost use Rattle.cranelift_frontend.specs.Shapes.{GivesValue, AfterValue, LikeIsValue, binary, brif_to, edge_to, jump, multi_ary, unary, unary_imm};
 
 use clif_ir::{BinaryOpcode, BlockArg, BlockCall, InstructionData, UnaryOpcode, ValueList};
 use clif_types::{Block, BuildError, Inst, Type, Value};
@@ -71,14 +71,16 @@ pub trait InstBuilderBase {
 
     /// Fails, since memory was refused for what an instruction was to hold.
     fn refuse(&mut self) -> BuildError
-        ensures refused { (shape : InstructionData) (ty : «Type») → builds self.old self.new shape ty (Err result) };
+        ensures refused { (shape : InstructionData) (ty : «Type») →
+            builds self.old self.new shape ty (Err result) };
 
     // after a value was built one can build on, with this value and with those that there were before
     ghost builds_on: { AfterValue builds_value (λ old new value. can_build new) };
 
     ghost built_exists: { AfterValue builds_value (λ old new value. has_value new value) };
 
-    ghost others_exist: { AfterValue builds_value (λ old new value. (x : ℕ) → has_value old x → has_value new x) };
+    ghost others_exist: { AfterValue builds_value
+        (λ old new value. (x : ℕ) → has_value old x → has_value new x) };
 
     ghost like_is_value: { LikeIsValue builds_like builds_value type_of };
 }
@@ -198,7 +200,9 @@ pub trait InstBuilder: InstBuilderBase {
         requires c_exists { Self.has_value self.old c }
         requires leads_then { Self.can_lead self.old (edge_to block_then block_then_args.now) }
         requires leads_else { Self.can_lead self.old (edge_to block_else block_else_args.now) }
-        ensures built { Self.builds self.old self.new (brif c (edge_to block_then block_then_args.now) (edge_to block_else block_else_args.now)) Type.Invalid result }
+        ensures built { Self.builds self.old self.new
+            (brif_to c block_then block_then_args.now block_else block_else_args.now)
+            Type.Invalid result }
     {
         let alloc = self.allocator();
         let made = two_edges(
@@ -270,7 +274,8 @@ fn two_edges(
     block_else: Block,
     block_else_args: &[BlockArg],
 ) -> Result<[BlockCall; 2], BuildError>
-    ensures ok { IfOk result (λ edges. edges ≡ edge_to block_then block_then_args.now ∷ edge_to block_else block_else_args.now ∷ []) }
+    ensures ok { IfOk result (λ edges. edges ≡
+        edge_to block_then block_then_args.now ∷ edge_to block_else block_else_args.now ∷ []) }
     ensures only_memory { OnErr result (result ≡ Err BuildError.Memory) }
 {
     let taken = BlockCall::new(alloc, block_then, block_then_args)?;

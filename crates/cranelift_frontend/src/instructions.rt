@@ -13,7 +13,7 @@ use crate::builder::FunctionBuilder;
 use crate::context::{BlockStatus, FunctionBuilderContext};
 use crate::frontend::begin_block;
 use crate::inst_builder::InstBuilderBase;
-use clif_ir::inst_list::BlockEnd;
+use clif_ir::inst_list::InsertAt;
 use clif_ir::{Function, InstructionData};
 use clif_types::{Block, BuildError, Inst, SourceLoc, Type, Value};
 use std::alloc::Global;
@@ -45,7 +45,8 @@ impl<'a> InstBuilderBase for FunctionBuilder<'a> {
 
     ghost builds_value = { BuildsValue };
 
-    ghost builds_like = { λ old new shape x answer. BuildsValue old new shape (value_at old.func.now x).ty answer };
+    ghost builds_like = { λ old new shape x answer.
+        BuildsValue old new shape (value_at old.func.now x).ty answer };
 
     ghost like_is_value = { λ old new shape x answer built. built };
 
@@ -53,7 +54,8 @@ impl<'a> InstBuilderBase for FunctionBuilder<'a> {
 
     ghost built_exists = { λ old new shape ty value built. built.exists };
 
-    ghost others_exist = { λ old new shape ty value built other here. lt_of_lt_of_le here built.grows.0 };
+    ghost others_exist = { λ old new shape ty value built other here.
+        lt_of_lt_of_le here built.grows.0 };
 
     fn value_type(&self, value: Value) -> Type {
         self.func.value_type(value)
@@ -123,7 +125,7 @@ fn append(
     begin_block(func, ctx, block)?;
     let ends = shape.is_terminator();
     let no_place = SourceLoc::new(u32::MAX);
-    let inst = func.insert_inst(block, BlockEnd::Back, shape, ctrl_type, no_place)?;
+    let inst = func.insert_inst(block, InsertAt::Back, shape, ctrl_type, no_place)?;
     if ends {
         ctx.set_status(block, BlockStatus::Filled)?;
         ctx.declare_successors(inst, func.inst_data(inst).branch_destination())?;

@@ -17,15 +17,15 @@ pub returns-in_err-variable : goal.returns-in_err-variable
 returns-in_err-variable c =
     let done = c.declare_var.ensures in
     let p = err_from_is_err_and c.from_residual.result c.from_residual.ensures.1 in
-    made-refused c.args.builder.now c.declare_var.new.self c.args.answers.now c.declare_var.result c.in_err-variable.field-0.0 p.0 c.from_residual.result c.in_err-variable.was p.1 p.2 done.loans c.requires.sound done.failed
+    made-refused c.args.builder.now c.declare_var.new.self c.args.answers.now c.declare_var.result c.in_err-variable.field-0.0 p.0 c.from_residual.result c.in_err-variable.was p.1 p.2 done.call.loans c.requires.sound done.call.failed
     (λ declared calls ready. Conditions.declare-same c.args.ty ∙ sym c.is_declarable.ensures ∙ c.if-not-is_declarable.false) done.full
 
 pub returns : goal.returns
 returns c =
     let done = c.in_ok-variable.ensures in
-    made-answer c.args.builder.now c.declare_var.new.self c.args.answers.now (answer.Variable c.in_ok-variable.variable) c.declare_var.ensures.loans done.grows.3
-    (answered-sound _ c.declare_var.result _ c.declare_var.ensures.fails c.in_ok-variable.was) (ap (λ (x : ContextState). x.variables) done.variables)
+    made-answer c.args.builder.now c.declare_var.new.self c.args.answers.now (answer.Variable c.in_ok-variable.variable) c.declare_var.ensures.call.loans done.grows.3
+    (answered-sound _ c.declare_var.result _ c.declare_var.ensures.call.fails c.in_ok-variable.was) (ap (λ (x : ContextState). x.variables) done.variables)
     (λ declared calls ready. Conditions.declare-same c.args.ty ∙ sym c.is_declarable.ensures ∙ c.if-not-is_declarable.false)
     (λ declared calls ready.
     let number : length (ledger_of calls).variables ≡ c.in_ok-variable.variable = (read calls c.args.builder.now c.args.answers.now ready).variable_count ∙ sym done.number in
-    (c.in_ok-variable.variable ∷ [], ready-more calls _ c.args.builder.now c.declare_var.new.self _ (answer.Variable c.in_ok-variable.variable) ready (done.stands declared calls ready.stands) (ap (λ (n : ℕ). AVariable n ∷ []) number, refl)))
+    (c.in_ok-variable.variable ∷ [], ready-more calls _ c.args.builder.now c.declare_var.new.self _ (answer.Variable c.in_ok-variable.variable) ready (done.told.stands declared calls ready.stands tt) (ap (λ (n : ℕ). AVariable n ∷ []) number, refl)))

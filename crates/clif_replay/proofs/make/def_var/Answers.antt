@@ -48,15 +48,15 @@ pub returns-in_err-def_var : goal.returns-in_err-def_var
 returns-in_err-def_var c =
     let done = c.def_var.ensures in
     let p = err_from_is_err_and c.from_residual.result c.from_residual.ensures.1 in
-    made-refused c.args.builder.now c.def_var.new.self c.args.answers.now c.def_var.result c.in_err-def_var.field-0.0 p.0 c.from_residual.result c.in_err-def_var.was p.1 p.2 done.loans c.requires.sound.sound done.failed
+    made-refused c.args.builder.now c.def_var.new.self c.args.answers.now c.def_var.result c.in_err-def_var.field-0.0 p.0 c.from_residual.result c.in_err-def_var.was p.1 p.2 done.call.loans c.requires.sound.sound done.call.failed
     (λ declared calls ready. Conditions.define-some calls c.args.builder.now c.args.answers.now ready c.args.variable c.args.name c.in-Some.value c.in-Some-type_of.ty (ap (λ (f : Body). value_of f c.args.answers.now c.args.name) (sym c.func.ensures) ∙ sym c.value_named.ensures ∙ c.in-Some.is) (ap (λ (types : List «Type»). slice_get types c.args.variable) (sym c.requires.types) ∙ sym c.type_of.ensures ∙ c.in-Some-type_of.is) ∙ sym c.may_define.ensures ∙ c.if-not-may_define.false) done.never_full
 
 pub returns : goal.returns
 returns c =
     let done = c.in_ok-def_var.ensures in
-    made-answer c.args.builder.now c.def_var.new.self c.args.answers.now answer.Nothing c.def_var.ensures.loans done.grows.3
-    (answered-sound _ c.def_var.result _ c.def_var.ensures.fails c.in_ok-def_var.was) c.def_var.ensures.variables
+    made-answer c.args.builder.now c.def_var.new.self c.args.answers.now answer.Nothing c.def_var.ensures.call.loans done.grows.3
+    (answered-sound _ c.def_var.result _ c.def_var.ensures.call.fails c.in_ok-def_var.was) c.def_var.ensures.variables
     (λ declared calls ready. Conditions.define-some calls c.args.builder.now c.args.answers.now ready c.args.variable c.args.name c.in-Some.value c.in-Some-type_of.ty (ap (λ (f : Body). value_of f c.args.answers.now c.args.name) (sym c.func.ensures) ∙ sym c.value_named.ensures ∙ c.in-Some.is) (ap (λ (types : List «Type»). slice_get types c.args.variable) (sym c.requires.types) ∙ sym c.type_of.ensures ∙ c.in-Some-type_of.is) ∙ sym c.may_define.ensures ∙ c.if-not-may_define.false)
     (λ declared calls ready.
     let names = value-found calls c.args.builder.now c.args.answers.now ready c.args.name c.in-Some.value (ap (λ (f : Body). value_of f c.args.answers.now c.args.name) (sym c.func.ensures) ∙ sym c.value_named.ensures ∙ c.in-Some.is) in
-    ([], ready-more calls _ c.args.builder.now c.def_var.new.self _ answer.Nothing ready (done.stands declared calls (name_of c.args.name) ready.stands names) (refl, refl)))
+    ([], ready-more calls _ c.args.builder.now c.def_var.new.self _ answer.Nothing ready ((done.told (name_of c.args.name)).stands declared calls ready.stands names) (refl, refl)))

@@ -16,13 +16,13 @@ pub returns-in_err-ensure_inserted_block : goal.returns-in_err-ensure_inserted_b
 returns-in_err-ensure_inserted_block c =
     let done = c.ensure_inserted_block.ensures in
     let p = err_from_is_err_and c.from_residual.result c.from_residual.ensures.1 in
-    made-refused c.args.builder.now c.ensure_inserted_block.new.self c.args.answers.now c.ensure_inserted_block.result c.in_err-ensure_inserted_block.field-0.0 p.0 c.from_residual.result c.in_err-ensure_inserted_block.was p.1 p.2 done.loans c.requires.sound done.failed
+    made-refused c.args.builder.now c.ensure_inserted_block.new.self c.args.answers.now c.ensure_inserted_block.result c.in_err-ensure_inserted_block.field-0.0 p.0 c.from_residual.result c.in_err-ensure_inserted_block.was p.1 p.2 done.call.loans c.requires.sound done.call.failed
     (λ declared calls ready. open-same calls c.args.builder.now c.args.answers.now ready ∙ sym c.has_current.ensures ∙ c.if-not-has_current.false) done.never_full
 
 pub returns : goal.returns
 returns c =
     let done = c.in_ok-ensure_inserted_block.ensures in
-    made-answer c.args.builder.now c.ensure_inserted_block.new.self c.args.answers.now answer.Nothing c.ensure_inserted_block.ensures.loans done.grows.3
-    (answered-sound _ c.ensure_inserted_block.result _ c.ensure_inserted_block.ensures.fails c.in_ok-ensure_inserted_block.was) c.ensure_inserted_block.ensures.variables
+    made-answer c.args.builder.now c.ensure_inserted_block.new.self c.args.answers.now answer.Nothing c.ensure_inserted_block.ensures.call.loans done.grows.3
+    (answered-sound _ c.ensure_inserted_block.result _ c.ensure_inserted_block.ensures.call.fails c.in_ok-ensure_inserted_block.was) c.ensure_inserted_block.ensures.variables
     (λ declared calls ready. open-same calls c.args.builder.now c.args.answers.now ready ∙ sym c.has_current.ensures ∙ c.if-not-has_current.false)
-    (λ declared calls ready. ([], ready-more calls _ c.args.builder.now c.ensure_inserted_block.new.self _ answer.Nothing ready (done.stands declared calls ready.stands) (refl, refl)))
+    (λ declared calls ready. ([], ready-more calls _ c.args.builder.now c.ensure_inserted_block.new.self _ answer.Nothing ready (done.told.stands declared calls ready.stands tt) (refl, refl)))

@@ -26,13 +26,13 @@ pub returns-in_err-seal_block : goal.returns-in_err-seal_block
 returns-in_err-seal_block c =
     let done = c.seal_block.ensures in
     let p = err_from_is_err_and c.from_residual.result c.from_residual.ensures.1 in
-    made-refused c.args.builder.now c.seal_block.new.self c.args.answers.now c.seal_block.result c.in_err-seal_block.field-0.0 p.0 c.from_residual.result c.in_err-seal_block.was p.1 p.2 done.loans c.requires.sound done.failed
-    (λ declared calls ready. Conditions.seal-some calls c.args.builder.now c.args.answers.now ready c.args.name c.in-Some.block (sym c.block_named.ensures ∙ c.in-Some.is) ∙ sym c.may_seal.ensures ∙ c.if-not-may_seal.false) (λ full. (c.seal_block.new.self.func.now, done.constructs full, done.full full))
+    made-refused c.args.builder.now c.seal_block.new.self c.args.answers.now c.seal_block.result c.in_err-seal_block.field-0.0 p.0 c.from_residual.result c.in_err-seal_block.was p.1 p.2 done.call.loans c.requires.sound done.call.failed
+    (λ declared calls ready. Conditions.seal-some calls c.args.builder.now c.args.answers.now ready c.args.name c.in-Some.block (sym c.block_named.ensures ∙ c.in-Some.is) ∙ sym c.may_seal.ensures ∙ c.if-not-may_seal.false) (λ full. (c.seal_block.new.self.func.now, done.constructs, done.full full))
 
 pub returns : goal.returns
 returns c =
     let done = c.in_ok-seal_block.ensures in
-    made-answer c.args.builder.now c.seal_block.new.self c.args.answers.now answer.Nothing c.seal_block.ensures.loans done.grows.3
-    (answered-sound _ c.seal_block.result _ c.seal_block.ensures.fails c.in_ok-seal_block.was) c.seal_block.ensures.variables
+    made-answer c.args.builder.now c.seal_block.new.self c.args.answers.now answer.Nothing c.seal_block.ensures.call.loans done.grows.3
+    (answered-sound _ c.seal_block.result _ c.seal_block.ensures.call.fails c.in_ok-seal_block.was) c.seal_block.ensures.variables
     (λ declared calls ready. Conditions.seal-some calls c.args.builder.now c.args.answers.now ready c.args.name c.in-Some.block (sym c.block_named.ensures ∙ c.in-Some.is) ∙ sym c.may_seal.ensures ∙ c.if-not-may_seal.false)
-    (λ declared calls ready. ([], ready-more calls _ c.args.builder.now c.seal_block.new.self _ answer.Nothing ready (done.stands declared calls (name_of c.args.name) ready.stands (block-found calls c.args.builder.now c.args.answers.now ready c.args.name c.in-Some.block (sym c.block_named.ensures ∙ c.in-Some.is))) (refl, refl)))
+    (λ declared calls ready. ([], ready-more calls _ c.args.builder.now c.seal_block.new.self _ answer.Nothing ready ((done.told (name_of c.args.name)).stands declared calls ready.stands (block-found calls c.args.builder.now c.args.answers.now ready c.args.name c.in-Some.block (sym c.block_named.ensures ∙ c.in-Some.is))) (refl, refl)))

@@ -27,17 +27,17 @@ pub returns-in_err-value : goal.returns-in_err-value
 returns-in_err-value c =
     let done = c.append_block_param.ensures in
     let p = err_from_is_err_and c.from_residual.result c.from_residual.ensures.1 in
-    made-refused c.args.builder.now c.append_block_param.new.self c.args.answers.now c.append_block_param.result c.in_err-value.field-0.0 p.0 c.from_residual.result c.in_err-value.was p.1 p.2 done.loans c.requires.sound done.failed
+    made-refused c.args.builder.now c.append_block_param.new.self c.args.answers.now c.append_block_param.result c.in_err-value.field-0.0 p.0 c.from_residual.result c.in_err-value.was p.1 p.2 done.call.loans c.requires.sound done.call.failed
     (λ declared calls ready. Conditions.append-some calls c.args.builder.now c.args.answers.now ready c.args.name c.in-Some.block (c.args.ty ∷ []) (sym c.block_named.ensures ∙ c.in-Some.is) ∙ sym c.may_append.ensures ∙ c.if-not-may_append.false) done.full
 
 pub returns : goal.returns
 returns c =
     let done = c.in_ok-value.ensures in
-    made-answer c.args.builder.now c.append_block_param.new.self c.args.answers.now c.one_value.result c.append_block_param.ensures.loans done.grows.3
-    (answered-sound _ c.append_block_param.result _ c.append_block_param.ensures.fails c.in_ok-value.was) (ap (λ (x : ContextState). x.variables) c.append_block_param.ensures.context)
+    made-answer c.args.builder.now c.append_block_param.new.self c.args.answers.now c.one_value.result c.append_block_param.ensures.call.loans done.grows.3
+    (answered-sound _ c.append_block_param.result _ c.append_block_param.ensures.call.fails c.in_ok-value.was) (ap (λ (x : ContextState). x.variables) c.append_block_param.ensures.context)
     (λ declared calls ready. Conditions.append-some calls c.args.builder.now c.args.answers.now ready c.args.name c.in-Some.block (c.args.ty ∷ []) (sym c.block_named.ensures ∙ c.in-Some.is) ∙ sym c.may_append.ensures ∙ c.if-not-may_append.false)
     (λ declared calls ready.
     let names = block-found calls c.args.builder.now c.args.answers.now ready c.args.name c.in-Some.block (sym c.block_named.ensures ∙ c.in-Some.is) in
     let value = c.in_ok-value.value in
     subst (λ (a : Answer). IsReadyAfter declared calls (AppendBlockParams (name_of c.args.name) (c.args.ty ∷ [])) c.append_block_param.new.self c.args.answers.now a) (sym c.one_value.ensures)
-    (value ∷ [], ready-more calls _ c.args.builder.now c.append_block_param.new.self _ (answer.Values value 1) ready (done.stands declared calls (name_of c.args.name) ready.stands names) (c.args.ty ∷ [], refl, refl, refl)))
+    (value ∷ [], ready-more calls _ c.args.builder.now c.append_block_param.new.self _ (answer.Values value 1) ready ((done.told (name_of c.args.name)).stands declared calls ready.stands names) (c.args.ty ∷ [], refl, refl, refl)))

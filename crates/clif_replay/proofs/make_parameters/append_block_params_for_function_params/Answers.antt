@@ -40,7 +40,7 @@ pub returns-in_err-append_block_params_for_function_params : goal.returns-in_err
 returns-in_err-append_block_params_for_function_params c =
     let done = c.append_block_params_for_function_params.ensures in
     let p = err_from_is_err_and c.from_residual.result c.from_residual.ensures.1 in
-    made-refused c.args.builder.now c.append_block_params_for_function_params.new.self c.args.answers.now c.append_block_params_for_function_params.result c.in_err-append_block_params_for_function_params.field-0.0 p.0 c.from_residual.result c.in_err-append_block_params_for_function_params.was p.1 p.2 done.loans c.requires.sound done.failed
+    made-refused c.args.builder.now c.append_block_params_for_function_params.new.self c.args.answers.now c.append_block_params_for_function_params.result c.in_err-append_block_params_for_function_params.field-0.0 p.0 c.from_residual.result c.in_err-append_block_params_for_function_params.was p.1 p.2 done.call.loans c.requires.sound done.call.failed
     (λ declared calls ready. Conditions.function-params-some calls c.args.builder.now c.args.answers.now ready c.args.name c.in-Some.block (types_of declared.params) (sym c.block_named.ensures ∙ c.in-Some.is) ∙ sym c.may_append_function_params.ensures ∙ c.if-not-may_append_function_params.false) done.room
 
 pub last_params-requires-clause-exists : goal.last_params-requires-clause-exists
@@ -60,8 +60,8 @@ last_params-requires-clause-count c =
 pub returns : goal.returns
 returns c =
     let done = c.in_ok-append_block_params_for_function_params.ensures in
-    made-answer c.args.builder.now c.append_block_params_for_function_params.new.self c.args.answers.now c.last_params.result c.append_block_params_for_function_params.ensures.loans done.grows.3
-    (answered-sound _ c.append_block_params_for_function_params.result _ c.append_block_params_for_function_params.ensures.fails c.in_ok-append_block_params_for_function_params.was) (ap (λ (x : ContextState). x.variables) c.append_block_params_for_function_params.ensures.context)
+    made-answer c.args.builder.now c.append_block_params_for_function_params.new.self c.args.answers.now c.last_params.result c.append_block_params_for_function_params.ensures.call.loans done.grows.3
+    (answered-sound _ c.append_block_params_for_function_params.result _ c.append_block_params_for_function_params.ensures.call.fails c.in_ok-append_block_params_for_function_params.was) (ap (λ (x : ContextState). x.variables) c.append_block_params_for_function_params.ensures.context)
     (λ declared calls ready. Conditions.function-params-some calls c.args.builder.now c.args.answers.now ready c.args.name c.in-Some.block (types_of declared.params) (sym c.block_named.ensures ∙ c.in-Some.is) ∙ sym c.may_append_function_params.ensures ∙ c.if-not-may_append_function_params.false)
     (λ declared calls ready.
     let old = c.args.builder.now in
@@ -73,4 +73,4 @@ returns c =
     let counted = c.len-count.ensures in
     subst (λ (s : SignatureShape). IsReadyAfter declared calls (AppendFunctionParams (name_of c.args.name) (types_of s.params)) new c.args.answers.now c.last_params.result) ready.stands.signature
     (params-ready calls old new c.args.answers.now (AppendFunctionParams (name_of c.args.name) (types_of old.func.now.signature.params)) c.in-Some.block old.func.now.signature.params c.len-count.result c.last_params.result ready there
-    done.function (done.stands declared calls (name_of c.args.name) ready.stands names) refl (omega (arith, viewed, counted)) c.last_params.ensures))
+    done.function ((done.told (name_of c.args.name)).stands declared calls ready.stands names) refl (omega (arith, viewed, counted)) c.last_params.ensures))

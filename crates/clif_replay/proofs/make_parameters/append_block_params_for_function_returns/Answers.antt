@@ -30,7 +30,7 @@ pub returns-in_err-append_block_params_for_function_returns : goal.returns-in_er
 returns-in_err-append_block_params_for_function_returns c =
     let done = c.append_block_params_for_function_returns.ensures in
     let p = err_from_is_err_and c.from_residual.result c.from_residual.ensures.1 in
-    made-refused c.args.builder.now c.append_block_params_for_function_returns.new.self c.args.answers.now c.append_block_params_for_function_returns.result c.in_err-append_block_params_for_function_returns.field-0.0 p.0 c.from_residual.result c.in_err-append_block_params_for_function_returns.was p.1 p.2 done.loans c.requires.sound done.failed
+    made-refused c.args.builder.now c.append_block_params_for_function_returns.new.self c.args.answers.now c.append_block_params_for_function_returns.result c.in_err-append_block_params_for_function_returns.field-0.0 p.0 c.from_residual.result c.in_err-append_block_params_for_function_returns.was p.1 p.2 done.call.loans c.requires.sound done.call.failed
     (λ declared calls ready. Conditions.append-some calls c.args.builder.now c.args.answers.now ready c.args.name c.in-Some.block (types_of declared.returns) (sym c.block_named.ensures ∙ c.in-Some.is) ∙ sym c.may_append.ensures ∙ c.if-not-may_append.false) done.room
 
 pub last_params-requires-clause-exists : goal.last_params-requires-clause-exists
@@ -50,8 +50,8 @@ last_params-requires-clause-count c =
 pub returns : goal.returns
 returns c =
     let done = c.in_ok-append_block_params_for_function_returns.ensures in
-    made-answer c.args.builder.now c.append_block_params_for_function_returns.new.self c.args.answers.now c.last_params.result c.append_block_params_for_function_returns.ensures.loans done.grows.3
-    (answered-sound _ c.append_block_params_for_function_returns.result _ c.append_block_params_for_function_returns.ensures.fails c.in_ok-append_block_params_for_function_returns.was) (ap (λ (x : ContextState). x.variables) c.append_block_params_for_function_returns.ensures.context)
+    made-answer c.args.builder.now c.append_block_params_for_function_returns.new.self c.args.answers.now c.last_params.result c.append_block_params_for_function_returns.ensures.call.loans done.grows.3
+    (answered-sound _ c.append_block_params_for_function_returns.result _ c.append_block_params_for_function_returns.ensures.call.fails c.in_ok-append_block_params_for_function_returns.was) (ap (λ (x : ContextState). x.variables) c.append_block_params_for_function_returns.ensures.context)
     (λ declared calls ready. Conditions.append-some calls c.args.builder.now c.args.answers.now ready c.args.name c.in-Some.block (types_of declared.returns) (sym c.block_named.ensures ∙ c.in-Some.is) ∙ sym c.may_append.ensures ∙ c.if-not-may_append.false)
     (λ declared calls ready.
     let old = c.args.builder.now in
@@ -63,4 +63,4 @@ returns c =
     let counted = c.len-count.ensures in
     subst (λ (s : SignatureShape). IsReadyAfter declared calls (AppendBlockParams (name_of c.args.name) (types_of s.returns)) new c.args.answers.now c.last_params.result) ready.stands.signature
     (params-ready calls old new c.args.answers.now (AppendBlockParams (name_of c.args.name) (types_of old.func.now.signature.returns)) c.in-Some.block old.func.now.signature.returns c.len-count.result c.last_params.result ready there
-    done.function (done.stands declared calls (name_of c.args.name) ready.stands names) refl (omega (arith, viewed, counted)) c.last_params.ensures))
+    done.function ((done.told (name_of c.args.name)).stands declared calls ready.stands names) refl (omega (arith, viewed, counted)) c.last_params.ensures))

@@ -1,3 +1,5 @@
+use Rattle.std.proofs.Common.{refl}
+use Rattle.cranelift_frontend.proofs.Calls.{told_by, made}
 use mathlib.Core.Logic.{∥∥₁_map}
 use Rattle.std.proofs.Common.{[], ◌∷◌}
 use Rattle.cranelift_frontend.proofs.Named.{names_param}
@@ -9,15 +11,19 @@ invariant_of-self c =
     let done = c.append_block_param-appended.ensures in
     record { named = ∥∥₁_map c.args.self.now.named (names_param c.append_block_param-appended.result _ _ _ c.args.block c.args.ty done.ok done.err) }
 
-pub returns-clause-ledger : goal.returns-clause-ledger
-returns-clause-ledger c = λ calls name agrees names.
+pub returns-clause-told : goal.returns-clause-told
+returns-clause-told c = λ name.
+    told_by c.args.self.now _ c.append_block_param-appended.result _ _
+    (λ calls agrees names.
     let done = c.append_block_param-appended.ensures in
-    one_agrees calls _ _ _ _ c.args.block name c.args.ty _ agrees c.law_consistent.ensures names c.requires.pristine done.ok done.number
+    one_agrees calls _ _ _ _ c.args.block name c.args.ty _ agrees c.law_consistent.ensures names c.requires.pristine done.ok done.number)
+    (λ signature calls stands names ledger.
+    let done = c.append_block_param-appended.ensures in
+    one_stands calls _ _ _ _ c.args.block name signature c.args.ty _ stands c.law_consistent.ensures names c.requires.exists c.requires.pristine done.ok done.number)
 
-pub returns-clause-stands : goal.returns-clause-stands
-returns-clause-stands c = λ signature calls name stands names.
-    let done = c.append_block_param-appended.ensures in
-    one_stands calls _ _ _ _ c.args.block name signature c.args.ty _ stands c.law_consistent.ensures names c.requires.exists c.requires.pristine done.ok done.number
+pub returns-clause-call : goal.returns-clause-call
+returns-clause-call c =
+    made c.args.self.now _ c.append_block_param-appended.result (record { func = refl; ctx = refl }) refl c.if-self.false c.append_block_param-appended.ensures.never_failed c.is_err-self.ensures.value
 
 pub returns-clause-remembers : goal.returns-clause-remembers
 returns-clause-remembers c = λ x b.

@@ -1,3 +1,4 @@
+use Rattle.cranelift_frontend.proofs.Calls.{told, made}
 use mathlib.Core.Logic.{∥∥₁_map}
 use Rattle.std.proofs.Common.{inl, refl}
 use Rattle.clif_meaning.specs.Request.{AppendBlockParams}
@@ -9,15 +10,19 @@ use Rattle.cranelift_frontend.proofs.builder.FunctionBuilder.append_block_params
 pub invariant_of-self : goal.invariant_of-self
 invariant_of-self c = record { named = ∥∥₁_map c.args.self.now.named (names_grow _ _ _ c.append_function_returns-appended.ensures.grows) }
 
-pub returns-clause-ledger : goal.returns-clause-ledger
-returns-clause-ledger c = λ calls name agrees names.
+pub returns-clause-told : goal.returns-clause-told
+returns-clause-told c = λ name.
+    told c.args.self.now _ c.append_function_returns-appended.result _ _
+    (λ calls agrees names.
     many_agree calls _ _ _ _ c.args.block name (types_of c.args.self.now.func.now.signature.returns) (AppendBlockParams name (types_of c.args.self.now.func.now.signature.returns)) _ (inl refl)
-    agrees c.law_consistent.ensures names c.requires.pristine c.append_function_returns-appended.ensures.ok
-
-pub returns-clause-stands : goal.returns-clause-stands
-returns-clause-stands c = λ signature calls name stands names.
+    agrees c.law_consistent.ensures names c.requires.pristine c.append_function_returns-appended.ensures.ok)
+    (λ signature calls stands names ledger.
     many_stand calls _ _ _ _ c.args.block name signature (types_of c.args.self.now.func.now.signature.returns) (AppendBlockParams name (types_of c.args.self.now.func.now.signature.returns)) _ (inl refl)
-    stands c.law_consistent.ensures names c.requires.exists c.requires.pristine c.append_function_returns-appended.ensures.ok
+    stands c.law_consistent.ensures names c.requires.exists c.requires.pristine c.append_function_returns-appended.ensures.ok)
+
+pub returns-clause-call : goal.returns-clause-call
+returns-clause-call c =
+    made c.args.self.now _ c.append_function_returns-appended.result (record { func = refl; ctx = refl }) refl c.if-self.false c.append_function_returns-appended.ensures.never_failed c.is_err-self.ensures.value
 
 pub returns-clause-remembers : goal.returns-clause-remembers
 returns-clause-remembers c = λ x b.

@@ -1,3 +1,4 @@
+use Rattle.cranelift_frontend.proofs.Calls.{told, made, by_memory}
 use mathlib.Core.Logic.{∥∥₁_map}
 use Rattle.std.proofs.Common.{refl, ap, sym, ◌∙◌, Some}
 use Rattle.cranelift_frontend.proofs.Remembered.{remembers_assigned}
@@ -6,17 +7,21 @@ use Rattle.cranelift_frontend.proofs.Standing.{current_open}
 use Rattle.cranelift_frontend.proofs.StandingResults.{assigned_stands}
 use Rattle.cranelift_frontend.proofs.builder.FunctionBuilder.def_var.Goals as goal
 
-pub returns-clause-ledger : goal.returns-clause-ledger
-returns-clause-ledger c = λ calls name agrees names.
+pub returns-clause-told : goal.returns-clause-told
+returns-clause-told c = λ name.
+    told c.args.self.now _ c.def_var-recorded.result _ _
+    (λ calls agrees names.
     let done = c.def_var-recorded.ensures in
-    assigned calls _ _ _ _ c.args.variable name c.in-Some.block c.args.value _ agrees c.requires.value_exists c.requires.same_type done.ok done.blocks done.status done.variables
-
-pub returns-clause-stands : goal.returns-clause-stands
-returns-clause-stands c = λ signature calls name stands names.
+    assigned calls _ _ _ _ c.args.variable name c.in-Some.block c.args.value _ agrees c.requires.value_exists c.requires.same_type done.ok done.blocks done.status done.variables)
+    (λ signature calls stands names ledger.
     let done = c.def_var-recorded.ensures in
     assigned_stands signature calls _ _ _ _ c.args.variable c.args.value c.in-Some.block name _ stands c.in-Some.is c.law_consistent.ensures
     (current_open c.args.self.now c.requires.current c.in-Some.block c.in-Some.is) c.requires.value_exists c.requires.same_type names done.ok done.blocks done.status
-    (returns-clause-ledger c calls name stands.ledger names)
+    ledger)
+
+pub returns-clause-call : goal.returns-clause-call
+returns-clause-call c =
+    made c.args.self.now _ c.def_var-recorded.result (record { func = refl; ctx = refl }) refl c.if-self.false (by_memory _ c.def_var-recorded.ensures.only_memory) c.is_err-self.ensures.value
 
 pub returns-clause-remembers : goal.returns-clause-remembers
 returns-clause-remembers c = λ x b apart.

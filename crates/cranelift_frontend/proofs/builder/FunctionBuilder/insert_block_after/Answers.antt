@@ -1,5 +1,7 @@
 use mathlib.Core.Logic.{∥∥₁_map}
-use Rattle.std.proofs.Common.{List, [], ◌∷◌, ◌++◌, sym, subst}
+use Rattle.std.proofs.Common.{List, [], ◌∷◌, ◌++◌, refl, sym, subst}
+use Rattle.std.specs.Prelude.{Ok}
+use Rattle.cranelift_frontend.proofs.Calls.{told, made, by_success}
 use Rattle.clif_ir.specs.Body.{Body}
 use Rattle.clif_ssa.specs.Ssa.{NamesExist}
 use Rattle.clif_meaning.specs.Request.{AnsweredCall, InsertBlockAfter}
@@ -15,15 +17,19 @@ invariant_of-self c = record {
       (names_laid c.args.self.now.func.now c.args.self.now.ctx.now.ssa c.args.block c.args.after named));
 }
 
-pub returns-clause-ledger : goal.returns-clause-ledger
-returns-clause-ledger c = λ calls name behind agrees names names_behind.
+pub returns-clause-told : goal.returns-clause-told
+returns-clause-told c = λ name behind.
+    told c.args.self.now _ (Ok tt) _ _
+    (λ calls agrees names.
     let after : List AnsweredCall = calls ++ record { request = InsertBlockAfter name behind; numbers = [] } ∷ [] in
     subst (λ (f : Body). LedgerAgrees after (ledger_of after) f c.args.self.now.ctx.now c.args.self.now.position) (sym c.insert_block_after.ensures)
-    (laid calls c.args.self.now.func.now c.args.self.now.ctx.now c.args.self.now.position name behind c.args.block c.args.after agrees names names_behind)
-
-pub returns-clause-stands : goal.returns-clause-stands
-returns-clause-stands c = λ signature calls name behind stands names names_behind.
+    (laid calls c.args.self.now.func.now c.args.self.now.ctx.now c.args.self.now.position name behind c.args.block c.args.after agrees names.0 names.1))
+    (λ signature calls stands names ledger.
     let after : List AnsweredCall = calls ++ record { request = InsertBlockAfter name behind; numbers = [] } ∷ [] in
     subst (λ (f : Body). StandsIn signature after f c.args.self.now.ctx.now c.args.self.now.position) (sym c.insert_block_after.ensures)
     (laid_stands signature calls c.args.self.now.func.now c.args.self.now.ctx.now c.args.self.now.position name behind c.args.block c.args.after stands
-    (laid calls c.args.self.now.func.now c.args.self.now.ctx.now c.args.self.now.position name behind c.args.block c.args.after stands.ledger names names_behind))
+    (laid calls c.args.self.now.func.now c.args.self.now.ctx.now c.args.self.now.position name behind c.args.block c.args.after stands.ledger names.0 names.1)))
+
+pub returns-clause-call : goal.returns-clause-call
+returns-clause-call c =
+    made c.args.self.now _ (Ok tt) (record { func = refl; ctx = refl }) refl c.if-self.false (by_success tt) c.if-self.false

@@ -1,3 +1,5 @@
+use Rattle.std.proofs.Common.{refl}
+use Rattle.cranelift_frontend.proofs.Calls.{told, made}
 use Rattle.std.specs.Prelude.{ltb, length}
 use Rattle.cranelift_frontend.proofs.Remembered.{remembers_sealed}
 use Rattle.cranelift_frontend.proofs.SealingAll.{all_sealed, sealed_all, sealed_all_stands}
@@ -5,19 +7,24 @@ use Rattle.cranelift_frontend.proofs.Finishing.{sealed_edges}
 use Rattle.cranelift_frontend.proofs.Growing.{sealed_current, sealed_grows}
 use Rattle.cranelift_frontend.proofs.Named.{opened}
 use Rattle.clif_simulation.proofs.CarriedStructure.{sealed_parameters}
+use Rattle.clif_ssa.proofs.Constructing.{constructs_none}
 use Rattle.cranelift_frontend.proofs.builder.FunctionBuilder.seal_all_blocks.Goals as goal
 
 pub seal_all_blocks-sealed-requires : goal.seal_all_blocks-sealed-requires
 seal_all_blocks-sealed-requires c = record { named = opened _ _ c.args.self.now.named }
 
-pub returns-clause-ledger : goal.returns-clause-ledger
-returns-clause-ledger c = λ calls agrees.
-    sealed_all calls _ _ _ _ _ _ agrees c.seal_all_blocks-sealed.ensures.is_sealing c.law_consistent.ensures c.law_consistent-2.ensures c.seal_all_blocks-sealed.ensures.variables
-
-pub returns-clause-stands : goal.returns-clause-stands
-returns-clause-stands c = λ signature calls stands.
+pub returns-clause-told : goal.returns-clause-told
+returns-clause-told c =
+    told c.args.self.now _ c.seal_all_blocks-sealed.result _ _
+    (λ calls agrees _.
+    sealed_all calls _ _ _ _ _ _ agrees c.seal_all_blocks-sealed.ensures.is_sealing c.law_consistent.ensures c.law_consistent-2.ensures c.seal_all_blocks-sealed.ensures.variables)
+    (λ signature calls stands _ ledger.
     sealed_all_stands signature calls _ _ _ _ _ _ stands c.law_consistent.ensures c.seal_all_blocks-sealed.ensures.is_sealing c.law_consistent-2.ensures
-    (returns-clause-ledger c calls stands.ledger)
+    ledger)
+
+pub returns-clause-call : goal.returns-clause-call
+returns-clause-call c =
+    made c.args.self.now _ c.seal_all_blocks-sealed.result (record { func = refl; ctx = refl }) refl c.if-self.false c.seal_all_blocks-sealed.ensures.never_failed c.is_err-self.ensures.value
 
 pub returns-clause-sealed : goal.returns-clause-sealed
 returns-clause-sealed c =
@@ -48,3 +55,6 @@ returns-then-self-clause-parameters c = λ signature calls stands. sealed_parame
 
 pub returns-clause-parameters : goal.returns-clause-parameters
 returns-clause-parameters c = λ signature calls stands. sealed_parameters calls _ _ stands.carries
+
+pub returns-then-self-clause-constructs : goal.returns-then-self-clause-constructs
+returns-then-self-clause-constructs c = constructs_none _

@@ -1,3 +1,5 @@
+use Rattle.std.proofs.Common.{refl}
+use Rattle.cranelift_frontend.proofs.Calls.{told, made}
 use Rattle.std.specs.Prelude.{◌==◌}
 use Rattle.cranelift_frontend.proofs.Remembered.{remembers_sealed}
 use Rattle.cranelift_frontend.proofs.LedgerBlocks.{sealed}
@@ -6,11 +8,22 @@ use Rattle.cranelift_frontend.proofs.StandingResults.{sealed_stands}
 use Rattle.cranelift_frontend.proofs.Growing.{sealed_current, sealed_grows}
 use Rattle.cranelift_frontend.proofs.Named.{opened}
 use Rattle.clif_simulation.proofs.CarriedStructure.{sealed_parameters}
+use Rattle.clif_ssa.proofs.Constructing.{constructs_none}
 use Rattle.cranelift_frontend.proofs.builder.FunctionBuilder.seal_block.Goals as goal
 
-pub returns-clause-ledger : goal.returns-clause-ledger
-returns-clause-ledger c = λ calls name agrees names.
-    sealed calls _ _ _ _ _ name c.args.block _ agrees names c.seal_block-sealed.ensures.is_sealing c.law_consistent.ensures c.law_consistent-2.ensures c.seal_block-sealed.ensures.variables
+pub returns-clause-told : goal.returns-clause-told
+returns-clause-told c = λ name.
+    told c.args.self.now _ c.seal_block-sealed.result _ _
+    (λ calls agrees names.
+    sealed calls _ _ _ _ _ name c.args.block _ agrees names c.seal_block-sealed.ensures.is_sealing c.law_consistent.ensures c.law_consistent-2.ensures c.seal_block-sealed.ensures.variables)
+    (λ signature calls stands names ledger.
+    let done = c.seal_block-sealed.ensures in
+    sealed_stands signature calls _ _ _ _ _ name c.args.block _ stands c.law_consistent.ensures done.is_sealing c.law_consistent-2.ensures
+    ledger)
+
+pub returns-clause-call : goal.returns-clause-call
+returns-clause-call c =
+    made c.args.self.now _ c.seal_block-sealed.result (record { func = refl; ctx = refl }) refl c.if-self.false c.seal_block-sealed.ensures.never_failed c.is_err-self.ensures.value
 
 pub returns-clause-grows : goal.returns-clause-grows
 returns-clause-grows c = sealed_grows c.seal_block-sealed.result c.args.self.now.func.now c.args.self.now.ctx.now c.seal_block-sealed.new.func c.seal_block-sealed.new.self (λ b. b == c.args.block) c.seal_block-sealed.ensures.is_sealing
@@ -20,12 +33,6 @@ returns-clause-current c = sealed_current c.seal_block-sealed.result c.args.self
 
 pub seal_block-sealed-requires : goal.seal_block-sealed-requires
 seal_block-sealed-requires c = record { named = opened _ _ c.args.self.now.named }
-
-pub returns-clause-stands : goal.returns-clause-stands
-returns-clause-stands c = λ signature calls name stands names.
-    let done = c.seal_block-sealed.ensures in
-    sealed_stands signature calls _ _ _ _ _ name c.args.block _ stands c.law_consistent.ensures done.is_sealing c.law_consistent-2.ensures
-    (returns-clause-ledger c calls name stands.ledger names)
 
 pub returns-then-self-clause-edges_match : goal.returns-then-self-clause-edges_match
 returns-then-self-clause-edges_match c = λ signature calls stands none_waits typed. standing_edges signature calls _ _ _ stands none_waits typed
@@ -42,3 +49,6 @@ returns-then-self-clause-parameters c = λ signature calls stands. sealed_parame
 
 pub returns-clause-parameters : goal.returns-clause-parameters
 returns-clause-parameters c = λ signature calls stands. sealed_parameters calls _ _ stands.carries
+
+pub returns-then-self-clause-constructs : goal.returns-then-self-clause-constructs
+returns-then-self-clause-constructs c = constructs_none _

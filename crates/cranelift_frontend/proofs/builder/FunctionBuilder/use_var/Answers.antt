@@ -1,3 +1,5 @@
+use Rattle.std.proofs.Common.{refl}
+use Rattle.cranelift_frontend.proofs.Calls.{told_by, made}
 use Rattle.cranelift_frontend.proofs.Remembered.{remembers_used, has_record_used}
 use Rattle.std.proofs.Common.{sym, ◌∙◌, ℕ, subst}
 use Rattle.cranelift_frontend.proofs.LedgerUsed.{used, used-statuses}
@@ -10,21 +12,25 @@ use Rattle.cranelift_frontend.specs.Context.{SetsStatus, begun, status_of}
 use Rattle.clif_simulation.proofs.CarriedStructure.{sealed_parameters}
 use Rattle.cranelift_frontend.proofs.builder.FunctionBuilder.use_var.Goals as goal
 
-pub returns-clause-ledger : goal.returns-clause-ledger
-returns-clause-ledger c = λ calls agrees.
+pub returns-clause-told : goal.returns-clause-told
+returns-clause-told c =
+    told_by c.args.self.now _ c.use_variable-used.result _ _
+    (λ calls agrees _.
     used calls _ _ _ _ _ c.args.variable c.in-Some-var_type.ty c.in-Some.block _ agrees c.in-Some.is (sym c.var_type.ensures ∙ c.in-Some-var_type.is)
-    c.use_variable-used.ensures.is_use c.law_consistent-2.ensures c.use_variable-used.ensures.variables
+    c.use_variable-used.ensures.is_use c.law_consistent-2.ensures c.use_variable-used.ensures.variables)
+    (λ signature calls stands _ ledger.
+    used_stands signature calls _ _ _ _ _ c.args.variable c.in-Some-var_type.ty c.in-Some.block _ stands c.law_consistent.ensures c.in-Some.is
+    (current_open c.args.self.now c.requires.current c.in-Some.block c.in-Some.is) (sym c.var_type.ensures ∙ c.in-Some-var_type.is)
+    c.use_variable-used.ensures.is_use c.law_consistent-2.ensures ledger)
+
+pub returns-clause-call : goal.returns-clause-call
+returns-clause-call c =
+    made c.args.self.now _ c.use_variable-used.result (record { func = refl; ctx = refl }) refl c.if-self.false c.use_variable-used.ensures.never_failed c.is_err-self.ensures.value
 
 pub returns-clause-status : goal.returns-clause-status
 returns-clause-status c = λ calls agrees.
     subst (λ (o : Option ℕ). IfSome o (λ block. OnOk c.use_variable-used.result (SetsStatus c.args.self.now.ctx.now c.use_variable-used.new.ctx block (begun (status_of c.args.self.now.ctx.now block))))) (sym c.in-Some.is)
     (used-statuses calls c.args.self.now.func.now c.use_variable-used.new.func c.args.self.now.ctx.now c.use_variable-used.new.ctx c.args.self.now.position c.args.variable c.in-Some-var_type.ty c.in-Some.block _ agrees c.use_variable-used.ensures.is_use)
-
-pub returns-clause-stands : goal.returns-clause-stands
-returns-clause-stands c = λ signature calls stands.
-    used_stands signature calls _ _ _ _ _ c.args.variable c.in-Some-var_type.ty c.in-Some.block _ stands c.law_consistent.ensures c.in-Some.is
-    (current_open c.args.self.now c.requires.current c.in-Some.block c.in-Some.is) (sym c.var_type.ensures ∙ c.in-Some-var_type.is)
-    c.use_variable-used.ensures.is_use c.law_consistent-2.ensures (returns-clause-ledger c calls stands.ledger)
 
 pub returns-clause-remembers : goal.returns-clause-remembers
 returns-clause-remembers c = λ x b.

@@ -1,0 +1,62 @@
+-- What the answers of the builder's calls share.
+use Rattle.std.proofs.Common.{◌≡◌, ◌≢◌, ◌∷◌, ◌++◌, [], List, refl}
+use Rattle.std.specs.Prelude.{true, false, is_err, IsTrue, Result, Ok, Err, IfOk, OnOk, OnErr}
+use Rattle.clif_types.specs.declared.error.BuildError.{BuildError}
+use Rattle.clif_types.specs.declared.error.BuildError.TheVariants.{Failed, Memory}
+use Rattle.clif_types.specs.Signature.{SignatureShape}
+use Rattle.clif_meaning.specs.Request.{AnsweredCall}
+use Rattle.cranelift_frontend.specs.declared.builder.FunctionBuilder.{FunctionBuilder}
+use Rattle.cranelift_frontend.specs.Builder.{SameLoans}
+use Rattle.cranelift_frontend.specs.Calls.{IsCall, IsTold}
+use Rattle.cranelift_frontend.specs.Ledger.{AgreesWithLedger}
+use Rattle.cranelift_frontend.specs.StandsFor.{StandsFor}
+
+pub if_ok : {A E : Type 0} (answer : Result A E) (P : Type 0) → OnOk answer P → IfOk answer (λ _. P)
+if_ok (Ok a) P here = here
+if_ok (Err e) P here = here
+
+-- a call with one way to be told, whatever it answers
+pub told : {A : Type 0} (old new : FunctionBuilder) (answer : Result A BuildError) (names : List AnsweredCall → Type 0) (call : AnsweredCall)
+    → ((calls : List AnsweredCall) → AgreesWithLedger calls old → names calls → OnOk answer (AgreesWithLedger (calls ++ call ∷ []) new))
+    → ((signature : SignatureShape) (calls : List AnsweredCall) → StandsFor signature calls old → names calls
+    → OnOk answer (AgreesWithLedger (calls ++ call ∷ []) new) → OnOk answer (StandsFor signature (calls ++ call ∷ []) new))
+    → IsTold old new answer names (λ _. call)
+told old new answer names call ledger stands =
+    record {
+      ledger = λ calls agrees named. if_ok answer _ (ledger calls agrees named);
+      stands = λ signature calls standing named. if_ok answer _ (stands signature calls standing named (ledger calls standing.ledger named));
+    }
+
+-- a call that is told by what it answers
+pub told_by : {A : Type 0} (old new : FunctionBuilder) (answer : Result A BuildError) (names : List AnsweredCall → Type 0) (call : A → AnsweredCall)
+    → ((calls : List AnsweredCall) → AgreesWithLedger calls old → names calls → IfOk answer (λ a. AgreesWithLedger (calls ++ call a ∷ []) new))
+    → ((signature : SignatureShape) (calls : List AnsweredCall) → StandsFor signature calls old → names calls
+    → IfOk answer (λ a. AgreesWithLedger (calls ++ call a ∷ []) new) → IfOk answer (λ a. StandsFor signature (calls ++ call a ∷ []) new))
+    → IsTold old new answer names call
+told_by old new answer names call ledger stands =
+    record {
+      ledger = ledger;
+      stands = λ signature calls standing named. stands signature calls standing named (ledger calls standing.ledger named);
+    }
+
+-- a call of a builder that hasn't failed
+pub made : {A : Type 0} (old new : FunctionBuilder) (answer : Result A BuildError)
+    → SameLoans old new → new.position ≡ old.position → old.failed ≡ false → answer ≢ Err Failed → new.failed ≡ is_err answer
+    → IsCall old new answer
+made old new answer loans position fine never_failed fails =
+    record {
+      loans = loans;
+      position = position;
+      failed = (λ failed. absurd (never_failed failed), λ failed. let no_way : ⊥ = cc in absurd no_way);
+      unchanged = λ failed. let no_way : ⊥ = cc in absurd no_way;
+      fails = fails;
+    }
+
+-- what fails by memory alone doesn't fail because the builder failed before
+pub by_memory : {A : Type 0} (answer : Result A BuildError) → OnErr answer (answer ≡ Err Memory) → answer ≢ Err Failed
+by_memory (Ok a) only is = let no_way : ⊥ = cc in absurd no_way
+by_memory (Err e) only is = let no_way : ⊥ = cc in absurd no_way
+
+-- what succeeds doesn't fail
+pub by_success : {A : Type 0} (a : A) → ◌≢◌ {A = Result A BuildError} (Ok a) (Err Failed)
+by_success a is = let no_way : ⊥ = cc in absurd no_way
