@@ -1,11 +1,17 @@
 -- When a text becomes a function. Source: own.
-use Rattle.std.specs.Prelude.{◌≡◌, ℕ, List}
-use Rattle.clif_meaning.specs.Acceptance as acceptance
-use Rattle.clif_types.specs.Signature.{SignatureShape}
-use Rattle.clif_calls.specs.declared.call.Call.{Call}
-use Rattle.clif_replay.specs.Requests.{requests_of}
-use Rattle.clif_text.specs.Script.{AreCallLines}
+use Rattle.std.specs.Prelude.{ℕ, List}
+use Rattle.clif_ir.specs.Body.{Body}
+use Rattle.clif_replay.specs.Replay.{ReplayMakes}
+use Rattle.clif_text.specs.Script.{SaysScript}
+use Rattle.clif_text.specs.declared.reader.Script.{Script}
 
--- the lines stand for calls that a builder of a function, of some signature, accepts, `finalize` behind them
-abbrev pub IsAccepted : List ℕ → Type 0
-IsAccepted text = (signature : SignatureShape) × (calls : List Call) × (numbers : List ℕ) × AreCallLines text calls numbers × (acceptance.verdict_on (requests_of signature calls) ≡ acceptance.Accepted)
+-- the script's calls make a function of its name and its signature, on its target
+pub record MakesFunction (script : Script) : Type 0 where
+  pub function : Body
+  pub makes : ReplayMakes script.calls.items script.name script.signature script.config.pointer_width function
+
+-- the lines of the text say such a script
+pub record IsAccepted (text : List ℕ) : Type 0 where
+  pub script : Script
+  pub says : SaysScript text script
+  pub accepted : MakesFunction script

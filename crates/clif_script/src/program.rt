@@ -1,8 +1,6 @@
 //! A function from the text of a script: `build` is the program `clif_build` over two writers.
 ghost use Rattle.std.specs.Prelude.{◌≡◌, ◌<◌, IfOk};
-ghost use Rattle.clif_meaning.specs.Acceptance as acceptance;
-ghost use Rattle.clif_replay.specs.Requests.{requests_of};
-ghost use Rattle.clif_script.specs.Program.{IsAccepted};
+ghost use Rattle.clif_script.specs.Program.{IsAccepted, MakesFunction};
 
 use clif_replay::{ReplayError, replay};
 use clif_text::{Expected, Fault, ReadError, Script, read};
@@ -30,17 +28,28 @@ pub fn build<O: io::Write, E: io::Write>(
     ensures status { result < 3 }
     ensures accepted { result ≡ 0 → IsAccepted bytes.now }
 {
-    let built = match str::from_utf8(bytes) {
+    match build_bytes(alloc, bytes, out, err) {
+        Ok(status) => status,
+        Err(_) => 1,
+    }
+}
+
+fn build_bytes<O: io::Write, E: io::Write>(
+    alloc: Global,
+    bytes: &[u8],
+    out: &mut O,
+    err: &mut E,
+) -> io::Result<u8>
+    ensures status { IfOk result (λ status. status < 3) }
+    ensures accepted { IfOk result (λ status. status ≡ 0 → IsAccepted bytes.now) }
+{
+    match str::from_utf8(bytes) {
         Ok(text) => build_text(alloc, text, out, err),
         Err(error) => {
             let number = lines_to(&bytes[..error.valid_up_to()]);
             let fault = Fault::Expected(Expected::Text);
             tell_unread(ReadError::Line { number, fault }, err)
         }
-    };
-    match built {
-        Ok(status) => status,
-        Err(_) => 1,
     }
 }
 
@@ -83,7 +92,7 @@ fn build_script<O: io::Write, E: io::Write>(
     err: &mut E,
 ) -> io::Result<u8>
     ensures status { IfOk result (λ status. status < 3) }
-    ensures accepted { IfOk result (λ status. status ≡ 0 → acceptance.verdict_on (requests_of script.signature script.calls.items) ≡ acceptance.Accepted) }
+    ensures makes { IfOk result (λ status. status ≡ 0 → MakesFunction script) }
 {
     let Script {
         name,

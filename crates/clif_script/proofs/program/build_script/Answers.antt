@@ -1,0 +1,23 @@
+-- What a replay answers with a function is what the script makes.
+use Rattle.std.proofs.Common.{List, sym, subst}
+use Rattle.std.proofs.lemmas.Option.{same_Some}
+use Rattle.clif_calls.specs.declared.call.Call.{Call}
+use Rattle.clif_replay.specs.Replay.{ReplayMakes}
+use Rattle.clif_script.proofs.Answering.{answer_no_error}
+use Rattle.clif_script.proofs.program.build_script.Goals as goal
+
+pub returns-clause-makes : goal.returns-clause-makes
+returns-clause-makes g c = λ zero.
+    let script = c.args.script in
+    record {
+      function = c.in-Ok.func;
+      makes = subst (λ (calls : List Call). ReplayMakes calls script.name script.signature script.config.pointer_width c.in-Ok.func) c.as_slice.ensures.value
+          (record {
+            same_meaning = c.in-Ok.ensures.same_meaning;
+            built = c.in-Ok.ensures.built;
+            edges_match = c.in-Ok.ensures.edges_match;
+            well_placed = c.in-Ok.ensures.well_placed;
+            named = c.in-Ok.ensures.name;
+            accepted = sym (same_Some _ _ (c.in-Ok.ensures.verdict (answer_no_error c.in-Ok.func _) (answer_no_error c.in-Ok.func _)));
+          });
+    }
