@@ -95,9 +95,11 @@ pub struct FunctionBuilderContext {
 
 impl Model for FunctionBuilderContext {
     ghost use Rattle.std.specs.Prelude.{length, ◌<◌, ◌^◌};
-    ghost use Rattle.cranelift_frontend.specs.Context.{ContextState};
+    ghost use Rattle.cranelift_frontend.specs.Context.{ContextState, context_code};
 
     ghost Value = { ContextState };
+
+    ghost coded = { context_code };
 
     ghost view = { λ c. record { ssa = c.ssa; status = c.status; variables = c.variables.items } };
 

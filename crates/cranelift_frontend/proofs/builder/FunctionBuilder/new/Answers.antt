@@ -1,8 +1,11 @@
 use Rattle.std.proofs.Common.{refl}
-use Rattle.cranelift_frontend.proofs.LedgerEnds.{begins-empty}
+use Rattle.cranelift_frontend.proofs.Declaring.{names_nothing}
 use Rattle.cranelift_frontend.proofs.Standing.{stands_begins}
 use Rattle.cranelift_frontend.proofs.LedgerEnds.{begins-empty}
 use Rattle.cranelift_frontend.proofs.builder.FunctionBuilder.new.Goals as goal
+
+pub invariant_of-result : goal.invariant_of-result
+invariant_of-result c = record { named = names_nothing c.args.func.now c.args.ctx.now c.requires.empty }
 
 pub returns-clause-ledger : goal.returns-clause-ledger
 returns-clause-ledger c = begins-empty _ _ _ c.requires.fresh c.requires.empty refl
