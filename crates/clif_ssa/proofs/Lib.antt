@@ -26,6 +26,7 @@ pub mod Entering
 pub mod Parameters
 pub mod Instructions
 pub mod ZeroTable
+pub mod PuttingSteps
 pub mod ZeroSteps
 pub mod Zeroing
 pub mod Completing

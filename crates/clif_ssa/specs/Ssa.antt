@@ -1,6 +1,6 @@
 -- The state of the construction, and what its calls make of a function.
 -- Source: Braun et al. 2013, and the crate's documentation of its SSA builder.
-use Rattle.std.specs.Prelude.{◌≡◌, ℕ, ◌-◌, ◌^◌, ◌<◌, ◌≤◌, List, [], ◌∷◌, ◌++◌, Option, Some, None, length, slice_set, suc, ◌+◌, ◌==◌, ◌&&◌, if◌then◌else◌, ◌⊎◌, Contains, true}
+use Rattle.std.specs.Prelude.{◌≡◌, ℕ, ◌-◌, ◌^◌, ◌<◌, ◌≤◌, List, [], ◌∷◌, ◌++◌, Option, Some, None, length, take, slice_set, suc, ◌+◌, ◌==◌, ◌&&◌, if◌then◌else◌, ◌⊎◌, Contains, true}
 use Rattle.clif_types.specs.declared.types.«Type».{«Type»}
 use Rattle.clif_ir.specs.Body.{Body, block_at, value_at}
 use Rattle.clif_ir.specs.Changes.{inserted_in, with_param, with_alias}
@@ -152,6 +152,10 @@ with_steps f b steps =
       insts = f.insts ++ step_insts b (length f.values) steps;
       blocks = slice_set f.blocks b (record (block_at f b) { insts = range_with_len (length f.insts) (length steps) ++ (block_at f b).insts });
     }
+
+-- the same with some of the steps of a zero, the first ones: they are all that a call that failed may leave
+abbrev pub HasSomeSteps : Body → Body → ℕ → «Type» → Type 0
+HasSomeSteps f g b ty = (count : ℕ) × (count ≤ length (zero_steps ty)) × (g ≡ with_steps f b (take count (zero_steps ty)))
 
 -- the function with a zero before the first instruction of block `b`, which is in the layout then
 abbrev pub with_zero : Body → ℕ → «Type» → Body
