@@ -1,5 +1,6 @@
--- What values go on standing for, what a block keeps of its parameters, and which zeros are needed. Source: own, after Braun et al. 2013 (a variable's value in a block stays the same value
--- while parameters are completed; a parameter without arguments is replaced).
+-- What values go on standing for, what a block keeps of its parameters, and which zeros are needed. Source: own, after
+-- Braun et al. 2013 (a variable's value in a block stays the same value while parameters are completed; a parameter
+-- without arguments is replaced).
 use Rattle.std.specs.Prelude.{◌≡◌, ◌≢◌, ◌≤◌, ℕ, List, [], ◌∷◌, ◌++◌, map, Some, None, false, Contains}
 use Rattle.std.specs.List.{AllByRecursion}
 use Rattle.clif_ir.specs.Body.{Body, block_at, resolved}

@@ -203,7 +203,11 @@ impl SSABuilder {
         requires named { Named func.old self.old }
         ensures known { IfSome (record_of self.old variable block) (λ v. OnOk result ((func.new ≡ func.old) × (self.new ≡ self.old)) × IfOk result (λ r. (r.0 ≡ v) × (r.1.instructions_added_to_blocks.items ≡ []))) }
         ensures waits { record_of self.old variable block ≡ None → is_yes (sealed_of self.old block) ≡ false → OnOk result (Waits self.old self.new func.old func.new variable ty block) × IfOk result (λ r. (r.0 ≡ length func.old.values) × (r.1.instructions_added_to_blocks.items ≡ [])) }
-        ensures zero { record_of self.old variable block ≡ None → is_yes (sealed_of self.old block) ≡ true → predecessors_of self.old block ≡ [] → OnOk result (Zeroes self.old self.new func.old func.new variable ty block) × IfOk result (λ r. (r.0 ≡ length func.old.values + 1 + steps_before ty) × (r.1.instructions_added_to_blocks.items ≡ block ∷ [])) }
+        ensures zero { record_of self.old variable block ≡ None
+            → is_yes (sealed_of self.old block) ≡ true → predecessors_of self.old block ≡ []
+            → OnOk result (Zeroes self.old self.new func.old func.new variable ty block)
+            × IfOk result (λ r. (r.0 ≡ length func.old.values + 1 + steps_before ty)
+            × (r.1.instructions_added_to_blocks.items ≡ block ∷ [])) }
         ensures counts_none { record_of self.old variable block ≡ None → is_yes (sealed_of self.old block) ≡ false → OnOk result (SameLookups self.old self.new) }
         ensures counts_one { record_of self.old variable block ≡ None → is_yes (sealed_of self.old block) ≡ true → predecessors_of self.old block ≡ [] → OnOk result (CountsLookup self.old self.new variable block) }
         ensures looks { record_of self.old variable block ≡ None → is_yes (sealed_of self.old block) ≡ true → predecessors_of self.old block ≢ [] → IfOk result (λ r. UsesVariable variable ty block (stage func.old self.old no_look_up) r.0 (stage func.new self.new (found r.0 r.1.instructions_added_to_blocks.items))) }

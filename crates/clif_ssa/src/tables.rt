@@ -224,8 +224,10 @@ impl VariableTable {
     #[tactic(auto, using(crate::proofs::RecordLaws::record_rules))]
     // Sets what is known of a variable in a block. After an error all is as it was.
     fn set_cell(&mut self, variable: Variable, block: Block, cell: Cell) -> Result<(), BuildError>
-        ensures ok { OnOk result ((v b : ℕ) → recorded_at self.new v b ≡ (if v == variable && b == block then recorded_in cell else recorded_at self.old v b)) }
-        ensures err { OnErr result ((v b : ℕ) → recorded_at self.new v b ≡ recorded_at self.old v b) }
+        ensures ok { OnOk result ((v b : ℕ) → recorded_at self.new v b ≡
+            (if v == variable && b == block then recorded_in cell else recorded_at self.old v b)) }
+        ensures err { OnErr result ((v b : ℕ) →
+            recorded_at self.new v b ≡ recorded_at self.old v b) }
         ensures only_memory { OnErr result (result ≡ Err BuildError.Memory) }
     {
         let alloc = *self.rows.allocator();

@@ -21,7 +21,9 @@ pub(crate) fn replace_by_zero(
     side_effects: &mut SideEffects,
 ) -> Result<Value, BuildError>
     ensures zero { OnOk result (func.new ≡ zeroed_in (param_home func.old param) func.old param) }
-    ensures answer { MatchOption (param_home func.old param) (IfOk result (λ v. v ≡ param)) (λ _. IfOk result (λ v. v ≡ zero_value func.old (value_at func.old param).ty)) }
+    ensures answer { MatchOption (param_home func.old param)
+        (IfOk result (λ v. v ≡ param))
+        (λ _. IfOk result (λ v. v ≡ zero_value func.old (value_at func.old param).ty)) }
     ensures told { OnOk result (side_effects.new.instructions_added_to_blocks.items ≡ side_effects.old.instructions_added_to_blocks.items ++ option_to_list (param_home func.old param)) }
     ensures more { HasMore func.old func.new }
     ensures constructs { OnlyConstructs func.old func.new }
@@ -47,7 +49,9 @@ pub struct Ending {
 // the parameter away and makes it a name of the zero. What is no parameter stays.
 pub(crate) fn become_zero(func: &mut Function, param: Value) -> Result<Ending, BuildError>
     ensures zero { OnOk result (func.new ≡ zeroed_in (param_home func.old param) func.old param) }
-    ensures answer { MatchOption (param_home func.old param) (IfOk result (λ e. e.value ≡ param)) (λ _. IfOk result (λ e. e.value ≡ zero_value func.old (value_at func.old param).ty)) }
+    ensures answer { MatchOption (param_home func.old param)
+        (IfOk result (λ e. e.value ≡ param))
+        (λ _. IfOk result (λ e. e.value ≡ zero_value func.old (value_at func.old param).ty)) }
     ensures told { IfOk result (λ e. e.zero ≡ param_home func.old param) }
     ensures more { HasMore func.old func.new }
     ensures constructs { OnlyConstructs func.old func.new }
@@ -115,7 +119,9 @@ fn latest_value(func: &Function) -> Value
 // THE TABLE: the instruction of a type's zero at a place among its steps, if it has so many, and the
 // type of its result. `before` is the result of the step before it.
 fn zero_step(ty: Type, place: usize, _before: Value) -> Option<(InstructionData, Type)>
-    ensures { MatchOption (slice_get (zero_steps ty) place) (result ≡ None) (λ step. result ≡ Some (step.shape _before, step.ty)) }
+    ensures { MatchOption (slice_get (zero_steps ty) place)
+        (result ≡ None)
+        (λ step. result ≡ Some (step.shape _before, step.ty)) }
 {
     match place {
         0 => Some((InstructionData::UnaryImm { imm: 0 }, ty)),
