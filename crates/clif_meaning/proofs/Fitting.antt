@@ -1,17 +1,13 @@
 -- Outcomes fit the typing table.
-use Rattle.std.proofs.Common.{◌≡◌, ◌+◌, ◌-◌, ◌%◌, ◌^◌, ◌<◌, ℕ, List, [], ◌∷◌, arith, refl, subst, sym}
-use Rattle.std.specs.Prelude.{IsTrue, ℤ, pos, negsuc}
+use Rattle.std.proofs.Common.{◌^◌, ◌<◌, ℕ, List, [], ◌∷◌, arith, subst}
+use Rattle.std.specs.Prelude.{ℤ, pos, negsuc}
 use Rattle.std.proofs.Math.Nat.{mod-lt}
 use Rattle.clif_types.specs.declared.types.«Type».{«Type»}
 use Rattle.clif_types.specs.Types.{bits_of}
-use Rattle.clif_types.specs.Typing.{FitOperands, meets}
-use Rattle.clif_meaning.specs.Bits.{Bits, HasWidth, IsValue, AreValues, wrapped}
-use Rattle.clif_meaning.specs.Memory.{Memory}
-use Rattle.clif_meaning.specs.Instruction.{Arithmetic, Iconst, Unary, Binary, Operation, Compute, Jump, Brif, Return, operation_typing}
-use Rattle.clif_meaning.specs.Program.{result_types}
-use Rattle.clif_meaning.specs.Outcome.{Outcome, outcome_of, low_bits_at, unary_number, binary_number}
-use Rattle.clif_meaning.specs.Laws.{FitsTypes, OutcomesFit}
-use Rattle.clif_meaning.specs.World.{World}
+use Rattle.clif_meaning.specs.Bits.{HasWidth, IsValue, AreValues, wrapped}
+use Rattle.clif_meaning.specs.Instruction.{Iconst, Unary, Binary, Compute, Jump, Brif, Return}
+use Rattle.clif_meaning.specs.Outcome.{low_bits_at, unary_number, binary_number}
+use Rattle.clif_meaning.specs.Laws.{OutcomesFit}
 use Rattle.clif_meaning.proofs.SampleWorld.{pow_pos}
 
 low_fits : (ty : «Type») (number : ℕ) → IsValue ty (low_bits_at ty number)

@@ -26,6 +26,8 @@ pub record BlockState : Type 0 where
   pub is_pristine : Bool
   pub is_filled : Bool
   pub is_sealed : Bool
+  -- marked as cold
+  pub is_cold : Bool
   -- the branches that were declared as its predecessors, each once
   pub predecessors : List Name
 
@@ -196,7 +198,7 @@ next_answer ledger = answer_of (length ledger.answers) 0
 
 -- a new block: no branch to it, nothing in it
 abbrev pub new_block : Name → BlockState
-new_block block = record { block = block; parameters = []; is_pristine = true; is_filled = false; is_sealed = false; predecessors = [] }
+new_block block = record { block = block; parameters = []; is_pristine = true; is_filled = false; is_sealed = false; is_cold = false; predecessors = [] }
 
 abbrev pub new_variable : «Type» → VariableState
 new_variable ty = record { ty = ty; is_marked = false; is_touched = false }
@@ -204,6 +206,10 @@ new_variable ty = record { ty = ty; is_marked = false; is_touched = false }
 -- no more branches to the block come
 abbrev pub sealed : BlockState → BlockState
 sealed state = record state { is_sealed = true }
+
+-- the block is marked as cold
+abbrev pub with_cold_mark : BlockState → BlockState
+with_cold_mark state = record state { is_cold = true }
 
 -- more parameters of the caller's, of these types
 abbrev pub with_parameter_types : List «Type» → BlockState → BlockState
@@ -221,7 +227,7 @@ changed_by ledger (SwitchToBlock block) = record ledger { current = Some block }
 changed_by ledger (SealBlock block) = with_state ledger block sealed
 changed_by ledger SealAllBlocks = record ledger { blocks = map sealed ledger.blocks }
 changed_by ledger (InsertBlockAfter block after) = record ledger { layout = put_after block after ledger.layout }
-changed_by ledger (SetColdBlock block) = ledger
+changed_by ledger (SetColdBlock block) = with_state ledger block with_cold_mark
 changed_by ledger EnsureInsertedBlock = with_begun ledger
 changed_by ledger (AppendBlockParams block types) = with_state ledger block (with_parameter_types types)
 changed_by ledger (AppendFunctionParams block types) = with_state ledger block (with_parameter_types types)

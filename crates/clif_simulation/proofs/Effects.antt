@@ -7,7 +7,7 @@ use Rattle.clif_meaning.specs.Name.{Name}
 use Rattle.clif_meaning.specs.Instruction.{Instruction}
 use Rattle.clif_meaning.specs.Request.{Request, CreateBlock, SwitchToBlock, SealBlock, SealAllBlocks, InsertBlockAfter, SetColdBlock, EnsureInsertedBlock, AppendBlockParams, AppendFunctionParams, DeclareVar, DefVar, UseVar, Build, Finalize}
 use Rattle.clif_meaning.specs.Program.{Program, answers_from, extended, with_inserted, with_parameters}
-use Rattle.clif_meaning.specs.Ledger.{BlockState, Ledger, changed_by, put_after, sealed, with_begun, with_parameter_types, with_state}
+use Rattle.clif_meaning.specs.Ledger.{BlockState, Ledger, changed_by, put_after, sealed, with_begun, with_cold_mark, with_parameter_types, with_state}
 
 -- the call makes no block
 abbrev pub MakesNoBlock : Request → Type 0
@@ -85,6 +85,9 @@ pub data LedgerEffect (request : Request) : Type 0 where
 seals : KeepsFilled sealed
 seals = record { name = λ state. refl; filled = λ state is. is }
 
+marks : KeepsFilled with_cold_mark
+marks = record { name = λ state. refl; filled = λ state is. is }
+
 takes : (types : List «Type») → KeepsFilled (with_parameter_types types)
 takes types = record { name = λ state. refl; filled = λ state is. is }
 
@@ -94,7 +97,7 @@ ledger_effect (SwitchToBlock block) = Enters block refl
 ledger_effect (SealBlock block) = Changes block sealed seals refl (λ ledger. refl)
 ledger_effect SealAllBlocks = Seals refl
 ledger_effect (InsertBlockAfter block after) = Lays (λ ledger. put_after block after ledger.layout) refl (λ ledger. refl)
-ledger_effect (SetColdBlock block) = Keeps refl (λ ledger. refl)
+ledger_effect (SetColdBlock block) = Changes block with_cold_mark marks refl (λ ledger. refl)
 ledger_effect EnsureInsertedBlock = Begins refl (λ ledger. refl)
 ledger_effect (AppendBlockParams block types) = Changes block (with_parameter_types types) (takes types) refl (λ ledger. refl)
 ledger_effect (AppendFunctionParams block types) = Changes block (with_parameter_types types) (takes types) refl (λ ledger. refl)

@@ -11,7 +11,7 @@ use Rattle.clif_text.specs.declared.scope.Scope.{Scope}
 use Rattle.clif_text.specs.Grammar.{Names, IsCall}
 use Rattle.clif_text.specs.Given.{declares, declared, variables_from, variable_in, names_behind, is_instruction, first_answer, GiveNames}
 use Rattle.clif_text.specs.Scope.{given_in, names_of, Counts, KeepsVariables}
-use Rattle.clif_text.specs.Reader.{IsCounted, WordsSay, NamesAnswers}
+use Rattle.clif_text.specs.Reader.{IsCounted, WordsSay, NamesAnswers, header_said}
 
 variables_push : (number : ℕ) (calls : List Call) (call : Call) → variables_from number (calls ++ call ∷ []) ≡ variables_from number calls ++ (if declares call then Some (number + declared calls) else None) ∷ []
 variables_push number [] call =
@@ -51,13 +51,14 @@ counted_more old new mid call declaring is counts keeps calls counted =
     }
 
 -- a call was read, its variable counted, and names were given to its answers
-pub words_say : (old new : Reader) (mid : Scope) (call : Call) (given words : List (List ℕ)) (number place : ℕ) (instruction declaring : Bool) → IsCall (names_of old.scope) words call → declaring ≡ declares call → Counts declaring old.scope mid → instruction ≡ is_instruction call → place ≡ length old.calls.items → NamesAnswers instruction place given mid new.scope → new.calls.items ≡ old.calls.items ++ call ∷ [] → new.lines.items ≡ old.lines.items ++ number ∷ [] → WordsSay given words number old new
-words_say old new mid call given words number place instruction declaring stands is counts makes at names calls lines counted = (
+pub words_say : (old new : Reader) (mid : Scope) (call : Call) (given words : List (List ℕ)) (number place : ℕ) (instruction declaring : Bool) → IsCall (names_of old.scope) words call → declaring ≡ declares call → Counts declaring old.scope mid → instruction ≡ is_instruction call → place ≡ length old.calls.items → NamesAnswers instruction place given mid new.scope → new.header ≡ old.header → new.calls.items ≡ old.calls.items ++ call ∷ [] → new.lines.items ≡ old.lines.items ++ number ∷ [] → WordsSay given words number old new
+words_say old new mid call given words number place instruction declaring stands is counts makes at names header calls lines counted = (
   counted_more old new mid call declaring is counts names.keeps calls counted,
   record {
     call = call;
     names = given;
     stands = (refl, subst (λ ns. IsCall ns words call) (names_counted old counted) stands);
+    header = ap header_said header;
     calls = calls;
     numbers = lines;
     given = subst (λ g. GiveNames (is_instruction call) (length old.calls.items) (first_answer (is_instruction call)) given g (given_in new.scope)) (same_given old.scope mid counts.names) (subst (λ p. GiveNames (is_instruction call) p (first_answer (is_instruction call)) given (given_in mid) (given_in new.scope)) at (subst (λ b. GiveNames b place (first_answer b) given (given_in mid) (given_in new.scope)) makes names.given));

@@ -7,3 +7,4 @@ mod Scopes
 mod Giving
 mod Counting
 mod Figures
+mod Headers

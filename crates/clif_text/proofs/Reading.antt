@@ -11,7 +11,8 @@ use Rattle.clif_text.specs.declared.error.LineError.{LineError}
 use Rattle.clif_text.specs.declared.error.LineError.TheVariants as fault
 use Rattle.clif_text.specs.Errors.{error_at}
 use Rattle.clif_text.specs.Reader.{RefusesWords, WordsSay, LineAdds}
-use Rattle.clif_text.specs.Script.{lines_of, line_at, IsLineNumber, IsHeaderWord, Said, nothing_said, LineSays, LinesSay, TellsLine}
+use Rattle.clif_text.specs.Header.{HeaderSaid, IsHeader}
+use Rattle.clif_text.specs.Script.{lines_of, line_at, IsLineNumber, Said, nothing_said, LineSays, LinesSay, TellsLine}
 use Rattle.clif_text.proofs.Left.{length-texts}
 use Rattle.clif_text.proofs.Texts.{get_or-texts}
 
@@ -22,14 +23,15 @@ says_behind line words given rest number old new are parts others says counted =
     let one = told.1 in
     let behind : words ≡ one.names ++ codes "=" ∷ rest = parts ∙ ap (λ ns. ns ++ codes "=" ∷ rest) (sym one.stands.0) in (
       told.0,
-      inr (record {
+      inr (inr (record {
         call = one.call;
         names = one.names;
         stands = (words, are, inr (rest, behind, subst (λ ns. All (λ word. word ≢ codes "=") ns) (sym one.stands.0) others, one.stands.1));
+        header = one.header;
         calls = one.calls;
         numbers = one.numbers;
         given = one.given;
-      }),
+      })),
     )
 
 -- and so is one without `=`
@@ -38,19 +40,26 @@ says_alone line words number old new are says counted =
     let told = says counted in
     let one = told.1 in (
       told.0,
-      inr (record {
+      inr (inr (record {
         call = one.call;
         names = one.names;
         stands = (words, are, inl one.stands);
+        header = one.header;
         calls = one.calls;
         numbers = one.numbers;
         given = one.given;
-      }),
+      })),
     )
 
--- a header line says no call
-pub says_header : (line : List ℕ) (words : List (List ℕ)) (head : List ℕ) (rest : List (List ℕ)) (number : ℕ) (state : Said) → AreWords words line → words ≡ head ∷ rest → IsHeaderWord head → All (λ word. word ≢ codes "=") words → LineSays number line state state
-says_header line words head rest number state are parts header others = inl (inr (head, rest, subst (λ ws. AreWords ws line) parts are, header, subst (λ ws. All (λ word. word ≢ codes "=") ws) parts others), refl)
+-- a header line
+pub says_header : (line : List ℕ) (words : List (List ℕ)) (head : List ℕ) (rest : List (List ℕ)) (number : ℕ) (state : Said) (header : HeaderSaid) → AreWords words line → words ≡ head ∷ rest → IsHeader (head ∷ rest) state.header header → All (λ word. word ≢ codes "=") words → LineSays number line state (record state { header = header })
+says_header line words head rest number state header are parts says others = inr (inl (record {
+  words = words;
+  are = are;
+  names_nothing = others;
+  header = subst (λ ws. IsHeader ws state.header header) (sym parts) says;
+  same = refl;
+}))
 
 -- the line has a word
 pub has_first : (line : List ℕ) (words : List (List ℕ)) (word : List ℕ) (rest : List (List ℕ)) → AreWords words line → words ≡ word ∷ rest → HasWord line

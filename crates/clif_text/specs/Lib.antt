@@ -6,6 +6,7 @@ pub mod Given
 pub mod Scope
 pub mod Script
 pub mod Errors
+pub mod Header
 pub mod Reader
 pub mod Texts
 pub mod Operands

@@ -2,7 +2,9 @@
 use Rattle.std.specs.Prelude.{◌≡◌, ℕ, Bool, List}
 use Rattle.clif_text.specs.declared.error.LineError.{LineError}
 use Rattle.clif_text.specs.declared.error.LineError.TheVariants as error
+use Rattle.clif_text.specs.declared.header.Header.{Header}
 use Rattle.clif_text.specs.declared.reader.Reader.{Reader}
+use Rattle.clif_text.specs.Header.{HeaderSaid}
 use Rattle.clif_text.specs.Given.{declared, variables_from, first_answer, GiveNames}
 use Rattle.clif_text.specs.Grammar.{IsCall}
 use Rattle.clif_text.specs.declared.scope.Scope.{Scope}
@@ -10,9 +12,13 @@ use Rattle.clif_text.specs.Scope.{given_in, KeepsVariables}
 use Rattle.clif_text.specs.Script.{Said, SaysCall, LineSays}
 use Rattle.clif_text.specs.Words.{HasWord}
 
+-- what the header lines so far said
+abbrev pub header_said : Header → HeaderSaid
+header_said header = record { function = header.function; pointer_width = header.pointer_width; call_conv = header.call_conv }
+
 -- what the lines so far said
 abbrev pub said_to : Reader → Said
-said_to reader = record { calls = reader.calls.items; numbers = reader.lines.items; given = given_in reader.scope }
+said_to reader = record { header = header_said reader.header; calls = reader.calls.items; numbers = reader.lines.items; given = given_in reader.scope }
 
 -- the scope has the variables that the calls so far declare
 pub record IsCounted (reader : Reader) : Type 0 where
@@ -23,7 +29,7 @@ pub record IsCounted (reader : Reader) : Type 0 where
 abbrev pub WordsSay : List (List ℕ) → List (List ℕ) → ℕ → Reader → Reader → Type 0
 WordsSay given words number old new = IsCounted old → IsCounted new × SaysCall (λ names others call. (others ≡ given) × IsCall names words call) number (said_to old) (said_to new)
 
--- what the line says, no call or one
+-- what the line says: nothing, a header line's word or one call more
 abbrev pub LineAdds : List ℕ → ℕ → Reader → Reader → Type 0
 LineAdds line number old new = IsCounted old → IsCounted new × LineSays number line (said_to old) (said_to new)
 

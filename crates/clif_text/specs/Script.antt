@@ -7,7 +7,9 @@ use Rattle.clif_text.specs.declared.error.ReadError.{ReadError}
 use Rattle.clif_text.specs.declared.error.ReadError.TheVariants as read
 use Rattle.clif_text.specs.Given.{names_behind, is_instruction, first_answer, GiveNames}
 use Rattle.clif_text.specs.Grammar.{Names, IsCall}
+use Rattle.clif_text.specs.Header.{HeaderSaid, IsHeader, name_in, signature_in, pointer_width_in, call_conv_in}
 use Rattle.clif_text.specs.Words.{AreWords, HasWord}
+use Rattle.clif_text.specs.declared.reader.Script.{Script}
 
 -- the lines of a text, without their ends; behind the last end there is one more, which may be empty
 abbrev pub lines_of : List ℕ → List (List ℕ)
@@ -27,23 +29,30 @@ line_at text number = slice_index_or (lines_of text) (number - 1) []
 abbrev pub IsCallLine : Names → List (List ℕ) → List ℕ → Call → Type 0
 IsCallLine names given line call = (words : List (List ℕ)) × AreWords words line × (((given ≡ []) × IsCall names words call) ⊎ ((rest : List (List ℕ)) × (words ≡ given ++ codes "=" ∷ rest) × All (λ word. word ≢ codes "=") given × IsCall names rest call))
 
--- the first word of a header line
-abbrev pub IsHeaderWord : List ℕ → Type 0
-IsHeaderWord word = (word ≡ codes "function") ⊎ ((word ≡ codes "pointer") ⊎ (word ≡ codes "conv"))
-
--- a line that says no call: it has no word, or it is a header line, which has no `=`
-abbrev pub SaysNoCall : List ℕ → Type 0
-SaysNoCall line = AreWords [] line ⊎ ((head : List ℕ) × (rest : List (List ℕ)) × AreWords (head ∷ rest) line × IsHeaderWord head × All (λ word. word ≢ codes "=") (head ∷ rest))
-
--- what lines said: the calls, in order, for each the number of its line, and what given names stand for behind them
+-- what lines said: of the function and its target, the calls, in order, for each the number of its line, and what given
+-- names stand for behind them
 pub record Said : Type 0 where
+  pub header : HeaderSaid
   pub calls : List Call
   pub numbers : List ℕ
   pub given : List ℕ → Option Name
 
--- no call, and no name
+-- no header line, no call, and no name
 abbrev pub nothing_said : Said
-nothing_said = record { calls = []; numbers = []; given = λ word. None }
+nothing_said = record {
+  header = record { function = None; pointer_width = None; call_conv = None };
+  calls = [];
+  numbers = [];
+  given = λ word. None;
+}
+
+-- a header line, which has no `=`
+pub record SaysHeader (line : List ℕ) (old new : Said) : Type 0 where
+  pub words : List (List ℕ)
+  pub are : AreWords words line
+  pub names_nothing : All (λ word. word ≢ codes "=") words
+  pub header : IsHeader words old.header new.header
+  pub same : new ≡ record old { header = new.header }
 
 -- one call more, on the line with this number; P holds of what names stand for before it, of the names that are given
 -- to its answers, and of the call
@@ -51,24 +60,35 @@ pub record SaysCall (P : Names → List (List ℕ) → Call → Type 0) (number 
   pub call : Call
   pub names : List (List ℕ)
   pub stands : P (names_behind old.calls old.given) names call
+  pub header : new.header ≡ old.header
   pub calls : new.calls ≡ old.calls ++ call ∷ []
   pub numbers : new.numbers ≡ old.numbers ++ number ∷ []
   pub given : GiveNames (is_instruction call) (length old.calls) (first_answer (is_instruction call)) names old.given new.given
 
--- the line with this number says no call, or one more
+-- the line with this number has no word, is a header line, or says one call more
 abbrev pub LineSays : ℕ → List ℕ → Said → Said → Type 0
-LineSays number line old new = (SaysNoCall line × (new ≡ old)) ⊎ SaysCall (λ names given call. IsCallLine names given line call) number old new
+LineSays number line old new = (AreWords [] line × (new ≡ old)) ⊎ (SaysHeader line old new ⊎ SaysCall (λ names given call. IsCallLine names given line call) number old new)
 
 -- the same of all these lines, one after the other; the first has this number
 abbrev pub LinesSay : ℕ → List (List ℕ) → Said → Said → Type 0
 LinesSay number [] old new = new ≡ old
 LinesSay number (line ∷ lines) old new = (next : Said) × LineSays number line old next × LinesSay (number + 1) lines next new
 
--- the lines of the text say these calls, which stand on the lines with these numbers
-abbrev pub AreCallLines : List ℕ → List Call → List ℕ → Type 0
-AreCallLines text calls numbers = (given : List ℕ → Option Name) × LinesSay 1 (lines_of text) nothing_said (record { calls = calls; numbers = numbers; given = given })
+-- what was found is what the lines said: the function's name and signature, the target, and the calls with the numbers of
+-- their lines
+pub record IsScriptOf (said : Said) (found : Script) : Type 0 where
+  pub name : found.name ≡ name_in said.header.function
+  pub signature : found.signature ≡ signature_in said.header.function
+  pub pointer_width : found.config.pointer_width ≡ pointer_width_in said.header.pointer_width
+  pub call_conv : found.config.default_call_conv ≡ call_conv_in said.header.call_conv
+  pub calls : found.calls.items ≡ said.calls
+  pub numbers : found.lines.items ≡ said.numbers
 
--- a line that wasn't read: it has a word, and each line before it says a call or none
+-- the lines of the text say what was found
+abbrev pub SaysScript : List ℕ → Script → Type 0
+SaysScript text found = (said : Said) × LinesSay 1 (lines_of text) nothing_said said × IsScriptOf said found
+
+-- a line that wasn't read: it has a word, and each line before it has none, is a header line or says a call
 pub record IsUnread (text : List ℕ) (number : ℕ) : Type 0 where
   pub within : IsLineNumber text number
   pub has_word : HasWord (line_at text number)

@@ -2,6 +2,8 @@
 ghost use Rattle.std.specs.Prelude.{◌≤◌, length};
 
 use crate::error::{Expected, LineError};
+use crate::types::type_named;
+use clif_types::Type;
 
 /// The words of a line, of which so many were taken.
 #[derive(Clone, Copy)]
@@ -13,10 +15,11 @@ pub(crate) struct Cursor<'w, 'a> {
 
 #[tactic(auto, using(crate::proofs::Left::left_rules))]
 impl<'w, 'a> Cursor<'w, 'a> {
-    ghost use Rattle.std.specs.Prelude.{◌≡◌, ◌≢◌, ◌∷◌, ◌↔◌, [], IfOk, OnErr, IsOk, IsTrue, slice_get};
+    ghost use Rattle.std.specs.Prelude.{◌≡◌, ◌≢◌, ◌∷◌, ◌↔◌, [], ℕ, List, IfOk, IfNone, IfSome, OnErr, IsOk, IsTrue, slice_get};
     ghost use Rattle.std.specs.Bool.{OnTrue, OnFalse};
     ghost use Rattle.std.specs.Option.{option_map};
     ghost use Rattle.clif_text.specs.Cursor.{texts, words_left};
+    ghost use Rattle.clif_text.specs.Grammar.{IsTypeWord};
 
     pub(crate) fn new(words: &'w [&'a str]) -> Cursor<'w, 'a>
         ensures { words_left result ≡ texts words.now }
@@ -29,13 +32,6 @@ impl<'w, 'a> Cursor<'w, 'a> {
         ensures { IsTrue result ↔ (words_left self.now ≡ []) }
     {
         self.taken == self.words.len()
-    }
-
-    /// The next word, which stays.
-    pub(crate) fn peek(&self) -> Option<&'a str>
-        ensures { option_map (λ word. word.now) result ≡ slice_get (words_left self.now) 0 }
-    {
-        self.words.get(self.taken).copied()
     }
 
     /// Takes the next word, which should be what is told.
@@ -64,6 +60,16 @@ impl<'w, 'a> Cursor<'w, 'a> {
             }
             _ => false,
         }
+    }
+
+    /// Takes the next word if it is a type.
+    pub(crate) fn take_type(&mut self) -> Option<Type>
+        ensures some { IfSome result (λ ty. (word : List ℕ) × (words_left self.old ≡ word ∷ words_left self.new) × IsTypeWord word ty) }
+        ensures none { IfNone result (words_left self.new ≡ words_left self.old) }
+    {
+        let ty = type_named(self.words.get(self.taken)?)?;
+        self.taken += 1;
+        Some(ty)
     }
 
     /// Nothing is left.

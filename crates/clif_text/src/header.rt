@@ -1,12 +1,18 @@
 //! The header lines: the function's name and signature, and the configuration.
-ghost use Rattle.std.specs.Prelude.{OnOk};
-ghost use Rattle.clif_text.specs.Script.{IsHeaderWord};
+ghost use Rattle.std.specs.Prelude.{◌≡◌, ◌++◌, ◌∷◌, [], ℕ, List, None, Some, IfOk, IfSome, OnOk, codes};
+ghost use Rattle.clif_types.specs.Texts.{call_conv_text};
+ghost use Rattle.clif_text.specs.Cursor.{texts, words_left};
+ghost use Rattle.clif_text.specs.Header.{AreReturned, AreTypes, IsFunction, IsFunctionName, IsUserName, name_in, signature_in};
+ghost use Rattle.clif_text.specs.Texts.{pointer_text};
 
 use crate::cursor::Cursor;
 use crate::error::{Expected, Fault, LineError};
 use crate::number::short_decimal;
-use crate::types::{call_conv_named, pointer_width_named, type_named};
-use clif_types::{AbiParam, CallConv, PointerWidth, Signature, TargetFrontendConfig, UserFuncName};
+use crate::types::{call_conv_named, pointer_width_named};
+use clif_types::{
+    AbiParam, CallConv, PointerWidth, Signature, TargetFrontendConfig, UserExternalName,
+    UserFuncName,
+};
 use std::alloc::Global;
 
 /// What the header lines so far say.
@@ -23,7 +29,13 @@ pub(crate) fn is_header(word: &str) -> bool {
 }
 
 impl Header {
-    pub(crate) fn new() -> Header {
+    ghost use Rattle.clif_text.specs.Header.{IsHeader, call_conv_in, pointer_width_in};
+    ghost use Rattle.clif_text.specs.Reader.{header_said};
+    ghost use Rattle.clif_text.specs.Script as script;
+
+    pub(crate) fn new() -> Header
+        ensures { header_said result ≡ script.nothing_said.header }
+    {
         Header {
             function: None,
             pointer_width: None,
@@ -38,34 +50,21 @@ impl Header {
         head: &'a str,
         rest: &[&'a str],
     ) -> Result<(), LineError<'a>>
-        ensures { OnOk result (IsHeaderWord head.now) }
+        ensures { OnOk result (IsHeader (head.now ∷ texts rest.now) (header_said self.old) (header_said self.new)) }
     {
-        let mut words = Cursor::new(rest);
-        let repeated = match head {
-            "function" => {
-                let function = function_of(alloc, &mut words)?;
-                self.function.replace(function).is_some()
-            }
-            "pointer" => {
-                let width = pointer_width_of(&mut words)?;
-                self.pointer_width.replace(width).is_some()
-            }
-            "conv" => {
-                let conv = call_conv_of(&mut words, Expected::CallConv)?;
-                self.call_conv.replace(conv).is_some()
-            }
-            _ => return Err(LineError::Fault(Fault::NotSupported(head))),
-        };
-        words.end()?;
-        if repeated {
-            Err(LineError::Fault(Fault::Repeated(head)))
-        } else {
-            Ok(())
+        match head {
+            "function" => keep(&mut self.function, function_of(alloc, rest)?, head),
+            "pointer" => keep(&mut self.pointer_width, pointer_width_of(rest)?, head),
+            "conv" => keep(&mut self.call_conv, call_conv_of(rest)?, head),
+            _ => Err(LineError::Fault(Fault::NotSupported(head))),
         }
     }
 
     /// The configuration; pointers have 64 bits and the convention is `system_v` where no line says else.
-    pub(crate) fn config(&self) -> TargetFrontendConfig {
+    pub(crate) fn config(&self) -> TargetFrontendConfig
+        ensures width { result.pointer_width ≡ pointer_width_in self.now.pointer_width }
+        ensures conv { result.default_call_conv ≡ call_conv_in self.now.call_conv }
+    {
         TargetFrontendConfig {
             default_call_conv: self.call_conv.unwrap_or(CallConv::SystemV),
             pointer_width: self.pointer_width.unwrap_or(PointerWidth::U64),
@@ -75,7 +74,10 @@ impl Header {
 
     /// The name and the signature; `u0:0`, with nothing taken or returned and the convention `fast`, where no
     /// line says else.
-    pub(crate) fn function(self, alloc: Global) -> (UserFuncName, Signature) {
+    pub(crate) fn function(self, alloc: Global) -> (UserFuncName, Signature)
+        ensures name { result.0 ≡ name_in self.function }
+        ensures signature { result.1 ≡ signature_in self.function }
+    {
         match self.function {
             Some(function) => function,
             None => (
@@ -86,79 +88,140 @@ impl Header {
     }
 }
 
-fn pointer_width_of<'a>(words: &mut Cursor<'_, 'a>) -> Result<PointerWidth, LineError<'a>> {
-    let word = words.take(Expected::PointerWidth)?;
-    pointer_width_named(word).ok_or(LineError::wanted(Expected::PointerWidth))
+// Keeps what a header line says, of which `head` is the first word, unless one of its kind stands above.
+fn keep<'a, T: Drop>(kept: &mut Option<T>, said: T, head: &'a str) -> Result<(), LineError<'a>>
+    ensures { OnOk result ((kept.old ≡ None) × (kept.new ≡ Some said)) }
+{
+    if kept.is_some() {
+        return Err(LineError::Fault(Fault::Repeated(head)));
+    }
+    *kept = Some(said);
+    Ok(())
 }
 
-fn call_conv_of<'a>(
+fn pointer_width_of<'a>(rest: &[&'a str]) -> Result<PointerWidth, LineError<'a>>
+    ensures { IfOk result (λ width. texts rest.now ≡ pointer_text width ∷ []) }
+{
+    let mut words = Cursor::new(rest);
+    let word = words.take(Expected::PointerWidth)?;
+    let width = pointer_width_named(word).ok_or(LineError::wanted(Expected::PointerWidth))?;
+    words.end()?;
+    Ok(width)
+}
+
+fn call_conv_of<'a>(rest: &[&'a str]) -> Result<CallConv, LineError<'a>>
+    ensures { IfOk result (λ conv. texts rest.now ≡ call_conv_text conv ∷ []) }
+{
+    last_call_conv(&mut Cursor::new(rest), Expected::CallConv)
+}
+
+// The convention that ends a line.
+fn last_call_conv<'a>(
     words: &mut Cursor<'_, 'a>,
     expected: Expected,
-) -> Result<CallConv, LineError<'a>> {
+) -> Result<CallConv, LineError<'a>>
+    ensures { IfOk result (λ conv. words_left words.old ≡ call_conv_text conv ∷ []) }
+{
     let word = words.take(expected)?;
-    call_conv_named(word).ok_or(LineError::wanted(expected))
+    let conv = call_conv_named(word).ok_or(LineError::wanted(expected))?;
+    words.end()?;
+    Ok(conv)
 }
 
 // The name of a function: `%` and a text, or `u0:0`.
-fn function_name<'a>(alloc: Global, word: &'a str) -> Result<UserFuncName, LineError<'a>> {
+fn function_name<'a>(alloc: Global, word: &'a str) -> Result<UserFuncName, LineError<'a>>
+    ensures { IfOk result (IsFunctionName word.now) }
+{
     if let Some(text) = word.strip_prefix('%') {
         if text.is_empty() {
             return Err(LineError::wanted(Expected::FunctionName));
         }
         return Ok(UserFuncName::testcase(String::from_str(alloc, text)?));
     }
-    user_name(word).ok_or(LineError::wanted(Expected::FunctionName))
-}
-
-fn user_name(word: &str) -> Option<UserFuncName> {
-    let (namespace, index) = word.strip_prefix('u')?.split_once(':')?;
-    Some(UserFuncName::user(short_decimal(namespace)?, short_decimal(index)?))
-}
-
-// Adds the types that come next.
-fn take_types<'a>(
-    words: &mut Cursor<'_, 'a>,
-    types: &mut Vec<AbiParam>,
-) -> Result<(), LineError<'a>> {
-    while let Some(ty) = words.peek().and_then(|word| type_named(word)) {
-        types.push(AbiParam::new(ty))?;
-        words.take(Expected::Type)?;
+    match user_name(word) {
+        Some(name) => Ok(UserFuncName::User(name)),
+        None => Err(LineError::wanted(Expected::FunctionName)),
     }
-    Ok(())
+}
+
+fn user_name(word: &str) -> Option<UserExternalName>
+    ensures { IfSome result (IsUserName word.now) }
+{
+    let (namespace, index) = word.strip_prefix('u')?.split_once(':')?;
+    Some(UserExternalName {
+        namespace: short_decimal(namespace)?,
+        index: short_decimal(index)?,
+    })
+}
+
+// The types that come next, each as a parameter.
+fn take_types<'a>(alloc: Global, words: &mut Cursor<'_, 'a>) -> Result<Vec<AbiParam>, LineError<'a>>
+    ensures { IfOk result (λ params. (taken : List (List ℕ)) × (words_left words.old ≡ taken ++ words_left words.new) × AreTypes taken params.items) }
+{
+    let mut params = Vec::new(alloc);
+    while let Some(ty) = words.take_type() {
+        params.push(AbiParam::new(ty))?;
+    }
+    Ok(params)
 }
 
 // The parameters in parentheses.
 fn take_params<'a>(
+    alloc: Global,
     words: &mut Cursor<'_, 'a>,
-    params: &mut Vec<AbiParam>,
-) -> Result<(), LineError<'a>> {
+) -> Result<Vec<AbiParam>, LineError<'a>>
+    ensures { IfOk result (λ params. (taken : List (List ℕ)) × (words_left words.old ≡ codes "(" ∷ (taken ++ (codes ")" ∷ words_left words.new))) × AreTypes taken params.items) }
+{
     if !words.skips("(") {
         return Err(LineError::wanted(Expected::Open));
     }
-    take_types(words, params)?;
+    let params = take_types(alloc, words)?;
     if words.skips(")") {
-        Ok(())
+        Ok(params)
     } else {
         Err(LineError::wanted(Expected::TypeOrClose))
+    }
+}
+
+// What is returned: types behind an arrow, or nothing without one.
+fn take_returns<'a>(
+    alloc: Global,
+    words: &mut Cursor<'_, 'a>,
+) -> Result<Vec<AbiParam>, LineError<'a>>
+    ensures { IfOk result (λ params. (taken : List (List ℕ)) × (words_left words.old ≡ taken ++ words_left words.new) × AreReturned taken params.items) }
+{
+    if !words.skips("->") {
+        return Ok(Vec::new(alloc));
+    }
+    let returns = take_types(alloc, words)?;
+    if returns.is_empty() {
+        Err(LineError::wanted(Expected::Type))
+    } else {
+        Ok(returns)
     }
 }
 
 // `%name (types) -> types CONV`, or the same without the arrow.
 fn function_of<'a>(
     alloc: Global,
-    words: &mut Cursor<'_, 'a>,
-) -> Result<(UserFuncName, Signature), LineError<'a>> {
+    rest: &[&'a str],
+) -> Result<(UserFuncName, Signature), LineError<'a>>
+    ensures { IfOk result (IsFunction (texts rest.now)) }
+{
+    let mut words = Cursor::new(rest);
     let name = function_name(alloc, words.take(Expected::FunctionName)?)?;
-    let mut signature = Signature::new(alloc, CallConv::Fast);
-    take_params(words, &mut signature.params)?;
-    let mut expected = Expected::ArrowOrCallConv;
-    if words.skips("->") {
-        take_types(words, &mut signature.returns)?;
-        if signature.returns.is_empty() {
-            return Err(LineError::wanted(Expected::Type));
-        }
-        expected = Expected::TypeOrCallConv;
-    }
-    signature.call_conv = call_conv_of(words, expected)?;
+    let params = take_params(alloc, &mut words)?;
+    let returns = take_returns(alloc, &mut words)?;
+    let expected = if returns.is_empty() {
+        Expected::ArrowOrCallConv
+    } else {
+        Expected::TypeOrCallConv
+    };
+    let call_conv = last_call_conv(&mut words, expected)?;
+    let signature = Signature {
+        params,
+        returns,
+        call_conv,
+    };
     Ok((name, signature))
 }

@@ -42,6 +42,7 @@ struct Reader<'a> {
 
 impl<'a> Reader<'a> {
     ghost use Rattle.clif_text.specs.Reader.{IsCounted, LineAdds, RefusesWords, WordsSay, said_to};
+    ghost use Rattle.clif_text.specs.Script.{IsScriptOf};
 
     fn new(alloc: Global) -> Reader<'a>
         ensures said { said_to result ≡ script.nothing_said }
@@ -58,8 +59,7 @@ impl<'a> Reader<'a> {
 
     // What the lines said.
     fn script(self) -> Script
-        ensures calls { result.calls.items ≡ self.entry.calls.items }
-        ensures lines { result.lines.items ≡ self.entry.lines.items }
+        ensures { IsScriptOf (said_to self.entry) result }
     {
         let config = self.header.config();
         let Reader {
@@ -198,7 +198,7 @@ fn lines_of(alloc: Global, text: &str) -> Result<Vec<&str>, AllocError>
 /// `ReadError::Line` tells the first line that can't be read, and why; `ReadError::Memory` that memory was
 /// refused.
 pub fn read(alloc: Global, text: &str) -> Result<Script, ReadError<'_>>
-    ensures calls { IfOk result (λ found. script.AreCallLines text.now found.calls.items found.lines.items) }
+    ensures says { IfOk result (script.SaysScript text.now) }
     ensures line { IfErr result (script.TellsLine text.now) }
 {
     let Ok(lines) = lines_of(alloc, text) else {

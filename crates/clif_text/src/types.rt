@@ -4,6 +4,7 @@ ghost use Rattle.clif_types.specs.Texts.{call_conv_text, lane_text};
 ghost use Rattle.clif_types.specs.Types.{lanes_of};
 ghost use Rattle.std.specs.Fmt.{decimal};
 ghost use Rattle.clif_text.specs.Grammar.{IsTypeWord};
+ghost use Rattle.clif_text.specs.Texts.{pointer_text};
 
 use clif_types::{CallConv, LaneCount, LaneType, PointerWidth, Type};
 
@@ -62,7 +63,9 @@ pub(crate) fn call_conv_named(word: &str) -> Option<CallConv>
 }
 
 /// The width of pointers, by its number of bits.
-pub(crate) fn pointer_width_named(word: &str) -> Option<PointerWidth> {
+pub(crate) fn pointer_width_named(word: &str) -> Option<PointerWidth>
+    ensures { IfSome result (λ width. word.now ≡ pointer_text width) }
+{
     match word {
         "16" => Some(PointerWidth::U16),
         "32" => Some(PointerWidth::U32),

@@ -60,7 +60,7 @@ laid-agrees calls ledger f c p b a layout agrees same = record {
       let old = agrees.answers place call answers at_call at_answers in
       record { count = old.count; each = old.each; results = old.results };
   block_count = agrees.block_count;
-  blocks = agrees.blocks;
+  blocks = λ k s there. let was = agrees.blocks k s there in record { number = was.number; is_sealed = was.is_sealed; is_pristine = was.is_pristine; is_filled = was.is_filled; is_cold = was.is_cold; predecessors = was.predecessors };
   block_answers = agrees.block_answers;
   current = agrees.current;
   layout = same;

@@ -38,20 +38,33 @@ past_params [] b past = refl
 past_params (node ∷ nodes) zero past = absurd (omega (arith, past))
 past_params (node ∷ nodes) (suc b) past = past_params nodes b (omega (arith, past))
 
+-- and isn't cold, nor is a new one
+past_cold : (nodes : List BlockNode) (b : ℕ) → length nodes ≤ b → (slice_index_or nodes b empty_block).is_cold ≡ false
+past_cold [] b past = refl
+past_cold (node ∷ nodes) zero past = absurd (omega (arith, past))
+past_cold (node ∷ nodes) (suc b) past = past_cold nodes b (omega (arith, past))
+
+more_cold : (nodes : List BlockNode) (b : ℕ) → (slice_index_or (nodes ++ empty_block ∷ []) b empty_block).is_cold ≡ (slice_index_or nodes b empty_block).is_cold
+more_cold [] zero = refl
+more_cold [] (suc b) = refl
+more_cold (node ∷ nodes) zero = refl
+more_cold (node ∷ nodes) (suc b) = more_cold nodes b
+
 first_none : (xs ys : List ℕ) → xs ++ ys ≡ [] → xs ≡ []
 first_none [] ys none = refl
 first_none (x ∷ xs) ys none = let no_way : ⊥ = cc in absurd no_way
 
 -- a block of the ledger, one more call on, where sealing and status are as before
-pub block-kept : (calls : List AnsweredCall) (call : AnsweredCall) (c d : ContextState) (k : ℕ) (s : BlockState)
-    → BlockAgrees calls c k s → is_yes (sealed_of d.ssa k) ≡ is_yes (sealed_of c.ssa k) → predecessors_of d.ssa k ≡ predecessors_of c.ssa k → status_of d k ≡ status_of c k
-    → BlockAgrees (calls ++ call ∷ []) d k s
-block-kept calls call c d k s was sealed leads status =
+pub block-kept : (calls : List AnsweredCall) (call : AnsweredCall) (f g : Body) (c d : ContextState) (k : ℕ) (s : BlockState)
+    → BlockAgrees calls f c k s → (block_at g k).is_cold ≡ (block_at f k).is_cold → is_yes (sealed_of d.ssa k) ≡ is_yes (sealed_of c.ssa k) → predecessors_of d.ssa k ≡ predecessors_of c.ssa k → status_of d k ≡ status_of c k
+    → BlockAgrees (calls ++ call ∷ []) g d k s
+block-kept calls call f g c d k s was cold sealed leads status =
     record {
       number = earlier.kept calls call s.block k was.number;
       is_sealed = was.is_sealed ∙ sym sealed;
       is_pristine = was.is_pristine ∙ ap is_empty_status (sym status);
       is_filled = was.is_filled ∙ ap is_filled_status (sym status);
+      is_cold = was.is_cold ∙ sym cold;
       predecessors = numbers-kept calls call s.predecessors (predecessors_of c.ssa k) was.predecessors ∙ ap (map Some) (sym leads);
     }
 
@@ -67,7 +80,7 @@ agrees-kept calls call old new f c d p q answered agrees answers blocks layout c
       answers = answers-after calls call old new f f c p answered agrees answers names (keeps-itself f) fresh;
       block_count = ap (λ (states : List BlockState). length states) blocks ∙ agrees.block_count;
       blocks = λ k s there.
-          block-kept calls call c d k s (agrees.blocks k s (ap (λ (states : List BlockState). slice_get states k) (sym blocks) ∙ there)) (sealed_at k) (leads k) (status_at k);
+          block-kept calls call f f c d k s (agrees.blocks k s (ap (λ (states : List BlockState). slice_get states k) (sym blocks) ∙ there)) refl (sealed_at k) (leads k) (status_at k);
       block_answers = λ k x is.
           answer-still old new answered x ABlock answers
           (agrees.block_answers k x (ap (λ (states : List BlockState). option_map (λ (s : BlockState). s.block) (slice_get states k)) (sym blocks) ∙ is));
@@ -183,6 +196,9 @@ agrees-created calls ledger f g c d p block agrees function number records seale
     same_params : (b : ℕ) → (block_at g b).params ≡ (block_at f b).params
     same_params b = ap (λ (h : Body). (block_at h b).params) function ∙ block_params f b
 
+    same_colds : (b : ℕ) → (block_at g b).is_cold ≡ (block_at f b).is_cold
+    same_colds b = ap (λ (h : Body). (block_at h b).is_cold) function ∙ more_cold f.blocks b
+
     -- a new block has no parameters
     none_new : (b : ℕ) → length f.blocks ≤ b → agrees.own.params b ≡ []
     none_new b past =
@@ -215,20 +231,21 @@ agrees-created calls ledger f g c d p block agrees function number records seale
               ∙ ap (option_and_then (λ (xs : List Answered). slice_get xs 0)) (get-last ledger.answers (ABlock ∷ []))
         ]
 
-    blocks_agree : (k : ℕ) (s : BlockState) → slice_get (ledger_with ledger CreateBlock).blocks k ≡ Some s → BlockAgrees (calls ++ record { request = CreateBlock; numbers = block ∷ [] } ∷ []) d k s
+    blocks_agree : (k : ℕ) (s : BlockState) → slice_get (ledger_with ledger CreateBlock).blocks k ≡ Some s → BlockAgrees (calls ++ record { request = CreateBlock; numbers = block ∷ [] } ∷ []) g d k s
     blocks_agree k s there =
         elim (get-push ledger.blocks (new_block (next_answer ledger)) k s there) [
-          | inl old ↦ block-kept calls (record { request = CreateBlock; numbers = block ∷ [] }) c d k s (agrees.blocks k s old) (sealed_at k) (leads k) (status_at k)
+          | inl old ↦ block-kept calls (record { request = CreateBlock; numbers = block ∷ [] }) f g c d k s (agrees.blocks k s old) (same_colds k) (sealed_at k) (leads k) (status_at k)
           | inr last ↦
               let past : length f.blocks ≤ k = omega (arith, last.0, agrees.block_count) in
               let same : block ≡ k = omega (arith, number, last.0, agrees.block_count) in
               let none : status_of d k ≡ Empty = status_at k ∙ (agrees.fresh k past).1 in
-              subst (λ (t : BlockState). BlockAgrees (calls ++ record { request = CreateBlock; numbers = block ∷ [] } ∷ []) d k t) last.1 (record {
+              subst (λ (t : BlockState). BlockAgrees (calls ++ record { request = CreateBlock; numbers = block ∷ [] } ∷ []) g d k t) last.1 (record {
                 number = ap (number_of (calls ++ record { request = CreateBlock; numbers = block ∷ [] } ∷ [])) name_is
                     ∙ earlier.new calls (record { request = CreateBlock; numbers = block ∷ [] }) 0 ∙ ap Some same;
                 is_sealed = sym (sealed_at k ∙ (agrees.fresh k past).0);
                 is_pristine = ap is_empty_status (sym none);
                 is_filled = ap is_filled_status (sym none);
+                is_cold = sym (same_colds k ∙ past_cold f.blocks k past);
                 predecessors = sym (ap (map Some) (leads k ∙ (agrees.fresh k past).2));
               })
         ]
@@ -272,17 +289,18 @@ module _ (calls : List AnsweredCall) (ledger : Ledger) (f g : Body) (c d : Conte
   count_blocks [] = refl
   count_blocks (s ∷ states) = ap suc (count_blocks states)
 
-  block_here : (k : ℕ) (s : BlockState) → BlockAgrees calls c k s → (test : Bool) → (k == block) ≡ test → BlockAgrees (calls ++ call ∷ []) d k (if test then change s else s)
+  block_here : (k : ℕ) (s : BlockState) → BlockAgrees calls f c k s → (test : Bool) → (k == block) ≡ test → BlockAgrees (calls ++ call ∷ []) g d k (if test then change s else s)
   block_here k s was true here =
       record {
         number = earlier.kept calls call s.block k was.number;
         is_sealed = sym (sealing.sealed k ∙ if-yes (k == block) true (is_yes (sealed_of c.ssa k)) here);
         is_pristine = was.is_pristine ∙ ap is_empty_status (sym (status_at k));
         is_filled = was.is_filled ∙ ap is_filled_status (sym (status_at k));
+        is_cold = was.is_cold ∙ sym (extends.cold k);
         predecessors = numbers-kept calls call s.predecessors (predecessors_of c.ssa k) was.predecessors ∙ ap (map Some) (sym (sealing.predecessors k));
       }
   block_here k s was false other =
-      block-kept calls call c d k s was (sealing.sealed k ∙ if-no (k == block) true (is_yes (sealed_of c.ssa k)) other) (sealing.predecessors k) (status_at k)
+      block-kept calls call f g c d k s was (extends.cold k) (sealing.sealed k ∙ if-no (k == block) true (is_yes (sealed_of c.ssa k)) other) (sealing.predecessors k) (status_at k)
 
   structured : IsStructured agrees.own g d
   structured types are = sealing.structured types agrees.own (agrees.structured types (subst (λ (xs : List «Type»). AreTypesOf xs types) variables are))
@@ -299,7 +317,7 @@ module _ (calls : List AnsweredCall) (ledger : Ledger) (f g : Body) (c d : Conte
         block_count = count_blocks ledger.blocks ∙ agrees.block_count ∙ sym extends.block_count;
         blocks = λ k t there.
             let entry = state-entries calls ledger (name-number calls ledger f c p agrees) block name change named k t there in
-            subst (λ (s : BlockState). BlockAgrees (calls ++ call ∷ []) d k s) entry.2 (block_here k entry.0 (agrees.blocks k entry.0 entry.1) (k == block) refl);
+            subst (λ (s : BlockState). BlockAgrees (calls ++ call ∷ []) g d k s) entry.2 (block_here k entry.0 (agrees.blocks k entry.0 entry.1) (k == block) refl);
         block_answers = λ k x is.
             answer-still ledger new [] x ABlock refl (agrees.block_answers k x (sym (changed-names ledger new name change (λ s. refl) refl k) ∙ is));
         current = one-named-more (block_name ledger) (block_name new) ledger.current p names agrees.current;

@@ -74,7 +74,7 @@ module _ (calls : List AnsweredCall) (old new : Ledger) (g : Body) (c d : Contex
       ∙ ap (λ (t : Bool). if t then predecessors_of c.ssa k ++ inst ∷ [] else predecessors_of c.ssa k) (declared.each k)
 
   -- the predecessors of a block, by names and by numbers
-  predecessors : (k : ℕ) (s : BlockState) → slice_get old.blocks k ≡ Some s → BlockAgrees calls c k s → map (number_of calls) (change s).predecessors ≡ map Some (predecessors_of d.ssa k)
+  predecessors : (k : ℕ) (s : BlockState) → slice_get old.blocks k ≡ Some s → BlockAgrees calls g c k s → map (number_of calls) (change s).predecessors ≡ map Some (predecessors_of d.ssa k)
   predecessors k s there was =
       by (goes edges s.block) (sym (goes-to calls old numbered k s.block (ap (option_map (λ (t : BlockState). t.block)) there) edges made lead))
     where
@@ -93,13 +93,14 @@ module _ (calls : List AnsweredCall) (old new : Ledger) (g : Body) (c d : Contex
   abbrev changed : BlockState → Bool → Bool → BlockState
   changed s goes heard = if goes then (if heard then s else record s { predecessors = s.predecessors ++ branch ∷ [] }) else s
 
-  block_agrees : (k : ℕ) (s : BlockState) → slice_get old.blocks k ≡ Some s → BlockAgrees calls c k s → BlockAgrees calls d k (change s)
+  block_agrees : (k : ℕ) (s : BlockState) → slice_get old.blocks k ≡ Some s → BlockAgrees calls g c k s → BlockAgrees calls g d k (change s)
   block_agrees k s there was =
       record {
         number = ap (number_of calls) (change_block s) ∙ was.number;
         is_sealed = kept_sealed (goes edges s.block) (list_any (same_name branch) s.predecessors) ∙ was.is_sealed ∙ sym (sealed k);
         is_pristine = kept_pristine (goes edges s.block) (list_any (same_name branch) s.predecessors) ∙ was.is_pristine ∙ ap is_empty_status (sym (same_status k));
         is_filled = kept_filled (goes edges s.block) (list_any (same_name branch) s.predecessors) ∙ was.is_filled ∙ ap is_filled_status (sym (same_status k));
+        is_cold = kept_cold (goes edges s.block) (list_any (same_name branch) s.predecessors) ∙ was.is_cold;
         predecessors = predecessors k s there was;
       }
     where
@@ -117,6 +118,11 @@ module _ (calls : List AnsweredCall) (old new : Ledger) (g : Body) (c d : Contex
       kept_filled true true = refl
       kept_filled true false = refl
       kept_filled false heard = refl
+
+      kept_cold : (goes heard : Bool) → (changed s goes heard).is_cold ≡ s.is_cold
+      kept_cold true true = refl
+      kept_cold true false = refl
+      kept_cold false heard = refl
 
   kept_parameters : (s : BlockState) (goes heard : Bool) → (changed s goes heard).parameters ≡ s.parameters
   kept_parameters s true true = refl
@@ -149,7 +155,7 @@ module _ (calls : List AnsweredCall) (old new : Ledger) (g : Body) (c d : Contex
         block_count = ap (λ (states : List BlockState). length states) ledger.blocks ∙ length-map old.blocks (λ (s : BlockState). change s) ∙ agrees.block_count;
         blocks = λ k t there.
             let was = state_was k t there in
-            subst (λ (s : BlockState). BlockAgrees calls d k s) was.2 (block_agrees k was.0 was.1 (agrees.blocks k was.0 was.1));
+            subst (λ (s : BlockState). BlockAgrees calls g d k s) was.2 (block_agrees k was.0 was.1 (agrees.blocks k was.0 was.1));
         block_answers = λ k x is.
             ap (λ (xs : List (List Answered)). answer_at (record old { answers = xs }) x) ledger.answers ∙ agrees.block_answers k x (name_was k x is);
         current = ap (option_map Some) ledger.current ∙ one-named-more (block_name old) (block_name new) old.current p names agrees.current;

@@ -160,6 +160,7 @@ filled-agrees s =
     record {
       block = λ t. refl;
       is_sealed = λ t. refl;
+      is_cold = λ t. refl;
       parameters = λ t. refl;
       predecessors = λ t. refl;
       is_pristine = λ t was. refl;

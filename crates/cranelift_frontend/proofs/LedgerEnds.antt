@@ -65,14 +65,14 @@ one-block calls state k Filled false next rest number seal pristine fill agrees 
     subst (λ (b : Bool). RefusalAgrees calls (Some (if b then refusal.Unfilled state.block else refusal.Unsealed state.block)) (Err (error.Unsealed k))) (sym seal) (k, number, refl)
 
 -- the first block that isn't finished, from a number on
-refusal-from : (calls : List AnsweredCall) (c : ContextState) (states : List BlockState) (from : ℕ)
-    → ((k : ℕ) (state : BlockState) → slice_get states k ≡ Some state → BlockAgrees calls c (from + k) state)
+refusal-from : (calls : List AnsweredCall) (f : Body) (c : ContextState) (states : List BlockState) (from : ℕ)
+    → ((k : ℕ) (state : BlockState) → slice_get states k ≡ Some state → BlockAgrees calls f c (from + k) state)
     → RefusalAgrees calls (unfinished (find is_unfinished states)) (answer_of (first_fault c from (length states)))
 unfolding first_fault
-refusal-from calls c [] from agrees = refl
-refusal-from calls c (state ∷ states) from agrees =
-    let here : BlockAgrees calls c from state = let same : from + 0 ≡ from = omega arith in subst (λ (n : ℕ). BlockAgrees calls c n state) same (agrees 0 state refl) in
-    let rest = refusal-from calls c states (from + 1) (λ k s there. let same : from + suc k ≡ from + 1 + k = omega arith in subst (λ (n : ℕ). BlockAgrees calls c n s) same (agrees (suc k) s there)) in
+refusal-from calls f c [] from agrees = refl
+refusal-from calls f c (state ∷ states) from agrees =
+    let here : BlockAgrees calls f c from state = let same : from + 0 ≡ from = omega arith in subst (λ (n : ℕ). BlockAgrees calls f c n state) same (agrees 0 state refl) in
+    let rest = refusal-from calls f c states (from + 1) (λ k s there. let same : from + suc k ≡ from + 1 + k = omega arith in subst (λ (n : ℕ). BlockAgrees calls f c n s) same (agrees (suc k) s there)) in
     let test : (not (is_empty_status (status_of c from)) && not (is_yes (sealed_of c.ssa from) && is_filled_status (status_of c from))) ≡ is_unfinished state = rw (here.is_pristine, here.is_sealed, here.is_filled) refl in
     subst (λ (b : Bool). RefusalAgrees calls (unfinished (if b then Some state else find is_unfinished states)) (answer_of (or_else (block_fault c from) (first_fault c (from + 1) (length states))))) test
     (one-block calls state from (status_of c from) (is_yes (sealed_of c.ssa from)) (find is_unfinished states) (first_fault c (from + 1) (length states))
@@ -81,6 +81,6 @@ refusal-from calls c (state ∷ states) from agrees =
 pub finished : (calls : List AnsweredCall) (b : FunctionBuilder) → AgreesWithLedger calls b → b.failed ≡ false
     → RefusalAgrees calls (refusal_of (ledger_of calls) Finalize) (verdict_of b.failed b.ctx.now (length b.func.now.blocks))
 finished calls b agrees sound =
-    let from_zero = refusal-from calls b.ctx.now (ledger_of calls).blocks 0 (λ k s there. let same : k ≡ 0 + k = omega arith in subst (λ (n : ℕ). BlockAgrees calls b.ctx.now n s) same (agrees.blocks k s there)) in
+    let from_zero = refusal-from calls b.func.now b.ctx.now (ledger_of calls).blocks 0 (λ k s there. let same : k ≡ 0 + k = omega arith in subst (λ (n : ℕ). BlockAgrees calls b.func.now b.ctx.now n s) same (agrees.blocks k s there)) in
     subst (λ (failed : Bool). RefusalAgrees calls (refusal_of (ledger_of calls) Finalize) (verdict_of failed b.ctx.now (length b.func.now.blocks))) (sym sound)
     (subst (λ (n : ℕ). RefusalAgrees calls (refusal_of (ledger_of calls) Finalize) (answer_of (first_fault b.ctx.now 0 n))) agrees.block_count from_zero)

@@ -12,7 +12,8 @@ use Rattle.clif_ir.specs.declared.function.ValueNode.{ValueNode}
 use Rattle.clif_ir.specs.declared.function.ValueOrigin.{ValueOrigin}
 use Rattle.clif_ir.specs.declared.function.ValueOrigin.TheVariants.{Alias}
 use Rattle.clif_ir.specs.declared.function.InstNode.{InstNode}
-use Rattle.clif_ir.specs.Body.{Body, inst_at, value_at, no_inst, no_value, resolved}
+use Rattle.clif_ir.specs.declared.function.BlockNode.{BlockNode}
+use Rattle.clif_ir.specs.Body.{Body, block_at, empty_block, inst_at, value_at, no_inst, no_value, resolved}
 use Rattle.clif_ir.specs.Changes.{inserted_in, with_block, with_layout, with_param, with_inst, with_alias, result_nodes}
 use Rattle.clif_ir.specs.Reading.{param_home, home_of_node, stands_in}
 use Rattle.clif_meaning.specs.Name.{Name, answer_of}
@@ -25,7 +26,7 @@ use Rattle.clif_ssa.specs.LookUp.{branch_block}
 use Rattle.clif_ssa.specs.Ssa.{step_values, with_steps, with_zero, zero_value, zeroed, zeroed_in, completed, completing_blocks}
 use Rattle.cranelift_frontend.specs.Ledger.{AnswerAgrees, HaveTypes, ResultsFollow, AnswersAgree, LedgerAgrees, block_name, value_type, ledger_of}
 use Rattle.cranelift_frontend.specs.Context.{ContextState}
-use Rattle.cranelift_frontend.proofs.LedgerLists.{fold-push, get-front, get-last, get-push, map-some, some-is, and-then-some, if-yes, numbered-more}
+use Rattle.cranelift_frontend.proofs.LedgerLists.{fold-push, get-front, get-push, map-some, some-is, and-then-some, if-yes, numbered-more}
 
 -- the ledger with one more call
 pub ledger-more : (calls : List AnsweredCall) (call : AnsweredCall) → ledger_of (calls ++ call ∷ []) ≡ ledger_with (ledger_of calls) call.request
@@ -48,11 +49,21 @@ pub record Keeps (f g : Body) : Type 0 where
   pub values : (v : ℕ) (ty : «Type») → value_type f v ≡ Some ty → value_type g v ≡ Some ty
   pub insts : (i : ℕ) (node : InstNode) → slice_get f.insts i ≡ Some node → KeepsInst g i node
 
--- it has as many blocks, too
+-- it has as many blocks, too, and the same ones are cold
 pub record Extends (f g : Body) : Type 0 where
   pub values : (v : ℕ) (ty : «Type») → value_type f v ≡ Some ty → value_type g v ≡ Some ty
   pub insts : (i : ℕ) (node : InstNode) → slice_get f.insts i ≡ Some node → KeepsInst g i node
   pub block_count : length g.blocks ≡ length f.blocks
+  pub cold : (b : ℕ) → (block_at g b).is_cold ≡ (block_at f b).is_cold
+
+-- where one block is written anew, and keeps its mark
+pub same_cold : (nodes : List BlockNode) (b x : ℕ) (node : BlockNode) → node.is_cold ≡ (slice_index_or nodes b empty_block).is_cold
+    → (slice_index_or (slice_set nodes b node) x empty_block).is_cold ≡ (slice_index_or nodes x empty_block).is_cold
+same_cold [] b x node same = refl
+same_cold (n ∷ nodes) zero zero node same = same
+same_cold (n ∷ nodes) zero (suc x) node same = refl
+same_cold (n ∷ nodes) (suc b) zero node same = refl
+same_cold (n ∷ nodes) (suc b) (suc x) node same = same_cold nodes b x node same
 
 pub keeps-of : (f g : Body) → Extends f g → Keeps f g
 keeps-of f g extends = record { values = extends.values; insts = extends.insts }
@@ -96,6 +107,7 @@ extends-constructs f g constructs =
             block = ap (λ (n : InstNode). n.block) more.1 ∙ ap (λ (n : InstNode). n.block) was;
           };
       block_count = constructs.block_count;
+      cold = λ b. ap (λ (n : BlockNode). n.is_cold) (constructs.blocks b).node;
     }
 
 -- it has also its layout, and no other parameters
@@ -110,6 +122,7 @@ Extends-same f g same =
       values = λ v ty is. ap (λ (h : Body). value_type h v) same ∙ is;
       insts = λ i node is. keeps-node g i node (ap (λ (h : Body). slice_get h.insts i) same ∙ is);
       block_count = ap (λ (h : Body). length h.blocks) same;
+      cold = λ b. ap (λ (h : Body). (block_at h b).is_cold) same;
     }
 
 pub Extends-then : (f g h : Body) → Extends f g → Extends g h → Extends f h
@@ -121,6 +134,7 @@ Extends-then f g h first next =
           let two = next.insts i one.kept one.there in
           record { kept = two.kept; there = two.there; results = two.results ∙ one.results; block = two.block ∙ one.block };
       block_count = next.block_count ∙ first.block_count;
+      cold = λ b. next.cold b ∙ first.cold b;
     }
 
 pub Continues-same : (f : Body) → Continues f f
@@ -184,7 +198,7 @@ Extends-inserted f b = by (stands_in b f.layout)
   where
     by : (test : Bool) → Extends f (if test then f else with_layout f b)
     by true = Extends-same f f refl
-    by false = record { values = λ v ty is. is; insts = λ i node is. keeps-node (with_layout f b) i node is; block_count = refl }
+    by false = record { values = λ v ty is. is; insts = λ i node is. keeps-node (with_layout f b) i node is; block_count = refl; cold = λ x. refl }
 
 pub home-inserted : (f : Body) (b v h : ℕ) → param_home (inserted_in f b) v ≡ Some h → param_home f v ≡ Some h
 home-inserted f b v h = by (stands_in b f.layout)
@@ -231,6 +245,7 @@ Extends-param f b ty =
       values = λ v t is. type-front f.values _ v t is;
       insts = λ i node is. keeps-node (with_param f b ty) i node is;
       block_count = length-set f.blocks b _;
+      cold = λ x. same_cold f.blocks b x _ refl;
     }
 
 pub home-param : (f : Body) (b : ℕ) (ty : «Type») (v h : ℕ) → param_home (with_param f b ty) v ≡ Some h → (param_home f v ≡ Some h) ⊎ (b ≡ h)
@@ -244,6 +259,7 @@ Continues-inst f b at shape types loc =
         values = λ v t is. type-front f.values _ v t is;
         insts = λ i node is. keeps-node (with_inst f b at shape types loc) i node (get-front f.insts _ i node is);
         block_count = length-set f.blocks b _;
+        cold = λ x. same_cold f.blocks b x _ refl;
       };
       layout = refl;
       homes = λ v h is. home-append f.values (result_nodes (length f.insts) 0 types) v h (home-results (length f.insts) 0 types) is;
@@ -262,6 +278,7 @@ Continues-steps f b steps =
         values = λ v t is. type-front f.values _ v t is;
         insts = λ i node is. keeps-node (with_steps f b steps) i node (get-front f.insts _ i node is);
         block_count = length-set f.blocks b _;
+        cold = λ x. same_cold f.blocks b x _ refl;
       };
       layout = refl;
       homes = λ v h is. home-append f.values (step_values (length f.insts) steps) v h (home-steps (length f.insts) steps) is;
@@ -275,6 +292,7 @@ Continues-alias f v original =
         values = λ w ty is. type-set f.values v _ (Alias (resolved f original)) w ∙ is;
         insts = λ i node is. keeps-node (with_alias f v original) i node is;
         block_count = length-set f.blocks _ _;
+        cold = λ x. same_cold f.blocks _ x _ refl;
       };
       layout = refl;
       homes = λ w h is. home-set f.values v _ (resolved f original) w h is;

@@ -30,6 +30,7 @@ pub record ChangeAgrees (change : BlockState → BlockState) (old new : BlockSta
   pub block : (s : BlockState) → (change s).block ≡ s.block
   pub is_sealed : (s : BlockState) → (change s).is_sealed ≡ s.is_sealed
   pub parameters : (s : BlockState) → (change s).parameters ≡ s.parameters
+  pub is_cold : (s : BlockState) → (change s).is_cold ≡ s.is_cold
   pub predecessors : (s : BlockState) → (change s).predecessors ≡ s.predecessors
   pub is_pristine : (s : BlockState) → s.is_pristine ≡ is_empty_status old → (change s).is_pristine ≡ is_empty_status new
   pub is_filled : (s : BlockState) → s.is_filled ≡ is_filled_status old → (change s).is_filled ≡ is_filled_status new
@@ -120,16 +121,16 @@ changed-names old new name change keeps blocks k =
     ap (λ (states : List BlockState). option_map (λ (s : BlockState). s.block) (slice_get states k)) blocks ∙ state-names old name change keeps k
 
 -- the blocks after a change of one block's state, and of its status
-pub blocks-after : (calls : List AnsweredCall) (call : AnsweredCall) (old new : Ledger) (f : Body) (c d : ContextState) (p : Option ℕ) (block : ℕ) (name : Name) (change : BlockState → BlockState) (status : BlockStatus)
-    → LedgerAgrees calls old f c p → block_name old block ≡ Some name → new.blocks ≡ (with_state old name change).blocks
+pub blocks-after : (calls : List AnsweredCall) (call : AnsweredCall) (old new : Ledger) (f g : Body) (c d : ContextState) (p : Option ℕ) (block : ℕ) (name : Name) (change : BlockState → BlockState) (status : BlockStatus)
+    → LedgerAgrees calls old f c p → Extends f g → block_name old block ≡ Some name → new.blocks ≡ (with_state old name change).blocks
     → ChangeAgrees change (status_of c block) status → SetsStatus c d block status → ((b : ℕ) → is_yes (sealed_of d.ssa b) ≡ is_yes (sealed_of c.ssa b)) → SamePredecessors c.ssa d.ssa
-    → (k : ℕ) (t : BlockState) → slice_get new.blocks k ≡ Some t → BlockAgrees (calls ++ call ∷ []) d k t
-blocks-after calls call old new f c d p block name change status agrees named blocks changes sets sealed leads k t found =
+    → (k : ℕ) (t : BlockState) → slice_get new.blocks k ≡ Some t → BlockAgrees (calls ++ call ∷ []) g d k t
+blocks-after calls call old new f g c d p block name change status agrees extends named blocks changes sets sealed leads k t found =
     let at_old : slice_get (with_state old name change).blocks k ≡ Some t = ap (λ (states : List BlockState). slice_get states k) (sym blocks) ∙ found in
     let entry = state-entries calls old (name-number calls old f c p agrees) block name change named k t at_old in
-    subst (λ (s : BlockState). BlockAgrees (calls ++ call ∷ []) d k s) entry.2 (by entry.0 (agrees.blocks k entry.0 entry.1) (k == block) refl)
+    subst (λ (s : BlockState). BlockAgrees (calls ++ call ∷ []) g d k s) entry.2 (by entry.0 (agrees.blocks k entry.0 entry.1) (k == block) refl)
   where
-    by : (s : BlockState) → BlockAgrees calls c k s → (test : Bool) → (k == block) ≡ test → BlockAgrees (calls ++ call ∷ []) d k (if test then change s else s)
+    by : (s : BlockState) → BlockAgrees calls f c k s → (test : Bool) → (k == block) ≡ test → BlockAgrees (calls ++ call ∷ []) g d k (if test then change s else s)
     by s was true here =
         let same : k ≡ block = eqb-true k block here in
         let now : status_of d k ≡ status = sets k ∙ if-yes (k == block) status (status_of c k) here in
@@ -139,6 +140,7 @@ blocks-after calls call old new f c d p block name change status agrees named bl
           is_sealed = changes.is_sealed s ∙ was.is_sealed ∙ sym (sealed k);
           is_pristine = changes.is_pristine s (was.is_pristine ∙ ap is_empty_status before) ∙ ap is_empty_status (sym now);
           is_filled = changes.is_filled s (was.is_filled ∙ ap is_filled_status before) ∙ ap is_filled_status (sym now);
+          is_cold = changes.is_cold s ∙ was.is_cold ∙ sym (extends.cold k);
           predecessors = ap (map (number_of (calls ++ call ∷ []))) (changes.predecessors s) ∙ numbers-kept calls call s.predecessors (predecessors_of c.ssa k) was.predecessors ∙ ap (map Some) (sym (leads k));
         }
     by s was false other =
@@ -148,6 +150,7 @@ blocks-after calls call old new f c d p block name change status agrees named bl
           is_sealed = was.is_sealed ∙ sym (sealed k);
           is_pristine = was.is_pristine ∙ ap is_empty_status (sym same);
           is_filled = was.is_filled ∙ ap is_filled_status (sym same);
+          is_cold = was.is_cold ∙ sym (extends.cold k);
           predecessors = numbers-kept calls call s.predecessors (predecessors_of c.ssa k) was.predecessors ∙ ap (map Some) (sym (leads k));
         }
 
@@ -182,7 +185,7 @@ agrees-made calls call old new f g c d p block name change status answered agree
       places = places-after calls call old new answered agrees.places answers;
       answers = answers-after calls call old new f g c p answered agrees answers names (keeps-of f g makes.extends) fresh;
       block_count = count_blocks ∙ agrees.block_count ∙ sym makes.extends.block_count;
-      blocks = blocks-after calls call old new f c d p block name change status agrees named ledger.blocks changes sets makes.sealed makes.predecessors;
+      blocks = blocks-after calls call old new f g c d p block name change status agrees makes.extends named ledger.blocks changes sets makes.sealed makes.predecessors;
       block_answers = λ k x is.
           answer-still old new answered x ABlock answers (agrees.block_answers k x (sym (changed-names old new name change changes.block ledger.blocks k) ∙ is));
       current = ap (option_map Some) ledger.current ∙ one-named-more (block_name old) (block_name new) old.current p names agrees.current;

@@ -42,6 +42,7 @@ begun-agrees s =
       block = λ t. refl;
       is_sealed = λ t. refl;
       parameters = λ t. refl;
+      is_cold = λ t. refl;
       predecessors = λ t. refl;
       is_pristine = λ t was. pristine s;
       is_filled = λ t was. was ∙ filled s;

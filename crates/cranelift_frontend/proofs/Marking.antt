@@ -1,17 +1,19 @@
 -- A block is made cold, and the current block is brought into the layout: the agreement with the ledger is kept, and the
 -- builder stands for the calls.
-use Rattle.std.proofs.Common.{◌≡◌, ◌≢◌, ℕ, List, [], ◌∷◌, ◌++◌, length, refl, sym, ◌∙◌, ap, subst, length-set, ◌≤◌, Bool, false, if◌then◌else◌, ◌⊎◌, inl, inr}
-use Rattle.std.proofs.lemmas.Bool.{eq-eqb, false≢true}
-use Rattle.std.specs.Prelude.{◌==◌, slice_get, Option, Some, option_map, Contains, true, OnOk, Result, Ok, Err}
+use Rattle.std.proofs.Common.{◌≡◌, ◌≢◌, ℕ, List, [], ◌∷◌, ◌++◌, length, refl, sym, ◌∙◌, ap, subst, length-set, ◌<◌, ◌≤◌, Bool, false, if◌then◌else◌, ◌⊎◌, inl, inr, zero, suc, arith}
+use Rattle.std.proofs.lemmas.Bool.{eq-eqb, eqb-true, false≢true}
+use Rattle.std.proofs.lemmas.List.{length-map}
+use Rattle.std.specs.Prelude.{◌==◌, map, slice_get, slice_index_or, slice_set, Option, Some, option_map, Contains, true, OnOk, Result, Ok, Err}
 use Rattle.clif_types.specs.declared.types.«Type».{«Type»}
 use Rattle.clif_types.specs.Signature.{SignatureShape}
 use Rattle.clif_ir.specs.declared.function.BlockNode.{BlockNode}
-use Rattle.clif_ir.specs.Body.{Body, block_at}
+use Rattle.clif_ir.specs.Body.{Body, block_at, empty_block}
 use Rattle.clif_ir.specs.Changes.{inserted_in, with_cold, with_layout}
 use Rattle.clif_ir.specs.Reading.{stands_in}
-use Rattle.clif_meaning.specs.Name.{Name}
+use Rattle.clif_meaning.specs.Name.{Name, same_name}
 use Rattle.clif_meaning.specs.Request.{AnsweredCall, EnsureInsertedBlock, SetColdBlock}
-use Rattle.clif_meaning.specs.Ledger.{Ledger, ledger_with}
+use Rattle.clif_meaning.specs.Ledger.{ABlock, BlockState, Ledger, ledger_with, with_cold_mark}
+use Rattle.clif_meaning.proofs.CallLists.{kept}
 use Rattle.clif_ssa.specs.Ssa.{NamesExist, SsaState, predecessors_of, sealed_of}
 use Rattle.clif_ssa.specs.Tables.{is_yes}
 use Rattle.clif_ssa.specs.LookUp.{branch_block}
@@ -22,12 +24,12 @@ use Rattle.clif_simulation.specs.Carries.{Carries}
 use Rattle.clif_simulation.proofs.Further.{carries_cold, carries_ensured, cold_insts, cold_params}
 use Rattle.cranelift_frontend.specs.declared.context.BlockStatus.TheVariants.{Empty}
 use Rattle.cranelift_frontend.specs.Context.{ContextState, begun, status_of, SetsStatus}
-use Rattle.cranelift_frontend.specs.Ledger.{AreTypesOf, IsEnded, LedgerAgrees, block_name, ledger_of}
+use Rattle.cranelift_frontend.specs.Ledger.{AreTypesOf, BlockAgrees, IsEnded, LedgerAgrees, NamesBlock, block_name, ledger_of}
 use Rattle.cranelift_frontend.specs.StandsFor.{StandsIn}
-use Rattle.cranelift_frontend.proofs.LedgerBlocks.{agrees-kept}
-use Rattle.cranelift_frontend.proofs.LedgerKept.{Extends-inserted, answers-none, branch-kept, concluded, keeps-of}
-use Rattle.cranelift_frontend.proofs.LedgerLists.{name-of-some}
-use Rattle.cranelift_frontend.proofs.LedgerMade.{MadeLedger, Makes, agrees-made, alone-still, begun-ledger, ended-still, unpristine}
+use Rattle.cranelift_frontend.proofs.LedgerKept.{Extends-inserted, Keeps, answer-still, answers-after, answers-none, branch-kept, concluded, keeps-of, places-after}
+use Rattle.cranelift_frontend.proofs.LedgerLists.{name-of-some, named-more, one-named-more}
+use Rattle.cranelift_frontend.proofs.LedgerMade.{MadeLedger, Makes, agrees-made, alone-still, begun-ledger, block-exists, ended-still, numbers-kept, unpristine}
+use Rattle.cranelift_frontend.proofs.LedgerNames.{name-number, named-block, state-entries, state-names}
 use Rattle.cranelift_frontend.proofs.LedgerUsed.{begun-agrees, begun-not-empty}
 use Rattle.cranelift_frontend.proofs.Placed.{branch_exists}
 use Rattle.cranelift_frontend.proofs.Standing.{current_name, first_cases}
@@ -35,43 +37,105 @@ use Rattle.cranelift_frontend.proofs.StandingCallers.{alone_after, kept_alone, s
 
 -- COLD BLOCKS -------------------------------------------------------------------------------------------------------------
 
--- an agreement speaks of no cold block
-cold-agrees : (calls : List AnsweredCall) (ledger : Ledger) (f : Body) (c : ContextState) (p : Option ℕ) (b : ℕ) → LedgerAgrees calls ledger f c p
-    → LedgerAgrees calls ledger (with_cold f b) c p
-cold-agrees calls ledger f c p b agrees = record {
-  places = agrees.places;
-  answers = λ place call answers at_call at_answers.
-      let old = agrees.answers place call answers at_call at_answers in
-      record { count = old.count; each = old.each; results = old.results };
-  block_count = agrees.block_count ∙ sym (length-set f.blocks b _);
-  blocks = agrees.blocks;
-  block_answers = agrees.block_answers;
-  current = agrees.current;
-  layout = agrees.layout;
-  variables = agrees.variables;
-  own = agrees.own;
-  structured = λ types are.
-      blocks_structured f (with_cold f b).blocks f.layout types agrees.own c.ssa [] (cold_params f.blocks b) (cold_insts f.blocks b)
-      (agrees.structured types are);
-  callers_types = agrees.callers_types;
-  callers_alone = λ d. elim (agrees.callers_alone d) [
-    | inl alone ↦ inl (cold_params f.blocks b d ∙ alone)
-    | inr old ↦ inr (record { inserted = old.inserted; begun = old.begun })
-  ];
-  branches = λ d i here. let old = agrees.branches d i here in record { inserted = old.inserted; filled = old.filled };
-  fresh = λ k above. agrees.fresh k (subst (λ (n : ℕ). n ≤ k) (length-set f.blocks b _) above);
-}
+-- the mark of the block, and those of the others
+cold_here : (nodes : List BlockNode) (b : ℕ) → b < length nodes
+    → (slice_index_or (slice_set nodes b (record (slice_index_or nodes b empty_block) { is_cold = true })) b empty_block).is_cold ≡ true
+cold_here [] b inside = absurd (omega (arith, inside))
+cold_here (node ∷ nodes) zero inside = refl
+cold_here (node ∷ nodes) (suc b) inside = cold_here nodes b (omega (arith, inside))
 
--- a block is made cold
-pub cold : (calls : List AnsweredCall) (f : Body) (c : ContextState) (p : Option ℕ) (name : Name) (b : ℕ) → LedgerAgrees calls (ledger_of calls) f c p
+cold_elsewhere : (nodes : List BlockNode) (b x : ℕ) → x ≢ b
+    → (slice_index_or (slice_set nodes b (record (slice_index_or nodes b empty_block) { is_cold = true })) x empty_block).is_cold ≡ (slice_index_or nodes x empty_block).is_cold
+cold_elsewhere [] b x other = refl
+cold_elsewhere (node ∷ nodes) zero zero other = absurd (other refl)
+cold_elsewhere (node ∷ nodes) zero (suc x) other = refl
+cold_elsewhere (node ∷ nodes) (suc b) zero other = refl
+cold_elsewhere (node ∷ nodes) (suc b) (suc x) other = cold_elsewhere nodes b x (λ same. other (ap suc same))
+
+-- a block is marked
+module _ (calls : List AnsweredCall) (f : Body) (c : ContextState) (p : Option ℕ) (name : Name) (b : ℕ) (agrees : LedgerAgrees calls (ledger_of calls) f c p)
+    (named : block_name (ledger_of calls) b ≡ Some name) where
+  abbrev marks : AnsweredCall
+  marks = record { request = SetColdBlock name; numbers = [] }
+
+  abbrev old : Ledger
+  old = ledger_of calls
+
+  abbrev new : Ledger
+  new = ledger_with (ledger_of calls) (SetColdBlock name)
+
+  abbrev g : Body
+  g = with_cold f b
+
+  keeps : Keeps f g
+  keeps = record { values = λ v ty is. is; insts = λ i node is. record { kept = node; there = is; results = refl; block = refl } }
+
+  same_names : (k : ℕ) → block_name new k ≡ block_name old k
+  same_names = state-names old name with_cold_mark (λ s. refl)
+
+  names : (k : ℕ) (x : Name) → block_name old k ≡ Some x → block_name new k ≡ Some x
+  names k x is = same_names k ∙ is
+
+  entry : (k : ℕ) (t : BlockState) → slice_get new.blocks k ≡ Some t
+      → (s : BlockState) × (slice_get old.blocks k ≡ Some s) × ((if k == b then with_cold_mark s else s) ≡ t)
+  entry = state-entries calls old (name-number calls old f c p agrees) b name with_cold_mark named
+
+  block_here : (k : ℕ) (s : BlockState) → BlockAgrees calls f c k s → (test : Bool) → (k == b) ≡ test
+      → BlockAgrees (calls ++ marks ∷ []) g c k (if test then with_cold_mark s else s)
+  block_here k s was true here = record {
+    number = kept calls marks s.block k was.number;
+    is_sealed = was.is_sealed;
+    is_pristine = was.is_pristine;
+    is_filled = was.is_filled;
+    is_cold = sym (ap (λ (x : ℕ). (block_at g x).is_cold) (eqb-true k b here) ∙ cold_here f.blocks b (block-exists calls old f c p agrees b name named));
+    predecessors = numbers-kept calls marks s.predecessors _ was.predecessors;
+  }
+  block_here k s was false other = record {
+    number = kept calls marks s.block k was.number;
+    is_sealed = was.is_sealed;
+    is_pristine = was.is_pristine;
+    is_filled = was.is_filled;
+    is_cold = was.is_cold ∙ sym (cold_elsewhere f.blocks b k (λ same. false≢true (sym other ∙ eq-eqb k b same)));
+    predecessors = numbers-kept calls marks s.predecessors _ was.predecessors;
+  }
+
+  same_types : (s : BlockState) (test : Bool) → (if test then with_cold_mark s else s).parameters ≡ s.parameters
+  same_types s true = refl
+  same_types s false = refl
+
+  agrees-cold : LedgerAgrees (calls ++ marks ∷ []) new g c p
+  agrees-cold = record {
+    places = places-after calls marks old new [] agrees.places refl;
+    answers = answers-after calls marks old new f g c p [] agrees refl names keeps (answers-none new g (length calls));
+    block_count = length-map old.blocks (λ (s : BlockState). if same_name s.block name then with_cold_mark s else s) ∙ agrees.block_count ∙ sym (length-set f.blocks b _);
+    blocks = λ k t there.
+        let e = entry k t there in
+        subst (λ (s : BlockState). BlockAgrees (calls ++ marks ∷ []) g c k s) e.2 (block_here k e.0 (agrees.blocks k e.0 e.1) (k == b) refl);
+    block_answers = λ k x is. answer-still old new [] x ABlock refl (agrees.block_answers k x (sym (same_names k) ∙ is));
+    current = one-named-more (block_name old) (block_name new) old.current p names agrees.current;
+    layout = named-more (block_name old) (block_name new) old.layout f.layout names agrees.layout;
+    variables = agrees.variables;
+    own = agrees.own;
+    structured = λ types are.
+        blocks_structured f g.blocks f.layout types agrees.own c.ssa [] (cold_params f.blocks b) (cold_insts f.blocks b)
+        (agrees.structured types are);
+    callers_types = λ k t there.
+        let e = entry k t there in
+        agrees.callers_types k e.0 e.1 ∙ ap (map Some) (sym (same_types e.0 (k == b)) ∙ ap (λ (s : BlockState). s.parameters) e.2);
+    callers_alone = λ d. elim (agrees.callers_alone d) [
+      | inl alone ↦ inl (cold_params f.blocks b d ∙ alone)
+      | inr was ↦ inr (record { inserted = was.inserted; begun = was.begun })
+    ];
+    branches = λ d i here. let was = agrees.branches d i here in record { inserted = was.inserted; filled = was.filled };
+    fresh = λ k above. agrees.fresh k (subst (λ (n : ℕ). n ≤ k) (length-set f.blocks b _) above);
+  }
+
+-- what comes of it
+pub cold : (calls : List AnsweredCall) (f : Body) (c : ContextState) (p : Option ℕ) (name : Name) (b : ℕ) → LedgerAgrees calls (ledger_of calls) f c p → NamesBlock calls name b
     → LedgerAgrees (calls ++ record { request = SetColdBlock name; numbers = [] } ∷ []) (ledger_of (calls ++ record { request = SetColdBlock name; numbers = [] } ∷ [])) (with_cold f b) c p
-cold calls f c p name b agrees =
-    let call : AnsweredCall = record { request = SetColdBlock name; numbers = [] } in
-    let new : Ledger = ledger_with (ledger_of calls) (SetColdBlock name) in
-    let after = cold-agrees calls (ledger_of calls) f c p b agrees in
-    concluded calls call (with_cold f b) c p
-    (agrees-kept calls call (ledger_of calls) new (with_cold f b) c c p p [] after refl refl refl after.current after.variables (λ d. refl) (λ d. refl) (λ d. refl) after.structured
-    (answers-none new (with_cold f b) (length calls)))
+cold calls f c p name b agrees names =
+    concluded calls (record { request = SetColdBlock name; numbers = [] }) (with_cold f b) c p
+    (agrees-cold calls f c p name b agrees (named-block calls (name-number calls (ledger_of calls) f c p agrees) name b names))
 
 -- what the construction names exists in it
 pub names_cold : (f : Body) (s : SsaState) (b : ℕ) → NamesExist f s → NamesExist (with_cold f b) s

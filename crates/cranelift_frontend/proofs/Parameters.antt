@@ -147,12 +147,13 @@ module _ (calls : List AnsweredCall) (ledger : Ledger) (f : Body) (c : ContextSt
   entry : (k : ℕ) (t : BlockState) → slice_get new.blocks k ≡ Some t → (s : BlockState) × (slice_get ledger.blocks k ≡ Some s) × ((if k == b then change s else s) ≡ t)
   entry k t at = state-entries calls ledger (name-number calls ledger f c p agrees) b B change named k t (ap (λ (states : List BlockState). slice_get states k) (sym blocks_are) ∙ at)
 
-  block_here : (k : ℕ) (s : BlockState) → BlockAgrees calls c k s → (test : Bool) → BlockAgrees (calls ++ call ∷ []) c k (if test then change s else s)
+  block_here : (k : ℕ) (s : BlockState) → BlockAgrees calls f c k s → (test : Bool) → BlockAgrees (calls ++ call ∷ []) g c k (if test then change s else s)
   block_here k s was true = record {
     number = kept calls call s.block k was.number;
     is_sealed = was.is_sealed;
     is_pristine = was.is_pristine;
     is_filled = was.is_filled;
+    is_cold = was.is_cold ∙ sym (extends.cold k);
     predecessors = numbers-kept calls call s.predecessors _ was.predecessors;
   }
   block_here k s was false = record {
@@ -160,6 +161,7 @@ module _ (calls : List AnsweredCall) (ledger : Ledger) (f : Body) (c : ContextSt
     is_sealed = was.is_sealed;
     is_pristine = was.is_pristine;
     is_filled = was.is_filled;
+    is_cold = was.is_cold ∙ sym (extends.cold k);
     predecessors = numbers-kept calls call s.predecessors _ was.predecessors;
   }
 
@@ -202,7 +204,7 @@ module _ (calls : List AnsweredCall) (ledger : Ledger) (f : Body) (c : ContextSt
     block_count =
         ap (λ (states : List BlockState). length states) blocks_are ∙ length-map ledger.blocks (λ (s : BlockState). if same_name s.block B then change s else s)
         ∙ agrees.block_count ∙ sym extends.block_count;
-    blocks = λ k t at. let e = entry k t at in subst (λ (s : BlockState). BlockAgrees (calls ++ call ∷ []) c k s) e.2 (block_here k e.0 (agrees.blocks k e.0 e.1) (k == b));
+    blocks = λ k t at. let e = entry k t at in subst (λ (s : BlockState). BlockAgrees (calls ++ call ∷ []) g c k s) e.2 (block_here k e.0 (agrees.blocks k e.0 e.1) (k == b));
     block_answers = λ k x is. answer-still ledger new (map AValue types) x ABlock answers_are (agrees.block_answers k x (sym (names_same k) ∙ is));
     current = ap (option_map Some) current_is ∙ one-named-more (block_name ledger) (block_name new) ledger.current p names agrees.current;
     layout =

@@ -59,12 +59,13 @@ module _ (calls : List AnsweredCall) (ledger : Ledger) (f g : Body) (c d : Conte
   names : (k : ℕ) (x : Name) → block_name ledger k ≡ Some x → block_name new k ≡ Some x
   names k x is = same_names k ∙ is
 
-  block_here : (k : ℕ) (s : BlockState) → BlockAgrees calls c k s → k < length f.blocks → BlockAgrees (calls ++ seals_all ∷ []) d k (sealed s)
+  block_here : (k : ℕ) (s : BlockState) → BlockAgrees calls f c k s → k < length f.blocks → BlockAgrees (calls ++ seals_all ∷ []) g d k (sealed s)
   block_here k s was inside = record {
     number = earlier.kept calls seals_all s.block k was.number;
     is_sealed = sym (sealing.sealed k ∙ if-yes (all_blocks k) true (is_yes (sealed_of c.ssa k)) (lt-ltb k (length f.blocks) inside));
     is_pristine = was.is_pristine ∙ ap is_empty_status (sym (status_at k));
     is_filled = was.is_filled ∙ ap is_filled_status (sym (status_at k));
+    is_cold = was.is_cold ∙ sym (extends.cold k);
     predecessors = numbers-kept calls seals_all s.predecessors (predecessors_of c.ssa k) was.predecessors ∙ ap (map Some) (sym (sealing.predecessors k));
   }
 
@@ -75,11 +76,11 @@ module _ (calls : List AnsweredCall) (ledger : Ledger) (f g : Body) (c d : Conte
   structured : IsStructured agrees.own g d
   structured types are = sealing.structured types agrees.own (agrees.structured types (subst (λ (xs : List «Type»). AreTypesOf xs types) variables are))
 
-  blocks_agree : (k : ℕ) (t : BlockState) → slice_get new.blocks k ≡ Some t → BlockAgrees (calls ++ seals_all ∷ []) d k t
+  blocks_agree : (k : ℕ) (t : BlockState) → slice_get new.blocks k ≡ Some t → BlockAgrees (calls ++ seals_all ∷ []) g d k t
   blocks_agree k t there =
       let state = state_here k t there in
       let inside : k < length ledger.blocks = slice_get_within ledger.blocks k state.0 state.1 in
-      subst (λ (s : BlockState). BlockAgrees (calls ++ seals_all ∷ []) d k s) state.2
+      subst (λ (s : BlockState). BlockAgrees (calls ++ seals_all ∷ []) g d k s) state.2
       (block_here k state.0 (agrees.blocks k state.0 state.1) (omega (arith, inside, agrees.block_count)))
 
   pub agrees-sealed_all : LedgerAgrees (calls ++ seals_all ∷ []) new g d p

@@ -36,7 +36,7 @@ are_open declared calls f c p stands block name named grows = by (is_yes (sealed
     found : (state : BlockState) × (slice_get (ledger_of calls).blocks block ≡ Some state) × (state.block ≡ name) × (block_state (ledger_of calls) name ≡ Some state)
     found = state-by-name calls (ledger_of calls) (name-number calls (ledger_of calls) f c p stands.ledger) block name in_ledger
 
-    agrees : BlockAgrees calls c block found.0
+    agrees : BlockAgrees calls f c block found.0
     agrees = stands.ledger.blocks block found.0 found.1
 
     same_seal : is_sealed (ledger_of calls) name ≡ is_yes (sealed_of c.ssa block)

@@ -94,12 +94,13 @@ pub record HasShape (calls : List AnsweredCall) (f : Body) (instruction : Instru
   pub edges : NamesEdges calls instruction.edges (destinations shape)
 
 -- a block of the ledger is the builder's block with number `k`, is sealed, pristine and filled exactly where that one
--- is, and has the same predecessors in the same order
-pub record BlockAgrees (calls : List AnsweredCall) (c : ContextState) (k : ℕ) (state : BlockState) : Type 0 where
+-- is, is cold where that one is in the function, and has the same predecessors in the same order
+pub record BlockAgrees (calls : List AnsweredCall) (f : Body) (c : ContextState) (k : ℕ) (state : BlockState) : Type 0 where
   pub number : number_of calls state.block ≡ Some k
   pub is_sealed : state.is_sealed ≡ is_yes (sealed_of c.ssa k)
   pub is_pristine : state.is_pristine ≡ is_empty_status (status_of c k)
   pub is_filled : state.is_filled ≡ is_filled_status (status_of c k)
+  pub is_cold : state.is_cold ≡ (block_at f k).is_cold
   pub predecessors : map (number_of calls) state.predecessors ≡ map Some (predecessors_of c.ssa k)
 
 -- an answer of the ledger with this name is the builder's answer with this number: the block that the ledger has
@@ -158,7 +159,7 @@ pub record LedgerAgrees (calls : List AnsweredCall) (ledger : Ledger) (f : Body)
       → AnswersAgree ledger f place answers call.numbers
   -- each block is in the ledger, in its place
   pub block_count : length ledger.blocks ≡ length f.blocks
-  pub blocks : (k : ℕ) (state : BlockState) → slice_get ledger.blocks k ≡ Some state → BlockAgrees calls c k state
+  pub blocks : (k : ℕ) (state : BlockState) → slice_get ledger.blocks k ≡ Some state → BlockAgrees calls f c k state
   pub block_answers : (k : ℕ) (name : Name) → block_name ledger k ≡ Some name → answer_at ledger name ≡ Some ABlock
   -- the current block, and the blocks of the layout in their order: one has the name, the other the number
   pub current : option_map Some ledger.current ≡ option_map (block_name ledger) position

@@ -46,16 +46,16 @@ RequestsAskForTheirShapes =
     → LedgerAgrees calls (ledger_of calls) f c position → AskForTheirShapes calls f
 
 -- the state that the ledger finds by a block's name is that of the block with this number
-pub record IsStateOf (calls : List AnsweredCall) (c : ContextState) (block : ℕ) (name : Name) : Type 0 where
+pub record IsStateOf (calls : List AnsweredCall) (f : Body) (c : ContextState) (block : ℕ) (name : Name) : Type 0 where
   pub state : BlockState
   pub found : block_state (ledger_of calls) name ≡ Some state
-  pub agrees : BlockAgrees calls c block state
+  pub agrees : BlockAgrees calls f c block state
 
 -- What the ledger of the calls says of a name, this function and this context say of the name's number.
 pub record IsReadByNumber (calls : List AnsweredCall) (f : Body) (c : ContextState) : Type 0 where
   -- a block exists, has one name, and is in the layout where its name is
   pub exists : (block : ℕ) (name : Name) → block_name (ledger_of calls) block ≡ Some name → block < length f.blocks
-  pub state : (block : ℕ) (name : Name) → block_name (ledger_of calls) block ≡ Some name → IsStateOf calls c block name
+  pub state : (block : ℕ) (name : Name) → block_name (ledger_of calls) block ≡ Some name → IsStateOf calls f c block name
   pub same : (j k : ℕ) (a b : Name) → block_name (ledger_of calls) j ≡ Some a → block_name (ledger_of calls) k ≡ Some b → same_name a b ≡ (j == k)
   pub inserted : (block : ℕ) (name : Name) → block_name (ledger_of calls) block ≡ Some name → is_inserted (ledger_of calls) name ≡ stands_in block f.layout
   -- a name of a block is that of a block of the ledger, and it is the one with the name's number

@@ -29,7 +29,7 @@ read-by-number calls f c position agrees =
     numbers : IsNumbered calls (ledger_of calls)
     numbers = name-number calls (ledger_of calls) f c position agrees
 
-    found : (block : ℕ) (name : Name) → block_name (ledger_of calls) block ≡ Some name → IsStateOf calls c block name
+    found : (block : ℕ) (name : Name) → block_name (ledger_of calls) block ≡ Some name → IsStateOf calls f c block name
     found block name named =
         let one = state-by-name calls (ledger_of calls) numbers block name named in
         record { state = one.0; found = one.3; agrees = agrees.blocks block one.0 one.1 }

@@ -4,7 +4,7 @@ use Rattle.std.proofs.lemmas.Result.{on_ok_weaker}
 use Rattle.std.specs.Prelude.{codes}
 use Rattle.clif_text.specs.Cursor.{texts}
 use Rattle.clif_text.specs.Words.{AreWords}
-use Rattle.clif_text.specs.Reader.{said_to}
+use Rattle.clif_text.specs.Reader.{header_said, said_to}
 use Rattle.clif_text.proofs.Reading.{says_alone, says_behind, says_header, has_first, has_one, refuses_words, may_refuse_words}
 use Rattle.clif_text.proofs.reader.Reader.line.Goals as goal
 
@@ -27,7 +27,7 @@ pub returns-in-Some-split_first-clause-ok : goal.returns-in-Some-split_first-cla
 returns-in-Some-split_first-clause-ok c =
     let parts = ap texts (sym c.as_slice-words.ensures.value ∙ c.in-Some-split_first.ensures.cases.0) in
     let others = subst (λ ws. All (λ word. word ≢ codes "=") (texts ws)) c.as_slice-words.ensures.value c.in_default.ensures.none in
-    on_ok_weaker c.read.result (λ header counted. (record { variables = counted.variables; declared = counted.declared }, says_header c.args.line.now (texts c.in_ok-words.words.items) c.in-Some-split_first.head.now.now (texts c.in-Some-split_first.rest.now) c.args.number (said_to c.args.self.now) c.in_ok-words.ensures parts header others)) c.read.ensures
+    on_ok_weaker c.read.result (λ says counted. (record { variables = counted.variables; declared = counted.declared }, says_header c.args.line.now (texts c.in_ok-words.words.items) c.in-Some-split_first.head.now.now (texts c.in-Some-split_first.rest.now) c.args.number (said_to c.args.self.now) (header_said c.read.new.self) c.in_ok-words.ensures parts says others)) c.read.ensures
 
 pub returns-in-Some-split_first-clause-err : goal.returns-in-Some-split_first-clause-err
 returns-in-Some-split_first-clause-err c =

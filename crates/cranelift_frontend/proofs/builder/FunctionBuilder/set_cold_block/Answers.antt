@@ -18,11 +18,11 @@ pub returns-clause-ledger : goal.returns-clause-ledger
 returns-clause-ledger c = λ calls name agrees names.
     let after : List AnsweredCall = calls ++ record { request = SetColdBlock name; numbers = [] } ∷ [] in
     subst (λ (f : Body). LedgerAgrees after (ledger_of after) f c.args.self.now.ctx.now c.args.self.now.position) (sym c.set_cold_block.ensures)
-    (cold calls c.args.self.now.func.now c.args.self.now.ctx.now c.args.self.now.position name c.args.block agrees)
+    (cold calls c.args.self.now.func.now c.args.self.now.ctx.now c.args.self.now.position name c.args.block agrees names)
 
 pub returns-clause-stands : goal.returns-clause-stands
 returns-clause-stands c = λ signature calls name stands names.
     let after : List AnsweredCall = calls ++ record { request = SetColdBlock name; numbers = [] } ∷ [] in
     subst (λ (f : Body). StandsIn signature after f c.args.self.now.ctx.now c.args.self.now.position) (sym c.set_cold_block.ensures)
     (cold_stands signature calls c.args.self.now.func.now c.args.self.now.ctx.now c.args.self.now.position name c.args.block stands
-    (cold calls c.args.self.now.func.now c.args.self.now.ctx.now c.args.self.now.position name c.args.block stands.ledger))
+    (cold calls c.args.self.now.func.now c.args.self.now.ctx.now c.args.self.now.position name c.args.block stands.ledger names))
