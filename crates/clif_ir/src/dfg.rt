@@ -97,7 +97,8 @@ fn room_for_inst(
 fn push_result_nodes(values: &mut Vec<ValueNode>, inst: Inst, controlling: Type, kinds: &[Kind])
     requires room { vec_len values.old + length kinds.now ≤ vec_capacity values.old }
     requires few { length kinds.now < 2 ^ 32 }
-    ensures { values.new.items ≡ values.old.items ++ result_nodes inst 0 (map (type_of_kind controlling) kinds.now) }
+    ensures { values.new.items ≡
+        values.old.items ++ result_nodes inst 0 (map (type_of_kind controlling) kinds.now) }
 {
     for (place, kind) in kinds.iter().enumerate() {
         let ty = kind.at(controlling);
@@ -115,7 +116,10 @@ fn put_inst(
 ) -> Result<(), BuildError>
     requires exists { block < length blocks.old }
     requires fits { IsPlaceOf at (length (slice_index_or blocks.old block empty_block).insts) }
-    ensures ok { OnOk result (blocks.new ≡ slice_set blocks.old block (record (slice_index_or blocks.old block empty_block) { insts = put_at at inst (slice_index_or blocks.old block empty_block).insts })) }
+    ensures ok { OnOk result (blocks.new ≡ slice_set blocks.old block
+        (record (slice_index_or blocks.old block empty_block) {
+          insts = put_at at inst (slice_index_or blocks.old block empty_block).insts;
+        })) }
     ensures err { OnErr result (blocks.new ≡ blocks.old) }
     ensures only_memory { OnErr result (result ≡ Err BuildError.Memory) }
 {
@@ -240,7 +244,8 @@ impl Function {
         requires place_exists { IsPlaceOf at (length (block_at self.old block).insts) }
         requires operands_exist { EachIndex (operands shape) (λ k. slice_index (operands shape) k < length self.old.values) }
         requires edges_exist { All (EdgeExists self.old) (destinations shape) }
-        ensures ok { OnOk result (self.new ≡ with_inst self.old block at shape (result_types shape ctrl_type) srcloc) }
+        ensures ok { OnOk result (self.new ≡
+            with_inst self.old block at shape (result_types shape ctrl_type) srcloc) }
         ensures number { IfOk result (λ i. i ≡ length self.old.insts) }
         ensures unaliased { OnOk result (has_result shape ≡ true → resolved self.new (length self.old.values) ≡ length self.old.values) }
         ensures full { result ≡ Err BuildError.Full → (length self.old.insts ≡ 2 ^ 32 - 1) ⊎ (length self.old.values ≡ 2 ^ 32 - 1) }

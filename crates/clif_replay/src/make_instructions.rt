@@ -149,8 +149,10 @@ fn unary(func: &Function, opcode: UnaryOpcode, x: Value) -> Planned
 // An instruction of two values, which is made at the type of the first.
 fn binary(func: &Function, opcode: BinaryOpcode, x: Value, y: Value) -> Planned
     requires { x < length func.now.values }
-    ensures { result ≡
-        record { shape = InstructionData.Binary opcode (x ∷ y ∷ []); ty = (value_at func.now x).ty } }
+    ensures { result ≡ record {
+      shape = InstructionData.Binary opcode (x ∷ y ∷ []);
+      ty = (value_at func.now x).ty;
+    } }
 {
     Planned {
         shape: InstructionData::Binary {

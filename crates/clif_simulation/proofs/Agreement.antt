@@ -1,10 +1,10 @@
 -- When both machines agree: what denotes one instance has the same bits on both sides. Each kind of item keeps it, with
 -- the bits that the machines give, and so does an edge.
-use Rattle.std.proofs.Common.{◌≡◌, ◌≢◌, ◌⊎◌, ℕ, ◌≤◌, ◌==◌, Bool, true, false, List, [], ◌∷◌, map, length, Some, None, inl, inr, refl, sym, ◌∙◌, ap, arith}
+use Rattle.std.proofs.Common.{◌≡◌, ◌≢◌, ◌⊎◌, ℕ, ◌≤◌, ◌==◌, Bool, true, false, List, [], ◌∷◌, map, length, Some, None, inl, inr, refl, sym, ◌∙◌, ap, subst, arith}
 use Rattle.std.proofs.lemmas.Bool.{eqb-true}
 use Rattle.std.proofs.lemmas.Bool.Decides.{nat_tests}
 use Rattle.clif_paths.specs.Places.{Arm, Path}
-use Rattle.clif_paths.specs.State.{fresh, reads, Naming, Program, born, zero_of, Definition, Function}
+use Rattle.clif_paths.specs.State.{fresh, reads, Naming, Program, Kind, unborn, born, pending, complete, zero_of, Definition, Function}
 use Rattle.clif_paths.specs.Denotation.{Instance, zero, given, variable, name, instances, denotes}
 use Rattle.clif_paths.specs.Laws.{age}
 use Rattle.clif_paths.proofs.PathLemmas.{dec_place}
@@ -206,17 +206,22 @@ module _ (live : ℕ → Type 0) (program : Program) (function : Function) (arm 
 
 -- Bits of zeros ---------------------------------------------------------------------------------------------------------
 
+-- a zero, or a result on the way to one, which no path sees
+abbrev pub IsBlank : Kind → Type 0
+IsBlank unborn = Unit {0}
+IsBlank (zero_of x) = Unit {0}
+IsBlank (born n) = ⊥
+IsBlank (pending x) = ⊥
+IsBlank complete = ⊥
+
 -- a variable or name that holds a zero has no bits set, and neither has a zero
 pub record ZerosAreZero (program : Program) (function : Function) (path : Path) (variables : ℕ → ℕ) (names : Name → ℕ) (values : ℕ → ℕ) : Type 0 where
   pub of_variable : (x y : ℕ) → instances program path (variable x) ≡ zero y → variables x ≡ 0
   pub of_name : (n : Name) (y : ℕ) → instances program path (name (code n)) ≡ zero y → names n ≡ 0
-  pub of_value : (w y : ℕ) → (function.definition w).kind ≡ zero_of y → values w ≡ 0
+  pub of_value : (w : ℕ) → IsBlank (function.definition w).kind → values w ≡ 0
 
 given_no_zero : (n y : ℕ) (path : Path) → ◌≡◌ {A = Instance} (given n path) (zero y) → ⊥
 given_no_zero n y path h = cc
-
-born_no_zero : (n y : ℕ) → born n ≡ zero_of y → ⊥
-born_no_zero n y h = cc
 
 module _ (live : ℕ → Type 0) (program : Program) (function : Function) (arm : Arm) (path : Path) (results : List Name) (answered : Name → ℕ)
     (gives : GivesThere live program function arm path results answered)
@@ -230,11 +235,10 @@ module _ (live : ℕ → Type 0) (program : Program) (function : Function) (arm 
     given_zeros = record {
       of_variable = λ x y is. zeros.of_variable x y (sym (variable-kept program arm path x gives.known (gives.unassigned x)) ∙ is);
       of_name = λ n y is. by n y is (dec_place (program.naming (code n)).home arm.target);
-      of_value = λ w y is.
+      of_value = λ w blank.
           value_keeps answered results bits values w (λ n there e.
-          born_no_zero (code n) y
-          (ap (λ (d : Definition). d.kind) (sym (gives.defined n there)) ∙ ap (λ (v : ℕ). (function.definition v).kind) (sym e) ∙ is))
-          ∙ zeros.of_value w y is;
+          subst IsBlank (ap (λ (v : ℕ). (function.definition v).kind) e ∙ ap (λ (d : Definition). d.kind) (gives.defined n there)) blank)
+          ∙ zeros.of_value w blank;
     }
       where
         by : (n : Name) (y : ℕ) → instances program (arm ∷ path) (name (code n)) ≡ zero y → Dec ((program.naming (code n)).home ≡ arm.target)
@@ -313,5 +317,5 @@ pub zeros_still : (program : Program) (function : Function) (path : Path) (varia
 zeros_still program function path variables names old new same zeros = record {
   of_variable = zeros.of_variable;
   of_name = zeros.of_name;
-  of_value = λ w y is. same w ∙ zeros.of_value w y is;
+  of_value = λ w blank. same w ∙ zeros.of_value w blank;
 }

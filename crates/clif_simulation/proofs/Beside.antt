@@ -1,6 +1,6 @@
 -- Beside each path of a function's places there is one along its edges so far, and where it ends the places before have given
 -- each value that it came to the home of.
-use Rattle.clif_simulation.proofs.ZeroInsts.{IsZeroInst, zero_insts}
+use Rattle.clif_simulation.proofs.ZeroInsts.{IsZeroInst, IsZeroValue, zero_insts}
 use Rattle.clif_ssa.specs.Zeros.{insts_of_zeros}
 use Rattle.std.proofs.Common.{◌≡◌, ◌≢◌, ◌⊎◌, ℕ, zero, suc, ◌+◌, ◌<◌, ◌≤◌, nat_lt, if◌then◌else◌, Bool, true, false, List, [], ◌∷◌, ◌++◌, length, map, flat_map, drop, slice_get, Option, Some, None, Contains, inl, inr, refl, sym, ◌∙◌, ap, subst, arith}
 use Rattle.std.specs.Prelude.{slice_index}
@@ -14,7 +14,7 @@ use Rattle.clif_ir.specs.declared.block_call.BlockCall.{BlockCall}
 use Rattle.clif_ir.specs.declared.function.ValueOrigin.{ValueOrigin}
 use Rattle.clif_ir.specs.declared.function.ValueOrigin.TheVariants as origin
 use Rattle.clif_ir.proofs.Aliases.{resolved-no_alias}
-use Rattle.clif_paths.specs.Places.{inside, Arm, Edges, Path, Follows, Visits, end_of}
+use Rattle.clif_paths.specs.Places.{start, inside, Arm, Edges, Path, Follows, Visits, end_of}
 use Rattle.clif_paths.specs.State.{Naming, Definition}
 use Rattle.clif_paths.specs.Blocks.{front, last_place}
 use Rattle.clif_paths.proofs.PathLemmas.{same_place-refl}
@@ -146,6 +146,14 @@ module _ (calls : List AnsweredCall) (f : Body) (s : SsaState) (consistent : IsC
   abbrev AtFront : ℕ → ℕ → Type 0
   AtFront b r = Stands r (block_at f b).params ⊎ IsZeroOf b r
 
+  -- a value of a zero that is born at a front is a zero of that block
+  zero_block : (c b v : ℕ) → (function v).home ≡ front b → IsZeroValue carries.tables c v → c ≡ b
+  zero_block c b v home (inl put) = same_block (sym (ap (λ (d : Definition). d.home) put.1) ∙ home)
+  zero_block c b v home (inr inner) = absurd (other (sym (ap (λ (d : Definition). d.home) inner) ∙ home))
+    where
+      other : start ≡ front b → ⊥
+      other h = cc
+
   of_inst : (b r i t c q : ℕ) → IsInserted b → (function r).home ≡ front b → slice_get (inst_at f i).results t ≡ Some r
       → slice_get (block_at f c).insts q ≡ Some i → IsZeroOf b r
   of_inst b r i t c q there home result stands =
@@ -160,7 +168,7 @@ module _ (calls : List AnsweredCall) (f : Body) (s : SsaState) (consistent : IsC
       by (inl put) =
           let is_zero : IsZeroInst f carries.tables c i = all_at (IsZeroInst f carries.tables c) (zeros_of c) q i (zero_insts f carries.tables c (carries.describes.instructions c).zeros (carries.describes.instructions c).are_zeros) put.1 in
           let same : r ≡ is_zero.value = value_in (inst_at f i).results is_zero.value t r is_zero.result result in
-          let here : c ≡ b = same_block (sym (ap (λ (v : ℕ). (function v).home) same ∙ ap (λ (d : Definition). d.home) is_zero.defined) ∙ home) in
+          let here : c ≡ b = zero_block c b is_zero.value (ap (λ (v : ℕ). (function v).home) (sym same) ∙ home) is_zero.defined in
           let below : q < zero_count b = subst (λ (d : ℕ). q < zero_count d) here put.0 in
           let within : q < length (map placed_inst (zeros_of b)) = let l = map_length placed_inst (zeros_of b) in omega (arith, below, l) in
           let stands_b : slice_get (items_of f b) q ≡ Some (placed_inst i) =
@@ -290,6 +298,8 @@ module _ (calls : List AnsweredCall) (f : Body) (s : SsaState) (consistent : IsC
   pub record AtZero (q : Place ℕ) : Type 0 where
     pub i : ℕ
     pub is_zero : IsZeroInst f carries.tables q.block i
+    pub inserted : IsInserted q.block
+    pub stands : slice_get (zeros_of q.block) q.index ≡ Some i
     pub here : slice_get (items_of f q.block) q.index ≡ Some (placed_inst i)
 
   -- an instruction of the caller's, which is an item's
@@ -353,6 +363,8 @@ module _ (calls : List AnsweredCall) (f : Body) (s : SsaState) (consistent : IsC
           let length_is = map_length placed_inst (zeros_of q.block) in
           inl (record {
             i = i;
+            inserted = b.inserted;
+            stands = there;
             is_zero = all_at (IsZeroInst f carries.tables q.block) (zeros_of q.block) q.index i (zero_insts f carries.tables q.block (carries.describes.instructions q.block).zeros (carries.describes.instructions q.block).are_zeros) there;
             here = ap (λ (ps : List Placed). slice_get ps q.index) (block_items q.block b.inserted)
                 ∙ at_first (map placed_inst (zeros_of q.block)) (map placed_inst (carries.own.insts q.block)) q.index (omega (arith, below, length_is))
@@ -565,7 +577,7 @@ module _ (calls : List AnsweredCall) (f : Body) (s : SsaState) (consistent : IsC
     where
       by : AtZero p ⊎ AtInstruct p path before.name → Standing q (p ∷ path)
       by (inl z) =
-          let none : edges_of (inst_at f z.i).shape ≡ [] = ap edges_of z.is_zero.shape in
+          let none : edges_of (inst_at f z.i).shape ≡ [] = ap (map edge_of) z.is_zero.no_edges in
           absurd (none_of (of_function.flow.targets p) q.block (ap placed_targets z.here ∙ ap (map (λ (edge : Edge ℕ ℕ). edge.target)) none) leads)
       by (inr a) =
           let there = contained_at (map (λ (edge : Edge ℕ ℕ). edge.target) (edges_of (inst_at f a.i).shape)) q.block

@@ -10,7 +10,6 @@ use Rattle.clif_ir.specs.Reading.{param_home, place_of}
 use Rattle.clif_ir.specs.declared.block_call.BlockArg.{BlockArg}
 use Rattle.clif_ir.specs.declared.block_call.BlockArg.TheVariants.{Value, TryCallRet, TryCallExn}
 use Rattle.clif_ir.specs.declared.block_call.BlockCall.{BlockCall}
-use Rattle.clif_ir.specs.declared.instructions.InstructionData.{InstructionData}
 use Rattle.clif_ir.proofs.Aliases.{follow-inside}
 use Rattle.clif_ir.proofs.Keeps.{leads_inside}
 use Rattle.clif_paths.specs.Places.{inside, Edges, Visits, Dominates}
@@ -28,13 +27,14 @@ use Rattle.clif_meaning.specs.Request.{AnsweredCall}
 use Rattle.clif_meaning.specs.Instruction.{Argument, Known, CallResult, CallPayload, Edge, Instruction}
 use Rattle.clif_meaning.specs.Program.{Item, Instruct}
 use Rattle.clif_meaning.specs.FunctionView.{Placed}
-use Rattle.clif_meaning.specs.View.{argument_of, edge_of, edges_of, items_of, view_of}
-use Rattle.clif_meaning.specs.Path.{Place, IsPath}
+use Rattle.clif_meaning.specs.View.{argument_of, edge_of, edges_of, items_of, placed_of, view_of}
+use Rattle.clif_meaning.specs.Path.{Place, IsPath, Leads}
 use Rattle.clif_meaning.specs.WellPlaced.{function_flow, known_argument, passed_operands, item_gives, item_passes, placed_names, placed_passes, placed_gives, program_code, IsGivenBefore, IsWellPlaced, WellPlaced}
 use Rattle.clif_meaning.proofs.StraightLine.{none_of}
 use Rattle.clif_simulation.specs.Tables.{code, answered, program_so_far}
 use Rattle.clif_simulation.specs.Carries.{answered_argument}
 use Rattle.clif_simulation.proofs.Whole.{Whole}
+use Rattle.clif_simulation.proofs.ZeroInsts.{IsFromBefore, zeros_in_turn}
 use Rattle.clif_simulation.proofs.Beside
 use Rattle.clif_simulation.proofs.OpenArms.{open_arms}
 use Rattle.clif_simulation.proofs.OpenFlow
@@ -45,7 +45,7 @@ use Rattle.clif_simulation.proofs.Giving.{In, contained_in, in_contained}
 use Rattle.clif_simulation.proofs.InLists.{among_all, in_either}
 use Rattle.clif_simulation.proofs.Listed.{none_mapped, place_within}
 use Rattle.clif_simulation.proofs.OwnEdges
-use Rattle.clif_simulation.proofs.Placing.{contained, contained_at, in_two, map_at, map_from}
+use Rattle.clif_simulation.proofs.Placing.{at_first, contained, contained_at, in_two, map_at, map_from, map_length}
 use Rattle.clif_simulation.proofs.Straight.{next_arm}
 
 -- Lists -----------------------------------------------------------------------------------------------------------------
@@ -176,6 +176,51 @@ module _ (calls : List AnsweredCall) (f : Body) (s : SsaState) (consistent : IsC
         (Instruct a.item.place a.item.instruction a.item.results) a.item.stands of_name.0 (contained a.item.instruction.operands there.0 of_name.0 of_name.1) in
         subst (IsFor q path) (ap (resolved f) of_name.2 ∙ value.2) (answer_given q path name a.j a.is of_name.0 on)
 
+    -- the operand of a step of a zero is given at the place before
+    zero_operand : (q : Place ℕ) (x : ℕ) (z : Beside.AtZero calls f s consistent carries q) → Contains (placed_names (resolved f) (slice_get (items_of f q.block) q.index)) x
+        → (path : List (Place ℕ)) → IsPath (function_flow (view_of f)) (q ∷ path) → IsFor q path x
+    zero_operand q x z names path walk = by path walk
+      where
+        here : Contains (map (resolved f) (operands (inst_at f z.i).shape)) x
+        here = subst (λ (o : Option Placed). Contains (placed_names (resolved f) o) x) z.here names
+
+        there : (k : ℕ) × (slice_get (map (resolved f) (operands (inst_at f z.i).shape)) k ≡ Some x)
+        there = contained_at (map (resolved f) (operands (inst_at f z.i).shape)) x here
+
+        value : (v : ℕ) × (slice_get (operands (inst_at f z.i).shape) there.0 ≡ Some v) × (resolved f v ≡ x)
+        value = map_from (resolved f) (operands (inst_at f z.i).shape) there.0 x there.1
+
+        from : IsFromBefore f (Beside.zeros_of calls f s consistent carries q.block) q.index value.0
+        from =
+            zeros_in_turn f consistent carries.tables q.block (carries.describes.instructions q.block).zeros (carries.describes.instructions q.block).are_zeros
+            q.index z.i there.0 value.0 z.stands value.1
+
+        same : value.0 ≡ x
+        same = sym from.itself ∙ value.2
+
+        gives : Contains (placed_gives (slice_get (items_of f q.block) from.before)) x
+        gives =
+            let zeros : List ℕ = Beside.zeros_of calls f s consistent carries q.block in
+            let placed = Beside.placed_inst calls f s consistent carries in
+            let within : from.before < length (map placed zeros) = let count = map_length placed zeros in omega (arith, place_within zeros from.before from.inst from.stands, count) in
+            let stands : slice_get (items_of f q.block) from.before ≡ Some (placed_of f (inst_at f from.inst)) =
+            ap (λ (ps : List Placed). slice_get ps from.before) (Beside.block_items calls f s consistent carries q.block z.inserted)
+            ∙ at_first (map placed zeros) (map placed (carries.own.insts q.block)) from.before within
+            ∙ map_at placed zeros from.before from.inst from.stands in
+            subst (λ (o : Option Placed). Contains (placed_gives o) x) (sym stands)
+            (contained (inst_at f from.inst).results 0 x (ap (λ (vs : List ℕ). slice_get vs 0) (from.gives ∙ ap (λ (v : ℕ). v ∷ []) same)))
+
+        by : (path : List (Place ℕ)) → IsPath (function_flow (view_of f)) (q ∷ path) → IsFor q path x
+        by [] walk = absurd (omega (arith, walk.1.0, from.next))
+        by (p ∷ path) walk = arrive walk.0
+          where
+            arrive : Leads (function_flow (view_of f)) p q → IsFor q (p ∷ path) x
+            arrive (inl next) =
+                let one : from.before ≡ p.index = omega (arith, next.1, from.next) in
+                inr (inl (subst (λ (b : ℕ). Contains (placed_gives (slice_get (items_of f b) p.index)) x) next.0
+                (subst (λ (m : ℕ). Contains (placed_gives (slice_get (items_of f q.block) m)) x) one gives)))
+            arrive (inr enters) = absurd (omega (arith, enters.1.0, from.next))
+
     named : (q : Place ℕ) (x : ℕ) → Contains (placed_names (resolved f) (slice_get (items_of f q.block) q.index)) x
         → (path : List (Place ℕ)) → IsPath (function_flow (view_of f)) (q ∷ path) → IsFor q path x
     named q x names path walk =
@@ -184,9 +229,7 @@ module _ (calls : List AnsweredCall) (f : Body) (s : SsaState) (consistent : IsC
         (Beside.within calls f s consistent carries path q walk))
       where
         by : (name : Name) → Beside.AtZero calls f s consistent carries q ⊎ AtOwn q path name → IsFor q path x
-        by name (inl z) =
-            absurd (none_of (placed_names (resolved f) (slice_get (items_of f q.block) q.index)) x
-            (ap (placed_names (resolved f)) z.here ∙ ap (λ (shape : InstructionData). map (resolved f) (operands shape)) z.is_zero.shape) names)
+        by name (inl z) = zero_operand q x z names path walk
         by name (inr a) = operand_given q path name a x names
 
     -- Arguments of edges ------------------------------------------------------------------------------------------------------------
@@ -319,7 +362,7 @@ module _ (calls : List AnsweredCall) (f : Body) (s : SsaState) (consistent : IsC
       where
         by : (name : Name) → Beside.AtZero calls f s consistent carries q ⊎ AtOwn q path name → IsFor q path x
         by name (inl z) =
-            let none : edges_of (inst_at f z.i).shape ≡ [] = ap edges_of z.is_zero.shape in
+            let none : edges_of (inst_at f z.i).shape ≡ [] = ap (map edge_of) z.is_zero.no_edges in
             absurd (none_of (placed_passes (resolved f) (slice_get (items_of f q.block) q.index)) x
             (ap (placed_passes (resolved f)) z.here
             ∙ ap (λ (edges : List (Edge ℕ ℕ)). map (resolved f) (flat_map (λ (edge : Edge ℕ ℕ). flat_map known_argument edge.arguments) edges)) none) passes)

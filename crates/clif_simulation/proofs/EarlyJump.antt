@@ -25,6 +25,7 @@ use Rattle.clif_simulation.specs.Tables.{answered, block_name, program_so_far}
 use Rattle.clif_simulation.specs.Reading.{code_so_far, behind, may_grow, IsItemTypedSoFar, PremisesSoFar, script_run_so_far, function_run_so_far}
 use Rattle.clif_simulation.specs.Interrupted.{Unknowns, ScriptStanding, FunctionStanding, interrupted_script, interrupted_function, script_edge, script_goes, HasBeside, RunsBeside, ReadsRight}
 use Rattle.clif_simulation.specs.InterruptedExamples.{early_jump_calls, early_jump_body, early_jump_state}
+use Rattle.clif_simulation.proofs.RecordsListed.{nothing_there, early_record}
 use Rattle.clif_simulation.proofs.Giving.{same_or_other}
 use Rattle.clif_simulation.proofs.LoopWaiting.{nothing_at}
 
@@ -102,7 +103,7 @@ module _ (width : PointerWidth) (world : World) (tracked : Name → Bool) (colle
       same_memory = refl;
       same_events = refl;
       names = λ x given. subst (SameBits (state_after left 0) (state_after right 0)) (at_entry x given) (same_argument world.arguments);
-      records = λ at_end x v is. cc;
+      records = λ at_end x v is. nothing_there (sym (early_record x _) ∙ is);
     };
   }
   runs (suc zero) rest on = record {
@@ -116,7 +117,7 @@ module _ (width : PointerWidth) (world : World) (tracked : Name → Bool) (colle
       same_memory = refl;
       same_events = refl;
       names = λ x given. subst (SameBits (state_after left 1) (state_after right 1)) (at_front x given) (same_argument world.arguments);
-      records = λ at_end x v is. cc;
+      records = λ at_end x v is. nothing_there (sym (early_record x _) ∙ is);
     };
   }
   runs (suc (suc n)) rest on = absurd (stuck_there (sym (stuck n) ∙ on))

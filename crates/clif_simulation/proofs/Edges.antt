@@ -5,7 +5,7 @@ use Rattle.clif_ir.specs.Body.{Body, block_at, resolved}
 use Rattle.clif_ir.specs.Consistent.{IsConsistent}
 use Rattle.clif_ir.specs.declared.block_call.BlockCall.{BlockCall}
 use Rattle.clif_paths.specs.Places.{Arm, Path}
-use Rattle.clif_paths.specs.State.{Program, zero_of, Function}
+use Rattle.clif_paths.specs.State.{Program, Function}
 use Rattle.clif_paths.specs.Blocks.{front, last_place, state_of}
 use Rattle.clif_paths.specs.Laws.{all_sealed}
 use Rattle.clif_ssa.specs.Ssa.{SsaState, predecessors_of, sealed_of}
@@ -21,6 +21,7 @@ use Rattle.clif_meaning.specs.FunctionMachine.{same_value}
 use Rattle.clif_meaning.specs.View.{argument_of}
 use Rattle.clif_meaning.specs.WellPlaced.{program_code, IsWellPlaced}
 use Rattle.clif_simulation.specs.Tables.{answered, program_so_far, block_name}
+use Rattle.clif_simulation.proofs.Agreement.{IsBlank}
 use Rattle.clif_simulation.proofs.Whole.{Whole}
 use Rattle.clif_simulation.specs.Carries.{own_placed}
 use Rattle.clif_simulation.specs.Laws.{IsFinished}
@@ -94,7 +95,7 @@ module _ (calls : List AnsweredCall) (f : Body) (s : SsaState) (consistent : IsC
         pub passes_own : length (carries.own.passed i k) ≡ length callers
         passes_own = OwnEdges.passed_count calls f s consistent carries i k edge of_function ∙ as_many
 
-        module _ (path : Path) (given : List ℕ) (old : ℕ → ℕ) (zeros : (w y : ℕ) → (function.definition w).kind ≡ zero_of y → old w ≡ 0) where
+        module _ (path : Path) (given : List ℕ) (old : ℕ → ℕ) (zeros : (w : ℕ) → IsBlank (function.definition w).kind → old w ≡ 0) where
           -- the bits that the caller's parameters get, and the bits of values where the others have theirs
           abbrev pub mine : List ℕ
           mine = map (argument_bits (λ (v : ℕ). old (resolved f v)) given) (map argument_of (carries.own.passed i k))

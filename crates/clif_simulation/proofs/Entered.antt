@@ -1,8 +1,8 @@
 -- When both machines agree as a block is entered: its parameters that the caller made and their answers get the same bits,
 -- and other values come along.
-use Rattle.std.proofs.Common.{◌≡◌, ◌≢◌, ◌⊎◌, ℕ, true, List, ◌∷◌, map, length, None, inl, inr, sym, ◌∙◌, ap}
+use Rattle.std.proofs.Common.{◌≡◌, ◌≢◌, ◌⊎◌, ℕ, true, List, ◌∷◌, map, length, None, inl, inr, sym, ◌∙◌, ap, subst}
 use Rattle.clif_paths.specs.Places.{Arm, Path}
-use Rattle.clif_paths.specs.State.{fresh, Naming, Program, born, zero_of, Definition, Function}
+use Rattle.clif_paths.specs.State.{fresh, Naming, Program, born, Definition, Function}
 use Rattle.clif_paths.specs.Denotation.{Instance, zero, given, variable, name, instances, denotes}
 use Rattle.clif_paths.proofs.PathLemmas.{dec_place}
 use Rattle.clif_paths.proofs.Executing.{program_steps, function_steps, variable-kept, name-past}
@@ -11,7 +11,7 @@ use Rattle.clif_meaning.specs.Name.{Name, same_name}
 use Rattle.clif_meaning.specs.Store.{assigned}
 use Rattle.clif_meaning.specs.FunctionMachine.{same_value}
 use Rattle.clif_simulation.specs.Tables.{code}
-use Rattle.clif_simulation.proofs.Agreement.{Agrees, ZerosAreZero, too_young}
+use Rattle.clif_simulation.proofs.Agreement.{Agrees, IsBlank, ZerosAreZero, too_young}
 use Rattle.clif_simulation.proofs.Codes
 use Rattle.clif_simulation.proofs.Giving.{In, name_keeps, value_keeps, same_all, same_given}
 
@@ -30,7 +30,7 @@ pub record EntersThere (live : ℕ → Type 0) (program : Program) (function : F
   pub defined : (n : Name) → In n parameters → function.definition (answered n) ≡ record { home = arm.target; kind = born (code n) }
   pub only_names : (n : Name) → (program.naming (code n)).home ≡ arm.target → In n parameters
   pub comes : (w : ℕ) → live w → ((n : Name) × In n parameters × (w ≡ answered n)) ⊎ ComesAlong live program function arm path old new w
-  pub zeros_stay : (w y : ℕ) → (function.definition w).kind ≡ zero_of y → new w ≡ old w
+  pub zeros_stay : (w : ℕ) → IsBlank (function.definition w).kind → new w ≡ old w
 
 -- There are as many bits as parameters, or each parameter and its answer had the same bits.
 abbrev pub Fit : List Name → (Name → ℕ) → List ℕ → (Name → ℕ) → (ℕ → ℕ) → Type 0
@@ -39,9 +39,6 @@ Fit parameters answered bits names values =
 
 given_no_zero : (n y : ℕ) (path : Path) → ◌≡◌ {A = Instance} (given n path) (zero y) → ⊥
 given_no_zero n y path h = cc
-
-born_no_zero : (n y : ℕ) → born n ≡ zero_of y → ⊥
-born_no_zero n y h = cc
 
 module _ (live : ℕ → Type 0) (program : Program) (function : Function) (arm : Arm) (path : Path) (parameters : List Name) (answered : Name → ℕ) (old new : ℕ → ℕ)
     (enters : EntersThere live program function arm path parameters answered old new)
@@ -137,10 +134,10 @@ module _ (live : ℕ → Type 0) (program : Program) (function : Function) (arm 
     entered_zeros = record {
       of_variable = λ x y is. zeros.of_variable x y (sym (same_variable_there x) ∙ is);
       of_name = λ n y is. by n y is (dec_place (program.naming (code n)).home arm.target);
-      of_value = λ w y is.
+      of_value = λ w blank.
           value_keeps answered parameters bits new w (λ n there e.
-          born_no_zero (code n) y (ap (λ (d : Definition). d.kind) (sym (enters.defined n there)) ∙ ap (λ (v : ℕ). (function.definition v).kind) (sym e) ∙ is))
-          ∙ enters.zeros_stay w y is ∙ zeros.of_value w y is;
+          subst IsBlank (ap (λ (v : ℕ). (function.definition v).kind) e ∙ ap (λ (d : Definition). d.kind) (enters.defined n there)) blank)
+          ∙ enters.zeros_stay w blank ∙ zeros.of_value w blank;
     }
       where
         by : (n : Name) (y : ℕ) → instances program (arm ∷ path) (name (code n)) ≡ zero y → Dec ((program.naming (code n)).home ≡ arm.target) → names_there n ≡ 0

@@ -1,82 +1,58 @@
 -- The zeros at the front of a block: they come first, and change nothing where their values have no bits.
-use Rattle.clif_simulation.proofs.ZeroInsts.{IsZeroInst, zero_insts}
+use Rattle.clif_simulation.specs.Interrupted.{function_edge, taken_of}
+use Rattle.clif_simulation.proofs.Agreement.{IsBlank}
+use Rattle.clif_simulation.proofs.Placing.{at_first, at_second, in_two}
+use Rattle.clif_simulation.proofs.ZeroInsts.{InTurn, IsFromBefore, IsZeroInst, IsZeroValue, zero_insts, zeros_in_turn}
+use Rattle.clif_ssa.proofs.ZeroTable.{none_some, same_some}
 use Rattle.clif_ssa.specs.Zeros.{insts_of_zeros}
-use Rattle.std.proofs.Common.{◌≡◌, ℕ, zero, suc, ◌+◌, ◌==◌, ◌%◌, ◌^◌, if◌then◌else◌, Bool, true, false, pos, List, [], ◌∷◌, ◌++◌, length, map, slice_get, Some, refl, sym, ◌∙◌, ap, ap₂, subst, arith}
+use Rattle.std.proofs.Common.{◌≡◌, ℕ, zero, suc, ◌+◌, if◌then◌else◌, Bool, true, false, List, [], ◌∷◌, ◌++◌, length, map, slice_get, Some, None, ◌-◌, ◌<◌, ◌⊎◌, inl, inr, append_assoc, refl, sym, ◌∙◌, ap, ap₂, subst, arith}
 use Rattle.std.proofs.lemmas.Bool.Decides.{nat_tests}
 use Rattle.std.proofs.lemmas.List.{map-append}
-use Rattle.std.proofs.Math.Nat.{zero-mod}
-use Rattle.std.specs.List.{AllByRecursion, list_any}
-use Rattle.clif_types.specs.Types.{bits_of}
-use Rattle.clif_ir.specs.Body.{Body, inst_at, block_at}
+use Rattle.std.specs.List.{AllByRecursion}
+use Rattle.clif_ir.specs.Body.{Body, inst_at, block_at, resolved}
+use Rattle.clif_ir.specs.Consistent.{IsConsistent}
 use Rattle.clif_ir.specs.Reading.{stands_in}
-use Rattle.clif_ir.specs.declared.function.InstNode.{InstNode}
-use Rattle.clif_ir.specs.declared.instructions.InstructionData.{InstructionData}
-use Rattle.clif_ir.specs.declared.instructions.InstructionData.TheVariants.{UnaryImm}
 use Rattle.clif_ir.specs.Instruction.{operands}
-use Rattle.clif_paths.specs.State.{zero_of, Definition}
+use Rattle.clif_paths.specs.State.{Definition}
 use Rattle.clif_paths.specs.Blocks.{Blocks}
 use Rattle.clif_ssa.specs.Sound.{HasInstructions}
-use Rattle.clif_meaning.specs.Instruction.{Compute, Iconst}
 use Rattle.clif_meaning.specs.Store.{shown_memory}
 use Rattle.clif_meaning.specs.Event.{Event}
 use Rattle.clif_meaning.specs.Machine.{Machine, Control, At, Observation, Ending, NotYet, ending_of}
 use Rattle.clif_meaning.specs.FunctionMachine as function_machine_of
-use Rattle.clif_meaning.specs.FunctionMachine.{FunctionRun, FunctionState, function_machine, same_value}
+use Rattle.clif_meaning.specs.FunctionMachine.{FunctionRun, FunctionState, function_machine, same_value, value_bits}
+use Rattle.clif_meaning.specs.Outcome.{Gives, outcome_of}
 use Rattle.clif_meaning.specs.FunctionView.{Placed}
-use Rattle.clif_meaning.specs.View.{operation_of, edges_of, controlling_of, first_type, placed_of, items_of}
+use Rattle.clif_meaning.specs.View.{edges_of, placed_of, items_of}
 use Rattle.clif_meaning.proofs.Stuttering.{steps_from}
-
-pub any_first : (layout : List ℕ) (block : ℕ) → slice_get layout 0 ≡ Some block → list_any (λ other. other == block) layout ≡ true
-any_first [] block first = cc
-any_first (other ∷ layout) block first =
-    let same : other ≡ block = cc in
-    let here : (other == block) ≡ true = grind (arith, nat_tests) in
-    rw here refl
-
-pub zero_bits : (width : ℕ) → 0 % 2 ^ width ≡ 0
-zero_bits width = zero-mod (2 ^ width)
-
-placed_with : Body → InstructionData → List ℕ → Placed
-placed_with f shape results = record {
-  instruction = record { operation = operation_of shape; controlling = controlling_of f shape results; operands = operands shape; edges = edges_of shape };
-  results = results;
-  stack_map = [];
-}
-
--- the instruction of a zero
-unfoldable pub zero_placed : Body → ℕ → Placed
-zero_placed f value = record {
-  instruction = record { operation = Compute (Iconst (pos 0)); controlling = first_type f (value ∷ []); operands = []; edges = [] };
-  results = value ∷ [];
-  stack_map = [];
-}
-
-pub is_zero_placed : (f : Body) (node : InstNode) (value : ℕ) → node.shape ≡ UnaryImm (pos 0) → node.results ≡ value ∷ [] → placed_of f node ≡ zero_placed f value
-unfolding placed_with zero_placed
-is_zero_placed f node value shape results = ap₂ (λ (data_of : InstructionData) (values : List ℕ). placed_with f data_of values) shape results
 
 abbrev pub placed_inst : Body → ℕ → Placed
 placed_inst f inst = placed_of f (inst_at f inst)
 
--- What a block's instructions are to the machine: zeros, and then the caller's. A block outside the layout has none.
+-- What a block's instructions are to the machine: zeros, step by step, and then the caller's. A block outside the layout has
+-- none.
 pub record HasFront (f : Body) (blocks : Blocks) (b : ℕ) (own : List ℕ) : Type 0 where
   pub zeros : List ℕ
   pub are_zeros : AllByRecursion (IsZeroInst f blocks b) zeros
+  pub in_turn : InTurn f zeros
   pub in_order : items_of f b ≡ map (placed_inst f) zeros ++ map (placed_inst f) own
 
-pub has_front : (f : Body) (blocks : Blocks) (b : ℕ) (own : List ℕ) → HasInstructions f blocks b own → (stands_in b f.layout ≡ false → own ≡ []) → HasFront f blocks b own
-has_front f blocks b own has outside = by (stands_in b f.layout) refl
+pub has_front : (f : Body) → IsConsistent f → (blocks : Blocks) (b : ℕ) (own : List ℕ) → HasInstructions f blocks b own → (stands_in b f.layout ≡ false → own ≡ [])
+    → HasFront f blocks b own
+has_front f consistent blocks b own has outside = by (stands_in b f.layout) refl
   where
     by : (there : Bool) → stands_in b f.layout ≡ there → HasFront f blocks b own
     by true there = record {
       zeros = insts_of_zeros has.zeros;
       are_zeros = zero_insts f blocks b has.zeros has.are_zeros;
+      in_turn = zeros_in_turn f consistent blocks b has.zeros has.are_zeros;
       in_order = ap (λ (t : Bool). if t then map (placed_inst f) (block_at f b).insts else []) there ∙ ap (map (placed_inst f)) has.in_order
           ∙ map-append (placed_inst f) (insts_of_zeros has.zeros) own;
     }
     by false out = record {
       zeros = [];
       are_zeros = tt;
+      in_turn = λ place inst k value stands. absurd (none_some stands);
       in_order = ap (λ (t : Bool). if t then map (placed_inst f) (block_at f b).insts else []) out ∙ ap (map (placed_inst f)) (sym (outside out));
     }
 
@@ -95,51 +71,126 @@ pub steps_behind : {State : Type 0} (machine : Machine State Observation) (n : �
 steps_behind machine zero state = refl
 steps_behind machine (suc n) state = ap machine.next (steps_behind machine n state)
 
-module _ (run : FunctionRun) (f : Body) (blocks : Blocks) (b : ℕ) (rest : List Placed) (q : FunctionState)
-    (blank : (w y : ℕ) → (blocks.function.definition w).kind ≡ zero_of y → q.values w ≡ 0)
+all_zero : (bits : ℕ → ℕ) (xs : List ℕ) → ((k v : ℕ) → slice_get xs k ≡ Some v → bits v ≡ 0) → map bits xs ≡ map (λ v. 0) xs
+all_zero bits [] each = refl
+all_zero bits (x ∷ xs) each = ap₂ (λ (y : ℕ) (ys : List ℕ). y ∷ ys) (each 0 x refl) (all_zero bits xs (λ k v there. each (suc k) v there))
+
+module _ (run : FunctionRun) (f : Body) (resolves : (v : ℕ) → run.function.resolved v ≡ resolved f v) (blocks : Blocks) (b : ℕ) (zeros : List ℕ)
+    (in_turn : InTurn f zeros) (rest : List Placed) (q : FunctionState)
   where
     abbrev machine : Machine FunctionState Observation
     machine = function_machine run
 
-    -- so many zeros are left to do, and nothing has changed
+    -- The next so many instructions of zeros are left to do. The results of the others are zero, and nothing else has changed.
     pub record ZerosLeft (n : ℕ) (state : FunctionState) : Type 0 where
+      pub done : List ℕ
       pub left : List ℕ
+      pub in_order : done ++ left ≡ zeros
       pub count : length left ≡ n
       pub all : AllByRecursion (IsZeroInst f blocks b) left
       pub at : state.control ≡ At (map (placed_inst f) left ++ rest)
       pub memory : state.memory ≡ q.memory
       pub events : state.events ≡ q.events
-      pub values : (w : ℕ) → state.values w ≡ q.values w
+      pub ran : (k inst v : ℕ) → slice_get done k ≡ Some inst → (inst_at f inst).results ≡ v ∷ [] → state.values v ≡ 0
+      pub values : (w : ℕ) → (state.values w ≡ q.values w) ⊎ ((state.values w ≡ 0) × IsZeroValue blocks b w)
+
+    -- before the first
+    pub none_done : AllByRecursion (IsZeroInst f blocks b) zeros → q.control ≡ At (map (placed_inst f) zeros ++ rest) → ZerosLeft (length zeros) q
+    none_done all at = record {
+      done = [];
+      left = zeros;
+      in_order = refl;
+      count = refl;
+      all = all;
+      at = at;
+      memory = refl;
+      events = refl;
+      ran = λ k inst v stands. absurd (none_some stands);
+      values = λ w. inl refl;
+    }
+
+    -- the next one gives zero
+    module _ (n : ℕ) (state : FunctionState) (z : ZerosLeft n state) (inst : ℕ) (left : List ℕ) (left_is : z.left ≡ inst ∷ left) where
+      abbrev placed : Placed
+      placed = placed_inst f inst
+
+      abbrev behind : List Placed
+      behind = map (placed_inst f) left ++ rest
+
+      stands : slice_get zeros (length z.done) ≡ Some inst
+      stands =
+          ap (λ xs. slice_get xs (length z.done)) (sym z.in_order) ∙ at_second z.done z.left (length z.done) 0 (omega arith) ∙ ap (λ xs. slice_get xs 0) left_is
+
+      -- its operand, if it has one, was given by the one before
+      operand_zero : (k v : ℕ) → slice_get (operands (inst_at f inst).shape) k ≡ Some v → state.values (run.function.resolved v) ≡ 0
+      operand_zero k v there =
+          let from : IsFromBefore f zeros (length z.done) v = in_turn (length z.done) inst k v stands there in
+          let in_done : slice_get z.done from.before ≡ Some from.inst =
+          sym (at_first z.done z.left from.before (omega (arith, from.next))) ∙ ap (λ xs. slice_get xs from.before) z.in_order ∙ from.stands in
+          ap state.values (resolves v ∙ from.itself) ∙ z.ran from.before from.inst v in_done from.gives
+
+      put : IsZeroInst f blocks b inst
+      put = (subst (AllByRecursion (IsZeroInst f blocks b)) left_is z.all).0
+
+      pub outcome_is : outcome_of run.world placed.instruction.operation placed.instruction.controlling (map run.function.value_type placed.instruction.operands)
+          (map (value_bits run state) placed.instruction.operands) state.memory ≡ Gives (0 ∷ []) state.memory
+      outcome_is =
+          ap (λ bits. outcome_of run.world placed.instruction.operation placed.instruction.controlling (map run.function.value_type placed.instruction.operands) bits state.memory)
+          (all_zero (value_bits run state) placed.instruction.operands operand_zero)
+          ∙ put.gives run.world placed.instruction.controlling (map run.function.value_type placed.instruction.operands) state.memory
+
+      next : machine.next state ≡ function_machine_of.give_results state (put.value ∷ []) behind (0 ∷ [])
+      next =
+          ap (function_machine_of.step_at run state) (z.at ∙ ap (λ xs. At (map (placed_inst f) xs ++ rest)) left_is)
+          ∙ ap (function_machine_of.carry_out run state placed behind) outcome_is
+          ∙ ap (λ results. function_machine_of.give_results state results behind (0 ∷ [])) put.result
+
+      value : (w : ℕ) (test : Bool) → same_value w put.value ≡ test → (state.values w ≡ q.values w) ⊎ ((state.values w ≡ 0) × IsZeroValue blocks b w)
+          → ((if test then 0 else state.values w) ≡ q.values w) ⊎ (((if test then 0 else state.values w) ≡ 0) × IsZeroValue blocks b w)
+      value w false other before = before
+      value w true one before = let same : w ≡ put.value = grind (arith, nat_tests) in inr (refl, subst (IsZeroValue blocks b) (sym same) put.defined)
+
+      still_zero : (v : ℕ) (test : Bool) → (test ≡ false → state.values v ≡ 0) → (if test then 0 else state.values v) ≡ 0
+      still_zero v true before = refl
+      still_zero v false before = before refl
+
+      ran : (k i v : ℕ) → slice_get (z.done ++ inst ∷ []) k ≡ Some i → (inst_at f i).results ≡ v ∷ [] → (if same_value v put.value then 0 else state.values v) ≡ 0
+      ran k i v there gives = still_zero v (same_value v put.value) (λ other. by other (in_two z.done (inst ∷ []) k i there))
+        where
+          by : same_value v put.value ≡ false → ((k < length z.done) × (slice_get z.done k ≡ Some i)) ⊎ ((m : ℕ) × (k ≡ length z.done + m) × (slice_get (inst ∷ []) m ≡ Some i)) → state.values v ≡ 0
+          by other (inl earlier) = z.ran k i v earlier.1 gives
+          by other (inr (zero, here, is)) =
+              let same : v ≡ put.value = first_is (sym gives ∙ ap (λ j. (inst_at f j).results) (sym (same_some is)) ∙ put.result) in
+              absurd (grind (arith, nat_tests))
+            where
+              first_is : v ∷ [] ≡ put.value ∷ [] → v ≡ put.value
+              first_is h = cc
+          by other (inr (suc m, here, is)) = absurd (none_some is)
+
+      stepped : length left ≡ n - 1 → ZerosLeft (n - 1) (machine.next state)
+      stepped count =
+          subst (λ (after : FunctionState). ZerosLeft (n - 1) after) (sym next) (record {
+            done = z.done ++ inst ∷ [];
+            left = left;
+            in_order = append_assoc z.done (inst ∷ []) left ∙ ap (λ xs. z.done ++ xs) (sym left_is) ∙ z.in_order;
+            count = count;
+            all = (subst (AllByRecursion (IsZeroInst f blocks b)) left_is z.all).1;
+            at = refl;
+            memory = z.memory;
+            events = z.events;
+            ran = ran;
+            values = λ w. value w (same_value w put.value) refl (z.values w);
+          })
 
     step_zero : (n : ℕ) (state : FunctionState) → ZerosLeft (suc n) state → ZerosLeft n (machine.next state)
-    unfolding zero_placed
-    step_zero n state z = by z.left z.count z.all z.at
+    step_zero n state z = by z.left refl
       where
-        by : (left : List ℕ) → length left ≡ suc n → AllByRecursion (IsZeroInst f blocks b) left → state.control ≡ At (map (placed_inst f) left ++ rest)
-            → ZerosLeft n (machine.next state)
-        by [] count all at = absurd (omega (arith, count))
-        by (inst ∷ left) count all at =
-            let behind : List Placed = map (placed_inst f) left ++ rest in
-            let is : placed_of f (inst_at f inst) ≡ zero_placed f all.0.value = is_zero_placed f (inst_at f inst) all.0.value all.0.shape all.0.result in
-            let next : machine.next state ≡ function_machine_of.run_placed run state (zero_placed f all.0.value) behind =
-            ap (function_machine_of.step_at run state) at ∙ ap (λ (item : Placed). function_machine_of.run_placed run state item behind) is in
-            subst (λ (after : FunctionState). ZerosLeft n after) (sym next) (record {
-              left = left;
-              count = omega (arith, count);
-              all = all.1;
-              at = refl;
-              memory = z.memory;
-              events = z.events;
-              values = λ w. value all.0 w (same_value w all.0.value) refl;
-            })
-          where
-            value : (put : IsZeroInst f blocks b inst) (w : ℕ) (test : Bool) → same_value w put.value ≡ test
-                → (if test then 0 % 2 ^ bits_of (first_type f (put.value ∷ [])) else state.values w) ≡ q.values w
-            value put w false other = z.values w
-            value put w true one =
-                let same : w ≡ put.value = grind (arith, nat_tests) in
-                zero_bits (bits_of (first_type f (put.value ∷ [])))
-                ∙ sym (blank w put.variable (ap (λ (v : ℕ). (blocks.function.definition v).kind) same ∙ ap (λ (d : Definition). d.kind) put.defined))
+        by : (left : List ℕ) → z.left ≡ left → ZerosLeft n (machine.next state)
+        by [] is = let some : length z.left ≡ 0 = ap length is in absurd (omega (arith, z.count, some))
+        by (inst ∷ left) is =
+            let count : length left ≡ suc n - 1 = let whole : length z.left ≡ suc (length left) = ap length is in omega (arith, z.count, whole) in
+            let one : suc n - 1 ≡ n = omega arith in
+            subst (λ m. ZerosLeft m (machine.next state)) one (stepped (suc n) state z inst left is count)
 
     -- after so many steps, so many zeros are left
     pub zeros_left : (j n m : ℕ) → j + n ≡ m → ZerosLeft m q → ZerosLeft n (steps_from machine j q)
@@ -157,3 +208,23 @@ module _ (run : FunctionRun) (f : Body) (blocks : Blocks) (b : ℕ) (rest : List
     -- on the way nothing new is shown
     pub shown_quietly : (n : ℕ) (state : FunctionState) → ZerosLeft n state → machine.shown state ≡ quiet q.events
     shown_quietly n state z = goes_on_quietly run state (map (placed_inst f) z.left ++ rest) q.events z.at z.events
+
+    -- where zeros, and results on the way to them, had no bits set, each value has the bits that it had
+    pub same_values : ((w : ℕ) → IsBlank (blocks.function.definition w).kind → q.values w ≡ 0) → (n : ℕ) (state : FunctionState) → ZerosLeft n state
+        → (w : ℕ) → state.values w ≡ q.values w
+    same_values blank n state z w = by (z.values w)
+      where
+        by : (state.values w ≡ q.values w) ⊎ ((state.values w ≡ 0) × IsZeroValue blocks b w) → state.values w ≡ q.values w
+        by (inl same) = same
+        by (inr (none, inl put)) = none ∙ sym (blank w (subst IsBlank (sym (ap (λ (d : Definition). d.kind) put.1)) tt))
+        by (inr (none, inr inner)) = none ∙ sym (blank w (subst IsBlank (sym (ap (λ (d : Definition). d.kind) inner)) tt))
+
+    -- no edge is taken
+    pub no_edge : (n : ℕ) (state : FunctionState) → ZerosLeft (suc n) state → function_edge run state state.control ≡ None
+    no_edge n state z = by z.left refl
+      where
+        by : (left : List ℕ) → z.left ≡ left → function_edge run state state.control ≡ None
+        by [] is = let some : length z.left ≡ 0 = ap length is in absurd (omega (arith, z.count, some))
+        by (inst ∷ left) is =
+            ap (function_edge run state) (z.at ∙ ap (λ xs. At (map (placed_inst f) xs ++ rest)) is)
+            ∙ ap (taken_of (edges_of (inst_at f inst).shape)) (outcome_is (suc n) state z inst left is)

@@ -36,6 +36,7 @@ use Rattle.clif_simulation.specs.Tables.{answered, program_so_far, block_name}
 use Rattle.clif_simulation.proofs.SoFar.{typed_so_far}
 use Rattle.clif_simulation.specs.Reading.{code_so_far, behind, may_grow, PremisesSoFar, script_run_so_far, function_run_so_far, starting_at, StandAlike, StartAlike, SideBySide, ReadsRightFromAnywhere}
 use Rattle.clif_simulation.specs.ReadingExamples.{half_body_with, half_body, half_state_with, half_state, waiting_parameter, with_nine, first_value, with_bits}
+use Rattle.clif_simulation.proofs.RecordsListed.{nothing_there, half_record}
 use Rattle.clif_simulation.proofs.Starting.{no_arguments, none_assigned}
 use Rattle.clif_simulation.proofs.Values.{false_is}
 use Rattle.clif_simulation.proofs.Reaching.{given_behind, leads_nowhere}
@@ -122,11 +123,11 @@ module _ (width : PointerWidth) (world : World) (tracked : Name → Bool) (colle
 
     recorded : (x v : ℕ) → record_of half_state x 0 ≡ Some v → variables x ≡ (state_after right 1).values (resolved half_body v)
     unfolding follow
-    recorded zero v is = subst (λ (w : ℕ). variables 0 ≡ (state_after right 1).values (resolved half_body w)) (the_record v is) waiting
+    recorded zero v is = subst (λ (w : ℕ). variables 0 ≡ (state_after right 1).values (resolved half_body w)) (the_record v (sym (half_record 0 (waiting_parameter ∷ []) 0 0) ∙ is)) waiting
       where
         the_record : (v : ℕ) → Some 0 ≡ Some v → 0 ≡ v
         the_record v e = cc
-    recorded (suc x) v is = cc
+    recorded (suc x) v is = nothing_there (sym (half_record 0 (waiting_parameter ∷ []) (suc x) 0) ∙ is)
 
     at_end : Alike 2 1
     unfolding follow
@@ -343,7 +344,7 @@ other_record right = by (alike 7 9 (half_state_with 1 (waiting_parameter ∷ [])
     by : (steps : ℕ) × StandAlike answered_calls half_body (half_state_with 1 (waiting_parameter ∷ [])) 0 block0 2 (state_after (left_here 7 9) 2) (state_after (right_here 7 9) steps) → ⊥
     by found =
         let last : found.0 ≡ 1 = last_step 7 9 found.0 found.1.function_at in
-        let same : 9 ≡ 7 = found.1.records tt 0 1 refl ∙ ap (λ (steps : ℕ). (state_after (right_here 7 9) steps).values (resolved half_body 1)) last in
+        let same : 9 ≡ 7 = found.1.records tt 0 1 (half_record 1 (waiting_parameter ∷ []) 0 0) ∙ ap (λ (steps : ℕ). (state_after (right_here 7 9) steps).values (resolved half_body 1)) last in
         absurd (omega (arith, same))
 
 pub none_waiting : ReadsRightFromAnywhere answered_calls first_signature half_body (half_state_with 0 []) → ⊥

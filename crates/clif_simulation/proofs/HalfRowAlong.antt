@@ -24,6 +24,7 @@ use Rattle.clif_simulation.specs.Carries.{carried, SparesBlock, SparesEntry}
 use Rattle.clif_simulation.specs.Reading.{code_so_far, behind, script_run_so_far, function_run_so_far}
 use Rattle.clif_simulation.specs.Interrupted.{Unknowns, ScriptStanding, FunctionStanding, interrupted_script, interrupted_function, script_edge, script_goes, function_edge, function_goes, without_arguments, StandsBeside, HasBeside, RunsBeside, ReadsRight}
 use Rattle.clif_simulation.specs.ReadingExamples.{half_body_with, half_body, half_state_with, half_state, waiting_parameter}
+use Rattle.clif_simulation.proofs.RecordsListed.{nothing_there, half_record}
 use Rattle.clif_simulation.proofs.HalfRow.{items, none_given, use_given, both_given, no_block, the_name, each_item, premises, fits, use_is_given, leads_nowhere_here, of_operation}
 
 stuck_there : {X : Type 0} {rest : List X} → IsStuck ≡ At rest → ⊥
@@ -62,11 +63,11 @@ module _ (width : PointerWidth) (world : World) (tracked : Name → Bool) (colle
 
   recorded : (x v : ℕ) → record_of half_state x 0 ≡ Some v → (state_after left 2).state.variables x ≡ (state_after right 1).state.values (resolved half_body v)
   unfolding follow
-  recorded zero v is = subst (λ (w : ℕ). (state_after left 2).state.variables 0 ≡ (state_after right 1).state.values (resolved half_body w)) (the_record v is) refl
+  recorded zero v is = subst (λ (w : ℕ). (state_after left 2).state.variables 0 ≡ (state_after right 1).state.values (resolved half_body w)) (the_record v (sym (half_record 0 (waiting_parameter ∷ []) 0 0) ∙ is)) refl
     where
       the_record : (v : ℕ) → Some 0 ≡ Some v → 0 ≡ v
       the_record v e = cc
-  recorded (suc x) v is = cc
+  recorded (suc x) v is = nothing_there (sym (half_record 0 (waiting_parameter ∷ []) (suc x) 0) ∙ is)
 
   at_end : Beside 2 1
   unfolding follow
@@ -163,7 +164,7 @@ other_record reads = by (reads U64 SampleWorld.sample_world (λ x. false) ByMaps
         subst (λ (b : ℕ). StandsBeside answered_calls half_body (half_state_with 1 (waiting_parameter ∷ [])) b block0 2
         (state_after (left_here half_body (half_state_with 1 (waiting_parameter ∷ []))) 2).state
         (state_after (right_here half_body (half_state_with 1 (waiting_parameter ∷ []))) found.steps).state) (only_block found.block found.named) found.beside in
-        let same : 9 ≡ 7 = alike.records tt 0 1 refl ∙ sym (alike.names (answer_of 4 1) constant_is_given) in
+        let same : 9 ≡ 7 = alike.records tt 0 1 (half_record 1 (waiting_parameter ∷ []) 0 0) ∙ sym (alike.names (answer_of 4 1) constant_is_given) in
         absurd (omega (arith, same))
 
 abbrev none_state : SsaState

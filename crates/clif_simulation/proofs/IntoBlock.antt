@@ -28,6 +28,7 @@ use Rattle.clif_meaning.specs.FunctionMachine.{same_value}
 use Rattle.clif_meaning.specs.View.{argument_of}
 use Rattle.clif_meaning.proofs.StraightLine.{nothing_contained, none_of}
 use Rattle.clif_simulation.specs.Tables.{answered, callers_parameters, code, program_so_far, block_name}
+use Rattle.clif_simulation.proofs.Agreement.{IsBlank}
 use Rattle.clif_simulation.proofs.Whole.{Whole}
 use Rattle.clif_simulation.proofs.Codes
 use Rattle.clif_simulation.proofs.Entered.{ComesAlong, EntersThere}
@@ -78,10 +79,16 @@ module _ (calls : List AnsweredCall) (f : Body) (s : SsaState) (consistent : IsC
   others_home v there =
       stands_home f consistent v b (subst (Stands v) (sym params_are) (stands_second (carries.own.params b) others v there))
 
-  -- no parameter of the block is a zero
-  parameter_no_zero : (v y : ℕ) → param_home f v ≡ Some b → (function.definition v).kind ≡ zero_of y → ⊥
-  parameter_no_zero v y home kind =
-      subst (λ (k : Kind). IsBehind k (place_of v (block_at f b).params) (length (carries.own.params b))) kind (carries.counts.behind b v home)
+  -- no parameter of the block is a zero, or on the way to one
+  parameter_no_blank : (v : ℕ) → param_home f v ≡ Some b → IsBlank (function.definition v).kind → ⊥
+  parameter_no_blank v home blank = by (function.definition v).kind blank (carries.counts.behind b v home)
+    where
+      by : (k : Kind) → IsBlank k → IsBehind k (place_of v (block_at f b).params) (length (carries.own.params b)) → ⊥
+      by unborn is behind = behind
+      by (zero_of x) is behind = behind
+      by (born n) is behind = is
+      by (pending x) is behind = is
+      by complete is behind = is
 
   module _ (B : Name) (named : block_name calls b ≡ Some B) where
     abbrev pub parameters : List Name
@@ -239,8 +246,8 @@ module _ (calls : List AnsweredCall) (f : Body) (s : SsaState) (consistent : IsC
     parameter_complete v home past =
         is_complete v home past (function.definition v).kind refl (carries.describes.homes v) (carries.counts.behind b v home)
 
-    no_zero : (v y : ℕ) → (function.definition v).kind ≡ zero_of y → Stands v others → ⊥
-    no_zero v y kind there = parameter_no_zero v y (others_home v there) kind
+    no_blank : (v : ℕ) → IsBlank (function.definition v).kind → Stands v others → ⊥
+    no_blank v blank there = parameter_no_blank v (others_home v there) blank
 
     not_elsewhere : (v : ℕ) → (function.definition v).home ≢ front b → Stands v others → ⊥
     not_elsewhere v elsewhere there = elsewhere (parameter_front v (others_home v there))
@@ -257,8 +264,8 @@ module _ (calls : List AnsweredCall) (f : Body) (s : SsaState) (consistent : IsC
       module _ (source : Place) (number : ℕ) (path : Path) (old new : ℕ → ℕ)
           (gets : (w : ℕ) → function.definition w ≡ record { home = front b; kind = complete } → new w ≡ old (function.resolve (function.argument w (record { source = source; target = front b; edge = number }))))
           (keeps : (w : ℕ) → (function.definition w).home ≢ front b → new w ≡ old w)
-          (stays : (w y : ℕ) → (function.definition w).kind ≡ zero_of y → new w ≡ old w)
-          (zeros : (w y : ℕ) → (function.definition w).kind ≡ zero_of y → old w ≡ 0)
+          (stays : (w : ℕ) → IsBlank (function.definition w).kind → new w ≡ old w)
+          (zeros : (w : ℕ) → IsBlank (function.definition w).kind → old w ≡ 0)
         where
           abbrev into_front : Arm
           into_front = record { source = source; target = front b; edge = number }
@@ -279,8 +286,8 @@ module _ (calls : List AnsweredCall) (f : Body) (s : SsaState) (consistent : IsC
                 gets w defined,
               ))
           at_front w is_live (zero_of x) defined fits =
-              let kind : (function.definition w).kind ≡ zero_of x = ap (λ (d : Definition). d.kind) defined in
-              inr (inr (x, (function_steps program function into_front path).zero_here w x defined, stays w x kind ∙ zeros w x kind))
+              let blank : IsBlank (function.definition w).kind = subst IsBlank (sym (ap (λ (d : Definition). d.kind) defined)) tt in
+              inr (inr (x, (function_steps program function into_front path).zero_here w x defined, stays w blank ∙ zeros w blank))
 
           comes : (w : ℕ) → live w → Dec ((function.definition w).home ≡ front b)
               → ((x : Name) × In x (parameters B named) × (w ≡ answered calls x)) ⊎ ComesAlong live program function into_front path old new w
@@ -303,7 +310,7 @@ module _ (calls : List AnsweredCall) (f : Body) (s : SsaState) (consistent : IsC
       module _ (source : Place) (number : ℕ) (into : IsEdgeInto f s carries.tables b (record { source = source; target = front b; edge = number }))
           (as_many : length (carries.own.passed into.branch number) ≡ length (parameters B named))
           (call : BlockCall) (call_stands : slice_get (edges_at f into.branch) number ≡ Some call)
-          (path : Path) (given : List ℕ) (old : ℕ → ℕ) (zeros : (w y : ℕ) → (function.definition w).kind ≡ zero_of y → old w ≡ 0)
+          (path : Path) (given : List ℕ) (old : ℕ → ℕ) (zeros : (w : ℕ) → IsBlank (function.definition w).kind → old w ≡ 0)
         where
           abbrev pub arm : Arm
           arm = record { source = source; target = front b; edge = number }
@@ -370,4 +377,4 @@ module _ (calls : List AnsweredCall) (f : Body) (s : SsaState) (consistent : IsC
           pub enters : EntersThere live program function arm path (parameters B named) (answered calls) old new
           enters =
               enters_front source number path old new gets (λ w elsewhere. other_keeps w (not_elsewhere w elsewhere))
-              (λ w y kind. other_keeps w (no_zero w y kind)) zeros
+              (λ w blank. other_keeps w (no_blank w blank)) zeros

@@ -96,3 +96,5 @@ pub mod Further
 pub mod Appending
 pub mod ParameterCalls
 mod ParameterRow
+-- What is on record in the states of the worked examples.
+mod RecordsListed

@@ -24,6 +24,7 @@ use Rattle.clif_simulation.proofs.SoFar.{typed_so_far}
 use Rattle.clif_simulation.specs.Reading.{code_so_far, behind, may_grow, PremisesSoFar, script_run_so_far, function_run_so_far}
 use Rattle.clif_simulation.specs.Interrupted.{Unknowns, ScriptStanding, FunctionStanding, interrupted_script, interrupted_function, StandsBeside, HasBeside, AreOpen, ReadsRight}
 use Rattle.clif_simulation.specs.CarryingExamples.{loop_calls, loop_body, loop_state}
+use Rattle.clif_simulation.proofs.RecordsListed.{loop_recording_record}
 use Rattle.clif_simulation.specs.InterruptedExamples.{loop_state_recording}
 use Rattle.clif_simulation.proofs.LoopProgram.{each_items_of_row, row_program}
 use Rattle.clif_simulation.proofs.LoopStructured.{spares_entry}
@@ -190,5 +191,5 @@ other_record reads = by (reads U64 SampleWorld.sample_world (λ x. false) ByMaps
         let alike : StandsBeside loop_calls loop_body (loop_state_recording 1) 2 (block 2) 4 (state_after left 9).state (state_after right found.steps).state =
         subst (λ (b : ℕ). StandsBeside loop_calls loop_body (loop_state_recording 1) b (block 2) 4 (state_after left 9).state (state_after right found.steps).state)
         (row_program.distinct found.block 2 (block 2) found.named refl) found.beside in
-        let same : 4 ≡ 5 = alike.records (refl, refl) 0 1 refl ∙ sym (alike.names (answer_of 15 0) use_is_given) in
+        let same : 4 ≡ 5 = alike.records (refl, refl) 0 1 (loop_recording_record 1 0 2) ∙ sym (alike.names (answer_of 15 0) use_is_given) in
         absurd (omega (arith, same))

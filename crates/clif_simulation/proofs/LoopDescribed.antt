@@ -1,5 +1,5 @@
 -- The row `both_arms`: its tables describe the function and the state of its construction.
-use Rattle.std.proofs.Common.{◌≡◌, ◌≢◌, ℕ, zero, suc, ◌+◌, ◌<◌, ◌≤◌, ◌&&◌, ◌⊎◌, true, Some, None, List, [], ◌∷◌, inl, inr, refl, sym, ap, subst, arith, Contains, slice_index_or, length, map}
+use Rattle.std.proofs.Common.{◌≡◌, ◌≢◌, ℕ, zero, suc, ◌+◌, ◌<◌, ◌≤◌, ◌&&◌, ◌⊎◌, true, Some, None, List, [], ◌∷◌, inl, inr, refl, sym, ◌∙◌, ap, subst, arith, Contains, slice_index_or, length, map}
 use Rattle.clif_ir.specs.declared.block_call.BlockArg.TheVariants.{Value}
 use Rattle.clif_ir.specs.Body.{follow, resolved, block_at}
 use Rattle.clif_ir.specs.Consistent.{Once}
@@ -13,10 +13,12 @@ use Rattle.clif_ssa.specs.Own.{Own}
 use Rattle.clif_ssa.specs.Tables.{is_yes, pending_of}
 use Rattle.clif_ssa.specs.Ssa.{record_of, sealed_of, predecessors_of}
 use Rattle.clif_ssa.specs.LookUp.{branch_block}
+use Rattle.clif_ssa.proofs.RecordMaps.{value_among}
 use Rattle.clif_ssa.specs.Sound.{Describes, CountsArguments, IsCounted, IsBehind, HomeFits, HasInstructions, IsEdgeInto, BelongsTo, InOrder, entry_of, has_entry, edge_target, passed_at, passed_count}
 use Rattle.clif_meaning.proofs.FirstRow.{first_of_one, one_of}
 use Rattle.clif_meaning.proofs.StraightLine.{nothing_contained, none_of}
 use Rattle.clif_simulation.specs.CarryingExamples.{loop_body, loop_state}
+use Rattle.clif_simulation.proofs.RecordsListed.{loop_entries, loop_record}
 use Rattle.clif_simulation.proofs.LoopTables.{loop_tables, computing_row, each_arm_of_row, each_name_of_row, each_write_of_row, unassigned, complete_of_row, none_pends}
 
 abbrev own_insts : ℕ → List ℕ
@@ -177,26 +179,32 @@ entry_apart number e = subst (λ (k : ℕ). predecessors_of loop_state k ≡ [])
 
 -- Records -------------------------------------------------------------------------------------------------------------------
 
-recorded : (b x : ℕ) → loop_tables.recorded b x ≡ record_of loop_state x b
+listed : (b x : ℕ) → loop_tables.recorded b x ≡ value_among (loop_entries 3) x b
 unfolding computing_row
-recorded zero zero = refl
-recorded (suc zero) zero = refl
-recorded (suc (suc zero)) zero = refl
-recorded (suc (suc (suc zero))) zero = refl
-recorded (suc (suc (suc (suc b)))) zero = refl
-recorded zero (suc x) = refl
-recorded (suc zero) (suc x) = refl
-recorded (suc (suc zero)) (suc x) = refl
-recorded (suc (suc (suc zero))) (suc x) = refl
-recorded (suc (suc (suc (suc b)))) (suc x) = refl
+listed zero zero = refl
+listed (suc zero) zero = refl
+listed (suc (suc zero)) zero = refl
+listed (suc (suc (suc zero))) zero = refl
+listed (suc (suc (suc (suc b)))) zero = refl
+listed zero (suc x) = refl
+listed (suc zero) (suc x) = refl
+listed (suc (suc zero)) (suc x) = refl
+listed (suc (suc (suc zero))) (suc x) = refl
+listed (suc (suc (suc (suc b)))) (suc x) = refl
+
+recorded : (b x : ℕ) → loop_tables.recorded b x ≡ record_of loop_state x b
+recorded b x = listed b x ∙ sym (loop_record x b)
+
+listed_exist : (b x v : ℕ) → value_among (loop_entries 3) x b ≡ Some v → v < 4
+listed_exist zero zero v e = let is : 0 ≡ v = some_number 0 v e in omega (arith, is)
+listed_exist (suc zero) zero v e = let is : 1 ≡ v = some_number 1 v e in omega (arith, is)
+listed_exist (suc (suc zero)) zero v e = let is : 3 ≡ v = some_number 3 v e in omega (arith, is)
+listed_exist (suc (suc (suc zero))) zero v e = let is : 1 ≡ v = some_number 1 v e in omega (arith, is)
+listed_exist (suc (suc (suc (suc b)))) zero v e = no_number v e
+listed_exist b (suc x) v e = no_number v e
 
 records_exist : (b x v : ℕ) → record_of loop_state x b ≡ Some v → v < 4
-records_exist zero zero v e = let is : 0 ≡ v = some_number 0 v e in omega (arith, is)
-records_exist (suc zero) zero v e = let is : 1 ≡ v = some_number 1 v e in omega (arith, is)
-records_exist (suc (suc zero)) zero v e = let is : 3 ≡ v = some_number 3 v e in omega (arith, is)
-records_exist (suc (suc (suc zero))) zero v e = let is : 1 ≡ v = some_number 1 v e in omega (arith, is)
-records_exist (suc (suc (suc (suc b)))) zero v e = no_number v e
-records_exist b (suc x) v e = no_number v e
+records_exist b x v e = listed_exist b x v (sym (loop_record x b) ∙ e)
 
 abbrev is_block : Place → ℕ → Type 0
 is_block start b = ⊥
@@ -206,8 +214,8 @@ is_block (inside c k) b = c ≡ b
 assigns_recorded : (b x : ℕ) → record_of loop_state x b ≡ None → (place : Place) (n : ℕ) → loop_tables.assigned place x ≡ Some n → is_block place b → ⊥
 assigns_recorded b x none place n e =
     each_write_of_row (λ p y m. record_of loop_state y b ≡ None → is_block p b → ⊥)
-    (λ none here. some_none 0 (subst (λ (c : ℕ). record_of loop_state 0 c ≡ None) (sym here) none))
-    (λ none here. some_none 3 (subst (λ (c : ℕ). record_of loop_state 0 c ≡ None) (sym here) none))
+    (λ none here. some_none 0 (sym (loop_record 0 0) ∙ subst (λ (c : ℕ). record_of loop_state 0 c ≡ None) (sym here) none))
+    (λ none here. some_none 3 (sym (loop_record 0 2) ∙ subst (λ (c : ℕ). record_of loop_state 0 c ≡ None) (sym here) none))
     place x n e none
   where
     some_none : (v : ℕ) → Some v ≡ None → ⊥

@@ -35,6 +35,7 @@ use Rattle.clif_simulation.proofs.SoFar.{typed_so_far}
 use Rattle.clif_simulation.specs.Reading.{code_so_far, behind, may_grow, PremisesSoFar, script_run_so_far, function_run_so_far}
 use Rattle.clif_simulation.specs.Interrupted.{Unknowns, ScriptStanding, FunctionStanding, interrupted_script, interrupted_function, script_edge, script_goes, function_edge, function_goes, StandsBeside, HasBeside, RunsBeside, ReadsRight}
 use Rattle.clif_simulation.specs.InterruptedExamples.{passing_loop_calls, passing_loop_body, passing_loop_body_with, passing_loop_state}
+use Rattle.clif_simulation.proofs.RecordsListed.{nothing_there, passing_record}
 use Rattle.clif_simulation.proofs.Giving.{same_or_other}
 use Rattle.clif_simulation.proofs.LoopAlong.{given_in_block}
 use Rattle.clif_simulation.proofs.LoopWaiting.{nothing_at}
@@ -228,11 +229,11 @@ module _ (width : PointerWidth) (world : World) (tracked : Name → Bool) (colle
       names x (inr before) = same_parameter 1 a c t x before
 
       recorded : (x v : ℕ) → record_of passing_loop_state x 1 ≡ Some v → a.state.variables x ≡ c.state.values (resolved passing_loop_body v)
-      recorded zero v is = subst (λ (w : ℕ). a.state.variables 0 ≡ c.state.values (resolved passing_loop_body w)) (the_record v is) t.variable
+      recorded zero v is = subst (λ (w : ℕ). a.state.variables 0 ≡ c.state.values (resolved passing_loop_body w)) (the_record v (sym (passing_record 0 1) ∙ is)) t.variable
         where
           the_record : (v : ℕ) → Some 2 ≡ Some v → 2 ≡ v
           the_record v e = cc
-      recorded (suc x) v is = cc
+      recorded (suc x) v is = nothing_there (sym (passing_record (suc x) 1) ∙ is)
 
   has : (a : ScriptStanding) (steps count : ℕ) → a.place ≡ behind (block 1) count → a.entries ≡ (state_after right steps).entries → Beside count a (state_after right steps)
       → HasBeside passing_loop_calls passing_loop_body passing_loop_state a right
@@ -265,8 +266,8 @@ module _ (width : PointerWidth) (world : World) (tracked : Name → Bool) (colle
       argument x is = subst (SameBits (state_after left 0) (state_after right 0)) is (same_argument world.arguments)
 
       none_recorded : (x v : ℕ) → record_of passing_loop_state x 0 ≡ Some v → (state_after left 0).state.variables x ≡ (state_after right 0).state.values (resolved passing_loop_body v)
-      none_recorded zero v is = cc
-      none_recorded (suc x) v is = cc
+      none_recorded zero v is = nothing_there (sym (passing_record 0 0) ∙ is)
+      none_recorded (suc x) v is = nothing_there (sym (passing_record (suc x) 0) ∙ is)
   runs (suc n) rest on = by (met n)
     where
       turn : (steps : ℕ) → Turn (state_after left (suc n)) (state_after right steps) → HasBeside passing_loop_calls passing_loop_body passing_loop_state (state_after left (suc n)) right

@@ -5,7 +5,7 @@ use Rattle.std.specs.List.{AllByRecursion}
 use Rattle.clif_paths.specs.Places.{Place, start, inside}
 use Rattle.clif_meaning.specs.Name.{Name, answer_of, same_name}
 use Rattle.clif_meaning.specs.Request.{Request, Script, script_of}
-use Rattle.clif_meaning.specs.Program.{Program, Item, Instruct, Use, Assign, first_block, with_call, with_item_at, with_inserted, result_names, empty_program}
+use Rattle.clif_meaning.specs.Program.{Program, Item, first_block, with_call, with_item_at, with_inserted, empty_program}
 use Rattle.clif_meaning.specs.BranchExamples.{block}
 use Rattle.clif_meaning.specs.WellPlaced.{item_gives}
 use Rattle.clif_meaning.proofs.FirstRow.{one_of, first_of_one}

@@ -1,5 +1,5 @@
 -- The row `both_arms` has the structure, its branches are the caller's, and none names the entry.
-use Rattle.std.proofs.Common.{◌≡◌, ◌≢◌, ℕ, zero, suc, ◌<◌, List, [], ◌∷◌, inl, inr, Some, None, refl, sym, ap, subst, arith, Contains, slice_get}
+use Rattle.std.proofs.Common.{◌≡◌, ◌≢◌, ℕ, zero, suc, ◌<◌, List, [], ◌∷◌, inl, inr, Some, None, refl, sym, ◌∙◌, ap, subst, arith, Contains, slice_get}
 use Rattle.std.specs.List.{AllByRecursion}
 use Rattle.clif_ir.specs.Body.{resolved, value_at}
 use Rattle.clif_ir.specs.Consistent.{Once}
@@ -9,6 +9,7 @@ use Rattle.clif_ssa.specs.Ssa.{record_of, sealed_of, predecessors_of}
 use Rattle.clif_ssa.specs.Sound.{args_of, edge_target, edges_at}
 use Rattle.clif_ssa.specs.Structure.{HasNeededZeros}
 use Rattle.clif_ssa.specs.Structured.{EdgePasses, HasParameters, HasType, Structured, VariableTypes, waiting_in}
+use Rattle.clif_ssa.proofs.RecordMaps.{value_among}
 use Rattle.clif_ssa.proofs.Ordering.{contains_cons}
 use Rattle.clif_meaning.specs.Examples.{i32}
 use Rattle.clif_meaning.specs.BranchExamples.{block}
@@ -18,6 +19,7 @@ use Rattle.clif_meaning.proofs.StraightLine.{none_of, nothing_contained}
 use Rattle.clif_simulation.specs.Tables.{program_so_far}
 use Rattle.clif_simulation.specs.Carries.{AreTypes, LeadsOwn, SparesBlock, SparesEntry}
 use Rattle.clif_simulation.specs.CarryingExamples.{loop_calls, loop_body, loop_state}
+use Rattle.clif_simulation.proofs.RecordsListed.{loop_entries, loop_record}
 use Rattle.clif_simulation.proofs.LoopProgram.{each_items_of_row}
 use Rattle.clif_simulation.proofs.LoopDescribed.{row_own, each_edge_of_row, none_waits}
 use Rattle.clif_simulation.proofs.Whole.{waiting_pending}
@@ -141,13 +143,16 @@ module _ (types : VariableTypes) (is : types 0 ≡ i32) where
   no_record : (x v : ℕ) → None ≡ Some v → HasType loop_body v (types x)
   no_record x v e = absurd cc
 
+  listed : (x b v : ℕ) → value_among (loop_entries 3) x b ≡ Some v → HasType loop_body v (types x)
+  listed zero zero v e = recorded_one 0 v (omega arith) refl e
+  listed zero (suc zero) v e = recorded_one 1 v (omega arith) refl e
+  listed zero (suc (suc zero)) v e = recorded_one 3 v (omega arith) refl e
+  listed zero (suc (suc (suc zero))) v e = recorded_one 1 v (omega arith) refl e
+  listed zero (suc (suc (suc (suc b)))) v e = no_record zero v e
+  listed (suc x) b v e = no_record (suc x) v e
+
   recorded : (x b v : ℕ) → record_of loop_state x b ≡ Some v → HasType loop_body v (types x)
-  recorded zero zero v e = recorded_one 0 v (omega arith) refl e
-  recorded zero (suc zero) v e = recorded_one 1 v (omega arith) refl e
-  recorded zero (suc (suc zero)) v e = recorded_one 3 v (omega arith) refl e
-  recorded zero (suc (suc (suc zero))) v e = recorded_one 1 v (omega arith) refl e
-  recorded zero (suc (suc (suc (suc b)))) v e = no_record zero v e
-  recorded (suc x) b v e = no_record (suc x) v e
+  recorded x b v e = listed x b v (sym (loop_record x b) ∙ e)
 
 none_waiting : (b : ℕ) (p : Pending) → Contains (waiting_in loop_body loop_state [] b) p → ⊥
 none_waiting b p here =

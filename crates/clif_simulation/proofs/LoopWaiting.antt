@@ -32,6 +32,7 @@ use Rattle.clif_simulation.proofs.SoFar.{typed_so_far}
 use Rattle.clif_simulation.specs.Reading.{code_so_far, behind, may_grow, PremisesSoFar, script_run_so_far, function_run_so_far}
 use Rattle.clif_simulation.specs.Interrupted.{Unknowns, ScriptStanding, FunctionStanding, interrupted_script, interrupted_function, script_edge, script_goes, function_edge, function_goes, StandsBeside, HasBeside, RunsBeside, ReadsRight}
 use Rattle.clif_simulation.specs.InterruptedExamples.{waiting_loop_calls, waiting_loop_body, waiting_loop_state}
+use Rattle.clif_simulation.proofs.RecordsListed.{nothing_there, waiting_record}
 use Rattle.clif_simulation.specs.ReadingExamples.{waiting_parameter}
 use Rattle.clif_simulation.proofs.Giving.{same_or_other}
 use Rattle.clif_simulation.proofs.LoopAlong.{given_in_block}
@@ -123,11 +124,11 @@ module _ (width : PointerWidth) (world : World) (tracked : Name → Bool) (colle
 
   recorded : (variables values : ℕ → ℕ) → variables 0 ≡ values 0 → (x v : ℕ) → record_of state x 1 ≡ Some v → variables x ≡ values (resolved waiting_loop_body v)
   unfolding follow
-  recorded variables values same zero v is = subst (λ (w : ℕ). variables 0 ≡ values (resolved waiting_loop_body w)) (the_record v is) same
+  recorded variables values same zero v is = subst (λ (w : ℕ). variables 0 ≡ values (resolved waiting_loop_body w)) (the_record v (sym (waiting_record (waiting_parameter ∷ []) 0 1) ∙ is)) same
     where
       the_record : (v : ℕ) → Some 0 ≡ Some v → 0 ≡ v
       the_record v e = cc
-  recorded variables values same (suc x) v is = cc
+  recorded variables values same (suc x) v is = nothing_there (sym (waiting_record (waiting_parameter ∷ []) (suc x) 1) ∙ is)
 
   -- over the use
   to_use : (a : ScriptStanding) (c : FunctionStanding) → InLoop 0 a c → Turn (left.next a) c
@@ -205,8 +206,8 @@ module _ (width : PointerWidth) (world : World) (tracked : Name → Bool) (colle
   }
     where
       none_recorded : (x v : ℕ) → record_of state x 0 ≡ Some v → (state_after left 0).state.variables x ≡ (state_after right 0).state.values (resolved waiting_loop_body v)
-      none_recorded zero v is = cc
-      none_recorded (suc x) v is = cc
+      none_recorded zero v is = nothing_there (sym (waiting_record (waiting_parameter ∷ []) 0 0) ∙ is)
+      none_recorded (suc x) v is = nothing_there (sym (waiting_record (waiting_parameter ∷ []) (suc x) 0) ∙ is)
   runs (suc n) rest on = by (met n)
     where
       turn : (steps : ℕ) → Turn (state_after left (suc n)) (state_after right steps) → HasBeside waiting_loop_calls waiting_loop_body state (state_after left (suc n)) right

@@ -7,7 +7,7 @@ use Rattle.clif_paths.proofs.Tables.{number_equal}
 use Rattle.clif_meaning.specs.Name.{Name, answer_of, same_name}
 use Rattle.clif_meaning.specs.Instruction.{Operation, Edge}
 use Rattle.clif_meaning.specs.Request.{Request, AnsweredCall, script_of}
-use Rattle.clif_meaning.specs.Ledger.{BlockState, Ledger, ledger_after, ledger_with, with_state, with_layout, with_begun_at, with_begun, with_filled_at, with_terminator, with_predecessor, is_inserted, is_terminator, sealed, with_parameter_types}
+use Rattle.clif_meaning.specs.Ledger.{BlockState, Ledger, ledger_after, ledger_with, with_state, with_layout, with_begun_at, with_begun, with_filled_at, with_terminator, with_predecessor, is_inserted, is_terminator, sealed}
 use Rattle.clif_simulation.specs.Tables.{block_name}
 pub use Rattle.clif_simulation.proofs.Effects.{MakesNoBlock}
 use Rattle.clif_simulation.proofs.Effects.{LedgerEffect, ledger_effect, Keeps, Lays, Changes, Begins, Creates, Enters, Seals, Declares, Touches, Reads, Appends}

@@ -158,7 +158,7 @@ module _ (calls : List AnsweredCall) (f : Body) (s : SsaState) (consistent : IsC
       pub enters_blank : EntersThere live program function (record { source = source; target = front b; edge = number }) [] parameters (answered calls) (λ w. 0) (λ w. 0)
       enters_blank =
           IntoBlock.enters_front calls f s consistent carries b (sealed_none (sealed_of s b) is) B named seals sealed_here source number [] (λ w. 0) (λ w. 0)
-          (λ w defined. refl) (λ w elsewhere. refl) (λ w y kind. refl) (λ w y kind. refl)
+          (λ w defined. refl) (λ w elsewhere. refl) (λ w blank. refl) (λ w blank. refl)
 
     -- Along an edge -----------------------------------------------------------------------------------------------------------
 
@@ -277,7 +277,7 @@ module _ (calls : List AnsweredCall) (f : Body) (s : SsaState) (consistent : IsC
             goes_alone = (
               old,
               IntoBlock.enters_front calls f s consistent carries b (sealed_none (sealed_of s b) is) B named seals sealed_there source number path old old
-                  (λ w defined. absurd (not_there w defined)) (λ w elsewhere. refl) (λ w y kind. refl) zeros.of_value,
+                  (λ w defined. absurd (not_there w defined)) (λ w elsewhere. refl) (λ w blank. refl) zeros.of_value,
               inr (alike_before source number path old bits variables names agrees zeros mine entering),
               λ w. callers_bits no_complete w ∙ ap (λ (params : List ℕ). assigned same_value params mine old w) alone,
             )

@@ -17,6 +17,7 @@ use Rattle.clif_meaning.specs.FunctionMachine.{same_value}
 use Rattle.clif_meaning.proofs.StraightLine.{nothing_contained}
 use Rattle.clif_simulation.specs.Interrupted.{values_entering}
 use Rattle.clif_simulation.specs.Tables.{answered, block_name, code, program_so_far}
+use Rattle.clif_simulation.proofs.Agreement.{IsBlank}
 use Rattle.clif_simulation.proofs.Giving.{In, contained_in, in_contained, name_keeps, value_keeps, same_given}
 use Rattle.clif_simulation.proofs.Interrupting.{waiting_gets, waiting_leaves}
 use Rattle.clif_simulation.proofs.IntoBlock
@@ -28,14 +29,8 @@ use Rattle.clif_simulation.proofs.Whole.{Whole}
 pending_same : (x y : ℕ) → pending x ≡ pending y → y ≡ x
 pending_same x y h = cc
 
-pending_no_zero : (x y : ℕ) → pending x ≡ zero_of y → ⊥
-pending_no_zero x y h = cc
-
 pending_no_born : (x n : ℕ) → pending x ≡ born n → ⊥
 pending_no_born x n h = cc
-
-born_no_zero : (n y : ℕ) → born n ≡ zero_of y → ⊥
-born_no_zero n y h = cc
 
 not_both : (t : Bool) → t ≡ true → t ≡ false → ⊥
 not_both t one other = cc
@@ -137,10 +132,9 @@ module _ (calls : List AnsweredCall) (f : Body) (s : SsaState) (consistent : IsC
           (λ p there e. elsewhere (ap (λ (v : ℕ). (function.definition v).home) (sym e) ∙ ap (λ (d : Definition). d.home) (param_waits p there) ∙ sym target))
           ∙ value_keeps (answered calls) parameters mine old w
           (λ n there e. elsewhere (ap (λ (v : ℕ). (function.definition v).home) e ∙ ap (λ (d : Definition). d.home) (defined_there n there) ∙ sym target));
-      zeros_stay = λ w y kind.
-          stays_as w (λ p there e. pending_no_zero p.variable y (waits_kind p there w (zero_of y) kind e))
+      zeros_stay = λ w blank.
+          stays_as w (λ p there e. subst IsBlank (sym (waits_kind p there w (function.definition w).kind refl e)) blank)
           ∙ value_keeps (answered calls) parameters mine old w
           (λ n there e.
-          born_no_zero (code n) y
-          (ap (λ (d : Definition). d.kind) (sym (defined_there n there)) ∙ ap (λ (v : ℕ). (function.definition v).kind) (sym e) ∙ kind));
+          subst IsBlank (ap (λ (v : ℕ). (function.definition v).kind) e ∙ ap (λ (d : Definition). d.kind) (defined_there n there)) blank);
     }

@@ -82,7 +82,7 @@ module _ (calls : List AnsweredCall) (f : Body) (ssa : SsaState) (consistent : I
   -- what is left of a block's own instructions is an end of the block
   module _ (b : ℕ) (front left : List ℕ) (own_is : carries.own.insts b ≡ front ++ left) where
     abbrev has : HasFront f carries.tables b (carries.own.insts b)
-    has = has_front f carries.tables b (carries.own.insts b) (carries.describes.instructions b) (carries.own_inserted b)
+    has = has_front f consistent carries.tables b (carries.own.insts b) (carries.describes.instructions b) (carries.own_inserted b)
 
     abbrev before : List Placed
     before = map (placed_inst f) has.zeros ++ map (placed_inst f) front
@@ -247,7 +247,7 @@ module _ (calls : List AnsweredCall) (signature : SignatureShape) (f : Body) (ss
     blank_agrees = zeros_agree live program function [] (λ x. 0) (λ n. 0) (λ w. 0) (λ x. refl) (λ n. refl) (λ w. refl)
 
     blank_zeros : ZerosAreZero program function [] (λ x. 0) (λ n. 0) (λ w. 0)
-    blank_zeros = record { of_variable = λ x y is. refl; of_name = λ n y is. refl; of_value = λ w y is. refl }
+    blank_zeros = record { of_variable = λ x y is. refl; of_name = λ n y is. refl; of_value = λ w blank. refl }
 
     -- the entry's parameters that the caller made have the world's arguments
     callers_alone : (w : ℕ) → q0.values w ≡ assigned same_value (map (answered calls) ((program_so_far calls).parameters entry_name)) world.arguments (λ v. 0) w

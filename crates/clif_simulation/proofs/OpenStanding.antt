@@ -1,12 +1,10 @@
 -- Both interrupted runs at a place of an unfinished function, and how they come to a block's first item.
-use Rattle.clif_simulation.proofs.ZeroInsts.{IsZeroInst}
-use Rattle.std.proofs.Common.{◌≡◌, ℕ, zero, suc, ◌+◌, ◌≤◌, Bool, List, [], ◌∷◌, ◌++◌, map, length, drop, flat_map, Option, Some, None, refl, sym, ◌∙◌, ap, subst, arith}
-use Rattle.std.specs.List.{AllByRecursion}
+use Rattle.clif_simulation.proofs.ZeroInsts.{InTurn}
+use Rattle.std.proofs.Common.{◌≡◌, ℕ, zero, suc, ◌+◌, ◌≤◌, Bool, List, [], ◌++◌, map, length, drop, flat_map, Option, Some, None, refl, sym, ◌∙◌, ap, subst, arith}
 use Rattle.clif_types.specs.declared.target.PointerWidth.{PointerWidth}
-use Rattle.clif_ir.specs.Body.{Body, inst_at}
+use Rattle.clif_ir.specs.Body.{resolved, Body}
 use Rattle.clif_ir.specs.Consistent.{IsConsistent}
 use Rattle.clif_paths.specs.Places.{inside, Path, Follows, end_of}
-use Rattle.clif_paths.specs.State.{zero_of}
 use Rattle.clif_paths.specs.Blocks.{Blocks, front}
 use Rattle.clif_ssa.specs.Ssa.{SsaState, sealed_of}
 use Rattle.clif_ssa.specs.Tables.{is_yes, pending_of}
@@ -15,20 +13,20 @@ use Rattle.clif_meaning.specs.Request.{AnsweredCall}
 use Rattle.clif_meaning.specs.Instruction.{Edge}
 use Rattle.clif_meaning.specs.Program.{Item}
 use Rattle.clif_meaning.specs.World.{World}
-use Rattle.clif_meaning.specs.Outcome.{Outcome, Gives, Goes, Returns, Traps, Calls, NoStep, outcome_of}
+use Rattle.clif_meaning.specs.Outcome.{Outcome, Gives, Goes, Returns, Traps, Calls, NoStep}
 use Rattle.clif_meaning.specs.Machine.{Machine, At, Observation}
 use Rattle.clif_meaning.specs.ScriptMachine.{ScriptRun, ScriptState}
-use Rattle.clif_meaning.specs.FunctionMachine.{Collector, FunctionRun, FunctionState, function_machine, value_bits}
+use Rattle.clif_meaning.specs.FunctionMachine.{Collector, FunctionRun, FunctionState, function_machine}
 use Rattle.clif_meaning.specs.FunctionView.{Placed}
 use Rattle.clif_meaning.specs.View.{items_of}
 use Rattle.clif_meaning.proofs.Stuttering.{steps_from}
 use Rattle.clif_simulation.specs.Tables.{program_so_far, block_name}
 use Rattle.clif_simulation.specs.Carries.{carried, own_placed}
 use Rattle.clif_simulation.specs.Reading.{behind, script_run_so_far, function_run_so_far}
-use Rattle.clif_simulation.specs.Interrupted.{taken_of, Unknowns, ScriptStanding, FunctionStanding, function_edge, function_goes, script_enters, function_enters, variables_entering, values_entering, interrupted_script, interrupted_function}
+use Rattle.clif_simulation.specs.Interrupted.{taken_of, Unknowns, ScriptStanding, FunctionStanding, function_goes, script_enters, function_enters, variables_entering, values_entering, interrupted_script, interrupted_function}
 use Rattle.clif_simulation.proofs.Agreement.{Agrees, ZerosAreZero, agrees_still, zeros_still}
 use Rattle.clif_simulation.proofs.Fronts
-use Rattle.clif_simulation.proofs.Fronts.{HasFront, has_front, placed_inst, zero_placed, is_zero_placed}
+use Rattle.clif_simulation.proofs.Fronts.{HasFront, has_front, placed_inst}
 use Rattle.clif_simulation.proofs.OpenEdges
 use Rattle.clif_simulation.proofs.OpenFlow
 use Rattle.clif_simulation.proofs.Whole.{Whole}
@@ -48,8 +46,8 @@ none_taken NoStep = refl
 
 -- The zeros at a block's front are passed without an edge --------------------------------------------------------------
 
-module _ (s : SsaState) (unknowns : Unknowns) (entry : ℕ) (run : FunctionRun) (f : Body) (blocks : Blocks) (b : ℕ) (rest : List Placed) (c : FunctionStanding)
-    (blank : (w y : ℕ) → (blocks.function.definition w).kind ≡ zero_of y → c.state.values w ≡ 0)
+module _ (s : SsaState) (unknowns : Unknowns) (entry : ℕ) (run : FunctionRun) (f : Body) (resolves : (v : ℕ) → run.function.resolved v ≡ resolved f v) (blocks : Blocks)
+    (b : ℕ) (zeros : List ℕ) (in_turn : InTurn f zeros) (rest : List Placed) (c : FunctionStanding)
   where
     abbrev machine : Machine FunctionState Observation
     machine = function_machine run
@@ -58,26 +56,15 @@ module _ (s : SsaState) (unknowns : Unknowns) (entry : ℕ) (run : FunctionRun) 
     standing state = record { state = state; entries = c.entries }
 
     abbrev Left : ℕ → FunctionState → Type 0
-    Left = Fronts.ZerosLeft run f blocks b rest c.state blank
-
-    no_edge : (n : ℕ) (state : FunctionState) → Left (suc n) state → function_edge run state state.control ≡ None
-    unfolding zero_placed
-    no_edge n state z = ap (function_edge run state) z.at ∙ by z.left z.count z.all
-      where
-        by : (left : List ℕ) → length left ≡ suc n → AllByRecursion (IsZeroInst f blocks b) left → function_edge run state (At (map (placed_inst f) left ++ rest)) ≡ None
-        by [] count all = absurd (omega (arith, count))
-        by (inst ∷ left) count all =
-            ap (λ (item : Placed). function_edge run state (At (item ∷ (map (placed_inst f) left ++ rest))))
-            (is_zero_placed f (inst_at f inst) all.0.value all.0.shape all.0.result)
-            ∙ none_taken (outcome_of run.world (zero_placed f all.0.value).instruction.operation (zero_placed f all.0.value).instruction.controlling
-            (map run.function.value_type (zero_placed f all.0.value).instruction.operands) (map (value_bits run state) (zero_placed f all.0.value).instruction.operands) state.memory)
+    Left = Fronts.ZerosLeft run f resolves blocks b zeros in_turn rest c.state
 
     pub zeros_pass : (j n m : ℕ) → j + n ≡ m → Left m c.state → steps_from (interrupted_function s unknowns entry run) j c ≡ standing (steps_from machine j c.state)
     zeros_pass zero n m is z = refl
     zeros_pass (suc j) n m is z =
         ap (interrupted_function s unknowns entry run).next (zeros_pass j (suc n) m (omega (arith, is)) z)
         ∙ ap (λ (o : Option (Edge ℕ ℕ)). function_goes s unknowns (standing (steps_from machine j c.state)) o (machine.next (steps_from machine j c.state)))
-        (no_edge n (steps_from machine j c.state) (Fronts.zeros_left run f blocks b rest c.state blank j (suc n) m (omega (arith, is)) z))
+        (Fronts.no_edge run f resolves blocks b zeros in_turn rest c.state n (steps_from machine j c.state)
+        (Fronts.zeros_left run f resolves blocks b zeros in_turn rest c.state j (suc n) m (omega (arith, is)) z))
 
 module _ (calls : List AnsweredCall) (f : Body) (ssa : SsaState) (consistent : IsConsistent f) (carries : Whole calls f ssa)
     (width : PointerWidth) (world : World) (tracked : Name → Bool) (collector : Collector) (unknowns : Unknowns) (entry : ℕ) (entry_name : Name)
@@ -157,30 +144,27 @@ module _ (calls : List AnsweredCall) (f : Body) (ssa : SsaState) (consistent : I
             c = function_enters ssa unknowns b entries q
 
             abbrev has : HasFront f carries.tables b (carries.own.insts b)
-            has = has_front f carries.tables b (carries.own.insts b) (carries.describes.instructions b) (carries.own_inserted b)
+            has = has_front f consistent carries.tables b (carries.own.insts b) (carries.describes.instructions b) (carries.own_inserted b)
 
             abbrev behind_zeros : List Placed
             behind_zeros = map (placed_inst f) (carries.own.insts b)
 
             abbrev IsLeft : ℕ → FunctionState → Type 0
-            IsLeft = Fronts.ZerosLeft right_run f carries.tables b behind_zeros c.state zeros.of_value
+            IsLeft = Fronts.ZerosLeft right_run f (λ v. refl) carries.tables b has.zeros has.in_turn behind_zeros c.state
 
             all_left : IsLeft (length has.zeros) c.state
-            all_left = record {
-              left = has.zeros;
-              count = refl;
-              all = has.are_zeros;
-              at = function_at ∙ ap (λ (ps : List Placed). At ps) has.in_order;
-              memory = refl;
-              events = refl;
-              values = λ w. refl;
-            }
+            all_left =
+                Fronts.none_done right_run f (λ v. refl) carries.tables b has.zeros has.in_turn behind_zeros c.state has.are_zeros
+                (function_at ∙ ap (λ (ps : List Placed). At ps) has.in_order)
 
             abbrev d : FunctionState
             d = steps_from (function_machine right_run) (length has.zeros) c.state
 
             done : IsLeft 0 d
-            done = Fronts.zeros_left right_run f carries.tables b behind_zeros c.state zeros.of_value (length has.zeros) 0 (length has.zeros) (omega arith) all_left
+            done = Fronts.zeros_left right_run f (λ v. refl) carries.tables b has.zeros has.in_turn behind_zeros c.state (length has.zeros) 0 (length has.zeros) (omega arith) all_left
+
+            done_values : (w : ℕ) → d.values w ≡ values w
+            done_values = Fronts.same_values right_run f (λ v. refl) carries.tables b has.zeros has.in_turn behind_zeros c.state zeros.of_value 0 d done
 
             running : Running a (record { state = d; entries = suc entries })
             running = record {
@@ -202,13 +186,13 @@ module _ (calls : List AnsweredCall) (f : Body) (ssa : SsaState) (consistent : I
                 own_is = refl;
                 left_is = carries.items b B named;
                 script_at = script_at;
-                function_at = Fronts.at_rest right_run f carries.tables b behind_zeros c.state zeros.of_value d done;
+                function_at = Fronts.at_rest right_run f (λ v. refl) carries.tables b has.zeros has.in_turn behind_zeros c.state d done;
                 same_memory = same_memory ∙ sym done.memory;
                 same_events = same_events ∙ sym done.events;
                 agrees = agrees_still (OpenEdges.live calls f ssa consistent carries) (OpenEdges.program calls f ssa consistent carries)
-                    (OpenEdges.function calls f ssa consistent carries) path variables p.names values d.values done.values agrees;
+                    (OpenEdges.function calls f ssa consistent carries) path variables p.names values d.values done_values agrees;
                 zeros = zeros_still (OpenEdges.program calls f ssa consistent carries) (OpenEdges.function calls f ssa consistent carries) path variables p.names values
-                    d.values done.values zeros;
+                    d.values done_values zeros;
               };
             }
 
@@ -216,6 +200,6 @@ module _ (calls : List AnsweredCall) (f : Body) (ssa : SsaState) (consistent : I
             arrives = (
               length has.zeros,
               subst (Running a)
-                  (sym (zeros_pass ssa unknowns entry right_run f carries.tables b behind_zeros c zeros.of_value (length has.zeros) 0 (length has.zeros) (omega arith) all_left))
+                  (sym (zeros_pass ssa unknowns entry right_run f (λ v. refl) carries.tables b has.zeros has.in_turn behind_zeros c (length has.zeros) 0 (length has.zeros) (omega arith) all_left))
                   running,
             )

@@ -1,6 +1,6 @@
 -- Into an unsealed block: variables have any bits, parameters that wait have theirs, the caller's parameters get what the
 -- edge passes, name and value alike, and what agreed before still does.
-use Rattle.std.proofs.Common.{◌≡◌, ◌≢◌, ◌⊎◌, ℕ, ◌≤◌, false, List, ◌∷◌, length, None, inl, inr, sym, ◌∙◌, ap, arith}
+use Rattle.std.proofs.Common.{◌≡◌, ◌≢◌, ◌⊎◌, ℕ, ◌≤◌, false, List, ◌∷◌, length, None, inl, inr, sym, ◌∙◌, ap, subst, arith}
 use Rattle.clif_paths.specs.Places.{Arm, Path}
 use Rattle.clif_paths.specs.State.{fresh, Program, born, pending, zero_of, Function}
 use Rattle.clif_paths.specs.Denotation.{Instance, zero, unknown, given, variable, name, instances, defined, denotes}
@@ -10,7 +10,7 @@ use Rattle.clif_paths.proofs.Executing.{program_steps, function_steps, entered-u
 use Rattle.clif_paths.proofs.Remembering.{program_knows, function_knows}
 use Rattle.clif_meaning.specs.Name.{Name}
 use Rattle.clif_simulation.specs.Tables.{code}
-use Rattle.clif_simulation.proofs.Agreement.{Agrees, ZerosAreZero, too_young}
+use Rattle.clif_simulation.proofs.Agreement.{Agrees, IsBlank, ZerosAreZero, too_young}
 use Rattle.clif_simulation.proofs.Codes
 use Rattle.clif_simulation.proofs.Giving.{In}
 
@@ -34,7 +34,7 @@ pub record OpensWith (live : ℕ → Type 0) (program : Program) (function : Fun
   pub names_stay : (n : Name) → (program.naming (code n)).home ≢ arm.target → after n ≡ names n
   pub kinds : (w : ℕ) → live w → (function.definition w).home ≡ arm.target → IsAtFront function parameters answered bits new w
   pub others_stay : (w : ℕ) → (function.definition w).home ≢ arm.target → new w ≡ old w
-  pub zeros_stay : (w y : ℕ) → (function.definition w).kind ≡ zero_of y → new w ≡ old w
+  pub zeros_stay : (w : ℕ) → IsBlank (function.definition w).kind → new w ≡ old w
 
 too_new : (x : ℕ) (arm : Arm) (path : Path) (i : Instance) → age i ≤ length path → i ≡ unknown x (arm ∷ path) → ⊥
 too_new x arm path i old new =
@@ -135,7 +135,8 @@ module _ (live : ℕ → Type 0) (program : Program) (function : Function) (arm 
         at_front at (inr (inl waits)) =
             absurd (too_new waits.0 arm path (instances program path (name (code n))) (program_knows program path (name (code n))) (is ∙ pending_is w waits.0 at waits.1))
         at_front at (inr (inr put)) =
-            zeros.of_name n put.0 (is ∙ zero_is w put.0 at put.1) ∙ sym (opens.zeros_stay w put.0 put.1 ∙ zeros.of_value w put.0 put.1)
+            let blank : IsBlank (function.definition w).kind = subst IsBlank (sym put.1) tt in
+            zeros.of_name n put.0 (is ∙ zero_is w put.0 at put.1) ∙ sym (opens.zeros_stay w blank ∙ zeros.of_value w blank)
 
         by : Dec ((function.definition w).home ≡ arm.target) → names n ≡ new w
         by (yes at) = at_front at (opens.kinds w is_live at)
@@ -161,5 +162,5 @@ module _ (live : ℕ → Type 0) (program : Program) (function : Function) (arm 
     opened_zeros = record {
       of_variable = λ x y is. absurd (unknown_no_zero x y (arm ∷ path) (sym (variable_is x) ∙ is));
       of_name = λ n y is. zero_name n y is (dec_place (program.naming (code n)).home arm.target);
-      of_value = λ w y is. opens.zeros_stay w y is ∙ zeros.of_value w y is;
+      of_value = λ w blank. opens.zeros_stay w blank ∙ zeros.of_value w blank;
     }

@@ -8,7 +8,6 @@ use Rattle.clif_ir.specs.Consistent.{IsConsistent}
 use Rattle.clif_ir.specs.Instruction.{destinations}
 use Rattle.clif_ir.specs.declared.block_call.BlockArg.{BlockArg}
 use Rattle.clif_ir.specs.declared.block_call.BlockCall.{BlockCall}
-use Rattle.clif_ir.specs.declared.instructions.InstructionData.{InstructionData}
 use Rattle.clif_ssa.specs.LookUp.{branch_block}
 use Rattle.clif_ssa.specs.Ssa.{SsaState, predecessors_of}
 use Rattle.clif_ssa.specs.Sound.{edges_at, edge_target}
@@ -122,7 +121,7 @@ module _ (calls : List AnsweredCall) (f : Body) (s : SsaState) (consistent : IsC
 
   zero_leads_nowhere : (c i k b : ℕ) → IsZeroInst f carries.tables c i → edge_target f i k ≡ Some b → ⊥
   zero_leads_nowhere c i k b is_zero leads =
-      by k (sym (ap (λ (shape : InstructionData). slice_get (map (λ (edge : BlockCall). edge.block) (destinations shape)) k) is_zero.shape) ∙ leads)
+      by k (sym (ap (λ (edges : List BlockCall). slice_get (map (λ (edge : BlockCall). edge.block) edges) k) is_zero.no_edges) ∙ leads)
     where
       by : (k : ℕ) → slice_get (map (λ (edge : BlockCall). edge.block) []) k ≡ Some b → ⊥
       by zero h = cc

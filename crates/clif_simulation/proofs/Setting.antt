@@ -1,14 +1,11 @@
 -- How both machines of an unfinished function come to stand side by side at the front of the entry, and go on so.
-use Rattle.clif_simulation.proofs.ZeroInsts.{IsZeroInst, zero_insts}
-use Rattle.clif_ssa.specs.Zeros.{insts_of_zeros}
-use Rattle.std.proofs.Common.{◌≡◌, ◌≢◌, ℕ, zero, suc, ◌≤◌, ◌%◌, ◌^◌, if◌then◌else◌, Bool, true, false, List, [], ◌∷◌, ◌++◌, length, map, drop, flat_map, slice_get, Some, Contains, ◌⊎◌, inl, inr, refl, sym, ◌∙◌, ap, subst, arith}
+use Rattle.clif_simulation.proofs.Fronts
+use Rattle.clif_simulation.proofs.ZeroInsts.{IsZeroValue}
+use Rattle.clif_meaning.proofs.Stuttering.{steps_from}
+use Rattle.std.proofs.Common.{◌≡◌, ◌≢◌, ℕ, zero, suc, ◌≤◌, if◌then◌else◌, Bool, true, false, List, [], ◌∷◌, ◌++◌, length, map, drop, flat_map, slice_get, Some, Contains, ◌⊎◌, inl, inr, refl, sym, ◌∙◌, ap, subst, arith}
 use Rattle.std.proofs.Math.Decide.{ℕ_discrete}
-use Rattle.std.proofs.lemmas.Bool.Decides.{nat_tests}
-use Rattle.std.proofs.lemmas.List.{map-append}
-use Rattle.std.specs.List.{AllByRecursion}
-use Rattle.clif_types.specs.Types.{bits_of}
 use Rattle.clif_types.specs.declared.target.PointerWidth.{PointerWidth}
-use Rattle.clif_ir.specs.Body.{Body, inst_at, block_at, resolved}
+use Rattle.clif_ir.specs.Body.{Body, resolved}
 use Rattle.clif_ir.specs.Consistent.{IsConsistent}
 use Rattle.clif_paths.specs.Places.{start, inside, same_place, Edges, Path}
 use Rattle.clif_paths.specs.State.{Program, Function, Kind, unborn, born, pending, complete, zero_of, Definition}
@@ -19,7 +16,7 @@ use Rattle.clif_paths.proofs.Executing.{program_steps, entered-unsealed, variabl
 use Rattle.clif_ssa.specs.declared.tables.Pending.{Pending}
 use Rattle.clif_ssa.specs.Ssa.{SsaState, record_of, sealed_of}
 use Rattle.clif_ssa.specs.Tables.{is_yes, pending_of}
-use Rattle.clif_ssa.specs.Sound.{HasInstructions, HomeFits}
+use Rattle.clif_ssa.specs.Sound.{HomeFits}
 use Rattle.clif_meaning.specs.Bits.{Bits}
 use Rattle.clif_meaning.specs.Name.{Name}
 use Rattle.clif_meaning.specs.Request.{AnsweredCall, script_of}
@@ -32,14 +29,14 @@ use Rattle.clif_meaning.specs.ScriptMachine.{ScriptRun, ScriptState, script_mach
 use Rattle.clif_meaning.specs.FunctionMachine as function_machine_of
 use Rattle.clif_meaning.specs.FunctionMachine.{Collector, FunctionRun, FunctionState, function_machine, same_value}
 use Rattle.clif_meaning.specs.FunctionView.{Placed}
-use Rattle.clif_meaning.specs.View.{placed_of, items_of, first_type}
+use Rattle.clif_meaning.specs.View.{items_of}
 use Rattle.clif_meaning.specs.WellPlaced.{program_code, IsWellPlaced}
 use Rattle.clif_meaning.proofs.StraightLine.{nothing_contained}
 use Rattle.clif_simulation.specs.Tables.{code, answered, block_name, program_so_far}
 use Rattle.clif_simulation.specs.Carries.{carried}
 use Rattle.clif_simulation.specs.Reading.{starting_at, IsAtEnd, StandAlike, StartAlike, SideBySide}
 use Rattle.clif_simulation.proofs.Unbranched.{CarriesUnbranched}
-use Rattle.clif_simulation.proofs.Agreement.{any_value, Agrees, ZerosAreZero, zeros_agree}
+use Rattle.clif_simulation.proofs.Agreement.{any_value, Agrees, IsBlank, ZerosAreZero, zeros_agree}
 use Rattle.clif_simulation.proofs.Entered.{ComesAlong, EntersThere, entered_agrees, entered_zeros}
 use Rattle.clif_simulation.proofs.Giving.{In, contained_in, in_contained, value_keeps, same_all}
 use Rattle.clif_simulation.proofs.IntoBlock
@@ -53,7 +50,7 @@ use Rattle.clif_simulation.proofs.Counted.{gives_results, terminator_gives_none}
 use Rattle.clif_simulation.proofs.Matching.{item_here, nothing_behind, rest_behind}
 use Rattle.clif_simulation.proofs.Listed.{place_within}
 use Rattle.clif_simulation.proofs.Reaching
-use Rattle.clif_simulation.proofs.Fronts.{zero_placed, is_zero_placed, any_first, zero_bits}
+use Rattle.clif_simulation.proofs.Fronts.{HasFront, has_front, placed_inst}
 use Rattle.clif_simulation.proofs.Entry
 use Rattle.clif_simulation.proofs.Alongside
 
@@ -154,76 +151,47 @@ module _ (calls : List AnsweredCall) (f : Body) (ssa : SsaState) (consistent : I
 
     -- The zeros come first --------------------------------------------------------------------------------------------
 
-    placed_inst : ℕ → Placed
-    placed_inst inst = placed_of f (inst_at f inst)
+    abbrev has : HasFront f carries.whole.tables e (carries.whole.own.insts e)
+    has = has_front f consistent carries.whole.tables e (carries.whole.own.insts e) (carries.whole.describes.instructions e) (carries.whole.own_inserted e)
 
-    has : HasInstructions f carries.whole.tables e (carries.whole.own.insts e)
-    has = carries.whole.describes.instructions e
+    abbrev behind_zeros : List Placed
+    behind_zeros = flat_map (carried calls) items
 
-    block_items : items_of f e ≡ map placed_inst (insts_of_zeros has.zeros) ++ flat_map (carried calls) items
-    unfolding placed_inst
-    block_items =
-        ap (λ (b : Bool). if b then map placed_inst (block_at f e).insts else []) (any_first f.layout e (Entry.found calls f ssa carries entry is_entry))
-        ∙ ap (map placed_inst) has.in_order
-        ∙ map-append placed_inst (insts_of_zeros has.zeros) (carries.whole.own.insts e)
-        ∙ ap (λ (rest : List Placed). map placed_inst (insts_of_zeros has.zeros) ++ rest) (carries.items e entry (Entry.named calls f ssa carries entry is_entry))
+    block_items : items_of f e ≡ map (placed_inst f) has.zeros ++ behind_zeros
+    block_items = has.in_order ∙ ap (λ (rest : List Placed). map (placed_inst f) has.zeros ++ rest) (carries.items e entry (Entry.named calls f ssa carries entry is_entry))
 
-    -- the value is a zero's
-    abbrev IsZeroValue : ℕ → Type 0
-    IsZeroValue w = (x : ℕ) × (carries.whole.tables.function.definition w ≡ record { home = front e; kind = zero_of x })
+    -- the value is a zero's, or that of a step of one, and so no path sees it
+    abbrev IsZeroThere : ℕ → Type 0
+    IsZeroThere = IsZeroValue carries.whole.tables e
+
+    blank_there : (w : ℕ) → IsZeroThere w → IsBlank (carries.whole.tables.function.definition w).kind
+    blank_there w (inl put) = subst IsBlank (sym (ap (λ (d : Definition). d.kind) put.1)) tt
+    blank_there w (inr inner) = subst IsBlank (sym (ap (λ (d : Definition). d.kind) inner)) tt
 
     module _ (q : FunctionState) where
       abbrev right_from : Machine FunctionState Observation
       right_from = starting_at (function_machine right_run) q
 
-      -- these zeros are left to do, and the others' values are zero now
-      record ZerosLeft (left : List ℕ) (state : FunctionState) : Type 0 where
-        pub at : state.control ≡ At (map placed_inst left ++ flat_map (carried calls) items)
-        pub memory : state.memory ≡ q.memory
-        pub events : state.events ≡ q.events
-        pub values : (w : ℕ) → (state.values w ≡ q.values w) ⊎ ((state.values w ≡ 0) × IsZeroValue w)
+      -- the zeros are done, and nothing else has changed
+      abbrev ZerosDone : FunctionState → Type 0
+      ZerosDone = Fronts.ZerosLeft right_run f (λ v. refl) carries.whole.tables e has.zeros has.in_turn behind_zeros q 0
 
-      zero_step : (inst : ℕ) (left : List ℕ) (state : FunctionState) → IsZeroInst f carries.whole.tables e inst → ZerosLeft (inst ∷ left) state
-          → ZerosLeft left (function_machine_of.function_step right_run state)
-      unfolding zero_placed placed_inst
-      zero_step inst left state put z =
-          subst (λ (s : FunctionState). ZerosLeft left s) (sym next) (record {
-            at = refl;
-            memory = z.memory;
-            events = z.events;
-            values = λ w. by w (same_value w put.value) refl (z.values w);
-          })
-        where
-          is : placed_of f (inst_at f inst) ≡ zero_placed f put.value
-          is = is_zero_placed f (inst_at f inst) put.value put.shape put.result
-
-          next : function_machine_of.function_step right_run state ≡ function_machine_of.run_placed right_run state (zero_placed f put.value) (map (λ i. placed_of f (inst_at f i)) left ++ flat_map (carried calls) items)
-          next =
-              ap (function_machine_of.step_at right_run state) z.at
-              ∙ ap (λ (item : Placed). function_machine_of.run_placed right_run state item (map (λ i. placed_of f (inst_at f i)) left ++ flat_map (carried calls) items)) is
-
-          by : (w : ℕ) (test : Bool) → same_value w put.value ≡ test
-              → (state.values w ≡ q.values w) ⊎ ((state.values w ≡ 0) × IsZeroValue w)
-              → ((if test then 0 % 2 ^ bits_of (first_type f (put.value ∷ [])) else state.values w) ≡ q.values w)
-              ⊎ (((if test then 0 % 2 ^ bits_of (first_type f (put.value ∷ [])) else state.values w) ≡ 0) × IsZeroValue w)
-          by w true one before =
-              let same : w ≡ put.value = grind (arith, nat_tests) in
-              inr (zero_bits (bits_of (first_type f (put.value ∷ []))), (put.variable, ap carries.whole.tables.function.definition same ∙ put.defined))
-          by w false other before = before
-
-      zeros_done : (left : List ℕ) → AllByRecursion (IsZeroInst f carries.whole.tables e) left → (n : ℕ) → ZerosLeft left (state_after right_from n)
-          → (m : ℕ) × ZerosLeft [] (state_after right_from m)
-      zeros_done [] all n z = (n, z)
-      zeros_done (inst ∷ left) all n z = zeros_done left all.1 (suc n) (zero_step inst left (state_after right_from n) all.0 z)
+      steps_are : (m : ℕ) → steps_from (function_machine right_run) m q ≡ state_after right_from m
+      steps_are zero = refl
+      steps_are (suc m) = ap (function_machine right_run).next (steps_are m)
 
       -- behind the zeros
-      past_zeros : q.control ≡ At (items_of f e) → (m : ℕ) × ZerosLeft [] (state_after right_from m)
-      past_zeros at = zeros_done (insts_of_zeros has.zeros) (zero_insts f carries.whole.tables e has.zeros has.are_zeros) 0 (record {
-        at = at ∙ ap (λ (rest : List Placed). At rest) block_items;
-        memory = refl;
-        events = refl;
-        values = λ w. inl refl;
-      })
+      past_zeros : q.control ≡ At (items_of f e) → (m : ℕ) × ZerosDone (state_after right_from m)
+      past_zeros at = (
+        length has.zeros,
+        subst ZerosDone (steps_are (length has.zeros))
+            (Fronts.zeros_left right_run f (λ v. refl) carries.whole.tables e has.zeros has.in_turn behind_zeros q (length has.zeros) 0 (length has.zeros) (omega arith)
+            (Fronts.none_done right_run f (λ v. refl) carries.whole.tables e has.zeros has.in_turn behind_zeros q has.are_zeros
+            (at ∙ ap (λ (rest : List Placed). At rest) block_items))),
+      )
+
+      at_items : (state : FunctionState) → ZerosDone state → state.control ≡ At behind_zeros
+      at_items = Fronts.at_rest right_run f (λ v. refl) carries.whole.tables e has.zeros has.in_turn behind_zeros q
 
     -- At the front of the entry ---------------------------------------------------------------------------------------
 
@@ -293,7 +261,7 @@ module _ (calls : List AnsweredCall) (f : Body) (ssa : SsaState) (consistent : I
         enters_live =
             IntoBlock.enters_front calls f ssa consistent carries.whole e (sealed_none (sealed_of ssa e) is_sealed) entry named
             (λ place. sealed_at carries.whole.tables.count carries.whole.tables.sealed place) known start 0 [] (λ w. 0) (λ w. 0)
-            (λ w defined. refl) (λ w elsewhere. refl) (λ w y kind. refl) (λ w y kind. refl)
+            (λ w defined. refl) (λ w elsewhere. refl) (λ w blank. refl) (λ w blank. refl)
 
         same_denoted : (path : Path) (w : ℕ) → carries.whole.tables.function.resolve w ≡ w → denotes program function path w ≡ denotes program carries.whole.tables.function path w
         same_denoted =
@@ -324,25 +292,25 @@ module _ (calls : List AnsweredCall) (f : Body) (ssa : SsaState) (consistent : I
               ∙ enters_live.defined n there;
           only_names = enters_live.only_names;
           comes = λ w is_live. comes w (ℕ_discrete (carries.whole.tables.function.resolve w) w);
-          zeros_stay = λ w y kind. refl;
+          zeros_stay = λ w blank. refl;
         }
 
         blank_agrees : Agrees any_value program function [] (λ x. 0) (λ n. 0) (λ w. 0)
         blank_agrees = zeros_agree any_value program function [] (λ x. 0) (λ n. 0) (λ w. 0) (λ x. refl) (λ n. refl) (λ w. refl)
 
         blank_zeros : ZerosAreZero program function [] (λ x. 0) (λ n. 0) (λ w. 0)
-        blank_zeros = record { of_variable = λ x y is. refl; of_name = λ n y is. refl; of_value = λ w y is. refl }
+        blank_zeros = record { of_variable = λ x y is. refl; of_name = λ n y is. refl; of_value = λ w blank. refl }
 
         pub from_start : (ahead : ℕ) × IsAlongside 0 p0 (state_after (starting_at (function_machine right_run) q0) ahead)
         from_start =
             let past = past_zeros q0 refl in
             (past.0, alongside (state_after (starting_at (function_machine right_run) q0) past.0) past.1)
           where
-            alongside : (state : FunctionState) → ZerosLeft q0 [] state → IsAlongside 0 p0 state
+            alongside : (state : FunctionState) → ZerosDone q0 state → IsAlongside 0 p0 state
             alongside state z = record {
               within = omega arith;
               script_at = refl;
-              function_at = z.at;
+              function_at = at_items q0 state z;
               same_memory = sym z.memory;
               same_events = sym z.events;
               names = p0.names;
@@ -353,15 +321,15 @@ module _ (calls : List AnsweredCall) (f : Body) (ssa : SsaState) (consistent : I
               values_are = λ w i within home. by w (is-end carries.whole.tables.function w e i home) (z.values w);
             }
               where
-                zero_there : (w y : ℕ) → (function.definition w).kind ≡ zero_of y → values_there w ≡ 0
+                zero_there : (w : ℕ) → IsBlank (function.definition w).kind → values_there w ≡ 0
                 zero_there =
                     (entered_zeros any_value program function (first_arm e) [] parameters (answered calls) (λ w. 0) (λ w. 0) enters (λ x. 0) (λ n. 0) blank_agrees blank_zeros
                     world.arguments (inl as_many)).of_value
 
-                by : (w : ℕ) → carries.whole.tables.function.resolve w ≡ w → (state.values w ≡ q0.values w) ⊎ ((state.values w ≡ 0) × IsZeroValue w) → values_there w ≡ state.values w
+                by : (w : ℕ) → carries.whole.tables.function.resolve w ≡ w → (state.values w ≡ q0.values w) ⊎ ((state.values w ≡ 0) × IsZeroThere w) → values_there w ≡ state.values w
                 by w itself (inl same) = sym (same_values w) ∙ sym same
                 by w itself (inr put) =
-                    zero_there w put.1.0 (ap (λ (d : Definition). d.kind) (defined-end carries.whole.tables.function w itself ∙ put.1.1)) ∙ sym put.0
+                    zero_there w (subst (λ (d : Definition). IsBlank d.kind) (sym (defined-end carries.whole.tables.function w itself)) (blank_there w put.1)) ∙ sym put.0
 
     -- where the entry isn't sealed: variables have any bits
     module _ (unsealed : is_yes (sealed_of ssa e) ≡ false) (p : ScriptState) (q : FunctionState) (start_alike : StartAlike calls f ssa e entry p q) where
@@ -404,7 +372,7 @@ module _ (calls : List AnsweredCall) (f : Body) (ssa : SsaState) (consistent : I
       nothing_yet w = absent_value program function w [] (λ visits. visits)
 
       -- a parameter at the front waits for its variable, and has its bits
-      waits : (state : FunctionState) → ZerosLeft q [] state → (w x : ℕ) → (function.definition w).home ≡ front e → (function.definition w).kind ≡ pending x
+      waits : (state : FunctionState) → ZerosDone q state → (w x : ℕ) → (function.definition w).home ≡ front e → (function.definition w).kind ≡ pending x
           → p.variables x ≡ state.values w
       waits state z w x at is = by (carries.whole.describes.pends w x (sym (carries.whole.describes.resolves w) ∙ is-end carries.whole.tables.function w e 0 at) (front_kind w at (pending x) is)) (z.values w)
         where
@@ -414,14 +382,11 @@ module _ (calls : List AnsweredCall) (f : Body) (ssa : SsaState) (consistent : I
               start_alike.waiting (record { variable = x; param = w })
               (subst (λ (c : ℕ). Contains (pending_of (sealed_of ssa c)) (record { variable = x; param = w })) (same_block home) there)
 
-          no_zero : IsZeroValue w → ⊥
-          no_zero put = other (sym (front_kind w at (pending x) is) ∙ ap (λ (d : Definition). d.kind) put.1)
-            where
-              other : pending x ≡ zero_of put.0 → ⊥
-              other h = cc
+          no_zero : IsZeroThere w → ⊥
+          no_zero put = subst IsBlank (front_kind w at (pending x) is) (blank_there w put)
 
           by : ((b : ℕ) × Contains (pending_of (sealed_of ssa b)) (record { variable = x; param = w })) ⊎ Contains {X = Pending} [] (record { variable = x; param = w })
-              → (state.values w ≡ q.values w) ⊎ ((state.values w ≡ 0) × IsZeroValue w) → p.variables x ≡ state.values w
+              → (state.values w ≡ q.values w) ⊎ ((state.values w ≡ 0) × IsZeroThere w) → p.variables x ≡ state.values w
           by (inl found) (inl same) = waiting_bits found.0 found.1 ∙ sym same
           by (inl found) (inr put) = absurd (no_zero put.1)
           by (inr none) now = absurd (nothing_contained {X = Pending} (record { variable = x; param = w }) none)
@@ -450,7 +415,7 @@ module _ (calls : List AnsweredCall) (f : Body) (ssa : SsaState) (consistent : I
       values_elsewhere state w elsewhere = rw (same_place-other (function.definition w).home (front e) elsewhere) refl
 
       -- only a parameter that waits denotes what a variable holds here
-      of_variable : (state : FunctionState) → ZerosLeft q [] state → (x w : ℕ)
+      of_variable : (state : FunctionState) → ZerosDone q state → (x w : ℕ)
           → instances program (straight e 0) (variable x) ≡ denotes program function (straight e 0) w → p.variables x ≡ front_values state w
       of_variable state z x w same = by (dec_place (function.definition w).home (front e))
         where
@@ -492,19 +457,16 @@ module _ (calls : List AnsweredCall) (f : Body) (ssa : SsaState) (consistent : I
       fits w at kind of_kind = subst (λ (k : Kind). HomeFits carries.whole.tables w k) (front_kind w at kind of_kind) (carries.whole.describes.homes w)
 
       -- a parameter of the caller's has its answer's bits, and no other value at the front denotes it
-      of_parameter : (state : FunctionState) → ZerosLeft q [] state → (n : Name) (w : ℕ) → In n parameters → (function.definition w).home ≡ front e
+      of_parameter : (state : FunctionState) → ZerosDone q state → (n : Name) (w : ℕ) → In n parameters → (function.definition w).home ≡ front e
           → given (code n) (straight e 0) ≡ denotes program function (straight e 0) w → p.names n ≡ state.values w
       of_parameter state z n w among at is = by_kind (function.definition w).kind refl (is ∙ denotes_front w at (function.definition w).kind refl)
         where
-          born_no_zero : (m y : ℕ) → born m ≡ zero_of y → ⊥
-          born_no_zero m y h = cc
-
-          answers : w ≡ answered calls n → (m : ℕ) → (function.definition w).kind ≡ born m → (state.values w ≡ q.values w) ⊎ ((state.values w ≡ 0) × IsZeroValue w) → p.names n ≡ state.values w
+          answers : w ≡ answered calls n → (m : ℕ) → (function.definition w).kind ≡ born m → (state.values w ≡ q.values w) ⊎ ((state.values w ≡ 0) × IsZeroThere w) → p.names n ≡ state.values w
           answers same m of_kind (inl stays) =
               start_alike.names n (λ path walk. inl (in_contained parameters n among))
               ∙ ap q.values (IntoBlock.parameter_live calls f ssa consistent carries.whole e entry named n among ∙ sym same) ∙ sym stays
           answers same m of_kind (inr put) =
-              absurd (born_no_zero m put.1.0 (sym (front_kind w at (born m) of_kind) ∙ ap (λ (d : Definition). d.kind) put.1.1))
+              absurd (subst IsBlank (front_kind w at (born m) of_kind) (blank_there w put.1))
 
           same_given : (m : ℕ) → ◌≡◌ {A = Instance} (given (code n) (straight e 0)) (given m (straight e 0)) → code n ≡ m
           same_given m h = cc
@@ -563,7 +525,7 @@ module _ (calls : List AnsweredCall) (f : Body) (ssa : SsaState) (consistent : I
               other : absent ≡ zero y → ⊥
               other h = cc
 
-      of_name : (state : FunctionState) → ZerosLeft q [] state → (n : Name) (w : ℕ)
+      of_name : (state : FunctionState) → ZerosDone q state → (n : Name) (w : ℕ)
           → instances program (straight e 0) (name (code n)) ≡ denotes program function (straight e 0) w → front_names n ≡ front_values state w
       of_name state z n w same = by (dec_place (carries.whole.tables.naming (code n)).home (front e)) (dec_place (function.definition w).home (front e))
         where
@@ -585,11 +547,11 @@ module _ (calls : List AnsweredCall) (f : Body) (ssa : SsaState) (consistent : I
           let past = past_zeros q start_alike.function_at in
           (past.0, alongside (state_after (starting_at (function_machine right_run) q) past.0) past.1)
         where
-          alongside : (state : FunctionState) → ZerosLeft q [] state → IsAlongside 0 p state
+          alongside : (state : FunctionState) → ZerosDone q state → IsAlongside 0 p state
           alongside state z = record {
             within = omega arith;
             script_at = start_alike.script_at;
-            function_at = z.at;
+            function_at = at_items q state z;
             same_memory = start_alike.same_memory ∙ sym z.memory;
             same_events = start_alike.same_events ∙ sym z.events;
             names = front_names;

@@ -7,7 +7,7 @@ use Rattle.clif_types.specs.Signature.{SignatureShape}
 use Rattle.clif_ir.specs.Body.{Body}
 use Rattle.clif_ir.specs.Consistent.{IsConsistent}
 use Rattle.clif_paths.specs.Places.{Follows, start}
-use Rattle.clif_paths.specs.State.{Program, Function, zero_of}
+use Rattle.clif_paths.specs.State.{Program, Function}
 use Rattle.clif_paths.specs.Blocks.{Blocks}
 use Rattle.clif_ssa.specs.Ssa.{SsaState}
 use Rattle.clif_ssa.specs.Sound.{entry_of, has_entry}
@@ -30,7 +30,7 @@ use Rattle.clif_meaning.proofs.Stuttering.{Simulates, steps_from}
 use Rattle.clif_simulation.specs.Tables.{answered, block_name, program_so_far}
 use Rattle.clif_simulation.proofs.Whole.{Whole}
 use Rattle.clif_simulation.specs.Laws.{IsFinished}
-use Rattle.clif_simulation.proofs.Agreement.{Agrees, ZerosAreZero, agrees_still, zeros_agree, zeros_still}
+use Rattle.clif_simulation.proofs.Agreement.{Agrees, IsBlank, ZerosAreZero, agrees_still, zeros_agree, zeros_still}
 use Rattle.clif_simulation.proofs.IntoBlock
 use Rattle.clif_simulation.proofs.Entered.{EntersThere, entered_agrees, entered_zeros}
 use Rattle.clif_simulation.proofs.Entry.{begins}
@@ -126,7 +126,7 @@ module _ (calls : List AnsweredCall) (f : Body) (ssa : SsaState) (consistent : I
     items = (program_so_far calls).items entry
 
     abbrev has : HasFront f tables e (carries.own.insts e)
-    has = has_front f tables e (carries.own.insts e) (carries.describes.instructions e) (carries.own_inserted e)
+    has = has_front f consistent tables e (carries.own.insts e) (carries.describes.instructions e) (carries.own_inserted e)
 
     -- both machines at the entry
     abbrev left_first : ScriptState
@@ -151,13 +151,13 @@ module _ (calls : List AnsweredCall) (f : Body) (ssa : SsaState) (consistent : I
     enters : EntersThere live program function (first_arm e) [] of_entry (answered calls) blank_values blank_values
     enters =
         IntoBlock.enters_front calls f ssa consistent carries e (finished.none_waits e) entry named (λ place. true) refl start 0 [] blank_values blank_values
-        (λ w defined. refl) (λ w elsewhere. refl) (λ w y kind. refl) (λ w y kind. refl)
+        (λ w defined. refl) (λ w elsewhere. refl) (λ w blank. refl) (λ w blank. refl)
 
     blank_agrees : Agrees live program function [] left_first.variables (λ x. 0) blank_values
     blank_agrees = zeros_agree live program function [] left_first.variables (λ x. 0) blank_values (λ x. refl) (λ n. refl) (λ w. refl)
 
     blank_zeros : ZerosAreZero program function [] left_first.variables (λ x. 0) blank_values
-    blank_zeros = record { of_variable = λ x y is. refl; of_name = λ n y is. refl; of_value = λ w y is. refl }
+    blank_zeros = record { of_variable = λ x y is. refl; of_name = λ n y is. refl; of_value = λ w blank. refl }
 
     -- the values at the entry
     abbrev values_there : ℕ → ℕ
@@ -178,24 +178,21 @@ module _ (calls : List AnsweredCall) (f : Body) (ssa : SsaState) (consistent : I
         (entered_zeros live program function (first_arm e) [] of_entry (answered calls) blank_values blank_values enters left_first.variables (λ x. 0) blank_agrees blank_zeros
         world.arguments (inl as_many))
 
-    blank : (w y : ℕ) → (function.definition w).kind ≡ zero_of y → right_first.values w ≡ 0
+    blank : (w : ℕ) → IsBlank (function.definition w).kind → right_first.values w ≡ 0
     blank = zeros_there.of_value
 
     -- The zeros come first --------------------------------------------------------------------------------------------------
 
     abbrev Left : ℕ → FunctionState → Type 0
-    Left = Fronts.ZerosLeft right_run f tables e (map (placed_inst f) (carries.own.insts e)) right_first blank
+    Left = Fronts.ZerosLeft right_run f (λ v. refl) tables e has.zeros has.in_turn (map (placed_inst f) (carries.own.insts e)) right_first
 
     all_left : Left (length has.zeros) right_first
-    all_left = record {
-      left = has.zeros;
-      count = refl;
-      all = has.are_zeros;
-      at = ap (λ (ps : List Placed). At ps) has.in_order;
-      memory = refl;
-      events = refl;
-      values = λ w. refl;
-    }
+    all_left =
+        Fronts.none_done right_run f (λ v. refl) tables e has.zeros has.in_turn (map (placed_inst f) (carries.own.insts e)) right_first has.are_zeros
+        (ap (λ (ps : List Placed). At ps) has.in_order)
+
+    same_behind : (q : FunctionState) → Left 0 q → (w : ℕ) → q.values w ≡ right_first.values w
+    same_behind = Fronts.same_values right_run f (λ v. refl) tables e has.zeros has.in_turn (map (placed_inst f) (carries.own.insts e)) right_first blank 0
 
     after : (j : ℕ) → steps_from right_machine j right_first ≡ state_after right_machine j
     after j = sym (ap (steps_from right_machine j) right_is) ∙ sym (from_start right_machine j)
@@ -203,7 +200,7 @@ module _ (calls : List AnsweredCall) (f : Body) (ssa : SsaState) (consistent : I
     left_after : (j m : ℕ) → j + m ≡ length has.zeros → Left m (state_after right_machine j)
     left_after j m sum =
         subst (Left m) (after j)
-        (Fronts.zeros_left right_run f tables e (map (placed_inst f) (carries.own.insts e)) right_first blank j m (length has.zeros) sum all_left)
+        (Fronts.zeros_left right_run f (λ v. refl) tables e has.zeros has.in_turn (map (placed_inst f) (carries.own.insts e)) right_first j m (length has.zeros) sum all_left)
 
     left_quiet : observed left_machine 0 ≡ quiet []
     left_quiet = ap left_machine.shown left_is
@@ -233,11 +230,11 @@ module _ (calls : List AnsweredCall) (f : Body) (ssa : SsaState) (consistent : I
             own_is = refl;
             left_is = carries.items e entry named;
             script_at = refl;
-            function_at = Fronts.at_rest right_run f tables e (map (placed_inst f) (carries.own.insts e)) right_first blank q z;
+            function_at = Fronts.at_rest right_run f (λ v. refl) tables e has.zeros has.in_turn (map (placed_inst f) (carries.own.insts e)) right_first q z;
             same_memory = sym z.memory;
             same_events = sym z.events;
-            agrees = agrees_still live program function (first_arm e ∷ []) left_first.variables left_first.names right_first.values q.values z.values agrees_there;
-            zeros = zeros_still program function (first_arm e ∷ []) left_first.variables left_first.names right_first.values q.values z.values zeros_there;
+            agrees = agrees_still live program function (first_arm e ∷ []) left_first.variables left_first.names right_first.values q.values (same_behind q z) agrees_there;
+            zeros = zeros_still program function (first_arm e ∷ []) left_first.variables left_first.names right_first.values q.values (same_behind q z) zeros_there;
           };
         }))
 
@@ -245,7 +242,7 @@ module _ (calls : List AnsweredCall) (f : Body) (ssa : SsaState) (consistent : I
     simulates = record {
       ahead = length has.zeros;
       at_first = λ j within.
-          Fronts.shown_quietly right_run f tables e (map (placed_inst f) (carries.own.insts e)) right_first blank (length has.zeros - j) (state_after right_machine j)
+          Fronts.shown_quietly right_run f (λ v. refl) tables e has.zeros has.in_turn (map (placed_inst f) (carries.own.insts e)) right_first (length has.zeros - j) (state_after right_machine j)
           (left_after j (length has.zeros - j) (omega (arith, within)))
           ∙ sym left_quiet;
       starts = related_first (state_after right_machine (length has.zeros)) (left_after (length has.zeros) 0 (omega arith));

@@ -500,24 +500,18 @@ module _ (calls : List AnsweredCall) (f : Body) (ssa : SsaState) (consistent : I
                 )
 
             abbrev has : HasFront f tables d (carries.own.insts d)
-            has = has_front f tables d (carries.own.insts d) (carries.describes.instructions d) (carries.own_inserted d)
+            has = has_front f consistent tables d (carries.own.insts d) (carries.describes.instructions d) (carries.own_inserted d)
 
             abbrev Left : ℕ → FunctionState → Type 0
-            Left = Fronts.ZerosLeft right_run f tables d (map (placed_inst f) (carries.own.insts d)) q1 zeros_there.of_value
+            Left = Fronts.ZerosLeft right_run f (λ v. refl) tables d has.zeros has.in_turn (map (placed_inst f) (carries.own.insts d)) q1
 
             all_left : Left (length has.zeros) q1
-            all_left = record {
-              left = has.zeros;
-              count = refl;
-              all = has.are_zeros;
-              at = ap (λ (ps : List Placed). At ps) has.in_order;
-              memory = refl;
-              events = refl;
-              values = λ w. refl;
-            }
+            all_left =
+                Fronts.none_done right_run f (λ v. refl) tables d has.zeros has.in_turn (map (placed_inst f) (carries.own.insts d)) q1 has.are_zeros
+                (ap (λ (ps : List Placed). At ps) has.in_order)
 
             left_after : (j m : ℕ) → j + m ≡ length has.zeros → Left m (steps_from right_machine j q1)
-            left_after j m sum = Fronts.zeros_left right_run f tables d (map (placed_inst f) (carries.own.insts d)) q1 zeros_there.of_value j m (length has.zeros) sum all_left
+            left_after j m sum = Fronts.zeros_left right_run f (λ v. refl) tables d has.zeros has.in_turn (map (placed_inst f) (carries.own.insts d)) q1 j m (length has.zeros) sum all_left
 
             after_first : (j : ℕ) → steps_from right_machine (suc j) q ≡ steps_from right_machine j q1
             after_first j = steps_behind right_machine j q ∙ ap (steps_from right_machine j) right_is
@@ -528,6 +522,10 @@ module _ (calls : List AnsweredCall) (f : Body) (ssa : SsaState) (consistent : I
 
             done : Left 0 q2
             done = left_after (length has.zeros) 0 (omega arith)
+
+            done_values : (w : ℕ) → q2.values w ≡ q1.values w
+            done_values =
+                Fronts.same_values right_run f (λ v. refl) tables d has.zeros has.in_turn (map (placed_inst f) (carries.own.insts d)) q1 zeros_there.of_value 0 q2 done
 
             running : Running p1 q2
             running = record {
@@ -547,11 +545,11 @@ module _ (calls : List AnsweredCall) (f : Body) (ssa : SsaState) (consistent : I
                 left_is = carries.items d edge.target
                     (Edges.target_named calls f ssa consistent carries finished placed b B r.named k place instruction results stands (length r.front) i there is n edge is_edge as_many filled);
                 script_at = refl;
-                function_at = Fronts.at_rest right_run f tables d (map (placed_inst f) (carries.own.insts d)) q1 zeros_there.of_value q2 done;
+                function_at = Fronts.at_rest right_run f (λ v. refl) tables d has.zeros has.in_turn (map (placed_inst f) (carries.own.insts d)) q1 q2 done;
                 same_memory = sym done.memory;
                 same_events = r.same_events ∙ sym done.events;
-                agrees = agrees_still live program function (arm ∷ behind) p.variables p1.names q1.values q2.values done.values agrees_there;
-                zeros = zeros_still program function (arm ∷ behind) p.variables p1.names q1.values q2.values done.values zeros_there;
+                agrees = agrees_still live program function (arm ∷ behind) p.variables p1.names q1.values q2.values done_values agrees_there;
+                zeros = zeros_still program function (arm ∷ behind) p.variables p1.names q1.values q2.values done_values zeros_there;
               };
             }
 
@@ -559,7 +557,7 @@ module _ (calls : List AnsweredCall) (f : Body) (ssa : SsaState) (consistent : I
             quietly zero within = refl
             quietly (suc j) within =
                 ap right_machine.shown (after_first j)
-                ∙ Fronts.shown_quietly right_run f tables d (map (placed_inst f) (carries.own.insts d)) q1 zeros_there.of_value (length has.zeros - j) (steps_from right_machine j q1)
+                ∙ Fronts.shown_quietly right_run f (λ v. refl) tables d has.zeros has.in_turn (map (placed_inst f) (carries.own.insts d)) q1 (length has.zeros - j) (steps_from right_machine j q1)
                 (left_after j (length has.zeros - j) (omega (arith, within)))
                 ∙ sym (goes_on_quietly right_run q (map (placed_inst f) (i ∷ left)) q.events r.function_at refl)
 

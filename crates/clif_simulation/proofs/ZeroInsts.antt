@@ -1,38 +1,54 @@
 -- The instructions of zeros, one by one.
-use Rattle.std.proofs.Common.{◌≡◌, ℕ, zero, suc, ◌+◌, ◌-◌, ◌<◌, List, [], ◌∷◌, ◌++◌, length, refl, ap, arith, ◌∙◌, subst}
-use Rattle.std.specs.Prelude.{Option, Some, None, slice_get, pos}
+use Rattle.std.proofs.Common.{◌≡◌, ℕ, zero, suc, ◌+◌, ◌-◌, ◌^◌, ◌<◌, List, [], ◌∷◌, ◌++◌, map, length, ◌⊎◌, inl, inr, refl, ap, arith, sym, ◌∙◌, subst}
+use Rattle.std.specs.Prelude.{Some, slice_get, slice_index}
 use Rattle.std.specs.List.{AllByRecursion, range_with_len}
+use Rattle.std.proofs.Math.Nat.{zero-mod}
+use Rattle.std.proofs.lemmas.Bool.{cases_eq}
+use Rattle.std.proofs.lemmas.List.FromFn.{length-range_with_len}
 use Rattle.clif_types.specs.declared.types.«Type».{«Type»}
-use Rattle.clif_ir.specs.Body.{Body, inst_at}
-use Rattle.clif_ir.specs.Instruction.{destinations}
-use Rattle.clif_ir.specs.declared.instructions.InstructionData.TheVariants.{UnaryImm}
-use Rattle.clif_paths.specs.State.{zero_of}
+use Rattle.clif_types.specs.Types.{bits_of}
+use Rattle.clif_ir.specs.Body.{Body, alias_of_origin, inst_at, resolved, value_at}
+use Rattle.clif_ir.specs.Consistent.{IsConsistent}
+use Rattle.clif_ir.specs.Instruction.{destinations, operands}
+use Rattle.clif_ir.specs.declared.instructions.InstructionData.{InstructionData}
+use Rattle.clif_ir.proofs.Aliases.{follow_end}
+use Rattle.clif_paths.specs.Places.{start}
+use Rattle.clif_paths.specs.State.{unborn, zero_of}
 use Rattle.clif_paths.specs.Blocks.{Blocks, front}
 use Rattle.clif_ssa.specs.Sound.{IsZero}
 use Rattle.clif_ssa.specs.Structure.{IsNeededZero}
-use Rattle.clif_ssa.specs.Zeros.{ZeroAt, ZeroStep, HasZero, IsStep, insts_of_zero, insts_of_zeros, value_of_zero, zero_row, zero_steps}
+use Rattle.clif_ssa.specs.Zeros.{ZeroAt, ZeroStep, HasZero, IsStep, insts_of_zero, insts_of_zeros, steps_before, zero_row, zero_steps}
+use Rattle.clif_ssa.proofs.ZeroTable.{IsPlainStep, first_alone, none_some, plain_step, same_some, step_count, step_there}
+use Rattle.clif_meaning.specs.Memory.{Memory}
+use Rattle.clif_meaning.specs.Outcome.{Gives, outcome_of}
+use Rattle.clif_meaning.specs.View.{operation_of}
+use Rattle.clif_meaning.specs.World.{World}
+use Rattle.std.proofs.lemmas.Option.{get_or_from_slice_get}
+use Rattle.clif_simulation.proofs.Listed.{place_within}
+use Rattle.clif_simulation.proofs.Placing.{at_first, at_second, in_two}
 
-none_some : {X : Type 0} {x : X} → ◌≡◌ {A = Option X} None (Some x) → ⊥
-none_some same = cc
+-- THE TABLE -------------------------------------------------------------------------------------------------------
 
-same_some : {X : Type 0} {x y : X} → ◌≡◌ {A = Option X} (Some x) (Some y) → x ≡ y
-same_some same = cc
+-- An instruction whose operands have no bits set gives zero, at all types.
+abbrev pub GivesZero : InstructionData → Type 0
+GivesZero shape =
+    (world : World) (ty : «Type») (types : List «Type») (memory : Memory)
+    → outcome_of world (operation_of shape) ty types (map (λ (operand : ℕ). 0) (operands shape)) memory ≡ Gives (0 ∷ []) memory
+
+-- so does each step of a zero
+abbrev StepGivesZero : ZeroStep → Type 0
+StepGivesZero step = (value : ℕ) → GivesZero (step.shape value)
+
+steps_give_zero : (ty : «Type») → AllByRecursion StepGivesZero (zero_steps ty)
+unfolding zero_row
+steps_give_zero ty = ((λ value world controlling types memory. ap (λ bits. Gives (bits ∷ []) memory) (zero-mod (2 ^ bits_of controlling))), tt)
+
+all_get : {X : Type 0} (P : X → Type 0) (xs : List X) (k : ℕ) (x : X) → AllByRecursion P xs → slice_get xs k ≡ Some x → P x
+all_get P [] k x all is = absurd (none_some is)
+all_get P (y ∷ ys) zero x all is = subst P (same_some is) all.0
+all_get P (y ∷ ys) (suc k) x all is = all_get P ys k x all.1 is
 
 -- EDGES -----------------------------------------------------------------------------------------------------------
-
--- no step has edges
-step_leads_nowhere : (ty : «Type») (k : ℕ) (step : ZeroStep) → slice_get (zero_steps ty) k ≡ Some step → (value : ℕ) → destinations (step.shape value) ≡ []
-unfolding zero_row
-step_leads_nowhere ty zero step is value = ap (λ (s : ZeroStep). destinations (s.shape value)) (sym_some is)
-  where
-    sym_some : {s : ZeroStep} → ◌≡◌ {A = Option ZeroStep} (Some (record { shape = λ w. UnaryImm (pos 0); ty = ty })) (Some s) → s ≡ record { shape = λ w. UnaryImm (pos 0); ty = ty }
-    sym_some same = cc
-step_leads_nowhere ty (suc k) step is value = absurd (none_some is)
-
-get_there : {X : Type 0} (xs : List X) (k : ℕ) → k < length xs → (x : X) × (slice_get xs k ≡ Some x)
-get_there [] k inside = absurd (omega (arith, inside))
-get_there (y ∷ ys) zero inside = (y, refl)
-get_there (y ∷ ys) (suc k) inside = get_there ys k (omega (arith, inside))
 
 abbrev pub LeadsNowhere : Body → ℕ → Type 0
 LeadsNowhere f inst = destinations (inst_at f inst).shape ≡ []
@@ -52,8 +68,8 @@ zero_leads_nowhere : (f : Body) (z : ZeroAt) → HasZero f z → AllByRecursion 
 zero_leads_nowhere f z has =
     all_range (LeadsNowhere f) z.inst (length (zero_steps z.ty))
     (λ k inside.
-    let step : (s : ZeroStep) × (slice_get (zero_steps z.ty) k ≡ Some s) = get_there (zero_steps z.ty) k inside in
-    ap destinations (has k step.0 step.1).shape ∙ step_leads_nowhere z.ty k step.0 step.1 ((z.value + k) - 1))
+    let step : (s : ZeroStep) × (slice_get (zero_steps z.ty) k ≡ Some s) = step_there z.ty k inside in
+    ap destinations (has k step.0 step.1).shape ∙ (plain_step z.ty k step.0 step.1).no_edges ((z.value + k) - 1))
 
 -- the instructions of zeros that something needs have no edges
 pub needed_lead_nowhere : (f : Body) (zeros : List ZeroAt) → AllByRecursion (IsNeededZero f) zeros → AllByRecursion (LeadsNowhere f) (insts_of_zeros zeros)
@@ -63,37 +79,148 @@ needed_lead_nowhere f (z ∷ zeros) all =
 
 -- WHAT THEY COMPUTE -----------------------------------------------------------------------------------------------
 
--- The instruction makes the zero of a variable, for the front of this block. Each zero is one instruction so far.
+-- the zero of a variable, for the front of this block, or a result on the way to one
+abbrev pub IsZeroValue : Blocks → ℕ → ℕ → Type 0
+IsZeroValue blocks block value =
+    ((variable : ℕ) × (blocks.function.definition value ≡ record { home = front block; kind = zero_of variable }))
+    ⊎ (blocks.function.definition value ≡ record { home = start; kind = unborn })
+
+-- The instruction is a step of a zero, for the front of this block.
 pub record IsZeroInst (f : Body) (blocks : Blocks) (block inst : ℕ) : Type 0 where
   pub value : ℕ
-  pub variable : ℕ
   pub exists : inst < length f.insts
   pub value_exists : value < length f.values
-  pub shape : (inst_at f inst).shape ≡ UnaryImm (pos 0)
+  pub no_edges : LeadsNowhere f inst
+  pub gives : GivesZero (inst_at f inst).shape
   pub result : (inst_at f inst).results ≡ value ∷ []
-  pub defined : blocks.function.definition value ≡ record { home = front block; kind = zero_of variable }
+  pub defined : IsZeroValue blocks block value
 
-zero_inst : (f : Body) (blocks : Blocks) (b : ℕ) (z : ZeroAt) → IsZero f blocks b z → IsZeroInst f blocks b z.inst
-unfolding zero_row
-zero_inst f blocks b z is =
-    let here : z.inst + 0 ≡ z.inst = omega arith in
-    let there : z.value + 0 ≡ z.value = omega arith in
-    let step : IsStep f (z.inst + 0) (z.value + 0) (record { shape = λ value. UnaryImm (pos 0); ty = z.ty }) = is.stands 0 (record { shape = λ value. UnaryImm (pos 0); ty = z.ty }) refl in
-    let at : IsStep f z.inst z.value (record { shape = λ value. UnaryImm (pos 0); ty = z.ty }) =
-    subst (λ i. IsStep f i z.value (record { shape = λ value. UnaryImm (pos 0); ty = z.ty })) here
-    (subst (λ v. IsStep f (z.inst + 0) v (record { shape = λ value. UnaryImm (pos 0); ty = z.ty })) there step) in
-    record {
-      value = z.value;
-      variable = is.variable;
-      exists = at.exists;
-      value_exists = at.value_exists;
-      shape = at.shape;
-      result = at.result;
-      defined = ap blocks.function.definition (let same : z.value ≡ z.value + 0 = omega arith in same) ∙ is.defined;
-    }
+-- the instruction at the place before this one gives a value, which stands for itself
+pub record IsFromBefore (f : Body) (insts : List ℕ) (place value : ℕ) : Type 0 where
+  pub before : ℕ
+  pub next : place ≡ suc before
+  pub inst : ℕ
+  pub stands : slice_get insts before ≡ Some inst
+  pub gives : (inst_at f inst).results ≡ value ∷ []
+  pub itself : resolved f value ≡ value
 
-pub zero_insts : (f : Body) (blocks : Blocks) (b : ℕ) (zeros : List ZeroAt) → AllByRecursion (IsZero f blocks b) zeros
-    → AllByRecursion (IsZeroInst f blocks b) (insts_of_zeros zeros)
-unfolding zero_row
-zero_insts f blocks b [] all = tt
-zero_insts f blocks b (z ∷ zeros) all = (zero_inst f blocks b z all.0, zero_insts f blocks b zeros all.1)
+-- so does that before each one of these that has an operand
+abbrev pub InTurn : Body → List ℕ → Type 0
+InTurn f insts =
+    (place inst k value : ℕ) → slice_get insts place ≡ Some inst → slice_get (operands (inst_at f inst).shape) k ≡ Some value → IsFromBefore f insts place value
+
+-- a result stands for itself
+result_itself : (f : Body) → IsConsistent f → (inst value : ℕ) → (inst_at f inst).results ≡ value ∷ [] → resolved f value ≡ value
+result_itself f consistent inst value result =
+    let inside : 0 < length (inst_at f inst).results = subst (λ xs. 0 < length xs) (sym result) (omega arith) in
+    let is : slice_index (inst_at f inst).results 0 ≡ value = ap (λ xs. slice_index xs 0) result in
+    follow_end f.values (length f.values) value (ap (λ v. alias_of_origin (value_at f v).origin) (sym is) ∙ ap alias_of_origin (consistent.results_known inst 0 inside).1)
+
+module _ (f : Body) (blocks : Blocks) (b : ℕ) where
+  zero_inst : (z : ZeroAt) → IsZero f blocks b z → (k : ℕ) → k < length (zero_steps z.ty) → IsZeroInst f blocks b (z.inst + k)
+  zero_inst z is k inside =
+      let step : (s : ZeroStep) × (slice_get (zero_steps z.ty) k ≡ Some s) = step_there z.ty k inside in
+      let at : IsStep f (z.inst + k) (z.value + k) step.0 = is.stands k step.0 step.1 in
+      record {
+        value = z.value + k;
+        exists = at.exists;
+        value_exists = at.value_exists;
+        no_edges = ap destinations at.shape ∙ (plain_step z.ty k step.0 step.1).no_edges ((z.value + k) - 1);
+        gives = subst GivesZero (sym at.shape) (all_get StepGivesZero (zero_steps z.ty) k step.0 (steps_give_zero z.ty) step.1 ((z.value + k) - 1));
+        result = at.result;
+        defined =
+            elim (cases_eq k (steps_before z.ty)) [
+              | inl last ↦ inl (is.variable, ap (λ n. blocks.function.definition (z.value + n)) last ∙ is.defined)
+              | inr other ↦ inr (is.others (z.value + k) (omega arith) (omega (arith, inside, other, step_count z.ty)))
+            ];
+      }
+
+  pub zero_insts : (zeros : List ZeroAt) → AllByRecursion (IsZero f blocks b) zeros → AllByRecursion (IsZeroInst f blocks b) (insts_of_zeros zeros)
+  zero_insts [] all = tt
+  zero_insts (z ∷ zeros) all =
+      all_append (IsZeroInst f blocks b) (insts_of_zero z) (insts_of_zeros zeros)
+      (all_range (IsZeroInst f blocks b) z.inst (length (zero_steps z.ty)) (zero_inst z all.0)) (zero_insts zeros all.1)
+
+-- IN TURN ---------------------------------------------------------------------------------------------------------
+
+range_at : (a n k : ℕ) → k < n → slice_get (range_with_len a n) k ≡ Some (a + k)
+range_at a zero k inside = absurd (omega (arith, inside))
+range_at a (suc n) zero inside = let same : a ≡ a + 0 = omega arith in ap (λ m. Some m) same
+range_at a (suc n) (suc k) inside = let same : (a + 1) + k ≡ a + suc k = omega arith in range_at (a + 1) n k (omega (arith, inside)) ∙ ap (λ m. Some m) same
+
+-- an operand of a step is the value before
+operand_is : (step : ZeroStep) → IsPlainStep step → (before k value : ℕ) → slice_get (operands (step.shape before)) k ≡ Some value → value ≡ before
+operand_is step plain before k value is =
+    let there : slice_index (operands (step.shape before)) k ≡ value = get_or_from_slice_get (operands (step.shape before)) k value 0 is in
+    sym there ∙ plain.operands_before before k 0 (place_within (operands (step.shape before)) k value is)
+
+module _ (f : Body) (consistent : IsConsistent f) where
+  zero_in_turn : (z : ZeroAt) → HasZero f z → InTurn f (insts_of_zero z)
+  zero_in_turn z has place inst k value stands operand = by place refl
+    where
+      inside : place < length (zero_steps z.ty)
+      inside = subst (λ n. place < n) (length-range_with_len z.inst (length (zero_steps z.ty))) (place_within (insts_of_zero z) place inst stands)
+
+      number : z.inst + place ≡ inst
+      number = same_some (sym (range_at z.inst (length (zero_steps z.ty)) place inside) ∙ stands)
+
+      step : (s : ZeroStep) × (slice_get (zero_steps z.ty) place ≡ Some s)
+      step = step_there z.ty place inside
+
+      shape : (inst_at f inst).shape ≡ step.0.shape ((z.value + place) - 1)
+      shape = ap (λ i. (inst_at f i).shape) (sym number) ∙ (has place step.0 step.1).shape
+
+      same_operand : slice_get (operands (step.0.shape ((z.value + place) - 1))) k ≡ Some value
+      same_operand = ap (λ s. slice_get (operands s) k) (sym shape) ∙ operand
+
+      value_is : value ≡ (z.value + place) - 1
+      value_is = operand_is step.0 (plain_step z.ty place step.0 step.1) ((z.value + place) - 1) k value same_operand
+
+      by : (n : ℕ) → place ≡ n → IsFromBefore f (insts_of_zero z) place value
+      by zero first =
+          let none : operands (step.0.shape ((z.value + place) - 1)) ≡ [] =
+          first_alone z.ty step.0 ((z.value + place) - 1) (ap (slice_get (zero_steps z.ty)) (sym first) ∙ step.1) in
+          absurd (none_some (ap (λ xs. slice_get xs k) (sym none) ∙ same_operand))
+      by (suc before) next =
+          let earlier : before < length (zero_steps z.ty) = omega (arith, next, inside) in
+          let step_before : (s : ZeroStep) × (slice_get (zero_steps z.ty) before ≡ Some s) = step_there z.ty before earlier in
+          let same : z.value + before ≡ value = omega (arith, value_is, next) in
+          let result : (inst_at f (z.inst + before)).results ≡ value ∷ [] = (has before step_before.0 step_before.1).result ∙ ap (λ v. v ∷ []) same in
+          record {
+            before = before;
+            next = next;
+            inst = z.inst + before;
+            stands = range_at z.inst (length (zero_steps z.ty)) before earlier;
+            gives = result;
+            itself = result_itself f consistent (z.inst + before) value result;
+          }
+
+  pub zeros_in_turn : (blocks : Blocks) (b : ℕ) (zeros : List ZeroAt) → AllByRecursion (IsZero f blocks b) zeros → InTurn f (insts_of_zeros zeros)
+  zeros_in_turn blocks b [] all place inst k value stands operand = absurd (none_some stands)
+  zeros_in_turn blocks b (z ∷ zeros) all place inst k value stands operand =
+      by (λ m there. zeros_in_turn blocks b zeros all.1 m inst k value there operand) (in_two (insts_of_zero z) (insts_of_zeros zeros) place inst stands)
+    where
+      by : ((m : ℕ) → slice_get (insts_of_zeros zeros) m ≡ Some inst → IsFromBefore f (insts_of_zeros zeros) m value)
+          → ((place < length (insts_of_zero z)) × (slice_get (insts_of_zero z) place ≡ Some inst))
+          ⊎ ((m : ℕ) × (place ≡ length (insts_of_zero z) + m) × (slice_get (insts_of_zeros zeros) m ≡ Some inst))
+          → IsFromBefore f (insts_of_zero z ++ insts_of_zeros zeros) place value
+      by later (inl first) =
+          let from : IsFromBefore f (insts_of_zero z) place value = zero_in_turn z all.0.stands place inst k value first.1 operand in
+          record {
+            before = from.before;
+            next = from.next;
+            inst = from.inst;
+            stands = at_first (insts_of_zero z) (insts_of_zeros zeros) from.before (omega (arith, first.0, from.next)) ∙ from.stands;
+            gives = from.gives;
+            itself = from.itself;
+          }
+      by later (inr second) =
+          let from : IsFromBefore f (insts_of_zeros zeros) second.0 value = later second.0 second.2 in
+          record {
+            before = length (insts_of_zero z) + from.before;
+            next = omega (arith, second.1, from.next);
+            inst = from.inst;
+            stands = at_second (insts_of_zero z) (insts_of_zeros zeros) (length (insts_of_zero z) + from.before) from.before refl ∙ from.stands;
+            gives = from.gives;
+            itself = from.itself;
+          }

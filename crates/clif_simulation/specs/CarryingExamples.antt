@@ -12,6 +12,8 @@ use Rattle.clif_ir.specs.Body.{Body}
 use Rattle.clif_ir.specs.Consistent.{IsConsistent}
 use Rattle.clif_ssa.specs.declared.tables.Sealed.{Sealed}
 use Rattle.clif_ssa.specs.declared.tables.Sealed.TheVariants.{No, Yes}
+use Rattle.std.specs.FinMap as map
+use Rattle.clif_ssa.specs.Tables.{Recorded}
 use Rattle.clif_ssa.specs.Ssa.{SsaState}
 use Rattle.clif_types.specs.declared.opcodes.BinaryOpcode.TheVariants as binary
 use Rattle.clif_meaning.specs.Instruction.{Compute}
@@ -112,14 +114,15 @@ back_with_sum = edge_to 1 (Value 3 ∷ []) ∷ edge_to 1 (Value 3 ∷ []) ∷ []
 abbrev pub loop_body : Body
 loop_body = loop_body_with (pos 5) 0 to_two_or_three back_with_sum
 
+-- the variable is recorded to have this value at this block's end, where so many look-ups in its predecessors began
+abbrev pub recorded_in : ℕ → ℕ → ℕ → (ℕ × ℕ) × Recorded
+recorded_in block value lookups = ((0, block), record { value = Some value; lookups = lookups })
+
 -- the state of the construction, where block1 is in this state: which value the variable has at each block's end, and
 -- which branches lead to each block
 abbrev pub loop_state_with : Sealed → SsaState
 loop_state_with sealed = record {
-  records =
-      (record { value = Some 0; lookups = 0 } ∷ record { value = Some 1; lookups = 1 }
-      ∷ record { value = Some 3; lookups = 0 } ∷ record { value = Some 1; lookups = 0 } ∷ [])
-      ∷ [];
+  records = map.from_entries (recorded_in 0 0 0 ∷ recorded_in 1 1 1 ∷ recorded_in 2 3 0 ∷ recorded_in 3 1 0 ∷ []);
   blocks =
       record { predecessors = []; sealed = Yes } ∷ record { predecessors = 1 ∷ 5 ∷ []; sealed = sealed }
       ∷ record { predecessors = 2 ∷ []; sealed = Yes } ∷ record { predecessors = 2 ∷ []; sealed = Yes } ∷ [];

@@ -1,7 +1,7 @@
 -- Worked examples of the reading beside interrupted runs: the row `first`, half built; the row `both_arms`, whose loop has
 -- both arms of one branch; a loop before its block is sealed; one whose block has a parameter of the caller's too; and a jump
 -- to a block before its parameter is made. Own.
-use Rattle.std.specs.Prelude.{ℕ, false, List, [], ◌∷◌, Some, None}
+use Rattle.std.specs.Prelude.{ℕ, false, List, [], ◌∷◌}
 use Rattle.clif_types.specs.declared.extname.UserFuncName.TheVariants.{Testcase}
 use Rattle.clif_ir.specs.declared.block_call.BlockArg.TheVariants.{Value}
 use Rattle.clif_ir.specs.declared.instructions.InstructionData.TheVariants.{Jump}
@@ -9,6 +9,7 @@ use Rattle.clif_ir.specs.declared.function.ValueOrigin.TheVariants.{Param}
 use Rattle.clif_ir.specs.Body.{Body}
 use Rattle.clif_ssa.specs.declared.tables.Pending.{Pending}
 use Rattle.clif_ssa.specs.declared.tables.Sealed.TheVariants.{No, Yes}
+use Rattle.std.specs.FinMap as map
 use Rattle.clif_ssa.specs.Ssa.{SsaState}
 use Rattle.clif_meaning.specs.Instruction.{Known, Edge}
 use Rattle.clif_meaning.specs.Name.{Name, answer_of}
@@ -20,16 +21,13 @@ use Rattle.clif_meaning.specs.SampleExamples.{sample_signature}
 use Rattle.clif_meaning.specs.ScriptExamples.{answered_calls}
 use Rattle.clif_simulation.specs.Reading.{may_grow, PremisesSoFar}
 use Rattle.clif_simulation.specs.Interrupted.{ReadsRight}
-use Rattle.clif_simulation.specs.CarryingExamples.{edge_to, loop_calls, loop_body, loop_state}
+use Rattle.clif_simulation.specs.CarryingExamples.{edge_to, recorded_in, loop_calls, loop_body, loop_state}
 use Rattle.clif_simulation.specs.ReadingExamples.{half_body_with, half_body, half_state_with, half_state, waiting_parameter}
 
 -- the row's construction, where this value is recorded for the variable at the end of block2, behind the sum
 abbrev pub loop_state_recording : ℕ → SsaState
 loop_state_recording value = record loop_state {
-  records =
-      (record { value = Some 0; lookups = 0 } ∷ record { value = Some 1; lookups = 1 }
-      ∷ record { value = Some value; lookups = 0 } ∷ record { value = Some 1; lookups = 0 } ∷ [])
-      ∷ [];
+  records = map.from_entries (recorded_in 0 0 0 ∷ recorded_in 1 1 1 ∷ recorded_in 2 value 0 ∷ recorded_in 3 1 0 ∷ []);
 }
 
 -- a loop that uses a variable before it was assigned, while its block is unsealed
@@ -65,7 +63,7 @@ waiting_loop_body = record {
 -- the construction so far, where these parameters wait in block1
 abbrev pub waiting_loop_state : List Pending → SsaState
 waiting_loop_state waiting = record {
-  records = (record { value = None; lookups = 0 } ∷ record { value = Some 0; lookups = 0 } ∷ []) ∷ [];
+  records = map.from_entries (recorded_in 1 0 0 ∷ []);
   blocks = record { predecessors = []; sealed = Yes } ∷ record { predecessors = 0 ∷ 1 ∷ []; sealed = No waiting } ∷ [];
 }
 
@@ -112,7 +110,7 @@ passing_loop_body = passing_loop_body_with 2
 -- the construction so far
 abbrev pub passing_loop_state : SsaState
 passing_loop_state = record {
-  records = (record { value = None; lookups = 0 } ∷ record { value = Some 2; lookups = 0 } ∷ []) ∷ [];
+  records = map.from_entries (recorded_in 1 2 0 ∷ []);
   blocks =
       record { predecessors = []; sealed = Yes }
       ∷ record { predecessors = 0 ∷ 1 ∷ []; sealed = No (record { variable = 0; param = 2 } ∷ []) } ∷ [];
@@ -144,7 +142,7 @@ early_jump_body = record {
 -- the construction so far
 abbrev pub early_jump_state : SsaState
 early_jump_state = record {
-  records = [];
+  records = map.empty;
   blocks = record { predecessors = []; sealed = Yes } ∷ record { predecessors = 0 ∷ []; sealed = No [] } ∷ [];
 }
 

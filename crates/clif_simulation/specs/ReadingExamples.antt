@@ -1,12 +1,13 @@
 -- Worked examples of the reading on bits: the row `first` up to its constant, before its block is sealed. The variable is
 -- used before it was assigned, so its parameter waits. Own.
-use Rattle.std.specs.Prelude.{false, ℕ, zero, suc, List, [], ◌∷◌, Some, pos}
+use Rattle.std.specs.Prelude.{false, ℕ, zero, suc, List, [], ◌∷◌, pos}
 use Rattle.clif_types.specs.declared.extname.UserFuncName.TheVariants.{Testcase}
 use Rattle.clif_ir.specs.declared.instructions.InstructionData.TheVariants.{UnaryImm}
 use Rattle.clif_ir.specs.declared.function.ValueOrigin.TheVariants.{Result, Param}
 use Rattle.clif_ir.specs.Body.{Body}
 use Rattle.clif_ssa.specs.declared.tables.Pending.{Pending}
 use Rattle.clif_ssa.specs.declared.tables.Sealed.TheVariants.{No}
+use Rattle.std.specs.FinMap as map
 use Rattle.clif_ssa.specs.Ssa.{SsaState}
 use Rattle.clif_meaning.specs.World.{World}
 use Rattle.clif_meaning.specs.Machine.{At}
@@ -15,6 +16,7 @@ use Rattle.clif_meaning.specs.FunctionMachine.{FunctionState}
 use Rattle.clif_meaning.specs.View.{block_of}
 use Rattle.clif_meaning.specs.Examples.{i32, block0, first_signature}
 use Rattle.clif_meaning.specs.ScriptExamples.{answered_calls}
+use Rattle.clif_simulation.specs.CarryingExamples.{recorded_in}
 use Rattle.clif_simulation.specs.Tables.{program_so_far}
 use Rattle.clif_simulation.specs.Reading.{StartAlike, ReadsRightFromAnywhere}
 
@@ -37,7 +39,7 @@ half_body = half_body_with 7
 -- the construction so far, where this value is recorded for the variable, and these parameters wait
 abbrev pub half_state_with : ℕ → List Pending → SsaState
 half_state_with value waiting = record {
-  records = (record { value = Some value; lookups = 0 } ∷ []) ∷ [];
+  records = map.from_entries (recorded_in 0 value 0 ∷ []);
   blocks = record { predecessors = []; sealed = No waiting } ∷ [];
 }
 

@@ -18,7 +18,7 @@ use Rattle.clif_ssa.specs.Ssa.{SsaState, Named, NamesExist, record_of, sealed_of
 use Rattle.clif_ssa.specs.LookUp.{Stage, LookUpState, LooksUp, FinishesLookUp, MakesCall, MakesCalls, none_made, made, CompletesParameter, Copies, before_first, no_look_up, calls_for, with_calls, with_arguments}
 use Rattle.clif_ssa.specs.Running.{stage, CompletesAll, MakesAll}
 use Rattle.clif_ssa.specs.Sealing.{SealsLocally, SealsByLookUp}
-use Rattle.clif_ssa.specs.Structure.{StayAlike, LosesWaiting, NothingStray, Remembers}
+use Rattle.clif_ssa.specs.Structure.{StayAlike, LosesWaiting, Remembers}
 use Rattle.clif_ssa.proofs.Bodies.{Firm, firm_from, resolved_twice}
 use Rattle.clif_ssa.proofs.Ordering.{contains_cons, contains_first, contains_more, none_contained}
 use Rattle.clif_ssa.proofs.Describing.{is_recorded}
@@ -26,7 +26,6 @@ use Rattle.clif_ssa.proofs.Parameters.{param_firm, param_resolved, param_count}
 use Rattle.clif_ssa.proofs.Zeroing.{CanAlias, alias_resolved, alias_firm}
 use Rattle.clif_ssa.proofs.Alike.{zeroed_count, alike_same, alike_then, aliased_alike, Leaves, zeroed_leaves}
 use Rattle.clif_ssa.proofs.Losing.{waits_used, zeroes_used, seal_alike, loses_waiting}
-use Rattle.clif_ssa.proofs.Straying.{waits_stray, zeroes_stray, seal_stray}
 use Rattle.clif_ssa.proofs.Public.{something_leads}
 use Rattle.clif_ssa.proofs.Framing.{resolved_inside, of_reversed}
 use Rattle.clif_ssa.specs.Zeros.{steps_before}
@@ -399,34 +398,13 @@ remembers_then x c f g h s t u first next = record {
 
 -- WHERE NOTHING LEADS TO THE BLOCK --------------------------------------------------------------------------------
 
--- the clauses of a use on parameters, and on what isn't needed
-pub record LocalUse (own : ℕ → List ℕ) (f : Body) (s : SsaState) (g : Body) (t : SsaState) (b : ℕ) : Type 0 where
-  pub params : is_yes (sealed_of s b) ≡ true → (c : ℕ) → (block_at g c).params ≡ (block_at f c).params
-  pub stray : NothingStray own f s → NothingStray own g t
-
-pub local_leaves : (own : ℕ → List ℕ) (f g : Body) (s t : SsaState) (x : ℕ) (ty : «Type») (b : ℕ) {E : Type 0} (result : Result (ℕ × SideEffects) E)
-    → IsConsistent f → b < length f.blocks → record_of s x b ≡ None
-    → (is_yes (sealed_of s b) ≡ false → OnOk result (Waits s t f g x ty b) × IfOk result (λ r. (r.0 ≡ length f.values) × (r.1.instructions_added_to_blocks.items ≡ [])))
+-- a use in a sealed block leaves the parameters of all blocks
+pub local_leaves : (f g : Body) (s t : SsaState) (x : ℕ) (ty : «Type») (b : ℕ) {E : Type 0} (result : Result (ℕ × SideEffects) E)
+    → IsConsistent f → b < length f.blocks → record_of s x b ≡ None → is_yes (sealed_of s b) ≡ true
     → (is_yes (sealed_of s b) ≡ true → OnOk result (Zeroes s t f g x ty b) × IfOk result (λ r. (r.0 ≡ length f.values + 1 + steps_before ty) × (r.1.instructions_added_to_blocks.items ≡ b ∷ [])))
-    → OnOk result (LocalUse own f s g t b)
-local_leaves own f g s t x ty b (Err error) known there none waits zeroes = tt
-local_leaves own f g s t x ty b (Ok r) known there none waits zeroes = by (is_yes (sealed_of s b)) refl
-  where
-    by : (sealed : Bool) → is_yes (sealed_of s b) ≡ sealed → LocalUse own f s g t b
-    by true sealed = record {
-      params = (zeroes_used f g s t x b ty known there none (zeroes sealed).0).params;
-      stray = zeroes_stray own f g s t x ty b (firm_from f known) there (zeroes sealed).0;
-    }
-    by false unsealed = record {
-      params = (waits_used f g s t x b ty known none unsealed (waits unsealed).0).params;
-      stray = waits_stray own f g s t x ty b (firm_from f known) there (waits unsealed).0;
-    }
-
--- the same clauses of a sealing
-pub seal_leaves : (own : ℕ → List ℕ) (f g : Body) (s t : SsaState) (b : ℕ) (result : Result SideEffects BuildError) → IsConsistent f → SealsLocally f s g t b result
-    → NothingStray own f s → OnOk result (NothingStray own g t)
-seal_leaves own f g s t b (Err error) known seals before = tt
-seal_leaves own f g s t b (Ok r) known seals before = seal_stray own f g s t b (firm_from f known) seals.sealed seals.function before
+    → OnOk result ((c : ℕ) → (block_at g c).params ≡ (block_at f c).params)
+local_leaves f g s t x ty b (Err error) known there none sealed zeroes = tt
+local_leaves f g s t x ty b (Ok r) known there none sealed zeroes = (zeroes_used f g s t x b ty known there none (zeroes sealed).0).params sealed
 
 pub seal_loses : (f g : Body) (s t : SsaState) (b : ℕ) (result : Result SideEffects BuildError) → IsConsistent f → IsConsistent g → SealsLocally f s g t b result
     → OnOk result (LosesWaiting f g (pending_of (sealed_of s b)))

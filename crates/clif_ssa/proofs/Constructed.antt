@@ -1,6 +1,6 @@
 -- Each change that the construction makes of a function changes nothing else.
 use Rattle.std.proofs.lemmas.List.FromFn.{length-range_with_len}
-use Rattle.std.proofs.Common.{◌≡◌, ◌≢◌, ℕ, zero, suc, ◌+◌, ◌<◌, ◌==◌, Bool, true, false, List, [], ◌∷◌, ◌++◌, length, get_or, set, refl, ap, arith, sym, ◌∙◌, subst, inl, inr, ◌-◌, ◌≤◌}
+use Rattle.std.proofs.Common.{◌≡◌, ◌≢◌, ℕ, zero, suc, ◌+◌, ◌<◌, ◌==◌, Bool, true, false, List, [], ◌∷◌, ◌++◌, length, take, get_or, set, refl, ap, arith, sym, ◌∙◌, subst, inl, inr, ◌-◌, ◌≤◌}
 use Rattle.std.specs.Prelude.{Some, slice_index, cond, not, slice_get}
 use Rattle.std.specs.List.{filter, range_with_len}
 use Rattle.std.proofs.Math.ListN.{get_or-append}
@@ -19,10 +19,11 @@ use Rattle.clif_ir.specs.declared.function.ValueNode.{ValueNode}
 use Rattle.clif_ir.specs.declared.function.ValueOrigin.TheVariants.{Param, Alias}
 use Rattle.clif_ir.proofs.Reading.{if_true, if_false, Once-tail}
 use Rattle.clif_ssa.specs.Constructs.{Rises, StaysOrNames, MayPassMore, IsNewStep, ConstructsBlock, OnlyConstructs, TellsZeros}
-use Rattle.clif_ssa.specs.Ssa.{with_zero}
+use Rattle.clif_ssa.specs.Ssa.{with_steps, with_zero, HasMore, HasSomeSteps}
 use Rattle.clif_ssa.proofs.Constructing.{block_kept, more_none, constructs_none, constructs_then, filter-all, tells_none, tells_then}
 use Rattle.clif_ssa.proofs.Bodies.{param_origin}
 use Rattle.clif_ssa.proofs.Completing.{inserted_param_home, inserted_same}
+use Rattle.clif_ssa.proofs.PuttingSteps.{get-take, take_all, take_count}
 use Rattle.clif_ssa.proofs.ZeroSteps.{steps_old, put_zero, steps_param_home, steps_insts_more, steps_values_more, steps_old_value, steps_new, zero_at, put_stands, step_node}
 use Rattle.clif_ssa.specs.Zeros.{zero_steps, ZeroStep}
 use Rattle.clif_ssa.proofs.ZeroTable.{step_there}
@@ -101,15 +102,20 @@ rises-range a (suc n) =
     let to : (a + 1) + n ≡ a + suc n = omega arith in
     (omega arith, subst (λ least. Rises least (a + suc n) (range_with_len (a + 1) n)) from (subst (λ bound. Rises (a + 1) bound (range_with_len (a + 1) n)) to (rises-range (a + 1) n)))
 
+-- the first steps of a zero
+abbrev some_steps : «Type» → ℕ → List ZeroStep
+some_steps ty count = take count (zero_steps ty)
+
 -- each new instruction is a step of the zero
-zero_new : (f : Body) (b : ℕ) (ty : «Type») (i : ℕ) → length f.insts ≤ i → i < length (put_zero f b ty).insts → IsNewStep f (inst_at (put_zero f b ty) i)
-zero_new f b ty i from inside =
+step_new : (f : Body) (b : ℕ) (ty : «Type») (count : ℕ) → count ≤ length (zero_steps ty)
+    → (i : ℕ) → length f.insts ≤ i → i < length (with_steps f b (some_steps ty count)).insts → IsNewStep f (inst_at (with_steps f b (some_steps ty count)) i)
+step_new f b ty count fits i from inside =
     let k : ℕ = i - length f.insts in
     let at : length f.insts + k ≡ i = omega (arith, from) in
-    let few : k < length (zero_steps ty) = omega (arith, from, inside, steps_insts_more f b (zero_steps ty)) in
-    let step : (s : ZeroStep) × (slice_get (zero_steps ty) k ≡ Some s) = step_there ty k few in
-    let new : inst_at (put_zero f b ty) i ≡ step_node b (length f.values + k) step.0 =
-    ap (inst_at (put_zero f b ty)) (sym at) ∙ steps_new f b (zero_steps ty) k step.0 step.1 in
+    let few : k < count = omega (arith, from, inside, steps_insts_more f b (some_steps ty count), take_count (zero_steps ty) count fits) in
+    let step : (s : ZeroStep) × (slice_get (zero_steps ty) k ≡ Some s) = step_there ty k (omega (arith, few, fits)) in
+    let new : inst_at (with_steps f b (some_steps ty count)) i ≡ step_node b (length f.values + k) step.0 =
+    ap (inst_at (with_steps f b (some_steps ty count))) (sym at) ∙ steps_new f b (some_steps ty count) k step.0 (get-take (zero_steps ty) count k few ∙ step.1) in
     record {
       ty = ty;
       place = k;
@@ -122,10 +128,10 @@ zero_new f b ty i from inside =
       srcloc = ap (λ (n : InstNode). n.srcloc) new;
     }
 
-pub zero_constructs : (f : Body) (b : ℕ) (ty : «Type») → OnlyConstructs f (put_zero f b ty)
-zero_constructs f b ty =
-    let g : Body = put_zero f b ty in
-    let steps : List ZeroStep = zero_steps ty in
+steps_construct : (f : Body) (b : ℕ) (ty : «Type») (count : ℕ) → count ≤ length (zero_steps ty) → OnlyConstructs f (with_steps f b (some_steps ty count))
+steps_construct f b ty count fits =
+    let g : Body = with_steps f b (some_steps ty count) in
+    let steps : List ZeroStep = some_steps ty count in
     let values : length f.values ≤ length g.values = steps_values_more f b steps in
     let insts : length g.insts ≡ length f.insts + length steps = steps_insts_more f b steps in
     let node : BlockNode = record (block_at f b) { insts = range_with_len (length f.insts) (length steps) ++ (block_at f b).insts } in
@@ -135,7 +141,7 @@ zero_constructs f b ty =
       same_values = λ v inside. inl (steps_old_value f b steps v inside);
       insts = omega (arith, insts);
       same_insts = λ i inside. subst (λ n. MayPassMore (inst_at f i) n) (sym (steps_old f b steps i inside)) (more_none (inst_at f i));
-      zeros = zero_new f b ty;
+      zeros = step_new f b ty count fits;
       block_count = grind (arith, common_steps);
       blocks = λ c.
           at_set (λ n. ConstructsBlock f g (block_at f c) n) f.blocks b node c empty_block
@@ -144,14 +150,14 @@ zero_constructs f b ty =
       layout = ([], sym (append-nil f.layout));
     }
   where
-    here : length f.values ≤ length (put_zero f b ty).values → length (put_zero f b ty).insts ≡ length f.insts + length (zero_steps ty)
-        → ConstructsBlock f (put_zero f b ty) (block_at f b) (record (block_at f b) { insts = range_with_len (length f.insts) (length (zero_steps ty)) ++ (block_at f b).insts })
+    here : length f.values ≤ length (with_steps f b (some_steps ty count)).values → length (with_steps f b (some_steps ty count)).insts ≡ length f.insts + length (some_steps ty count)
+        → ConstructsBlock f (with_steps f b (some_steps ty count)) (block_at f b) (record (block_at f b) { insts = range_with_len (length f.insts) (length (some_steps ty count)) ++ (block_at f b).insts })
     here values insts =
-        let made : List ℕ = range_with_len (length f.insts) (length (zero_steps ty)) in
-        let count : length made ≡ length (zero_steps ty) = length-range_with_len (length f.insts) (length (zero_steps ty)) in
+        let made : List ℕ = range_with_len (length f.insts) (length (some_steps ty count)) in
+        let made_count : length made ≡ length (some_steps ty count) = length-range_with_len (length f.insts) (length (some_steps ty count)) in
         record {
           zeros = made ∷ [];
-          zeros_fit = ((ty, omega (arith, count)), tt);
+          zeros_fit = ((ty, omega (arith, made_count, take_count (zero_steps ty) count fits, fits)), tt);
           stays = λ v. true;
           added = [];
           node =
@@ -159,10 +165,14 @@ zero_constructs f b ty =
               (sym (filter-all (block_at f b).params) ∙ sym (append-nil (filter (λ v. true) (block_at f b).params)))
               ∙ ap (λ xs. record (block_at f b) { params = filter (λ v. true) (block_at f b).params ++ []; insts = xs ++ (block_at f b).insts }) (sym (append-nil made));
           zeros_new =
-              subst (Rises (length f.insts) (length (put_zero f b ty).insts)) (sym (append-nil made))
-              (subst (λ bound. Rises (length f.insts) bound made) (sym insts) (rises-range (length f.insts) (length (zero_steps ty))));
+              subst (Rises (length f.insts) (length (with_steps f b (some_steps ty count)).insts)) (sym (append-nil made))
+              (subst (λ bound. Rises (length f.insts) bound made) (sym insts) (rises-range (length f.insts) (length (some_steps ty count))));
           added_new = values;
         }
+
+pub zero_constructs : (f : Body) (b : ℕ) (ty : «Type») → OnlyConstructs f (put_zero f b ty)
+zero_constructs f b ty =
+    subst (λ steps. OnlyConstructs f (with_steps f b steps)) (take_all (zero_steps ty) (length (zero_steps ty)) (omega arith)) (steps_construct f b ty (length (zero_steps ty)) (omega arith))
 
 -- its block is told
 zero_told : (f : Body) (b : ℕ) (ty : «Type») → TellsZeros f (put_zero f b ty) (b ∷ [])
@@ -277,6 +287,14 @@ inserted_made f g b is = subst (λ h. OnlyConstructs f h) (sym is) (inserted_con
 pub with_zero_made : (f g h : Body) (b : ℕ) (ty : «Type») → g ≡ inserted_in f b → h ≡ put_zero g b ty → OnlyConstructs f h
 with_zero_made f g h b ty inserted put =
     constructs_then f g h (inserted_made f g b inserted) (subst (λ k. OnlyConstructs g k) (sym put) (zero_constructs g b ty))
+
+-- where it failed, and in any case: some of the steps are there
+pub some_steps_made : (f g h : Body) (b : ℕ) (ty : «Type») → g ≡ inserted_in f b → HasSomeSteps g h b ty → OnlyConstructs f h
+some_steps_made f g h b ty inserted some =
+    constructs_then f g h (inserted_made f g b inserted) (subst (λ k. OnlyConstructs g k) (sym some.2) (steps_construct g b ty some.0 some.1))
+
+pub constructs_more : (f g : Body) → OnlyConstructs f g → HasMore f g
+constructs_more f g made = record { values = made.values; insts = made.insts; blocks = made.block_count }
 
 pub with_zero_told : (f g h : Body) (b : ℕ) (ty : «Type») → g ≡ inserted_in f b → h ≡ put_zero g b ty → TellsZeros f h (b ∷ [])
 with_zero_told f g h b ty inserted put =

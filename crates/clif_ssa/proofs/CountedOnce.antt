@@ -10,10 +10,11 @@ use Rattle.clif_ir.proofs.Reading.{if_true, if_false, Once-tail}
 use Rattle.clif_ssa.specs.declared.tables.Pending.{Pending}
 use Rattle.clif_ssa.specs.declared.tables.Sealed.{Sealed}
 use Rattle.clif_ssa.specs.declared.tables.Sealed.TheVariants.{No, Yes}
-use Rattle.clif_ssa.specs.Tables.{is_yes, pending_of, one_more}
-use Rattle.clif_ssa.specs.Ssa.{SsaState, record_of, lookups_of, sealed_of, Records, SameBlocks, SameLookups, SameRecords, SealedStays, Seals, CountsLookup}
+use Rattle.clif_ssa.specs.Tables.{Recorded, is_yes, pending_of, one_more}
+use Rattle.clif_ssa.specs.Ssa.{SsaState, no_state, record_of, lookups_of, sealed_of, Records, SameBlocks, SameLookups, SameRecords, SealedStays, Seals, CountsLookup}
 use Rattle.clif_ssa.specs.Structure.{LooksOnce}
 use Rattle.clif_ssa.specs.Running.{CountsOnce, ToComplete}
+use Rattle.clif_ssa.proofs.RecordMaps.{recorded_at-empty}
 use Rattle.clif_ssa.proofs.Ordering.{contains_cons, contains_more, contains_first, none_contained}
 use Rattle.clif_ssa.proofs.Leading.{once_first, once_push}
 
@@ -35,6 +36,19 @@ NoneLost s t = (v d : ℕ) → record_of t v d ≡ None → record_of s v d ≡ 
 
 pub none_lost : (s t : SsaState) → SameRecords s t → NoneLost s t
 none_lost s t same v d none = sym (same v d) ∙ none
+
+-- nothing was looked up where nothing is known
+pub nothing_looked : LooksOnce no_state
+nothing_looked = record {
+  once = λ x b. omega (arith, none x b);
+  unrecorded = λ x b _. none x b;
+  unsealed = λ x b _. none x b;
+  waiting_recorded = λ b p here. absurd (none_contained p here);
+  apart = λ b j k below inside. absurd (omega (arith, inside));
+}
+  where
+    none : (x b : ℕ) → lookups_of no_state x b ≡ 0
+    none x b = ap (λ (r : Recorded). r.lookups) (recorded_at-empty x b)
 
 abbrev variables_of : List Pending → List ℕ
 variables_of ps = map (λ (p : Pending). p.variable) ps

@@ -5,6 +5,8 @@ pub mod Looking
 pub mod Framing
 pub mod FrameEnds
 pub mod RecordLaws
+pub mod RecordMaps
+pub mod EmptyRecords
 pub mod SparseSet
 pub mod Passing
 pub mod Stacks
@@ -24,6 +26,7 @@ pub mod Entering
 pub mod Parameters
 pub mod Instructions
 pub mod ZeroTable
+pub mod PuttingSteps
 pub mod ZeroSteps
 pub mod Zeroing
 pub mod Completing
@@ -34,7 +37,7 @@ pub mod Leading
 pub mod Owning
 pub mod Alike
 pub mod Losing
-pub mod Straying
+pub mod NeededZeros
 pub mod Housing
 pub mod Firsts
 pub mod Filling

@@ -1,7 +1,8 @@
 -- A variable is looked up in a block.
-use Rattle.std.proofs.Common.{◌≡◌, ◌≢◌, ℕ, zero, suc, ◌+◌, ◌<◌, ◌==◌, ◌&&◌, ◌||◌, Bool, true, false, List, [], ◌∷◌, length, map, refl, ap, arith, eq-eqb, sym, ◌∙◌, subst, ◌⊎◌, inl, inr}
-use Rattle.std.specs.Prelude.{Option, Some, None, Contains, reverse, if◌then◌else◌, slice_index_or}
+use Rattle.std.proofs.Common.{◌≡◌, ◌≢◌, ℕ, ◌+◌, ◌<◌, ◌==◌, ◌&&◌, ◌||◌, Bool, true, false, List, [], ◌∷◌, length, map, refl, ap, arith, eq-eqb, sym, ◌∙◌, subst, ◌⊎◌, inl, inr}
+use Rattle.std.specs.Prelude.{Option, Some, None, Contains, reverse, if◌then◌else◌}
 use Rattle.std.proofs.lemmas.Grind.{common_steps}
+use Rattle.std.specs.FinMap as map
 use Rattle.std.proofs.lemmas.Bool.{cases_eq}
 use Rattle.std.proofs.lemmas.List.Elements.{Contains-append_right}
 use Rattle.clif_types.specs.declared.types.«Type».{«Type»}
@@ -17,13 +18,13 @@ use Rattle.clif_paths.specs.LookUp.{Frame, results_of, Expects, Finds, Delivers,
 use Rattle.clif_paths.proofs.LookingUp.{record_is_found, found_is_delivered, parameter_is_added, frame_is_pushed}
 use Rattle.clif_paths.proofs.Tables.{updated-same}
 use Rattle.clif_ssa.specs.declared.look_up.Call.{Call}
-use Rattle.clif_ssa.specs.declared.tables.Cell.{Cell}
 use Rattle.clif_ssa.specs.declared.tables.Pending.{Pending}
 use Rattle.clif_ssa.specs.Own.{Own}
-use Rattle.clif_ssa.specs.Tables.{no_cell, is_yes}
+use Rattle.clif_ssa.specs.Tables.{is_yes}
 use Rattle.clif_ssa.specs.Ssa.{SsaState, record_of, sealed_of, predecessors_of, Records, RecordsStay}
 use Rattle.clif_ssa.specs.LookUp.{Stage, LookUpState, branch_block, only_block, single_predecessor, IsWalk, before_first, Copies, FindsRecord, AddsParameter, ParameterWaits, ParameterBegins, LooksUp}
 use Rattle.clif_ssa.specs.Sound.{Describes, CountsArguments, SameProgram, has_entry}
+use Rattle.clif_ssa.proofs.RecordMaps.{record_at-insert}
 use Rattle.clif_ssa.proofs.Bodies.{Firm, past_alias, param_exists, home-append}
 use Rattle.clif_ssa.proofs.Housing.{Housed}
 use Rattle.clif_ssa.proofs.Ordering.{contains_first, contains_cons, nothing_contained}
@@ -42,62 +43,12 @@ test_true a b same = eq-eqb a b same
 test_false : (a b : ℕ) → a ≢ b → (a == b) ≡ false
 test_false a b other = grind (arith, common_steps, other)
 
--- a list with one entry changed, which is longer if it has to
-abbrev pub put : {A : Type 0} → A → List A → ℕ → A → List A
-put d [] zero a = a ∷ []
-put d [] (suc k) a = d ∷ put d [] k a
-put d (x ∷ xs) zero a = a ∷ xs
-put d (x ∷ xs) (suc k) a = x ∷ put d xs k a
-
-put-same : {A : Type 0} (d : A) (xs : List A) (k : ℕ) (a : A) → slice_index_or (put d xs k a) k d ≡ a
-put-same d [] zero a = refl
-put-same d [] (suc k) a = put-same d [] k a
-put-same d (x ∷ xs) zero a = refl
-put-same d (x ∷ xs) (suc k) a = put-same d xs k a
-
-put-other : {A : Type 0} (d : A) (xs : List A) (k : ℕ) (a : A) (j : ℕ) → j ≢ k → slice_index_or (put d xs k a) j d ≡ slice_index_or xs j d
-put-other d [] zero a zero other = absurd (other refl)
-put-other d [] zero a (suc j) other = refl
-put-other d [] (suc k) a zero other = refl
-put-other d [] (suc k) a (suc j) other = put-other d [] k a j (λ same. other (ap suc same))
-put-other d (x ∷ xs) zero a zero other = absurd (other refl)
-put-other d (x ∷ xs) zero a (suc j) other = refl
-put-other d (x ∷ xs) (suc k) a zero other = refl
-put-other d (x ∷ xs) (suc k) a (suc j) other = put-other d xs k a j (λ same. other (ap suc same))
-
-abbrev row_of : SsaState → ℕ → List Cell
-row_of s x = slice_index_or s.records x []
-
--- the records with one more
-abbrev pub with_record_of : SsaState → ℕ → ℕ → ℕ → List (List Cell)
-with_record_of s x b v = put [] s.records x (put no_cell (row_of s x) b (record { value = Some v; lookups = 0 }))
-
 -- a state that has one record more, with the blocks of another
 abbrev pub recorded_state : SsaState → SsaState → ℕ → ℕ → ℕ → SsaState
-recorded_state s t x b v = record { records = with_record_of s x b v; blocks = t.blocks }
+recorded_state s t x b v = record { records = map.insert s.records (x, b) (record { value = Some v; lookups = 0 }); blocks = t.blocks }
 
 pub recorded_state_is : (s t : SsaState) (x b v : ℕ) → Records s (recorded_state s t x b v) x b v
-recorded_state_is s t x b v y c =
-    let new : List Cell = put no_cell (row_of s x) b (record { value = Some v; lookups = 0 }) in
-    elim (cases_eq y x) [
-      | inl same ↦
-          let row : slice_index_or (put [] s.records x new) y [] ≡ new = ap (λ z. slice_index_or (put [] s.records x new) z []) same ∙ put-same [] s.records x new in
-          elim (cases_eq c b) [
-            | inl here ↦
-                ap (λ (r : List Cell). (slice_index_or r c no_cell).value) row
-                ∙ ap (λ d. (slice_index_or new d no_cell).value) here
-                ∙ ap (λ (e : Cell). e.value) (put-same no_cell (row_of s x) b (record { value = Some v; lookups = 0 }))
-                ∙ sym (ap (λ t. if t && c == b then Some v else record_of s y c) (test_true y x same) ∙ ap (λ t. if t then Some v else record_of s y c) (test_true c b here))
-            | inr there ↦
-                ap (λ (r : List Cell). (slice_index_or r c no_cell).value) row
-                ∙ ap (λ (e : Cell). e.value) (put-other no_cell (row_of s x) b (record { value = Some v; lookups = 0 }) c there)
-                ∙ ap (λ z. record_of s z c) (sym same)
-                ∙ sym (ap (λ t. if t && c == b then Some v else record_of s y c) (test_true y x same) ∙ ap (λ t. if t then Some v else record_of s y c) (test_false c b there))
-          ]
-      | inr other ↦
-          ap (λ (r : List Cell). (slice_index_or r c no_cell).value) (put-other [] s.records x new y other)
-          ∙ sym (ap (λ t. if t && c == b then Some v else record_of s y c) (test_false y x other))
-    ]
+recorded_state_is s t x b v = record_at-insert s.records x b (record { value = Some v; lookups = 0 })
 
 -- what is copied into a block and others is recorded in the block, and then copied into the others
 pub copies_split : (s t : SsaState) (x v b : ℕ) (blocks : List ℕ) → Copies s t x v (b ∷ blocks) → Copies (recorded_state s t x b v) t x v blocks

@@ -12,7 +12,7 @@ use Rattle.clif_ssa.specs.Own.{Own}
 use Rattle.clif_ssa.specs.Tables.{is_yes, pending_of, record_at}
 use Rattle.clif_ssa.specs.Ssa.{SsaState, SomethingLeads, record_of, sealed_of, predecessors_of, SamePredecessors, Seals, Waits, Zeroes}
 use Rattle.clif_ssa.specs.LookUp.{LookUpState, no_look_up, LooksUp, UsesVariable}
-use Rattle.clif_ssa.specs.Running.{stage, CompletesAll, MakesAll}
+use Rattle.clif_ssa.specs.Running.{stage, found, CompletesAll, MakesAll}
 use Rattle.clif_ssa.specs.Sealing.{SealsLocally, SealsByLookUp}
 use Rattle.clif_ssa.specs.Sound.{Keeps, KeepsAndKnows}
 use Rattle.clif_ssa.specs.SoundLaws.{DescribesSoundly}
@@ -73,6 +73,13 @@ looked_up x ty b f h g s r t first begun last value nothing looks all = record {
   answered = ap (λ (l : LookUpState). l.results) all.ended;
   ended = ap (λ (l : LookUpState). l.calls) all.ended;
 }
+
+pub uses_machine : (x : ℕ) (ty : «Type») (b : ℕ) (f h g : Body) (s r t : SsaState) (first begun last : LookUpState) (value : ℕ) (zeros : List ℕ) → first ≡ no_look_up
+    → LooksUp x ty b (stage f s first) (stage h r begun) → MakesAll x ty (stage h r begun) value (stage g t last) → zeros ≡ last.zeros
+    → UsesVariable x ty b (stage f s no_look_up) value (stage g t (found value zeros))
+uses_machine x ty b f h g s r t first begun last value zeros nothing looks all told =
+    let end : all.last ≡ stage g t (found value zeros) = λ i. stage (sym all.function i) (sym all.state i) ((all.ended ∙ ap (found value) (sym told)) i) in
+    subst (λ n. UsesVariable x ty b (stage f s no_look_up) value n) end (looked_up x ty b f h g s r t first begun last value nothing looks all)
 
 pub machine_use : (own : Own) (f h g : Body) (s r t : SsaState) (tables : Blocks) (x : ℕ) (ty : «Type») (b : ℕ) (first begun last : LookUpState) (value : ℕ) → first ≡ no_look_up
     → IsConsistent f → DescribesSoundly own f s tables → b < length f.blocks

@@ -32,7 +32,7 @@ use Rattle.clif_ssa.proofs.Completing.{inserted_same, inserted_firm, inserted_pa
 use Rattle.clif_ssa.proofs.Ordering.{contains_first, contains_more, contains_cons, entry_any}
 use Rattle.clif_ssa.proofs.Passing.{zero_passed, Passing, AllExist, one_passes, args_more, args_same, inst_other, edges_here, others_stay, exist_then}
 use Rattle.clif_ssa.proofs.Zeroing.{CanAlias, alias_ends, alias_insts, alias_params, alias_count_same, alias_home_other}
-use Rattle.clif_ssa.proofs.Straying.{Longer, OnlyNeeded, needed_kept, longer}
+use Rattle.clif_ssa.proofs.NeededZeros.{Longer, OnlyNeeded, needed_kept, longer}
 use Rattle.clif_ssa.proofs.Structuring.{Grows, edge_kept, complete_exist, edges_keep, waiting_homes, block_kept}
 use Rattle.clif_ssa.proofs.StructuredSteps.{TakesAway, params_in, once_behind, waiting_first, waiting_elsewhere}
 use Rattle.clif_ssa.proofs.ZeroSteps.{steps_param_home, steps_params, put_zero}

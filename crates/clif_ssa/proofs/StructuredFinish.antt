@@ -25,7 +25,7 @@ use Rattle.clif_ssa.proofs.Completing.{inserted_same, inserted_firm, inserted_pa
 use Rattle.clif_ssa.proofs.Counting.{zero_housed, inserted_housed}
 use Rattle.clif_ssa.proofs.Filling.{filled_firm, filled_housed}
 use Rattle.clif_ssa.proofs.Passing.{Passing, AllExist, arguments_pass}
-use Rattle.clif_ssa.proofs.Straying.{OnlyNeeded, zeroed_needed}
+use Rattle.clif_ssa.proofs.NeededZeros.{OnlyNeeded, zeroed_needed}
 use Rattle.clif_ssa.proofs.Zeroing.{CanAlias, alias_count_same}
 use Rattle.clif_ssa.proofs.Structuring.{Grows, grows_longer, typed_kept, written}
 use Rattle.clif_ssa.proofs.StructuredSteps.{TakesAway, dropped, waiting_first, first_apart}

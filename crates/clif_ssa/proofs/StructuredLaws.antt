@@ -25,13 +25,14 @@ use Rattle.clif_ssa.specs.Tables.{is_yes}
 use Rattle.clif_ssa.specs.Ssa.{SsaState, no_state, record_of, sealed_of, predecessors_of, SameBlocks, SamePredecessors, Records}
 use Rattle.clif_ssa.specs.Sound.{edges_at, edge_target, args_of}
 use Rattle.clif_ssa.specs.Structured.{VariableTypes, HasType, AreFor, EdgePasses, HasParameters, Structured, waiting_of, waiting_in}
+use Rattle.clif_ssa.proofs.RecordMaps.{record_at-empty}
 use Rattle.clif_ssa.proofs.Bodies.{Firm}
 use Rattle.clif_ssa.proofs.Counting.{block_params}
 use Rattle.clif_ssa.proofs.Instructions.{inst_params, inst_resolved, inst_param_home, inst_old}
 use Rattle.clif_ssa.proofs.Leading.{contains_without}
 use Rattle.clif_ssa.proofs.Ordering.{none_contained, entry_any}
 use Rattle.clif_ssa.proofs.Parameters.{param_params}
-use Rattle.clif_ssa.proofs.Straying.{Longer, OnlyNeeded, all_kept, types_kept, first_stray, new_block_insts, inst_longer, own_zeros, param_longer, param_needed}
+use Rattle.clif_ssa.proofs.NeededZeros.{Longer, OnlyNeeded, all_kept, types_kept, first_needed, new_block_insts, inst_longer, own_zeros, param_longer, param_needed}
 use Rattle.clif_ssa.proofs.Walks.{once-further}
 use Rattle.clif_ssa.proofs.Structuring.{Grows, EdgesKeep, Writes, grows_longer, typed_kept, edges_keep, edges_keep_itself, complete_among, same_edge, waiting_homes, block_kept, written, rewritten, written_typed}
 use Rattle.clif_ssa.proofs.StructuredSteps.{params_in}
@@ -49,9 +50,9 @@ first_structured types name signature = record {
     several = λ some. absurd (some refl);
     edges = λ i k here. absurd (none_contained i here);
   };
-  alias_types = (first_stray name signature).alias_types;
-  zeros = (first_stray name signature).zeros;
-  recorded = λ x b v is. absurd (let nothing : ◌≡◌ {A = Option ℕ} None (Some v) = is in none_some nothing);
+  alias_types = (first_needed name signature).alias_types;
+  zeros = (first_needed name signature).zeros;
+  recorded = λ x b v is. absurd (let nothing : ◌≡◌ {A = Option ℕ} None (Some v) = sym (record_at-empty x b) ∙ is in none_some nothing);
   waiting = λ b p here. absurd (none_contained p here);
   leading = λ b i here. absurd (none_contained i here);
   leading_once = λ b j k below inside. absurd (omega (arith, inside));

@@ -24,7 +24,7 @@ use Rattle.clif_ssa.proofs.Ordering.{contains_first, contains_more, contains_con
 use Rattle.clif_ssa.proofs.Framing.{HomesRecorded}
 use Rattle.clif_ssa.proofs.Adding.{add_housed}
 use Rattle.clif_ssa.proofs.Parameters.{param_firm, param_home_new, param_node}
-use Rattle.clif_ssa.proofs.Straying.{param_longer, seal_here, seal_other}
+use Rattle.clif_ssa.proofs.NeededZeros.{param_longer, seal_here, seal_other}
 use Rattle.clif_ssa.proofs.Structuring.{Grows, Writes, grows_longer, typed_kept, sealed_yes, sealed_no, waiting_homes, written, rewritten, written_typed}
 use Rattle.clif_ssa.proofs.StructuredSteps.{new_pending, new_typed, added, waiting_elsewhere}
 

@@ -24,7 +24,7 @@ use Rattle.clif_ssa.proofs.Bodies.{Firm}
 use Rattle.clif_ssa.proofs.Housing.{Housed}
 use Rattle.clif_ssa.proofs.Ordering.{contains_first, contains_more, contains_cons, entry_any, without_here, without_later, parameters_first, parameters_skip, is_parameter, is_parameter_elsewhere, parameters_contain}
 use Rattle.clif_ssa.proofs.Parameters.{param_node, param_count, param_params}
-use Rattle.clif_ssa.proofs.Straying.{Longer, OnlyNeeded, param_longer, param_needed}
+use Rattle.clif_ssa.proofs.NeededZeros.{Longer, OnlyNeeded, param_longer, param_needed}
 use Rattle.clif_ssa.proofs.Structuring.{Grows, Writes, SameEdge, grows_longer, typed_kept, edge_kept, complete_exist, edges_keep, same_edge, sealed_yes, waiting_homes, block_kept}
 
 -- LISTS -----------------------------------------------------------------------------------------------------------

@@ -26,7 +26,7 @@ use Rattle.clif_ssa.proofs.Framing.{HomesRecorded}
 use Rattle.clif_ssa.proofs.Alike.{zeroed_leaves}
 use Rattle.clif_ssa.proofs.Parameters.{param_firm, param_home_new}
 use Rattle.clif_ssa.proofs.Adding.{add_housed}
-use Rattle.clif_ssa.proofs.Straying.{seal_here, seal_other}
+use Rattle.clif_ssa.proofs.NeededZeros.{seal_here, seal_other}
 use Rattle.clif_ssa.proofs.Structuring.{Writes, edges_keep_itself, written, same_structured, block_kept}
 use Rattle.clif_ssa.proofs.StructuredSteps.{TakesAway, in_params, new_pending, new_typed, waiting_first, first_apart}
 use Rattle.clif_ssa.proofs.StructuredEnds.{zero_takes}

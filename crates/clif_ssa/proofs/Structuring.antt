@@ -20,7 +20,7 @@ use Rattle.clif_ssa.specs.Sound.{is_some_block, edges_at, edge_target, args_of}
 use Rattle.clif_ssa.specs.Structured.{VariableTypes, HasType, AreFor, EdgePasses, HasParameters, Structured, waiting_of, waiting_in}
 use Rattle.clif_ssa.proofs.Bodies.{Firm}
 use Rattle.clif_ssa.proofs.Ordering.{contains_first, contains_more, parameters_same, entry_any}
-use Rattle.clif_ssa.proofs.Straying.{Longer}
+use Rattle.clif_ssa.proofs.NeededZeros.{Longer}
 
 -- TYPES -----------------------------------------------------------------------------------------------------------
 

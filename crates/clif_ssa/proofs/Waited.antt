@@ -17,7 +17,7 @@ use Rattle.clif_ssa.specs.declared.tables.Sealed.TheVariants.{Yes}
 use Rattle.clif_ssa.specs.Tables.{is_yes, pending_of, sealed_at, predecessors_at}
 use Rattle.clif_ssa.specs.Ssa.{SsaState, sealed_of, predecessors_of, lookups_of, completed, completing_blocks, counted_for, KnowsNoMore, NamesExist, Named, Seals, SealedStays, SamePredecessors, SameRecords, SameLookups, CountsLookup, CountsEach}
 use Rattle.clif_ssa.specs.LookUp.{LookUpState, Stage, calls_for, CompletesParameter}
-use Rattle.clif_ssa.specs.Running.{stage, Balances, CallExists, CallsFit, CompletesAll, MakesAll}
+use Rattle.clif_ssa.specs.Running.{stage, found, Balances, CallExists, CallsFit, CompletesAll, MakesAll}
 use Rattle.clif_ssa.specs.Sealing.{SealsOne, SealsLocally}
 use Rattle.clif_ssa.proofs.Ordering.{contains_more, contains_first, contains_cons, none_contained}
 use Rattle.clif_ssa.proofs.Calling.{balances-same, begun-balance}
@@ -65,6 +65,18 @@ begun-fits f s t l k param block named same there calls results is =
 stage_is : (n : Stage) (f : Body) (s : SsaState) (l : LookUpState) → n.function ≡ f → n.state ≡ s → n.look_up ≡ l → n ≡ stage f s l
 stage_is n f s l function state look_up =
     ap (λ g. stage g n.state n.look_up) function ∙ ap (λ r. stage f r n.look_up) state ∙ ap (λ k. stage f s k) look_up
+
+-- the last result is taken, and no call is left
+pub result-taken : (l next new : LookUpState) (value : ℕ) → l.calls ≡ [] → next ≡ l → next.results ≡ value ∷ [] → new ≡ record next { results = [] }
+    → (l ≡ found value new.zeros) × (new ≡ record { calls = []; results = []; zeros = l.zeros })
+result-taken l next new value none same one taken =
+    let left : next.calls ≡ [] = ap (λ (j : LookUpState). j.calls) same ∙ none in
+    let told : next.zeros ≡ l.zeros = ap (λ (j : LookUpState). j.zeros) same in
+    let kept : new.zeros ≡ next.zeros = ap (λ (j : LookUpState). j.zeros) taken in
+    let results : l.results ≡ value ∷ [] = ap (λ (j : LookUpState). j.results) (sym same) ∙ one in (
+      λ i. state_with (none i) (results i) (sym (kept ∙ told) i),
+      taken ∙ (λ i. state_with (left i) [] (told i)),
+    )
 
 pub parameter-completed : (x : ℕ) (ty : «Type») (param block value : ℕ) (f : Body) (s t : SsaState) (l k : LookUpState) (n : Stage) → SameRecords s t → t.blocks ≡ s.blocks
     → CountsLookup s t x block → k ≡ record l { calls = calls_for (predecessors_of s block) param block ++ l.calls } → MakesAll x ty (stage f t k) value n

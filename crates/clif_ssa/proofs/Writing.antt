@@ -23,6 +23,7 @@ use Rattle.clif_ssa.specs.Ssa.{SsaState, no_state, record_of, sealed_of, predece
 use Rattle.clif_ssa.specs.LookUp.{branch_block}
 use Rattle.clif_ssa.specs.Sound.{Describes, IsEdgeInto, InOrder, entry_of}
 use Rattle.clif_ssa.specs.SoundLaws.{DescribesSoundly, IsOpen}
+use Rattle.clif_ssa.proofs.RecordMaps.{record_at-empty}
 use Rattle.clif_ssa.proofs.Ordering.{none_contained, in_order_small}
 use Rattle.clif_ssa.proofs.Describing.{Extends, Arms, arms_of, arms_kept, SameEdges, same_edges, Ordered, ordered_of, ordered_kept, same_passed, same_kinds, instructions_kept, waiting_kept, homes_kept, assigns_not_kept, record_changed, not_recorded, is_recorded}
 use Rattle.clif_ssa.proofs.Entering.{Waiting, relaid, same_leads}
@@ -193,8 +194,8 @@ first_described name signature =
         leading_apart = λ b j k below inside. absurd (omega (arith, inside));
         entry_apart = λ entry is. refl;
         resolves = λ v. sym (follow_nothing [] 0 v refl);
-        recorded = λ b x. refl;
-        records_exist = λ b x v is. absurd (let nothing : ◌≡◌ {A = Option ℕ} None (Some v) = is in cc);
+        recorded = λ b x. sym (record_at-empty x b);
+        records_exist = λ b x v is. absurd (let nothing : ◌≡◌ {A = Option ℕ} None (Some v) = sym (record_at-empty x b) ∙ is in cc);
         unrecorded = λ b x none. record { none = λ k below. refl };
         unwritten = λ b k x below. refl;
         absent = λ v past. refl;

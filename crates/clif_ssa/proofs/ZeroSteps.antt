@@ -1,10 +1,13 @@
 -- A function with the steps of a zero more.
 use Rattle.std.proofs.Common.{◌≡◌, ◌≢◌, ℕ, zero, suc, ◌+◌, ◌-◌, ◌<◌, ◌≤◌, List, [], ◌∷◌, ◌++◌, length, get_or, set, refl, ap, arith, sym, ◌∙◌, subst}
-use Rattle.std.specs.Prelude.{Some, None, slice_index, slice_get, pos}
-use Rattle.std.specs.List.{range_with_len}
+use Rattle.std.specs.Prelude.{Some, None, slice_index, slice_get}
+use Rattle.std.specs.List.{insert, range_with_len}
 use Rattle.std.proofs.Math.ListN.{get_or-append}
 use Rattle.std.proofs.Math.Seq.{get_or-append_right}
 use Rattle.std.proofs.lemmas.Grind.{common_steps}
+use Rattle.std.proofs.lemmas.List.{append-nil, append_assoc}
+use Rattle.std.proofs.lemmas.List.Edits.{insert-append_right}
+use Rattle.std.proofs.lemmas.List.FromFn.{length-range_with_len}
 use Rattle.std.proofs.lemmas.List.Sums.{sum_by-cons}
 use Rattle.clif_types.specs.declared.types.«Type».{«Type»}
 use Rattle.clif_ir.specs.Body.{Body, block_at, inst_at, value_at, alias_of, empty_block, no_inst, no_value, resolved}
@@ -12,11 +15,11 @@ use Rattle.clif_ir.specs.Reading.{param_home, place_of, home_of_node}
 use Rattle.clif_ir.specs.Consistent.{alias_count}
 use Rattle.clif_ir.specs.Changes.{with_inst, with_param}
 use Rattle.clif_ir.specs.declared.inst_list.InsertAt.TheVariants.{Behind}
-use Rattle.clif_ir.specs.declared.instructions.InstructionData.TheVariants.{UnaryImm}
 use Rattle.clif_ir.specs.declared.function.BlockNode.{BlockNode}
 use Rattle.clif_ir.specs.declared.function.InstNode.{InstNode}
 use Rattle.clif_ir.specs.declared.function.ValueNode.{ValueNode}
 use Rattle.clif_ir.specs.declared.function.ValueOrigin.TheVariants.{Result, Param}
+use Rattle.clif_ir.proofs.Changes.{range_with_len_more}
 use Rattle.clif_ir.proofs.Lists.{at_set}
 use Rattle.clif_ir.proofs.Aliases.{ways_end-append, follow_end}
 use Rattle.clif_paths.specs.Blocks.{Blocks}
@@ -197,16 +200,94 @@ pub param_zero_value : (f : Body) (b : ℕ) (ty : «Type»)
 param_zero_value f b ty =
     ap (λ t. zero_value (with_param f b ty) t) (param_type f b ty) ∙ ap (λ n. n + steps_before ty) (param_count f b ty)
 
--- THE CODE --------------------------------------------------------------------------------------------------------
+-- STEP BY STEP ----------------------------------------------------------------------------------------------------
 
--- each zero is one instruction so far
-one_is_put : (f : Body) (b : ℕ) (ty : «Type») → with_inst f b (Behind 0) (UnaryImm (pos 0)) (ty ∷ []) no_srcloc ≡ put_zero f b ty
-unfolding zero_row
-one_is_put f b ty = refl
+step_values-push : (i : ℕ) (steps : List ZeroStep) (step : ZeroStep)
+    → step_values i (steps ++ step ∷ []) ≡ step_values i steps ++ record { ty = step.ty; origin = Result (i + length steps) 0 } ∷ []
+step_values-push i [] step = let same : i ≡ i + 0 = omega arith in ap (λ j. record { ty = step.ty; origin = Result j 0 } ∷ []) same
+step_values-push i (s ∷ steps) step =
+    let same : suc i + length steps ≡ i + suc (length steps) = omega arith in
+    ap (λ nodes. record { ty = s.ty; origin = Result i 0 } ∷ nodes)
+    (step_values-push (suc i) steps step ∙ ap (λ j. step_values (suc i) steps ++ record { ty = step.ty; origin = Result j 0 } ∷ []) same)
 
-pub put_made : (f g : Body) (b : ℕ) (ty : «Type») (loc : ℕ) → g ≡ with_inst f b (Behind 0) (UnaryImm (pos 0)) (ty ∷ []) loc → loc ≡ no_srcloc → g ≡ put_zero f b ty
-put_made f g b ty loc made none = made ∙ ap (λ n. with_inst f b (Behind 0) (UnaryImm (pos 0)) (ty ∷ []) n) none ∙ one_is_put f b ty
+step_insts-push : (b v : ℕ) (steps : List ZeroStep) (step : ZeroStep) → step_insts b v (steps ++ step ∷ []) ≡ step_insts b v steps ++ step_node b (v + length steps) step ∷ []
+step_insts-push b v [] step = let same : v ≡ v + 0 = omega arith in ap (λ w. step_node b w step ∷ []) same
+step_insts-push b v (s ∷ steps) step =
+    let same : suc v + length steps ≡ v + suc (length steps) = omega arith in
+    ap (λ nodes. step_node b v s ∷ nodes) (step_insts-push b (suc v) steps step ∙ ap (λ w. step_insts b (suc v) steps ++ step_node b w step ∷ []) same)
 
-pub one_is_alone : (ty : «Type») → steps_before ty ≡ 0
-unfolding zero_row
-one_is_alone ty = refl
+-- no step yet, and one step more, behind the others
+pub steps_none : (f : Body) (b : ℕ) → b < length f.blocks → with_steps f b [] ≡ f
+steps_none f b there =
+    let values : f.values ++ [] ≡ f.values = append-nil f.values in
+    let insts : f.insts ++ [] ≡ f.insts = append-nil f.insts in
+    let blocks : set f.blocks b (block_at f b) ≡ f.blocks = grind (arith, common_steps, there) in
+    ap (λ vs. record f { values = vs; insts = f.insts ++ []; blocks = set f.blocks b (block_at f b) }) values
+    ∙ ap (λ is. record f { insts = is; blocks = set f.blocks b (block_at f b) }) insts
+    ∙ ap (λ bs. record f { blocks = bs }) blocks
+
+set_twice : (xs : List BlockNode) (k : ℕ) (x y : BlockNode) → set (set xs k x) k y ≡ set xs k y
+set_twice [] k x y = refl
+set_twice (z ∷ xs) zero x y = refl
+set_twice (z ∷ xs) (suc k) x y = ap (λ ys. z ∷ ys) (set_twice xs k x y)
+
+pub steps_push : (f : Body) (b : ℕ) (steps : List ZeroStep) (step : ZeroStep) → b < length f.blocks
+    → with_inst (with_steps f b steps) b (Behind (length steps)) (step.shape (length (with_steps f b steps).values - 1)) (step.ty ∷ []) no_srcloc
+    ≡ with_steps f b (steps ++ step ∷ [])
+steps_push f b steps step there =
+    let g : Body = with_steps f b steps in
+    let inst : ℕ = length g.insts in
+    let value : ℕ = length g.values in
+    let made : List ℕ = range_with_len (length f.insts) (length steps) in
+    let old : List ℕ = (block_at f b).insts in
+    let inst_is : inst ≡ length f.insts + length steps = steps_insts_more f b steps in
+    let value_is : value ≡ length f.values + length steps = steps_values_count f b steps in
+    let here : block_at g b ≡ record (block_at f b) { insts = made ++ old } = grind (arith, common_steps, there) in
+    let count : length (steps ++ step ∷ []) ≡ length steps + 1 = grind (arith, common_steps) in
+    let at_end : insert (made ++ old) (length steps) inst ≡ range_with_len (length f.insts) (length (steps ++ step ∷ [])) ++ old =
+    let none : length steps - length steps ≡ 0 = omega arith in
+    insert-append_right made old (length steps) (length steps) inst (length-range_with_len (length f.insts) (length steps)) (omega arith)
+    ∙ ap (λ k. made ++ insert old k inst) none
+    ∙ sym (append_assoc made (inst ∷ []) old)
+    ∙ ap (λ i. (made ++ i ∷ []) ++ old) inst_is
+    ∙ ap (λ xs. xs ++ old) (sym (range_with_len_more (length f.insts) (length steps)))
+    ∙ ap (λ n. range_with_len (length f.insts) n ++ old) (sym count) in
+    let values : g.values ++ record { ty = step.ty; origin = Result inst 0 } ∷ [] ≡ f.values ++ step_values (length f.insts) (steps ++ step ∷ []) =
+    append_assoc f.values (step_values (length f.insts) steps) _
+    ∙ ap (λ i. f.values ++ (step_values (length f.insts) steps ++ record { ty = step.ty; origin = Result i 0 } ∷ [])) inst_is
+    ∙ ap (λ vs. f.values ++ vs) (sym (step_values-push (length f.insts) steps step)) in
+    let insts : g.insts ++ step_node b value step ∷ [] ≡ f.insts ++ step_insts b (length f.values) (steps ++ step ∷ []) =
+    append_assoc f.insts (step_insts b (length f.values) steps) _
+    ∙ ap (λ v. f.insts ++ (step_insts b (length f.values) steps ++ step_node b v step ∷ [])) value_is
+    ∙ ap (λ is. f.insts ++ is) (sym (step_insts-push b (length f.values) steps step)) in
+    let node : BlockNode = record (block_at f b) { insts = range_with_len (length f.insts) (length (steps ++ step ∷ [])) ++ old } in
+    let block : record (block_at g b) { insts = insert (block_at g b).insts (length steps) inst } ≡ node =
+    ap (λ (n : BlockNode). record n { insts = insert n.insts (length steps) inst }) here
+    ∙ ap (λ is. record (block_at f b) { insts = is }) at_end in
+    let blocks : set g.blocks b (record (block_at g b) { insts = insert (block_at g b).insts (length steps) inst }) ≡ set f.blocks b node =
+    ap (λ n. set g.blocks b n) block ∙ set_twice f.blocks b _ node in
+    ap (λ vs. record f { values = vs; insts = g.insts ++ step_node b value step ∷ []; blocks = set g.blocks b (record (block_at g b) { insts = insert (block_at g b).insts (length steps) inst }) }) values
+    ∙ ap (λ is. record f { values = f.values ++ step_values (length f.insts) (steps ++ step ∷ []); insts = is; blocks = set g.blocks b (record (block_at g b) { insts = insert (block_at g b).insts (length steps) inst }) }) insts
+    ∙ ap (λ bs. record f { values = f.values ++ step_values (length f.insts) (steps ++ step ∷ []); insts = f.insts ++ step_insts b (length f.values) (steps ++ step ∷ []); blocks = bs }) blocks
+
+-- THE LAST VALUE --------------------------------------------------------------------------------------------------
+
+step_unaliased : (f : Body) (b : ℕ) (steps : List ZeroStep) (v : ℕ) → length f.values ≤ v → resolved (with_steps f b steps) v ≡ v
+step_unaliased f b steps v past =
+    follow_end (f.values ++ step_values (length f.insts) steps) (length (f.values ++ step_values (length f.insts) steps)) v
+    (no_alias_behind f.values (step_values (length f.insts) steps) (steps_no_alias (length f.insts) steps) v past)
+
+-- it is the zero, and stands for itself
+pub record IsLatestZero (f h : Body) (ty : «Type») (v : ℕ) : Type 0 where
+  pub number : v ≡ zero_value f ty
+  pub exists : v < length h.values
+  pub unaliased : resolved h v ≡ v
+
+pub latest_zero : (f g h : Body) (b v : ℕ) (ty : «Type») → length g.values ≡ length f.values → h ≡ put_zero g b ty → v ≡ length h.values - 1 → IsLatestZero f h ty v
+latest_zero f g h b v ty same is latest =
+    let count : length h.values ≡ zero_value g ty + 1 = ap (λ (k : Body). length k.values) is ∙ zero_count g b ty in
+    record {
+      number = omega (arith, count, latest, same);
+      exists = omega (arith, count, latest);
+      unaliased = subst (λ k. resolved k v ≡ v) (sym is) (step_unaliased g b (zero_steps ty) v (omega (arith, count, latest)));
+    }

@@ -1,31 +1,49 @@
 -- What is so of the table of zeros, and of zeros that stand in a function.
-use Rattle.std.proofs.Common.{◌≡◌, ℕ, zero, suc, ◌+◌, ◌<◌, ◌≤◌, false, List, [], ◌∷◌, ◌++◌, length, refl, ap, arith, ◌∙◌, subst}
-use Rattle.std.specs.Prelude.{Option, Some, None, slice_get}
+use Rattle.std.proofs.Common.{◌≡◌, ℕ, zero, suc, ◌+◌, ◌<◌, ◌≤◌, false, List, [], ◌∷◌, ◌++◌, length, refl, ap, arith, sym, ◌∙◌, subst}
+use Rattle.std.specs.Prelude.{All, Option, Some, None, pos, slice_get}
 use Rattle.std.specs.List.{AllByRecursion}
 use Rattle.std.proofs.lemmas.Grind.{common_steps}
+use Rattle.std.proofs.lemmas.List.Elements.{All-nil}
 use Rattle.clif_types.specs.declared.types.«Type».{«Type»}
 use Rattle.clif_ir.specs.Body.{Body, inst_at}
-use Rattle.clif_ir.specs.Instruction.{destinations, is_terminator, with_argument}
+use Rattle.clif_ir.specs.Instruction.{destinations, is_terminator, operands, result_types, with_argument}
 use Rattle.clif_ir.specs.declared.function.InstNode.{InstNode}
+use Rattle.clif_ir.specs.declared.instructions.InstructionData.TheVariants.{UnaryImm}
 use Rattle.clif_ssa.specs.Zeros.{ZeroAt, ZeroStep, HasZero, IsStep, steps_before, value_of_zero, zero_row, zero_steps}
-
--- THE TABLE -------------------------------------------------------------------------------------------------------
-
--- a step has no edges, and control goes on behind it
-pub record IsPlainStep (step : ZeroStep) : Type 0 where
-  pub no_edges : (value : ℕ) → destinations (step.shape value) ≡ []
-  pub unchanged : (b v value : ℕ) → with_argument b v (step.shape value) ≡ step.shape value
-  pub goes_on : (value : ℕ) → is_terminator (step.shape value) ≡ false
-
-plain_steps : (ty : «Type») → AllByRecursion IsPlainStep (zero_steps ty)
-unfolding zero_row
-plain_steps ty = (record { no_edges = λ value. refl; unchanged = λ b v value. refl; goes_on = λ value. refl }, tt)
 
 pub none_some : {X : Type 0} {x : X} → ◌≡◌ {A = Option X} None (Some x) → ⊥
 none_some same = cc
 
 pub same_some : {X : Type 0} {x y : X} → ◌≡◌ {A = Option X} (Some x) (Some y) → x ≡ y
 same_some same = cc
+
+-- THE TABLE -------------------------------------------------------------------------------------------------------
+
+-- a step has no edges, one result and at most the operand before, and control goes on behind it
+pub record IsPlainStep (step : ZeroStep) : Type 0 where
+  pub no_edges : (value : ℕ) → destinations (step.shape value) ≡ []
+  pub unchanged : (b v value : ℕ) → with_argument b v (step.shape value) ≡ step.shape value
+  pub goes_on : (value : ℕ) → is_terminator (step.shape value) ≡ false
+  pub one_result : (value : ℕ) → result_types (step.shape value) step.ty ≡ step.ty ∷ []
+  pub operands_before : (value : ℕ) → All (λ operand. operand ≡ value) (operands (step.shape value))
+
+plain_constant : (ty : «Type») → IsPlainStep (record { shape = λ value. UnaryImm (pos 0); ty = ty })
+plain_constant ty = record {
+  no_edges = λ value. refl;
+  unchanged = λ b v value. refl;
+  goes_on = λ value. refl;
+  one_result = λ value. refl;
+  operands_before = λ value. All-nil _;
+}
+
+plain_steps : (ty : «Type») → AllByRecursion IsPlainStep (zero_steps ty)
+unfolding zero_row
+plain_steps ty = (plain_constant ty, tt)
+
+-- the first step has no operands
+pub first_alone : (ty : «Type») (step : ZeroStep) (value : ℕ) → slice_get (zero_steps ty) 0 ≡ Some step → operands (step.shape value) ≡ []
+unfolding zero_row
+first_alone ty step value is = ap (λ (s : ZeroStep). operands (s.shape value)) (sym (same_some is))
 
 all_get : {X : Type 0} (P : X → Type 0) (xs : List X) (k : ℕ) (x : X) → AllByRecursion P xs → slice_get xs k ≡ Some x → P x
 all_get P [] k x all is = absurd (none_some is)

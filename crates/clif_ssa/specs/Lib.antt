@@ -1,4 +1,5 @@
 pub mod Tables
+pub mod Cells
 pub mod Own
 pub mod Zeros
 pub mod Ssa

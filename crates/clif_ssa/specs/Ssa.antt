@@ -1,6 +1,6 @@
 -- The state of the construction, and what its calls make of a function.
 -- Source: Braun et al. 2013, and the crate's documentation of its SSA builder.
-use Rattle.std.specs.Prelude.{◌≡◌, ℕ, ◌-◌, ◌^◌, ◌<◌, ◌≤◌, List, [], ◌∷◌, ◌++◌, Option, Some, None, length, slice_set, suc, ◌+◌, ◌==◌, ◌&&◌, if◌then◌else◌, ◌⊎◌, Contains, true}
+use Rattle.std.specs.Prelude.{◌≡◌, ℕ, ◌-◌, ◌^◌, ◌<◌, ◌≤◌, List, [], ◌∷◌, ◌++◌, Option, Some, None, length, take, slice_set, suc, ◌+◌, ◌==◌, ◌&&◌, if◌then◌else◌, ◌⊎◌, Contains, true}
 use Rattle.clif_types.specs.declared.types.«Type».{«Type»}
 use Rattle.clif_ir.specs.Body.{Body, block_at, value_at}
 use Rattle.clif_ir.specs.Changes.{inserted_in, with_param, with_alias}
@@ -11,17 +11,22 @@ use Rattle.std.specs.List.{range_with_len}
 use Rattle.clif_ssa.specs.Zeros.{ZeroStep, zero_steps, steps_before}
 use Rattle.std.specs.Option.{option_to_list}
 use Rattle.clif_ir.specs.Reading.{param_home, without}
-use Rattle.clif_ssa.specs.declared.tables.Cell.{Cell}
 use Rattle.clif_ssa.specs.declared.tables.Pending.{Pending}
 use Rattle.clif_ssa.specs.declared.tables.Sealed.{Sealed}
 use Rattle.clif_ssa.specs.declared.tables.SsaBlock.{SsaBlock}
 use Rattle.clif_ssa.specs.declared.tables.Sealed.TheVariants.{No, Yes}
-use Rattle.clif_ssa.specs.Tables.{record_at, lookups_at, one_more, sealed_at, predecessors_at, is_yes, pending_of}
+use Rattle.std.specs.FinMap as map
+use Rattle.std.specs.Coded.{Coded, code_by, coded×, coded_list}
+use Rattle.clif_ssa.specs.contracts.tables.SsaBlock as block
+use Rattle.clif_ssa.specs.Tables.{RecordMap, record_map_code, record_at, lookups_at, one_more, sealed_at, predecessors_at, is_yes, pending_of}
 
 -- what is known of each variable in each block, and of each block
 pub record SsaState : Type 0 where
-  pub records : List (List Cell)
+  pub records : RecordMap
   pub blocks : List SsaBlock
+
+abbrev pub ssa_state_code : Coded SsaState
+ssa_state_code = code_by (RecordMap × List SsaBlock) (coded× record_map_code (coded_list (block.the_row).coded)) (λ s. (s.records, s.blocks)) (λ p. record { records = p.0; blocks = p.1 }) (λ s i. s)
 
 abbrev pub record_of : SsaState → ℕ → ℕ → Option ℕ
 record_of s variable block = record_at s.records variable block
@@ -43,7 +48,7 @@ pub record NamesExist (f : Body) (s : SsaState) : Type 0 where
 
 -- nothing is known
 abbrev pub no_state : SsaState
-no_state = record { records = []; blocks = [] }
+no_state = record { records = map.empty; blocks = [] }
 
 -- that is so wherever a branch leads to a block
 abbrev pub SomethingLeads : SsaState → Type 0
@@ -147,6 +152,10 @@ with_steps f b steps =
       insts = f.insts ++ step_insts b (length f.values) steps;
       blocks = slice_set f.blocks b (record (block_at f b) { insts = range_with_len (length f.insts) (length steps) ++ (block_at f b).insts });
     }
+
+-- the same with some of the steps of a zero, the first ones: they are all that a call that failed may leave
+abbrev pub HasSomeSteps : Body → Body → ℕ → «Type» → Type 0
+HasSomeSteps f g b ty = (count : ℕ) × (count ≤ length (zero_steps ty)) × (g ≡ with_steps f b (take count (zero_steps ty)))
 
 -- the function with a zero before the first instruction of block `b`, which is in the layout then
 abbrev pub with_zero : Body → ℕ → «Type» → Body

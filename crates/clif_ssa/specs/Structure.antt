@@ -1,9 +1,9 @@
--- What values go on standing for, what a block keeps of its parameters, and that the construction leaves nothing
--- behind which isn't needed. Source: own, after Braun et al. 2013 (a variable's value in a block stays the same value
--- while parameters are completed; a parameter without arguments is replaced).
+-- What values go on standing for, what a block keeps of its parameters, and which zeros are needed. Source: own, after
+-- Braun et al. 2013 (a variable's value in a block stays the same value while parameters are completed; a parameter
+-- without arguments is replaced).
 use Rattle.std.specs.Prelude.{◌≡◌, ◌≢◌, ◌≤◌, ℕ, List, [], ◌∷◌, ◌++◌, map, Some, None, false, Contains}
 use Rattle.std.specs.List.{AllByRecursion}
-use Rattle.clif_ir.specs.Body.{Body, value_at, block_at, resolved}
+use Rattle.clif_ir.specs.Body.{Body, block_at, resolved}
 use Rattle.clif_ir.specs.Consistent.{Once, Stands}
 use Rattle.clif_ir.specs.Reading.{param_home}
 use Rattle.clif_ssa.specs.declared.tables.Pending.{Pending}
@@ -67,17 +67,6 @@ pub record HasNeededZeros (f : Body) (block : ℕ) (own : List ℕ) : Type 0 whe
   pub zeros : List ZeroAt
   pub in_order : (block_at f block).insts ≡ insts_of_zeros zeros ++ own
   pub needed : AllByRecursion (IsNeededZero f) zeros
-
--- The construction has left nothing behind that isn't needed, in a function all of whose parameters wait: where a block has a
--- parameter of the caller's, or a complete one, this isn't so. `Structured` says it of every program. `own` are the
--- instructions of each block that the caller made.
-pub record NothingStray (own : ℕ → List ℕ) (f : Body) (s : SsaState) : Type 0 where
-  -- each parameter of a block waits in it
-  pub parameters : (v b : ℕ) → param_home f v ≡ Some b
-      → (variable : ℕ) × Contains (pending_of (sealed_of s b)) (record { variable = variable; param = v })
-  -- a value has the type of the one that it stands for; so a zero is of the type of the parameter in whose place it is
-  pub alias_types : (v : ℕ) → (value_at f (resolved f v)).ty ≡ (value_at f v).ty
-  pub zeros : (b : ℕ) → HasNeededZeros f b (own b)
 
 -- At most one look-up of a variable begins in the predecessors of a block, since it leaves a record there.
 pub record LooksOnce (s : SsaState) : Type 0 where

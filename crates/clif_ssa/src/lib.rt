@@ -9,8 +9,7 @@
 //! `keeps` says why the answers are right: `Describes` of `specs/Sound` ties the function and the builder to tables of
 //! the theory of variables on paths (`clif_paths`), and where those are sound before a call, tables with the same
 //! program, or with the assignment that was made, are sound after it. `remembers` says that values which stand for one
-//! value go on doing so, and `nothing_stray` that no parameter and no zero is left that isn't needed, where nothing
-//! leads to the block (`specs/Structure`). `constructs` says that zeros at the front of blocks, parameters, arguments
+//! value go on doing so (`specs/Structure`). `constructs` says that zeros at the front of blocks, parameters, arguments
 //! of edges and aliases change and nothing else, also where a call fails, and `tells` that the block of each zero is
 //! told, in order (`specs/Constructs`). `structured` says what is so of blocks, parameters and edges in every program
 //! (`specs/Structured`).

@@ -11,7 +11,7 @@ ghost use Rattle.clif_paths.specs.Blocks.{Blocks, last_place, with_write};
 ghost use Rattle.clif_ssa.specs.Own.{Own};
 ghost use Rattle.clif_ssa.specs.Sound.{Describes, PassesOwn, Keeps, KeepsAndKnows, entry_of, has_entry, args_of, edge_target, edges_at};
 ghost use Rattle.clif_ssa.specs.SoundLaws.{DescribesSoundly, IsOpen};
-ghost use Rattle.clif_ssa.specs.Structure.{HasRecordOf, LooksOnce, LosesWaiting, NothingStray, Remembers};
+ghost use Rattle.clif_ssa.specs.Structure.{HasRecordOf, LooksOnce, LosesWaiting, Remembers};
 ghost use Rattle.clif_ssa.specs.Structured.{HasType, Structured, VariableTypes};
 ghost use Rattle.clif_ssa.specs.LookUp.{branch_block, no_look_up, LooksUp, MakesCall, UsesVariable, CompletesParameter};
 ghost use Rattle.clif_ssa.specs.Running.{stage, found, with_call, CallsFit, CompletesAll, MakesAll, ToComplete};
@@ -44,9 +44,11 @@ pub struct SSABuilder {
 }
 
 impl Model for SSABuilder {
-    ghost use Rattle.clif_ssa.specs.Ssa.{SsaState};
+    ghost use Rattle.clif_ssa.specs.Ssa.{SsaState, ssa_state_code};
 
     ghost Value = { SsaState };
+
+    ghost coded = { ssa_state_code };
 
     ghost view = { λ s. s.tables };
 }
@@ -86,7 +88,6 @@ impl SSABuilder {
         ensures predecessors { SamePredecessors self.old self.new }
         ensures described { (own : Own) (f : Body) (tables : Blocks) → Describes own f self.old [] tables → Describes own f self.new [] tables }
         ensures remembers { (f : Body) (x b : ℕ) → Remembers x b f self.old f self.new }
-        ensures nothing_stray { (own : ℕ → List ℕ) (f : Body) → NothingStray own f self.old → NothingStray own f self.new }
         ensures looks_once { LooksOnce self.old → LooksOnce self.new }
         ensures structured { (types : VariableTypes) (own : Own) (f : Body) → Structured types own f self.old [] → Structured types own f self.new [] }
         ensures known { OnOk result (block < length self.new.blocks) }
@@ -176,7 +177,6 @@ impl SSABuilder {
         ensures lookups { SameLookups self.old self.new }
         ensures keeps { (own : Own) (f : Body) (tables : Blocks) (n : ℕ) → DescribesSoundly own f self.old tables → IsOpen f self.old block → tables.answer n ≡ value → (tables.naming n).home ≢ start → tables.assigned (last_place tables block) variable ≡ None → OnOk result (DescribesSoundly own f self.new (with_write tables block variable n)) }
         ensures remembers { (f : Body) (x b : ℕ) → (x ≡ variable → b ≡ block → ⊥) → OnOk result (Remembers x b f self.old f self.new) }
-        ensures nothing_stray { (own : ℕ → List ℕ) (f : Body) → NothingStray own f self.old → NothingStray own f self.new }
         ensures looks_once { LooksOnce self.old → LooksOnce self.new }
         ensures structured { (types : VariableTypes) (own : Own) (f : Body) → HasType f value (types variable) → Structured types own f self.old [] → OnOk result (Structured types own f self.new []) }
         ensures only_memory { OnErr result (result ≡ Err BuildError.Memory) }
@@ -203,7 +203,11 @@ impl SSABuilder {
         requires named { Named func.old self.old }
         ensures known { IfSome (record_of self.old variable block) (λ v. OnOk result ((func.new ≡ func.old) × (self.new ≡ self.old)) × IfOk result (λ r. (r.0 ≡ v) × (r.1.instructions_added_to_blocks.items ≡ []))) }
         ensures waits { record_of self.old variable block ≡ None → is_yes (sealed_of self.old block) ≡ false → OnOk result (Waits self.old self.new func.old func.new variable ty block) × IfOk result (λ r. (r.0 ≡ length func.old.values) × (r.1.instructions_added_to_blocks.items ≡ [])) }
-        ensures zero { record_of self.old variable block ≡ None → is_yes (sealed_of self.old block) ≡ true → predecessors_of self.old block ≡ [] → OnOk result (Zeroes self.old self.new func.old func.new variable ty block) × IfOk result (λ r. (r.0 ≡ length func.old.values + 1 + steps_before ty) × (r.1.instructions_added_to_blocks.items ≡ block ∷ [])) }
+        ensures zero { record_of self.old variable block ≡ None
+            → is_yes (sealed_of self.old block) ≡ true → predecessors_of self.old block ≡ []
+            → OnOk result (Zeroes self.old self.new func.old func.new variable ty block)
+            × IfOk result (λ r. (r.0 ≡ length func.old.values + 1 + steps_before ty)
+            × (r.1.instructions_added_to_blocks.items ≡ block ∷ [])) }
         ensures counts_none { record_of self.old variable block ≡ None → is_yes (sealed_of self.old block) ≡ false → OnOk result (SameLookups self.old self.new) }
         ensures counts_one { record_of self.old variable block ≡ None → is_yes (sealed_of self.old block) ≡ true → predecessors_of self.old block ≡ [] → OnOk result (CountsLookup self.old self.new variable block) }
         ensures looks { record_of self.old variable block ≡ None → is_yes (sealed_of self.old block) ≡ true → predecessors_of self.old block ≢ [] → IfOk result (λ r. UsesVariable variable ty block (stage func.old self.old no_look_up) r.0 (stage func.new self.new (found r.0 r.1.instructions_added_to_blocks.items))) }
@@ -211,7 +215,6 @@ impl SSABuilder {
         ensures recorded { IfOk result (λ r. HasRecordOf func.new self.new variable block r.0) }
         ensures remembers { (x b : ℕ) → OnOk result (Remembers x b func.old self.old func.new self.new) }
         ensures parameters { IsLocal self.old variable block → is_yes (sealed_of self.old block) ≡ true → (b : ℕ) → OnOk result ((block_at func.new b).params ≡ (block_at func.old b).params) }
-        ensures nothing_stray { (own : ℕ → List ℕ) → IsLocal self.old variable block → NothingStray own func.old self.old → OnOk result (NothingStray own func.new self.new) }
         ensures looks_once { LooksOnce self.old → LooksOnce self.new }
         ensures structured { (types : VariableTypes) (own : Own) → ty ≡ types variable → Structured types own func.old self.old [] → IfOk result (λ r. Structured types own func.new self.new [] × HasType func.new r.0 ty) }
         ensures predecessors { SamePredecessors self.old self.new }
@@ -458,7 +461,6 @@ impl SSABuilder {
         ensures keeps { (own : Own) (tables : Blocks) → DescribesSoundly own func.old self.old tables → OnOk result (Keeps own tables func.new self.new) }
         ensures remembers { (x b : ℕ) → OnOk result (Remembers x b func.old self.old func.new self.new) }
         ensures parameters { predecessors_of self.old block ≡ [] → OnOk result (LosesWaiting func.old func.new (pending_of (sealed_of self.old block))) }
-        ensures nothing_stray { (own : ℕ → List ℕ) → predecessors_of self.old block ≡ [] → NothingStray own func.old self.old → OnOk result (NothingStray own func.new self.new) }
         ensures structured { (types : VariableTypes) (own : Own) → Structured types own func.old self.old [] → OnOk result (Structured types own func.new self.new []) }
         ensures completes { predecessors_of self.old block ≢ [] → IfOk result (λ r. SealsByLookUp func.old self.old func.new self.new block r.instructions_added_to_blocks.items) }
         ensures looks_once { LooksOnce self.old → LooksOnce self.new }

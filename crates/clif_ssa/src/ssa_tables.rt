@@ -30,9 +30,11 @@ pub struct SsaTables {
 }
 
 impl Model for SsaTables {
-    ghost use Rattle.clif_ssa.specs.Ssa.{SsaState};
+    ghost use Rattle.clif_ssa.specs.Ssa.{SsaState, ssa_state_code};
 
     ghost Value = { SsaState };
+
+    ghost coded = { ssa_state_code };
 
     ghost view = { λ s. record { records = s.variables; blocks = s.blocks } };
 }

@@ -3,7 +3,9 @@
 ghost use Rattle.std.specs.Prelude.{◌≡◌, ◌==◌, ◌&&◌, ◌↔◌, IsTrue, false, ℕ, [], ◌∷◌, ◌++◌, ◌<◌, ◌≤◌, ◌+◌, ◌⊎◌, ◌^◌, length, OnOk, OnErr, IfOk, Some, None, if◌then◌else◌, slice_index_or};
 ghost use Rattle.clif_ir.specs.Consistent.{Stands};
 ghost use Rattle.clif_ir.specs.Reading.{place_of, without};
-ghost use Rattle.clif_ssa.specs.Tables.{no_cell, cell_at, record_at, lookups_at, one_more, known_at, sealed_at, predecessors_at, is_yes, pending_of};
+ghost use Rattle.std.specs.FinMap as map;
+ghost use Rattle.clif_ssa.specs.Cells.{no_cell, is_no_cell, recorded_in};
+ghost use Rattle.clif_ssa.specs.Tables.{recorded_at, record_at, lookups_at, one_more, known_at, sealed_at, predecessors_at, is_yes, pending_of};
 
 use crate::variable::Variable;
 use clif_types::{Block, BuildError, EntityRef, Inst, Value};
@@ -26,6 +28,15 @@ const NO_CELL: Cell = Cell {
     value: None,
     lookups: 0,
 };
+
+impl Cell {
+    /// Whether nothing is known.
+    fn says_nothing(&self) -> bool
+        ensures { result ≡ is_no_cell self.now }
+    {
+        self.value.is_none() && self.lookups == 0
+    }
+}
 
 /// What is known of one variable: a cell for each block, by its number. What is past the end isn't
 /// known.
@@ -61,6 +72,18 @@ impl Records {
             Some(cell) => *cell,
             None => NO_CELL,
         }
+    }
+
+    /// Whether nothing is known in any block.
+    pub(crate) fn is_empty(&self) -> bool
+        ensures { IsTrue result ↔ ((b : ℕ) → slice_index_or self.now b no_cell ≡ no_cell) }
+    {
+        for cell in self.cells.iter() {
+            if !cell.says_nothing() {
+                return false;
+            }
+        }
+        true
     }
 
     /// Sets the cell of a block. After an error each cell is as it was.
@@ -135,18 +158,20 @@ pub struct VariableTable {
 }
 
 impl Model for VariableTable {
-    ghost use Rattle.std.specs.Prelude.{List};
-    ghost use Rattle.clif_ssa.specs.declared.tables.Cell.{Cell};
+    ghost use Rattle.clif_ssa.specs.Cells.{records_in};
+    ghost use Rattle.clif_ssa.specs.Tables.{RecordMap, record_map_code};
 
-    ghost Value = { List (List Cell) };
+    ghost Value = { RecordMap };
 
-    ghost view = { λ t. t.rows.items };
+    ghost coded = { record_map_code };
+
+    ghost view = { λ t. records_in t.rows.items };
 }
 
 impl VariableTable {
     /// No records.
     pub(crate) fn new(alloc: Global) -> Self
-        ensures { result ≡ [] }
+        ensures { result ≡ map.empty }
     {
         VariableTable {
             rows: Vec::new(alloc),
@@ -155,21 +180,26 @@ impl VariableTable {
 
     /// Forgets all records, and keeps the memory.
     pub(crate) fn clear(&mut self)
-        ensures { self.new ≡ [] }
+        ensures { self.new ≡ map.empty }
     {
         self.rows.clear();
     }
 
-    /// Whether nothing was ever recorded.
+    /// Whether nothing is recorded.
     pub(crate) fn is_empty(&self) -> bool
-        ensures { IsTrue result ↔ (self.now ≡ []) }
+        ensures { IsTrue result ↔ (self.now ≡ map.empty) }
     {
-        self.rows.is_empty()
+        for row in self.rows.iter() {
+            if !row.is_empty() {
+                return false;
+            }
+        }
+        true
     }
 
     /// What is known of a variable in a block.
     fn cell(&self, variable: Variable, block: Block) -> Cell
-        ensures { result ≡ cell_at self.now variable block }
+        ensures { recorded_in result ≡ recorded_at self.now variable block }
     {
         match self.rows.get(variable.index()) {
             Some(row) => row.get(block),
@@ -192,10 +222,12 @@ impl VariableTable {
     }
 
     #[tactic(auto, using(crate::proofs::RecordLaws::record_rules))]
-    // Sets what is known of a variable in a block. After an error each cell is as it was.
+    // Sets what is known of a variable in a block. After an error all is as it was.
     fn set_cell(&mut self, variable: Variable, block: Block, cell: Cell) -> Result<(), BuildError>
-        ensures ok { OnOk result ((v b : ℕ) → cell_at self.new v b ≡ (if v == variable && b == block then cell else cell_at self.old v b)) }
-        ensures err { OnErr result ((v b : ℕ) → cell_at self.new v b ≡ cell_at self.old v b) }
+        ensures ok { OnOk result ((v b : ℕ) → recorded_at self.new v b ≡
+            (if v == variable && b == block then recorded_in cell else recorded_at self.old v b)) }
+        ensures err { OnErr result ((v b : ℕ) →
+            recorded_at self.new v b ≡ recorded_at self.old v b) }
         ensures only_memory { OnErr result (result ≡ Err BuildError.Memory) }
     {
         let alloc = *self.rows.allocator();

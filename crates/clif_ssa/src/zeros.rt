@@ -1,16 +1,17 @@
 //! Zeros, which stand for variables that are never assigned.
-ghost use Rattle.std.specs.Prelude.{◌≡◌, ◌≢◌, ◌<◌, ◌+◌, ◌++◌, ◌∷◌, [], length, MatchOption, OnOk, OnErr, IfOk, Some};
+ghost use Rattle.std.specs.Prelude.{◌≡◌, ◌≢◌, ◌<◌, ◌+◌, ◌++◌, ◌∷◌, [], length, ◌-◌, MatchOption, OnOk, OnErr, IfOk, Some, None, slice_get};
 ghost use Rattle.std.specs.Option.{option_to_list};
 ghost use Rattle.clif_ir.specs.Body.{resolved, value_at};
 ghost use Rattle.clif_ir.specs.Reading.{param_home};
 ghost use Rattle.clif_ssa.specs.Constructs.{OnlyConstructs, TellsZeros};
 ghost use Rattle.clif_ssa.specs.Limits.{IsFull};
-ghost use Rattle.clif_ssa.specs.Ssa.{with_zero, zero_value, zeroed_in, HasMore};
+ghost use Rattle.clif_ssa.specs.Ssa.{with_steps, with_zero, zero_value, zeroed_in, HasMore, HasSomeSteps};
+ghost use Rattle.clif_ssa.specs.Zeros.{zero_steps};
 
 use crate::side_effects::SideEffects;
 use clif_ir::inst_list::InsertAt;
 use clif_ir::{Function, InstructionData};
-use clif_types::{Block, BuildError, SourceLoc, Type, Value};
+use clif_types::{Block, BuildError, EntityRef, SourceLoc, Type, Value};
 
 // Makes a parameter to which nothing comes a name of a new zero, and tells of the zero. What is no
 // parameter stays.
@@ -20,7 +21,9 @@ pub(crate) fn replace_by_zero(
     side_effects: &mut SideEffects,
 ) -> Result<Value, BuildError>
     ensures zero { OnOk result (func.new ≡ zeroed_in (param_home func.old param) func.old param) }
-    ensures answer { MatchOption (param_home func.old param) (IfOk result (λ v. v ≡ param)) (λ _. IfOk result (λ v. v ≡ zero_value func.old (value_at func.old param).ty)) }
+    ensures answer { MatchOption (param_home func.old param)
+        (IfOk result (λ v. v ≡ param))
+        (λ _. IfOk result (λ v. v ≡ zero_value func.old (value_at func.old param).ty)) }
     ensures told { OnOk result (side_effects.new.instructions_added_to_blocks.items ≡ side_effects.old.instructions_added_to_blocks.items ++ option_to_list (param_home func.old param)) }
     ensures more { HasMore func.old func.new }
     ensures constructs { OnlyConstructs func.old func.new }
@@ -46,7 +49,9 @@ pub struct Ending {
 // the parameter away and makes it a name of the zero. What is no parameter stays.
 pub(crate) fn become_zero(func: &mut Function, param: Value) -> Result<Ending, BuildError>
     ensures zero { OnOk result (func.new ≡ zeroed_in (param_home func.old param) func.old param) }
-    ensures answer { MatchOption (param_home func.old param) (IfOk result (λ e. e.value ≡ param)) (λ _. IfOk result (λ e. e.value ≡ zero_value func.old (value_at func.old param).ty)) }
+    ensures answer { MatchOption (param_home func.old param)
+        (IfOk result (λ e. e.value ≡ param))
+        (λ _. IfOk result (λ e. e.value ≡ zero_value func.old (value_at func.old param).ty)) }
     ensures told { IfOk result (λ e. e.zero ≡ param_home func.old param) }
     ensures more { HasMore func.old func.new }
     ensures constructs { OnlyConstructs func.old func.new }
@@ -68,7 +73,7 @@ pub(crate) fn become_zero(func: &mut Function, param: Value) -> Result<Ending, B
 }
 
 // Puts a zero before the first instruction of a block, which enters the layout if it isn't there, and
-// answers its value.
+// answers its value. Where it fails, the zero may lack steps.
 fn put_zero(func: &mut Function, block: Block, ty: Type) -> Result<Value, BuildError>
     requires { block < length func.old.blocks }
     ensures ok { OnOk result (func.new ≡ with_zero func.old block ty) }
@@ -76,14 +81,50 @@ fn put_zero(func: &mut Function, block: Block, ty: Type) -> Result<Value, BuildE
     ensures exists { IfOk result (λ v. v < length func.new.values) }
     ensures unaliased { IfOk result (λ v. resolved func.new v ≡ v) }
     ensures full { result ≡ Err BuildError.Full → IsFull func.new }
-    ensures err { OnErr result ((func.new.values ≡ func.old.values) × (func.new.insts ≡ func.old.insts)) }
     ensures more { HasMore func.old func.new }
     ensures constructs { OnlyConstructs func.old func.new }
     ensures tells { OnOk result (TellsZeros func.old func.new (block ∷ [])) }
     ensures never_failed { result ≢ Err BuildError.Failed }
 {
     func.ensure_block_inserted(block)?;
-    let shape = InstructionData::UnaryImm { imm: 0 };
-    let inst = func.insert_inst(block, InsertAt::Behind(0), shape, ty, SourceLoc::new(u32::MAX))?;
-    Ok(func.inst_results(inst)[0])
+    put_steps(func, block, ty)?;
+    Ok(latest_value(func))
+}
+
+// Puts the steps of a zero before the first instruction of a block, in order.
+fn put_steps(func: &mut Function, block: Block, ty: Type) -> Result<(), BuildError>
+    requires { block < length func.old.blocks }
+    ensures ok { OnOk result (func.new ≡ with_steps func.old block (zero_steps ty)) }
+    ensures err { OnErr result (HasSomeSteps func.old func.new block ty) }
+    ensures full { result ≡ Err BuildError.Full → IsFull func.new }
+    ensures never_failed { result ≢ Err BuildError.Failed }
+{
+    let mut place = 0;
+    while let Some((shape, result)) = zero_step(ty, place, latest_value(func)) {
+        func.law_consistent();
+        let at = InsertAt::Behind(place);
+        func.insert_inst(block, at, shape, result, SourceLoc::new(u32::MAX))?;
+        place += 1;
+    }
+    Ok(())
+}
+
+// The value that was made last, if there is one.
+fn latest_value(func: &Function) -> Value
+    ensures { result ≡ length func.now.values - 1 }
+{
+    Value::new(func.value_count().saturating_sub(1))
+}
+
+// THE TABLE: the instruction of a type's zero at a place among its steps, if it has so many, and the
+// type of its result. `before` is the result of the step before it.
+fn zero_step(ty: Type, place: usize, _before: Value) -> Option<(InstructionData, Type)>
+    ensures { MatchOption (slice_get (zero_steps ty) place)
+        (result ≡ None)
+        (λ step. result ≡ Some (step.shape _before, step.ty)) }
+{
+    match place {
+        0 => Some((InstructionData::UnaryImm { imm: 0 }, ty)),
+        _ => None,
+    }
 }

@@ -9,6 +9,7 @@ use Rattle.clif_ir.specs.Body.{inst_at}
 use Rattle.clif_ir.specs.Consistent.{IsConsistent}
 use Rattle.clif_ir.specs.Instruction.{destinations, is_branch, is_terminator, result_types}
 use Rattle.clif_ir.specs.Reading.{targets}
+use Rattle.clif_ssa.specs.Structure.{LooksOnce}
 use Rattle.cranelift_frontend.specs.declared.builder.FunctionBuilder.{FunctionBuilder}
 use Rattle.cranelift_frontend.specs.Builder.{Appends, CanLead, HasCurrent, SameLoans}
 use Rattle.cranelift_frontend.specs.Built.{Builds, BuildsValue, HasFullTable, after_build, numbers_of, numbers_with}
@@ -31,7 +32,7 @@ module _ (old new : FunctionBuilder) (shape : InstructionData) (ty : «Type») (
     (fails : new.failed ≡ is_err r) (appends : IfOk r (Appends old new block shape ty))
     (declares : IfOk r (λ inst. IsDeclared old.ctx.now.ssa inst (targets (destinations shape)) new.ctx.now.ssa))
     (ssa : is_branch shape ≡ false → new.ctx.now.ssa ≡ old.ctx.now.ssa) (variables : new.ctx.now.variables ≡ old.ctx.now.variables)
-    (full : r ≡ Err Full → HasFullTable old) (never_failed : r ≢ Err Failed) where
+    (full : r ≡ Err Full → HasFullTable old) (never_failed : r ≢ Err Failed) (looks_once : LooksOnce old.ctx.now.ssa → LooksOnce new.ctx.now.ssa) where
   appends_at : IfSome old.position (λ block. IfOk r (Appends old new block shape ty))
   appends_at = subst (λ (o : Option ℕ). IfSome o (λ b. IfOk r (Appends old new b shape ty))) (sym at) appends
 
@@ -60,6 +61,7 @@ module _ (old new : FunctionBuilder) (shape : InstructionData) (ty : «Type») (
         failed = (λ is. absurd (never_failed is), λ failed. let no_way : ⊥ = cc in absurd no_way);
         unchanged = λ failed. let no_way : ⊥ = cc in absurd no_way;
         fails = fails;
+        looks_once = looks_once;
         ledger = λ calls instruction agrees has.
             subst (Agrees calls instruction) (sym position) (agrees_after calls instruction agrees has);
         stands = λ signature calls instruction stands has.
@@ -102,6 +104,7 @@ module _ (old new : FunctionBuilder) (shape : InstructionData) (ty : «Type») (
     );
     unchanged = built.unchanged;
     fails = built.fails;
+    looks_once = built.looks_once;
     ledger = λ calls instruction agrees has.
         subst (λ (ns : List ℕ). AgreesWithLedger (after_build calls instruction ns) new) numbers (built.ledger calls instruction agrees has);
     stands = λ signature calls instruction stands has.

@@ -1,10 +1,12 @@
 -- What the answers of the builder's calls share.
-use Rattle.std.proofs.Common.{◌≡◌, ◌≢◌, ◌∷◌, ◌++◌, [], List, refl}
+use Rattle.std.proofs.Common.{◌≡◌, ◌≢◌, ◌∷◌, ◌++◌, [], List, refl, sym, subst}
 use Rattle.std.specs.Prelude.{true, false, is_err, IsTrue, Result, Ok, Err, IfOk, OnOk, OnErr}
 use Rattle.clif_types.specs.declared.error.BuildError.{BuildError}
 use Rattle.clif_types.specs.declared.error.BuildError.TheVariants.{Failed, Memory}
 use Rattle.clif_types.specs.Signature.{SignatureShape}
 use Rattle.clif_meaning.specs.Request.{AnsweredCall}
+use Rattle.clif_ssa.specs.Ssa.{SsaState}
+use Rattle.clif_ssa.specs.Structure.{LooksOnce}
 use Rattle.cranelift_frontend.specs.declared.builder.FunctionBuilder.{FunctionBuilder}
 use Rattle.cranelift_frontend.specs.Builder.{SameLoans}
 use Rattle.cranelift_frontend.specs.Calls.{IsCall, IsTold}
@@ -42,14 +44,15 @@ told_by old new answer names call ledger stands =
 -- a call of a builder that hasn't failed
 pub made : {A : Type 0} (old new : FunctionBuilder) (answer : Result A BuildError)
     → SameLoans old new → new.position ≡ old.position → old.failed ≡ false → answer ≢ Err Failed → new.failed ≡ is_err answer
-    → IsCall old new answer
-made old new answer loans position fine never_failed fails =
+    → (LooksOnce old.ctx.now.ssa → LooksOnce new.ctx.now.ssa) → IsCall old new answer
+made old new answer loans position fine never_failed fails looks_once =
     record {
       loans = loans;
       position = position;
       failed = (λ failed. absurd (never_failed failed), λ failed. let no_way : ⊥ = cc in absurd no_way);
       unchanged = λ failed. let no_way : ⊥ = cc in absurd no_way;
       fails = fails;
+      looks_once = looks_once;
     }
 
 -- what fails by memory alone doesn't fail because the builder failed before
@@ -60,3 +63,7 @@ by_memory (Err e) only is = let no_way : ⊥ = cc in absurd no_way
 -- what succeeds doesn't fail
 pub by_success : {A : Type 0} (a : A) → ◌≢◌ {A = Result A BuildError} (Ok a) (Err Failed)
 by_success a is = let no_way : ⊥ = cc in absurd no_way
+
+-- where the construction knows what it knew
+pub same_looks : (s t : SsaState) → t ≡ s → LooksOnce s → LooksOnce t
+same_looks s t is once = subst LooksOnce (sym is) once

@@ -1,6 +1,6 @@
 -- A new branch is declared at the targets of its edges, at each once.
 use Rattle.std.proofs.Common.{◌≡◌, ◌≢◌, ℕ, suc, ◌+◌, ◌-◌, ◌<◌, ◌==◌, if◌then◌else◌, Bool, true, false, List, [], ◌∷◌, ◌++◌, length, take, get_or, refl, sym, ◌∙◌, ap, subst, arith, ◌⊎◌, inl, inr}
-use Rattle.std.specs.Prelude.{Some, slice_get, Contains, ◌||◌}
+use Rattle.std.specs.Prelude.{Option, Some, None, slice_get, Contains, ◌||◌}
 use Rattle.std.proofs.lemmas.Bool.{cases_eq, eqb-true}
 use Rattle.std.proofs.lemmas.Grind.{common_steps}
 use Rattle.std.proofs.lemmas.Option.{slice_get_within, get_or_from_slice_get}
@@ -13,14 +13,16 @@ use Rattle.clif_ir.specs.Reading.{stands_in, targets}
 use Rattle.clif_ir.specs.declared.block_call.BlockCall.{BlockCall}
 use Rattle.clif_ir.proofs.Keeps.{Once-outside}
 use Rattle.clif_ir.proofs.Reading.{Once-tail, Stands-from_test, test-from_Stands}
-use Rattle.clif_ssa.specs.declared.tables.Cell.{Cell}
-use Rattle.clif_ssa.specs.Tables.{record_at, is_yes, pending_of}
-use Rattle.clif_ssa.specs.Ssa.{SsaState, NamesExist, predecessors_of, sealed_of, Declares, SameBlocks, SamePredecessors, SameRecords}
+use Rattle.clif_ssa.specs.Tables.{RecordMap, record_at, is_yes, pending_of}
+use Rattle.clif_ssa.specs.Ssa.{SsaState, no_state, NamesExist, predecessors_of, sealed_of, Declares, SameBlocks, SamePredecessors, SameRecords}
 use Rattle.clif_ssa.proofs.Local.{named-same}
 use Rattle.clif_ssa.proofs.Naming.{has_more}
+use Rattle.clif_ssa.proofs.Ordering.{none_contained}
 use Rattle.clif_ssa.proofs.Passing.{some_pushed}
+use Rattle.clif_ssa.proofs.RecordMaps.{record_at-empty}
 use Rattle.clif_simulation.specs.Carries.{DeclaredAlong}
 use Rattle.cranelift_frontend.specs.Construction.{IsDeclared}
+use Rattle.cranelift_frontend.specs.Context.{ContextState, empty_context}
 
 -- one more block at the end
 along_last : (blocks : List ℕ) (s t u : SsaState) (inst b : ℕ) → DeclaredAlong s inst blocks t → SameRecords t u → SameBlocks t u → Declares t u b inst
@@ -157,7 +159,7 @@ declare_more s t u inst edges i d edge inside read done not_last records blocks 
   told = done.told ++ edge.block ∷ [];
   once = Once-outside done.told edge.block done.once (λ here. not_last (told_last s inst (targets (take i edges)) t done edge.block (test-from_Stands edge.block done.told here)));
   each = λ b. push b ∙ ap (λ test. test || (edge.block == b)) (done.each b) ∙ sym (targets_more edges i d edge b inside read);
-  along = along_last done.told s t u inst edge.block done.along (λ v b. ap (λ (rows : List (List Cell)). record_at rows v b) records) blocks declares;
+  along = along_last done.told s t u inst edge.block done.along (λ v b. ap (λ (m : RecordMap). record_at m v b) records) blocks declares;
 }
   where
     or_none : (test : Bool) → (test || false) ≡ test
@@ -180,7 +182,7 @@ declared_unsealed s t inst edges i d edge inside read unsealed done =
 pub names_more : (f : Body) (t u : SsaState) (inst b : ℕ) → inst < length f.insts → u.records ≡ t.records → SameBlocks t u → Declares t u b inst
     → NamesExist f t → NamesExist f u
 names_more f t u inst b exists records blocks declares named = record {
-  recorded = λ x c v is. named.recorded x c v (sym (ap (λ (rows : List (List Cell)). record_at rows x c) records) ∙ is);
+  recorded = λ x c v is. named.recorded x c v (sym (ap (λ (m : RecordMap). record_at m x c) records) ∙ is);
   leading = λ c i here. by c i (subst (λ (is : List ℕ). Contains is i) (declares c) here);
   waiting = λ c p here. named.waiting c p (subst (λ entry. Contains (pending_of entry) p) (blocks c) here);
 }
@@ -194,6 +196,20 @@ names_more f t u inst b exists records blocks declares named = record {
 
 pub names_same : (f : Body) (t u : SsaState) → u.records ≡ t.records → SameBlocks t u → SamePredecessors t u → NamesExist f t → NamesExist f u
 names_same f t u records blocks same named =
-    named-same f f t u (has_more f) same (λ x c. ap (λ (rows : List (List Cell)). record_at rows x c) records) blocks named
+    named-same f f t u (has_more f) same (λ x c. ap (λ (m : RecordMap). record_at m x c) records) blocks named
+
+-- nothing is named where nothing is known
+names_none : (f : Body) → NamesExist f no_state
+names_none f = record {
+  recorded = λ x c v is. nothing (sym (record_at-empty x c) ∙ is);
+  leading = λ c i here. absurd (none_contained i here);
+  waiting = λ c p here. absurd (none_contained p here);
+}
+  where
+    nothing : {A : Type 0} {v : ℕ} → ◌≡◌ {A = Option ℕ} None (Some v) → A
+    nothing is = cc
+
+pub names_nothing : (f : Body) (c : ContextState) → c ≡ empty_context → ∥ NamesExist f c.ssa ∥₁
+names_nothing f c empty = ∣ subst (λ (d : ContextState). NamesExist f d.ssa) (sym empty) (names_none f) ∣₁
 
 pub ruleset declare_rules = (declare_skipped, declare_more, declared_unsealed, names_more, names_same)

@@ -13,8 +13,7 @@ use Rattle.clif_meaning.specs.Request.{AnsweredCall, CreateBlock, SwitchToBlock,
 use Rattle.clif_meaning.specs.Ledger.{answer_at, Answered, ABlock, BlockState, Ledger, VariableState, ledger_with, new_block, next_answer}
 use Rattle.clif_meaning.proofs.CallLists as earlier
 use Rattle.clif_ssa.specs.Own.{Own}
-use Rattle.clif_ssa.specs.Tables.{is_yes, record_at}
-use Rattle.clif_ssa.specs.declared.tables.Cell.{Cell}
+use Rattle.clif_ssa.specs.Tables.{RecordMap, is_yes, record_at}
 use Rattle.clif_ssa.specs.LookUp.{branch_block}
 use Rattle.clif_ssa.specs.Ssa.{predecessors_of, sealed_of, SameBlocks, SamePredecessors}
 use Rattle.clif_ssa.specs.Structured.{Structured}
@@ -150,7 +149,7 @@ agrees-created calls ledger f g c d p block agrees function number records seale
           let own : Own = agrees.own in
           let before : Structured types own f c.ssa [] = agrees.structured types (subst (λ (xs : List «Type»). AreTypesOf xs types) variables are) in
           let made : Structured types own g c.ssa [] = subst (λ (h : Body). Structured types own h c.ssa []) (sym function) (block_structured types own f c.ssa before) in
-          same_structured types own g c.ssa d.ssa [] (λ x b. ap (λ (rows : List (List Cell)). record_at rows x b) records) sealed leads made;
+          same_structured types own g c.ssa d.ssa [] (λ x b. ap (λ (m : RecordMap). record_at m x b) records) sealed leads made;
       callers_types = types_agree;
       callers_alone = λ b. elim (agrees.callers_alone b) [
         | inl alone ↦ inl (same_params b ∙ alone)

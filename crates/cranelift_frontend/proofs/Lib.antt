@@ -7,6 +7,7 @@ pub mod LedgerKept
 pub mod Placed
 pub mod LedgerMade
 pub mod LedgerUsed
+pub mod Used
 pub mod LedgerBlocks
 pub mod LedgerLeads
 pub mod LedgerBranched

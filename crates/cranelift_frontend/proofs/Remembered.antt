@@ -10,7 +10,7 @@ use Rattle.clif_ir.specs.Instruction.{destinations, result_types}
 use Rattle.clif_ir.specs.Reading.{targets}
 use Rattle.clif_ir.specs.Changes.{with_block, with_inst, inserted_in}
 use Rattle.clif_ir.specs.Consistent.{IsConsistent}
-use Rattle.clif_ssa.specs.declared.tables.Cell.{Cell}
+use Rattle.clif_ssa.specs.Tables.{RecordMap, record_at}
 use Rattle.clif_ssa.specs.Ssa.{no_srcloc, SsaState, record_of, Records, SameRecords}
 use Rattle.clif_ssa.specs.Structure.{StayAlike, HasRecordOf, Remembers}
 use Rattle.clif_ssa.proofs.Bodies.{firm_from}
@@ -35,7 +35,7 @@ remembers_same x b f g s t same_body same_state = record {
 pub remembers_created : {T E : Type 0} (r : Result T E) (x b : ℕ) (f g : Body) (s t : SsaState) → OnOk r (g ≡ with_block f) → t.records ≡ s.records → OnOk r (Remembers x b f s g t)
 remembers_created (Err e) x b f g s t is same = tt
 remembers_created (Ok v) x b f g s t is same = record {
-  recorded = λ v here. ap (λ (rows : List (List Cell)). record_of (record s { records = rows }) x b) same ∙ here;
+  recorded = λ v here. ap (λ (m : RecordMap). record_at m x b) same ∙ here;
   alike = subst (λ h. StayAlike f h) (sym is) (λ u v alike. alike);
 }
 

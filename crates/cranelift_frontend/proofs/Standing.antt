@@ -9,7 +9,7 @@ use Rattle.clif_ir.specs.Body.{Body, block_at, empty_body, value_at}
 use Rattle.clif_ir.specs.Consistent.{IsConsistent}
 use Rattle.clif_ir.specs.Changes.{with_block, inserted_in, with_layout}
 use Rattle.clif_ir.specs.Reading.{stands_in}
-use Rattle.clif_ssa.specs.declared.tables.Cell.{Cell}
+use Rattle.clif_ssa.specs.Tables.{RecordMap, record_at}
 use Rattle.clif_ssa.specs.Ssa.{record_of, sealed_of, predecessors_of, Records, SameBlocks, SamePredecessors}
 use Rattle.clif_meaning.specs.Name.{Name}
 use Rattle.clif_meaning.specs.Request.{AnsweredCall, CreateBlock, SwitchToBlock, SealBlock, DeclareVar, DefVar, UseVar}
@@ -100,7 +100,7 @@ module _ (declared : SignatureShape) (calls : List AnsweredCall) (f : Body) (c :
     signature = ap (λ (h : Body). h.signature) is ∙ stands.signature;
     ledger = ledger;
     carries = subst (λ (h : Body). Carries (calls ++ record { request = CreateBlock; numbers = numbers } ∷ []) h d.ssa) (sym is)
-        (carries_created calls f c.ssa stands.carries d.ssa numbers stands.ledger.block_count (λ v b. ap (λ (rows : List (List Cell)). record_of (record c.ssa { records = rows }) v b) records) same leads);
+        (carries_created calls f c.ssa stands.carries d.ssa numbers stands.ledger.block_count (λ v b. ap (λ (m : RecordMap). record_at m v b) records) same leads);
     begun = λ b there empty. stands.begun b (ap (λ (h : Body). slice_get h.layout 0) (sym is) ∙ there) (ap (λ (s : List BlockStatus). status_of (record c { status = s }) b) (sym status) ∙ empty);
     callers_alone = λ b.
         alone_after calls (record { request = CreateBlock; numbers = numbers }) f g c d stands.carries.own stands.carries.holds.parameters (created_callers calls numbers f c.ssa stands.carries) b

@@ -5,7 +5,6 @@ use Rattle.std.proofs.lemmas.Grind.{common_steps}
 use Rattle.std.proofs.lemmas.Bool.{cases_eq}
 use Rattle.std.proofs.lemmas.List.Folds.{list_any_more}
 use Rattle.clif_ir.specs.Reading.{stands_in}
-use Rattle.cranelift_frontend.proofs.Named.{names_inserted}
 use Rattle.cranelift_frontend.specs.declared.context.BlockStatus.{BlockStatus}
 use Rattle.cranelift_frontend.specs.declared.context.BlockStatus.TheVariants.{Empty, Partial, Filled}
 use Rattle.cranelift_frontend.specs.Context.{ContextState, status_of, SetsStatus, Begins, begun}
@@ -109,5 +108,3 @@ begins_cons old mid new block blocks first next b = elim (cases_eq block b) [ in
         next b ∙ ap (λ s. if stands_in b blocks then begun s else s) kept ∙ sym (ap (λ test. if test then begun (status_of old b) else status_of old b) same)
 
 pub ruleset status_rules = (begin_more, begin_skipped)
-
-pub ruleset use_rules = (begins_cons, names_inserted)

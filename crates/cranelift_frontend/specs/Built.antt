@@ -12,6 +12,7 @@ use Rattle.clif_ir.specs.declared.instructions.InstructionData.{InstructionData}
 use Rattle.clif_meaning.specs.Instruction.{Instruction}
 use Rattle.clif_meaning.specs.Name.{Name}
 use Rattle.clif_meaning.specs.Request.{AnsweredCall, Build}
+use Rattle.clif_ssa.specs.Structure.{LooksOnce}
 use Rattle.cranelift_frontend.specs.declared.builder.FunctionBuilder.{FunctionBuilder}
 use Rattle.cranelift_frontend.specs.Builder.{Appends, AppendsValue, HasCurrent, SameLoans}
 use Rattle.cranelift_frontend.specs.Construction.{IsDeclared}
@@ -47,6 +48,7 @@ pub record Builds (old new : FunctionBuilder) (shape : InstructionData) (ty : «
   pub failed : (answer ≡ Err Failed) ↔ IsTrue old.failed
   pub unchanged : IsTrue old.failed → new ≡ old
   pub fails : new.failed ≡ is_err answer
+  pub looks_once : LooksOnce old.ctx.now.ssa → LooksOnce new.ctx.now.ssa
   pub ledger : (calls : List AnsweredCall) (instruction : Instruction Name Name)
       → AgreesWithLedger calls old → HasShape calls old.func.now instruction shape ty
       → IfOk answer (λ inst. AgreesWithLedger (after_build calls instruction (numbers_of new inst)) new)
@@ -69,6 +71,7 @@ pub record BuildsValue (old new : FunctionBuilder) (shape : InstructionData) (ty
   pub failed : (answer ≡ Err Failed) ↔ IsTrue old.failed
   pub unchanged : IsTrue old.failed → new ≡ old
   pub fails : new.failed ≡ is_err answer
+  pub looks_once : LooksOnce old.ctx.now.ssa → LooksOnce new.ctx.now.ssa
   pub ledger : (calls : List AnsweredCall) (instruction : Instruction Name Name)
       → AgreesWithLedger calls old → HasShape calls old.func.now instruction shape ty
       → IfOk answer (λ value. AgreesWithLedger (after_build calls instruction (numbers_with old value)) new)

@@ -9,6 +9,7 @@ use Rattle.clif_meaning.specs.Event.{types_of}
 use Rattle.clif_meaning.specs.Name.{Name}
 use Rattle.clif_meaning.specs.Request.{AnsweredCall, AppendBlockParams, AppendFunctionParams, Request}
 use Rattle.clif_simulation.specs.Carries.{numbers_from}
+use Rattle.clif_ssa.specs.Structure.{LooksOnce}
 use Rattle.cranelift_frontend.specs.declared.builder.FunctionBuilder.{FunctionBuilder}
 use Rattle.cranelift_frontend.specs.Builder.{SameLoans}
 use Rattle.cranelift_frontend.specs.Ledger.{AgreesWithLedger}
@@ -19,13 +20,15 @@ abbrev pub answered : Request → List ℕ → AnsweredCall
 answered request numbers = record { request = request; numbers = numbers }
 
 -- A call that may fail: the builder keeps its function, its context and its current block. A builder that failed answers
--- `Failed` and stays as it is, and a call that fails leaves one that failed.
+-- `Failed` and stays as it is, and a call that fails leaves one that failed. Whatever it answers, at most one look-up of a
+-- variable began in the predecessors of a block, if that was so before.
 pub record IsCall {A : Type 0} (old new : FunctionBuilder) (answer : Result A BuildError) : Type 0 where
   pub loans : SameLoans old new
   pub position : new.position ≡ old.position
   pub failed : (answer ≡ Err Failed) ↔ IsTrue old.failed
   pub unchanged : IsTrue old.failed → new ≡ old
   pub fails : new.failed ≡ is_err answer
+  pub looks_once : LooksOnce old.ctx.now.ssa → LooksOnce new.ctx.now.ssa
 
 -- Where the builder stood for a list of calls, and where names in it are as the call means them, the builder stands for
 -- the list with the call, by its answer. The ledger agrees even where the builder doesn't stand for the list.

@@ -2,8 +2,11 @@
 -- Source: the crate's documentation of `FunctionBuilderContext`; the changes are own.
 use Rattle.std.specs.Prelude.{◌≡◌, ℕ, ◌==◌, List, [], slice_index_or, if◌then◌else◌}
 use Rattle.clif_types.specs.declared.types.«Type».{«Type»}
-use Rattle.clif_ssa.specs.Ssa.{SsaState, no_state}
+use Rattle.clif_types.specs.contracts.types.«Type» as value_type
+use Rattle.std.specs.Coded.{Coded, code_by, coded×, coded_list}
+use Rattle.clif_ssa.specs.Ssa.{SsaState, ssa_state_code, no_state}
 use Rattle.clif_ir.specs.Reading.{stands_in}
+use Rattle.cranelift_frontend.specs.contracts.context.BlockStatus as block_status
 use Rattle.cranelift_frontend.specs.declared.context.BlockStatus.{BlockStatus}
 use Rattle.cranelift_frontend.specs.declared.context.BlockStatus.TheVariants.{Empty, Partial, Filled}
 
@@ -12,6 +15,11 @@ pub record ContextState : Type 0 where
   pub ssa : SsaState
   pub status : List BlockStatus
   pub variables : List «Type»
+
+abbrev pub context_code : Coded ContextState
+context_code =
+    code_by (SsaState × (List BlockStatus × List «Type»)) (coded× ssa_state_code (coded× (coded_list (block_status.the_row).coded) (coded_list (value_type.the_row).coded)))
+    (λ c. (c.ssa, (c.status, c.variables))) (λ p. record { ssa = p.0; status = p.1.0; variables = p.1.1 }) (λ c i. c)
 
 abbrev pub empty_context : ContextState
 empty_context = record { ssa = no_state; status = []; variables = [] }

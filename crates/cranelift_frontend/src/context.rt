@@ -95,9 +95,11 @@ pub struct FunctionBuilderContext {
 
 impl Model for FunctionBuilderContext {
     ghost use Rattle.std.specs.Prelude.{length, ◌<◌, ◌^◌};
-    ghost use Rattle.cranelift_frontend.specs.Context.{ContextState};
+    ghost use Rattle.cranelift_frontend.specs.Context.{ContextState, context_code};
 
     ghost Value = { ContextState };
+
+    ghost coded = { context_code };
 
     ghost view = { λ c. record { ssa = c.ssa; status = c.status; variables = c.variables.items } };
 
@@ -115,6 +117,7 @@ impl FunctionBuilderContext {
     ghost use Rattle.clif_ssa.specs.Ssa.{record_of, sealed_of, predecessors_of, completed, HasMore, IsLocal, NamesExist, Records, RecordsStay, SameBlocks, SamePredecessors, SameRecords, Seals, Waits, Zeroes};
     ghost use Rattle.clif_ssa.specs.Zeros.{steps_before};
     ghost use Rattle.clif_ssa.specs.Limits.{IsFull};
+    ghost use Rattle.clif_ssa.specs.Structure.{LooksOnce};
     ghost use Rattle.clif_ssa.specs.Constructs.{OnlyConstructs};
     ghost use Rattle.clif_ssa.specs.Tables.{is_yes, pending_of};
 
@@ -184,6 +187,7 @@ impl FunctionBuilderContext {
         ensures names { (f : Body) → NamesExist f self.old.ssa → NamesExist f self.new.ssa }
         ensures status { self.new.status ≡ self.old.status }
         ensures variables { self.new.variables ≡ self.old.variables }
+        ensures looks_once { LooksOnce self.old.ssa → LooksOnce self.new.ssa }
         ensures known { OnOk result (block < length self.new.ssa.blocks) }
         ensures only_memory { OnErr result (result ≡ Err BuildError.Memory) }
     {
@@ -193,6 +197,7 @@ impl FunctionBuilderContext {
     /// Makes a variable of this type.
     pub(crate) fn declare_var(&mut self, ty: Type) -> Result<Variable, BuildError>
         ensures ok { OnOk result (self.new ≡ record self.old { variables = self.old.variables ++ ty ∷ [] }) }
+        ensures ssa { self.new.ssa ≡ self.old.ssa }
         ensures number { IfOk result (λ v. v ≡ length self.old.variables) }
         ensures full { result ≡ Err BuildError.Full → length self.old.variables ≡ 2 ^ 32 - 1 }
         ensures never_failed { result ≢ Err BuildError.Failed }
@@ -224,6 +229,7 @@ impl FunctionBuilderContext {
         ensures ok { OnOk result (Records self.old.ssa self.new.ssa variable block value) }
         ensures blocks { self.new.ssa.blocks ≡ self.old.ssa.blocks }
         ensures names { (f : Body) → value < length f.values → NamesExist f self.old.ssa → NamesExist f self.new.ssa }
+        ensures looks_once { LooksOnce self.old.ssa → LooksOnce self.new.ssa }
         ensures status { self.new.status ≡ self.old.status }
         ensures variables { self.new.variables ≡ self.old.variables }
         ensures only_memory { OnErr result (result ≡ Err BuildError.Memory) }
@@ -251,6 +257,7 @@ impl FunctionBuilderContext {
         ensures is_use { IfOk result (λ w. (told : List ℕ) × IsUse func.old self.old.ssa func.new self.new.ssa variable ty block w told × Begins self.old self.new told) }
         ensures names { NamesExist func.new self.new.ssa }
         ensures exists { IfOk result (λ w. w < length func.new.values) }
+        ensures looks_once { LooksOnce self.old.ssa → LooksOnce self.new.ssa }
         ensures more { HasMore func.old func.new }
         ensures variables { self.new.variables ≡ self.old.variables }
         ensures constructs { OnlyConstructs func.old func.new }
@@ -271,6 +278,7 @@ impl FunctionBuilderContext {
         ensures function { predecessors_of self.old.ssa block ≡ [] → OnOk result (func.new ≡ completed func.old (pending_of (sealed_of self.old.ssa block))) }
         ensures is_sealing { OnOk result ((told : List ℕ) × IsSealing func.old self.old.ssa func.new self.new.ssa block told × Begins self.old self.new told) }
         ensures names { NamesExist func.new self.new.ssa }
+        ensures looks_once { LooksOnce self.old.ssa → LooksOnce self.new.ssa }
         ensures more { HasMore func.old func.new }
         ensures stay { RecordsStay self.old.ssa self.new.ssa }
         ensures variables { self.new.variables ≡ self.old.variables }
@@ -288,6 +296,7 @@ impl FunctionBuilderContext {
         requires named { NamesExist func.old self.old.ssa }
         ensures is_sealing { OnOk result ((told : List ℕ) × IsSealingAll func.old self.old.ssa func.new self.new.ssa told × Begins self.old self.new told) }
         ensures names { NamesExist func.new self.new.ssa }
+        ensures looks_once { LooksOnce self.old.ssa → LooksOnce self.new.ssa }
         ensures more { HasMore func.old func.new }
         ensures stay { RecordsStay self.old.ssa self.new.ssa }
         ensures variables { self.new.variables ≡ self.old.variables }
@@ -318,6 +327,7 @@ impl FunctionBuilderContext {
         ensures ok { OnOk result (IsDeclared self.old.ssa inst (targets edges.now) self.new.ssa) }
         ensures none { edges.now ≡ [] → self.new.ssa ≡ self.old.ssa }
         ensures names { (f : Body) → inst < length f.insts → NamesExist f self.old.ssa → NamesExist f self.new.ssa }
+        ensures looks_once { LooksOnce self.old.ssa → LooksOnce self.new.ssa }
         ensures status { self.new.status ≡ self.old.status }
         ensures variables { self.new.variables ≡ self.old.variables }
         ensures only_memory { OnErr result (result ≡ Err BuildError.Memory) }

@@ -6,6 +6,7 @@ ghost use Rattle.cranelift_frontend.specs.Construction.{IsUse, IsSealing, IsSeal
 ghost use Rattle.cranelift_frontend.specs.Calls.{IsCall, IsTold, answered};
 ghost use Rattle.cranelift_frontend.specs.Builder.{with_position, is_unreachable, is_free, is_declarable, HasCurrent, Uses, UsesIn};
 ghost use Rattle.clif_ssa.specs.Limits.{IsFull};
+ghost use Rattle.clif_ssa.specs.Structure.{LooksOnce};
 ghost use Rattle.clif_ssa.specs.Constructs.{OnlyConstructs};
 ghost use Rattle.clif_ssa.specs.Tables.{is_yes, pending_of};
 ghost use Rattle.clif_ssa.specs.Ssa.{sealed_of, predecessors_of, completed, NamesExist, Records, RecordsStay, SameBlocks, SamePredecessors, SameRecords, Seals};
@@ -35,6 +36,7 @@ impl<'a> FunctionBuilder<'a> {
         ensures builder { (named : _) × (result ≡ record { func = func.entry; ctx = ctx.entry; position = None; failed = false; named = named }) }
         ensures ledger { AgreesWithLedger [] result }
         ensures stands { StandsFor func.old.signature [] result }
+        ensures looks_once { LooksOnce result.ctx.now.ssa }
     {
         FunctionBuilder {
             func,
@@ -336,7 +338,6 @@ pub(crate) fn begin_block(
     }
 }
 
-#[tactic(auto, using(crate::proofs::Statuses::use_rules))]
 // The value of a variable of type `ty` in a block.
 fn use_variable(
     func: &mut Function,
@@ -351,6 +352,7 @@ fn use_variable(
     ensures is_use { IfOk result (λ value. (told : List ℕ) × IsUse (inserted_in func.old block) ctx.old.ssa func.new ctx.new.ssa variable ty block value told × Begins ctx.old ctx.new (block ∷ told)) }
     ensures names { NamesExist func.new ctx.new.ssa }
     ensures exists { IfOk result (λ value. value < length func.new.values) }
+    ensures looks_once { LooksOnce ctx.old.ssa → LooksOnce ctx.new.ssa }
     ensures variables { ctx.new.variables ≡ ctx.old.variables }
     ensures full { result ≡ Err BuildError.Full → IsFull func.new }
     ensures constructs { result ≡ Err BuildError.Full →
@@ -370,6 +372,7 @@ fn make_block(func: &mut Function, ctx: &mut FunctionBuilderContext) -> Result<B
     ensures sealed { SameBlocks ctx.old.ssa ctx.new.ssa }
     ensures predecessors { SamePredecessors ctx.old.ssa ctx.new.ssa }
     ensures names { NamesExist func.old ctx.old.ssa → NamesExist func.new ctx.new.ssa }
+    ensures looks_once { LooksOnce ctx.old.ssa → LooksOnce ctx.new.ssa }
     ensures status { ctx.new.status ≡ ctx.old.status }
     ensures variables { ctx.new.variables ≡ ctx.old.variables }
     ensures full { result ≡ Err BuildError.Full → length func.old.blocks ≡ 2 ^ 32 - 1 }

@@ -5,6 +5,7 @@ ghost use Rattle.clif_ir.specs.Body.{value_at};
 ghost use Rattle.clif_ir.specs.Instruction.{operands, destinations, is_branch};
 ghost use Rattle.clif_ir.specs.Reading.{targets};
 ghost use Rattle.clif_ssa.specs.Ssa.{NamesExist};
+ghost use Rattle.clif_ssa.specs.Structure.{LooksOnce};
 ghost use Rattle.cranelift_frontend.specs.Builder.{HasCurrent, CanLead, CanLeadIn, AppendsIn};
 ghost use Rattle.cranelift_frontend.specs.Built.{Builds, BuildsValue};
 ghost use Rattle.cranelift_frontend.specs.Construction.{IsDeclared};
@@ -118,6 +119,7 @@ fn append(
     ensures declares { IfOk result (λ inst. IsDeclared ctx.old.ssa inst (targets (destinations shape)) ctx.new.ssa) }
     ensures ssa { is_branch shape ≡ false → ctx.new.ssa ≡ ctx.old.ssa }
     ensures names { NamesExist func.new ctx.new.ssa }
+    ensures looks_once { LooksOnce ctx.old.ssa → LooksOnce ctx.new.ssa }
     ensures variables { ctx.new.variables ≡ ctx.old.variables }
     ensures full { result ≡ Err BuildError.Full → (length func.old.insts ≡ 2 ^ 32 - 1) ⊎ (length func.old.values ≡ 2 ^ 32 - 1) }
     ensures never_failed { result ≢ Err BuildError.Failed }

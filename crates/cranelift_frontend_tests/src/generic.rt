@@ -10,8 +10,11 @@ use cranelift_frontend::{BinaryOpcode, BuildError, InstBuilder, Value};
 pub fn there_and_back<B: InstBuilder>(builder: &mut B, x: Value) -> Result<Value, BuildError>
     requires current { B.can_build builder.old }
     requires exists { B.has_value builder.old x }
-    ensures built { IfOk result (λ value. (between : _) × (sum : _) × B.builds_like builder.old between (binary BinaryOpcode.Iadd x x) x (Ok sum) × B.builds_like between builder.new (binary BinaryOpcode.Isub sum x) sum (Ok value)) }
-    ensures goes_on { IfOk result (λ value. B.can_build builder.new × B.has_value builder.new value) }
+    ensures built { IfOk result (λ value. (between : _) × (sum : _)
+        × B.builds_like builder.old between (binary BinaryOpcode.Iadd x x) x (Ok sum)
+        × B.builds_like between builder.new (binary BinaryOpcode.Isub sum x) sum (Ok value)) }
+    ensures goes_on { IfOk result (λ value.
+        B.can_build builder.new × B.has_value builder.new value) }
 {
     let sum = builder.iadd(x, x)?;
     builder.isub(sum, x)

@@ -1,9 +1,11 @@
-use Rattle.std.proofs.Common.{ap}
+use Rattle.std.proofs.Common.{ap, subst}
+use Rattle.clif_ir.specs.Body.{value_at}
+use Rattle.clif_ssa.specs.Running.{stage, MakesAll}
 use Rattle.clif_ssa.specs.Tables.{sealed_at, predecessors_at}
 use Rattle.clif_ssa.proofs.CountedOnce.{once_completes, once_follows}
 use Rattle.clif_ssa.proofs.Naming.{has_more}
 use Rattle.clif_ssa.proofs.Local.{named-same}
-use Rattle.clif_ssa.proofs.Waited.{begun-fits}
+use Rattle.clif_ssa.proofs.Waited.{begun-fits, parameter-completed}
 use Rattle.clif_ssa.proofs.LeavesSteps.{leaves_from, leaves_kept, leaves_then}
 use Rattle.clif_ssa.proofs.Steps.{ends_as, ends_memory, ends_ok}
 use Rattle.std.proofs.lemmas.Result.{err_from_is_err_and}
@@ -112,3 +114,13 @@ returns-clause-leaves c =
 pub returns-clause-ends : goal.returns-clause-ends
 returns-clause-ends c =
     (ends_ok c.make_calls.new.func _)
+
+pub returns-clause-completes : goal.returns-clause-completes
+returns-clause-completes c =
+    let typed = subst (λ ty. MakesAll c.args.waiting.variable ty (stage c.args.func.now c.begin_look_up.new.self c.begin_look_up.new.look_up) c.in_ok-_value._value
+    (stage c.make_calls.new.func c.make_calls.new.self c.make_calls.new.look_up)) c.value_type-ty.ensures c.in_ok-_value.ensures.made in
+    rw (← c.self.view_is)
+    (parameter-completed c.args.waiting.variable (value_at c.args.func.now c.args.waiting.param).ty c.args.waiting.param c.args.block c.in_ok-_value._value
+    c.args.func.now c.self.inside.tables c.begin_look_up.new.self c.args.look_up.now c.begin_look_up.new.look_up (stage c.make_calls.new.func c.make_calls.new.self c.make_calls.new.look_up)
+    c.begin_look_up.ensures.records c.begin_look_up.ensures.blocks c.in_ok-begin_look_up.ensures.counted c.in_ok-begin_look_up.ensures.look_up
+    typed)

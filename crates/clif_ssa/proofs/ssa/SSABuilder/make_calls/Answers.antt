@@ -5,6 +5,7 @@ use Rattle.clif_ssa.specs.LookUp.{LookUpState, MakesCall}
 use Rattle.clif_ssa.specs.LookUp.MakesCalls.{none_made, made}
 use Rattle.clif_ssa.specs.Running.{stage, CallsFit}
 use Rattle.clif_ssa.proofs.Calling.{call-less, popped_is}
+use Rattle.clif_ssa.proofs.Waited.{result-taken}
 use Rattle.clif_ssa.proofs.Constructing.{tells_more_none, tells_more_then}
 use Rattle.clif_ssa.proofs.Steps.{ends_as, ends_ok, keeps_none, keeps_then}
 use Rattle.clif_ssa.proofs.ssa.SSABuilder.make_calls.Goals as goal
@@ -82,3 +83,9 @@ returns-clause-tells c =
     let zeros : LookUpState → List ℕ = λ l. l.zeros in
     let same : c.take_result.new.self.zeros ≡ c.loop-call.look_up.zeros = ap zeros c.take_result.ensures.taken ∙ ap zeros c.in_default.ensures.1 in
     subst (λ told. TellsMore c.args.func.now c.loop-call.func c.args.look_up.now.zeros told) (sym same) c.loop-call.invariant.tells
+
+pub returns-clause-made : goal.returns-clause-made
+returns-clause-made c =
+    let last = result-taken c.loop-call.look_up c.next_call.new.self c.take_result.new.self c.take_result.result c.in_default.ensures.0 c.in_default.ensures.1
+    c.take_result.ensures.one c.take_result.ensures.taken in
+    record { last = stage c.loop-call.func c.loop-call.self c.loop-call.look_up; made = c.loop-call.invariant.made; ended = last.0; function = λ i. c.loop-call.func; state = λ i. c.loop-call.self; look_up = last.1 }

@@ -1,4 +1,4 @@
-use Rattle.clif_ssa.proofs.Alongside.{seal_remembers, seal_leaves, seal_loses}
+use Rattle.clif_ssa.proofs.Alongside.{seal_remembers, seal_loses}
 use Rattle.clif_ssa.proofs.Public.{seal_keeps}
 use Rattle.clif_ssa.proofs.StructuredPublic.{seal_structured}
 use Rattle.clif_ssa.proofs.WithinUses.{leads_of, seal_within}
@@ -18,11 +18,6 @@ pub returns-clause-parameters : goal.returns-clause-parameters
 returns-clause-parameters c = λ alone.
     seal_loses c.args.func.now c.seal_one_block-told.new.func c.args.self.now c.seal_one_block-told.new.self c.args.block c.seal_one_block-told.result
     c.law_consistent.ensures c.law_consistent-2.ensures (c.seal_one_block-told.ensures.makes.local alone)
-
-pub returns-clause-nothing_stray : goal.returns-clause-nothing_stray
-returns-clause-nothing_stray c = λ own alone before.
-    seal_leaves own c.args.func.now c.seal_one_block-told.new.func c.args.self.now c.seal_one_block-told.new.self c.args.block c.seal_one_block-told.result
-    c.law_consistent.ensures (c.seal_one_block-told.ensures.makes.local alone) before
 
 pub returns-clause-structured : goal.returns-clause-structured
 returns-clause-structured c = λ types own before.

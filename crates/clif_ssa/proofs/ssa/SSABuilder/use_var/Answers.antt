@@ -13,7 +13,7 @@ use Rattle.clif_ssa.proofs.Recorded.{used_exists, local_recorded}
 use Rattle.clif_ssa.proofs.Alongside.{use_alike, local_remembers, local_leaves}
 use Rattle.clif_ssa.proofs.Losing.{same_remembers}
 use Rattle.clif_ssa.proofs.Using.{on_ok}
-use Rattle.clif_ssa.proofs.Public.{something_leads, popped_nothing, known_use, local_use, machine_use}
+use Rattle.clif_ssa.proofs.Public.{something_leads, popped_nothing, known_use, local_use, machine_use, uses_machine}
 use Rattle.clif_ssa.proofs.StructuredPublic.{local_structured, machine_structured}
 use Rattle.clif_ssa.proofs.WithinUses.{leads_of, same_within, local_within, machine_within}
 use Rattle.std.proofs.lemmas.Result.{err_from_is_err_and}
@@ -59,6 +59,12 @@ returns-clause-keeps c = λ own tables both.
     machine_use own c.args.func.now c.look_up_in.new.func c.make_calls.new.func c.args.self.now c.look_up_in.new.self c.make_calls.new.self tables
     c.args.variable c.args.ty c.args.block _ c.look_up_in.new.look_up c.make_calls.new.look_up c.in_ok-value.value c.new-look_up.ensures
     c.law_consistent.ensures both c.requires.exists c.in_ok-look_up_in.ensures.looks c.in_ok-value.ensures.made
+
+pub returns-clause-looks : goal.returns-clause-looks
+returns-clause-looks c = λ none sealed some.
+    let told : c.into_zeros-instructions_added_to_blocks.result.items ≡ c.make_calls.new.look_up.zeros = first_of (search rules, grind (arith, common_steps)) in
+    uses_machine c.args.variable c.args.ty c.args.block c.args.func.now c.look_up_in.new.func c.make_calls.new.func c.args.self.now c.look_up_in.new.self c.make_calls.new.self
+    _ c.look_up_in.new.look_up c.make_calls.new.look_up c.in_ok-value.value _ c.new-look_up.ensures c.in_ok-look_up_in.ensures.looks c.in_ok-value.ensures.made told
 
 -- RECORDED --------------------------------------------------------------------------------------------------------
 
@@ -107,27 +113,13 @@ returns-clause-remembers c = λ x b.
 pub returns-then-is_local-clause-parameters : goal.returns-then-is_local-clause-parameters
 returns-then-is_local-clause-parameters c = λ is_local sealed b.
     let none : record_of c.args.self.now c.args.variable c.args.block ≡ None = search rules in
-    on_ok c.use_locally.result _ _ (λ used. used.params sealed b)
-    (local_leaves (λ d. []) c.args.func.now c.use_locally.new.func c.args.self.now c.use_locally.new.self c.args.variable c.args.ty c.args.block c.use_locally.result
-    c.law_consistent.ensures c.requires.exists none c.use_locally.ensures.used.waits c.use_locally.ensures.used.zero)
-
-pub returns-then-is_local-clause-nothing_stray : goal.returns-then-is_local-clause-nothing_stray
-returns-then-is_local-clause-nothing_stray c = λ own is_local before.
-    let none : record_of c.args.self.now c.args.variable c.args.block ≡ None = search rules in
-    on_ok c.use_locally.result _ _ (λ used. used.stray before)
-    (local_leaves own c.args.func.now c.use_locally.new.func c.args.self.now c.use_locally.new.self c.args.variable c.args.ty c.args.block c.use_locally.result
-    c.law_consistent.ensures c.requires.exists none c.use_locally.ensures.used.waits c.use_locally.ensures.used.zero)
+    on_ok c.use_locally.result _ _ (λ params. params b)
+    (local_leaves c.args.func.now c.use_locally.new.func c.args.self.now c.use_locally.new.self c.args.variable c.args.ty c.args.block c.use_locally.result
+    c.law_consistent.ensures c.requires.exists none sealed c.use_locally.ensures.used.zero)
 
 pub returns-clause-parameters : goal.returns-clause-parameters
 returns-clause-parameters c = λ is_local sealed b.
     let none : record_of c.args.self.now c.args.variable c.args.block ≡ None = search rules in
-    let some : predecessors_of c.args.self.now c.args.block ≢ [] = rw (← c.self.view_is) ((c.if-is_local.ensures.no refl).1) in
-    absurd (some (is_local none sealed))
-
-pub returns-clause-nothing_stray : goal.returns-clause-nothing_stray
-returns-clause-nothing_stray c = λ own is_local before.
-    let none : record_of c.args.self.now c.args.variable c.args.block ≡ None = search rules in
-    let sealed : is_yes (sealed_of c.args.self.now c.args.block) ≡ true = rw (← c.self.view_is) ((c.if-is_local.ensures.no refl).0) in
     let some : predecessors_of c.args.self.now c.args.block ≢ [] = rw (← c.self.view_is) ((c.if-is_local.ensures.no refl).1) in
     absurd (some (is_local none sealed))
 
@@ -330,11 +322,6 @@ returns-in_err-look_up_in-clause-parameters c =
     let p = err_from_is_err_and c.from_residual.result c.from_residual.ensures.1 in
     λ is_local sealed b. rw p.1 tt
 
-pub returns-in_err-look_up_in-clause-nothing_stray : goal.returns-in_err-look_up_in-clause-nothing_stray
-returns-in_err-look_up_in-clause-nothing_stray c =
-    let p = err_from_is_err_and c.from_residual.result c.from_residual.ensures.1 in
-    λ own is_local before. rw p.1 tt
-
 pub returns-in_err-value-clause-keeps : goal.returns-in_err-value-clause-keeps
 returns-in_err-value-clause-keeps c =
     let p = err_from_is_err_and c.from_residual-in_err-value.result c.from_residual-in_err-value.ensures.1 in
@@ -389,11 +376,6 @@ pub returns-in_err-value-clause-parameters : goal.returns-in_err-value-clause-pa
 returns-in_err-value-clause-parameters c =
     let p = err_from_is_err_and c.from_residual-in_err-value.result c.from_residual-in_err-value.ensures.1 in
     λ is_local sealed b. rw p.1 tt
-
-pub returns-in_err-value-clause-nothing_stray : goal.returns-in_err-value-clause-nothing_stray
-returns-in_err-value-clause-nothing_stray c =
-    let p = err_from_is_err_and c.from_residual-in_err-value.result c.from_residual-in_err-value.ensures.1 in
-    λ own is_local before. rw p.1 tt
 
 pub returns-in_err-look_up_in-clause-full : goal.returns-in_err-look_up_in-clause-full
 returns-in_err-look_up_in-clause-full c =

@@ -1,5 +1,5 @@
 use Rattle.std.proofs.Common.{◌≡◌, ◌+◌, ℕ, length}
-use Rattle.clif_ssa.specs.Tables.{cell_at}
+use Rattle.clif_ssa.specs.Cells.{cell_at}
 use Rattle.clif_ssa.proofs.tables.VariableTable.set_cell.Given as goal
 
 abbrev pub invariant-loop : goal.invariant-loop

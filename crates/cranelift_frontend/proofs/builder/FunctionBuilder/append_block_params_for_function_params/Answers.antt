@@ -23,6 +23,7 @@ returns-clause-told c = λ name.
 pub returns-clause-call : goal.returns-clause-call
 returns-clause-call c =
     made c.args.self.now _ c.append_function_params-appended.result (record { func = refl; ctx = refl }) refl c.if-self.false c.append_function_params-appended.ensures.never_failed c.is_err-self.ensures.value
+    (λ once. once)
 
 pub returns-clause-remembers : goal.returns-clause-remembers
 returns-clause-remembers c = λ x b.

@@ -19,6 +19,7 @@ returns-clause-told c =
 pub returns-clause-call : goal.returns-clause-call
 returns-clause-call c =
     made c.args.self.now _ c.make_block-made.result (record { func = refl; ctx = refl }) refl c.if-self.false c.make_block-made.ensures.never_failed c.is_err-self.ensures.value
+    c.make_block-made.ensures.looks_once
 
 pub returns-clause-remembers : goal.returns-clause-remembers
 returns-clause-remembers c = λ x b.

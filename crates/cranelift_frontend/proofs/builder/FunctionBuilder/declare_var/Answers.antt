@@ -1,5 +1,5 @@
 use Rattle.std.proofs.Common.{refl}
-use Rattle.cranelift_frontend.proofs.Calls.{told_by, made}
+use Rattle.cranelift_frontend.proofs.Calls.{same_looks, told_by, made}
 use Rattle.cranelift_frontend.proofs.Remembered.{remembers_declared}
 use Rattle.cranelift_frontend.proofs.LedgerVariables.{declared}
 use Rattle.cranelift_frontend.proofs.StandingResults.{declared_stands}
@@ -15,6 +15,7 @@ returns-clause-told c =
 pub returns-clause-call : goal.returns-clause-call
 returns-clause-call c =
     made c.args.self.now _ c.declare_var-declared.result (record { func = refl; ctx = refl }) refl c.if-self.false c.declare_var-declared.ensures.never_failed c.is_err-self.ensures.value
+    (same_looks _ _ c.declare_var-declared.ensures.ssa)
 
 pub returns-clause-remembers : goal.returns-clause-remembers
 returns-clause-remembers c = λ x b. remembers_declared c.declare_var-declared.result x b c.args.self.now.func.now _ _ c.args.ty c.declare_var-declared.ensures.ok

@@ -22,6 +22,7 @@ returns-clause-told c = λ name.
 pub returns-clause-call : goal.returns-clause-call
 returns-clause-call c =
     made c.args.self.now _ c.def_var-recorded.result (record { func = refl; ctx = refl }) refl c.if-self.false (by_memory _ c.def_var-recorded.ensures.only_memory) c.is_err-self.ensures.value
+    c.def_var-recorded.ensures.looks_once
 
 pub returns-clause-remembers : goal.returns-clause-remembers
 returns-clause-remembers c = λ x b apart.

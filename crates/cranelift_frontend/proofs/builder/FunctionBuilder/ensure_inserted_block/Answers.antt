@@ -1,5 +1,5 @@
 use Rattle.std.proofs.Common.{refl}
-use Rattle.cranelift_frontend.proofs.Calls.{told, made, by_memory}
+use Rattle.cranelift_frontend.proofs.Calls.{same_looks, told, made, by_memory}
 use mathlib.Core.Logic.{∥∥₁_map}
 use Rattle.cranelift_frontend.proofs.Marking.{ensured, ensured_stands}
 use Rattle.cranelift_frontend.proofs.builder.FunctionBuilder.ensure_inserted_block.Goals as goal
@@ -20,3 +20,4 @@ returns-clause-told c =
 pub returns-clause-call : goal.returns-clause-call
 returns-clause-call c =
     made c.args.self.now _ c.begin_block-begun.result (record { func = refl; ctx = refl }) refl c.if-self.false (by_memory _ c.begin_block-begun.ensures.only_memory) c.is_err-self.ensures.value
+    (same_looks _ _ c.begin_block-begun.ensures.ssa)

@@ -6,6 +6,7 @@ use Rattle.cranelift_frontend.specs.declared.error.FinalizeError.{FinalizeError}
 use Rattle.cranelift_frontend.specs.Ledger.{RefusalAgrees, ledger_of}
 use Rattle.clif_meaning.specs.View.{view_of}
 use Rattle.clif_meaning.specs.Headline.{MeansTheSame}
+use Rattle.cranelift_frontend.proofs.Declaring.{names_nothing}
 use Rattle.cranelift_frontend.proofs.LedgerEnds.{finished}
 use Rattle.clif_meaning.specs.Typing.{EdgesMatch}
 use Rattle.clif_meaning.specs.WellPlaced.{RecordsWellPlaced, WellPlaced}
@@ -41,3 +42,6 @@ pub returns-clause-records_well_placed : goal.returns-clause-records_well_placed
 returns-clause-records_well_placed c = λ signature calls records stands are premises.
     subst (λ (r : Result (Unit {0}) FinalizeError). OnOk r (RecordsWellPlaced (view_of c.args.self.func.now) records)) (sym c.verdict-answer.ensures)
     (finished_records signature calls records c.args.self stands c.law_consistent.ensures are premises)
+
+pub invariant_of-self-2 : goal.invariant_of-self-2
+invariant_of-self-2 c = record { named = names_nothing c.args.self.func.now c.clear.new.self c.clear.ensures }

@@ -33,3 +33,4 @@ returns-clause-told c = λ name behind.
 pub returns-clause-call : goal.returns-clause-call
 returns-clause-call c =
     made c.args.self.now _ (Ok tt) (record { func = refl; ctx = refl }) refl c.if-self.false (by_success tt) c.if-self.false
+    (λ once. once)

@@ -25,6 +25,7 @@ returns-clause-told c =
 pub returns-clause-call : goal.returns-clause-call
 returns-clause-call c =
     made c.args.self.now _ c.seal_all_blocks-sealed.result (record { func = refl; ctx = refl }) refl c.if-self.false c.seal_all_blocks-sealed.ensures.never_failed c.is_err-self.ensures.value
+    c.seal_all_blocks-sealed.ensures.looks_once
 
 pub returns-clause-sealed : goal.returns-clause-sealed
 returns-clause-sealed c =

@@ -26,6 +26,7 @@ returns-clause-told c =
 pub returns-clause-call : goal.returns-clause-call
 returns-clause-call c =
     made c.args.self.now _ c.use_variable-used.result (record { func = refl; ctx = refl }) refl c.if-self.false c.use_variable-used.ensures.never_failed c.is_err-self.ensures.value
+    c.use_variable-used.ensures.looks_once
 
 pub returns-clause-status : goal.returns-clause-status
 returns-clause-status c = λ calls agrees.

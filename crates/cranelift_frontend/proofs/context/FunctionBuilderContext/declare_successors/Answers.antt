@@ -5,6 +5,7 @@ use Rattle.clif_ir.specs.Reading.{targets}
 use Rattle.clif_ir.specs.declared.block_call.BlockCall.{BlockCall}
 use Rattle.clif_ssa.specs.Tables.{is_yes}
 use Rattle.clif_ssa.specs.Ssa.{SsaState, NamesExist, predecessors_of, sealed_of}
+use Rattle.clif_ssa.specs.Structure.{LooksOnce}
 use Rattle.cranelift_frontend.specs.Context.{ContextState}
 use Rattle.cranelift_frontend.specs.declared.context.FunctionBuilderContext.TheInside.{Inside}
 use Rattle.cranelift_frontend.specs.Construction.{IsDeclared}
@@ -46,7 +47,7 @@ loop-edge-preserved c =
           λ last. not_both (c.is_last_predecessor.ensures.1 last) w.if-not-is_last_predecessor.true in
           subst (λ (i : Inside). IsDeclared s c.args.inst (targets (take (c.loop-edge.edge-index + 1) c.args.edges.now)) i.ssa
           × ((f : Body) → c.args.inst < length f.insts → NamesExist f s → NamesExist f i.ssa) × (i.status ≡ c.self.inside.status) × (i.variables ≡ c.self.inside.variables)
-          × (c.args.edges.now ≡ [] → i.ssa ≡ s))
+          × (c.args.edges.now ≡ [] → i.ssa ≡ s) × (LooksOnce s → LooksOnce i.ssa))
           (sym w.self-inside-is) (
             declare_more s t w.declare_block_predecessor.new.self c.args.inst c.args.edges.now c.loop-edge.edge-index c.edge-item.result c.edge-item.result inside c.edge-item.is
                 c.loop-edge.invariant.0 not_last done.records done.blocks done.ok,
@@ -54,18 +55,20 @@ loop-edge-preserved c =
             c.loop-edge.invariant.2,
             c.loop-edge.invariant.3,
             none_inside w.declare_block_predecessor.new.self,
+            (λ before. done.looks_once (c.loop-edge.invariant.5 before)),
           )
       | else-not-is_last_predecessor w ↦
           let last : slice_get (predecessors_of t block) (length (predecessors_of t block) - 1) ≡ Some c.args.inst = c.is_last_predecessor.ensures.0 (is_true w.if-not-is_last_predecessor.false) in
           subst (λ (i : Inside). IsDeclared s c.args.inst (targets (take (c.loop-edge.edge-index + 1) c.args.edges.now)) i.ssa
           × ((f : Body) → c.args.inst < length f.insts → NamesExist f s → NamesExist f i.ssa) × (i.status ≡ c.self.inside.status) × (i.variables ≡ c.self.inside.variables)
-          × (c.args.edges.now ≡ [] → i.ssa ≡ s))
+          × (c.args.edges.now ≡ [] → i.ssa ≡ s) × (LooksOnce s → LooksOnce i.ssa))
           (sym w.self-inside-is) (
             declare_skipped s t c.args.inst c.args.edges.now c.loop-edge.edge-index c.edge-item.result c.edge-item.result inside c.edge-item.is new c.loop-edge.invariant.0 last,
             c.loop-edge.invariant.1,
             c.loop-edge.invariant.2,
             c.loop-edge.invariant.3,
             none_inside t,
+            c.loop-edge.invariant.5,
           )
     ]
   where
@@ -78,3 +81,12 @@ loop-edge-preserved c =
 pub returns-in_err-declare_block_predecessor-clause-none :
     goal.returns-in_err-declare_block_predecessor-clause-none
 returns-in_err-declare_block_predecessor-clause-none c = λ none. absurd (no_place c.args.edges.now c.loop-edge.edge-index c.loop-edge-test.true none)
+
+pub returns-in_err-declare_block_predecessor-clause-looks_once :
+    goal.returns-in_err-declare_block_predecessor-clause-looks_once
+returns-in_err-declare_block_predecessor-clause-looks_once c = λ before.
+    c.declare_block_predecessor.ensures.looks_once
+    (c.loop-edge.invariant.5 (subst (λ (v : ContextState). LooksOnce v.ssa) (sym c.self.view_is) before))
+
+pub returns-clause-looks_once : goal.returns-clause-looks_once
+returns-clause-looks_once c = λ before. c.loop-edge.invariant.5 (subst (λ (v : ContextState). LooksOnce v.ssa) (sym c.self.view_is) before)

@@ -2,6 +2,7 @@ use Rattle.std.proofs.Common.{◌≡◌, take, ◌<◌, [], length}
 use Rattle.clif_ir.specs.Body.{Body}
 use Rattle.clif_ir.specs.Reading.{targets}
 use Rattle.clif_ssa.specs.Ssa.{NamesExist}
+use Rattle.clif_ssa.specs.Structure.{LooksOnce}
 use Rattle.cranelift_frontend.specs.Construction.{IsDeclared}
 use Rattle.cranelift_frontend.proofs.context.FunctionBuilderContext.declare_successors.Given as goal
 
@@ -12,3 +13,4 @@ invariant-loop-edge l =
     × (l.self-inside.status ≡ l.initial.self-inside.status)
     × (l.self-inside.variables ≡ l.initial.self-inside.variables)
     × (l.edges ≡ [] → l.self-inside.ssa ≡ l.initial.self-inside.ssa)
+    × (LooksOnce l.initial.self-inside.ssa → LooksOnce l.self-inside.ssa)
