@@ -1,6 +1,6 @@
 -- A builder goes on standing for the calls where parameters of the caller's come behind those of a block; and what goes on
 -- existing then.
-use Rattle.std.proofs.Common.{◌≡◌, ◌<◌, ℕ, List, [], ◌∷◌, ◌++◌, length, refl, sym, ◌∙◌, ap, subst, arith, inl, inr, get_or, take, ◌+◌, ◌≤◌, ◌-◌, ◌^◌}
+use Rattle.std.proofs.Common.{◌≡◌, ◌<◌, ℕ, List, [], ◌∷◌, ◌++◌, length, refl, sym, ◌∙◌, ap, subst, arith, inl, inr, get_or, take, ◌+◌, ◌-◌, ◌^◌}
 use Rattle.std.specs.Prelude.{slice_get, Option, Some, IfOk, OnOk, Result, Ok, Err}
 use Rattle.std.proofs.lemmas.List.{length-append, length-map, length-take-le, map_push, take_more}
 use Rattle.std.proofs.lemmas.Option.{slice_get-map}
