@@ -1,7 +1,8 @@
 //! Zeros, which stand for variables that are never assigned.
-ghost use Rattle.std.specs.Prelude.{◌≡◌, ◌≢◌, ◌<◌, ◌+◌, ◌++◌, ◌∷◌, [], length, ◌-◌, MatchOption, OnOk, OnErr, IfOk, Some, None, slice_get};
+ghost use Rattle.std.specs.Prelude.{◌≡◌, ◌≢◌, ◌<◌, ◌+◌, ◌++◌, ◌∷◌, [], length, ◌-◌, MatchOption, OnOk, OnErr, IfOk, Some, None, slice_get, ◌⊎◌};
 ghost use Rattle.std.specs.Option.{option_to_list};
 ghost use Rattle.clif_ir.specs.Body.{resolved, value_at};
+ghost use Rattle.clif_ir.specs.Changes.{inserted_in};
 ghost use Rattle.clif_ir.specs.Reading.{param_home};
 ghost use Rattle.clif_ssa.specs.Constructs.{OnlyConstructs, TellsZeros};
 ghost use Rattle.clif_ssa.specs.Limits.{IsFull};
@@ -77,6 +78,7 @@ fn put_zero(func: &mut Function, block: Block, ty: Type) -> Result<Value, BuildE
     ensures exists { IfOk result (λ v. v < length func.new.values) }
     ensures unaliased { IfOk result (λ v. resolved func.new v ≡ v) }
     ensures full { result ≡ Err BuildError.Full → IsFull func.new }
+    ensures err { OnErr result ((func.new ≡ func.old) ⊎ HasSomeSteps (inserted_in func.old block) func.new block ty) }
     ensures more { HasMore func.old func.new }
     ensures constructs { OnlyConstructs func.old func.new }
     ensures tells { OnOk result (TellsZeros func.old func.new (block ∷ [])) }
