@@ -12,7 +12,7 @@ use Rattle.clif_ir.specs.Changes.{with_inst}
 use Rattle.clif_ir.specs.Consistent.{EdgeExists}
 use Rattle.clif_ir.specs.Instruction.{destinations, operands, result_types}
 use Rattle.clif_ssa.specs.Ssa.{no_srcloc, with_steps}
-use Rattle.clif_ssa.specs.Zeros.{ZeroStep, zero_steps}
+use Rattle.clif_ssa.specs.Zeros.{IsStepAt, ZeroStep, zero_steps}
 use Rattle.clif_ssa.proofs.ZeroSteps.{steps_insts_here, steps_insts_more, steps_push, steps_values_count}
 use Rattle.clif_ssa.proofs.ZeroTable.{IsPlainStep, first_alone, none_some, plain_step, same_some, step_inside}
 
@@ -25,7 +25,7 @@ pub record IsNextStep (ty : «Type») (place values : ℕ) (shape : InstructionD
 
 -- what the table answers is a step of the type's zero, or there are no more
 pub row_some : (ty : «Type») (place values before : ℕ) (r : Option (InstructionData × «Type»)) (shape : InstructionData) (result : «Type»)
-    → MatchOption (slice_get (zero_steps ty) place) (r ≡ None) (λ (step : ZeroStep). r ≡ Some (step.shape before, step.ty)) → r ≡ Some (shape, result)
+    → IsStepAt ty place before r → r ≡ Some (shape, result)
     → before ≡ values - 1 → IsNextStep ty place values shape result
 row_some ty place values before r shape result row is latest = by (slice_get (zero_steps ty) place) refl row
   where
@@ -47,7 +47,7 @@ get_past (x ∷ xs) zero none = absurd (none_some (sym none))
 get_past (x ∷ xs) (suc k) none = let rest : length xs ≤ k = get_past xs k none in omega (arith, rest)
 
 pub row_none : (ty : «Type») (place before : ℕ) (r : Option (InstructionData × «Type»))
-    → MatchOption (slice_get (zero_steps ty) place) (r ≡ None) (λ (step : ZeroStep). r ≡ Some (step.shape before, step.ty))
+    → IsStepAt ty place before r
     → ((shape : InstructionData) (t : «Type») → r ≡ Some (shape, t) → ⊥) → length (zero_steps ty) ≤ place
 row_none ty place before r row none = get_past (zero_steps ty) place (by (slice_get (zero_steps ty) place) row)
   where

@@ -157,6 +157,10 @@ with_steps f b steps =
 abbrev pub HasSomeSteps : Body → Body → ℕ → «Type» → Type 0
 HasSomeSteps f g b ty = (count : ℕ) × (count ≤ length (zero_steps ty)) × (g ≡ with_steps f b (take count (zero_steps ty)))
 
+-- what a call leaves that failed to put a zero: nothing has changed, or the block is in the layout, with some of the steps
+abbrev pub MayHaveSomeSteps : Body → Body → ℕ → «Type» → Type 0
+MayHaveSomeSteps f g b ty = (g ≡ f) ⊎ HasSomeSteps (inserted_in f b) g b ty
+
 -- the function with a zero before the first instruction of block `b`, which is in the layout then
 abbrev pub with_zero : Body → ℕ → «Type» → Body
 with_zero f b ty = with_steps (inserted_in f b) b (zero_steps ty)

@@ -1,6 +1,6 @@
 -- Zeros, which stand for variables where nothing assigns them: by type, the instructions of one, and where it stands.
 -- Source: own, after Braun et al. 2013 (an undefined variable), and the zeros that cranelift's SSA builder makes.
-use Rattle.std.specs.Prelude.{◌≡◌, ℕ, ◌+◌, ◌-◌, ◌<◌, List, [], ◌∷◌, ◌++◌, length, Some, slice_get, pos}
+use Rattle.std.specs.Prelude.{◌≡◌, ℕ, ◌+◌, ◌-◌, ◌<◌, List, [], ◌∷◌, ◌++◌, length, MatchOption, Option, Some, None, slice_get, pos}
 use Rattle.std.specs.List.{range_with_len}
 use Rattle.clif_types.specs.declared.types.«Type».{«Type»}
 use Rattle.clif_ir.specs.Body.{Body, inst_at}
@@ -28,6 +28,11 @@ steps_before ty = length (zero_row ty).before
 -- the instructions of a zero of a type, in order
 abbrev pub zero_steps : «Type» → List ZeroStep
 zero_steps ty = (zero_row ty).before ++ record { shape = (zero_row ty).last; ty = ty } ∷ []
+
+-- the instruction of a zero at a place among its steps, behind a value, and the type of its result, if it has so many steps
+abbrev pub IsStepAt : «Type» → ℕ → ℕ → Option (InstructionData × «Type») → Type 0
+IsStepAt ty place before result =
+    MatchOption (slice_get (zero_steps ty) place) (result ≡ None) (λ (step : ZeroStep). result ≡ Some (step.shape before, step.ty))
 
 -- WHERE ZEROS STAND -----------------------------------------------------------------------------------------------
 

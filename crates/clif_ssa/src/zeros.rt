@@ -1,12 +1,13 @@
 //! Zeros, which stand for variables that are never assigned.
-ghost use Rattle.std.specs.Prelude.{◌≡◌, ◌≢◌, ◌<◌, ◌+◌, ◌++◌, ◌∷◌, [], length, ◌-◌, MatchOption, OnOk, OnErr, IfOk, Some, None, slice_get};
+ghost use Rattle.std.specs.Prelude.{◌≡◌, ◌≢◌, ◌<◌, ◌+◌, ◌++◌, ◌∷◌, [], length, ◌-◌, MatchOption, OnOk, OnErr, IfOk, Some};
 ghost use Rattle.std.specs.Option.{option_to_list};
 ghost use Rattle.clif_ir.specs.Body.{resolved, value_at};
 ghost use Rattle.clif_ir.specs.Reading.{param_home};
 ghost use Rattle.clif_ssa.specs.Constructs.{OnlyConstructs, TellsZeros};
 ghost use Rattle.clif_ssa.specs.Limits.{IsFull};
-ghost use Rattle.clif_ssa.specs.Ssa.{with_steps, with_zero, zero_value, zeroed_in, HasMore, HasSomeSteps};
-ghost use Rattle.clif_ssa.specs.Zeros.{zero_steps};
+ghost use Rattle.clif_ssa.specs.Ssa.{with_steps, with_zero, zero_value, zeroed_in, HasMore};
+ghost use Rattle.clif_ssa.specs.Ssa.{HasSomeSteps, MayHaveSomeSteps};
+ghost use Rattle.clif_ssa.specs.Zeros.{zero_steps, IsStepAt};
 
 use crate::side_effects::SideEffects;
 use clif_ir::inst_list::InsertAt;
@@ -81,6 +82,7 @@ fn put_zero(func: &mut Function, block: Block, ty: Type) -> Result<Value, BuildE
     ensures exists { IfOk result (λ v. v < length func.new.values) }
     ensures unaliased { IfOk result (λ v. resolved func.new v ≡ v) }
     ensures full { result ≡ Err BuildError.Full → IsFull func.new }
+    ensures err { OnErr result (MayHaveSomeSteps func.old func.new block ty) }
     ensures more { HasMore func.old func.new }
     ensures constructs { OnlyConstructs func.old func.new }
     ensures tells { OnOk result (TellsZeros func.old func.new (block ∷ [])) }
@@ -119,9 +121,7 @@ fn latest_value(func: &Function) -> Value
 // THE TABLE: the instruction of a type's zero at a place among its steps, if it has so many, and the
 // type of its result. `before` is the result of the step before it.
 fn zero_step(ty: Type, place: usize, _before: Value) -> Option<(InstructionData, Type)>
-    ensures { MatchOption (slice_get (zero_steps ty) place)
-        (result ≡ None)
-        (λ step. result ≡ Some (step.shape _before, step.ty)) }
+    ensures { IsStepAt ty place _before result }
 {
     match place {
         0 => Some((InstructionData::UnaryImm { imm: 0 }, ty)),

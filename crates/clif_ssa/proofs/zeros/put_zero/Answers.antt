@@ -1,5 +1,7 @@
-use Rattle.std.proofs.Common.{◌∙◌, ap, length}
+use Rattle.std.proofs.Common.{◌∙◌, ap, inl, inr, length, subst}
+use Rattle.std.specs.Prelude.{Result, Ok, Err, OnErr}
 use Rattle.clif_ir.specs.Body.{Body}
+use Rattle.clif_ssa.specs.Ssa.{HasSomeSteps}
 use Rattle.clif_ssa.proofs.Completing.{inserted_same}
 use Rattle.clif_ssa.proofs.Constructing.{constructs_same}
 use Rattle.clif_ssa.proofs.Constructed.{some_steps_made, with_zero_made, with_zero_told}
@@ -42,3 +44,16 @@ returns-clause-exists c = (latest c).exists
 
 pub returns-clause-unaliased : goal.returns-clause-unaliased
 returns-clause-unaliased c = (latest c).unaliased
+
+-- what is so is so on an error
+on_err : {X E P : Type 0} (r : Result X E) → P → OnErr r P
+on_err (Ok x) is = tt
+on_err (Err e) is = is
+
+pub returns-in_err-ensure_block_inserted-clause-err : goal.returns-in_err-ensure_block_inserted-clause-err
+returns-in_err-ensure_block_inserted-clause-err c = on_err c.from_residual.result (inl c.in_err-ensure_block_inserted.ensures.err)
+
+pub returns-in_err-put_steps-clause-err : goal.returns-in_err-put_steps-clause-err
+returns-in_err-put_steps-clause-err c =
+    on_err c.from_residual-in_err-put_steps.result
+    (inr (subst (λ (g : Body). HasSomeSteps g c.put_steps.new.func c.args.block c.args.ty) c.in_ok-ensure_block_inserted.ensures.ok c.in_err-put_steps.ensures.err))
