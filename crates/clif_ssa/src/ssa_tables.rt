@@ -258,7 +258,6 @@ impl SsaTables {
         Ok(reached)
     }
 
-    #[tactic(auto, using(crate::proofs::Copying::copying_rules))]
     /// Records a value for a variable in the blocks passed, up to the first `from` among them.
     ///
     /// The only error is `Memory`. Some blocks may have the record then.
@@ -277,13 +276,8 @@ impl SsaTables {
         ensures none_lost { (x b : ℕ) → record_of self.new x b ≡ None → record_of self.old x b ≡ None }
         ensures only_memory { OnErr result (result ≡ Err BuildError.Memory) }
     {
-        for block in passed.as_slice().iter() {
-            if *block == from {
-                break;
-            }
-            self.variables.set(variable, *block, value)?;
-        }
-        Ok(())
+        self.variables
+            .set_each(variable, passed.as_slice(), from, value)
     }
 
     /// Begins the look-up of a variable in the predecessors of a block, for a parameter of it.
