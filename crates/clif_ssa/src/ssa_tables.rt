@@ -216,11 +216,8 @@ impl SsaTables {
         ensures exists { IfSome result (λ b. b < length func.now.blocks) }
         ensures known { result ≢ None → block < length self.now.blocks }
     {
-        if !self.blocks.is_sealed(block) {
-            return None;
-        }
         func.law_consistent();
-        match self.blocks.predecessors(block) {
+        match self.blocks.sealed_predecessors(block) {
             [branch] => func.inst_block(*branch),
             _ => None,
         }

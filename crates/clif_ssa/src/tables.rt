@@ -486,6 +486,19 @@ impl BlockTable {
         }
     }
 
+    /// The branches that lead to a sealed block. Of an unsealed one none is answered.
+    pub(crate) fn sealed_predecessors(&self, block: Block) -> &[Inst]
+        ensures { result.now ≡ (if is_yes (sealed_at self.now block) then predecessors_at self.now block else []) }
+    {
+        match self.blocks.get(block.index()) {
+            Some(SsaBlock {
+                sealed: Sealed::Yes,
+                predecessors,
+            }) => predecessors.as_slice(),
+            _ => &[],
+        }
+    }
+
     /// Makes room for a block. What is known of each block stays.
     pub(crate) fn declare(&mut self, block: Block) -> Result<(), BuildError>
         ensures same { (b : ℕ) → known_at self.new b ≡ known_at self.old b }
