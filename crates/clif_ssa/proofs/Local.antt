@@ -62,4 +62,3 @@ pub param-zero-told : (f g : Body) (b v : ℕ) (ty : «Type») (old new : List �
     → old ≡ [] → new ≡ old ++ option_to_list (param_home g v) → new ≡ b ∷ []
 param-zero-told f g b v ty old new is number nothing told =
     told ∙ ap (λ xs. xs ++ option_to_list (param_home g v)) nothing ∙ ap (λ o. option_to_list o) (param_there f g b v ty is number)
-

@@ -25,7 +25,7 @@ use crate::ending::finish_look_up;
 use crate::look_up::{Call, LookUp};
 use crate::passed::PassedBlocks;
 use crate::side_effects::SideEffects;
-use crate::ssa_tables::SsaTables;
+use crate::ssa_tables::{Reached, SsaTables};
 use crate::tables::Pending;
 use crate::variable::Variable;
 use crate::zeros::replace_by_zero;
@@ -308,11 +308,12 @@ impl SSABuilder {
     {
         func.law_consistent();
         let reached = self.tables.walk(func, variable, block, &mut self.passed)?;
+        let Reached { block, recorded } = reached;
         let value = self
             .tables
-            .record_or_parameter(func, variable, ty, reached, look_up)?;
+            .record_or_parameter(func, variable, ty, block, recorded, look_up)?;
         self.tables
-            .copy_record(variable, value, &self.passed, reached)
+            .copy_record(variable, value, &self.passed, block)
     }
 
     // Makes calls until none is left, and answers the one result.

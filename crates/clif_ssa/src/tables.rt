@@ -491,10 +491,12 @@ impl BlockTable {
         ensures { result.now ≡ (if is_yes (sealed_at self.now block) then predecessors_at self.now block else []) }
     {
         match self.blocks.get(block.index()) {
-            Some(SsaBlock {
-                sealed: Sealed::Yes,
-                predecessors,
-            }) => predecessors.as_slice(),
+            Some(
+                SsaBlock {
+                    sealed: Sealed::Yes,
+                    predecessors,
+                },
+            ) => predecessors.as_slice(),
             _ => &[],
         }
     }

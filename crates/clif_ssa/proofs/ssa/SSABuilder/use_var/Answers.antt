@@ -76,7 +76,6 @@ returns-clause-looks c =
     uses_machine c.args.variable c.args.ty c.args.block c.args.func.now c.look_up_in.new.func c.make_calls.new.func c.take_look_up-look_up.new.self c.look_up_in.new.self c.make_calls.new.self
     _ c.look_up_in.new.look_up c.make_calls.new.look_up c.in_ok-value.value _ c.take_look_up-look_up.ensures.empty c.in_ok-look_up_in.ensures.looks c.in_ok-value.ensures.made told)
 
-
 -- RECORDED --------------------------------------------------------------------------------------------------------
 
 pub returns-in-Some-clause-recorded : goal.returns-in-Some-clause-recorded
@@ -98,7 +97,6 @@ returns-clause-recorded c =
     (use_recorded c.args.variable c.args.ty c.args.block c.args.func.now c.look_up_in.new.func c.make_calls.new.func c.take_look_up-look_up.new.self c.look_up_in.new.self c.make_calls.new.self
     _ c.look_up_in.new.look_up c.make_calls.new.look_up c.in_ok-value.value c.take_look_up-look_up.ensures.empty
     c.law_consistent.ensures named c.in_ok-look_up_in.ensures.looks c.in_ok-value.ensures.made c.make_calls.ensures.keeps.stay)
-
 
 -- REMEMBERS -------------------------------------------------------------------------------------------------------
 
@@ -124,7 +122,6 @@ returns-clause-remembers c =
           _ c.look_up_in.new.look_up c.make_calls.new.look_up c.in_ok-value.value c.take_look_up-look_up.ensures.empty
           c.law_consistent.ensures named c.in_ok-look_up_in.ensures.looks c.in_ok-value.ensures.made;
     })
-
 
 -- WHERE NOTHING LEADS TO THE BLOCK --------------------------------------------------------------------------------
 
@@ -175,7 +172,6 @@ returns-clause-structured c =
     c.args.variable c.args.ty c.args.block _ c.look_up_in.new.look_up c.make_calls.new.look_up c.in_ok-value.value c.take_look_up-look_up.ensures.empty
     c.law_consistent.ensures same before c.in_ok-look_up_in.ensures.looks c.in_ok-value.ensures.made)
 
-
 -- WHERE ZEROS COME ------------------------------------------------------------------------------------------------
 
 pub returns-in-Some-clause-within : goal.returns-in-Some-clause-within
@@ -195,7 +191,6 @@ returns-clause-within c =
     machine_within holds c.args.func.now c.look_up_in.new.func c.make_calls.new.func c.take_look_up-look_up.new.self c.look_up_in.new.self c.make_calls.new.self
     c.args.variable c.args.ty c.args.block _ c.look_up_in.new.look_up c.make_calls.new.look_up c.in_ok-value.value _ c.take_look_up-look_up.ensures.empty
     (leads_of holds c.args.func.now c.take_look_up-look_up.new.self named branches) held c.in_ok-look_up_in.ensures.looks c.in_ok-value.ensures.made told)
-
 
 -- HOW MUCH IS TAKEN -----------------------------------------------------------------------------------------------
 

@@ -1,9 +1,6 @@
 use Rattle.clif_ssa.proofs.Copying.{set-recorded, set-others, set-none_lost}
 use Rattle.clif_ssa.proofs.ssa_tables.SsaTables.copy_record.Goals as goal
 
-
-
-
 pub returns-clause-recorded : goal.returns-clause-recorded
 returns-clause-recorded c = rw (← c.self.view_is) (λ x b v is. set-recorded _ _ c.args.value v (c.set_each.ensures.part x b) is)
 
