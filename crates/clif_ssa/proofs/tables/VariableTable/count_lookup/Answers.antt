@@ -3,7 +3,7 @@ use Rattle.std.specs.Prelude.{slice_index_or}
 use Rattle.std.proofs.lemmas.Result.{err_from_is_err_and}
 use Rattle.std.proofs.lemmas.Grind.{common_steps}
 use Rattle.clif_ssa.specs.Tables.{Recorded}
-use Rattle.clif_ssa.specs.Cells.{recording, counting, ChangesCells, SameCells}
+use Rattle.clif_ssa.specs.Cells.{counting, ChangesCells, SameCells}
 use Rattle.clif_ssa.proofs.Using.{on_ok}
 use Rattle.clif_ssa.proofs.RecordLaws.{look_up_counted, count_records_none, recorded_kept, recorded_grown, either_way, on_err}
 use Rattle.clif_ssa.proofs.tables.VariableTable.count_lookup.Goals as goal

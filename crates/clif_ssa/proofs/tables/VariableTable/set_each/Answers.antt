@@ -1,11 +1,11 @@
-use Rattle.std.proofs.Common.{rules, ◌≡◌, ◌<◌, [], length, ap, subst, sym, inl, arith}
+use Rattle.std.proofs.Common.{rules, ◌≡◌, ◌<◌, [], length, ap, subst, inl, arith}
 use Rattle.std.specs.Prelude.{slice_index_or}
 use Rattle.std.proofs.lemmas.Result.{err_from_is_err_and}
 use Rattle.std.proofs.lemmas.Grind.{common_steps}
 use Rattle.clif_ir.specs.Reading.{stands_in}
 use Rattle.clif_ssa.specs.Tables.{Recorded}
 use Rattle.clif_ssa.specs.LookUp.{before_first}
-use Rattle.clif_ssa.specs.Cells.{recording, counting, ChangesCells, ChangesSome, SameCells}
+use Rattle.clif_ssa.specs.Cells.{recording, ChangesCells, ChangesSome}
 use Rattle.clif_ssa.proofs.Using.{on_ok}
 use Rattle.clif_ssa.proofs.RecordLaws.{value_recorded, value_may_be_recorded, some_count_none, recorded_grown}
 use Rattle.clif_ssa.proofs.tables.VariableTable.set_each.Goals as goal
