@@ -1,22 +1,17 @@
 -- A record is copied to blocks in turn.
-use Rattle.std.proofs.Common.{◌≡◌, ◌≢◌, ℕ, zero, suc, ◌<◌, ◌==◌, ◌&&◌, ◌||◌, Bool, true, false, List, [], ◌∷◌, ◌++◌, length, take, get_or, refl, ap, arith, sym, ◌∙◌, ◌⊎◌, inl, inr}
-use Rattle.std.specs.Prelude.{Option, Some, None, slice_index, if◌then◌else◌}
+use Rattle.std.proofs.Common.{◌≡◌, ◌≢◌, ℕ, zero, suc, ◌<◌, ◌==◌, ◌||◌, Bool, true, false, List, [], ◌∷◌, ◌++◌, length, take, get_or, refl, ap, arith, sym, ◌∙◌, ◌⊎◌, inl, inr}
+use Rattle.std.specs.Prelude.{Option, Some, None, slice_index, slice_index_or, if◌then◌else◌}
 use Rattle.std.proofs.lemmas.List.Folds.{list_any-append}
 use Rattle.std.proofs.lemmas.Grind.{common_steps}
 use Rattle.std.proofs.lemmas.Bool.{cases_eq}
 use Rattle.clif_ir.specs.Reading.{stands_in}
+use Rattle.clif_ssa.specs.declared.tables.Cell.{Cell}
+use Rattle.clif_ssa.specs.Cells.{no_cell, recording, ChangesCells, ChangesSome, SameCells, MayBeSet}
 use Rattle.clif_ssa.specs.LookUp.{before_first}
 
--- the second table is the first one with a value in some cells of one row
-pub record Copied (old new : ℕ → ℕ → Option ℕ) (x value : ℕ) (blocks : List ℕ) : Type 0 where
-  pub cell : (y b : ℕ) → new y b ≡ (if y == x && stands_in b blocks then Some value else old y b)
-
-pub copied-none : (old : ℕ → ℕ → Option ℕ) (x value : ℕ) → Copied old old x value []
-copied-none old x value = record { cell = λ y b. by (y == x) (old y b) }
-  where
-    by : (test : Bool) (cell : Option ℕ) → cell ≡ (if test && false then Some value else cell)
-    by true cell = refl
-    by false cell = refl
+-- in no blocks
+pub cells-none : (old : List Cell) (change : Cell → Cell) → ChangesCells old old change (λ b. stands_in b [])
+cells-none old change b = refl
 
 stands-further : (b c : ℕ) (blocks : List ℕ) → stands_in b (blocks ++ c ∷ []) ≡ (stands_in b blocks || (c == b))
 stands-further b c blocks = list_any-append (λ y. y == b) blocks (c ∷ []) ∙ ap (λ t. stands_in b blocks || t) (by (c == b))
@@ -25,49 +20,69 @@ stands-further b c blocks = list_any-append (λ y. y == b) blocks (c ∷ []) ∙
     by true = refl
     by false = refl
 
-pub copied-further : (old mid new : ℕ → ℕ → Option ℕ) (x value c : ℕ) (blocks : List ℕ) → Copied old mid x value blocks
-    → ((y b : ℕ) → new y b ≡ (if y == x && b == c then Some value else mid y b)) → Copied old new x value (blocks ++ c ∷ [])
-copied-further old mid new x value c blocks before step = record { cell = λ y b. step y b ∙ at y b ∙ ap (λ t. if y == x && t then Some value else old y b) (sym (stands-further b c blocks)) }
+-- in one more block
+pub cells-further : (old mid new : List Cell) (value c : ℕ) (blocks : List ℕ) → ChangesCells old mid (recording value) (λ b. stands_in b blocks)
+    → ChangesCells mid new (recording value) (λ b. b == c) → ChangesCells old new (recording value) (λ b. stands_in b (blocks ++ c ∷ []))
+cells-further old mid new value c blocks before step b =
+    step b ∙ ap (λ e. if b == c then recording value e else e) (before b)
+    ∙ by (stands_in b blocks) (b == c) (c == b) (slice_index_or old b no_cell) (turned b c)
+    ∙ ap (λ t. if t then recording value (slice_index_or old b no_cell) else slice_index_or old b no_cell) (sym (stands-further b c blocks))
   where
-    by : (row here last same : Bool) (cell : Option ℕ) → last ≡ same
-        → (if row && last then Some value else (if row && here then Some value else cell)) ≡ (if row && (here || same) then Some value else cell)
-    by false here last same cell is = refl
-    by true true true same cell is = refl
-    by true true false same cell is = refl
-    by true false true true cell is = refl
-    by true false true false cell is = absurd (let no : true ≡ false = is in cc)
-    by true false false true cell is = absurd (let no : false ≡ true = is in cc)
-    by true false false false cell is = refl
+    by : (here last same : Bool) (cell : Cell) → last ≡ same
+        → (if last then recording value (if here then recording value cell else cell) else (if here then recording value cell else cell)) ≡ (if here || same then recording value cell else cell)
+    by true true same cell is = refl
+    by true false same cell is = refl
+    by false true true cell is = refl
+    by false true false cell is = absurd (let no : true ≡ false = is in cc)
+    by false false true cell is = absurd (let no : false ≡ true = is in cc)
+    by false false false cell is = refl
 
     turned : (b c : ℕ) → (b == c) ≡ (c == b)
     turned b c = elim (cases_eq b c) [ inl same ↦ grind (arith, common_steps, same) | inr other ↦ grind (arith, common_steps, other) ]
 
-    at : (y b : ℕ) → (if y == x && b == c then Some value else mid y b) ≡ (if y == x && (stands_in b blocks || (c == b)) then Some value else old y b)
-    at y b = ap (λ cell. if y == x && b == c then Some value else cell) (before.cell y b) ∙ by (y == x) (stands_in b blocks) (b == c) (c == b) (old y b) (turned b c)
-
-same_some : {x y : ℕ} → ◌≡◌ {A = Option ℕ} (Some x) (Some y) → x ≡ y
-same_some same = cc
-
--- a cell holds what it held, or the value
-pub copied-cell : (old new : ℕ → ℕ → Option ℕ) (x value : ℕ) (blocks : List ℕ) → Copied old new x value blocks
-    → (y b v : ℕ) → new y b ≡ Some v → (old y b ≡ Some v) ⊎ (v ≡ value)
-copied-cell old new x value blocks copied y b v is = by (y == x && stands_in b blocks) (sym (copied.cell y b) ∙ is)
+stands-taken : (b k : ℕ) (xs : List ℕ) → stands_in b (take k xs) ≡ true → stands_in b xs ≡ true
+stands-taken b zero [] is = is
+stands-taken b zero (x ∷ xs) is = absurd (let no : false ≡ true = is in cc)
+stands-taken b (suc k) [] is = is
+stands-taken b (suc k) (x ∷ xs) is = by (x == b) is (λ later. stands-taken b k xs later)
   where
-    by : (test : Bool) → (if test then Some value else old y b) ≡ Some v → (old y b ≡ Some v) ⊎ (v ≡ value)
-    by true at = inr (sym (same_some at))
-    by false at = inl at
+    by : (test : Bool) → (test || stands_in b (take k xs)) ≡ true → (stands_in b (take k xs) ≡ true → stands_in b xs ≡ true) → (test || stands_in b xs) ≡ true
+    by true at rest = refl
+    by false at rest = rest at
 
-some_none : {x : ℕ} → ◌≡◌ {A = Option ℕ} (Some x) None → ⊥
-some_none same = cc
-
--- no cell is emptied
-pub copied-kept : (old new : ℕ → ℕ → Option ℕ) (x value : ℕ) (blocks : List ℕ) → Copied old new x value blocks
-    → (y b : ℕ) → new y b ≡ None → old y b ≡ None
-copied-kept old new x value blocks copied y b none = by (y == x && stands_in b blocks) (sym (copied.cell y b) ∙ none)
+-- the first blocks are some of them
+pub cells-some : (old new : List Cell) (change : Cell → Cell) (k : ℕ) (blocks : List ℕ) → ChangesCells old new change (λ b. stands_in b (take k blocks))
+    → ChangesSome old new change (λ b. stands_in b blocks)
+cells-some old new change k blocks changed b = by (stands_in b (take k blocks)) refl
   where
-    by : (test : Bool) → (if test then Some value else old y b) ≡ None → old y b ≡ None
-    by true at = absurd (some_none at)
-    by false at = at
+    by : (test : Bool) → stands_in b (take k blocks) ≡ test
+        → (slice_index_or new b no_cell ≡ slice_index_or old b no_cell)
+        ⊎ ((stands_in b blocks ≡ true) × (slice_index_or new b no_cell ≡ change (slice_index_or old b no_cell)))
+    by true is = inr (stands-taken b k blocks is, changed b ∙ ap (λ t. if t then change (slice_index_or old b no_cell) else slice_index_or old b no_cell) is)
+    by false is = inl (changed b ∙ ap (λ t. if t then change (slice_index_or old b no_cell) else slice_index_or old b no_cell) is)
+
+pub cells-then_same : (old mid new : List Cell) (change : Cell → Cell) (test : ℕ → Bool) → ChangesSome old mid change test → SameCells mid new → ChangesSome old new change test
+cells-then_same old mid new change test some same b =
+    elim (some b) [ inl kept ↦ inl (same b ∙ kept) | inr there ↦ inr (there.0, same b ∙ there.1) ]
+
+-- what may be set has what it had, or the value, and isn't emptied
+pub set-recorded : {P : Type 0} (old new : Option ℕ) (value v : ℕ) → MayBeSet old new value P → new ≡ Some v → (old ≡ Some v) ⊎ (v ≡ value)
+set-recorded old new value v (inl same) is = inl (sym same ∙ is)
+set-recorded old new value v (inr there) is = inr (same_some (sym is ∙ there.1))
+  where
+    same_some : {x y : ℕ} → ◌≡◌ {A = Option ℕ} (Some x) (Some y) → x ≡ y
+    same_some same = cc
+
+pub set-others : {P : Type 0} (old new : Option ℕ) (value : ℕ) → MayBeSet old new value P → (new ≡ old) ⊎ P
+set-others old new value (inl same) = inl same
+set-others old new value (inr there) = inr there.0
+
+pub set-none_lost : {P : Type 0} (old new : Option ℕ) (value : ℕ) → MayBeSet old new value P → new ≡ None → old ≡ None
+set-none_lost old new value (inl same) none = sym same ∙ none
+set-none_lost old new value (inr there) none = absurd (some_none (sym there.1 ∙ none))
+  where
+    some_none : {x : ℕ} → ◌≡◌ {A = Option ℕ} (Some x) None → ⊥
+    some_none same = cc
 
 pub before-all : (x : ℕ) (xs : List ℕ) → ((k : ℕ) → k < length xs → slice_index xs k ≢ x) → before_first x xs ≡ xs
 before-all x [] none = refl
@@ -90,4 +105,4 @@ before-passed x (suc k) (y ∷ xs) inside at none =
     let other : y ≢ x = none 0 (omega arith) in
     grind (arith, common_steps, rest, other)
 
-pub ruleset copying_rules = (copied-none, copied-further, copied-cell, copied-kept, before-passed, before-all)
+pub ruleset copying_rules = (cells-none, cells-further, before-passed, before-all)

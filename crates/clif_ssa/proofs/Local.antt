@@ -1,18 +1,15 @@
 -- A variable that is used where the value is found in its block alone.
-use Rattle.std.proofs.Common.{◌≡◌, ℕ, zero, suc, ◌+◌, ◌==◌, ◌&&◌, ◌||◌, Bool, true, false, List, [], ◌∷◌, ◌++◌, length, take, refl, ap, arith, sym, ◌∙◌, subst, ◌⊎◌, inl, inr}
-use Rattle.std.specs.Prelude.{Option, Some, Contains, MatchOption, if◌then◌else◌}
+use Rattle.std.proofs.Common.{◌≡◌, ℕ, ◌+◌, List, [], ◌∷◌, ◌++◌, length, refl, ap, sym, ◌∙◌, subst, inl}
+use Rattle.std.specs.Prelude.{Some, Contains, MatchOption}
 use Rattle.std.specs.Option.{option_to_list}
-use Rattle.std.proofs.lemmas.Grind.{common_steps}
-use Rattle.std.proofs.lemmas.Bool.{cases_eq}
 use Rattle.clif_types.specs.declared.types.«Type».{«Type»}
 use Rattle.clif_ir.specs.Body.{Body, value_at}
 use Rattle.clif_ir.specs.Changes.{with_param}
-use Rattle.clif_ir.specs.Reading.{param_home, stands_in}
+use Rattle.clif_ir.specs.Reading.{param_home}
 use Rattle.clif_ssa.specs.Tables.{pending_of}
 use Rattle.clif_ssa.specs.Ssa.{SsaState, NamesExist, HasMore, Records, SameBlocks, SamePredecessors, SameRecords, Zeroes, zeroed, zeroed_in, zero_value}
 use Rattle.clif_ssa.proofs.Naming.{named-more, param_more, param-named}
 use Rattle.clif_ssa.proofs.Parameters.{param_home_new}
-use Rattle.clif_ssa.proofs.Copying.{Copied}
 use Rattle.clif_ssa.proofs.ZeroSteps.{param_zero_value}
 use Rattle.clif_ssa.specs.Zeros.{steps_before}
 
@@ -63,32 +60,3 @@ pub param-zero-told : (f g : Body) (b v : ℕ) (ty : «Type») (old new : List �
     → old ≡ [] → new ≡ old ++ option_to_list (param_home g v) → new ≡ b ∷ []
 param-zero-told f g b v ty old new is number nothing told =
     told ∙ ap (λ xs. xs ++ option_to_list (param_home g v)) nothing ∙ ap (λ o. option_to_list o) (param_there f g b v ty is number)
-
--- COPIES ----------------------------------------------------------------------------------------------------------
-
-stands-taken : (b k : ℕ) (xs : List ℕ) → stands_in b (take k xs) ≡ true → stands_in b xs ≡ true
-stands-taken b zero [] is = is
-stands-taken b zero (x ∷ xs) is = absurd (let no : false ≡ true = is in cc)
-stands-taken b (suc k) [] is = is
-stands-taken b (suc k) (x ∷ xs) is = by (x == b) is (λ later. stands-taken b k xs later)
-  where
-    by : (test : Bool) → (test || stands_in b (take k xs)) ≡ true → (stands_in b (take k xs) ≡ true → stands_in b xs ≡ true) → (test || stands_in b xs) ≡ true
-    by true at rest = refl
-    by false at rest = rest at
-
--- a record that isn't as before is of the variable, in one of the blocks
-pub copied-others : (old new : ℕ → ℕ → Option ℕ) (x value k : ℕ) (passed : List ℕ) → Copied old new x value (take k passed)
-    → (y b : ℕ) → (new y b ≡ old y b) ⊎ ((y ≡ x) × (stands_in b passed ≡ true))
-copied-others old new x value k passed copied y b =
-    elim (cases_eq y x) [
-      | inl same ↦ by same (stands_in b (take k passed)) refl
-      | inr apart ↦ inl (copied.cell y b ∙ grind (arith, common_steps, apart))
-    ]
-  where
-    by : y ≡ x → (test : Bool) → stands_in b (take k passed) ≡ test → (new y b ≡ old y b) ⊎ ((y ≡ x) × (stands_in b passed ≡ true))
-    by same true is = inr (same, stands-taken b k passed is)
-    by same false is = inl (copied.cell y b ∙ ap (λ t. if y == x && t then Some value else old y b) is ∙ off (y == x))
-      where
-        off : (test : Bool) → (if test && false then Some value else old y b) ≡ old y b
-        off true = refl
-        off false = refl

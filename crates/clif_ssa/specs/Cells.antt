@@ -1,8 +1,8 @@
 -- How `src/tables.rt` keeps the records: a row for each variable, with a cell for each block. Source: own.
-use Rattle.std.specs.Prelude.{ℕ, suc, ◌==◌, ◌&&◌, Bool, List, [], ◌∷◌, None, is_none, slice_index_or, if◌then◌else◌}
+use Rattle.std.specs.Prelude.{◌≡◌, ℕ, suc, ◌==◌, ◌&&◌, ◌⊎◌, Bool, true, List, [], ◌∷◌, Option, Some, None, is_none, slice_index_or, if◌then◌else◌}
 use Rattle.std.specs.FinMap as map
 use Rattle.clif_ssa.specs.declared.tables.Cell.{Cell}
-use Rattle.clif_ssa.specs.Tables.{Recorded, RecordMap}
+use Rattle.clif_ssa.specs.Tables.{Recorded, RecordMap, one_more}
 
 -- the cell of a block of which nothing is known
 abbrev pub no_cell : Cell
@@ -16,6 +16,30 @@ recorded_in cell = record { value = cell.value; lookups = cell.lookups }
 
 abbrev pub cell_at : List (List Cell) → ℕ → ℕ → Cell
 cell_at rows variable block = slice_index_or (slice_index_or rows variable []) block no_cell
+
+abbrev pub recording : ℕ → Cell → Cell
+recording value cell = record cell { value = Some value }
+
+abbrev pub counting : Cell → Cell
+counting cell = record cell { lookups = one_more cell.lookups }
+
+abbrev pub SameCells : List Cell → List Cell → Type 0
+SameCells old new = (b : ℕ) → slice_index_or new b no_cell ≡ slice_index_or old b no_cell
+
+-- the cells of these blocks are changed, and the others are as before
+abbrev pub ChangesCells : List Cell → List Cell → (Cell → Cell) → (ℕ → Bool) → Type 0
+ChangesCells old new change test =
+    (b : ℕ) → slice_index_or new b no_cell ≡ (if test b then change (slice_index_or old b no_cell) else slice_index_or old b no_cell)
+
+-- some of the cells of these blocks are changed, and the others are as before
+abbrev pub ChangesSome : List Cell → List Cell → (Cell → Cell) → (ℕ → Bool) → Type 0
+ChangesSome old new change test =
+    (b : ℕ) → (slice_index_or new b no_cell ≡ slice_index_or old b no_cell)
+    ⊎ ((test b ≡ true) × (slice_index_or new b no_cell ≡ change (slice_index_or old b no_cell)))
+
+-- a record is as before, or is this value, and then this holds
+abbrev pub MayBeSet : Option ℕ → Option ℕ → ℕ → Type 0 → Type 0
+MayBeSet old new value P = (new ≡ old) ⊎ (P × (new ≡ Some value))
 
 -- the records with what this cell says; one that says nothing is no entry
 abbrev pub with_cell : ℕ → ℕ → Cell → RecordMap → RecordMap

@@ -6,6 +6,7 @@ ghost use Rattle.clif_ssa.specs.LookUp.{no_look_up, calls_for};
 use clif_types::{Block, BuildError, Inst, Value};
 use std::alloc::Global;
 use std::marker::Model;
+use std::mem;
 
 /// A call of the machine that looks a variable up.
 #[derive(Clone, Copy, Debug, PartialEq, Eq)]
@@ -123,10 +124,20 @@ impl LookUp {
         Ok(())
     }
 
-    /// The blocks of the zeros that were put, in order.
-    pub(crate) fn into_zeros(self) -> Vec<Block>
-        ensures { result.items ≡ self.zeros }
+    /// Forgets all, and keeps the room of the stacks.
+    pub(crate) fn clear(&mut self)
+        ensures { self.new ≡ no_look_up }
     {
-        self.zeros
+        self.calls.clear();
+        self.results.clear();
+        self.zeros.clear();
+    }
+
+    /// Takes the blocks of the zeros that were put, in order.
+    pub(crate) fn take_zeros(&mut self) -> Vec<Block>
+        ensures { result.items ≡ self.old.zeros }
+    {
+        let alloc = *self.zeros.allocator();
+        mem::replace(&mut self.zeros, Vec::new(alloc))
     }
 }

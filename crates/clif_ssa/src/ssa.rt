@@ -25,7 +25,7 @@ use crate::ending::finish_look_up;
 use crate::look_up::{Call, LookUp};
 use crate::passed::PassedBlocks;
 use crate::side_effects::SideEffects;
-use crate::ssa_tables::SsaTables;
+use crate::ssa_tables::{Reached, SsaTables};
 use crate::tables::Pending;
 use crate::variable::Variable;
 use crate::zeros::replace_by_zero;
@@ -33,6 +33,7 @@ use clif_ir::Function;
 use clif_types::{Block, BuildError, EntityRef, Inst, Type, Value};
 use std::alloc::Global;
 use std::marker::Model;
+use std::mem;
 
 /// The builder of SSA form: which value each variable has in each block.
 #[derive(Debug, Drop)]
@@ -41,6 +42,8 @@ pub struct SSABuilder {
     tables: SsaTables,
     // The blocks that the last walk passed: room that each walk uses again.
     passed: PassedBlocks,
+    // The stacks of the last look-up: room that each one uses again.
+    look_up: LookUp,
 }
 
 impl Model for SSABuilder {
@@ -63,6 +66,7 @@ impl SSABuilder {
             alloc,
             tables: SsaTables::new(alloc),
             passed: PassedBlocks::new(alloc),
+            look_up: LookUp::new(alloc),
         }
     }
 
@@ -238,16 +242,38 @@ impl SSABuilder {
         if self.tables.is_local(block) {
             return self.use_locally(func, variable, ty, block);
         }
-        let mut look_up = LookUp::new(self.alloc);
+        let mut look_up = self.take_look_up();
         self.look_up_in(func, variable, ty, block, &mut look_up)?;
         let value = self.make_calls(func, variable, ty, &mut look_up)?;
-        let instructions_added_to_blocks = look_up.into_zeros();
+        let instructions_added_to_blocks = self.give_back(look_up);
         Ok((
             value,
             SideEffects {
                 instructions_added_to_blocks,
             },
         ))
+    }
+
+    // The stacks of a look-up, with nothing on them. Where they aren't given back, the next look-up takes
+    // new ones.
+    fn take_look_up(&mut self) -> LookUp
+        ensures empty { result ≡ no_look_up }
+        ensures kept { self.new ≡ self.old }
+    {
+        let mut look_up = mem::replace(&mut self.look_up, LookUp::new(self.alloc));
+        look_up.clear();
+        look_up
+    }
+
+    // Gives the stacks back, and answers the blocks of the zeros that were put.
+    fn give_back(&mut self, look_up: LookUp) -> Vec<Block>
+        ensures zeros { result.items ≡ look_up.zeros }
+        ensures kept { self.new ≡ self.old }
+    {
+        let mut look_up = look_up;
+        let zeros = look_up.take_zeros();
+        self.look_up = look_up;
+        zeros
     }
 
     // The value of a variable that isn't recorded in a block which is unsealed or has no predecessors.
@@ -286,11 +312,12 @@ impl SSABuilder {
     {
         func.law_consistent();
         let reached = self.tables.walk(func, variable, block, &mut self.passed)?;
+        let Reached { block, recorded } = reached;
         let value = self
             .tables
-            .record_or_parameter(func, variable, ty, reached, look_up)?;
+            .record_or_parameter(func, variable, ty, block, recorded, look_up)?;
         self.tables
-            .copy_record(variable, value, &self.passed, reached)
+            .copy_record(variable, value, &self.passed, block)
     }
 
     // Makes calls until none is left, and answers the one result.
@@ -438,9 +465,9 @@ impl SSABuilder {
         if !self.tables.has_any_predecessors(block) {
             return self.complete_locally(func, block, waiting.as_slice());
         }
-        let mut look_up = LookUp::new(self.alloc);
+        let mut look_up = self.take_look_up();
         self.complete_all(func, block, waiting.as_slice(), &mut look_up)?;
-        let instructions_added_to_blocks = look_up.into_zeros();
+        let instructions_added_to_blocks = self.give_back(look_up);
         Ok(SideEffects {
             instructions_added_to_blocks,
         })

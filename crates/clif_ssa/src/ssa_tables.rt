@@ -22,6 +22,14 @@ use clif_types::{Block, BuildError, Inst, Type, Value};
 use std::alloc::Global;
 use std::marker::Model;
 
+/// Where a walk ended.
+#[derive(Clone, Copy, Debug)]
+pub struct Reached {
+    pub block: Block,
+    /// The record of the variable there.
+    pub recorded: Option<Value>,
+}
+
 /// What the construction knows of each variable in each block, and of each block.
 #[derive(Debug, Drop)]
 pub struct SsaTables {
@@ -216,11 +224,8 @@ impl SsaTables {
         ensures exists { IfSome result (λ b. b < length func.now.blocks) }
         ensures known { result ≢ None → block < length self.now.blocks }
     {
-        if !self.blocks.is_sealed(block) {
-            return None;
-        }
         func.law_consistent();
-        match self.blocks.predecessors(block) {
+        match self.blocks.sealed_predecessors(block) {
             [branch] => func.inst_block(*branch),
             _ => None,
         }
@@ -236,16 +241,20 @@ impl SsaTables {
         variable: Variable,
         block: Block,
         passed: &mut PassedBlocks,
-    ) -> Result<Block, BuildError>
+    ) -> Result<Reached, BuildError>
         requires exists { block < length func.now.blocks }
         requires named { Named func.now self.now }
-        ensures ok { IfOk result (λ reached. WalksTo func.now self.now variable block passed.new reached) }
-        ensures exists { IfOk result (λ reached. reached < length func.now.blocks) }
+        ensures ok { IfOk result
+            (λ reached. WalksTo func.now self.now variable block passed.new reached.block) }
+        ensures exists { IfOk result (λ reached. reached.block < length func.now.blocks) }
+        ensures recorded { IfOk result (λ reached. reached.recorded ≡
+            record_of self.now variable reached.block) }
         ensures only_memory { OnErr result (result ≡ Err BuildError.Memory) }
     {
         passed.clear();
         let mut reached = block;
-        while self.variables.get(variable, reached).is_none() {
+        let mut recorded = self.record_at(variable, reached);
+        while recorded.is_none() {
             let Some(before) = self.single_predecessor(func, reached) else {
                 break;
             };
@@ -254,11 +263,14 @@ impl SsaTables {
             }
             passed.push(reached)?;
             reached = before;
+            recorded = self.record_at(variable, reached);
         }
-        Ok(reached)
+        Ok(Reached {
+            block: reached,
+            recorded,
+        })
     }
 
-    #[tactic(auto, using(crate::proofs::Copying::copying_rules))]
     /// Records a value for a variable in the blocks passed, up to the first `from` among them.
     ///
     /// The only error is `Memory`. Some blocks may have the record then.
@@ -277,13 +289,8 @@ impl SsaTables {
         ensures none_lost { (x b : ℕ) → record_of self.new x b ≡ None → record_of self.old x b ≡ None }
         ensures only_memory { OnErr result (result ≡ Err BuildError.Memory) }
     {
-        for block in passed.as_slice().iter() {
-            if *block == from {
-                break;
-            }
-            self.variables.set(variable, *block, value)?;
-        }
-        Ok(())
+        self.variables
+            .set_each(variable, passed.as_slice(), from, value)
     }
 
     /// Begins the look-up of a variable in the predecessors of a block, for a parameter of it.
@@ -381,22 +388,25 @@ impl SsaTables {
         Ok(param)
     }
 
-    /// The record of a variable in a block, which is a result then, or a new parameter of the block.
+    /// The record of a variable in a block, which is a result then, or where there is none a new parameter
+    /// of the block.
     pub(crate) fn record_or_parameter(
         &mut self,
         func: &mut Function,
         variable: Variable,
         ty: Type,
         block: Block,
+        recorded: Option<Value>,
         look_up: &mut LookUp,
     ) -> Result<Value, BuildError>
         requires exists { block < length func.old.blocks }
+        requires at_hand { recorded ≡ record_of self.old variable block }
         ensures got { IfOk result (λ v. Got variable ty block v (stage func.old self.old look_up.old) (stage func.new self.new look_up.new)) }
         ensures keeps { StepKeeps variable func.old self.old func.new self.new }
         ensures tells { OnOk result (TellsMore func.old func.new look_up.old.zeros look_up.new.zeros) }
         ensures ends { StepEnds func.new result }
     {
-        if let Some(value) = self.record_at(variable, block) {
+        if let Some(value) = recorded {
             look_up.push_result(value)?;
             return Ok(value);
         }

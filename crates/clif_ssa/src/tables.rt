@@ -1,10 +1,11 @@
 //! Tables of the construction: the records of a variable, the branches that lead to a block, and the
 //! parameters that wait in it.
-ghost use Rattle.std.specs.Prelude.{◌≡◌, ◌==◌, ◌&&◌, ◌↔◌, IsTrue, false, ℕ, [], ◌∷◌, ◌++◌, ◌<◌, ◌≤◌, ◌+◌, ◌⊎◌, ◌^◌, length, OnOk, OnErr, IfOk, Some, None, if◌then◌else◌, slice_index_or};
+ghost use Rattle.std.specs.Prelude.{◌≡◌, ◌==◌, ◌&&◌, ◌↔◌, IsTrue, true, false, ℕ, [], ◌∷◌, ◌++◌, ◌<◌, ◌≤◌, ◌+◌, ◌⊎◌, ◌^◌, length, OnOk, OnErr, IfOk, Some, None, if◌then◌else◌, slice_index_or};
 ghost use Rattle.clif_ir.specs.Consistent.{Stands};
-ghost use Rattle.clif_ir.specs.Reading.{place_of, without};
+ghost use Rattle.clif_ir.specs.Reading.{place_of, stands_in, without};
+ghost use Rattle.clif_ssa.specs.LookUp.{before_first};
 ghost use Rattle.std.specs.FinMap as map;
-ghost use Rattle.clif_ssa.specs.Cells.{no_cell, is_no_cell, recorded_in};
+ghost use Rattle.clif_ssa.specs.Cells.{no_cell, is_no_cell, recorded_in, recording, counting, cell_at, ChangesCells, ChangesSome, SameCells, MayBeSet};
 ghost use Rattle.clif_ssa.specs.Tables.{recorded_at, record_at, lookups_at, one_more, known_at, sealed_at, predecessors_at, is_yes, pending_of};
 
 use crate::variable::Variable;
@@ -86,17 +87,65 @@ impl Records {
         true
     }
 
-    /// Sets the cell of a block. After an error each cell is as it was.
-    pub(crate) fn set(&mut self, block: Block, cell: Cell) -> Result<(), BuildError>
-        ensures ok { OnOk result ((b : ℕ) → slice_index_or self.new b no_cell ≡ (if b == block then cell else slice_index_or self.old b no_cell)) }
-        ensures err { OnErr result ((b : ℕ) → slice_index_or self.new b no_cell ≡ slice_index_or self.old b no_cell) }
+    // Makes room for a block. What is known in each block stays.
+    fn reach(&mut self, block: Block) -> Result<(), BuildError>
+        ensures same { (b : ℕ) → slice_index_or self.new b no_cell ≡
+            slice_index_or self.old b no_cell }
+        ensures ok { OnOk result (block < length self.new) }
         ensures only_memory { OnErr result (result ≡ Err BuildError.Memory) }
     {
         let missing = (block.index() + 1).saturating_sub(self.cells.len());
         for _ in 0..missing {
             self.cells.push(NO_CELL)?;
         }
-        self.cells[block.index()] = cell;
+        Ok(())
+    }
+
+    /// Records a value in a block. After an error each cell is as it was.
+    pub(crate) fn record(&mut self, block: Block, value: Value) -> Result<(), BuildError>
+        ensures ok { OnOk result (ChangesCells self.old self.new (recording value)
+            (λ b. b == block)) }
+        ensures err { OnErr result (SameCells self.old self.new) }
+        ensures only_memory { OnErr result (result ≡ Err BuildError.Memory) }
+    {
+        self.reach(block)?;
+        self.cells[block.index()].value = Some(value);
+        Ok(())
+    }
+
+    /// Counts a look-up in a block's predecessors. After an error each cell is as it was.
+    pub(crate) fn count_lookup(&mut self, block: Block) -> Result<(), BuildError>
+        ensures ok { OnOk result (ChangesCells self.old self.new counting (λ b. b == block)) }
+        ensures err { OnErr result (SameCells self.old self.new) }
+        ensures only_memory { OnErr result (result ≡ Err BuildError.Memory) }
+    {
+        self.reach(block)?;
+        let lookups = self.cells[block.index()].lookups;
+        self.cells[block.index()].lookups = lookups.saturating_add(1);
+        Ok(())
+    }
+
+    #[tactic(auto, using(crate::proofs::Copying::copying_rules))]
+    /// Records a value in these blocks, up to the first `from` among them. After an error it may be
+    /// recorded in some.
+    pub(crate) fn record_each(
+        &mut self,
+        blocks: &[Block],
+        from: Block,
+        value: Value,
+    ) -> Result<(), BuildError>
+        ensures ok { OnOk result (ChangesCells self.old self.new (recording value)
+            (λ b. stands_in b (before_first from blocks.now))) }
+        ensures part { ChangesSome self.old self.new (recording value)
+            (λ b. stands_in b blocks.now) }
+        ensures only_memory { OnErr result (result ≡ Err BuildError.Memory) }
+    {
+        for block in blocks.iter() {
+            if *block == from {
+                break;
+            }
+            self.record(*block, value)?;
+        }
         Ok(())
     }
 }
@@ -221,24 +270,6 @@ impl VariableTable {
         self.cell(variable, block).lookups
     }
 
-    #[tactic(auto, using(crate::proofs::RecordLaws::record_rules))]
-    // Sets what is known of a variable in a block. After an error all is as it was.
-    fn set_cell(&mut self, variable: Variable, block: Block, cell: Cell) -> Result<(), BuildError>
-        ensures ok { OnOk result ((v b : ℕ) → recorded_at self.new v b ≡
-            (if v == variable && b == block then recorded_in cell else recorded_at self.old v b)) }
-        ensures err { OnErr result ((v b : ℕ) →
-            recorded_at self.new v b ≡ recorded_at self.old v b) }
-        ensures only_memory { OnErr result (result ≡ Err BuildError.Memory) }
-    {
-        let alloc = *self.rows.allocator();
-        let missing = (variable.index() + 1).saturating_sub(self.rows.len());
-        for _ in 0..missing {
-            self.rows.push(Records::new(alloc))?;
-        }
-        self.rows[variable.index()].set(block, cell)?;
-        Ok(())
-    }
-
     /// Records a value for a variable in a block. After an error each record is as it was.
     pub(crate) fn set(
         &mut self,
@@ -251,12 +282,29 @@ impl VariableTable {
         ensures err { OnErr result ((v b : ℕ) → record_at self.new v b ≡ record_at self.old v b) }
         ensures only_memory { OnErr result (result ≡ Err BuildError.Memory) }
     {
-        let lookups = self.lookups(variable, block);
-        let cell = Cell {
-            value: Some(value),
-            lookups,
-        };
-        self.set_cell(variable, block, cell)
+        reach_row(&mut self.rows, variable)?;
+        self.rows[variable.index()].record(block, value)
+    }
+
+    /// Records a value for a variable in these blocks, up to the first `from` among them. After an error
+    /// it may be recorded in some.
+    pub(crate) fn set_each(
+        &mut self,
+        variable: Variable,
+        blocks: &[Block],
+        from: Block,
+        value: Value,
+    ) -> Result<(), BuildError>
+        ensures ok { OnOk result ((v b : ℕ) → record_at self.new v b ≡
+            (if v == variable && stands_in b (before_first from blocks.now) then Some value
+            else record_at self.old v b)) }
+        ensures part { (v b : ℕ) → MayBeSet (record_at self.old v b)
+            (record_at self.new v b) value ((v ≡ variable) × (stands_in b blocks.now ≡ true)) }
+        ensures lookups { (v b : ℕ) → lookups_at self.new v b ≡ lookups_at self.old v b }
+        ensures only_memory { OnErr result (result ≡ Err BuildError.Memory) }
+    {
+        reach_row(&mut self.rows, variable)?;
+        self.rows[variable.index()].record_each(blocks, from, value)
     }
 
     /// Counts a look-up of a variable in a block's predecessors. After an error each count is as it was.
@@ -270,10 +318,24 @@ impl VariableTable {
         ensures err { OnErr result ((v b : ℕ) → lookups_at self.new v b ≡ lookups_at self.old v b) }
         ensures only_memory { OnErr result (result ≡ Err BuildError.Memory) }
     {
-        let Cell { value, lookups } = self.cell(variable, block);
-        let lookups = lookups.saturating_add(1);
-        self.set_cell(variable, block, Cell { value, lookups })
+        reach_row(&mut self.rows, variable)?;
+        self.rows[variable.index()].count_lookup(block)
     }
+}
+
+#[tactic(auto, using(crate::proofs::RecordLaws::record_rules))]
+// Makes room for a variable. What is known of each variable stays.
+fn reach_row(rows: &mut Vec<Records>, variable: Variable) -> Result<(), BuildError>
+    ensures same { (v b : ℕ) → cell_at rows.new.items v b ≡ cell_at rows.old.items v b }
+    ensures ok { OnOk result (variable < length rows.new.items) }
+    ensures only_memory { OnErr result (result ≡ Err BuildError.Memory) }
+{
+    let alloc = *rows.allocator();
+    let missing = (variable.index() + 1).saturating_sub(rows.len());
+    for _ in 0..missing {
+        rows.push(Records::new(alloc))?;
+    }
+    Ok(())
 }
 
 /// Whether a block is sealed.
@@ -428,6 +490,22 @@ impl BlockTable {
         match self.blocks.get(block.index()) {
             Some(known) => known.predecessors.as_slice(),
             None => &[],
+        }
+    }
+
+    /// The branches that lead to a sealed block. Of an unsealed one none is answered.
+    pub(crate) fn sealed_predecessors(&self, block: Block) -> &[Inst]
+        ensures { result.now ≡ (if is_yes (sealed_at self.now block)
+            then predecessors_at self.now block else []) }
+    {
+        match self.blocks.get(block.index()) {
+            Some(
+                SsaBlock {
+                    sealed: Sealed::Yes,
+                    predecessors,
+                },
+            ) => predecessors.as_slice(),
+            _ => &[],
         }
     }
 

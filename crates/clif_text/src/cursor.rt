@@ -64,7 +64,8 @@ impl<'w, 'a> Cursor<'w, 'a> {
 
     /// Takes the next word if it is a type.
     pub(crate) fn take_type(&mut self) -> Option<Type>
-        ensures some { IfSome result (λ ty. (word : List ℕ) × (words_left self.old ≡ word ∷ words_left self.new) × IsTypeWord word ty) }
+        ensures some { IfSome result (λ ty. (word : List ℕ) × (words_left self.old ≡
+            word ∷ words_left self.new) × IsTypeWord word ty) }
         ensures none { IfNone result (words_left self.new ≡ words_left self.old) }
     {
         let ty = type_named(self.words.get(self.taken)?)?;

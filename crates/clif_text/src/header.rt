@@ -50,7 +50,8 @@ impl Header {
         head: &'a str,
         rest: &[&'a str],
     ) -> Result<(), LineError<'a>>
-        ensures { OnOk result (IsHeader (head.now ∷ texts rest.now) (header_said self.old) (header_said self.new)) }
+        ensures { OnOk result (IsHeader (head.now ∷ texts rest.now) (header_said self.old)
+            (header_said self.new)) }
     {
         match head {
             "function" => keep(&mut self.function, function_of(alloc, rest)?, head),
@@ -156,7 +157,8 @@ fn user_name(word: &str) -> Option<UserExternalName>
 
 // The types that come next, each as a parameter.
 fn take_types<'a>(alloc: Global, words: &mut Cursor<'_, 'a>) -> Result<Vec<AbiParam>, LineError<'a>>
-    ensures { IfOk result (λ params. (taken : List (List ℕ)) × (words_left words.old ≡ taken ++ words_left words.new) × AreTypes taken params.items) }
+    ensures { IfOk result (λ params. (taken : List (List ℕ)) × (words_left words.old ≡
+        taken ++ words_left words.new) × AreTypes taken params.items) }
 {
     let mut params = Vec::new(alloc);
     while let Some(ty) = words.take_type() {
@@ -170,7 +172,8 @@ fn take_params<'a>(
     alloc: Global,
     words: &mut Cursor<'_, 'a>,
 ) -> Result<Vec<AbiParam>, LineError<'a>>
-    ensures { IfOk result (λ params. (taken : List (List ℕ)) × (words_left words.old ≡ codes "(" ∷ (taken ++ (codes ")" ∷ words_left words.new))) × AreTypes taken params.items) }
+    ensures { IfOk result (λ params. (taken : List (List ℕ)) × (words_left words.old ≡
+        codes "(" ∷ (taken ++ (codes ")" ∷ words_left words.new))) × AreTypes taken params.items) }
 {
     if !words.skips("(") {
         return Err(LineError::wanted(Expected::Open));
@@ -188,7 +191,8 @@ fn take_returns<'a>(
     alloc: Global,
     words: &mut Cursor<'_, 'a>,
 ) -> Result<Vec<AbiParam>, LineError<'a>>
-    ensures { IfOk result (λ params. (taken : List (List ℕ)) × (words_left words.old ≡ taken ++ words_left words.new) × AreReturned taken params.items) }
+    ensures { IfOk result (λ params. (taken : List (List ℕ)) × (words_left words.old ≡
+        taken ++ words_left words.new) × AreReturned taken params.items) }
 {
     if !words.skips("->") {
         return Ok(Vec::new(alloc));

@@ -3,7 +3,10 @@ use Rattle.std.specs.Prelude.{Contains}
 use Rattle.std.proofs.lemmas.Grind.{common_steps}
 use Rattle.std.proofs.lemmas.Result.{err_from_is_err_and}
 use Rattle.clif_ssa.specs.Tables.{pending_of, record_at}
-use Rattle.clif_ssa.specs.Ssa.{NamesExist, sealed_of, predecessors_of}
+use Rattle.clif_ssa.specs.Ssa.{SsaState, NamesExist, sealed_of, predecessors_of}
+use Rattle.clif_ssa.specs.Running.{stage, CompletesAll, ToComplete}
+use Rattle.clif_ssa.specs.Steps.{StepLeaves}
+use Rattle.clif_ssa.specs.Structure.{LooksOnce}
 use Rattle.clif_ssa.proofs.SealSteps.{failed_makes, local_keeps, local_makes, looked_keeps, looked_makes, refused_keeps, refused_makes}
 use Rattle.clif_ssa.proofs.Steps.{ends_as, ends_memory, ends_ok, ends_zeros}
 use Rattle.clif_ssa.proofs.Waited.{leading-named, sealed-named}
@@ -12,9 +15,10 @@ use Rattle.clif_ssa.proofs.ssa.SSABuilder.seal_one_block.Goals as goal
 pub complete_all-requires-clause-named : goal.complete_all-requires-clause-named
 complete_all-requires-clause-named c =
     let some : predecessors_of c.seal.new.self c.args.block ≢ [] = first_of (search rules, grind (arith, common_steps)) in
-    sealed-named c.args.func.now c.self.inside.tables c.seal.new.self c.args.block c.in_ok-waiting.ensures.ok
+    rw (c.take_look_up-look_up.ensures.kept)
+    (sealed-named c.args.func.now c.self.inside.tables c.seal.new.self c.args.block c.in_ok-waiting.ensures.ok
     (λ x b. ap (λ rows. record_at rows x b) c.seal.ensures.records) c.seal.ensures.predecessors
-    (leading-named c.args.func.now c.self.inside.tables c.args.block (rw (c.self.view_is) c.requires.named) (λ none. some (c.seal.ensures.predecessors c.args.block ∙ none)))
+    (leading-named c.args.func.now c.self.inside.tables c.args.block (rw (c.self.view_is) c.requires.named) (λ none. some (c.seal.ensures.predecessors c.args.block ∙ none))))
 
 pub complete_all-requires-clause-params_exist : goal.complete_all-requires-clause-params_exist
 complete_all-requires-clause-params_exist c = λ p here.
@@ -65,15 +69,21 @@ returns-then-not-has_any_predecessors-clause-ends c =
 
 pub returns-in_err-complete_all-clause-makes : goal.returns-in_err-complete_all-clause-makes
 returns-in_err-complete_all-clause-makes c =
+    let leaves : StepLeaves c.args.func.now c.seal.new.self c.complete_all.new.func c.complete_all.new.self =
+    subst (λ (t : SsaState). StepLeaves c.args.func.now t c.complete_all.new.func c.complete_all.new.self) c.take_look_up-look_up.ensures.kept c.complete_all.ensures.leaves in
     let p = err_from_is_err_and c.from_residual-in_err-complete_all.result c.from_residual-in_err-complete_all.ensures.1 in
     rw (p.1, p.2, ← c.self.view_is)
-    (failed_makes c.args.block c.args.func.now c.complete_all.new.func c.self.inside.tables c.seal.new.self c.complete_all.new.self c.in_err-complete_all.field-0.0 c.in_ok-waiting.ensures.ok c.seal.ensures.predecessors (c.if-not-has_any_predecessors.ensures.0 refl) c.complete_all.ensures.leaves)
+    (failed_makes c.args.block c.args.func.now c.complete_all.new.func c.self.inside.tables c.seal.new.self c.complete_all.new.self c.in_err-complete_all.field-0.0 c.in_ok-waiting.ensures.ok c.seal.ensures.predecessors (c.if-not-has_any_predecessors.ensures.0 refl) leaves)
 
 pub returns-in_err-complete_all-clause-keeps : goal.returns-in_err-complete_all-clause-keeps
 returns-in_err-complete_all-clause-keeps c =
+    let leaves : StepLeaves c.args.func.now c.seal.new.self c.complete_all.new.func c.complete_all.new.self =
+    subst (λ (t : SsaState). StepLeaves c.args.func.now t c.complete_all.new.func c.complete_all.new.self) c.take_look_up-look_up.ensures.kept c.complete_all.ensures.leaves in
+    let once : ToComplete c.seal.new.self c.args.block c.as_slice-2.result.now → LooksOnce c.complete_all.new.self =
+    subst (λ (t : SsaState). ToComplete t c.args.block c.as_slice-2.result.now → LooksOnce c.complete_all.new.self) c.take_look_up-look_up.ensures.kept c.complete_all.ensures.looks_once in
     let same : c.as_slice-2.result.now ≡ pending_of (sealed_of c.self.inside.tables c.args.block) = first_of (search rules, grind (arith, common_steps)) in
     rw (← c.self.view_is)
-    (looked_keeps c.args.block c.args.func.now c.complete_all.new.func c.self.inside.tables c.seal.new.self c.complete_all.new.self c.as_slice-2.result.now c.seal.ensures.records c.in_ok-waiting.ensures.ok c.seal.ensures.predecessors c.seal.ensures.no_more same c.complete_all.ensures.leaves c.complete_all.ensures.looks_once)
+    (looked_keeps c.args.block c.args.func.now c.complete_all.new.func c.self.inside.tables c.seal.new.self c.complete_all.new.self c.as_slice-2.result.now c.seal.ensures.records c.in_ok-waiting.ensures.ok c.seal.ensures.predecessors c.seal.ensures.no_more same leaves once)
 
 pub returns-in_err-complete_all-clause-ends : goal.returns-in_err-complete_all-clause-ends
 returns-in_err-complete_all-clause-ends c =
@@ -83,17 +93,25 @@ returns-in_err-complete_all-clause-ends c =
 
 pub returns-clause-makes : goal.returns-clause-makes
 returns-clause-makes c =
+    let leaves : StepLeaves c.args.func.now c.seal.new.self c.complete_all.new.func c.complete_all.new.self =
+    subst (λ (t : SsaState). StepLeaves c.args.func.now t c.complete_all.new.func c.complete_all.new.self) c.take_look_up-look_up.ensures.kept c.complete_all.ensures.leaves in
+    let all : CompletesAll c.args.block c.as_slice-2.result.now (stage c.args.func.now c.seal.new.self c.take_look_up-look_up.result) (stage c.complete_all.new.func c.complete_all.new.self c.complete_all.new.look_up) =
+    subst (λ (t : SsaState). CompletesAll c.args.block c.as_slice-2.result.now (stage c.args.func.now t c.take_look_up-look_up.result) (stage c.complete_all.new.func c.complete_all.new.self c.complete_all.new.look_up)) c.take_look_up-look_up.ensures.kept c.in_ok-complete_all.ensures.completes in
     let same : c.as_slice-2.result.now ≡ pending_of (sealed_of c.self.inside.tables c.args.block) = first_of (search rules, grind (arith, common_steps)) in
-    let told : c.into_zeros-instructions_added_to_blocks.result.items ≡ c.complete_all.new.look_up.zeros = first_of (search rules, grind (arith, common_steps)) in
-    rw (← c.self.view_is)
-    (looked_makes c.args.block c.args.func.now c.complete_all.new.func c.self.inside.tables c.seal.new.self c.complete_all.new.self c.as_slice-2.result.now c.new-look_up.result c.complete_all.new.look_up (record { instructions_added_to_blocks = c.into_zeros-instructions_added_to_blocks.result }) c.seal.ensures.records c.in_ok-waiting.ensures.ok c.seal.ensures.predecessors same (c.if-not-has_any_predecessors.ensures.0 refl) c.complete_all.ensures.leaves
-    c.new-look_up.ensures c.in_ok-complete_all.ensures.completes c.in_ok-complete_all.ensures.tells told)
+    let told : c.give_back-instructions_added_to_blocks.result.items ≡ c.complete_all.new.look_up.zeros = first_of (search rules, grind (arith, common_steps)) in
+    rw (c.give_back-instructions_added_to_blocks.ensures.kept, ← c.self.view_is)
+    (looked_makes c.args.block c.args.func.now c.complete_all.new.func c.self.inside.tables c.seal.new.self c.complete_all.new.self c.as_slice-2.result.now c.take_look_up-look_up.result c.complete_all.new.look_up (record { instructions_added_to_blocks = c.give_back-instructions_added_to_blocks.result }) c.seal.ensures.records c.in_ok-waiting.ensures.ok c.seal.ensures.predecessors same (c.if-not-has_any_predecessors.ensures.0 refl) leaves
+    c.take_look_up-look_up.ensures.empty all c.in_ok-complete_all.ensures.tells told)
 
 pub returns-clause-keeps : goal.returns-clause-keeps
 returns-clause-keeps c =
+    let leaves : StepLeaves c.args.func.now c.seal.new.self c.complete_all.new.func c.complete_all.new.self =
+    subst (λ (t : SsaState). StepLeaves c.args.func.now t c.complete_all.new.func c.complete_all.new.self) c.take_look_up-look_up.ensures.kept c.complete_all.ensures.leaves in
+    let once : ToComplete c.seal.new.self c.args.block c.as_slice-2.result.now → LooksOnce c.complete_all.new.self =
+    subst (λ (t : SsaState). ToComplete t c.args.block c.as_slice-2.result.now → LooksOnce c.complete_all.new.self) c.take_look_up-look_up.ensures.kept c.complete_all.ensures.looks_once in
     let same : c.as_slice-2.result.now ≡ pending_of (sealed_of c.self.inside.tables c.args.block) = first_of (search rules, grind (arith, common_steps)) in
-    rw (← c.self.view_is)
-    (looked_keeps c.args.block c.args.func.now c.complete_all.new.func c.self.inside.tables c.seal.new.self c.complete_all.new.self c.as_slice-2.result.now c.seal.ensures.records c.in_ok-waiting.ensures.ok c.seal.ensures.predecessors c.seal.ensures.no_more same c.complete_all.ensures.leaves c.complete_all.ensures.looks_once)
+    rw (c.give_back-instructions_added_to_blocks.ensures.kept, ← c.self.view_is)
+    (looked_keeps c.args.block c.args.func.now c.complete_all.new.func c.self.inside.tables c.seal.new.self c.complete_all.new.self c.as_slice-2.result.now c.seal.ensures.records c.in_ok-waiting.ensures.ok c.seal.ensures.predecessors c.seal.ensures.no_more same leaves once)
 
 pub returns-clause-ends : goal.returns-clause-ends
 returns-clause-ends c =

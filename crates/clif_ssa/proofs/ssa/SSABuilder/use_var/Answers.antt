@@ -1,7 +1,7 @@
 use Rattle.std.proofs.Common.{rules, ◌≡◌, ◌≢◌, Some, None, true, [], ◌∙◌, refl, sym, subst, arith}
 use Rattle.std.proofs.lemmas.Grind.{common_steps}
 use Rattle.clif_ssa.specs.Tables.{is_yes}
-use Rattle.clif_ssa.specs.Ssa.{record_of, sealed_of, predecessors_of}
+use Rattle.clif_ssa.specs.Ssa.{record_of, sealed_of, predecessors_of, Named, NamesExist}
 use Rattle.clif_ssa.specs.Running.{stage}
 use Rattle.clif_ssa.specs.Structured.{HasType}
 use Rattle.clif_ssa.proofs.Calling.{look-fits}
@@ -34,37 +34,47 @@ returns-then-is_local-clause-keeps c = λ own tables both.
 pub look_up_in-requires-clause-named : goal.look_up_in-requires-clause-named
 look_up_in-requires-clause-named c =
     let some : predecessors_of c.args.self.now c.args.block ≢ [] = rw (← c.self.view_is) ((c.if-is_local.ensures.no refl).1) in
-    c.requires.named (something_leads c.args.self.now c.args.block some)
+    rw (c.take_look_up-look_up.ensures.kept) (c.requires.named (something_leads c.args.self.now c.args.block some))
 
 pub make_calls-requires-clause-named : goal.make_calls-requires-clause-named
 make_calls-requires-clause-named c =
     let some : predecessors_of c.args.self.now c.args.block ≢ [] = rw (← c.self.view_is) ((c.if-is_local.ensures.no refl).1) in
-    c.look_up_in.ensures.keeps.names (c.requires.named (something_leads c.args.self.now c.args.block some))
+    let named : NamesExist c.args.func.now c.take_look_up-look_up.new.self = rw (c.take_look_up-look_up.ensures.kept) (c.requires.named (something_leads c.args.self.now c.args.block some)) in
+    c.look_up_in.ensures.keeps.names named
 
 pub make_calls-requires-clause-calls_fit : goal.make_calls-requires-clause-calls_fit
 make_calls-requires-clause-calls_fit c =
     let some : predecessors_of c.args.self.now c.args.block ≢ [] = rw (← c.self.view_is) ((c.if-is_local.ensures.no refl).1) in
-    look-fits c.args.variable c.args.ty c.args.block (stage c.args.func.now c.args.self.now c.new-look_up.result) (stage c.look_up_in.new.func c.look_up_in.new.self c.look_up_in.new.look_up)
-    c.in_ok-look_up_in.ensures.looks (c.requires.named (something_leads c.args.self.now c.args.block some)) c.look_up_in.ensures.keeps.more c.look_up_in.ensures.keeps.predecessors
-    (popped_nothing c.args.func.now c.args.self.now c.new-look_up.result c.new-look_up.ensures)
+    let named : NamesExist c.args.func.now c.take_look_up-look_up.new.self = rw (c.take_look_up-look_up.ensures.kept) (c.requires.named (something_leads c.args.self.now c.args.block some)) in
+    look-fits c.args.variable c.args.ty c.args.block (stage c.args.func.now c.take_look_up-look_up.new.self c.take_look_up-look_up.result) (stage c.look_up_in.new.func c.look_up_in.new.self c.look_up_in.new.look_up)
+    c.in_ok-look_up_in.ensures.looks named c.look_up_in.ensures.keeps.more c.look_up_in.ensures.keeps.predecessors
+    (popped_nothing c.args.func.now c.take_look_up-look_up.new.self c.take_look_up-look_up.result c.take_look_up-look_up.ensures.empty)
 
 pub returns-in_err-value-clause-stay : goal.returns-in_err-value-clause-stay
-returns-in_err-value-clause-stay c = λ x b v is. c.make_calls.ensures.keeps.stay x b v (c.look_up_in.ensures.keeps.stay x b v is)
+returns-in_err-value-clause-stay c =
+    rw (← c.take_look_up-look_up.ensures.kept)
+    (λ x b v is. c.make_calls.ensures.keeps.stay x b v (c.look_up_in.ensures.keeps.stay x b v is))
 
 pub returns-clause-stay : goal.returns-clause-stay
-returns-clause-stay c = λ x b v is. c.make_calls.ensures.keeps.stay x b v (c.look_up_in.ensures.keeps.stay x b v is)
+returns-clause-stay c =
+    rw (← c.take_look_up-look_up.ensures.kept, c.give_back-instructions_added_to_blocks.ensures.kept)
+    (λ x b v is. c.make_calls.ensures.keeps.stay x b v (c.look_up_in.ensures.keeps.stay x b v is))
 
 pub returns-clause-keeps : goal.returns-clause-keeps
-returns-clause-keeps c = λ own tables both.
-    machine_use own c.args.func.now c.look_up_in.new.func c.make_calls.new.func c.args.self.now c.look_up_in.new.self c.make_calls.new.self tables
-    c.args.variable c.args.ty c.args.block _ c.look_up_in.new.look_up c.make_calls.new.look_up c.in_ok-value.value c.new-look_up.ensures
-    c.law_consistent.ensures both c.requires.exists c.in_ok-look_up_in.ensures.looks c.in_ok-value.ensures.made
+returns-clause-keeps c =
+    rw (← c.take_look_up-look_up.ensures.kept, c.give_back-instructions_added_to_blocks.ensures.kept)
+    (λ own tables both.
+    machine_use own c.args.func.now c.look_up_in.new.func c.make_calls.new.func c.take_look_up-look_up.new.self c.look_up_in.new.self c.make_calls.new.self tables
+    c.args.variable c.args.ty c.args.block _ c.look_up_in.new.look_up c.make_calls.new.look_up c.in_ok-value.value c.take_look_up-look_up.ensures.empty
+    c.law_consistent.ensures both c.requires.exists c.in_ok-look_up_in.ensures.looks c.in_ok-value.ensures.made)
 
 pub returns-clause-looks : goal.returns-clause-looks
-returns-clause-looks c = λ none sealed some.
-    let told : c.into_zeros-instructions_added_to_blocks.result.items ≡ c.make_calls.new.look_up.zeros = first_of (search rules, grind (arith, common_steps)) in
-    uses_machine c.args.variable c.args.ty c.args.block c.args.func.now c.look_up_in.new.func c.make_calls.new.func c.args.self.now c.look_up_in.new.self c.make_calls.new.self
-    _ c.look_up_in.new.look_up c.make_calls.new.look_up c.in_ok-value.value _ c.new-look_up.ensures c.in_ok-look_up_in.ensures.looks c.in_ok-value.ensures.made told
+returns-clause-looks c =
+    rw (← c.take_look_up-look_up.ensures.kept, c.give_back-instructions_added_to_blocks.ensures.kept)
+    (λ none sealed some.
+    let told : c.give_back-instructions_added_to_blocks.result.items ≡ c.make_calls.new.look_up.zeros = first_of (search rules, grind (arith, common_steps)) in
+    uses_machine c.args.variable c.args.ty c.args.block c.args.func.now c.look_up_in.new.func c.make_calls.new.func c.take_look_up-look_up.new.self c.look_up_in.new.self c.make_calls.new.self
+    _ c.look_up_in.new.look_up c.make_calls.new.look_up c.in_ok-value.value _ c.take_look_up-look_up.ensures.empty c.in_ok-look_up_in.ensures.looks c.in_ok-value.ensures.made told)
 
 -- RECORDED --------------------------------------------------------------------------------------------------------
 
@@ -82,9 +92,11 @@ returns-then-is_local-clause-recorded c =
 pub returns-clause-recorded : goal.returns-clause-recorded
 returns-clause-recorded c =
     let some : predecessors_of c.args.self.now c.args.block ≢ [] = rw (← c.self.view_is) ((c.if-is_local.ensures.no refl).1) in
-    use_recorded c.args.variable c.args.ty c.args.block c.args.func.now c.look_up_in.new.func c.make_calls.new.func c.args.self.now c.look_up_in.new.self c.make_calls.new.self
-    _ c.look_up_in.new.look_up c.make_calls.new.look_up c.in_ok-value.value c.new-look_up.ensures
-    c.law_consistent.ensures (c.requires.named (something_leads c.args.self.now c.args.block some)) c.in_ok-look_up_in.ensures.looks c.in_ok-value.ensures.made c.make_calls.ensures.keeps.stay
+    let named : NamesExist c.args.func.now c.take_look_up-look_up.new.self = rw (c.take_look_up-look_up.ensures.kept) (c.requires.named (something_leads c.args.self.now c.args.block some)) in
+    rw (c.give_back-instructions_added_to_blocks.ensures.kept)
+    (use_recorded c.args.variable c.args.ty c.args.block c.args.func.now c.look_up_in.new.func c.make_calls.new.func c.take_look_up-look_up.new.self c.look_up_in.new.self c.make_calls.new.self
+    _ c.look_up_in.new.look_up c.make_calls.new.look_up c.in_ok-value.value c.take_look_up-look_up.ensures.empty
+    c.law_consistent.ensures named c.in_ok-look_up_in.ensures.looks c.in_ok-value.ensures.made c.make_calls.ensures.keeps.stay)
 
 -- REMEMBERS -------------------------------------------------------------------------------------------------------
 
@@ -98,15 +110,18 @@ returns-then-is_local-clause-remembers c = λ x b.
     c.law_consistent.ensures c.requires.exists none c.use_locally.ensures.used.waits c.use_locally.ensures.used.zero
 
 pub returns-clause-remembers : goal.returns-clause-remembers
-returns-clause-remembers c = λ x b.
+returns-clause-remembers c =
     let some : predecessors_of c.args.self.now c.args.block ≢ [] = rw (← c.self.view_is) ((c.if-is_local.ensures.no refl).1) in
+    let named : NamesExist c.args.func.now c.take_look_up-look_up.new.self = rw (c.take_look_up-look_up.ensures.kept) (c.requires.named (something_leads c.args.self.now c.args.block some)) in
+    rw (← c.take_look_up-look_up.ensures.kept, c.give_back-instructions_added_to_blocks.ensures.kept)
+    (λ x b.
     record {
       recorded = λ v is. c.make_calls.ensures.keeps.stay x b v (c.look_up_in.ensures.keeps.stay x b v is);
       alike =
-          use_alike c.args.variable c.args.ty c.args.block c.args.func.now c.look_up_in.new.func c.make_calls.new.func c.args.self.now c.look_up_in.new.self c.make_calls.new.self
-          _ c.look_up_in.new.look_up c.make_calls.new.look_up c.in_ok-value.value c.new-look_up.ensures
-          c.law_consistent.ensures (c.requires.named (something_leads c.args.self.now c.args.block some)) c.in_ok-look_up_in.ensures.looks c.in_ok-value.ensures.made;
-    }
+          use_alike c.args.variable c.args.ty c.args.block c.args.func.now c.look_up_in.new.func c.make_calls.new.func c.take_look_up-look_up.new.self c.look_up_in.new.self c.make_calls.new.self
+          _ c.look_up_in.new.look_up c.make_calls.new.look_up c.in_ok-value.value c.take_look_up-look_up.ensures.empty
+          c.law_consistent.ensures named c.in_ok-look_up_in.ensures.looks c.in_ok-value.ensures.made;
+    })
 
 -- WHERE NOTHING LEADS TO THE BLOCK --------------------------------------------------------------------------------
 
@@ -150,10 +165,12 @@ returns-then-is_local-clause-structured c = λ types own same before.
     c.law_consistent.ensures same before c.requires.exists none c.use_locally.ensures.keeps.predecessors c.use_locally.ensures.used.waits c.use_locally.ensures.used.zero
 
 pub returns-clause-structured : goal.returns-clause-structured
-returns-clause-structured c = λ types own same before.
-    machine_structured types own c.args.func.now c.look_up_in.new.func c.make_calls.new.func c.args.self.now c.look_up_in.new.self c.make_calls.new.self
-    c.args.variable c.args.ty c.args.block _ c.look_up_in.new.look_up c.make_calls.new.look_up c.in_ok-value.value c.new-look_up.ensures
-    c.law_consistent.ensures same before c.in_ok-look_up_in.ensures.looks c.in_ok-value.ensures.made
+returns-clause-structured c =
+    rw (← c.take_look_up-look_up.ensures.kept, c.give_back-instructions_added_to_blocks.ensures.kept)
+    (λ types own same before.
+    machine_structured types own c.args.func.now c.look_up_in.new.func c.make_calls.new.func c.take_look_up-look_up.new.self c.look_up_in.new.self c.make_calls.new.self
+    c.args.variable c.args.ty c.args.block _ c.look_up_in.new.look_up c.make_calls.new.look_up c.in_ok-value.value c.take_look_up-look_up.ensures.empty
+    c.law_consistent.ensures same before c.in_ok-look_up_in.ensures.looks c.in_ok-value.ensures.made)
 
 -- WHERE ZEROS COME ------------------------------------------------------------------------------------------------
 
@@ -166,11 +183,14 @@ returns-then-is_local-clause-within c = λ holds branches held.
     held c.use_locally.ensures.used.waits c.use_locally.ensures.used.zero
 
 pub returns-clause-within : goal.returns-clause-within
-returns-clause-within c = λ holds branches held.
-    let told : c.into_zeros-instructions_added_to_blocks.result.items ≡ c.make_calls.new.look_up.zeros = first_of (search rules, grind (arith, common_steps)) in
-    machine_within holds c.args.func.now c.look_up_in.new.func c.make_calls.new.func c.args.self.now c.look_up_in.new.self c.make_calls.new.self
-    c.args.variable c.args.ty c.args.block _ c.look_up_in.new.look_up c.make_calls.new.look_up c.in_ok-value.value _ c.new-look_up.ensures
-    (leads_of holds c.args.func.now c.args.self.now c.requires.named branches) held c.in_ok-look_up_in.ensures.looks c.in_ok-value.ensures.made told
+returns-clause-within c =
+    let named : Named c.args.func.now c.take_look_up-look_up.new.self = rw (c.take_look_up-look_up.ensures.kept) c.requires.named in
+    rw (← c.take_look_up-look_up.ensures.kept)
+    (λ holds branches held.
+    let told : c.give_back-instructions_added_to_blocks.result.items ≡ c.make_calls.new.look_up.zeros = first_of (search rules, grind (arith, common_steps)) in
+    machine_within holds c.args.func.now c.look_up_in.new.func c.make_calls.new.func c.take_look_up-look_up.new.self c.look_up_in.new.self c.make_calls.new.self
+    c.args.variable c.args.ty c.args.block _ c.look_up_in.new.look_up c.make_calls.new.look_up c.in_ok-value.value _ c.take_look_up-look_up.ensures.empty
+    (leads_of holds c.args.func.now c.take_look_up-look_up.new.self named branches) held c.in_ok-look_up_in.ensures.looks c.in_ok-value.ensures.made told)
 
 -- HOW MUCH IS TAKEN -----------------------------------------------------------------------------------------------
 
@@ -212,16 +232,24 @@ pub returns-then-is_local-clause-looks_once : goal.returns-then-is_local-clause-
 returns-then-is_local-clause-looks_once c = c.use_locally.ensures.keeps.once.looks_once
 
 pub returns-in_err-look_up_in-clause-predecessors : goal.returns-in_err-look_up_in-clause-predecessors
-returns-in_err-look_up_in-clause-predecessors c = c.look_up_in.ensures.keeps.predecessors
+returns-in_err-look_up_in-clause-predecessors c =
+    rw (← c.take_look_up-look_up.ensures.kept)
+    (c.look_up_in.ensures.keeps.predecessors)
 
 pub returns-in_err-look_up_in-clause-stay : goal.returns-in_err-look_up_in-clause-stay
-returns-in_err-look_up_in-clause-stay c = c.look_up_in.ensures.keeps.stay
+returns-in_err-look_up_in-clause-stay c =
+    rw (← c.take_look_up-look_up.ensures.kept)
+    (c.look_up_in.ensures.keeps.stay)
 
 pub returns-in_err-look_up_in-clause-flags : goal.returns-in_err-look_up_in-clause-flags
-returns-in_err-look_up_in-clause-flags c = c.look_up_in.ensures.keeps.flags
+returns-in_err-look_up_in-clause-flags c =
+    rw (← c.take_look_up-look_up.ensures.kept)
+    (c.look_up_in.ensures.keeps.flags)
 
 pub returns-in_err-look_up_in-clause-no_more : goal.returns-in_err-look_up_in-clause-no_more
-returns-in_err-look_up_in-clause-no_more c = c.look_up_in.ensures.keeps.no_more
+returns-in_err-look_up_in-clause-no_more c =
+    rw (← c.take_look_up-look_up.ensures.kept)
+    (c.look_up_in.ensures.keeps.no_more)
 
 pub returns-in_err-look_up_in-clause-more : goal.returns-in_err-look_up_in-clause-more
 returns-in_err-look_up_in-clause-more c = c.look_up_in.ensures.keeps.more
@@ -230,37 +258,57 @@ pub returns-in_err-look_up_in-clause-constructs : goal.returns-in_err-look_up_in
 returns-in_err-look_up_in-clause-constructs c = c.look_up_in.ensures.keeps.constructs
 
 pub returns-in_err-look_up_in-clause-names : goal.returns-in_err-look_up_in-clause-names
-returns-in_err-look_up_in-clause-names c = c.look_up_in.ensures.keeps.names
+returns-in_err-look_up_in-clause-names c =
+    rw (← c.take_look_up-look_up.ensures.kept)
+    (c.look_up_in.ensures.keeps.names)
 
 pub returns-in_err-look_up_in-clause-looks_once : goal.returns-in_err-look_up_in-clause-looks_once
-returns-in_err-look_up_in-clause-looks_once c = c.look_up_in.ensures.keeps.once.looks_once
+returns-in_err-look_up_in-clause-looks_once c =
+    rw (← c.take_look_up-look_up.ensures.kept)
+    (c.look_up_in.ensures.keeps.once.looks_once)
 
 pub returns-in_err-value-clause-predecessors : goal.returns-in_err-value-clause-predecessors
-returns-in_err-value-clause-predecessors c = λ b. c.make_calls.ensures.keeps.predecessors b ∙ c.look_up_in.ensures.keeps.predecessors b
+returns-in_err-value-clause-predecessors c =
+    rw (← c.take_look_up-look_up.ensures.kept)
+    (λ b. c.make_calls.ensures.keeps.predecessors b ∙ c.look_up_in.ensures.keeps.predecessors b)
 
 pub returns-in_err-value-clause-flags : goal.returns-in_err-value-clause-flags
-returns-in_err-value-clause-flags c = λ b. c.make_calls.ensures.keeps.flags b ∙ c.look_up_in.ensures.keeps.flags b
+returns-in_err-value-clause-flags c =
+    rw (← c.take_look_up-look_up.ensures.kept)
+    (λ b. c.make_calls.ensures.keeps.flags b ∙ c.look_up_in.ensures.keeps.flags b)
 
 pub returns-in_err-value-clause-names : goal.returns-in_err-value-clause-names
-returns-in_err-value-clause-names c = λ named. c.make_calls.ensures.keeps.names (c.look_up_in.ensures.keeps.names named)
+returns-in_err-value-clause-names c =
+    rw (← c.take_look_up-look_up.ensures.kept)
+    (λ named. c.make_calls.ensures.keeps.names (c.look_up_in.ensures.keeps.names named))
 
 pub returns-in_err-value-clause-looks_once : goal.returns-in_err-value-clause-looks_once
-returns-in_err-value-clause-looks_once c = λ once. c.make_calls.ensures.keeps.once.looks_once (c.look_up_in.ensures.keeps.once.looks_once once)
+returns-in_err-value-clause-looks_once c =
+    rw (← c.take_look_up-look_up.ensures.kept)
+    (λ once. c.make_calls.ensures.keeps.once.looks_once (c.look_up_in.ensures.keeps.once.looks_once once))
 
 pub returns-in_err-value-clause-more : goal.returns-in_err-value-clause-more
 returns-in_err-value-clause-more c = more-then c.args.func.now c.look_up_in.new.func c.make_calls.new.func c.look_up_in.ensures.keeps.more c.make_calls.ensures.keeps.more
 
 pub returns-clause-predecessors : goal.returns-clause-predecessors
-returns-clause-predecessors c = λ b. c.make_calls.ensures.keeps.predecessors b ∙ c.look_up_in.ensures.keeps.predecessors b
+returns-clause-predecessors c =
+    rw (← c.take_look_up-look_up.ensures.kept, c.give_back-instructions_added_to_blocks.ensures.kept)
+    (λ b. c.make_calls.ensures.keeps.predecessors b ∙ c.look_up_in.ensures.keeps.predecessors b)
 
 pub returns-clause-flags : goal.returns-clause-flags
-returns-clause-flags c = λ b. c.make_calls.ensures.keeps.flags b ∙ c.look_up_in.ensures.keeps.flags b
+returns-clause-flags c =
+    rw (← c.take_look_up-look_up.ensures.kept, c.give_back-instructions_added_to_blocks.ensures.kept)
+    (λ b. c.make_calls.ensures.keeps.flags b ∙ c.look_up_in.ensures.keeps.flags b)
 
 pub returns-clause-names : goal.returns-clause-names
-returns-clause-names c = λ named. c.make_calls.ensures.keeps.names (c.look_up_in.ensures.keeps.names named)
+returns-clause-names c =
+    rw (← c.take_look_up-look_up.ensures.kept, c.give_back-instructions_added_to_blocks.ensures.kept)
+    (λ named. c.make_calls.ensures.keeps.names (c.look_up_in.ensures.keeps.names named))
 
 pub returns-clause-looks_once : goal.returns-clause-looks_once
-returns-clause-looks_once c = λ once. c.make_calls.ensures.keeps.once.looks_once (c.look_up_in.ensures.keeps.once.looks_once once)
+returns-clause-looks_once c =
+    rw (← c.take_look_up-look_up.ensures.kept, c.give_back-instructions_added_to_blocks.ensures.kept)
+    (λ once. c.make_calls.ensures.keeps.once.looks_once (c.look_up_in.ensures.keeps.once.looks_once once))
 
 pub returns-clause-more : goal.returns-clause-more
 returns-clause-more c = more-then c.args.func.now c.look_up_in.new.func c.make_calls.new.func c.look_up_in.ensures.keeps.more c.make_calls.ensures.keeps.more

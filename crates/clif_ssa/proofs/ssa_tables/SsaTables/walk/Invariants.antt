@@ -1,14 +1,16 @@
-use Rattle.std.proofs.Common.{◌<◌, ◌-◌, length}
+use Rattle.std.proofs.Common.{◌≡◌, ◌<◌, ◌-◌, length}
 use Rattle.clif_ir.specs.Consistent.{Once}
+use Rattle.clif_ssa.specs.Ssa.{record_of}
 use Rattle.clif_ssa.specs.LookUp.{IsWalk}
 use Rattle.clif_ssa.proofs.Walks.{AllBelow}
 use Rattle.clif_ssa.proofs.ssa_tables.SsaTables.walk.Given as goal
 
-abbrev pub invariant-loop-self : goal.invariant-loop-self
-invariant-loop-self l =
+abbrev pub invariant-loop-variable : goal.invariant-loop-variable
+invariant-loop-variable l =
     IsWalk l.func l.self l.variable l.fn.block l.passed l.reached
     × Once l.passed × AllBelow (length l.self.blocks) l.passed
     × (l.reached < length l.func.blocks)
+    × (l.recorded ≡ record_of l.self l.variable l.reached)
 
-abbrev pub decreases-loop-self : goal.decreases-loop-self
-decreases-loop-self l = length l.self.blocks - length l.passed
+abbrev pub decreases-loop-variable : goal.decreases-loop-variable
+decreases-loop-variable l = length l.self.blocks - length l.passed

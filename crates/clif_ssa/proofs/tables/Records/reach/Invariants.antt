@@ -1,7 +1,7 @@
 use Rattle.std.proofs.Common.{◌≡◌, ◌+◌, ℕ, length}
 use Rattle.std.specs.Prelude.{slice_index_or}
 use Rattle.clif_ssa.specs.Cells.{no_cell}
-use Rattle.clif_ssa.proofs.tables.Records.set.Given as goal
+use Rattle.clif_ssa.proofs.tables.Records.reach.Given as goal
 
 abbrev pub invariant-loop : goal.invariant-loop
 invariant-loop l =
