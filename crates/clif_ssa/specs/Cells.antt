@@ -2,7 +2,9 @@
 use Rattle.std.specs.Prelude.{◌≡◌, ℕ, suc, ◌==◌, ◌&&◌, ◌⊎◌, Bool, true, List, [], ◌∷◌, Option, Some, None, is_none, slice_index_or, if◌then◌else◌}
 use Rattle.std.specs.FinMap as map
 use Rattle.clif_ssa.specs.declared.tables.Cell.{Cell}
-use Rattle.clif_ssa.specs.Tables.{Recorded, RecordMap, one_more}
+use Rattle.clif_ssa.specs.Tables.{Recorded, RecordMap, record_at, one_more}
+use Rattle.clif_ir.specs.Reading.{stands_in}
+use Rattle.clif_ssa.specs.LookUp.{before_first}
 
 -- the cell of a block of which nothing is known
 abbrev pub no_cell : Cell
@@ -37,9 +39,32 @@ ChangesSome old new change test =
     (b : ℕ) → (slice_index_or new b no_cell ≡ slice_index_or old b no_cell)
     ⊎ ((test b ≡ true) × (slice_index_or new b no_cell ≡ change (slice_index_or old b no_cell)))
 
+-- this value is recorded in a block; a look-up is counted in it
+abbrev pub RecordsCell : List Cell → List Cell → ℕ → ℕ → Type 0
+RecordsCell old new value block = ChangesCells old new (recording value) (λ b. b == block)
+
+abbrev pub CountsCell : List Cell → List Cell → ℕ → Type 0
+CountsCell old new block = ChangesCells old new counting (λ b. b == block)
+
+-- the value is recorded in these blocks, up to the first `from` among them; it is recorded in some of them
+abbrev pub RecordsCells : List Cell → List Cell → ℕ → List ℕ → ℕ → Type 0
+RecordsCells old new value blocks from = ChangesCells old new (recording value) (λ b. stands_in b (before_first from blocks))
+
+abbrev pub RecordsSomeCells : List Cell → List Cell → ℕ → List ℕ → Type 0
+RecordsSomeCells old new value blocks = ChangesSome old new (recording value) (λ b. stands_in b blocks)
+
+-- the same of a variable, in the map
+abbrev pub RecordsUpTo : RecordMap → RecordMap → ℕ → ℕ → List ℕ → ℕ → Type 0
+RecordsUpTo old new variable value blocks from =
+    (v b : ℕ) → record_at new v b ≡ (if v == variable && stands_in b (before_first from blocks) then Some value else record_at old v b)
+
 -- a record is as before, or is this value, and then this holds
 abbrev pub MayBeSet : Option ℕ → Option ℕ → ℕ → Type 0 → Type 0
 MayBeSet old new value P = (new ≡ old) ⊎ (P × (new ≡ Some value))
+
+abbrev pub RecordsSome : RecordMap → RecordMap → ℕ → ℕ → List ℕ → Type 0
+RecordsSome old new variable value blocks =
+    (v b : ℕ) → MayBeSet (record_at old v b) (record_at new v b) value ((v ≡ variable) × (stands_in b blocks ≡ true))
 
 -- the records with what this cell says; one that says nothing is no entry
 abbrev pub with_cell : ℕ → ℕ → Cell → RecordMap → RecordMap

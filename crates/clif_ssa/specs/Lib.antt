@@ -1,11 +1,11 @@
 pub mod Tables
-pub mod Cells
 pub mod Own
 pub mod Zeros
 pub mod Ssa
 pub mod Constructs
 pub mod Passed
 pub mod LookUp
+pub mod Cells
 pub mod Incoming
 pub mod Running
 pub mod Sealing

@@ -71,3 +71,7 @@ is_yes Yes = true
 abbrev pub pending_of : Sealed → List Pending
 pending_of (No pending) = pending
 pending_of Yes = []
+
+-- the branches that lead to a block, if it is sealed
+abbrev pub sealed_predecessors_at : List SsaBlock → ℕ → List ℕ
+sealed_predecessors_at blocks block = if is_yes (sealed_at blocks block) then predecessors_at blocks block else []

@@ -1,12 +1,11 @@
 //! Tables of the construction: the records of a variable, the branches that lead to a block, and the
 //! parameters that wait in it.
-ghost use Rattle.std.specs.Prelude.{◌≡◌, ◌==◌, ◌&&◌, ◌↔◌, IsTrue, true, false, ℕ, [], ◌∷◌, ◌++◌, ◌<◌, ◌≤◌, ◌+◌, ◌⊎◌, ◌^◌, length, OnOk, OnErr, IfOk, Some, None, if◌then◌else◌, slice_index_or};
+ghost use Rattle.std.specs.Prelude.{◌≡◌, ◌==◌, ◌&&◌, ◌↔◌, IsTrue, false, ℕ, [], ◌∷◌, ◌++◌, ◌<◌, ◌≤◌, ◌+◌, ◌⊎◌, ◌^◌, length, OnOk, OnErr, IfOk, Some, None, if◌then◌else◌, slice_index_or};
 ghost use Rattle.clif_ir.specs.Consistent.{Stands};
-ghost use Rattle.clif_ir.specs.Reading.{place_of, stands_in, without};
-ghost use Rattle.clif_ssa.specs.LookUp.{before_first};
+ghost use Rattle.clif_ir.specs.Reading.{place_of, without};
 ghost use Rattle.std.specs.FinMap as map;
-ghost use Rattle.clif_ssa.specs.Cells.{no_cell, is_no_cell, recorded_in, recording, counting, cell_at, ChangesCells, ChangesSome, SameCells, MayBeSet};
-ghost use Rattle.clif_ssa.specs.Tables.{recorded_at, record_at, lookups_at, one_more, known_at, sealed_at, predecessors_at, is_yes, pending_of};
+ghost use Rattle.clif_ssa.specs.Cells.{no_cell, is_no_cell, recorded_in, cell_at, SameCells, RecordsCell, RecordsCells, RecordsSomeCells, RecordsUpTo, RecordsSome, CountsCell};
+ghost use Rattle.clif_ssa.specs.Tables.{recorded_at, record_at, lookups_at, one_more, known_at, sealed_at, predecessors_at, sealed_predecessors_at, is_yes, pending_of};
 
 use crate::variable::Variable;
 use clif_types::{Block, BuildError, EntityRef, Inst, Value};
@@ -89,8 +88,7 @@ impl Records {
 
     // Makes room for a block. What is known in each block stays.
     fn reach(&mut self, block: Block) -> Result<(), BuildError>
-        ensures same { (b : ℕ) → slice_index_or self.new b no_cell ≡
-            slice_index_or self.old b no_cell }
+        ensures same { SameCells self.old self.new }
         ensures ok { OnOk result (block < length self.new) }
         ensures only_memory { OnErr result (result ≡ Err BuildError.Memory) }
     {
@@ -103,8 +101,7 @@ impl Records {
 
     /// Records a value in a block. After an error each cell is as it was.
     pub(crate) fn record(&mut self, block: Block, value: Value) -> Result<(), BuildError>
-        ensures ok { OnOk result (ChangesCells self.old self.new (recording value)
-            (λ b. b == block)) }
+        ensures ok { OnOk result (RecordsCell self.old self.new value block) }
         ensures err { OnErr result (SameCells self.old self.new) }
         ensures only_memory { OnErr result (result ≡ Err BuildError.Memory) }
     {
@@ -115,7 +112,7 @@ impl Records {
 
     /// Counts a look-up in a block's predecessors. After an error each cell is as it was.
     pub(crate) fn count_lookup(&mut self, block: Block) -> Result<(), BuildError>
-        ensures ok { OnOk result (ChangesCells self.old self.new counting (λ b. b == block)) }
+        ensures ok { OnOk result (CountsCell self.old self.new block) }
         ensures err { OnErr result (SameCells self.old self.new) }
         ensures only_memory { OnErr result (result ≡ Err BuildError.Memory) }
     {
@@ -134,10 +131,8 @@ impl Records {
         from: Block,
         value: Value,
     ) -> Result<(), BuildError>
-        ensures ok { OnOk result (ChangesCells self.old self.new (recording value)
-            (λ b. stands_in b (before_first from blocks.now))) }
-        ensures part { ChangesSome self.old self.new (recording value)
-            (λ b. stands_in b blocks.now) }
+        ensures ok { OnOk result (RecordsCells self.old self.new value blocks.now from) }
+        ensures part { RecordsSomeCells self.old self.new value blocks.now }
         ensures only_memory { OnErr result (result ≡ Err BuildError.Memory) }
     {
         for block in blocks.iter() {
@@ -295,11 +290,8 @@ impl VariableTable {
         from: Block,
         value: Value,
     ) -> Result<(), BuildError>
-        ensures ok { OnOk result ((v b : ℕ) → record_at self.new v b ≡
-            (if v == variable && stands_in b (before_first from blocks.now) then Some value
-            else record_at self.old v b)) }
-        ensures part { (v b : ℕ) → MayBeSet (record_at self.old v b)
-            (record_at self.new v b) value ((v ≡ variable) × (stands_in b blocks.now ≡ true)) }
+        ensures ok { OnOk result (RecordsUpTo self.old self.new variable value blocks.now from) }
+        ensures part { RecordsSome self.old self.new variable value blocks.now }
         ensures lookups { (v b : ℕ) → lookups_at self.new v b ≡ lookups_at self.old v b }
         ensures only_memory { OnErr result (result ≡ Err BuildError.Memory) }
     {
@@ -495,8 +487,7 @@ impl BlockTable {
 
     /// The branches that lead to a sealed block. Of an unsealed one none is answered.
     pub(crate) fn sealed_predecessors(&self, block: Block) -> &[Inst]
-        ensures { result.now ≡ (if is_yes (sealed_at self.now block)
-            then predecessors_at self.now block else []) }
+        ensures { result.now ≡ sealed_predecessors_at self.now block }
     {
         match self.blocks.get(block.index()) {
             Some(
