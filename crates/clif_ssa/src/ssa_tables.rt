@@ -244,7 +244,8 @@ impl SsaTables {
     ) -> Result<Reached, BuildError>
         requires exists { block < length func.now.blocks }
         requires named { Named func.now self.now }
-        ensures ok { IfOk result (λ r. WalksTo func.now self.now variable block passed.new r.block) }
+        ensures ok { IfOk result
+            (λ r. WalksTo func.now self.now variable block passed.new r.block) }
         ensures exists { IfOk result (λ r. r.block < length func.now.blocks) }
         ensures recorded { IfOk result (λ r. r.recorded ≡ record_of self.now variable r.block) }
         ensures only_memory { OnErr result (result ≡ Err BuildError.Memory) }
