@@ -1,6 +1,6 @@
 -- What the answers of the builder's calls share.
-use Rattle.std.proofs.Common.{◌≡◌, ◌≢◌, ◌∷◌, ◌++◌, [], List, refl, sym, subst}
-use Rattle.std.specs.Prelude.{true, false, is_err, IsTrue, Result, Ok, Err, IfOk, OnOk, OnErr}
+use Rattle.std.proofs.Common.{◌≡◌, ◌≢◌, ◌∷◌, ◌++◌, [], List, sym, subst}
+use Rattle.std.specs.Prelude.{false, is_err, Result, Ok, Err, IfOk, OnOk, OnErr}
 use Rattle.clif_types.specs.declared.error.BuildError.{BuildError}
 use Rattle.clif_types.specs.declared.error.BuildError.TheVariants.{Failed, Memory}
 use Rattle.clif_types.specs.Signature.{SignatureShape}

@@ -10,7 +10,7 @@ use Rattle.clif_ir.specs.Consistent.{IsConsistent}
 use Rattle.clif_ir.specs.Changes.{with_block, inserted_in, with_layout}
 use Rattle.clif_ir.specs.Reading.{stands_in}
 use Rattle.clif_ssa.specs.Tables.{RecordMap, record_at}
-use Rattle.clif_ssa.specs.Ssa.{record_of, sealed_of, predecessors_of, Records, SameBlocks, SamePredecessors}
+use Rattle.clif_ssa.specs.Ssa.{sealed_of, predecessors_of, Records, SameBlocks, SamePredecessors}
 use Rattle.clif_meaning.specs.Name.{Name}
 use Rattle.clif_meaning.specs.Request.{AnsweredCall, CreateBlock, SwitchToBlock, SealBlock, DeclareVar, DefVar, UseVar}
 use Rattle.clif_ssa.proofs.Counting.{block_params}
