@@ -1,9 +1,11 @@
 -- What the builder names still exists once the function has more.
-use Rattle.std.proofs.Common.{◌≡◌, ◌≤◌, length, arith, subst}
-use Rattle.std.specs.Prelude.{Some, Contains}
+use Rattle.std.proofs.Common.{◌≡◌, ◌≤◌, ◌∙◌, ℕ, length, arith, subst, sym}
+use Rattle.std.specs.Prelude.{Option, None, Some, Contains}
 use Rattle.clif_ir.specs.Body.{Body}
 use Rattle.clif_ssa.specs.Tables.{record_at, pending_of}
-use Rattle.clif_ssa.specs.Ssa.{SsaState, SamePredecessors, SameBlocks, NamesExist}
+use Rattle.clif_ssa.specs.Ssa.{SsaState, SamePredecessors, SameBlocks, NamesExist, no_state}
+use Rattle.clif_ssa.proofs.Ordering.{none_contained}
+use Rattle.clif_ssa.proofs.RecordMaps.{record_at-empty}
 
 -- values and instructions stay, and maybe more are made
 pub record Grows (f g : Body) : Type 0 where
@@ -18,3 +20,14 @@ same-named f g s t grows records leading blocks named = record {
   leading = λ b i here. omega (arith, named.leading b i (subst (λ branches. Contains branches i) (leading b) here), grows.insts);
   waiting = λ b p here. omega (arith, named.waiting b p (subst (λ entry. Contains (pending_of entry) p) (blocks b) here), grows.values);
 }
+
+-- nothing is named where nothing is known
+pub nothing-named : (f : Body) → NamesExist f no_state
+nothing-named f = record {
+  recorded = λ x b v is. nothing (sym (record_at-empty x b) ∙ is);
+  leading = λ b i here. absurd (none_contained i here);
+  waiting = λ b p here. absurd (none_contained p here);
+}
+  where
+    nothing : {A : Type 0} {v : ℕ} → ◌≡◌ {A = Option ℕ} None (Some v) → A
+    nothing is = cc
