@@ -7,10 +7,9 @@ use Rattle.std.proofs.lemmas.Bool.{cases_eq, cases_order}
 use Rattle.std.proofs.lemmas.Grind.{common_steps}
 use Rattle.std.proofs.lemmas.List.Edits.{length-insert, get_or-insert_below, get_or-insert_at, get_or-insert_above}
 use Rattle.clif_ir.specs.declared.function.BlockPlace.{BlockPlace}
-use Rattle.clif_ir.specs.declared.inst_list.InsertAt.{InsertAt}
-use Rattle.clif_ir.specs.declared.inst_list.InsertAt.TheVariants.{Behind, Back}
-use Rattle.clif_ir.specs.Changes.{IsPlaceOf, put_at}
-use Rattle.clif_ir.specs.Consistent.{Stands, Once}
+use Rattle.clif_instructions.specs.declared.inst_list.InsertAt.{InsertAt}
+use Rattle.clif_instructions.specs.declared.inst_list.InsertAt.TheVariants.{Behind, Back}
+use Rattle.clif_instructions.specs.Members.{IsPlaceOf, put_at, Stands, Once}
 use Rattle.clif_ir.specs.Whole.{lowered, moved_count, next_slot, placed_at}
 use Rattle.clif_ir.proofs.Lists.{at_push, below_or_not}
 use Rattle.clif_ir.proofs.Keeps.{Stands-append, Stands-push, Once-push}

@@ -2,15 +2,16 @@
 use Rattle.std.proofs.Common.{◌≡◌, ℕ, zero, suc, ◌+◌, ◌<◌, ◌≤◌, List, [], ◌∷◌, ◌++◌, length, refl, ap, arith, sym, ◌∙◌, subst, inl, inr}
 use Rattle.std.specs.Prelude.{slice_index, Option, Some, None, unwrap_or, All}
 use Rattle.std.proofs.lemmas.List.Elements.{All-weaker}
-use Rattle.clif_ir.specs.declared.block_call.BlockArg.{BlockArg}
-use Rattle.clif_ir.specs.declared.block_call.BlockArg.TheVariants as arg
-use Rattle.clif_ir.specs.declared.block_call.BlockCall.{BlockCall}
+use Rattle.clif_instructions.specs.declared.block_call.BlockArg.{BlockArg}
+use Rattle.clif_instructions.specs.declared.block_call.BlockArg.TheVariants as arg
+use Rattle.clif_instructions.specs.declared.block_call.BlockCall.{BlockCall}
 use Rattle.std.proofs.Math.ListN.{get_or-append}
 use Rattle.std.proofs.lemmas.Grind.{common_steps}
 use Rattle.clif_ir.specs.declared.function.ValueOrigin.{ValueOrigin}
 use Rattle.clif_ir.specs.declared.function.ValueOrigin.TheVariants.{Result, Param, Alias}
 use Rattle.clif_ir.specs.Body.{Body, value_at, inst_at, block_at, alias_of_origin}
-use Rattle.clif_ir.specs.Consistent.{IsConsistent, IsOrigin, Stands, Once, PassedExists, EdgeExists}
+use Rattle.clif_ir.specs.Consistent.{IsConsistent, IsOrigin, PassedExists, EdgeExists}
+use Rattle.clif_instructions.specs.Members.{Stands, Once}
 use Rattle.clif_ir.proofs.Aliases.{LeadsInside}
 use Rattle.clif_ir.proofs.Lists.{below_or_not}
 

@@ -8,12 +8,12 @@ use Rattle.clif_ir.specs.declared.function.ValueNode.{ValueNode}
 use Rattle.clif_ir.specs.declared.function.ValueOrigin.TheVariants.{Result, Param, Alias}
 use Rattle.clif_ir.specs.Body.{Body, value_at, inst_at, block_at, empty_block, no_value, alias_of_origin, resolved}
 use Rattle.clif_ir.specs.Changes.{with_alias, home_of}
-use Rattle.clif_ir.specs.Reading.{without}
-use Rattle.clif_ir.specs.Consistent.{IsConsistent, IsOrigin, Stands, Once}
+use Rattle.clif_instructions.specs.Members.{without, Stands, Once}
+use Rattle.clif_ir.specs.Consistent.{IsConsistent, IsOrigin}
 use Rattle.clif_ir.specs.Whole.{IsPlaced, no_place}
 use Rattle.clif_ir.proofs.Lists.{at_set}
 use Rattle.clif_ir.proofs.Keeps.{larger_edges, larger_origin, leads_inside}
-use Rattle.clif_ir.proofs.Reading.{Stands-without, without-stood, Once-without}
+use Rattle.clif_instructions.proofs.Members.{Stands-without, without-stood, Once-without}
 use Rattle.clif_ir.proofs.Aliases.{ways_end-set, follow-inside, resolved-no_alias}
 
 -- results and parameters are told apart by where they come from

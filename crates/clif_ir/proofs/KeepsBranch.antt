@@ -3,18 +3,19 @@ use Rattle.std.proofs.Common.{◌≡◌, ◌≢◌, ℕ, ◌<◌, List, [], ◌�
 use Rattle.std.specs.Prelude.{slice_index, All, ◌==◌, if◌then◌else◌}
 use Rattle.std.proofs.lemmas.Grind.{common_steps}
 use Rattle.std.proofs.lemmas.List.Elements.{All-map, All-weaker, All-push}
-use Rattle.clif_ir.specs.declared.block_call.BlockArg.TheVariants.{Value}
-use Rattle.clif_ir.specs.declared.block_call.BlockCall.{BlockCall}
+use Rattle.clif_instructions.specs.declared.block_call.BlockArg.TheVariants.{Value}
+use Rattle.clif_instructions.specs.declared.block_call.BlockCall.{BlockCall}
 use Rattle.clif_ir.specs.declared.function.BlockPlace.{BlockPlace}
 use Rattle.clif_ir.specs.declared.function.InstNode.{InstNode}
 use Rattle.clif_ir.specs.declared.function.ValueOrigin.TheVariants.{Result}
-use Rattle.clif_ir.specs.declared.instructions.InstructionData.{InstructionData}
-use Rattle.clif_ir.specs.declared.instructions.InstructionData.TheVariants.{UnaryImm, Unary, Binary, Jump, Brif, MultiAry}
-use Rattle.clif_ir.specs.Edges.{appended_to, with_argument_to}
-use Rattle.clif_ir.specs.Instruction.{operands, destinations, with_argument}
+use Rattle.clif_instructions.specs.declared.instructions.InstructionData.{InstructionData}
+use Rattle.clif_instructions.specs.declared.instructions.InstructionData.TheVariants.{UnaryImm, Unary, Binary, Jump, Brif, MultiAry}
+use Rattle.clif_instructions.specs.Edges.{appended_to, with_argument_to}
+use Rattle.clif_instructions.specs.Instruction.{operands, destinations, with_argument}
 use Rattle.clif_ir.specs.Body.{Body, inst_at, value_at, block_at, no_inst}
 use Rattle.clif_ir.specs.Changes.{with_branch_argument}
-use Rattle.clif_ir.specs.Consistent.{IsConsistent, Stands, PassedExists, EdgeExists}
+use Rattle.clif_ir.specs.Consistent.{IsConsistent, PassedExists, EdgeExists}
+use Rattle.clif_instructions.specs.Members.{Stands}
 use Rattle.clif_ir.specs.Whole.{IsPlaced}
 use Rattle.clif_ir.proofs.Lists.{at_set}
 use Rattle.clif_ir.proofs.Keeps.{larger_origin}

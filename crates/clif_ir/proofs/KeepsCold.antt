@@ -7,7 +7,8 @@ use Rattle.clif_ir.specs.declared.function.BlockPlace.{BlockPlace}
 use Rattle.clif_ir.specs.declared.function.ValueOrigin.TheVariants.{Param}
 use Rattle.clif_ir.specs.Body.{Body, value_at, inst_at, block_at, empty_block}
 use Rattle.clif_ir.specs.Changes.{with_cold}
-use Rattle.clif_ir.specs.Consistent.{IsConsistent, Stands, Once}
+use Rattle.clif_ir.specs.Consistent.{IsConsistent}
+use Rattle.clif_instructions.specs.Members.{Stands, Once}
 use Rattle.clif_ir.specs.Whole.{IsPlaced, no_place}
 use Rattle.clif_ir.proofs.Lists.{at_set}
 use Rattle.clif_ir.proofs.Keeps.{larger_edges, larger_origin}

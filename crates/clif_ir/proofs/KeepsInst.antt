@@ -11,13 +11,14 @@ use Rattle.clif_ir.specs.declared.function.BlockNode.{BlockNode}
 use Rattle.clif_ir.specs.declared.function.InstNode.{InstNode}
 use Rattle.clif_ir.specs.declared.function.ValueNode.{ValueNode}
 use Rattle.clif_ir.specs.declared.function.ValueOrigin.TheVariants.{Result, Param}
-use Rattle.clif_ir.specs.declared.inst_list.InsertAt.{InsertAt}
-use Rattle.clif_ir.specs.declared.instructions.InstructionData.{InstructionData}
-use Rattle.clif_ir.specs.declared.instructions.InstructionData.TheVariants.{UnaryImm, Unary, Binary, Jump, Brif, MultiAry}
-use Rattle.clif_ir.specs.Instruction.{operands, destinations, result_types}
+use Rattle.clif_instructions.specs.declared.inst_list.InsertAt.{InsertAt}
+use Rattle.clif_instructions.specs.declared.instructions.InstructionData.{InstructionData}
+use Rattle.clif_instructions.specs.declared.instructions.InstructionData.TheVariants.{UnaryImm, Unary, Binary, Jump, Brif, MultiAry}
+use Rattle.clif_instructions.specs.Instruction.{operands, destinations, result_types}
 use Rattle.clif_ir.specs.Body.{Body, value_at, inst_at, block_at, empty_block, no_value, no_inst, alias_of_origin, resolved}
-use Rattle.clif_ir.specs.Changes.{IsPlaceOf, with_inst, inst_node, put_at, result_nodes}
-use Rattle.clif_ir.specs.Consistent.{IsConsistent, IsOrigin, Stands, Once, EdgeExists, alias_count}
+use Rattle.clif_instructions.specs.Members.{IsPlaceOf, put_at, Stands, Once}
+use Rattle.clif_ir.specs.Changes.{with_inst, inst_node, result_nodes}
+use Rattle.clif_ir.specs.Consistent.{IsConsistent, IsOrigin, EdgeExists, alias_count}
 use Rattle.clif_ir.proofs.Lists.{at_push, at_set, at_append}
 use Rattle.clif_ir.proofs.Keeps.{larger_edges, leads_inside, larger_origin}
 use Rattle.clif_ir.proofs.Inserting.{put_at-each, put_at-Stands, put_at-stands, put_at-Once}

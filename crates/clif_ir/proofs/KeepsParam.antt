@@ -9,7 +9,8 @@ use Rattle.clif_ir.specs.declared.function.ValueNode.{ValueNode}
 use Rattle.clif_ir.specs.declared.function.ValueOrigin.TheVariants.{Param}
 use Rattle.clif_ir.specs.Body.{Body, value_at, inst_at, block_at, empty_block, no_value, alias_of_origin}
 use Rattle.clif_ir.specs.Changes.{with_param}
-use Rattle.clif_ir.specs.Consistent.{IsConsistent, IsOrigin, Stands, Once}
+use Rattle.clif_ir.specs.Consistent.{IsConsistent, IsOrigin}
+use Rattle.clif_instructions.specs.Members.{Stands, Once}
 use Rattle.clif_ir.proofs.Lists.{at_push, at_set}
 use Rattle.clif_ir.proofs.Keeps.{larger_edges, leads_inside, larger_origin, Stands-append, Stands-push, Once-push}
 use Rattle.clif_ir.proofs.Aliases.{ways_end-append}

@@ -5,12 +5,13 @@ use Rattle.std.proofs.lemmas.Grind.{common_steps}
 use Rattle.clif_types.specs.declared.types.«Type».{«Type»}
 use Rattle.clif_ir.specs.declared.function.BlockNode.{BlockNode}
 use Rattle.clif_ir.specs.declared.function.BlockPlace.{BlockPlace}
-use Rattle.clif_ir.specs.declared.inst_list.InsertAt.{InsertAt}
-use Rattle.clif_ir.specs.declared.inst_list.InsertAt.TheVariants.{Behind, Back}
-use Rattle.clif_ir.specs.declared.instructions.InstructionData.{InstructionData}
+use Rattle.clif_instructions.specs.declared.inst_list.InsertAt.{InsertAt}
+use Rattle.clif_instructions.specs.declared.inst_list.InsertAt.TheVariants.{Behind, Back}
+use Rattle.clif_instructions.specs.declared.instructions.InstructionData.{InstructionData}
 use Rattle.clif_ir.specs.Body.{Body, block_at, empty_block, inst_at}
-use Rattle.clif_ir.specs.Changes.{IsPlaceOf, with_block, with_param, with_inst, put_at}
-use Rattle.clif_ir.specs.Consistent.{IsConsistent, Once}
+use Rattle.clif_instructions.specs.Members.{IsPlaceOf, put_at, Once}
+use Rattle.clif_ir.specs.Changes.{with_block, with_param, with_inst}
+use Rattle.clif_ir.specs.Consistent.{IsConsistent}
 use Rattle.clif_ir.specs.Whole.{IsPlaced, IsLinked, chain, no_place, placed_at}
 use Rattle.clif_ir.proofs.Lists.{at_push, at_set}
 use Rattle.clif_ir.proofs.Inserting.{length-slots_with, slots_put, slots_with, slots_with-other}

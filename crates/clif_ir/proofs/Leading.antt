@@ -3,10 +3,11 @@ use Rattle.std.proofs.Common.{◌≡◌, ℕ, ◌<◌, List, length, subst}
 use Rattle.std.specs.Prelude.{Option, Some, None, slice_get, slice_index, EachIndex, All}
 use Rattle.std.proofs.lemmas.Option.{slice_get_within, get_or_from_slice_get}
 use Rattle.std.proofs.lemmas.List.Elements.{All-get_or, All-map, All-weaker, All-nil}
-use Rattle.clif_ir.specs.declared.block_call.BlockCall.{BlockCall}
+use Rattle.clif_instructions.specs.declared.block_call.BlockCall.{BlockCall}
 use Rattle.clif_ir.specs.Body.{Body, block_at}
 use Rattle.clif_ir.specs.Consistent.{IsConsistent, EdgeExists}
-use Rattle.clif_ir.specs.Reading.{targets, edges_of}
+use Rattle.clif_instructions.specs.Edges.{targets}
+use Rattle.clif_ir.specs.Reading.{edges_of}
 
 edges_of-exist : (f : Body) → IsConsistent f → (i : Option ℕ) → All (EdgeExists f) (edges_of f i)
 edges_of-exist f known None = All-nil (EdgeExists f)

@@ -7,10 +7,8 @@ pub mod KeepsParam
 pub mod Inserting
 pub mod KeepsInst
 pub mod KeepsPlaces
-pub mod Reading
 pub mod KeepsAlias
 pub mod KeepsListed
-pub mod Edges
 pub mod KeepsBranch
 pub mod Leading
 pub mod KeepsCold

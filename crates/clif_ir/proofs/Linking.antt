@@ -7,7 +7,8 @@ use Rattle.clif_types.specs.declared.extname.UserFuncName.{UserFuncName}
 use Rattle.clif_ir.specs.declared.function.BlockPlace.{BlockPlace}
 use Rattle.clif_ir.specs.Body.{Body, empty_body}
 use Rattle.clif_ir.specs.Changes.{put_behind}
-use Rattle.clif_ir.specs.Consistent.{IsConsistent, Stands, Once}
+use Rattle.clif_ir.specs.Consistent.{IsConsistent}
+use Rattle.clif_instructions.specs.Members.{Stands, Once}
 use Rattle.clif_ir.specs.Whole.{IsPlaced, IsLinked, chain, no_place, linked_after, last_after}
 use Rattle.clif_ir.proofs.Lists.{at_set}
 use Rattle.clif_ir.proofs.KeepsPlaces.{with_order_consistent, with_order_placed}

@@ -4,12 +4,11 @@ use Rattle.std.specs.Prelude.{slice_index, slice_index_or, slice_get, Option, So
 use Rattle.std.proofs.lemmas.Grind.{common_steps}
 use Rattle.clif_ir.specs.declared.function.BlockPlace.{BlockPlace}
 use Rattle.clif_ir.specs.Changes.{put_behind}
-use Rattle.clif_ir.specs.Consistent.{Stands, Once}
-use Rattle.clif_ir.specs.Reading.{next_in, stands_in}
+use Rattle.clif_instructions.specs.Members.{Stands, Once, next_in, stands_in}
 use Rattle.clif_ir.specs.Whole.{IsLinked, chain, last_after, linked_after, no_place}
 use Rattle.clif_ir.proofs.Lists.{at_set}
 use Rattle.clif_ir.proofs.Orders.{Once-length, put_behind-new, put_behind-test, put_behind-first, put_behind-next_after, put_behind-next_new, put_behind-next_old, put_behind-last, put_behind-stands}
-use Rattle.clif_ir.proofs.Reading.{next_in-at, test-from_Stands}
+use Rattle.clif_instructions.proofs.Members.{next_in-at, test-from_Stands}
 
 -- no first block, no layout
 pub chain-none : (n : ℕ) (places : List BlockPlace) → chain n places None ≡ []

@@ -4,11 +4,10 @@ use Rattle.std.specs.Prelude.{slice_index, slice_get, Option, Some, None, IfSome
 use Rattle.std.proofs.lemmas.Bool.{cases_eq}
 use Rattle.std.proofs.lemmas.Option.{slice_get_within, get_or_from_slice_get}
 use Rattle.clif_ir.specs.Changes.{put_behind}
-use Rattle.clif_ir.specs.Consistent.{Stands, Once}
-use Rattle.clif_ir.specs.Reading.{next_in, stands_in, without}
+use Rattle.clif_instructions.specs.Members.{Stands, Once, next_in, stands_in, without}
 use Rattle.clif_ir.specs.Whole.{last_after}
 use Rattle.clif_ir.proofs.Keeps.{Stands-cons}
-use Rattle.clif_ir.proofs.Reading.{if_true, if_false, Once-tail, Once-without, without-stood, same_answers, Stands-from_test, test-from_Stands}
+use Rattle.clif_instructions.proofs.Members.{if_true, if_false, Once-tail, Once-without, without-stood, same_answers, Stands-from_test, test-from_Stands}
 
 -- a list is at most one longer than it is without a number
 length-without : (x : ℕ) (xs : List ℕ) → length xs ≤ length (without x xs) + 1

@@ -2,16 +2,16 @@
 use Rattle.std.specs.Prelude.{ℕ, List, [], ◌∷◌, ◌++◌, ◌+◌, ◌≤◌, ◌==◌, length, slice_set, if◌then◌else◌, true}
 use Rattle.std.specs.List.{insert, range_with_len}
 use Rattle.clif_types.specs.declared.types.«Type».{«Type»}
-use Rattle.clif_ir.specs.declared.instructions.InstructionData.{InstructionData}
+use Rattle.clif_instructions.specs.declared.instructions.InstructionData.{InstructionData}
 use Rattle.clif_ir.specs.declared.function.ValueOrigin.{ValueOrigin}
 use Rattle.clif_ir.specs.declared.function.ValueOrigin.TheVariants.{Result, Param, Alias}
 use Rattle.clif_ir.specs.declared.function.ValueNode.{ValueNode}
 use Rattle.clif_ir.specs.declared.function.InstNode.{InstNode}
-use Rattle.clif_ir.specs.declared.inst_list.InsertAt.{InsertAt}
-use Rattle.clif_ir.specs.declared.inst_list.InsertAt.TheVariants.{Behind, Back}
-use Rattle.clif_ir.specs.Instruction.{with_argument}
+use Rattle.clif_instructions.specs.declared.inst_list.InsertAt.{InsertAt}
+use Rattle.clif_instructions.specs.declared.inst_list.InsertAt.TheVariants.{Behind, Back}
+use Rattle.clif_instructions.specs.Instruction.{with_argument}
 use Rattle.clif_ir.specs.Body.{Body, empty_block, block_at, inst_at, value_at, resolved}
-use Rattle.clif_ir.specs.Reading.{without, stands_in}
+use Rattle.clif_instructions.specs.Members.{put_at, without, stands_in}
 
 -- with a new empty block
 abbrev pub with_block : Body → Body
@@ -55,16 +55,6 @@ result_nodes i k (ty ∷ types) = record { ty = ty; origin = Result i k } ∷ re
 abbrev pub inst_node : Body → ℕ → InstructionData → List «Type» → ℕ → InstNode
 inst_node f b shape types loc =
     record { shape = shape; results = range_with_len (length f.values) (length types); block = b; srcloc = loc }
-
--- there is such a place in a list of so many
-abbrev pub IsPlaceOf : InsertAt → ℕ → Type 0
-IsPlaceOf (Behind count) len = count ≤ len
-IsPlaceOf Back len = Unit {0}
-
--- an instruction more, at this place
-abbrev pub put_at : InsertAt → ℕ → List ℕ → List ℕ
-put_at (Behind count) inst insts = insert insts count inst
-put_at Back inst insts = insts ++ inst ∷ []
 
 -- with a new instruction at this place of block `b`
 abbrev pub with_inst : Body → ℕ → InsertAt → InstructionData → List «Type» → ℕ → Body

@@ -5,18 +5,11 @@ use Rattle.clif_ir.specs.declared.function.ValueOrigin.{ValueOrigin}
 use Rattle.clif_ir.specs.declared.function.ValueOrigin.TheVariants.{Result, Param, Alias}
 use Rattle.clif_ir.specs.declared.function.ValueNode.{ValueNode}
 use Rattle.clif_ir.specs.Body.{Body, value_at, inst_at, block_at, alias_of, alias_of_origin, follow}
-use Rattle.clif_ir.specs.declared.block_call.BlockCall.{BlockCall}
-use Rattle.clif_ir.specs.declared.block_call.BlockArg.{BlockArg}
-use Rattle.clif_ir.specs.declared.block_call.BlockArg.TheVariants as arg
-use Rattle.clif_ir.specs.Instruction.{operands, destinations}
-
--- a number stands in a list
-abbrev pub Stands : ℕ → List ℕ → Type 0
-Stands x xs = (k : ℕ) × (k < length xs) × (slice_index xs k ≡ x)
-
--- no number stands twice in a list
-abbrev pub Once : List ℕ → Type 0
-Once xs = (j k : ℕ) → j < k → k < length xs → slice_index xs j ≢ slice_index xs k
+use Rattle.clif_instructions.specs.declared.block_call.BlockCall.{BlockCall}
+use Rattle.clif_instructions.specs.declared.block_call.BlockArg.{BlockArg}
+use Rattle.clif_instructions.specs.declared.block_call.BlockArg.TheVariants as arg
+use Rattle.clif_instructions.specs.Instruction.{operands, destinations}
+use Rattle.clif_instructions.specs.Members.{Stands, Once}
 
 -- where value `v` comes from exists and knows `v`
 abbrev pub IsOrigin : Body → ℕ → ValueOrigin → Type 0

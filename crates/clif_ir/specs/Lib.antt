@@ -1,8 +1,5 @@
-pub mod Edges
-pub mod Instruction
 pub mod Body
 pub mod Changes
 pub mod Consistent
 pub mod Whole
 pub mod Reading
-pub mod Immediates

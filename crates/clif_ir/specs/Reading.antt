@@ -1,29 +1,15 @@
 -- What the calls that read a function answer. Source: own, after the crate's documentation.
-use Rattle.std.specs.Prelude.{ℕ, ◌==◌, ◌+◌, ◌<◌, List, [], ◌∷◌, length, Option, Some, None, if◌then◌else◌, slice_get, Bool, map, ◌-◌}
-use Rattle.std.specs.List.{list_any}
+use Rattle.std.specs.Prelude.{ℕ, ◌<◌, List, [], length, Option, Some, None, slice_get, ◌-◌}
 use Rattle.clif_ir.specs.declared.function.ValueDef.{ValueDef}
 use Rattle.clif_ir.specs.declared.function.ValueDef.TheVariants as def
 use Rattle.clif_ir.specs.declared.function.ValueOrigin.{ValueOrigin}
 use Rattle.clif_ir.specs.declared.function.ValueOrigin.TheVariants.{Result, Param, Alias}
 use Rattle.clif_ir.specs.declared.function.ValueNode.{ValueNode}
-use Rattle.clif_ir.specs.declared.block_call.BlockCall.{BlockCall}
-use Rattle.clif_ir.specs.Instruction.{destinations}
+use Rattle.clif_instructions.specs.declared.block_call.BlockCall.{BlockCall}
+use Rattle.clif_instructions.specs.Edges.{targets}
+use Rattle.clif_instructions.specs.Instruction.{destinations}
+use Rattle.clif_instructions.specs.Members.{place_of}
 use Rattle.clif_ir.specs.Body.{Body, block_at, inst_at}
-
--- the entry of a list that follows the first `x`
-abbrev pub next_in : List ℕ → ℕ → Option ℕ
-next_in [] x = None
-next_in (y ∷ ys) x = if y == x then slice_get ys 0 else next_in ys x
-
--- the list without its first `x`
-abbrev pub without : ℕ → List ℕ → List ℕ
-without x [] = []
-without x (y ∷ ys) = if y == x then ys else y ∷ without x ys
-
--- the place of the first `x` of a list
-abbrev pub place_of : ℕ → List ℕ → ℕ
-place_of x [] = 0
-place_of x (y ∷ ys) = if y == x then 0 else place_of x ys + 1
 
 -- what defines a value that is no alias
 abbrev pub def_of : Body → ℕ → ValueOrigin → ValueDef
@@ -48,14 +34,6 @@ home_of_node (Some node) = home_of_param node.origin
 
 abbrev pub param_home : Body → ℕ → Option ℕ
 param_home f v = home_of_node (slice_get f.values v)
-
--- whether a number stands in a list
-abbrev pub stands_in : ℕ → List ℕ → Bool
-stands_in x xs = list_any (λ y. y == x) xs
-
--- the targets of edges, in order
-abbrev pub targets : List BlockCall → List ℕ
-targets edges = map (λ (edge : BlockCall). edge.block) edges
 
 -- the edges of an instruction, if there is one
 abbrev pub edges_of : Body → Option ℕ → List BlockCall

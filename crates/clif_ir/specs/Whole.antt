@@ -2,13 +2,13 @@
 -- Source: own. No contract of another crate speaks of it.
 use Rattle.std.specs.Prelude.{◌≡◌, ℕ, ◌+◌, ◌-◌, ◌^◌, ◌<◌, ◌≤◌, zero, suc, List, [], ◌∷◌, length, slice_index, slice_index_or, slice_get, slice_set, Option, Some, None, true, false, All, Contains}
 use Rattle.clif_ir.specs.declared.function.BlockPlace.{BlockPlace}
-use Rattle.clif_ir.specs.declared.inst_list.InsertAt.{InsertAt}
-use Rattle.clif_ir.specs.declared.inst_list.InsertAt.TheVariants.{Behind, Back}
+use Rattle.clif_instructions.specs.declared.inst_list.InsertAt.{InsertAt}
+use Rattle.clif_instructions.specs.declared.inst_list.InsertAt.TheVariants.{Behind, Back}
 use Rattle.clif_ir.specs.declared.function.Function.TheInside.{Inside}
 use Rattle.clif_ir.specs.declared.function.ValueNode.{ValueNode}
 use Rattle.clif_ir.specs.Body.{Body, empty_block, alias_of}
 use Rattle.clif_ir.specs.Consistent.{IsConsistent}
-use Rattle.clif_ir.specs.Reading.{next_in, stands_in}
+use Rattle.clif_instructions.specs.Members.{next_in, stands_in}
 
 -- the place of a block as it is made
 abbrev pub no_place : BlockPlace

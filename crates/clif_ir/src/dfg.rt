@@ -6,16 +6,17 @@
 ghost use Rattle.std.specs.Prelude.{◌≡◌, ◌≢◌, [], ◌∷◌, ◌++◌, length, ◌+◌, ◌-◌, ◌^◌, ◌≤◌, ◌<◌, ◌⊎◌, ℕ, true, slice_index, slice_index_or, slice_set, map, EachIndex, vec_len, vec_capacity, All, IfOk, OnOk, OnErr};
 ghost use Rattle.clif_types.specs.Typing.{type_of_kind};
 ghost use Rattle.clif_ir.specs.Body.{Body, value_at, block_at, empty_block, resolved};
-ghost use Rattle.clif_ir.specs.Consistent.{Stands, EdgeExists};
-ghost use Rattle.clif_ir.specs.Instruction.{operands, destinations, has_result, result_types};
+ghost use Rattle.clif_instructions.specs.Members.{Stands, IsPlaceOf, put_at};
+ghost use Rattle.clif_ir.specs.Consistent.{EdgeExists};
+ghost use Rattle.clif_instructions.specs.Instruction.{operands, destinations, has_result, result_types};
 ghost use Rattle.clif_ir.specs.Whole.{lowered, moved_count, next_slot, placed_at};
-ghost use Rattle.clif_ir.specs.Changes.{IsPlaceOf, with_block, with_param, with_inst, with_branch_argument, with_alias, home_of, put_at, result_nodes};
+ghost use Rattle.clif_ir.specs.Changes.{with_block, with_param, with_inst, with_branch_argument, with_alias, home_of, result_nodes};
 ghost use Rattle.std.specs.List.{range_with_len};
 
 use crate::function::{BlockNode, BlockPlace, Function, InstNode, ValueNode, ValueOrigin};
-use crate::inst_list::{InsertAt, InstList};
-use crate::instructions::InstructionData;
-use crate::value_list::ValueList;
+use clif_instructions::inst_list::{InsertAt, InstList};
+use clif_instructions::instructions::InstructionData;
+use clif_instructions::value_list::ValueList;
 use clif_types::{Block, BuildError, EntityRef, Inst, Kind, SourceLoc, Type, Value};
 use std::alloc::Global;
 

@@ -2,12 +2,12 @@
 ghost use Rattle.std.specs.Prelude.{◌≡◌, length, ◌<◌, ◌^◌, IfSome, IsSome, None, EachIndex, All, slice_index};
 ghost use Rattle.clif_ir.specs.Body.{empty_body, value_at, inst_at, block_at, resolved, alias_of};
 ghost use Rattle.clif_ir.specs.Consistent.{IsConsistent, EdgeExists};
-ghost use Rattle.clif_ir.specs.Instruction.{operands, destinations};
+ghost use Rattle.clif_instructions.specs.Instruction.{operands, destinations};
 ghost use Rattle.clif_ir.specs.Reading.{def_of, DefExists, param_home};
 
-use crate::inst_list::InstList;
-use crate::instructions::InstructionData;
-use crate::value_list::ValueList;
+use clif_instructions::inst_list::InstList;
+use clif_instructions::instructions::InstructionData;
+use clif_instructions::value_list::ValueList;
 use clif_types::{Block, EntityRef, Inst, Signature, SourceLoc, Type, UserFuncName, Value};
 use std::alloc::Global;
 use std::collections::BTreeSet;

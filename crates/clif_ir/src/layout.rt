@@ -2,8 +2,7 @@
 ghost use Rattle.std.specs.Prelude.{◌≡◌, [], ◌<◌, ◌-◌, ◌↔◌, length, IfSome, IsTrue, Some, slice_get, slice_index, slice_index_or, slice_set, true, ◌^◌, OnOk, OnErr};
 ghost use Rattle.clif_ir.specs.Body.{Body, inst_at, block_at};
 ghost use Rattle.clif_ir.specs.Changes.{inserted_in, with_cold, with_layout, with_layout_after};
-ghost use Rattle.clif_ir.specs.Consistent.{Stands};
-ghost use Rattle.clif_ir.specs.Reading.{next_in, stands_in};
+ghost use Rattle.clif_instructions.specs.Members.{Stands, next_in, stands_in};
 ghost use Rattle.clif_ir.specs.Whole.{last_after, linked_after, no_place};
 
 use crate::function::{BlockPlace, Function};

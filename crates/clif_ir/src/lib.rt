@@ -8,20 +8,15 @@
 //! opcodes and numbers: the tests of `clif_ir_tests` do.
 #![tactic(auto)]
 
-pub mod block_call;
 pub mod dfg;
 pub mod function;
-pub mod immediates;
-pub mod inst_list;
-pub mod instructions;
 pub mod layout;
 pub mod successors;
-pub mod value_list;
 pub mod write;
 
-pub use block_call::{BlockArg, BlockArgs, BlockCall};
+pub use clif_instructions::block_call::{BlockArg, BlockArgs, BlockCall};
+pub use clif_instructions::instructions::InstructionData;
+pub use clif_instructions::value_list::ValueList;
 pub use clif_types::{BinaryOpcode, UnaryOpcode};
 pub use function::{BlockNode, Function, InstNode, ValueDef, ValueNode, ValueOrigin};
-pub use instructions::InstructionData;
 pub use successors::Successors;
-pub use value_list::ValueList;

@@ -4,7 +4,7 @@ ghost use Rattle.std.specs.Iterator.{YieldsFirst, item_count};
 ghost use Rattle.clif_ir.specs.Body.{block_at};
 ghost use Rattle.clif_ir.specs.Reading.{edges_of, successors};
 
-use crate::block_call::BlockCall;
+use clif_instructions::block_call::BlockCall;
 use crate::function::Function;
 use clif_types::Block;
 use std::marker::Model;
@@ -17,7 +17,7 @@ pub struct Successors<'a> {
 
 impl<'a> Model for Successors<'a> {
     ghost use Rattle.std.specs.Prelude.{ℕ, List};
-    ghost use Rattle.clif_ir.specs.Reading.{targets};
+    ghost use Rattle.clif_instructions.specs.Edges.{targets};
 
     ghost Value = { List ℕ };
 

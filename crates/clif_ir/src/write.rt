@@ -9,12 +9,12 @@
 //! its aliases. It is proved that each call is safe and ends, and tested which text it writes.
 ghost use Rattle.std.specs.Prelude.{ℕ, ◌≡◌, ◌<◌, length, EachIndex, All, slice_index};
 ghost use Rattle.clif_ir.specs.Consistent.{EdgeExists};
-ghost use Rattle.clif_ir.specs.Instruction.{operands, destinations};
+ghost use Rattle.clif_instructions.specs.Instruction.{operands, destinations};
 
-use crate::block_call::{BlockArg, BlockCall};
+use clif_instructions::block_call::{BlockArg, BlockCall};
 use crate::function::{Function, ValueDef};
-use crate::immediates::{Imm64, signed_at};
-use crate::instructions::InstructionData;
+use clif_instructions::immediates::{Imm64, signed_at};
+use clif_instructions::instructions::InstructionData;
 use clif_types::{Block, EntityRef, Inst, Suffix, Type, Value};
 use std::fmt;
 

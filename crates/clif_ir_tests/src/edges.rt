@@ -7,9 +7,9 @@ use crate::steps::Step::{
 };
 use crate::steps::{makes, makes_of, runs};
 use crate::support::typed;
-use clif_ir::block_call::{BlockArg, BlockArgs, BlockCall};
-use clif_ir::inst_list::InsertAt::Back;
-use clif_ir::instructions::InstructionData;
+use clif_instructions::block_call::{BlockArg, BlockArgs, BlockCall};
+use clif_instructions::inst_list::InsertAt::Back;
+use clif_instructions::instructions::InstructionData;
 use clif_types::BinaryOpcode::{Iadd, Isub};
 use clif_types::types::I32;
 use clif_types::{Block, CallConv, Value};

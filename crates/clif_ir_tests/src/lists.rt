@@ -2,9 +2,9 @@
 #![tactic(auto)]
 
 use crate::support::{i, is_place_of, v};
-use clif_ir::inst_list::{InsertAt, InstList};
-use clif_ir::instructions::InstructionData;
-use clif_ir::value_list::ValueList;
+use clif_instructions::inst_list::{InsertAt, InstList};
+use clif_instructions::instructions::InstructionData;
+use clif_instructions::value_list::ValueList;
 use clif_types::{BinaryOpcode, Value};
 use std::process::Abort;
 use std::test::Fail;

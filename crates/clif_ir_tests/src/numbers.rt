@@ -3,8 +3,8 @@
 
 use crate::steps::Step::{Create, Iconst, LayOut, ReturnTwo};
 use crate::steps::makes;
-use clif_ir::immediates::{Imm64, signed_at};
-use clif_ir::inst_list::InsertAt::Back;
+use clif_instructions::immediates::{Imm64, signed_at};
+use clif_instructions::inst_list::InsertAt::Back;
 use clif_types::{Type, types};
 use std::alloc::Global;
 use std::process::Abort;

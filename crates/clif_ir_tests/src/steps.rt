@@ -6,11 +6,11 @@ use crate::support::{
     PLACE, b, block_of, has_edges, has_operands, inst_of, is_param, is_place_of, prints, sample, v,
     value_of,
 };
-use clif_ir::block_call::BlockCall;
+use clif_instructions::block_call::BlockCall;
 use clif_ir::function::Function;
-use clif_ir::inst_list::InsertAt;
-use clif_ir::instructions::InstructionData;
-use clif_ir::value_list::ValueList;
+use clif_instructions::inst_list::InsertAt;
+use clif_instructions::instructions::InstructionData;
+use clif_instructions::value_list::ValueList;
 use clif_types::{BinaryOpcode, SourceLoc, Type, UnaryOpcode, Value};
 use std::alloc::Global;
 use std::process::Abort;

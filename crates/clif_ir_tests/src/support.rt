@@ -3,12 +3,13 @@
 
 ghost use Rattle.std.specs.Prelude.{◌≡◌, ◌<◌, length, IsTrue, EachIndex, All, slice_index};
 ghost use Rattle.clif_ir.specs.Body.{value_at};
-ghost use Rattle.clif_ir.specs.Changes.{home_of, IsPlaceOf};
+ghost use Rattle.clif_ir.specs.Changes.{home_of};
+ghost use Rattle.clif_instructions.specs.Members.{IsPlaceOf};
 ghost use Rattle.clif_ir.specs.Consistent.{EdgeExists};
 
-use clif_ir::block_call::BlockCall;
+use clif_instructions::block_call::BlockCall;
 use clif_ir::function::{Function, ValueOrigin};
-use clif_ir::inst_list::InsertAt;
+use clif_instructions::inst_list::InsertAt;
 use clif_types::{
     AbiParam, Block, CallConv, EntityRef, Inst, Signature, Type, UserFuncName, Value,
 };

@@ -7,7 +7,7 @@ use Rattle.clif_types.specs.declared.types.«Type».{«Type»}
 use Rattle.clif_types.specs.Signature.{SignatureShape}
 use Rattle.clif_ir.specs.Body.{Body}
 use Rattle.clif_ir.specs.Changes.{inserted_in, with_layout}
-use Rattle.clif_ir.specs.Reading.{stands_in}
+use Rattle.clif_instructions.specs.Members.{stands_in}
 use Rattle.clif_ssa.specs.Constructs.{OnlyConstructs}
 use Rattle.clif_ssa.specs.Limits.{IsFull}
 use Rattle.clif_meaning.specs.Ledger.{Ledger}

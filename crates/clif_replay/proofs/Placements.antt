@@ -5,8 +5,7 @@ use Rattle.std.specs.List.{list_any}
 use Rattle.std.proofs.lemmas.Bool.{and_parts, eq-eqb, eqb-true, false_from_ne_true, false≢true}
 use Rattle.clif_types.specs.Signature.{SignatureShape}
 use Rattle.std.proofs.lemmas.List.Folds.{list_any_at}
-use Rattle.clif_ir.specs.Consistent.{Stands}
-use Rattle.clif_ir.specs.Reading.{stands_in}
+use Rattle.clif_instructions.specs.Members.{Stands, stands_in}
 use Rattle.clif_meaning.specs.Name as meaning
 use Rattle.clif_meaning.specs.Request.{AnsweredCall, InsertBlockAfter, SetColdBlock}
 use Rattle.clif_meaning.specs.Ledger.{Ledger, has_block, is_inserted}

@@ -1,7 +1,7 @@
 //! The instructions of a script, each made on a builder by its plan, if its condition holds.
 ghost use Rattle.std.specs.Prelude.{◌≡◌, ◌<◌, ◌-◌, ◌∷◌, [], length, slice_index, EachIndex, All, Err};
 ghost use Rattle.clif_ir.specs.Body.{value_at};
-ghost use Rattle.clif_ir.specs.Instruction.{destinations, operands};
+ghost use Rattle.clif_instructions.specs.Instruction.{destinations, operands};
 ghost use Rattle.clif_meaning.specs.Acceptance.{can_operate};
 ghost use Rattle.cranelift_frontend.specs.Builder.{CanLead, HasCurrent};
 ghost use Rattle.cranelift_frontend.specs.Built.{Builds};

@@ -7,10 +7,11 @@ use Rattle.std.specs.Prelude.{slice_index}
 use Rattle.std.proofs.lemmas.Bool.Decides.{nat_tests}
 use Rattle.std.proofs.lemmas.List.{map-append, length-append}
 use Rattle.clif_ir.specs.Body.{Body, value_at, inst_at, block_at, resolved, alias_of, alias_of_origin}
-use Rattle.clif_ir.specs.Consistent.{IsConsistent, IsOrigin, Stands}
-use Rattle.clif_ir.specs.Instruction.{destinations}
-use Rattle.clif_ir.specs.Reading.{stands_in, home_of_param, param_home}
-use Rattle.clif_ir.specs.declared.block_call.BlockCall.{BlockCall}
+use Rattle.clif_ir.specs.Consistent.{IsConsistent, IsOrigin}
+use Rattle.clif_instructions.specs.Members.{Stands, stands_in}
+use Rattle.clif_instructions.specs.Instruction.{destinations}
+use Rattle.clif_ir.specs.Reading.{home_of_param, param_home}
+use Rattle.clif_instructions.specs.declared.block_call.BlockCall.{BlockCall}
 use Rattle.clif_ir.specs.declared.function.ValueOrigin.{ValueOrigin}
 use Rattle.clif_ir.specs.declared.function.ValueOrigin.TheVariants as origin
 use Rattle.clif_ir.proofs.Aliases.{resolved-no_alias}

@@ -11,7 +11,7 @@ use Rattle.clif_ir.specs.declared.function.BlockNode.{BlockNode}
 use Rattle.clif_ir.specs.Body.{Body, empty_block, block_at}
 use Rattle.clif_ir.specs.Consistent.{IsConsistent}
 use Rattle.clif_ir.specs.Changes.{with_block, inserted_in}
-use Rattle.clif_ir.specs.Reading.{stands_in}
+use Rattle.clif_instructions.specs.Members.{stands_in}
 use Rattle.clif_paths.specs.Places.{inside}
 use Rattle.clif_paths.specs.State.{Naming}
 use Rattle.clif_paths.specs.Blocks.{Blocks, with_item, with_read, with_write}

@@ -6,7 +6,7 @@ use Rattle.std.specs.List.{AllByRecursion}
 use Rattle.std.proofs.lemmas.List.{append-nil, map-append}
 use Rattle.std.proofs.lemmas.Grind.{flat_map-append}
 use Rattle.clif_ir.specs.Body.{Body}
-use Rattle.clif_ir.specs.Reading.{stands_in}
+use Rattle.clif_instructions.specs.Members.{stands_in}
 use Rattle.clif_ssa.specs.Own.{Own}
 use Rattle.clif_ssa.specs.Ssa.{SsaState, SamePredecessors}
 use Rattle.clif_ssa.specs.Structured.{Structured, VariableTypes}

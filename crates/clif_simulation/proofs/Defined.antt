@@ -5,11 +5,12 @@ use Rattle.std.specs.Prelude.{slice_index}
 use Rattle.std.proofs.lemmas.Option.{slice_get_within, get_or_from_slice_get}
 use Rattle.clif_ir.specs.Body.{Body, inst_at, block_at, resolved}
 use Rattle.clif_ir.specs.Consistent.{IsConsistent, EdgeExists, PassedExists}
-use Rattle.clif_ir.specs.Instruction.{destinations, operands}
-use Rattle.clif_ir.specs.Reading.{param_home, place_of}
-use Rattle.clif_ir.specs.declared.block_call.BlockArg.{BlockArg}
-use Rattle.clif_ir.specs.declared.block_call.BlockArg.TheVariants.{Value, TryCallRet, TryCallExn}
-use Rattle.clif_ir.specs.declared.block_call.BlockCall.{BlockCall}
+use Rattle.clif_instructions.specs.Instruction.{destinations, operands}
+use Rattle.clif_ir.specs.Reading.{param_home}
+use Rattle.clif_instructions.specs.Members.{place_of}
+use Rattle.clif_instructions.specs.declared.block_call.BlockArg.{BlockArg}
+use Rattle.clif_instructions.specs.declared.block_call.BlockArg.TheVariants.{Value, TryCallRet, TryCallExn}
+use Rattle.clif_instructions.specs.declared.block_call.BlockCall.{BlockCall}
 use Rattle.clif_ir.proofs.Aliases.{follow-inside}
 use Rattle.clif_ir.proofs.Keeps.{leads_inside}
 use Rattle.clif_paths.specs.Places.{inside, Edges, Visits, Dominates}

@@ -3,7 +3,7 @@ use Rattle.std.proofs.Common.{◌≡◌, ℕ, ◌&&◌, Bool, true, List, length
 use Rattle.std.specs.Prelude.{IsTrue}
 use Rattle.clif_ir.specs.Body.{Body, block_at, resolved}
 use Rattle.clif_ir.specs.Consistent.{IsConsistent}
-use Rattle.clif_ir.specs.declared.block_call.BlockCall.{BlockCall}
+use Rattle.clif_instructions.specs.declared.block_call.BlockCall.{BlockCall}
 use Rattle.clif_paths.specs.Places.{Arm, Path}
 use Rattle.clif_paths.specs.State.{Program, Function}
 use Rattle.clif_paths.specs.Blocks.{front, last_place, state_of}

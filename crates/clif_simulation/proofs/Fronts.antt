@@ -11,8 +11,8 @@ use Rattle.std.proofs.lemmas.List.{map-append}
 use Rattle.std.specs.List.{AllByRecursion}
 use Rattle.clif_ir.specs.Body.{Body, inst_at, block_at, resolved}
 use Rattle.clif_ir.specs.Consistent.{IsConsistent}
-use Rattle.clif_ir.specs.Reading.{stands_in}
-use Rattle.clif_ir.specs.Instruction.{operands}
+use Rattle.clif_instructions.specs.Members.{stands_in}
+use Rattle.clif_instructions.specs.Instruction.{operands}
 use Rattle.clif_paths.specs.State.{Definition}
 use Rattle.clif_paths.specs.Blocks.{Blocks}
 use Rattle.clif_ssa.specs.Sound.{HasInstructions}

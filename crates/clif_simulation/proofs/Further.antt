@@ -5,7 +5,7 @@ use Rattle.clif_ir.specs.Body.{Body, block_at, empty_block}
 use Rattle.clif_ir.specs.declared.function.BlockNode.{BlockNode}
 use Rattle.clif_ir.specs.Consistent.{IsConsistent}
 use Rattle.clif_ir.specs.Changes.{inserted_in, put_behind, with_cold, with_layout_after}
-use Rattle.clif_ir.specs.Reading.{stands_in}
+use Rattle.clif_instructions.specs.Members.{stands_in}
 use Rattle.clif_paths.specs.Blocks.{Blocks}
 use Rattle.clif_ssa.specs.Own.{Own}
 use Rattle.clif_ssa.specs.Ssa.{SsaState, SamePredecessors}

@@ -1,6 +1,6 @@
 -- The row `both_arms` with another argument isn't carried: the value isn't there yet.
 use Rattle.std.proofs.Common.{◌≡◌, ℕ, zero, suc, ◌+◌, ◌==◌, ◌&&◌, nat_lt, Bool, true, false, Option, Some, None, List, [], ◌∷◌, ◌⊎◌, inl, inr, pos, refl, sym, ◌∙◌, ap, subst, arith, length, Contains}
-use Rattle.clif_ir.specs.declared.block_call.BlockArg.TheVariants.{Value}
+use Rattle.clif_instructions.specs.declared.block_call.BlockArg.TheVariants.{Value}
 use Rattle.clif_ir.specs.Body.{Body, follow}
 use Rattle.clif_paths.specs.Places.{Place, start, inside, same_place, Arm, Path, end_of, Follows, Visits, VisitsBefore, Dominates, StrictlyBefore}
 use Rattle.clif_paths.specs.State.{Kind, Definition, unborn, born, pending, complete, zero_of}

@@ -3,11 +3,12 @@ use Rattle.std.proofs.Common.{◌≡◌, ◌≢◌, ℕ, zero, suc, ◌+◌, ◌
 use Rattle.std.specs.List.{AllByRecursion}
 use Rattle.std.specs.Prelude.{All, slice_index}
 use Rattle.std.proofs.lemmas.List.Elements.{All-from_recursion}
-use Rattle.clif_ir.specs.declared.block_call.BlockArg.{BlockArg}
+use Rattle.clif_instructions.specs.declared.block_call.BlockArg.{BlockArg}
 use Rattle.clif_ir.specs.declared.function.ValueOrigin.TheVariants.{Result, Param}
 use Rattle.clif_ir.specs.Body.{inst_at, value_at, block_at, alias_of, follow}
-use Rattle.clif_ir.specs.Consistent.{IsConsistent, IsOrigin, Once, Stands, EdgeExists, PassedExists, alias_count}
-use Rattle.clif_ir.specs.Instruction.{operands, destinations}
+use Rattle.clif_ir.specs.Consistent.{IsConsistent, IsOrigin, EdgeExists, PassedExists, alias_count}
+use Rattle.clif_instructions.specs.Members.{Once, Stands}
+use Rattle.clif_instructions.specs.Instruction.{operands, destinations}
 use Rattle.clif_simulation.specs.CarryingExamples.{loop_body}
 
 -- numbers that follow each other

@@ -1,9 +1,9 @@
 -- The row `both_arms`: its tables describe the function and the state of its construction.
 use Rattle.std.proofs.Common.{◌≡◌, ◌≢◌, ℕ, zero, suc, ◌+◌, ◌<◌, ◌≤◌, ◌&&◌, ◌⊎◌, true, Some, None, List, [], ◌∷◌, inl, inr, refl, sym, ◌∙◌, ap, subst, arith, Contains, slice_index_or, length, map}
-use Rattle.clif_ir.specs.declared.block_call.BlockArg.TheVariants.{Value}
+use Rattle.clif_instructions.specs.declared.block_call.BlockArg.TheVariants.{Value}
 use Rattle.clif_ir.specs.Body.{follow, resolved, block_at}
-use Rattle.clif_ir.specs.Consistent.{Once}
-use Rattle.clif_ir.specs.Reading.{param_home, place_of}
+use Rattle.clif_instructions.specs.Members.{Once, place_of}
+use Rattle.clif_ir.specs.Reading.{param_home}
 use Rattle.clif_paths.specs.Places.{Place, start, inside, Arm}
 use Rattle.clif_paths.specs.State.{Definition, fresh, reads, unborn, born, complete}
 use Rattle.clif_paths.specs.Blocks.{front, last_place, AssignsNot}

@@ -4,7 +4,7 @@ use Rattle.std.specs.List.{AllByRecursion}
 use Rattle.std.specs.Prelude.{Option, is_some}
 use Rattle.clif_types.specs.declared.types.«Type».{«Type»}
 use Rattle.clif_ir.specs.Body.{follow, resolved}
-use Rattle.clif_ir.specs.Reading.{stands_in}
+use Rattle.clif_instructions.specs.Members.{stands_in}
 use Rattle.clif_paths.specs.Places.{start}
 use Rattle.clif_ssa.specs.Ssa.{sealed_of}
 use Rattle.clif_ssa.specs.Sound.{entry_of}

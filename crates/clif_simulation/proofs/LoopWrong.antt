@@ -1,7 +1,7 @@
 -- What the row `both_arms` doesn't carry.
 use Rattle.std.proofs.Common.{◌≡◌, ℕ, zero, suc, true, List, [], ◌∷◌, pos, refl, sym, ◌∙◌, ap, arith, map, length, Contains}
-use Rattle.clif_ir.specs.declared.block_call.BlockArg.{BlockArg}
-use Rattle.clif_ir.specs.declared.block_call.BlockArg.TheVariants.{Value}
+use Rattle.clif_instructions.specs.declared.block_call.BlockArg.{BlockArg}
+use Rattle.clif_instructions.specs.declared.block_call.BlockArg.TheVariants.{Value}
 use Rattle.clif_ir.specs.Body.{Body}
 use Rattle.clif_paths.specs.State.{Kind, unborn, born, pending, complete, zero_of}
 use Rattle.clif_ssa.specs.Sound.{IsBehind, IsCounted}

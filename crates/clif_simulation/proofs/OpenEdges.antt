@@ -5,10 +5,11 @@ use Rattle.std.proofs.Common.{◌≡◌, ◌≢◌, ◌⊎◌, inl, inr, ℕ, su
 use Rattle.std.proofs.lemmas.List.{append-nil, length-append}
 use Rattle.clif_ir.specs.Body.{Body, block_at, resolved}
 use Rattle.clif_ir.specs.Consistent.{IsConsistent}
-use Rattle.clif_ir.specs.Reading.{param_home, place_of}
-use Rattle.clif_ir.specs.declared.block_call.BlockArg.{BlockArg}
-use Rattle.clif_ir.specs.declared.block_call.BlockArg.TheVariants.{Value}
-use Rattle.clif_ir.specs.declared.block_call.BlockCall.{BlockCall}
+use Rattle.clif_ir.specs.Reading.{param_home}
+use Rattle.clif_instructions.specs.Members.{place_of}
+use Rattle.clif_instructions.specs.declared.block_call.BlockArg.{BlockArg}
+use Rattle.clif_instructions.specs.declared.block_call.BlockArg.TheVariants.{Value}
+use Rattle.clif_instructions.specs.declared.block_call.BlockCall.{BlockCall}
 use Rattle.clif_paths.specs.Places.{Place, Arm, Path}
 use Rattle.clif_paths.specs.State.{Definition, Program, Function, complete}
 use Rattle.clif_paths.specs.Blocks.{front, sealed_at, state_of}

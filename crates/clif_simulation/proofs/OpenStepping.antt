@@ -6,7 +6,7 @@ use Rattle.clif_types.specs.Signature.{SignatureShape}
 use Rattle.clif_types.specs.declared.target.PointerWidth.{PointerWidth}
 use Rattle.clif_ir.specs.Body.{Body, block_at, inst_at, resolved}
 use Rattle.clif_ir.specs.Consistent.{IsConsistent}
-use Rattle.clif_ir.specs.declared.block_call.BlockCall.{BlockCall}
+use Rattle.clif_instructions.specs.declared.block_call.BlockCall.{BlockCall}
 use Rattle.clif_paths.specs.Places.{inside, Arm, Path, Follows, end_of}
 use Rattle.clif_paths.specs.State.{Program, Function}
 use Rattle.clif_paths.specs.Denotation.{denotes}

@@ -3,7 +3,7 @@ use Rattle.std.proofs.Common.{◌≡◌, ℕ, List, [], ◌∷◌, ◌++◌, len
 use Rattle.std.specs.Prelude.{slice_get, Option, if◌then◌else◌}
 use Rattle.clif_ir.specs.Body.{Body}
 use Rattle.clif_ir.specs.Changes.{inserted_in, with_layout}
-use Rattle.clif_ir.specs.Reading.{stands_in}
+use Rattle.clif_instructions.specs.Members.{stands_in}
 use Rattle.clif_ssa.specs.Sound.{entry_of}
 use Rattle.clif_meaning.specs.Name.{Name, answer_of}
 use Rattle.clif_meaning.specs.Instruction.{Instruction}
@@ -12,8 +12,7 @@ use Rattle.clif_meaning.specs.Program.{Program, Instruct, Use, Assign, extended,
 use Rattle.clif_simulation.specs.Tables.{program_so_far, block_name}
 use Rattle.clif_simulation.specs.Carries.{HasEntry}
 use Rattle.clif_simulation.proofs.Numbers.{program_longer, place_so_far}
-use Rattle.clif_simulation.proofs.Effects.{MakesNoParameter}
-use Rattle.clif_simulation.proofs.Effects.{MakesNoBlock}
+use Rattle.clif_simulation.proofs.Effects.{MakesNoParameter, MakesNoBlock}
 use Rattle.clif_simulation.proofs.ItemCalls.{PutsItem}
 
 module _ (calls : List AnsweredCall) (call : AnsweredCall) where

@@ -2,8 +2,7 @@
 use Rattle.std.proofs.Common.{◌≡◌, ◌≢◌, ℕ, zero, suc, ◌+◌, ◌<◌, ◌≤◌, Bool, true, false, List, [], ◌∷◌, ◌++◌, length, map, slice_get, Option, Some, inl, inr, refl, sym, ◌∙◌, ap, arith, if◌then◌else◌}
 use Rattle.std.proofs.Math.Decide.{ℕ_discrete}
 use Rattle.std.proofs.lemmas.Bool.Decides.{nat_tests}
-use Rattle.clif_ir.specs.Consistent.{Stands}
-use Rattle.clif_ir.specs.Reading.{place_of}
+use Rattle.clif_instructions.specs.Members.{Stands, place_of}
 use Rattle.clif_ssa.proofs.Ordering.{place_here, place_later}
 use Rattle.clif_meaning.specs.Store.{assigned}
 use Rattle.clif_meaning.specs.FunctionMachine.{same_value}

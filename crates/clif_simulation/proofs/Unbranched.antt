@@ -3,8 +3,8 @@ use Rattle.std.proofs.Common.{◌≡◌, ℕ, zero, suc, List, [], ◌∷◌, ma
 use Rattle.std.specs.Prelude.{flat_map}
 use Rattle.std.specs.List.{AllByRecursion}
 use Rattle.clif_ir.specs.Body.{Body, inst_at}
-use Rattle.clif_ir.specs.Instruction.{destinations}
-use Rattle.clif_ir.specs.declared.block_call.BlockCall.{BlockCall}
+use Rattle.clif_instructions.specs.Instruction.{destinations}
+use Rattle.clif_instructions.specs.declared.block_call.BlockCall.{BlockCall}
 use Rattle.clif_ssa.specs.Own.{Own}
 use Rattle.clif_ssa.specs.Ssa.{SsaState, predecessors_of}
 use Rattle.clif_ssa.specs.Sound.{edge_target}

@@ -9,8 +9,8 @@ use Rattle.clif_types.specs.declared.types.«Type».{«Type»}
 use Rattle.clif_types.specs.Types.{bits_of}
 use Rattle.clif_ir.specs.Body.{Body, alias_of_origin, inst_at, resolved, value_at}
 use Rattle.clif_ir.specs.Consistent.{IsConsistent}
-use Rattle.clif_ir.specs.Instruction.{destinations, operands}
-use Rattle.clif_ir.specs.declared.instructions.InstructionData.{InstructionData}
+use Rattle.clif_instructions.specs.Instruction.{destinations, operands}
+use Rattle.clif_instructions.specs.declared.instructions.InstructionData.{InstructionData}
 use Rattle.clif_ir.proofs.Aliases.{follow_end}
 use Rattle.clif_paths.specs.Places.{start}
 use Rattle.clif_paths.specs.State.{unborn, zero_of}

@@ -3,10 +3,10 @@ use Rattle.std.specs.Prelude.{◌≡◌, ℕ, ◌<◌, length, false, List, [], 
 use Rattle.clif_types.specs.declared.target.PointerWidth.TheVariants.{U64}
 use Rattle.clif_types.specs.Target.{pointer_type_of}
 use Rattle.clif_types.specs.declared.extname.UserFuncName.TheVariants.{Testcase}
-use Rattle.clif_ir.specs.declared.block_call.BlockArg.{BlockArg}
-use Rattle.clif_ir.specs.declared.block_call.BlockArg.TheVariants.{Value}
-use Rattle.clif_ir.specs.declared.block_call.BlockCall.{BlockCall}
-use Rattle.clif_ir.specs.declared.instructions.InstructionData.TheVariants.{UnaryImm, Binary, Jump, Brif, MultiAry}
+use Rattle.clif_instructions.specs.declared.block_call.BlockArg.{BlockArg}
+use Rattle.clif_instructions.specs.declared.block_call.BlockArg.TheVariants.{Value}
+use Rattle.clif_instructions.specs.declared.block_call.BlockCall.{BlockCall}
+use Rattle.clif_instructions.specs.declared.instructions.InstructionData.TheVariants.{UnaryImm, Binary, Jump, Brif, MultiAry}
 use Rattle.clif_ir.specs.declared.function.ValueOrigin.TheVariants.{Result, Param}
 use Rattle.clif_ir.specs.Body.{Body}
 use Rattle.clif_ir.specs.Consistent.{IsConsistent}

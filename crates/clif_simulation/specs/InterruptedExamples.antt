@@ -3,8 +3,8 @@
 -- to a block before its parameter is made. Own.
 use Rattle.std.specs.Prelude.{ℕ, false, List, [], ◌∷◌}
 use Rattle.clif_types.specs.declared.extname.UserFuncName.TheVariants.{Testcase}
-use Rattle.clif_ir.specs.declared.block_call.BlockArg.TheVariants.{Value}
-use Rattle.clif_ir.specs.declared.instructions.InstructionData.TheVariants.{Jump}
+use Rattle.clif_instructions.specs.declared.block_call.BlockArg.TheVariants.{Value}
+use Rattle.clif_instructions.specs.declared.instructions.InstructionData.TheVariants.{Jump}
 use Rattle.clif_ir.specs.declared.function.ValueOrigin.TheVariants.{Param}
 use Rattle.clif_ir.specs.Body.{Body}
 use Rattle.clif_ssa.specs.declared.tables.Pending.{Pending}

@@ -2,7 +2,7 @@
 -- used before it was assigned, so its parameter waits. Own.
 use Rattle.std.specs.Prelude.{false, ℕ, zero, suc, List, [], ◌∷◌, pos}
 use Rattle.clif_types.specs.declared.extname.UserFuncName.TheVariants.{Testcase}
-use Rattle.clif_ir.specs.declared.instructions.InstructionData.TheVariants.{UnaryImm}
+use Rattle.clif_instructions.specs.declared.instructions.InstructionData.TheVariants.{UnaryImm}
 use Rattle.clif_ir.specs.declared.function.ValueOrigin.TheVariants.{Result, Param}
 use Rattle.clif_ir.specs.Body.{Body}
 use Rattle.clif_ssa.specs.declared.tables.Pending.{Pending}

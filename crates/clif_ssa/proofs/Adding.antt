@@ -7,8 +7,8 @@ use Rattle.std.proofs.lemmas.List.Elements.{Contains-append_left, Contains-push,
 use Rattle.clif_types.specs.declared.types.«Type».{«Type»}
 use Rattle.clif_ir.specs.Body.{Body, block_at, resolved}
 use Rattle.clif_ir.specs.Changes.{with_param}
-use Rattle.clif_ir.specs.Reading.{param_home, place_of}
-use Rattle.clif_ir.specs.Consistent.{Stands, Once}
+use Rattle.clif_ir.specs.Reading.{param_home}
+use Rattle.clif_instructions.specs.Members.{place_of, Stands, Once}
 use Rattle.clif_ir.proofs.Keeps.{Stands-append, Stands-push, Once-push}
 use Rattle.clif_ir.proofs.Lists.{below_or_not, at_push}
 use Rattle.clif_paths.specs.State.{pending, complete, Definition, Kind}

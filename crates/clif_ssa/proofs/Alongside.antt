@@ -7,7 +7,8 @@ use Rattle.clif_types.specs.declared.types.«Type».{«Type»}
 use Rattle.clif_ir.specs.Body.{Body, block_at, value_at, resolved}
 use Rattle.clif_ir.specs.Changes.{with_param, with_alias, with_branch_argument}
 use Rattle.clif_ir.specs.Consistent.{IsConsistent}
-use Rattle.clif_ir.specs.Reading.{param_home, stands_in}
+use Rattle.clif_ir.specs.Reading.{param_home}
+use Rattle.clif_instructions.specs.Members.{stands_in}
 use Rattle.clif_paths.specs.LookUp.{InList}
 use Rattle.clif_ssa.specs.declared.look_up.Call.{Call}
 use Rattle.clif_ssa.specs.declared.look_up.Call.TheVariants.{UseVar, FinishPredecessorsLookup}

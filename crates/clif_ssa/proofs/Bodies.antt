@@ -12,7 +12,8 @@ use Rattle.clif_ir.specs.declared.function.ValueOrigin.{ValueOrigin}
 use Rattle.clif_ir.specs.declared.function.ValueOrigin.TheVariants.{Result, Param, Alias}
 use Rattle.clif_ir.specs.Body.{Body, block_at, resolved, value_at, no_value, follow, alias_of, alias_of_origin}
 use Rattle.clif_ir.specs.Changes.{result_nodes}
-use Rattle.clif_ir.specs.Reading.{home_of_node, home_of_param, param_home, place_of}
+use Rattle.clif_ir.specs.Reading.{home_of_node, home_of_param, param_home}
+use Rattle.clif_instructions.specs.Members.{place_of}
 use Rattle.clif_ir.specs.Consistent.{IsConsistent, IsOrigin, alias_count}
 use Rattle.clif_ir.proofs.Lists.{below_or_not, at_past}
 use Rattle.clif_ir.proofs.Keeps.{leads_inside}

@@ -6,7 +6,8 @@ use Rattle.std.proofs.lemmas.Bool.{cases_eq}
 use Rattle.clif_types.specs.declared.types.«Type».{«Type»}
 use Rattle.clif_ir.specs.Body.{Body, block_at, resolved}
 use Rattle.clif_ir.specs.Changes.{with_param}
-use Rattle.clif_ir.specs.Reading.{param_home, place_of}
+use Rattle.clif_ir.specs.Reading.{param_home}
+use Rattle.clif_instructions.specs.Members.{place_of}
 use Rattle.clif_paths.specs.Places.{start}
 use Rattle.clif_paths.specs.State.{Definition, Kind, Naming, born, complete, fresh, pending, unborn, zero_of}
 use Rattle.clif_paths.specs.Steps.{IsNewName}

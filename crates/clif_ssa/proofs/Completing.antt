@@ -5,7 +5,8 @@ use Rattle.std.proofs.lemmas.Bool.{cases_eq}
 use Rattle.clif_types.specs.declared.types.«Type».{«Type»}
 use Rattle.clif_ir.specs.Body.{Body, block_at, value_at, resolved}
 use Rattle.clif_ir.specs.Changes.{with_alias, with_layout, inserted_in}
-use Rattle.clif_ir.specs.Reading.{param_home, stands_in}
+use Rattle.clif_ir.specs.Reading.{param_home}
+use Rattle.clif_instructions.specs.Members.{stands_in}
 use Rattle.clif_ir.specs.declared.function.ValueOrigin.TheVariants.{Alias}
 use Rattle.clif_paths.specs.Places.{start, Arm}
 use Rattle.clif_paths.specs.State.{pending, zero_of, Definition, Naming}

@@ -2,7 +2,7 @@
 use Rattle.std.proofs.Common.{◌≡◌, ℕ, length, sym, subst}
 use Rattle.std.specs.Prelude.{Contains}
 use Rattle.clif_ir.specs.Body.{Body, block_at}
-use Rattle.clif_ir.specs.Reading.{place_of}
+use Rattle.clif_instructions.specs.Members.{place_of}
 use Rattle.clif_paths.specs.State.{Definition}
 use Rattle.clif_paths.specs.Blocks.{Blocks}
 use Rattle.clif_ssa.specs.Own.{Own}

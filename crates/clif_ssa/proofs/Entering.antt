@@ -3,7 +3,8 @@ use Rattle.std.proofs.Common.{◌≡◌, ◌≢◌, ℕ, ◌==◌, ◌&&◌, Boo
 use Rattle.std.specs.Prelude.{Option, Some, None, slice_get, Contains}
 use Rattle.clif_ir.specs.Body.{Body, block_at, resolved}
 use Rattle.clif_ir.specs.Changes.{with_layout, inserted_in}
-use Rattle.clif_ir.specs.Reading.{param_home, stands_in}
+use Rattle.clif_ir.specs.Reading.{param_home}
+use Rattle.clif_instructions.specs.Members.{stands_in}
 use Rattle.clif_paths.specs.Places.{Place, start, Arm, Edges, same_place}
 use Rattle.clif_paths.specs.State.{pending}
 use Rattle.clif_paths.specs.Blocks.{Blocks, front, chosen_front, with_blocks_sealed}

@@ -2,7 +2,8 @@
 use Rattle.std.proofs.Common.{◌≡◌, ◌≢◌, ℕ, ◌<◌, Bool, true, false, List, ◌∷◌, length, ap, arith, sym, ◌∙◌, subst, inl, inr}
 use Rattle.std.specs.Prelude.{Option, Some, None, Contains, if◌then◌else◌}
 use Rattle.clif_ir.specs.Body.{Body, block_at, resolved, alias_of_origin}
-use Rattle.clif_ir.specs.Reading.{param_home, place_of}
+use Rattle.clif_ir.specs.Reading.{param_home}
+use Rattle.clif_instructions.specs.Members.{place_of}
 use Rattle.clif_ir.proofs.Aliases.{follow_end}
 use Rattle.clif_paths.specs.State.{pending}
 use Rattle.clif_paths.specs.Blocks.{Blocks, front}

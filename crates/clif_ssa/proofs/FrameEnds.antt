@@ -7,8 +7,8 @@ use Rattle.std.proofs.lemmas.List.Elements.{Contains-append_right}
 use Rattle.clif_types.specs.declared.types.«Type».{«Type»}
 use Rattle.clif_ir.specs.Body.{Body, value_at, resolved, follow}
 use Rattle.clif_ir.specs.Changes.{with_alias, with_layout, inserted_in}
-use Rattle.clif_ir.specs.Consistent.{Once}
-use Rattle.clif_ir.specs.Reading.{param_home, home_of_node, stands_in}
+use Rattle.clif_instructions.specs.Members.{Once, stands_in}
+use Rattle.clif_ir.specs.Reading.{param_home, home_of_node}
 use Rattle.clif_ir.specs.declared.function.InstNode.{InstNode}
 use Rattle.clif_ir.proofs.Aliases.{follow_end}
 use Rattle.clif_paths.specs.Places.{start, Arm}

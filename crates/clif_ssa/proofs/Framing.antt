@@ -6,7 +6,8 @@ use Rattle.std.specs.List.{AllByRecursion}
 use Rattle.std.proofs.lemmas.List.{get_or_default}
 use Rattle.std.proofs.lemmas.List.Elements.{recursion_from_All, Contains-get_or}
 use Rattle.clif_ir.specs.Body.{Body, block_at, resolved}
-use Rattle.clif_ir.specs.Reading.{param_home, place_of}
+use Rattle.clif_ir.specs.Reading.{param_home}
+use Rattle.clif_instructions.specs.Members.{place_of}
 use Rattle.clif_ir.proofs.Aliases.{follow-inside, follow_end}
 use Rattle.clif_ir.proofs.Lists.{below_or_not}
 use Rattle.clif_paths.specs.Places.{start, Arm}

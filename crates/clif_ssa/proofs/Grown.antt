@@ -9,7 +9,8 @@ use Rattle.clif_ir.specs.declared.function.ValueNode.{ValueNode}
 use Rattle.clif_ir.specs.declared.function.ValueOrigin.TheVariants.{Alias}
 use Rattle.clif_ir.specs.Body.{Body, value_at, resolved}
 use Rattle.clif_ir.specs.Changes.{with_param, with_alias, with_branch_argument, with_layout, inserted_in}
-use Rattle.clif_ir.specs.Reading.{home_of_node, home_of_param, param_home, stands_in}
+use Rattle.clif_ir.specs.Reading.{home_of_node, home_of_param, param_home}
+use Rattle.clif_instructions.specs.Members.{stands_in}
 use Rattle.clif_ssa.specs.Constructs.{OnlyConstructs}
 use Rattle.clif_ssa.specs.LookUp.{branch_block, with_arguments}
 use Rattle.clif_ssa.specs.Ssa.{zeroed, zero_value}

@@ -3,9 +3,10 @@ use Rattle.std.proofs.Common.{◌≡◌, ◌≢◌, ℕ, zero, suc, ◌+◌, ◌
 use Rattle.std.specs.Prelude.{Some, slice_index}
 use Rattle.std.proofs.lemmas.Bool.{cases_eq}
 use Rattle.clif_ir.specs.Body.{Body, block_at}
-use Rattle.clif_ir.specs.Consistent.{IsConsistent, IsOrigin, Stands, Once}
-use Rattle.clif_ir.specs.Reading.{param_home, place_of, without, home_of_param}
-use Rattle.clif_ir.proofs.Reading.{if_true, if_false, place_of-first}
+use Rattle.clif_ir.specs.Consistent.{IsConsistent, IsOrigin}
+use Rattle.clif_instructions.specs.Members.{Stands, Once, place_of, without}
+use Rattle.clif_ir.specs.Reading.{param_home, home_of_param}
+use Rattle.clif_instructions.proofs.Members.{if_true, if_false, place_of-first}
 use Rattle.clif_ssa.proofs.Bodies.{param_exists, param_origin, home_inside}
 
 -- PLACES ----------------------------------------------------------------------------------------------------------

@@ -4,9 +4,8 @@ use Rattle.std.specs.Prelude.{Some, Contains, map, if◌then◌else◌}
 use Rattle.std.proofs.lemmas.Bool.{cases_eq}
 use Rattle.std.proofs.lemmas.List.Elements.{Contains-get_or, Contains-push_cases}
 use Rattle.clif_ir.specs.Body.{Body}
-use Rattle.clif_ir.specs.Consistent.{Once}
-use Rattle.clif_ir.specs.Reading.{without}
-use Rattle.clif_ir.proofs.Reading.{if_true, if_false, Once-tail}
+use Rattle.clif_instructions.specs.Members.{Once, without}
+use Rattle.clif_instructions.proofs.Members.{if_true, if_false, Once-tail}
 use Rattle.clif_paths.specs.Places.{start, Arm}
 use Rattle.clif_paths.specs.Blocks.{Blocks, front}
 use Rattle.clif_paths.specs.BlockLaws.{BlocksSound}

@@ -8,7 +8,8 @@ use Rattle.std.proofs.lemmas.List.Elements.{Contains-append_right}
 use Rattle.clif_types.specs.declared.types.«Type».{«Type»}
 use Rattle.clif_ir.specs.Body.{Body}
 use Rattle.clif_ir.specs.Changes.{with_param}
-use Rattle.clif_ir.specs.Reading.{param_home, stands_in}
+use Rattle.clif_ir.specs.Reading.{param_home}
+use Rattle.clif_instructions.specs.Members.{stands_in}
 use Rattle.clif_ir.proofs.Aliases.{follow_end}
 use Rattle.clif_ir.proofs.Lists.{below_or_not}
 use Rattle.clif_paths.specs.State.{Function, pending, Definition}

@@ -5,17 +5,17 @@ use Rattle.std.proofs.lemmas.Grind.{common_steps}
 use Rattle.std.proofs.lemmas.Bool.{cases_eq}
 use Rattle.clif_ir.specs.Body.{Body, inst_at, no_inst}
 use Rattle.clif_ir.specs.Changes.{with_branch_argument}
-use Rattle.clif_ir.specs.Consistent.{IsConsistent, Once}
-use Rattle.clif_ir.specs.Edges.{appended_to, with_argument_to}
-use Rattle.clif_ir.specs.Instruction.{destinations, with_argument}
-use Rattle.clif_ir.specs.Reading.{targets}
-use Rattle.clif_ir.specs.declared.block_call.BlockArg.{BlockArg}
-use Rattle.clif_ir.specs.declared.block_call.BlockArg.TheVariants.{Value}
-use Rattle.clif_ir.specs.declared.block_call.BlockCall.{BlockCall}
+use Rattle.clif_ir.specs.Consistent.{IsConsistent}
+use Rattle.clif_instructions.specs.Members.{Once}
+use Rattle.clif_instructions.specs.Edges.{appended_to, with_argument_to, targets}
+use Rattle.clif_instructions.specs.Instruction.{destinations, with_argument}
+use Rattle.clif_instructions.specs.declared.block_call.BlockArg.{BlockArg}
+use Rattle.clif_instructions.specs.declared.block_call.BlockArg.TheVariants.{Value}
+use Rattle.clif_instructions.specs.declared.block_call.BlockCall.{BlockCall}
 use Rattle.clif_ir.specs.declared.function.InstNode.{InstNode}
-use Rattle.clif_ir.specs.declared.instructions.InstructionData.{InstructionData}
+use Rattle.clif_instructions.specs.declared.instructions.InstructionData.{InstructionData}
 use Rattle.clif_ir.proofs.Lists.{at_set}
-use Rattle.clif_ir.proofs.Reading.{if_true, if_false, Once-tail}
+use Rattle.clif_instructions.proofs.Members.{if_true, if_false, Once-tail}
 use Rattle.clif_ir.proofs.KeepsBranch.{destinations-with_argument, with_branch_argument_consistent}
 use Rattle.clif_paths.specs.Places.{inside, Arm, same_place}
 use Rattle.clif_paths.specs.Blocks.{Blocks, last_place}

@@ -5,12 +5,12 @@ use Rattle.std.specs.List.{range_with_len}
 use Rattle.std.proofs.lemmas.Grind.{common_steps}
 use Rattle.std.proofs.lemmas.List.FromFn.{length-range_with_len}
 use Rattle.clif_types.specs.declared.types.«Type».{«Type»}
-use Rattle.clif_ir.specs.declared.inst_list.InsertAt.TheVariants.{Behind}
-use Rattle.clif_ir.specs.declared.instructions.InstructionData.{InstructionData}
+use Rattle.clif_instructions.specs.declared.inst_list.InsertAt.TheVariants.{Behind}
+use Rattle.clif_instructions.specs.declared.instructions.InstructionData.{InstructionData}
 use Rattle.clif_ir.specs.Body.{Body, block_at}
 use Rattle.clif_ir.specs.Changes.{with_inst}
 use Rattle.clif_ir.specs.Consistent.{EdgeExists}
-use Rattle.clif_ir.specs.Instruction.{destinations, operands, result_types}
+use Rattle.clif_instructions.specs.Instruction.{destinations, operands, result_types}
 use Rattle.clif_ssa.specs.Ssa.{no_srcloc, with_steps}
 use Rattle.clif_ssa.specs.Zeros.{IsStepAt, ZeroStep, zero_steps}
 use Rattle.clif_ssa.proofs.ZeroSteps.{steps_insts_here, steps_insts_more, steps_push, steps_values_count}

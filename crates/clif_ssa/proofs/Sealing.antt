@@ -4,7 +4,7 @@ use Rattle.std.specs.Prelude.{Option, Some, None, Contains, cond, map, slice_get
 use Rattle.std.proofs.lemmas.Grind.{common_steps}
 use Rattle.std.proofs.lemmas.Bool.{cases_eq}
 use Rattle.clif_ir.specs.Body.{Body, block_at}
-use Rattle.clif_ir.specs.Consistent.{Once}
+use Rattle.clif_instructions.specs.Members.{Once}
 use Rattle.clif_paths.specs.Places.{start, Arm, Edges, same_place}
 use Rattle.clif_paths.specs.Blocks.{Blocks, front, last_place, with_block_sealed}
 use Rattle.clif_paths.specs.BlockLaws.{BlocksSound}

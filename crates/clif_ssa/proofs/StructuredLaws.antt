@@ -9,13 +9,12 @@ use Rattle.clif_types.specs.declared.extname.UserFuncName.{UserFuncName}
 use Rattle.clif_types.specs.Signature.{SignatureShape}
 use Rattle.clif_ir.specs.Body.{Body, empty_body, empty_block, block_at}
 use Rattle.clif_ir.specs.Changes.{with_block, with_inst, with_layout, with_param, inserted_in}
-use Rattle.clif_ir.specs.Consistent.{Once}
-use Rattle.clif_ir.specs.Reading.{stands_in, without}
-use Rattle.clif_ir.specs.declared.block_call.BlockArg.{BlockArg}
+use Rattle.clif_instructions.specs.Members.{Once, stands_in, without}
+use Rattle.clif_instructions.specs.declared.block_call.BlockArg.{BlockArg}
 use Rattle.clif_ir.specs.declared.function.BlockNode.{BlockNode}
-use Rattle.clif_ir.specs.declared.inst_list.InsertAt.TheVariants.{Back}
-use Rattle.clif_ir.specs.declared.instructions.InstructionData.{InstructionData}
-use Rattle.clif_ir.proofs.Reading.{if_true, if_false, Once-without}
+use Rattle.clif_instructions.specs.declared.inst_list.InsertAt.TheVariants.{Back}
+use Rattle.clif_instructions.specs.declared.instructions.InstructionData.{InstructionData}
+use Rattle.clif_instructions.proofs.Members.{if_true, if_false, Once-without}
 use Rattle.clif_paths.specs.Steps.{updated}
 use Rattle.clif_paths.proofs.Tables.{updated-same, updated-other}
 use Rattle.clif_ssa.specs.SoundLaws.{shape_passes, with_own}

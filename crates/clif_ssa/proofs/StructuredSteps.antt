@@ -8,9 +8,9 @@ use Rattle.std.proofs.lemmas.List.Elements.{Contains-push_cases}
 use Rattle.clif_types.specs.declared.types.«Type».{«Type»}
 use Rattle.clif_ir.specs.Body.{Body, block_at, no_value}
 use Rattle.clif_ir.specs.Changes.{with_param}
-use Rattle.clif_ir.specs.Consistent.{Once}
-use Rattle.clif_ir.specs.Reading.{param_home, without}
-use Rattle.clif_ir.proofs.Reading.{Once-tail}
+use Rattle.clif_instructions.specs.Members.{Once, without}
+use Rattle.clif_ir.specs.Reading.{param_home}
+use Rattle.clif_instructions.proofs.Members.{Once-tail}
 use Rattle.clif_ir.specs.declared.function.ValueNode.{ValueNode}
 use Rattle.clif_ssa.specs.Own.{Own}
 use Rattle.clif_ssa.specs.declared.tables.Pending.{Pending}

@@ -6,7 +6,7 @@ use Rattle.std.proofs.lemmas.List.Elements.{Contains-append_right}
 use Rattle.clif_types.specs.declared.types.«Type».{«Type»}
 use Rattle.clif_ir.specs.Body.{Body, value_at, block_at}
 use Rattle.clif_ir.specs.Changes.{with_param}
-use Rattle.clif_ir.specs.Consistent.{Once}
+use Rattle.clif_instructions.specs.Members.{Once}
 use Rattle.clif_ir.specs.Reading.{param_home}
 use Rattle.clif_ssa.specs.Own.{Own}
 use Rattle.clif_ssa.specs.declared.look_up.Call.{Call}

@@ -5,8 +5,8 @@ use Rattle.std.proofs.lemmas.List.{reverse-append}
 use Rattle.std.proofs.lemmas.Grind.{common_steps}
 use Rattle.std.proofs.lemmas.Bool.{cases_eq}
 use Rattle.clif_ir.specs.Body.{Body}
-use Rattle.clif_ir.specs.Reading.{stands_in}
-use Rattle.clif_ir.proofs.Reading.{if_true, if_false}
+use Rattle.clif_instructions.specs.Members.{stands_in}
+use Rattle.clif_instructions.proofs.Members.{if_true, if_false}
 use Rattle.clif_paths.specs.Places.{start, Arm}
 use Rattle.clif_paths.specs.Blocks.{Blocks, front, last_place, ComesFrom, IsChain, with_chain, with_record}
 use Rattle.clif_paths.specs.LookUp.{last_of, Unrecorded}

@@ -4,7 +4,7 @@ use Rattle.std.specs.Prelude.{Some, None, slice_index}
 use Rattle.std.proofs.Math.ListN.{get_or-append}
 use Rattle.std.proofs.lemmas.Grind.{common_steps}
 use Rattle.clif_ir.specs.Body.{Body}
-use Rattle.clif_ir.specs.Consistent.{Stands, Once}
+use Rattle.clif_instructions.specs.Members.{Stands, Once}
 use Rattle.clif_ir.proofs.Lists.{below_or_not}
 use Rattle.clif_ir.proofs.Orders.{Once-length}
 use Rattle.clif_ssa.specs.Ssa.{SsaState, record_of}

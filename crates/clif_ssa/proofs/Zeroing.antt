@@ -6,7 +6,8 @@ use Rattle.std.proofs.lemmas.Bool.{cases_eq}
 use Rattle.clif_types.specs.declared.types.«Type».{«Type»}
 use Rattle.clif_ir.specs.Body.{Body, block_at, empty_block, value_at, resolved, alias_of, alias_of_origin}
 use Rattle.clif_ir.specs.Changes.{with_alias, home_of}
-use Rattle.clif_ir.specs.Reading.{param_home, place_of, without}
+use Rattle.clif_ir.specs.Reading.{param_home}
+use Rattle.clif_instructions.specs.Members.{place_of, without}
 use Rattle.clif_ir.specs.declared.function.BlockNode.{BlockNode}
 use Rattle.clif_ir.specs.declared.function.ValueNode.{ValueNode}
 use Rattle.clif_ir.specs.declared.function.ValueOrigin.TheVariants.{Alias}

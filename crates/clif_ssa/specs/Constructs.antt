@@ -4,12 +4,12 @@
 use Rattle.std.specs.Prelude.{◌≡◌, ◌<◌, ◌≤◌, ◌+◌, ◌-◌, ◌⊎◌, ℕ, suc, Bool, List, [], ◌∷◌, ◌++◌, length, slice_get, Some, reverse}
 use Rattle.std.specs.List.{filter, AllByRecursion}
 use Rattle.clif_ir.specs.Body.{Body, value_at, inst_at, block_at}
-use Rattle.clif_ir.specs.Instruction.{with_argument}
+use Rattle.clif_instructions.specs.Instruction.{with_argument}
 use Rattle.clif_ir.specs.declared.function.BlockNode.{BlockNode}
 use Rattle.clif_ir.specs.declared.function.InstNode.{InstNode}
 use Rattle.clif_ir.specs.declared.function.ValueNode.{ValueNode}
 use Rattle.clif_ir.specs.declared.function.ValueOrigin.TheVariants.{Param, Alias}
-use Rattle.clif_ir.specs.declared.instructions.InstructionData.{InstructionData}
+use Rattle.clif_instructions.specs.declared.instructions.InstructionData.{InstructionData}
 use Rattle.clif_types.specs.declared.types.«Type».{«Type»}
 use Rattle.clif_ssa.specs.Ssa.{no_srcloc}
 use Rattle.clif_ssa.specs.Zeros.{ZeroAt, ZeroStep, HasZero, zero_steps}

@@ -1,7 +1,7 @@
 -- What the caller made of a function. Source: own.
 use Rattle.std.specs.Prelude.{ℕ, List, [], ◌∷◌, ◌++◌}
 use Rattle.clif_paths.specs.Steps.{updated}
-use Rattle.clif_ir.specs.declared.block_call.BlockArg.{BlockArg}
+use Rattle.clif_instructions.specs.declared.block_call.BlockArg.{BlockArg}
 
 pub record Own : Type 0 where
   -- the instructions of each block, in order

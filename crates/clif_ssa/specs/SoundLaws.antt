@@ -7,11 +7,11 @@ use Rattle.clif_types.specs.Signature.{SignatureShape}
 use Rattle.clif_ir.specs.Body.{Body, block_at, empty_body}
 use Rattle.clif_ir.specs.Changes.{inserted_in, with_block, with_inst, with_param}
 use Rattle.clif_ir.specs.Consistent.{IsConsistent}
-use Rattle.clif_ir.specs.Instruction.{destinations}
-use Rattle.clif_ir.specs.Reading.{without}
-use Rattle.clif_ir.specs.declared.block_call.BlockArg.{BlockArg}
-use Rattle.clif_ir.specs.declared.instructions.InstructionData.{InstructionData}
-use Rattle.clif_ir.specs.declared.inst_list.InsertAt.TheVariants.{Back}
+use Rattle.clif_instructions.specs.Instruction.{destinations}
+use Rattle.clif_instructions.specs.Members.{without}
+use Rattle.clif_instructions.specs.declared.block_call.BlockArg.{BlockArg}
+use Rattle.clif_instructions.specs.declared.instructions.InstructionData.{InstructionData}
+use Rattle.clif_instructions.specs.declared.inst_list.InsertAt.TheVariants.{Back}
 use Rattle.clif_paths.specs.Places.{start, Edges, same_place}
 use Rattle.clif_paths.specs.Steps.{updated, IsNewName}
 use Rattle.clif_paths.specs.Blocks.{Blocks, front, last_place, state_of, no_blocks, with_blocks_sealed, with_block_sealed, with_zero_in, with_dropped, with_item, with_born, with_read, with_write, Knows}

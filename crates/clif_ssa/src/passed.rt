@@ -1,6 +1,6 @@
 //! The blocks that a walk passes.
 ghost use Rattle.std.specs.Prelude.{◌≡◌, ◌↔◌, ◌++◌, ◌∷◌, [], false, IsTrue, Some, OnOk, OnErr, slice_get};
-ghost use Rattle.clif_ir.specs.Consistent.{Stands};
+ghost use Rattle.clif_instructions.specs.Members.{Stands};
 
 use clif_types::{Block, BuildError, EntityRef};
 use std::alloc::Global;

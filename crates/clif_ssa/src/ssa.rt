@@ -1,7 +1,7 @@
 //! The builder of SSA form.
 ghost use Rattle.std.specs.Prelude.{◌≡◌, ◌≢◌, ◌<◌, ◌≤◌, ◌==◌, ◌↔◌, ◌++◌, ◌⊎◌, List, [], ◌∷◌, ℕ, Bool, IsTrue, Some, None, true, false, length, OnOk, OnErr, IfOk, IfSome, Contains, ◌+◌, ◌-◌, slice_get};
 ghost use Rattle.clif_ir.specs.Body.{Body, block_at, value_at};
-ghost use Rattle.clif_ir.specs.Consistent.{Stands};
+ghost use Rattle.clif_instructions.specs.Members.{Stands};
 ghost use Rattle.clif_ssa.specs.Constructs.{OnlyConstructs, TellsMore, TellsZeros};
 ghost use Rattle.clif_ssa.specs.Limits.{IsFull};
 ghost use Rattle.clif_ssa.specs.Tables.{is_yes, pending_of};

@@ -1,8 +1,7 @@
 //! What the construction knows, and the changes that a look-up makes of it.
 ghost use Rattle.std.specs.Prelude.{◌≡◌, ◌≢◌, ◌<◌, ◌≤◌, ◌+◌, ◌↔◌, ◌++◌, ◌∷◌, ◌==◌, ◌&&◌, ◌⊎◌, [], ℕ, IsTrue, length, Some, None, true, false, OnOk, OnErr, IfOk, IfSome, if◌then◌else◌};
 ghost use Rattle.clif_ir.specs.Changes.{with_param};
-ghost use Rattle.clif_ir.specs.Consistent.{Stands};
-ghost use Rattle.clif_ir.specs.Reading.{stands_in};
+ghost use Rattle.clif_instructions.specs.Members.{Stands, stands_in};
 ghost use Rattle.clif_ssa.specs.Constructs.{TellsMore};
 ghost use Rattle.clif_ssa.specs.Tables.{is_yes, pending_of};
 ghost use Rattle.clif_ssa.specs.declared.tables.Sealed.{Sealed};

@@ -1,8 +1,7 @@
 //! Tables of the construction: the records of a variable, the branches that lead to a block, and the
 //! parameters that wait in it.
 ghost use Rattle.std.specs.Prelude.{◌≡◌, ◌==◌, ◌&&◌, ◌↔◌, IsTrue, false, ℕ, [], ◌∷◌, ◌++◌, ◌<◌, ◌≤◌, ◌+◌, ◌⊎◌, ◌^◌, length, OnOk, OnErr, IfOk, Some, None, if◌then◌else◌, slice_index_or};
-ghost use Rattle.clif_ir.specs.Consistent.{Stands};
-ghost use Rattle.clif_ir.specs.Reading.{place_of, without};
+ghost use Rattle.clif_instructions.specs.Members.{Stands, place_of, without};
 ghost use Rattle.std.specs.FinMap as map;
 ghost use Rattle.clif_ssa.specs.Cells.{no_cell, is_no_cell, recorded_in, cell_at, SameCells, RecordsCell, RecordsCells, RecordsSomeCells, RecordsUpTo, RecordsSome, CountsCell};
 ghost use Rattle.clif_ssa.specs.Tables.{recorded_at, record_at, lookups_at, one_more, known_at, sealed_at, predecessors_at, sealed_predecessors_at, is_yes, pending_of};
@@ -381,7 +380,7 @@ impl Predecessors {
     }
 
     // The place of the first entry of this branch, which stands in the list.
-    #[tactic(auto, using(clif_ir::proofs::Reading::place_rules))]
+    #[tactic(auto, using(clif_instructions::proofs::Members::place_rules))]
     fn place_of(&self, branch: Inst) -> usize
         requires { Stands branch self.now }
         ensures exact { result ≡ place_of branch self.now }
@@ -396,7 +395,7 @@ impl Predecessors {
     }
 
     /// Takes the first entry of this branch away, which stands in the list; those behind it move up.
-    #[tactic(auto, using(clif_ir::proofs::Reading::place_rules))]
+    #[tactic(auto, using(clif_instructions::proofs::Members::place_rules))]
     pub(crate) fn remove(&mut self, branch: Inst)
         requires { Stands branch self.old }
         ensures { self.new ≡ without branch self.old }
@@ -422,9 +421,8 @@ pub struct BlockTable {
 }
 
 impl Model for BlockTable {
-    ghost use Rattle.std.specs.Prelude.{List};
+    ghost use Rattle.std.specs.Prelude.{List, ◌<◌, ◌^◌, length};
     ghost use Rattle.clif_ssa.specs.declared.tables.SsaBlock.{SsaBlock};
-    ghost use Rattle.std.specs.Prelude.{◌<◌, ◌^◌, length};
 
     ghost Value = { List SsaBlock };
 

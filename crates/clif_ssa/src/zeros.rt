@@ -10,7 +10,7 @@ ghost use Rattle.clif_ssa.specs.Ssa.{HasSomeSteps, MayHaveSomeSteps};
 ghost use Rattle.clif_ssa.specs.Zeros.{zero_steps, IsStepAt};
 
 use crate::side_effects::SideEffects;
-use clif_ir::inst_list::InsertAt;
+use clif_instructions::inst_list::InsertAt;
 use clif_ir::{Function, InstructionData};
 use clif_types::{Block, BuildError, EntityRef, SourceLoc, Type, Value};
 

@@ -6,7 +6,7 @@ ghost use Rattle.std.specs.Prelude.{◌≡◌, ◌<◌, length, IsTrue, EachInde
 ghost use Rattle.clif_ir.specs.Consistent.{EdgeExists};
 ghost use Rattle.clif_ssa.specs.Ssa.{Declares, NamesExist};
 
-use clif_ir::inst_list::InsertAt;
+use clif_instructions::inst_list::InsertAt;
 use clif_ir::{BlockCall, Function, InstructionData};
 use clif_ssa::{SSABuilder, SideEffects, Variable};
 use clif_types::{

@@ -4,11 +4,11 @@ use Rattle.std.specs.Prelude.{All, false, is_err, Option, Some, IfSome, IfOk, Re
 use Rattle.clif_types.specs.declared.error.BuildError.{BuildError}
 use Rattle.clif_types.specs.declared.error.BuildError.TheVariants.{Full, Failed}
 use Rattle.clif_types.specs.declared.types.«Type».{«Type»}
-use Rattle.clif_ir.specs.declared.instructions.InstructionData.{InstructionData}
+use Rattle.clif_instructions.specs.declared.instructions.InstructionData.{InstructionData}
 use Rattle.clif_ir.specs.Body.{inst_at}
 use Rattle.clif_ir.specs.Consistent.{IsConsistent}
-use Rattle.clif_ir.specs.Instruction.{destinations, is_branch, is_terminator, result_types}
-use Rattle.clif_ir.specs.Reading.{targets}
+use Rattle.clif_instructions.specs.Instruction.{destinations, is_branch, is_terminator, result_types}
+use Rattle.clif_instructions.specs.Edges.{targets}
 use Rattle.clif_ssa.specs.Structure.{LooksOnce}
 use Rattle.cranelift_frontend.specs.declared.builder.FunctionBuilder.{FunctionBuilder}
 use Rattle.cranelift_frontend.specs.Builder.{Appends, CanLead, HasCurrent, SameLoans}

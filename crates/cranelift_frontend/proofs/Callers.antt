@@ -5,7 +5,8 @@ use Rattle.std.specs.List.{filter}
 use Rattle.std.proofs.lemmas.List.{append-nil}
 use Rattle.clif_ir.specs.declared.function.BlockNode.{BlockNode}
 use Rattle.clif_ir.specs.Body.{Body, block_at}
-use Rattle.clif_ir.specs.Consistent.{IsConsistent, Stands}
+use Rattle.clif_ir.specs.Consistent.{IsConsistent}
+use Rattle.clif_instructions.specs.Members.{Stands}
 use Rattle.clif_ir.specs.Reading.{param_home}
 use Rattle.clif_ssa.specs.declared.tables.Pending.{Pending}
 use Rattle.clif_ssa.specs.Constructs.{ConstructsBlock, OnlyConstructs, Rises}

@@ -5,15 +5,15 @@ use Rattle.std.proofs.lemmas.Bool.{cases_eq}
 use Rattle.std.proofs.lemmas.Grind.{common_steps}
 use Rattle.clif_types.specs.declared.error.BuildError.{BuildError}
 use Rattle.clif_types.specs.declared.types.«Type».{«Type»}
-use Rattle.clif_ir.specs.declared.inst_list.InsertAt.{InsertAt}
-use Rattle.clif_ir.specs.declared.inst_list.InsertAt.TheVariants.{Back}
-use Rattle.clif_ir.specs.declared.instructions.InstructionData.{InstructionData}
+use Rattle.clif_instructions.specs.declared.inst_list.InsertAt.{InsertAt}
+use Rattle.clif_instructions.specs.declared.inst_list.InsertAt.TheVariants.{Back}
+use Rattle.clif_instructions.specs.declared.instructions.InstructionData.{InstructionData}
 use Rattle.std.specs.List.{range_with_len}
 use Rattle.clif_ir.specs.declared.function.InstNode.{InstNode}
 use Rattle.clif_ir.specs.Body.{Body, inst_at}
 use Rattle.clif_ir.specs.Changes.{inserted_in, with_block, with_layout, with_inst, with_param, inst_node}
-use Rattle.clif_ir.specs.Instruction.{is_terminator, result_types}
-use Rattle.clif_ir.specs.Reading.{stands_in}
+use Rattle.clif_instructions.specs.Instruction.{is_terminator, result_types}
+use Rattle.clif_instructions.specs.Members.{stands_in}
 use Rattle.clif_ssa.specs.Ssa.{no_srcloc}
 use Rattle.cranelift_frontend.specs.declared.context.BlockStatus.{BlockStatus}
 use Rattle.cranelift_frontend.specs.declared.context.BlockStatus.TheVariants.{Empty, Partial, Filled}

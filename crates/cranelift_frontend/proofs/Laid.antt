@@ -6,7 +6,7 @@ use Rattle.std.specs.Prelude.{◌==◌, map, Option, Some, true}
 use Rattle.clif_types.specs.Signature.{SignatureShape}
 use Rattle.clif_ir.specs.Body.{Body}
 use Rattle.clif_ir.specs.Changes.{put_behind, with_layout_after}
-use Rattle.clif_ir.specs.Reading.{stands_in}
+use Rattle.clif_instructions.specs.Members.{stands_in}
 use Rattle.clif_meaning.specs.Name.{Name, same_name}
 use Rattle.clif_meaning.specs.Request.{AnsweredCall, InsertBlockAfter}
 use Rattle.clif_meaning.specs.Ledger.{Ledger, ledger_with, put_after}

@@ -7,7 +7,7 @@ use Rattle.clif_ir.specs.declared.function.BlockNode.{BlockNode}
 use Rattle.clif_ir.specs.Body.{Body, block_at, empty_block}
 use Rattle.clif_ir.specs.Changes.{with_block}
 use Rattle.clif_ir.specs.Consistent.{IsConsistent}
-use Rattle.clif_ir.specs.Reading.{stands_in}
+use Rattle.clif_instructions.specs.Members.{stands_in}
 use Rattle.clif_meaning.specs.Name.{Name, answer_of, same_name}
 use Rattle.clif_meaning.specs.Request.{AnsweredCall, CreateBlock, SwitchToBlock, SealBlock, number_of}
 use Rattle.clif_meaning.specs.Ledger.{answer_at, Answered, ABlock, BlockState, Ledger, VariableState, ledger_with, new_block, next_answer}

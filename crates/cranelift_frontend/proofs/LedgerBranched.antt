@@ -6,8 +6,9 @@ use Rattle.std.proofs.lemmas.Bool.{ne_eqb}
 use Rattle.std.proofs.lemmas.List.{map_push, length-map}
 use Rattle.std.proofs.lemmas.Option.{slice_get-map}
 use Rattle.clif_ir.specs.Body.{Body}
-use Rattle.clif_ir.specs.Reading.{stands_in, targets}
-use Rattle.clif_ir.specs.declared.block_call.BlockCall.{BlockCall}
+use Rattle.clif_instructions.specs.Members.{stands_in}
+use Rattle.clif_instructions.specs.Edges.{targets}
+use Rattle.clif_instructions.specs.declared.block_call.BlockCall.{BlockCall}
 use Rattle.clif_meaning.specs.Name.{Name, same_name}
 use Rattle.clif_meaning.specs.Instruction.{Edge}
 use Rattle.clif_meaning.specs.Request.{AnsweredCall, number_of}

@@ -4,17 +4,18 @@ use Rattle.std.specs.Prelude.{map, slice_get, Option, Some, option_map, Bool, tr
 use Rattle.std.proofs.lemmas.Bool.{eq-eqb, or_cases, or_left, or_right, eqb-true}
 use Rattle.std.proofs.lemmas.Option.{get_or_from_slice_get}
 use Rattle.clif_types.specs.declared.types.«Type».{«Type»}
-use Rattle.clif_ir.specs.declared.inst_list.InsertAt.TheVariants.{Back}
-use Rattle.clif_ir.specs.declared.instructions.InstructionData.{InstructionData}
+use Rattle.clif_instructions.specs.declared.inst_list.InsertAt.TheVariants.{Back}
+use Rattle.clif_instructions.specs.declared.instructions.InstructionData.{InstructionData}
 use Rattle.clif_ir.specs.declared.function.ValueNode.{ValueNode}
 use Rattle.clif_ir.specs.declared.function.InstNode.{InstNode}
-use Rattle.clif_ir.specs.declared.block_call.BlockCall.{BlockCall}
+use Rattle.clif_instructions.specs.declared.block_call.BlockCall.{BlockCall}
 use Rattle.clif_ir.specs.declared.function.BlockNode.{BlockNode}
 use Rattle.clif_ir.specs.Body.{Body, block_at, inst_at, no_inst}
 use Rattle.clif_ir.specs.Changes.{inserted_in, with_inst, inst_node}
 use Rattle.clif_ir.specs.Consistent.{IsConsistent}
-use Rattle.clif_ir.specs.Instruction.{destinations}
-use Rattle.clif_ir.specs.Reading.{stands_in, targets}
+use Rattle.clif_instructions.specs.Instruction.{destinations}
+use Rattle.clif_instructions.specs.Members.{stands_in}
+use Rattle.clif_instructions.specs.Edges.{targets}
 use Rattle.clif_paths.proofs.Tables.{updated-same}
 use Rattle.clif_meaning.specs.Name.{Name}
 use Rattle.clif_meaning.specs.Instruction.{Arithmetic, Iconst, Unary, Binary, Compute, Instruction}

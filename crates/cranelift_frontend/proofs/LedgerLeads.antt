@@ -4,10 +4,10 @@ use Rattle.std.specs.Prelude.{Bool, true, false, ◌||◌, if◌then◌else◌, 
 use Rattle.std.specs.List.{list_any}
 use Rattle.std.proofs.lemmas.Bool.{cases_eq, eq-eqb, ne_eqb, or_left, or_right}
 use Rattle.std.proofs.lemmas.Option.{same_Some}
-use Rattle.clif_ir.specs.Consistent.{Once, Stands}
-use Rattle.clif_ir.specs.Reading.{stands_in, targets}
-use Rattle.clif_ir.specs.declared.block_call.BlockCall.{BlockCall}
-use Rattle.clif_ir.proofs.Reading.{Once-tail, Stands-from_test}
+use Rattle.clif_instructions.specs.Members.{Once, Stands, stands_in}
+use Rattle.clif_instructions.specs.Edges.{targets}
+use Rattle.clif_instructions.specs.declared.block_call.BlockCall.{BlockCall}
+use Rattle.clif_instructions.proofs.Members.{Once-tail, Stands-from_test}
 use Rattle.clif_meaning.specs.Name.{Name, same_name}
 use Rattle.clif_meaning.specs.Instruction.{Edge}
 use Rattle.clif_meaning.specs.Request.{AnsweredCall, number_of}

@@ -9,7 +9,7 @@ use Rattle.clif_types.specs.Signature.{SignatureShape}
 use Rattle.clif_ir.specs.declared.function.BlockNode.{BlockNode}
 use Rattle.clif_ir.specs.Body.{Body, block_at, empty_block}
 use Rattle.clif_ir.specs.Changes.{inserted_in, with_cold, with_layout}
-use Rattle.clif_ir.specs.Reading.{stands_in}
+use Rattle.clif_instructions.specs.Members.{stands_in}
 use Rattle.clif_meaning.specs.Name.{Name, same_name}
 use Rattle.clif_meaning.specs.Request.{AnsweredCall, EnsureInsertedBlock, SetColdBlock}
 use Rattle.clif_meaning.specs.Ledger.{ABlock, BlockState, Ledger, ledger_with, with_cold_mark}

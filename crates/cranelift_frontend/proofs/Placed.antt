@@ -9,9 +9,10 @@ use Rattle.clif_ir.specs.declared.function.InstNode.{InstNode}
 use Rattle.clif_ir.specs.declared.function.BlockNode.{BlockNode}
 use Rattle.clif_ir.specs.Body.{Body, block_at, inst_at}
 use Rattle.clif_ir.specs.Changes.{inserted_in, with_layout}
-use Rattle.clif_ir.specs.Consistent.{IsConsistent, Once}
-use Rattle.clif_ir.specs.Reading.{param_home, stands_in}
-use Rattle.clif_ir.proofs.Reading.{Once-tail}
+use Rattle.clif_ir.specs.Consistent.{IsConsistent}
+use Rattle.clif_instructions.specs.Members.{Once, stands_in}
+use Rattle.clif_ir.specs.Reading.{param_home}
+use Rattle.clif_instructions.proofs.Members.{Once-tail}
 use Rattle.clif_meaning.specs.Request.{AnsweredCall}
 use Rattle.clif_meaning.specs.Ledger.{Ledger, or_invalid}
 use Rattle.clif_ssa.specs.Own.{Own}

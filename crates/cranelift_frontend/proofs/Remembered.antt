@@ -3,11 +3,11 @@ use Rattle.std.proofs.Common.{◌≡◌, ℕ, ◌==◌, ◌&&◌, if◌then◌el
 use Rattle.std.specs.Prelude.{Option, Some, OnOk, IfOk, IfSome, Result, Ok, Err}
 use Rattle.std.proofs.lemmas.Bool.Decides.{nat_tests}
 use Rattle.clif_types.specs.declared.types.«Type».{«Type»}
-use Rattle.clif_ir.specs.declared.instructions.InstructionData.{InstructionData}
-use Rattle.clif_ir.specs.declared.inst_list.InsertAt.TheVariants.{Back}
+use Rattle.clif_instructions.specs.declared.instructions.InstructionData.{InstructionData}
+use Rattle.clif_instructions.specs.declared.inst_list.InsertAt.TheVariants.{Back}
 use Rattle.clif_ir.specs.Body.{Body, resolved}
-use Rattle.clif_ir.specs.Instruction.{destinations, result_types}
-use Rattle.clif_ir.specs.Reading.{targets}
+use Rattle.clif_instructions.specs.Instruction.{destinations, result_types}
+use Rattle.clif_instructions.specs.Edges.{targets}
 use Rattle.clif_ir.specs.Changes.{with_block, with_inst, inserted_in}
 use Rattle.clif_ir.specs.Consistent.{IsConsistent}
 use Rattle.clif_ssa.specs.Tables.{RecordMap, record_at}

@@ -6,16 +6,17 @@ use Rattle.std.proofs.lemmas.List.{append-nil}
 use Rattle.std.proofs.lemmas.Map.Views.{Contains-from_any}
 use Rattle.clif_types.specs.declared.types.«Type».{«Type»}
 use Rattle.clif_types.specs.Signature.{SignatureShape}
-use Rattle.clif_ir.specs.declared.block_call.BlockCall.{BlockCall}
+use Rattle.clif_instructions.specs.declared.block_call.BlockCall.{BlockCall}
 use Rattle.clif_ir.specs.declared.function.ValueNode.{ValueNode}
-use Rattle.clif_ir.specs.declared.instructions.InstructionData.{InstructionData}
-use Rattle.clif_ir.specs.declared.instructions.InstructionData.TheVariants.{UnaryImm, Unary, Binary, Jump, Brif, MultiAry}
+use Rattle.clif_instructions.specs.declared.instructions.InstructionData.{InstructionData}
+use Rattle.clif_instructions.specs.declared.instructions.InstructionData.TheVariants.{UnaryImm, Unary, Binary, Jump, Brif, MultiAry}
 use Rattle.clif_ir.specs.Body.{Body, inst_at, value_at}
 use Rattle.clif_ir.specs.Changes.{inserted_in, with_inst}
 use Rattle.clif_ir.specs.Consistent.{IsConsistent}
-use Rattle.clif_ir.specs.declared.inst_list.InsertAt.TheVariants.{Back}
-use Rattle.clif_ir.specs.Instruction.{destinations, is_branch, operands, result_types}
-use Rattle.clif_ir.specs.Reading.{stands_in, targets}
+use Rattle.clif_instructions.specs.declared.inst_list.InsertAt.TheVariants.{Back}
+use Rattle.clif_instructions.specs.Instruction.{destinations, is_branch, operands, result_types}
+use Rattle.clif_instructions.specs.Members.{stands_in}
+use Rattle.clif_instructions.specs.Edges.{targets}
 use Rattle.clif_ssa.specs.Ssa.{no_srcloc, predecessors_of, record_of, sealed_of, SsaState}
 use Rattle.clif_ssa.specs.Tables.{is_yes}
 use Rattle.clif_ssa.proofs.Completing.{inserted_same}

@@ -7,10 +7,10 @@ use Rattle.clif_types.specs.declared.types.«Type».{«Type»}
 use Rattle.clif_types.specs.declared.types.«Type».TheVariants.{Lane}
 use Rattle.clif_ir.specs.Body.{Body}
 use Rattle.clif_ir.specs.Consistent.{EdgeExists}
-use Rattle.clif_ir.specs.declared.block_call.BlockCall.{BlockCall}
-use Rattle.clif_ir.specs.declared.inst_list.InsertAt.TheVariants.{Back}
-use Rattle.clif_ir.specs.declared.instructions.InstructionData.{InstructionData}
-use Rattle.clif_ir.specs.Instruction.{is_terminator, result_types}
+use Rattle.clif_instructions.specs.declared.block_call.BlockCall.{BlockCall}
+use Rattle.clif_instructions.specs.declared.inst_list.InsertAt.TheVariants.{Back}
+use Rattle.clif_instructions.specs.declared.instructions.InstructionData.{InstructionData}
+use Rattle.clif_instructions.specs.Instruction.{is_terminator, result_types}
 use Rattle.clif_ir.specs.Changes.{inserted_in, with_inst}
 use Rattle.clif_ssa.specs.Zeros.{steps_before}
 use Rattle.clif_ssa.specs.Tables.{is_yes}

@@ -3,7 +3,7 @@
 use Rattle.std.specs.Prelude.{◌≡◌, ℕ, ◌==◌, List, [], length, Bool, true, ltb, if◌then◌else◌}
 use Rattle.clif_types.specs.declared.types.«Type».{«Type»}
 use Rattle.clif_ir.specs.Body.{Body}
-use Rattle.clif_ir.specs.Reading.{stands_in}
+use Rattle.clif_instructions.specs.Members.{stands_in, Once}
 use Rattle.clif_paths.specs.Blocks.{Blocks}
 use Rattle.clif_ssa.specs.Own.{Own}
 use Rattle.clif_ssa.specs.Ssa.{SsaState, RecordsStay, SamePredecessors, SealedStays, sealed_of}
@@ -14,7 +14,6 @@ use Rattle.clif_ssa.specs.Structured.{HasType, Structured, VariableTypes}
 use Rattle.clif_ssa.specs.Constructs.{OnlyConstructs, TellsZeros}
 use Rattle.clif_ssa.specs.Within.{HoldsBranches, HoldsWaiting, StaysWithin}
 use Rattle.clif_ssa.specs.Tables.{is_yes}
-use Rattle.clif_ir.specs.Consistent.{Once}
 use Rattle.clif_simulation.specs.Carries.{DeclaredAlong}
 
 -- A use of a variable of type `ty` in a block of the layout answers `value`; zeros come into the blocks `told`.

@@ -5,7 +5,7 @@ use Rattle.clif_types.specs.declared.types.«Type».{«Type»}
 use Rattle.clif_types.specs.contracts.types.«Type» as value_type
 use Rattle.std.specs.Coded.{Coded, code_by, coded×, coded_list}
 use Rattle.clif_ssa.specs.Ssa.{SsaState, ssa_state_code, no_state}
-use Rattle.clif_ir.specs.Reading.{stands_in}
+use Rattle.clif_instructions.specs.Members.{stands_in}
 use Rattle.cranelift_frontend.specs.contracts.context.BlockStatus as block_status
 use Rattle.cranelift_frontend.specs.declared.context.BlockStatus.{BlockStatus}
 use Rattle.cranelift_frontend.specs.declared.context.BlockStatus.TheVariants.{Empty, Partial, Filled}

@@ -3,16 +3,16 @@ use Rattle.std.specs.Prelude.{◌≡◌, ℕ, ◌<◌, ◌==◌, List, length, m
 use Rattle.clif_types.specs.declared.opcodes.BinaryOpcode.{BinaryOpcode}
 use Rattle.clif_types.specs.declared.opcodes.UnaryOpcode.{UnaryOpcode}
 use Rattle.clif_types.specs.declared.types.«Type».TheVariants.{Invalid}
-use Rattle.clif_ir.specs.declared.block_call.BlockArg.{BlockArg}
-use Rattle.clif_ir.specs.declared.block_call.BlockCall.{BlockCall}
-use Rattle.clif_ir.specs.declared.instructions.InstructionData.{InstructionData}
+use Rattle.clif_instructions.specs.declared.block_call.BlockArg.{BlockArg}
+use Rattle.clif_instructions.specs.declared.block_call.BlockCall.{BlockCall}
+use Rattle.clif_instructions.specs.declared.instructions.InstructionData.{InstructionData}
 use Rattle.clif_meaning.specs.Acceptance as request
 use Rattle.clif_meaning.specs.Instruction.{Edge, Instruction}
 use Rattle.cranelift_frontend.specs.Shapes.{edge_to, multi_ary, unary_imm}
 use Rattle.cranelift_frontend.specs.Shapes as shape
 use Rattle.clif_types.specs.declared.types.«Type».{«Type»}
 use Rattle.clif_ir.specs.Body.{Body, value_at}
-use Rattle.clif_ir.specs.Reading.{stands_in}
+use Rattle.clif_instructions.specs.Members.{stands_in}
 use Rattle.clif_meaning.specs.Name.{Name, same_name}
 use Rattle.clif_meaning.specs.Request.{AnsweredCall, Build, Request, number_of}
 use Rattle.clif_meaning.specs.Ledger.{BlockState, block_state, has_block, is_inserted, type_of, variable_type}

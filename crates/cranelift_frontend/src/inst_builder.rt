@@ -1,7 +1,7 @@
 //! The instructions by name, over anything that makes an instruction of any shape: `builder.ins().iadd(x, y)?`.
 ghost use Rattle.std.specs.Prelude.{◌≡◌, ◌∷◌, [], IsTrue, IfOk, OnErr, Err, All};
 ghost use Rattle.clif_types.specs.Types.{is_int};
-ghost use Rattle.clif_ir.specs.Instruction.{operands, destinations};
+ghost use Rattle.clif_instructions.specs.Instruction.{operands, destinations};
 ghost use Rattle.cranelift_frontend.specs.Shapes.{GivesValue, AfterValue, LikeIsValue, binary, brif_to, edge_to, jump, multi_ary, unary, unary_imm};
 
 use clif_ir::{BinaryOpcode, BlockArg, BlockCall, InstructionData, UnaryOpcode, ValueList};
@@ -13,8 +13,8 @@ pub trait InstBuilderBase {
     ghost use Rattle.std.specs.Prelude.{ℕ, Result, Err};
     ghost use Rattle.clif_types.specs.declared.error.BuildError.{BuildError};
     ghost use Rattle.clif_types.specs.declared.types.«Type».{«Type»};
-    ghost use Rattle.clif_ir.specs.declared.block_call.BlockCall.{BlockCall};
-    ghost use Rattle.clif_ir.specs.declared.instructions.InstructionData.{InstructionData};
+    ghost use Rattle.clif_instructions.specs.declared.block_call.BlockCall.{BlockCall};
+    ghost use Rattle.clif_instructions.specs.declared.instructions.InstructionData.{InstructionData};
 
     // there is a current block, which may get an instruction
     ghost can_build: { Self → Type 0 };

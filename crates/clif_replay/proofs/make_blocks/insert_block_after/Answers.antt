@@ -4,7 +4,7 @@ use Rattle.clif_replay.specs.declared.script.Answer.TheVariants as answer
 use Rattle.clif_replay.proofs.Making.{answered-sound, made-answer, made-misuse, made-refused}
 use Rattle.std.specs.Prelude.{not}
 use Rattle.std.proofs.lemmas.Bool.{and_parts, not-true, false≢true}
-use Rattle.clif_ir.specs.Reading.{stands_in}
+use Rattle.clif_instructions.specs.Members.{stands_in}
 use Rattle.cranelift_frontend.specs.Context.{ContextState}
 use Rattle.clif_replay.specs.Requests.{name_of}
 use Rattle.clif_replay.proofs.ReadyLaws.{ready-more, block-found, block-there}

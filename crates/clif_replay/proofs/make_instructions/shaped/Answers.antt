@@ -2,7 +2,7 @@ use Rattle.std.proofs.Common.{[], ◌∷◌, ◌∙◌, refl, ap, sym, subst}
 use Rattle.std.specs.Prelude.{◌≡◌, ◌<◌, map, length, Some}
 use Rattle.clif_types.specs.declared.types.«Type».TheVariants.{Invalid}
 use Rattle.clif_ir.specs.Body.{Body, value_at}
-use Rattle.clif_ir.specs.declared.instructions.InstructionData.TheVariants as shape
+use Rattle.clif_instructions.specs.declared.instructions.InstructionData.TheVariants as shape
 use Rattle.clif_calls.specs.declared.plan.Plan.TheVariants as plan
 use Rattle.clif_replay.specs.Ready.{value_of}
 use Rattle.clif_replay.proofs.Planning.{first-exists, planned-binary, planned-found, planned-returns, planned-unary}

@@ -1,7 +1,7 @@
 use Rattle.std.proofs.Common.{◌<◌, List, length, sym, subst}
 use Rattle.std.specs.Prelude.{slice_index, EachIndex}
-use Rattle.clif_ir.specs.declared.block_call.BlockCall.{BlockCall}
-use Rattle.clif_ir.specs.Reading.{targets}
+use Rattle.clif_instructions.specs.declared.block_call.BlockCall.{BlockCall}
+use Rattle.clif_instructions.specs.Edges.{targets}
 use Rattle.clif_ir.proofs.Leading.{edges_of-targets_exist}
 use Rattle.clif_ir.proofs.function.Function.block_successors.Goals as goal
 

@@ -5,7 +5,8 @@ use Rattle.std.proofs.lemmas.List.{with_items_is, places}
 use Rattle.clif_ir.specs.declared.function.BlockPlace.{BlockPlace}
 use Rattle.clif_ir.specs.Body.{Body}
 use Rattle.clif_ir.specs.Changes.{with_layout_after}
-use Rattle.clif_ir.specs.Consistent.{IsConsistent, Stands}
+use Rattle.clif_ir.specs.Consistent.{IsConsistent}
+use Rattle.clif_instructions.specs.Members.{Stands}
 use Rattle.clif_ir.specs.Whole.{IsPlaced, IsLinked, body_of, last_after, linked_after, no_place}
 use Rattle.clif_ir.proofs.Linking.{IsOrdered, ordered_behind, ordered_read}
 use Rattle.clif_ir.proofs.function.Function.insert_block_after.Goals as goal

@@ -3,8 +3,9 @@ use Rattle.std.specs.Prelude.{EachIndex, All, slice_index, slice_index_or}
 use Rattle.clif_ir.specs.Consistent.{EdgeExists}
 use Rattle.clif_ir.specs.Body.{Body, block_at, resolved}
 use Rattle.std.proofs.lemmas.Grind.{common_steps}
-use Rattle.clif_ir.specs.Changes.{IsPlaceOf, put_at, with_inst}
-use Rattle.clif_ir.specs.Instruction.{operands, destinations, result_types}
+use Rattle.clif_instructions.specs.Members.{IsPlaceOf, put_at}
+use Rattle.clif_ir.specs.Changes.{with_inst}
+use Rattle.clif_instructions.specs.Instruction.{operands, destinations, result_types}
 use Rattle.clif_ir.specs.Whole.{body_of, chain, no_place, placed_at}
 use Rattle.clif_ir.proofs.Inserting.{moved_old}
 use Rattle.clif_ir.proofs.KeepsListed.{listed_results}

@@ -1,6 +1,6 @@
 use Rattle.std.proofs.Common.{rules, arith, ◌∙◌, sym}
 use Rattle.std.proofs.lemmas.Grind.{common_steps}
-use Rattle.clif_ir.proofs.Reading.{Stands-from_test, test-from_Stands}
+use Rattle.clif_instructions.proofs.Members.{Stands-from_test, test-from_Stands}
 use Rattle.clif_ir.proofs.function.Function.is_block_inserted.Goals as goal
 
 pub returns-clause-test : goal.returns-clause-test

@@ -2,9 +2,10 @@ use Rattle.std.proofs.Common.{◌≡◌, ◌+◌, ◌<◌, ◌∙◌, ap, length
 use Rattle.std.specs.Prelude.{slice_get, IfSome}
 use Rattle.std.proofs.lemmas.Grind.{common_steps}
 use Rattle.clif_ir.specs.Body.{Body, block_at, inst_at}
-use Rattle.clif_ir.specs.Consistent.{IsConsistent, Once}
+use Rattle.clif_ir.specs.Consistent.{IsConsistent}
+use Rattle.clif_instructions.specs.Members.{Once}
 use Rattle.clif_ir.proofs.Orders.{next_in-below}
-use Rattle.clif_ir.proofs.Reading.{next_in-at}
+use Rattle.clif_instructions.proofs.Members.{next_in-at}
 use Rattle.clif_ir.proofs.function.Function.next_inst.Goals as goal
 
 pub returns-clause-exact : goal.returns-clause-exact

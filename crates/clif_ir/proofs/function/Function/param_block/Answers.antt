@@ -2,7 +2,8 @@ use Rattle.std.proofs.Common.{◌≡◌, ◌∙◌, ap, subst, rules, arith}
 use Rattle.std.proofs.lemmas.Grind.{common_steps}
 use Rattle.clif_ir.specs.declared.function.ValueOrigin.TheVariants.{Param}
 use Rattle.clif_ir.specs.Body.{Body, value_at, block_at}
-use Rattle.clif_ir.specs.Consistent.{IsOrigin, Stands}
+use Rattle.clif_ir.specs.Consistent.{IsOrigin}
+use Rattle.clif_instructions.specs.Members.{Stands}
 use Rattle.clif_ir.specs.Whole.{body_of}
 use Rattle.clif_ir.proofs.function.Function.param_block.Goals as goal
 

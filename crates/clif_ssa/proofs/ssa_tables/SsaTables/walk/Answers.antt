@@ -1,6 +1,6 @@
 use Rattle.std.proofs.Common.{rules, ◌≡◌, ◌<◌, ◌∙◌, ◌+◌, ◌++◌, ◌∷◌, [], ap, length, arith}
 use Rattle.std.proofs.lemmas.Grind.{common_steps}
-use Rattle.clif_ir.specs.Consistent.{Stands}
+use Rattle.clif_instructions.specs.Members.{Stands}
 use Rattle.clif_ssa.proofs.Walks.{once-further, below-further, fewer-passed}
 use Rattle.clif_ssa.proofs.ssa_tables.SsaTables.walk.Goals as goal
 

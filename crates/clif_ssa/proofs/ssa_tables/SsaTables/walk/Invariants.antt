@@ -1,5 +1,5 @@
 use Rattle.std.proofs.Common.{◌≡◌, ◌<◌, ◌-◌, length}
-use Rattle.clif_ir.specs.Consistent.{Once}
+use Rattle.clif_instructions.specs.Members.{Once}
 use Rattle.clif_ssa.specs.Ssa.{record_of}
 use Rattle.clif_ssa.specs.LookUp.{IsWalk}
 use Rattle.clif_ssa.proofs.Walks.{AllBelow}

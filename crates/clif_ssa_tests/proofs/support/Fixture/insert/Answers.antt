@@ -4,8 +4,8 @@ use Rattle.std.specs.Prelude.{Result, Ok, Err, OnOk, OnErr}
 use Rattle.clif_types.specs.declared.types.«Type».{«Type»}
 use Rattle.clif_types.specs.declared.error.BuildError.{BuildError}
 use Rattle.clif_ir.specs.Body.{Body}
-use Rattle.clif_ir.specs.declared.instructions.InstructionData.{InstructionData}
-use Rattle.clif_ir.specs.declared.inst_list.InsertAt.TheVariants.{Back}
+use Rattle.clif_instructions.specs.declared.instructions.InstructionData.{InstructionData}
+use Rattle.clif_instructions.specs.declared.inst_list.InsertAt.TheVariants.{Back}
 use Rattle.clif_ir.specs.Changes.{with_inst, inst_node, result_nodes}
 use Rattle.clif_ssa_tests.proofs.Names.{Grows, same-named}
 use Rattle.clif_ssa_tests.proofs.support.Fixture.insert.Goals as goal

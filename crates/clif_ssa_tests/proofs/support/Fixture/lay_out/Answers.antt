@@ -4,7 +4,7 @@ use Rattle.std.specs.Prelude.{Result, Ok, Err, OnOk, OnErr, if◌then◌else◌}
 use Rattle.clif_types.specs.declared.error.BuildError.{BuildError}
 use Rattle.clif_ir.specs.Body.{Body}
 use Rattle.clif_ir.specs.Changes.{inserted_in, with_layout}
-use Rattle.clif_ir.specs.Reading.{stands_in}
+use Rattle.clif_instructions.specs.Members.{stands_in}
 use Rattle.clif_ssa_tests.proofs.Names.{Grows, same-named}
 use Rattle.clif_ssa_tests.proofs.support.Fixture.lay_out.Goals as goal
 

@@ -1,6 +1,6 @@
 //! Edges: the target of a branch, and what it passes to the target's parameters.
 ghost use Rattle.std.specs.Prelude.{◌≡◌, ◌≤◌, ◌-◌, [], ◌∷◌, ◌++◌, length, take, Some, OnOk, OnErr, IfOk};
-ghost use Rattle.clif_ir.specs.Edges.{appended_to, with_argument_to, taken_from, taken_back, argument_text};
+ghost use Rattle.clif_instructions.specs.Edges.{appended_to, with_argument_to, taken_from, taken_back, argument_text};
 
 use clif_types::{Block, BuildError, Value};
 use smallvec::SmallVec;
@@ -45,7 +45,7 @@ pub struct BlockArgs {
 
 impl Model for BlockArgs {
     ghost use Rattle.std.specs.Prelude.{List};
-    ghost use Rattle.clif_ir.specs.declared.block_call.BlockArg.{BlockArg};
+    ghost use Rattle.clif_instructions.specs.declared.block_call.BlockArg.{BlockArg};
 
     ghost Value = { List BlockArg };
 

@@ -1,9 +1,9 @@
 -- What changes the edges of a branch. Source: own.
 use Rattle.std.specs.Prelude.{ℕ, ◌==◌, ◌-◌, ◌++◌, List, [], ◌∷◌, length, map, take, drop, if◌then◌else◌, codes}
 use Rattle.std.specs.Fmt.{decimal}
-use Rattle.clif_ir.specs.declared.block_call.BlockArg.{BlockArg}
-use Rattle.clif_ir.specs.declared.block_call.BlockArg.TheVariants.{Value, TryCallRet, TryCallExn}
-use Rattle.clif_ir.specs.declared.block_call.BlockCall.{BlockCall}
+use Rattle.clif_instructions.specs.declared.block_call.BlockArg.{BlockArg}
+use Rattle.clif_instructions.specs.declared.block_call.BlockArg.TheVariants.{Value, TryCallRet, TryCallExn}
+use Rattle.clif_instructions.specs.declared.block_call.BlockCall.{BlockCall}
 
 -- an edge that passes this value as well, at the end, if it goes to the block
 abbrev pub appended_to : ℕ → ℕ → BlockCall → BlockCall
@@ -26,3 +26,7 @@ abbrev pub argument_text : BlockArg → List ℕ
 argument_text (Value v) = codes "v" ++ decimal v
 argument_text (TryCallRet k) = codes "ret" ++ decimal k
 argument_text (TryCallExn k) = codes "exn" ++ decimal k
+
+-- the targets of edges, in order
+abbrev pub targets : List BlockCall → List ℕ
+targets edges = map (λ (edge : BlockCall). edge.block) edges

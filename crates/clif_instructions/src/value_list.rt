@@ -1,7 +1,6 @@
 //! Short lists of values.
 ghost use Rattle.std.specs.Prelude.{◌≡◌, [], ◌∷◌, ◌++◌, length, OnOk, OnErr, ◌<◌, IfOk};
-ghost use Rattle.clif_ir.specs.Consistent.{Stands};
-ghost use Rattle.clif_ir.specs.Reading.{place_of, without};
+ghost use Rattle.clif_instructions.specs.Members.{Stands, place_of, without};
 
 use clif_types::{BuildError, Value};
 use smallvec::SmallVec;
@@ -59,7 +58,7 @@ impl ValueList {
     }
 
     /// The place of the first `value`, which stands in the list.
-    #[tactic(auto, using(crate::proofs::Reading::place_rules))]
+    #[tactic(auto, using(crate::proofs::Members::place_rules))]
     pub fn place_of(&self, value: Value) -> usize
         requires { Stands value self.now }
         ensures exact { result ≡ place_of value self.now }
@@ -74,7 +73,7 @@ impl ValueList {
     }
 
     /// Takes the first `value` away, which stands in the list; those behind it move up.
-    #[tactic(auto, using(crate::proofs::Reading::place_rules))]
+    #[tactic(auto, using(crate::proofs::Members::place_rules))]
     pub fn remove(&mut self, value: Value)
         requires { Stands value self.old }
         ensures { self.new ≡ without value self.old }

@@ -3,9 +3,8 @@ use Rattle.std.proofs.Common.{◌≡◌, ◌≢◌, ℕ, zero, suc, ◌+◌, ◌
 use Rattle.std.specs.Prelude.{slice_index, slice_get, if◌then◌else◌, remove}
 use Rattle.std.proofs.lemmas.Grind.{common_steps}
 use Rattle.std.proofs.lemmas.Bool.{cases_eq}
-use Rattle.clif_ir.specs.Consistent.{Stands, Once}
+use Rattle.clif_instructions.specs.Members.{Stands, Once, next_in, without, place_of, stands_in}
 use Rattle.std.proofs.lemmas.List.Folds.{list_any_at}
-use Rattle.clif_ir.specs.Reading.{next_in, without, place_of, stands_in}
 
 -- a choice by a test that is true, and by one that is false
 pub if_true : {X : Type 0} (y x : ℕ) (a b : X) → y ≡ x → (if y == x then a else b) ≡ a

@@ -1,7 +1,7 @@
 //! Numbers in instructions, and how they are printed.
 ghost use Rattle.std.specs.Prelude.{◌≡◌, ◌*◌, ◌^◌, ◌≤◌, ◌<◌, ◌++◌, ◌∷◌, [], Some, codes};
 ghost use Rattle.std.specs.Fmt.{WritesOnOk};
-ghost use Rattle.clif_ir.specs.Immediates.{centred, signed_at, hex_groups, significant, imm64_text};
+ghost use Rattle.clif_instructions.specs.Immediates.{centred, signed_at, hex_groups, significant, imm64_text};
 ghost use Rattle.clif_types.specs.Types.{bits_of};
 
 use clif_types::Type;

@@ -1,7 +1,7 @@
 use Rattle.std.proofs.Common.{◌≡◌, arith, rules, get_or}
-use Rattle.clif_ir.specs.Edges.{appended_to}
-use Rattle.clif_ir.proofs.Edges.{partly-next, all-taken}
-use Rattle.clif_ir.proofs.block_call.append_to_edges.Goals as goal
+use Rattle.clif_instructions.specs.Edges.{appended_to}
+use Rattle.clif_instructions.proofs.Edges.{partly-next, all-taken}
+use Rattle.clif_instructions.proofs.block_call.append_to_edges.Goals as goal
 
 pub loop-place-preserved : goal.loop-place-preserved
 loop-place-preserved c =

@@ -1,7 +1,7 @@
 use Rattle.std.proofs.Common.{arith}
-use Rattle.clif_ir.specs.Edges.{taken_from}
-use Rattle.clif_ir.proofs.Edges.{partly-next}
-use Rattle.clif_ir.proofs.block_call.take_back.Goals as goal
+use Rattle.clif_instructions.specs.Edges.{taken_from}
+use Rattle.clif_instructions.proofs.Edges.{partly-next}
+use Rattle.clif_instructions.proofs.block_call.take_back.Goals as goal
 
 pub loop-place-preserved : goal.loop-place-preserved
 loop-place-preserved c =

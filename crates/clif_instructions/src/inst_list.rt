@@ -1,6 +1,6 @@
 //! The instructions of a block, in order.
 ghost use Rattle.std.specs.Prelude.{◌≡◌, [], length, OnOk, OnErr, slice_get, slice_index, ◌<◌, ◌^◌};
-ghost use Rattle.clif_ir.specs.Changes.{IsPlaceOf, put_at};
+ghost use Rattle.clif_instructions.specs.Members.{IsPlaceOf, put_at};
 
 use clif_types::{BuildError, Inst};
 use std::alloc::Global;
@@ -55,8 +55,8 @@ impl InstList {
         self.insts.get(index).copied()
     }
 
-    // The instruction at `index`.
-    pub(crate) fn at(&self, index: usize) -> Inst
+    /// The instruction at `index`, which is below the length.
+    pub fn at(&self, index: usize) -> Inst
         requires { index < length self.now }
         ensures { result ≡ slice_index self.now index }
     {

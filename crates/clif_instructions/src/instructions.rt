@@ -1,6 +1,6 @@
 //! Instructions: their shapes, operands and results.
 ghost use Rattle.std.specs.Prelude.{◌≡◌, OnOk, OnErr};
-ghost use Rattle.clif_ir.specs.Instruction.{operands, destinations, with_argument, has_result, is_branch, is_terminator, typing_of};
+ghost use Rattle.clif_instructions.specs.Instruction.{operands, destinations, with_argument, has_result, is_branch, is_terminator, typing_of};
 
 use crate::block_call::{BlockCall, append_to_edge, append_to_edges};
 use crate::value_list::ValueList;
@@ -71,9 +71,9 @@ impl InstructionData {
         }
     }
 
-    // Puts a value at the end of what each edge passes that goes to `block`. The only error is `Memory`, and
-    // the instruction is then as it was.
-    pub(crate) fn append_argument(&mut self, block: Block, value: Value) -> Result<(), BuildError>
+    /// Puts a value at the end of what each edge passes that goes to `block`. The only error is `Memory`, and
+    /// the instruction is then as it was.
+    pub fn append_argument(&mut self, block: Block, value: Value) -> Result<(), BuildError>
         ensures ok { OnOk result (self.new ≡ with_argument block value self.old) }
         ensures err { OnErr result (self.new ≡ self.old) }
         ensures only_memory { OnErr result (result ≡ Err BuildError.Memory) }

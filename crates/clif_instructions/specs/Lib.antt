@@ -1,0 +1,4 @@
+pub mod Members
+pub mod Edges
+pub mod Instruction
+pub mod Immediates
