@@ -175,3 +175,20 @@ fn successors(rt: HostRuntime) -> Result<(), Fail> {
     ];
     runs(&rt, rt.alloc(), &steps)
 }
+
+fn passes(rt: &impl Abort, shape: &InstructionData, args: &[BlockArg]) {
+    for edge in shape.branch_destination().iter() {
+        assert!(rt; edge.args.as_slice() == args);
+    }
+}
+
+// A jump passes what is appended for its target, and nothing that is appended for another block.
+#[test]
+fn arguments_appended(rt: HostRuntime) -> Result<(), Fail> {
+    let destination = BlockCall::new(rt.alloc(), Block::from_u32(2), &[])?;
+    let mut jump = InstructionData::Jump { destination };
+    jump.append_argument(Block::from_u32(2), Value::from_u32(3))?;
+    jump.append_argument(Block::from_u32(1), Value::from_u32(4))?;
+    passes(&rt, &jump, &[BlockArg::Value(Value::from_u32(3))]);
+    Ok(())
+}

@@ -52,6 +52,9 @@ fn has_at(rt: &impl Abort, list: &InstList, index: usize, number: Option<u32>) {
         None => None,
     };
     assert!(rt; list.get(index) == expected);
+    if index < list.len() {
+        assert!(rt; Some(list.at(index)) == expected);
+    }
 }
 
 #[test]

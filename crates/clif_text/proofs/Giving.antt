@@ -4,12 +4,12 @@ use mir.Val.{bool_byte}
 use Rattle.std.specs.Prelude.{codes}
 use Rattle.std.proofs.lemmas.List.{append_assoc, append-nil, take_all}
 use Rattle.clif_calls.specs.declared.call.Name.{Name}
-use Rattle.clif_text.specs.Cursor.{texts}
+use Rattle.clif_words.specs.Cursor.{texts}
 use Rattle.clif_text.specs.Given.{GiveNames, GivesName, first_answer}
 use Rattle.clif_text.specs.declared.scope.Scope.{Scope}
 use Rattle.clif_text.specs.Scope.{given_in, KeepsVariables, Gives}
 use Rattle.clif_text.specs.Reader.{NamesAnswers}
-use Rattle.clif_text.proofs.Texts.{texts_more}
+use Rattle.clif_words.proofs.Texts.{texts_more}
 
 -- Whatever names more words give, behind these they give them too. The next name is of this answer.
 pub record GivenSoFar (instruction : Bool) (place answer : ℕ) (words : List (List ℕ)) (first now : Scope) : Type 0 where

@@ -4,9 +4,9 @@ use Rattle.std.specs.Prelude.{codes}
 use Rattle.std.proofs.lemmas.List.{append_assoc}
 use Rattle.clif_types.specs.declared.extfunc.AbiParam.{AbiParam}
 use Rattle.clif_types.specs.declared.types.«Type».{«Type»}
-use Rattle.clif_text.specs.declared.cursor.Cursor.{Cursor}
-use Rattle.clif_text.specs.Cursor.{words_left}
-use Rattle.clif_text.specs.Grammar.{IsTypeWord}
+use Rattle.clif_words.specs.declared.cursor.Cursor.{Cursor}
+use Rattle.clif_words.specs.Cursor.{words_left}
+use Rattle.clif_words.specs.Spelling.{IsTypeWord}
 use Rattle.clif_text.specs.Header.{AreTypes, AreReturned}
 
 -- the words between an old and a new state are the types of these parameters

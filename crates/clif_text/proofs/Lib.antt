@@ -1,10 +1,6 @@
-mod Left
-mod Lines
 mod Taking
 mod Reading
-mod Texts
 mod Scopes
 mod Giving
 mod Counting
-mod Figures
 mod Headers

@@ -5,16 +5,16 @@ use Rattle.std.specs.List.{All}
 use Rattle.std.proofs.lemmas.List.{length-take-le}
 use Rattle.std.proofs.Math.Seq.{take-suc}
 use Rattle.clif_text.specs.declared.reader.Reader.{Reader}
-use Rattle.clif_text.specs.Cursor.{texts}
-use Rattle.clif_text.specs.Words.{AreWords, HasWord}
-use Rattle.clif_text.specs.declared.error.LineError.{LineError}
-use Rattle.clif_text.specs.declared.error.LineError.TheVariants as fault
-use Rattle.clif_text.specs.Errors.{error_at}
+use Rattle.clif_words.specs.Cursor.{texts}
+use Rattle.clif_words.specs.Words.{AreWords, HasWord}
+use Rattle.clif_words.specs.declared.error.LineError.{LineError}
+use Rattle.clif_words.specs.declared.error.LineError.TheVariants as fault
+use Rattle.clif_words.specs.Errors.{error_at}
 use Rattle.clif_text.specs.Reader.{RefusesWords, WordsSay, LineAdds}
 use Rattle.clif_text.specs.Header.{HeaderSaid, IsHeader}
 use Rattle.clif_text.specs.Script.{lines_of, line_at, IsLineNumber, Said, nothing_said, LineSays, LinesSay, TellsLine}
-use Rattle.clif_text.proofs.Left.{length-texts}
-use Rattle.clif_text.proofs.Texts.{get_or-texts}
+use Rattle.clif_words.proofs.Left.{length-texts}
+use Rattle.clif_words.proofs.Texts.{get_or-texts}
 
 -- a call behind `=` is the line's
 pub says_behind : (line : List ℕ) (words given rest : List (List ℕ)) (number : ℕ) (old new : Reader) → AreWords words line → words ≡ given ++ codes "=" ∷ rest → All (λ word. word ≢ codes "=") given → WordsSay given rest number old new → LineAdds line number old new

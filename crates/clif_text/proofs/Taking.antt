@@ -4,7 +4,7 @@ use Rattle.std.specs.Prelude.{codes}
 use Rattle.std.proofs.lemmas.List.{append_assoc, append-nil}
 use Rattle.clif_calls.specs.declared.call.Name.{Name}
 use Rattle.clif_text.specs.declared.args.Args.{Args}
-use Rattle.clif_text.specs.Cursor.{words_left}
+use Rattle.clif_words.specs.Cursor.{words_left}
 use Rattle.clif_text.specs.Grammar.{Names, AreAnswers, IsAnswer}
 use Rattle.clif_text.specs.Scope.{names_of}
 

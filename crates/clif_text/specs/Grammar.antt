@@ -1,10 +1,7 @@
 -- Which words stand for which call. Source: own; docs/SCRIPTS.md describes the same format.
-use Rattle.std.specs.Prelude.{ℤ, ◌+◌, ◌%◌, ◌^◌, ◌<◌, ◌≤◌, ◌==◌, not, filter, ◌≡◌, ℕ, ◌⊎◌, ◌++◌, List, [], ◌∷◌, Option, Some, None, codes}
-use Rattle.std.specs.Int.{cast_signed, w64}
-use Rattle.std.specs.Str.Parse.{IsNumeral, digits_value}
-use Rattle.clif_types.specs.Types.{IsType}
-use Rattle.clif_types.specs.Texts.{binary_opcode_text, type_text, unary_opcode_text}
-use Rattle.clif_types.specs.declared.types.«Type».{«Type»}
+use Rattle.std.specs.Prelude.{◌≡◌, ℕ, ◌⊎◌, ◌++◌, List, [], ◌∷◌, Option, Some, None, codes}
+use Rattle.clif_types.specs.Texts.{binary_opcode_text, unary_opcode_text}
+use Rattle.clif_words.specs.Spelling.{IsDecimal, IsNumber, IsTypeWord}
 use Rattle.clif_calls.specs.declared.call.Name.{Name}
 use Rattle.clif_calls.specs.declared.call.Edge.{Edge}
 use Rattle.clif_calls.specs.declared.call.Call.{Call}
@@ -17,11 +14,6 @@ use Rattle.clif_calls.specs.declared.plan.Plan.TheVariants as plan
 pub record Names : Type 0 where
   pub given : List ℕ → Option Name
   pub variable : Name → ℕ
-
--- decimal digits that write the number
-pub record IsDecimal (digits : List ℕ) (number : ℕ) : Type 0 where
-  pub numeral : IsNumeral 10 digits
-  pub value : digits_value 10 digits ≡ number
 
 -- `$P.K`, with the place and the answer in decimal digits
 abbrev pub IsPlaceName : List ℕ → Name → Type 0
@@ -57,25 +49,6 @@ IsEdge names words edge = (block : List ℕ) × (passed : List (List ℕ)) × (w
 -- an edge that ends a line: the parentheses may be left out
 abbrev pub IsLastEdge : Names → List (List ℕ) → Edge → Type 0
 IsLastEdge names words edge = (block : List ℕ) × (passed : List (List ℕ)) × (words ≡ block ∷ passed) × IsAnswer names block edge.block × AreLast names passed edge.args.items
-
--- a type of the IR, as it is printed
-pub record IsTypeWord (word : List ℕ) (ty : «Type») : Type 0 where
-  pub text : word ≡ type_text ty
-  pub valid : IsType ty
-
--- the digits of a number, without the `_` among them
-abbrev pub figures : List ℕ → List ℕ
-figures digits = filter (λ c. not (c == 95)) digits
-
--- a number without a sign: in base 16 behind `0x`, else in base 10
-abbrev pub IsMagnitude : List ℕ → ℕ → Type 0
-IsMagnitude word number = ((digits : List ℕ) × (word ≡ codes "0x" ++ digits) × IsNumeral 16 (figures digits) × (digits_value 16 (figures digits) ≡ number))
-    ⊎ (IsNumeral 10 (figures word) × (digits_value 10 (figures word) ≡ number))
-
--- a number of 64 bits: the bits, read as signed, or `-` and a number up to 2^63, in two's complement
-abbrev pub IsNumber : List ℕ → ℤ → Type 0
-IsNumber word number = ((bits : ℕ) × (bits < 2 ^ 64) × IsMagnitude word bits × (number ≡ cast_signed w64 bits))
-    ⊎ ((digits : List ℕ) × (magnitude bits : ℕ) × (bits < 2 ^ 64) × (word ≡ codes "-" ++ digits) × IsMagnitude digits magnitude × (magnitude ≤ 2 ^ 63) × ((bits + magnitude) % 2 ^ 64 ≡ 0) × (number ≡ cast_signed w64 bits))
 
 -- The words stand for an instruction of this plan, which neither branches nor ends its block.
 abbrev pub IsPlain : Names → List (List ℕ) → Plan → Type 0

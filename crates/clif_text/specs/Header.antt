@@ -10,8 +10,7 @@ use Rattle.clif_types.specs.declared.extname.UserFuncName.{UserFuncName}
 use Rattle.clif_types.specs.declared.extname.UserFuncName.TheVariants as name
 use Rattle.clif_types.specs.declared.target.PointerWidth.{PointerWidth}
 use Rattle.clif_types.specs.declared.target.PointerWidth.TheVariants.{U64}
-use Rattle.clif_text.specs.Grammar.{IsDecimal, IsTypeWord}
-use Rattle.clif_text.specs.Texts.{pointer_text}
+use Rattle.clif_words.specs.Spelling.{IsDecimal, IsTypeWord, pointer_text}
 
 -- a name by two numbers, as `u0:0`
 abbrev pub IsUserName : List ℕ → UserExternalName → Type 0

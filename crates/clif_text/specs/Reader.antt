@@ -1,7 +1,7 @@
 -- What reading one line does. Source: own.
 use Rattle.std.specs.Prelude.{◌≡◌, ℕ, Bool, List}
-use Rattle.clif_text.specs.declared.error.LineError.{LineError}
-use Rattle.clif_text.specs.declared.error.LineError.TheVariants as error
+use Rattle.clif_words.specs.declared.error.LineError.{LineError}
+use Rattle.clif_words.specs.declared.error.LineError.TheVariants as error
 use Rattle.clif_text.specs.declared.header.Header.{Header}
 use Rattle.clif_text.specs.declared.reader.Reader.{Reader}
 use Rattle.clif_text.specs.Header.{HeaderSaid}
@@ -10,7 +10,7 @@ use Rattle.clif_text.specs.Grammar.{IsCall}
 use Rattle.clif_text.specs.declared.scope.Scope.{Scope}
 use Rattle.clif_text.specs.Scope.{given_in, KeepsVariables}
 use Rattle.clif_text.specs.Script.{Said, SaysCall, LineSays}
-use Rattle.clif_text.specs.Words.{HasWord}
+use Rattle.clif_words.specs.Words.{HasWord}
 
 -- what the header lines so far said
 abbrev pub header_said : Header → HeaderSaid

@@ -3,12 +3,12 @@ use Rattle.std.specs.Prelude.{◌≡◌, ◌≢◌, ℕ, ◌+◌, ◌-◌, ◌�
 use Rattle.std.specs.List.{slice_split, All}
 use Rattle.clif_calls.specs.declared.call.Call.{Call}
 use Rattle.clif_calls.specs.declared.call.Name.{Name}
-use Rattle.clif_text.specs.declared.error.ReadError.{ReadError}
-use Rattle.clif_text.specs.declared.error.ReadError.TheVariants as read
+use Rattle.clif_words.specs.declared.error.ReadError.{ReadError}
+use Rattle.clif_words.specs.declared.error.ReadError.TheVariants as read
 use Rattle.clif_text.specs.Given.{names_behind, is_instruction, first_answer, GiveNames}
 use Rattle.clif_text.specs.Grammar.{Names, IsCall}
 use Rattle.clif_text.specs.Header.{HeaderSaid, IsHeader, name_in, signature_in, pointer_width_in, call_conv_in}
-use Rattle.clif_text.specs.Words.{AreWords, HasWord}
+use Rattle.clif_words.specs.Words.{AreWords, HasWord}
 use Rattle.clif_text.specs.declared.reader.Script.{Script}
 
 -- the lines of a text, without their ends; behind the last end there is one more, which may be empty

@@ -5,8 +5,7 @@ use Rattle.clif_types.specs.Texts.{binary_opcode_text, unary_opcode_text, type_t
 use Rattle.clif_types.specs.Signature.{SignatureShape}
 use Rattle.clif_types.specs.declared.extname.UserFuncName.{UserFuncName}
 use Rattle.clif_types.specs.declared.target.TargetFrontendConfig.{TargetFrontendConfig}
-use Rattle.clif_types.specs.declared.target.PointerWidth.{PointerWidth}
-use Rattle.clif_types.specs.declared.target.PointerWidth.TheVariants as width
+use Rattle.clif_words.specs.Spelling.{pointer_text}
 use Rattle.clif_calls.specs.declared.call.Name.{Name}
 use Rattle.clif_calls.specs.declared.call.Edge.{Edge}
 use Rattle.clif_calls.specs.declared.call.Call.{Call}
@@ -58,12 +57,6 @@ call_text (call.Plain instruction) = plan_text (plan_of instruction)
 call_text (call.Jump edge) = codes "jump " ++ edge_text edge
 call_text (call.Brif condition first second) = codes "brif " ++ (answer_text condition ++ (codes " " ++ (edge_text first ++ (codes " " ++ edge_text second))))
 call_text (call.Return values) = codes "return" ++ answers_text values.items
-
--- the number of bits
-abbrev pub pointer_text : PointerWidth → List ℕ
-pointer_text width.U16 = codes "16"
-pointer_text width.U32 = codes "32"
-pointer_text width.U64 = codes "64"
 
 -- the header lines
 abbrev pub header_text : UserFuncName → SignatureShape → TargetFrontendConfig → List ℕ

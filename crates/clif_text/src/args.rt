@@ -1,12 +1,12 @@
 //! What follows the name of a call.
 ghost use Rattle.std.specs.Prelude.{◌≡◌, ◌++◌, ℕ, List, IfSome, codes};
-ghost use Rattle.clif_text.specs.Grammar.{IsDecimal};
+ghost use Rattle.clif_words.specs.Spelling.{IsDecimal};
 
-use crate::cursor::Cursor;
-use crate::error::{Expected, Fault, LineError};
-use crate::number::{decimal, number};
+use clif_words::cursor::Cursor;
+use clif_words::error::{Expected, Fault, LineError};
+use clif_words::number::{decimal, number};
 use crate::scope::{Scope, is_name};
-use crate::types::type_named;
+use clif_words::types::type_named;
 use clif_calls::{Edge, Name};
 use clif_ssa::Variable;
 use clif_types::Type;
@@ -24,9 +24,10 @@ const MOST_VARIABLES: usize = 0xffff_ffff;
 
 impl<'w, 'a> Args<'w, 'a> {
     ghost use Rattle.std.specs.Prelude.{◌∷◌, [], IfOk, OnOk};
-    ghost use Rattle.clif_text.specs.Cursor.{texts, words_left};
+    ghost use Rattle.clif_words.specs.Cursor.{texts, words_left};
     ghost use Rattle.clif_text.specs.Scope.{names_of};
-    ghost use Rattle.clif_text.specs.Grammar.{AreAnswers, AreLast, IsAnswer, IsEdge, IsLastEdge, IsNumber, IsTypeWord, IsVariable};
+    ghost use Rattle.clif_text.specs.Grammar.{AreAnswers, AreLast, IsAnswer, IsEdge, IsLastEdge, IsVariable};
+    ghost use Rattle.clif_words.specs.Spelling.{IsNumber, IsTypeWord};
 
     pub(crate) fn new(words: &'w [&'a str], scope: &'w Scope<'a>) -> Args<'w, 'a>
         ensures words { words_left result.words ≡ texts words.now }

@@ -1,15 +1,15 @@
 //! The calls that are understood: one arm each.
 ghost use Rattle.std.specs.Prelude.{◌≡◌, ◌++◌, ◌∷◌, ℕ, List, IfOk, IfSome, codes};
 ghost use Rattle.clif_types.specs.Texts.{binary_opcode_text, unary_opcode_text};
-ghost use Rattle.clif_text.specs.Cursor.{texts, words_left};
+ghost use Rattle.clif_words.specs.Cursor.{texts, words_left};
 ghost use Rattle.clif_text.specs.Given.{is_instruction};
 ghost use Rattle.clif_text.specs.Grammar.{IsCall};
 ghost use Rattle.clif_text.specs.Scope.{names_of};
 
 use crate::args::Args;
-use crate::error::{Expected, Fault, LineError};
+use clif_words::error::{Expected, Fault, LineError};
 use crate::scope::Scope;
-use crate::types::type_named;
+use clif_words::types::type_named;
 use clif_calls::{Call, PlainInstruction};
 use clif_types::{BinaryOpcode, UnaryOpcode};
 use std::alloc::Global;

@@ -1,14 +1,14 @@
 //! The header lines: the function's name and signature, and the configuration.
 ghost use Rattle.std.specs.Prelude.{◌≡◌, ◌++◌, ◌∷◌, [], ℕ, List, None, Some, IfOk, IfSome, OnOk, codes};
 ghost use Rattle.clif_types.specs.Texts.{call_conv_text};
-ghost use Rattle.clif_text.specs.Cursor.{texts, words_left};
+ghost use Rattle.clif_words.specs.Cursor.{texts, words_left};
 ghost use Rattle.clif_text.specs.Header.{AreReturned, AreTypes, IsFunction, IsFunctionName, IsUserName, name_in, signature_in};
-ghost use Rattle.clif_text.specs.Texts.{pointer_text};
+ghost use Rattle.clif_words.specs.Spelling.{pointer_text};
 
-use crate::cursor::Cursor;
-use crate::error::{Expected, Fault, LineError};
-use crate::number::short_decimal;
-use crate::types::{call_conv_named, pointer_width_named};
+use clif_words::cursor::Cursor;
+use clif_words::error::{Expected, Fault, LineError};
+use clif_words::number::short_decimal;
+use clif_words::types::{call_conv_named, pointer_width_named};
 use clif_types::{
     AbiParam, CallConv, PointerWidth, Signature, TargetFrontendConfig, UserExternalName,
     UserFuncName,

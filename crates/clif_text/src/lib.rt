@@ -3,16 +3,11 @@
 
 mod args;
 mod calls;
-mod cursor;
-mod error;
 mod header;
-mod number;
 mod reader;
 mod scope;
-mod types;
-mod words;
 mod writer;
 
-pub use error::{Expected, Fault, ReadError};
+pub use clif_words::error::{Expected, Fault, ReadError};
 pub use reader::{Script, read};
 pub use writer::{CallText, write};

@@ -1,16 +1,16 @@
 //! A script's text, read line by line.
 ghost use Rattle.std.specs.Prelude.{◌≡◌, ◌≢◌, ◌++◌, ◌∷◌, [], ℕ, List, IfOk, IfErr, IfNone, IfSome, OnOk, codes, true};
 ghost use Rattle.std.specs.List.{All};
-ghost use Rattle.clif_text.specs.Cursor.{texts};
+ghost use Rattle.clif_words.specs.Cursor.{texts};
 ghost use Rattle.clif_text.specs.Given.{declares};
 ghost use Rattle.clif_text.specs.Reader.{NamesAnswers};
 ghost use Rattle.clif_text.specs.Script as script;
 
 use crate::calls::{Answers, answers_of, call_of};
-use crate::error::{Expected, Fault, LineError, ReadError};
+use clif_words::error::{Expected, Fault, LineError, ReadError};
 use crate::header::{Header, is_header};
 use crate::scope::{Scope, is_name};
-use crate::words::words_of;
+use clif_words::words::words_of;
 use clif_calls::{Call, Name};
 use clif_types::{Signature, TargetFrontendConfig, UserFuncName};
 use std::alloc::{AllocError, Global};

@@ -2,7 +2,7 @@
 ghost use Rattle.std.specs.Prelude.{◌≤◌, IfSome, vec_len};
 ghost use Rattle.clif_text.specs.Grammar.{IsPlaceName};
 
-use crate::number::decimal;
+use clif_words::number::decimal;
 use clif_calls::Name;
 use std::alloc::{AllocError, Global};
 use std::collections::BTreeMap;

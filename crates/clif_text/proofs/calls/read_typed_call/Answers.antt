@@ -2,8 +2,8 @@ use Rattle.std.proofs.Common.{List, ℕ, ◌∷◌, ◌++◌, [], ap, sym, subst
 use Rattle.std.specs.Prelude.{codes}
 use Rattle.std.specs.Int.{w64}
 use Rattle.std.proofs.lemmas.Int.{to_z-of_z}
-use Rattle.clif_text.specs.Grammar.{IsNumber}
-use Rattle.clif_text.proofs.Figures.{number_fits}
+use Rattle.clif_words.specs.Spelling.{IsNumber}
+use Rattle.clif_words.proofs.Figures.{number_fits}
 use Rattle.clif_text.proofs.calls.read_typed_call.Goals as goal
 
 pub returns-in_ok-imm-in-iconst : goal.returns-in_ok-imm-in-iconst

@@ -1,6 +1,6 @@
 -- The words that were taken so far are the types so far.
 use Rattle.std.proofs.Common.{length}
-use Rattle.clif_text.specs.Cursor.{words_left}
+use Rattle.clif_words.specs.Cursor.{words_left}
 use Rattle.clif_text.proofs.Headers.{TakesTypes}
 use Rattle.clif_text.proofs.header.take_types.Given as goal
 

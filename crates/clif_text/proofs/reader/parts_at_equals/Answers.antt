@@ -1,6 +1,6 @@
 use Rattle.std.specs.Prelude.{codes}
 use Rattle.std.specs.Cmp.Lexicographic.{same_text}
-use Rattle.clif_text.proofs.Texts.{texts_at, others_more}
+use Rattle.clif_words.proofs.Texts.{texts_at, others_more}
 use Rattle.clif_text.proofs.reader.parts_at_equals.Goals as goal
 
 pub returns-then-eq-clause-some : goal.returns-then-eq-clause-some

@@ -1,5 +1,5 @@
 use Rattle.std.proofs.Common.{refl, ap, sym, subst, ◌∙◌, arith}
-use Rattle.clif_text.specs.Cursor.{texts}
+use Rattle.clif_words.specs.Cursor.{texts}
 use Rattle.clif_text.specs.Reader.{said_to}
 use Rattle.clif_text.specs.Script.{TellsLine}
 use Rattle.clif_text.proofs.Reading.{lines_more, lines_count, numbered, line_here, tells_line}

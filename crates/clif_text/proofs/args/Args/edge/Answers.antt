@@ -1,6 +1,6 @@
 use Rattle.std.proofs.Common.{◌∷◌, ◌++◌, [], refl, inl, inr, ap, sym, subst, ◌∙◌}
 use Rattle.std.specs.Prelude.{codes}
-use Rattle.clif_text.specs.Cursor.{words_left}
+use Rattle.clif_words.specs.Cursor.{words_left}
 use Rattle.clif_text.specs.Scope.{names_of}
 use Rattle.clif_text.specs.Grammar.{AreAnswers}
 use Rattle.clif_text.proofs.Taking.{closed_words}

@@ -1,6 +1,6 @@
 -- The words that were taken so far stand for the answers so far.
 use Rattle.std.proofs.Common.{length}
-use Rattle.clif_text.specs.Cursor.{words_left}
+use Rattle.clif_words.specs.Cursor.{words_left}
 use Rattle.clif_text.proofs.Taking.{TakesAnswers}
 use Rattle.clif_text.proofs.args.Args.values_to_end.Given as goal
 

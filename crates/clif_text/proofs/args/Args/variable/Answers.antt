@@ -1,5 +1,5 @@
 use Rattle.std.proofs.Common.{inl, inr, ◌∙◌, sym, subst}
-use Rattle.clif_text.specs.Grammar.{IsDecimal}
+use Rattle.clif_words.specs.Spelling.{IsDecimal}
 use Rattle.clif_text.proofs.args.Args.variable.Goals as goal
 use Rattle.clif_text.proofs.args.Args.variable.Goals.{in-Some, in-None+in-Some-numbered_variable}
 

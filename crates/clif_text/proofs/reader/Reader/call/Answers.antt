@@ -1,5 +1,5 @@
 use Rattle.std.proofs.Common.{◌≡◌, length, refl, rules}
-use Rattle.clif_text.specs.Cursor.{texts}
+use Rattle.clif_words.specs.Cursor.{texts}
 use Rattle.clif_text.proofs.Counting.{words_say}
 use Rattle.clif_text.proofs.reader.Reader.call.Goals as goal
 

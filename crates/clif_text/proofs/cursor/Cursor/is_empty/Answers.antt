@@ -1,5 +1,0 @@
-use Rattle.clif_text.proofs.Left.{all_taken}
-use Rattle.clif_text.proofs.cursor.Cursor.is_empty.Goals as goal
-
-pub returns : goal.returns
-returns c = all_taken c.args.self.now.words.now c.args.self.now.taken c.args.self.now.within

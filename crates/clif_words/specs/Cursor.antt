@@ -1,0 +1,12 @@
+-- The words that are left of a line. Source: own.
+use Rattle.std.specs.Prelude.{ℕ, List, map, drop}
+use Rattle.clif_words.specs.declared.cursor.Cursor.{Cursor}
+use Rattle.std.specs.Borrow.{Bor}
+
+-- the texts of these words
+abbrev pub texts : List (Bor (List ℕ)) → List (List ℕ)
+texts words = map (λ (word : Bor (List ℕ)). word.now) words
+
+-- the words that weren't taken, in order
+abbrev pub words_left : Cursor → List (List ℕ)
+words_left cursor = texts (drop cursor.taken cursor.words.now)

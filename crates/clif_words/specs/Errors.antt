@@ -1,0 +1,54 @@
+-- How the refusal of a line is told, and what it prints. Source: own; docs/SCRIPTS.md has the same texts.
+use Rattle.std.specs.Prelude.{ℕ, List, ◌++◌, ◌==◌, codes, if◌then◌else◌}
+use Rattle.std.specs.Fmt.{decimal}
+use Rattle.clif_words.specs.declared.error.Expected.{Expected}
+use Rattle.clif_words.specs.declared.error.Expected.TheVariants as expected
+use Rattle.clif_words.specs.declared.error.Fault.{Fault}
+use Rattle.clif_words.specs.declared.error.Fault.TheVariants as fault
+use Rattle.clif_words.specs.declared.error.LineError.{LineError}
+use Rattle.clif_words.specs.declared.error.LineError.TheVariants as line
+use Rattle.clif_words.specs.declared.error.ReadError.{ReadError}
+use Rattle.clif_words.specs.declared.error.ReadError.TheVariants as read
+
+-- the same refusal, of the line with this number
+abbrev pub error_at : LineError → ℕ → ReadError
+error_at line.Memory number = read.Memory
+error_at (line.Fault why) number = read.Line number why
+
+-- what should stand there
+abbrev pub expected_text : Expected → List ℕ
+expected_text expected.Text = codes "UTF-8 text"
+expected_text expected.Call = codes "a call"
+expected_text expected.AnswerName = codes "a name"
+expected_text expected.Block = codes "a block"
+expected_text expected.Value = codes "a value"
+expected_text expected.Variable = codes "a variable"
+expected_text expected.Type = codes "a type"
+expected_text expected.Number = codes "a number of 64 bits"
+expected_text expected.FunctionName = codes "the name of a function"
+expected_text expected.CallConv = codes "a convention"
+expected_text expected.PointerWidth = codes "16, 32 or 64"
+expected_text expected.Open = codes "("
+expected_text expected.ValueOrClose = codes "a value or )"
+expected_text expected.TypeOrClose = codes "a type or )"
+expected_text expected.ArrowOrCallConv = codes "-> or a convention"
+expected_text expected.TypeOrCallConv = codes "a type or a convention"
+expected_text expected.End = codes "the end of the line"
+
+-- at most so many names
+abbrev pub names_text : ℕ → List ℕ
+names_text count = if count == 0 then codes "no names" else (if count == 1 then codes "at most 1 name" else codes "at most " ++ (decimal count ++ codes " names"))
+
+-- why a line can't be read
+abbrev pub fault_text : Fault → List ℕ
+fault_text (fault.Expected what) = codes "expected " ++ expected_text what
+fault_text (fault.UnknownCall name) = codes "unknown call: " ++ name.now
+fault_text (fault.NotSupported name) = codes "not supported yet: " ++ name.now
+fault_text (fault.UnknownName name) = codes "unknown name: " ++ name.now
+fault_text (fault.TooManyNames count) = codes "expected " ++ names_text count
+fault_text (fault.Repeated name) = codes "expected no second line: " ++ name.now
+
+-- `script error at line 12: expected a block`
+abbrev pub read_error_text : ReadError → List ℕ
+read_error_text read.Memory = codes "no memory"
+read_error_text (read.Line number why) = codes "script error at line " ++ (decimal number ++ (codes ": " ++ fault_text why))

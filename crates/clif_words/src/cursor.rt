@@ -1,0 +1,87 @@
+//! The words of a line, one after the other.
+ghost use Rattle.std.specs.Prelude.{◌≤◌, length};
+
+use crate::error::{Expected, LineError};
+use crate::types::type_named;
+use clif_types::Type;
+
+/// The words of a line, of which so many were taken.
+#[derive(Clone, Copy)]
+pub struct Cursor<'w, 'a> {
+    words: &'w [&'a str],
+    taken: usize,
+    ghost within: { taken ≤ length words.now },
+}
+
+#[tactic(auto, using(crate::proofs::Left::left_rules))]
+impl<'w, 'a> Cursor<'w, 'a> {
+    ghost use Rattle.std.specs.Prelude.{◌≡◌, ◌≢◌, ◌∷◌, ◌↔◌, [], ℕ, List, IfOk, IfNone, IfSome, OnErr, IsOk, IsTrue, slice_get};
+    ghost use Rattle.std.specs.Bool.{OnTrue, OnFalse};
+    ghost use Rattle.std.specs.Option.{option_map};
+    ghost use Rattle.clif_words.specs.Cursor.{texts, words_left};
+    ghost use Rattle.clif_words.specs.Spelling.{IsTypeWord};
+
+    /// All words of a line, none of them taken.
+    pub fn new(words: &'w [&'a str]) -> Cursor<'w, 'a>
+        ensures { words_left result ≡ texts words.now }
+    {
+        Cursor { words, taken: 0 }
+    }
+
+    /// Whether no word is left.
+    pub fn is_empty(&self) -> bool
+        ensures { IsTrue result ↔ (words_left self.now ≡ []) }
+    {
+        self.taken == self.words.len()
+    }
+
+    /// Takes the next word. Where none is left, the line is refused, and `expected` says what should have stood there.
+    pub fn take(&mut self, expected: Expected) -> Result<&'a str, LineError<'a>>
+        ensures ok { IfOk result (λ word. words_left self.old ≡ word.now ∷ words_left self.new) }
+        ensures err { OnErr result (words_left self.old ≡ []) }
+    {
+        match self.words.get(self.taken) {
+            Some(word) => {
+                self.taken += 1;
+                Ok(*word)
+            }
+            None => Err(LineError::wanted(expected)),
+        }
+    }
+
+    /// Takes the next word if it is this one.
+    pub fn skips(&mut self, word: &str) -> bool
+        ensures yes { OnTrue result (words_left self.old ≡ word.now ∷ words_left self.new) }
+        ensures no { OnFalse result (words_left self.new ≡ words_left self.old) }
+    {
+        match self.words.get(self.taken) {
+            Some(next) if *next == word => {
+                self.taken += 1;
+                true
+            }
+            _ => false,
+        }
+    }
+
+    /// Takes the next word if it is a type.
+    pub fn take_type(&mut self) -> Option<Type>
+        ensures some { IfSome result (λ ty. (word : List ℕ) × (words_left self.old ≡
+            word ∷ words_left self.new) × IsTypeWord word ty) }
+        ensures none { IfNone result (words_left self.new ≡ words_left self.old) }
+    {
+        let ty = type_named(self.words.get(self.taken)?)?;
+        self.taken += 1;
+        Some(ty)
+    }
+
+    /// Nothing is left.
+    pub fn end(&self) -> Result<(), LineError<'a>>
+        ensures { IsOk result ↔ (words_left self.now ≡ []) }
+    {
+        if self.is_empty() {
+            Ok(())
+        } else {
+            Err(LineError::wanted(Expected::End))
+        }
+    }
+}

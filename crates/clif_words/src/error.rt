@@ -1,0 +1,188 @@
+//! Why a text is no script.
+ghost use Rattle.std.specs.Prelude.{◌≡◌, Some};
+ghost use Rattle.clif_words.specs.declared.error.Fault.TheVariants as fault;
+ghost use Rattle.clif_words.specs.declared.error.LineError.TheVariants as line_error;
+ghost use Rattle.clif_words.specs.Errors.{expected_text, fault_text, read_error_text};
+
+use std::alloc::{AllocError, AllocFailed};
+use std::fmt;
+
+/// What a line should have at a place where it has something else, or nothing.
+#[derive(Clone, Copy, Debug, PartialEq, Eq)]
+pub enum Expected {
+    /// UTF-8.
+    Text,
+    /// The name of a call, or of a header line.
+    Call,
+    /// A name for an answer, before `=`.
+    AnswerName,
+    /// A block.
+    Block,
+    /// A value.
+    Value,
+    /// A variable.
+    Variable,
+    /// A type.
+    Type,
+    /// A number of 64 bits.
+    Number,
+    /// The name of a function, as `%sample` or `u0:0`.
+    FunctionName,
+    /// A convention.
+    CallConv,
+    /// The width of a pointer.
+    PointerWidth,
+    /// `(`.
+    Open,
+    /// A value or `)`.
+    ValueOrClose,
+    /// A type or `)`.
+    TypeOrClose,
+    /// `->` or a convention.
+    ArrowOrCallConv,
+    /// A type or a convention.
+    TypeOrCallConv,
+    /// Nothing more.
+    End,
+}
+
+impl fmt::Display for Expected {
+    ghost output = { λ expected. Some (expected_text expected) };
+
+    fn fmt<W: fmt::Write>(&self, f: &mut fmt::Formatter<W>) -> fmt::Result {
+        f.write_str(match self {
+            Expected::Text => "UTF-8 text",
+            Expected::Call => "a call",
+            Expected::AnswerName => "a name",
+            Expected::Block => "a block",
+            Expected::Value => "a value",
+            Expected::Variable => "a variable",
+            Expected::Type => "a type",
+            Expected::Number => "a number of 64 bits",
+            Expected::FunctionName => "the name of a function",
+            Expected::CallConv => "a convention",
+            Expected::PointerWidth => "16, 32 or 64",
+            Expected::Open => "(",
+            Expected::ValueOrClose => "a value or )",
+            Expected::TypeOrClose => "a type or )",
+            Expected::ArrowOrCallConv => "-> or a convention",
+            Expected::TypeOrCallConv => "a type or a convention",
+            Expected::End => "the end of the line",
+        })
+    }
+}
+
+/// Why a line can't be read.
+#[derive(Clone, Copy, Debug)]
+pub enum Fault<'a> {
+    /// Something else, or nothing, stands where this should.
+    Expected(Expected),
+    /// No call has this name.
+    UnknownCall(&'a str),
+    /// The call or the header line of this name isn't understood so far.
+    NotSupported(&'a str),
+    /// No line before gave this name.
+    UnknownName(&'a str),
+    /// More names are given than the call has answers, which are so many.
+    TooManyNames(usize),
+    /// A header line of this kind stands above.
+    Repeated(&'a str),
+}
+
+impl fmt::Display for Fault<'_> {
+    ghost output = { λ fault. Some (fault_text fault) };
+
+    fn fmt<W: fmt::Write>(&self, f: &mut fmt::Formatter<W>) -> fmt::Result {
+        match self {
+            Fault::Expected(expected) => write!(f, "expected {expected}"),
+            Fault::UnknownCall(name) => write!(f, "unknown call: {name}"),
+            Fault::NotSupported(name) => write!(f, "not supported yet: {name}"),
+            Fault::UnknownName(name) => write!(f, "unknown name: {name}"),
+            Fault::TooManyNames(0) => write!(f, "expected no names"),
+            Fault::TooManyNames(1) => write!(f, "expected at most 1 name"),
+            Fault::TooManyNames(count) => write!(f, "expected at most {count} names"),
+            Fault::Repeated(name) => write!(f, "expected no second line: {name}"),
+        }
+    }
+}
+
+/// Why a text wasn't read as a script.
+#[derive(Clone, Copy, Debug)]
+pub enum ReadError<'a> {
+    /// Memory was refused. It prints as `no memory`.
+    Memory,
+    /// A line can't be read; lines are numbered from 1 on. It prints as
+    /// `script error at line 12: expected a block`.
+    Line {
+        /// The number of the line.
+        number: usize,
+        /// Why.
+        fault: Fault<'a>,
+    },
+}
+
+impl fmt::Display for ReadError<'_> {
+    ghost output = { λ error. Some (read_error_text error) };
+
+    fn fmt<W: fmt::Write>(&self, f: &mut fmt::Formatter<W>) -> fmt::Result {
+        match self {
+            ReadError::Memory => write!(f, "no memory"),
+            ReadError::Line { number, fault } => {
+                write!(f, "script error at line {number}: {fault}")
+            }
+        }
+    }
+}
+
+/// Why one line wasn't read, whichever line it is.
+#[derive(Clone, Copy, Debug)]
+pub enum LineError<'a> {
+    /// Memory was refused.
+    Memory,
+    /// The line is at fault.
+    Fault(Fault<'a>),
+}
+
+impl<'a> From<Fault<'a>> for LineError<'a> {
+    fn from(fault: Fault<'a>) -> LineError<'a> {
+        LineError::Fault(fault)
+    }
+}
+
+impl From<AllocError> for LineError<'_> {
+    ghost from_gives = { λ _ error. error ≡ line_error.Memory };
+
+    fn from(_error: AllocError) -> Self {
+        LineError::Memory
+    }
+}
+
+impl<T: Drop> From<AllocFailed<T>> for LineError<'_> {
+    ghost from_gives = { λ _ error. error ≡ line_error.Memory };
+
+    fn from(_error: AllocFailed<T>) -> Self {
+        LineError::Memory
+    }
+}
+
+impl<'a> LineError<'a> {
+    ghost use Rattle.std.specs.Prelude.{◌≡◌};
+    ghost use Rattle.clif_words.specs.Errors.{error_at};
+
+    /// The same refusal, of the line with this number; lines are numbered from 1 on.
+    pub fn at(self, number: usize) -> ReadError<'a>
+        ensures { result ≡ error_at self.entry number }
+    {
+        match self {
+            LineError::Memory => ReadError::Memory,
+            LineError::Fault(fault) => ReadError::Line { number, fault },
+        }
+    }
+
+    /// The refusal of a line in which this should have stood.
+    pub fn wanted(expected: Expected) -> Self
+        ensures { result ≡ line_error.Fault (fault.Expected expected) }
+    {
+        LineError::Fault(Fault::Expected(expected))
+    }
+}
