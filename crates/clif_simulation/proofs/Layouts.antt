@@ -7,7 +7,7 @@ use Rattle.std.proofs.Common.{arith}
 use Rattle.clif_ir.specs.Body.{Body}
 use Rattle.clif_ir.specs.Changes.{inserted_in, with_layout}
 use Rattle.clif_ir.specs.Reading.{stands_in, param_home}
-use Rattle.clif_ssa.specs.declared.tables.Pending.{Pending}
+use Rattle.clif_records.specs.declared.tables.Pending.{Pending}
 use Rattle.clif_ssa.specs.Ssa.{completed, zeroed_in}
 
 both_false : (a b : Bool) → (a || b) ≡ false → a ≡ false

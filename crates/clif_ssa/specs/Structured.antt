@@ -13,10 +13,10 @@ use Rattle.clif_ir.specs.declared.block_call.BlockArg.{BlockArg}
 use Rattle.clif_ir.specs.declared.block_call.BlockArg.TheVariants.{Value}
 use Rattle.clif_ir.specs.declared.inst_list.InsertAt.TheVariants.{Back}
 use Rattle.clif_ir.specs.declared.instructions.InstructionData.{InstructionData}
-use Rattle.clif_ssa.specs.declared.tables.Pending.{Pending}
-use Rattle.clif_ssa.specs.declared.tables.Sealed.{Sealed}
-use Rattle.clif_ssa.specs.declared.tables.Sealed.TheVariants.{No, Yes}
-use Rattle.clif_ssa.specs.Tables.{is_yes}
+use Rattle.clif_records.specs.declared.tables.Pending.{Pending}
+use Rattle.clif_records.specs.declared.tables.Sealed.{Sealed}
+use Rattle.clif_records.specs.declared.tables.Sealed.TheVariants.{No, Yes}
+use Rattle.clif_records.specs.Tables.{is_yes}
 use Rattle.clif_ssa.specs.Ssa.{SsaState, no_state, record_of, sealed_of, predecessors_of}
 use Rattle.clif_ssa.specs.Sound.{parameters_of, edges_at, edge_target, args_of}
 use Rattle.clif_ssa.specs.Own.{Own, no_own, with_own_param}

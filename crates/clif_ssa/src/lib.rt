@@ -17,15 +17,9 @@
 
 mod ending;
 pub mod laws;
-mod look_up;
-mod passed;
-pub mod side_effects;
 pub mod ssa;
 mod ssa_tables;
-mod tables;
-pub mod variable;
 mod zeros;
 
-pub use side_effects::SideEffects;
+pub use clif_records::{SideEffects, Variable};
 pub use ssa::SSABuilder;
-pub use variable::Variable;

@@ -8,7 +8,7 @@ use crate::number::{decimal, number};
 use crate::scope::{Scope, is_name};
 use crate::types::type_named;
 use clif_calls::{Edge, Name};
-use clif_ssa::Variable;
+use clif_records::Variable;
 use clif_types::Type;
 use std::alloc::Global;
 

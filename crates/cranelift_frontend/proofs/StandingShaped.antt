@@ -17,7 +17,7 @@ use Rattle.clif_ir.specs.declared.inst_list.InsertAt.TheVariants.{Back}
 use Rattle.clif_ir.specs.Instruction.{destinations, is_branch, operands, result_types}
 use Rattle.clif_ir.specs.Reading.{stands_in, targets}
 use Rattle.clif_ssa.specs.Ssa.{no_srcloc, predecessors_of, record_of, sealed_of, SsaState}
-use Rattle.clif_ssa.specs.Tables.{is_yes}
+use Rattle.clif_records.specs.Tables.{is_yes}
 use Rattle.clif_ssa.proofs.Completing.{inserted_same}
 use Rattle.clif_meaning.specs.Name.{Name}
 use Rattle.clif_meaning.specs.Instruction.{Arithmetic, Compute, Iconst, Instruction, Operation}

@@ -2,7 +2,7 @@
 use Rattle.std.proofs.Common.{◌≡◌, ◌<◌, ◌==◌, ◌⊎◌, inl, inr, ℕ, zero, suc, Bool, true, false, List, [], ◌∷◌, ◌++◌, length, arith, subst}
 use Rattle.std.specs.Prelude.{Some, Contains}
 use Rattle.clif_ir.specs.Body.{Body}
-use Rattle.clif_ssa.specs.Tables.{record_at, pending_of}
+use Rattle.clif_records.specs.Tables.{record_at, pending_of}
 use Rattle.clif_ssa.specs.Ssa.{SsaState, SamePredecessors, NamesExist}
 use Rattle.std.specs.Prelude.{Result, Ok, Err, OnOk, OnErr, if◌then◌else◌}
 use Rattle.clif_types.specs.declared.error.BuildError.{BuildError}
