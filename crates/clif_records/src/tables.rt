@@ -266,12 +266,7 @@ impl VariableTable {
     }
 
     /// Records a value for a variable in a block. After an error each record is as it was.
-    pub fn set(
-        &mut self,
-        variable: Variable,
-        block: Block,
-        value: Value,
-    ) -> Result<(), BuildError>
+    pub fn set(&mut self, variable: Variable, block: Block, value: Value) -> Result<(), BuildError>
         ensures ok { OnOk result ((v b : ℕ) → record_at self.new v b ≡ (if v == variable && b == block then Some value else record_at self.old v b)) }
         ensures lookups { (v b : ℕ) → lookups_at self.new v b ≡ lookups_at self.old v b }
         ensures err { OnErr result ((v b : ℕ) → record_at self.new v b ≡ record_at self.old v b) }
@@ -300,11 +295,7 @@ impl VariableTable {
     }
 
     /// Counts a look-up of a variable in a block's predecessors. After an error each count is as it was.
-    pub fn count_lookup(
-        &mut self,
-        variable: Variable,
-        block: Block,
-    ) -> Result<(), BuildError>
+    pub fn count_lookup(&mut self, variable: Variable, block: Block) -> Result<(), BuildError>
         ensures records { (v b : ℕ) → record_at self.new v b ≡ record_at self.old v b }
         ensures ok { OnOk result ((v b : ℕ) → lookups_at self.new v b ≡ (if v == variable && b == block then one_more (lookups_at self.old v b) else lookups_at self.old v b)) }
         ensures err { OnErr result ((v b : ℕ) → lookups_at self.new v b ≡ lookups_at self.old v b) }
@@ -521,11 +512,7 @@ impl BlockTable {
     }
 
     /// Puts a branch behind those that lead to a block.
-    pub fn declare_predecessor(
-        &mut self,
-        block: Block,
-        branch: Inst,
-    ) -> Result<(), BuildError>
+    pub fn declare_predecessor(&mut self, block: Block, branch: Inst) -> Result<(), BuildError>
         ensures sealed { (b : ℕ) → sealed_at self.new b ≡ sealed_at self.old b }
         ensures ok { OnOk result ((b : ℕ) → predecessors_at self.new b ≡ (if b == block then predecessors_at self.old b ++ branch ∷ [] else predecessors_at self.old b)) }
         ensures err { OnErr result ((b : ℕ) → predecessors_at self.new b ≡ predecessors_at self.old b) }
@@ -549,12 +536,7 @@ impl BlockTable {
     }
 
     /// Puts a parameter behind those that wait in an unsealed block.
-    pub fn wait(
-        &mut self,
-        block: Block,
-        variable: Variable,
-        param: Value,
-    ) -> Result<(), BuildError>
+    pub fn wait(&mut self, block: Block, variable: Variable, param: Value) -> Result<(), BuildError>
         requires { is_yes (sealed_at self.old block) ≡ false }
         ensures ok { OnOk result ((b : ℕ) → sealed_at self.new b ≡ (if b == block then Sealed.No (pending_of (sealed_at self.old b) ++ record { variable = variable; param = param } ∷ []) else sealed_at self.old b)) }
         ensures err { OnErr result ((b : ℕ) → sealed_at self.new b ≡ sealed_at self.old b) }

@@ -17,7 +17,7 @@ use Rattle.clif_records.specs.declared.tables.SsaBlock.{SsaBlock}
 use Rattle.clif_records.specs.declared.tables.Sealed.TheVariants.{No, Yes}
 use Rattle.std.specs.FinMap as map
 use Rattle.std.specs.Coded.{Coded, code_by, coded×, coded_list}
-use Rattle.clif_ssa.specs.contracts.tables.SsaBlock as block
+use Rattle.clif_records.specs.contracts.tables.SsaBlock as block
 use Rattle.clif_records.specs.Tables.{RecordMap, record_map_code, record_at, lookups_at, one_more, sealed_at, predecessors_at, is_yes, pending_of}
 
 -- what is known of each variable in each block, and of each block

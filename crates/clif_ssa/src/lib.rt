@@ -2,7 +2,7 @@
 //!
 //! After Braun, Buchwald, Hack, Leißa, Mallon and Zwinkau, "Simple and Efficient Construction of Static
 //! Single Assignment Form" (CC 2013), with the walk along single predecessors and the two stacks in place of
-//! recursion of cranelift-frontend.
+//! recursion of cranelift-frontend. The records, the predecessors and the stacks are tables of `clif_records`.
 //!
 //! In a block that is unsealed, or to which nothing leads, the clauses say exactly what a call makes. Where branches
 //! lead to it, the relations of `specs/LookUp` do, and sealing all blocks is sealing each in turn. Beside that,

@@ -4,8 +4,7 @@ use Rattle.std.proofs.lemmas.Result.{err_from_is_err_and}
 use Rattle.std.proofs.lemmas.Grind.{common_steps}
 use Rattle.clif_records.specs.Tables.{Recorded}
 use Rattle.clif_records.specs.Cells.{counting, ChangesCells, SameCells}
-use Rattle.clif_records.proofs.RecordLaws.{on_ok}
-use Rattle.clif_records.proofs.RecordLaws.{look_up_counted, count_records_none, recorded_kept, recorded_grown, either_way, on_err}
+use Rattle.clif_records.proofs.RecordLaws.{look_up_counted, count_records_none, recorded_kept, recorded_grown, either_way, on_err, on_ok}
 use Rattle.clif_records.proofs.tables.VariableTable.count_lookup.Goals as goal
 
 pub returns-in_err-reach_row-clause-records : goal.returns-in_err-reach_row-clause-records

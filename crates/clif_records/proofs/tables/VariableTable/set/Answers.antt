@@ -4,8 +4,7 @@ use Rattle.std.proofs.lemmas.Result.{err_from_is_err_and}
 use Rattle.std.proofs.lemmas.Grind.{common_steps}
 use Rattle.clif_records.specs.Tables.{Recorded}
 use Rattle.clif_records.specs.Cells.{recording, ChangesCells, SameCells}
-use Rattle.clif_records.proofs.RecordLaws.{on_ok}
-use Rattle.clif_records.proofs.RecordLaws.{value_recorded, value_counts_none, recorded_kept, recorded_grown, either_way, on_err}
+use Rattle.clif_records.proofs.RecordLaws.{value_recorded, value_counts_none, recorded_kept, recorded_grown, either_way, on_err, on_ok}
 use Rattle.clif_records.proofs.tables.VariableTable.set.Goals as goal
 
 pub returns-in_err-reach_row-clause-lookups : goal.returns-in_err-reach_row-clause-lookups

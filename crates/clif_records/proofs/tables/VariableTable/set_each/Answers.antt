@@ -6,8 +6,7 @@ use Rattle.clif_ir.specs.Reading.{stands_in}
 use Rattle.clif_records.specs.Tables.{Recorded}
 use Rattle.clif_records.specs.Passed.{before_first}
 use Rattle.clif_records.specs.Cells.{recording, ChangesCells, ChangesSome}
-use Rattle.clif_records.proofs.RecordLaws.{on_ok}
-use Rattle.clif_records.proofs.RecordLaws.{value_recorded, value_may_be_recorded, some_count_none, recorded_grown}
+use Rattle.clif_records.proofs.RecordLaws.{value_recorded, value_may_be_recorded, some_count_none, recorded_grown, on_ok}
 use Rattle.clif_records.proofs.tables.VariableTable.set_each.Goals as goal
 
 pub returns-in_err-reach_row-clause-part : goal.returns-in_err-reach_row-clause-part
