@@ -133,7 +133,7 @@ fn blocks_passed(rt: HostRuntime) -> Result<(), Fail> {
     passes(&rt, &mut passed, 2)?;
     assert!(rt; passed.contains(b(&rt, 5)));
     assert!(rt; !passed.contains(b(&rt, 0)));
-    assert!(rt; passed.as_slice() == &[b(&rt, 5), b(&rt, 2)]);
+    assert!(rt; passed.as_slice() == [b(&rt, 5), b(&rt, 2)].as_slice());
     passed.clear();
     assert!(rt; !passed.contains(b(&rt, 5)));
     Ok(())
@@ -157,7 +157,7 @@ fn results(rt: HostRuntime) -> Result<(), Fail> {
     let mut look_up = LookUp::new(rt.alloc());
     look_up.push_result(first)?;
     look_up.push_result(second)?;
-    assert!(rt; look_up.last_results(2) == &[first, second]);
+    assert!(rt; look_up.last_results(2) == [first, second].as_slice());
     look_up.drop_results(1);
     assert!(rt; look_up.take_result() == first);
     Ok(())
@@ -168,7 +168,7 @@ fn zeros_told(rt: HostRuntime) -> Result<(), Fail> {
     let mut look_up = LookUp::new(rt.alloc());
     look_up.tell_zero(Some(b(&rt, 3)))?;
     look_up.tell_zero(None)?;
-    assert!(rt; look_up.take_zeros().as_slice() == &[b(&rt, 3)]);
+    assert!(rt; look_up.take_zeros().as_slice() == [b(&rt, 3)].as_slice());
     look_up.clear();
     assert!(rt; look_up.take_zeros().is_empty());
     Ok(())
@@ -180,6 +180,6 @@ fn effects(rt: HostRuntime) -> Result<(), Fail> {
     let mut later = SideEffects::new(rt.alloc());
     later.instructions_added_to_blocks.push(b(&rt, 3))?;
     effects.append(&later)?;
-    assert!(rt; effects.instructions_added_to_blocks.as_slice() == &[b(&rt, 3)]);
+    assert!(rt; effects.instructions_added_to_blocks.as_slice() == [b(&rt, 3)].as_slice());
     Ok(())
 }
