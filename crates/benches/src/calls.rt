@@ -1,7 +1,7 @@
 //! Calls on a builder of eight variables of type I32. Each asks first whether it may be made.
 ghost use Rattle.std.specs.Prelude.{◌≡◌, ◌<◌, length, slice_get, Some, OnOk, [], false};
 ghost use Rattle.clif_ssa.specs.Ssa.{sealed_of};
-ghost use Rattle.clif_ssa.specs.Tables.{is_yes};
+ghost use Rattle.clif_records.specs.Tables.{is_yes};
 ghost use Rattle.cranelift_frontend.specs.Builder.{HasCurrent};
 ghost use Rattle.benches.specs.Variables.{eight, refused, word};
 

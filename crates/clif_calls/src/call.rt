@@ -1,5 +1,5 @@
 //! The calls of a script, and the names of their answers.
-use clif_ssa::Variable;
+use clif_records::Variable;
 use clif_types::Type;
 
 /// An answer of an earlier call: which call, and which of its answers.

@@ -12,7 +12,7 @@ use Rattle.clif_meaning.specs.SameType.{same_type}
 use Rattle.clif_meaning.specs.Request.{AnsweredCall, Request}
 use Rattle.clif_meaning.specs.Ledger.{Answered, ABlock, AVariable, AValue, AnInstruction}
 use Rattle.clif_simulation.specs.Carries.{numbers_from}
-use Rattle.clif_ssa.specs.Tables.{is_yes}
+use Rattle.clif_records.specs.Tables.{is_yes}
 use Rattle.clif_ssa.specs.Ssa.{predecessors_of, sealed_of}
 use Rattle.cranelift_frontend.specs.declared.builder.FunctionBuilder.{FunctionBuilder}
 use Rattle.cranelift_frontend.specs.Context.{ContextState, status_of}

@@ -16,7 +16,7 @@ use crate::make_parameters::{
 use crate::names::value_named;
 use crate::script::{Answer, CallError};
 use clif_calls::{Call, Name, Plan};
-use clif_ssa::Variable;
+use clif_records::Variable;
 use clif_types::{EntityRef, LaneType, Type, Value};
 use cranelift_frontend::FunctionBuilder;
 

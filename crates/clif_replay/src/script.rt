@@ -18,7 +18,7 @@ ghost use Rattle.clif_replay.specs.Errors.{call_error_of, replay_error_at, call_
 use crate::make::make_call;
 use clif_calls::Call;
 use clif_ir::Function;
-use clif_ssa::Variable;
+use clif_records::Variable;
 use clif_types::{
     Block, BuildError, Inst, Signature, TargetFrontendConfig, Type, UserFuncName, Value,
 };

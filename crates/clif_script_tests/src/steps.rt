@@ -6,7 +6,7 @@ ghost use Rattle.cranelift_frontend.specs.Context.{empty_context};
 
 use clif_ir::Function;
 use clif_script::{Call, Edge, Name, PlainInstruction, ReplayError, replay};
-use clif_ssa::Variable;
+use clif_records::Variable;
 use clif_types::{
     AbiParam, CallConv, LaneType, PointerWidth, Signature, TargetFrontendConfig, Type, UserFuncName,
 };

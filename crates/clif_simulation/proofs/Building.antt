@@ -24,7 +24,7 @@ use Rattle.clif_paths.specs.Places.{inside}
 use Rattle.clif_paths.specs.Blocks.{Blocks, last_place, with_item, with_born}
 use Rattle.clif_paths.proofs.Tables.{updated-same, updated-other}
 use Rattle.clif_ssa.specs.Own.{Own}
-use Rattle.clif_ssa.specs.Tables.{is_yes}
+use Rattle.clif_records.specs.Tables.{is_yes}
 use Rattle.clif_ssa.specs.Ssa.{SsaState, predecessors_of, sealed_of}
 use Rattle.clif_ssa.specs.Sound.{SameProgram, args_of, edge_target, edges_at, entry_of}
 use Rattle.clif_ssa.specs.SoundLaws.{with_entry, with_own, shape_passes, DescribesSoundly, IsOpen}

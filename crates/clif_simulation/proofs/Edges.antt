@@ -9,7 +9,7 @@ use Rattle.clif_paths.specs.State.{Program, Function}
 use Rattle.clif_paths.specs.Blocks.{front, last_place, state_of}
 use Rattle.clif_paths.specs.Laws.{all_sealed}
 use Rattle.clif_ssa.specs.Ssa.{SsaState, predecessors_of, sealed_of}
-use Rattle.clif_ssa.specs.Tables.{is_yes}
+use Rattle.clif_records.specs.Tables.{is_yes}
 use Rattle.clif_ssa.specs.Sound.{IsEdgeInto, edges_at, edge_target, has_entry}
 use Rattle.clif_meaning.specs.Name.{Name}
 use Rattle.clif_meaning.specs.Request.{AnsweredCall, script_of}

@@ -11,10 +11,10 @@ use Rattle.clif_paths.specs.Blocks.{arm_into, state_of}
 use Rattle.clif_paths.specs.Laws.{NothingPending, IsCorrect}
 use Rattle.clif_paths.proofs.PathLemmas.{same_place-true}
 use Rattle.clif_paths.proofs.Concluding.{correct}
-use Rattle.clif_ssa.specs.declared.tables.Pending.{Pending}
+use Rattle.clif_records.specs.declared.tables.Pending.{Pending}
 use Rattle.clif_ssa.specs.LookUp.{branch_block}
 use Rattle.clif_ssa.specs.Ssa.{SsaState, sealed_of}
-use Rattle.clif_ssa.specs.Tables.{pending_of}
+use Rattle.clif_records.specs.Tables.{pending_of}
 use Rattle.clif_ssa.specs.Sound.{IsEdgeInto, entry_of}
 use Rattle.clif_meaning.specs.Name.{Name}
 use Rattle.clif_meaning.specs.Request.{AnsweredCall}

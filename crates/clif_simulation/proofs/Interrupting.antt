@@ -1,7 +1,7 @@
 -- As an unsealed block is entered, parameters that wait get their variables' bits.
 use Rattle.std.proofs.Common.{◌≡◌, ◌≢◌, ◌⊎◌, ℕ, Bool, true, false, List, [], ◌∷◌, inl, inr, refl, ap, arith}
 use Rattle.std.proofs.lemmas.Bool.Decides.{nat_tests}
-use Rattle.clif_ssa.specs.declared.tables.Pending.{Pending}
+use Rattle.clif_records.specs.declared.tables.Pending.{Pending}
 use Rattle.clif_meaning.specs.FunctionMachine.{same_value}
 use Rattle.clif_simulation.specs.Interrupted.{values_entering}
 use Rattle.clif_simulation.proofs.Giving.{In}

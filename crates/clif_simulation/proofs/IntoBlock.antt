@@ -15,9 +15,9 @@ use Rattle.clif_paths.specs.State.{Naming, Program, Kind, fresh, unborn, born, p
 use Rattle.clif_paths.specs.Blocks.{front, state_of}
 use Rattle.clif_paths.proofs.PathLemmas.{dec_place}
 use Rattle.clif_paths.proofs.Executing.{function_steps, denotes-past}
-use Rattle.clif_ssa.specs.declared.tables.Pending.{Pending}
+use Rattle.clif_records.specs.declared.tables.Pending.{Pending}
 use Rattle.clif_ssa.specs.Ssa.{SsaState, sealed_of}
-use Rattle.clif_ssa.specs.Tables.{pending_of}
+use Rattle.clif_records.specs.Tables.{pending_of}
 use Rattle.clif_ssa.specs.Sound.{HomeFits, IsBehind, IsCounted, IsEdgeInto, IsWaiting, args_of, edges_at, passed_count}
 use Rattle.clif_ssa.proofs.Alike.{unaliased_home}
 use Rattle.clif_ssa.proofs.Ordering.{stands_place}

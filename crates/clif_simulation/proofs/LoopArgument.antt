@@ -9,9 +9,9 @@ use Rattle.clif_paths.specs.Blocks.{Blocks, front, arm_into, state_of}
 use Rattle.clif_paths.specs.Examples.{entry, on, jump}
 use Rattle.clif_paths.proofs.PathLemmas.{same_place-true}
 use Rattle.clif_paths.proofs.Checked.{first_of_and, second_of_and}
-use Rattle.clif_ssa.specs.declared.tables.Pending.{Pending}
+use Rattle.clif_records.specs.declared.tables.Pending.{Pending}
 use Rattle.clif_ssa.specs.Ssa.{sealed_of}
-use Rattle.clif_ssa.specs.Tables.{pending_of}
+use Rattle.clif_records.specs.Tables.{pending_of}
 use Rattle.clif_ssa.specs.Sound.{IsBehind, HomeFits, IsEdgeInto}
 use Rattle.clif_meaning.specs.Name.{Name, answer_of}
 use Rattle.clif_meaning.specs.Instruction.{Operation, Jump}

@@ -8,12 +8,12 @@ use Rattle.clif_paths.specs.Places.{Place, start, inside, Arm}
 use Rattle.clif_paths.specs.State.{Definition, fresh, reads, unborn, born, complete}
 use Rattle.clif_paths.specs.Blocks.{front, last_place, AssignsNot}
 use Rattle.clif_paths.specs.Examples.{jump}
-use Rattle.clif_ssa.specs.declared.tables.Pending.{Pending}
+use Rattle.clif_records.specs.declared.tables.Pending.{Pending}
 use Rattle.clif_ssa.specs.Own.{Own}
-use Rattle.clif_ssa.specs.Tables.{is_yes, pending_of}
+use Rattle.clif_records.specs.Tables.{is_yes, pending_of}
 use Rattle.clif_ssa.specs.Ssa.{record_of, sealed_of, predecessors_of}
 use Rattle.clif_ssa.specs.LookUp.{branch_block}
-use Rattle.clif_ssa.proofs.RecordMaps.{value_among}
+use Rattle.clif_records.proofs.RecordMaps.{value_among}
 use Rattle.clif_ssa.specs.Sound.{Describes, CountsArguments, IsCounted, IsBehind, HomeFits, HasInstructions, IsEdgeInto, BelongsTo, InOrder, entry_of, has_entry, edge_target, passed_at, passed_count}
 use Rattle.clif_meaning.proofs.FirstRow.{first_of_one, one_of}
 use Rattle.clif_meaning.proofs.StraightLine.{nothing_contained, none_of}

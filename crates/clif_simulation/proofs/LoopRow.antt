@@ -9,7 +9,7 @@ use Rattle.clif_paths.specs.Places.{start}
 use Rattle.clif_ssa.specs.Ssa.{sealed_of}
 use Rattle.clif_ssa.specs.Sound.{entry_of}
 use Rattle.clif_ssa.specs.Structured.{HasType}
-use Rattle.clif_ssa.specs.Tables.{is_yes}
+use Rattle.clif_records.specs.Tables.{is_yes}
 use Rattle.clif_meaning.specs.Name.{Name, answer_of}
 use Rattle.clif_meaning.specs.Request.{script_of}
 use Rattle.clif_meaning.specs.Ledger.{ledger_after, has_value, type_of}

@@ -2,14 +2,14 @@
 use Rattle.std.proofs.Common.{◌≡◌, ◌≢◌, ℕ, zero, suc, ◌<◌, List, [], ◌∷◌, inl, inr, Some, None, refl, sym, ◌∙◌, ap, subst, arith, Contains, slice_get}
 use Rattle.std.specs.List.{AllByRecursion}
 use Rattle.clif_ir.specs.Body.{resolved, value_at}
-use Rattle.clif_instructions.specs.Members.{Once}
-use Rattle.clif_ssa.specs.declared.tables.Pending.{Pending}
-use Rattle.clif_ssa.specs.Tables.{pending_of}
+use Rattle.clif_ir.specs.Consistent.{Once}
+use Rattle.clif_records.specs.declared.tables.Pending.{Pending}
+use Rattle.clif_records.specs.Tables.{pending_of}
 use Rattle.clif_ssa.specs.Ssa.{record_of, sealed_of, predecessors_of}
 use Rattle.clif_ssa.specs.Sound.{args_of, edge_target, edges_at}
 use Rattle.clif_ssa.specs.Structure.{HasNeededZeros}
 use Rattle.clif_ssa.specs.Structured.{EdgePasses, HasParameters, HasType, Structured, VariableTypes, waiting_in}
-use Rattle.clif_ssa.proofs.RecordMaps.{value_among}
+use Rattle.clif_records.proofs.RecordMaps.{value_among}
 use Rattle.clif_ssa.proofs.Ordering.{contains_cons}
 use Rattle.clif_meaning.specs.Examples.{i32}
 use Rattle.clif_meaning.specs.BranchExamples.{block}

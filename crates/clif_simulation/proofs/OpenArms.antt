@@ -10,7 +10,7 @@ use Rattle.clif_paths.proofs.PathLemmas.{same_place-true, same_place-refl, same_
 use Rattle.clif_ssa.specs.Own.{Own}
 use Rattle.clif_ssa.specs.LookUp.{branch_block}
 use Rattle.clif_ssa.specs.Ssa.{SsaState, predecessors_of, sealed_of}
-use Rattle.clif_ssa.specs.Tables.{is_yes}
+use Rattle.clif_records.specs.Tables.{is_yes}
 use Rattle.clif_ssa.specs.Sound.{Describes, IsEdgeInto, edge_target, entry_of, has_entry, is_some_block}
 use Rattle.clif_simulation.proofs.Giving.{In, contained_in, in_contained}
 use Rattle.clif_simulation.proofs.Straight.{arms, first_arm, both_left, both_right, same_block}

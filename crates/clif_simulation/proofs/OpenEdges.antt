@@ -13,10 +13,10 @@ use Rattle.clif_instructions.specs.declared.block_call.BlockCall.{BlockCall}
 use Rattle.clif_paths.specs.Places.{Place, Arm, Path}
 use Rattle.clif_paths.specs.State.{Definition, Program, Function, complete}
 use Rattle.clif_paths.specs.Blocks.{front, sealed_at, state_of}
-use Rattle.clif_ssa.specs.declared.tables.Pending.{Pending}
+use Rattle.clif_records.specs.declared.tables.Pending.{Pending}
 use Rattle.clif_ssa.specs.Ssa.{SsaState, sealed_of}
 use Rattle.clif_ssa.specs.Structured.{AreFor, EdgePasses, HasParameters, waiting_in}
-use Rattle.clif_ssa.specs.Tables.{is_yes, pending_of}
+use Rattle.clif_records.specs.Tables.{is_yes, pending_of}
 use Rattle.clif_ssa.specs.Sound.{IsBehind, IsEdgeInto, args_of, edges_at, has_entry}
 use Rattle.clif_ssa.proofs.Ordering.{stands_place}
 use Rattle.clif_ssa.proofs.Losing.{home_stands}

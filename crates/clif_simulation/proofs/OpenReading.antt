@@ -14,7 +14,7 @@ use Rattle.clif_paths.specs.Blocks.{Blocks}
 use Rattle.clif_paths.specs.Sound.{Holds}
 use Rattle.clif_paths.proofs.BlockTables.{recorded_at-last}
 use Rattle.clif_ssa.specs.Ssa.{SsaState, record_of, sealed_of}
-use Rattle.clif_ssa.specs.Tables.{is_yes, pending_of}
+use Rattle.clif_records.specs.Tables.{is_yes, pending_of}
 use Rattle.clif_ssa.specs.Sound.{entry_of}
 use Rattle.clif_meaning.specs.Event.{types_of}
 use Rattle.clif_meaning.specs.Name.{Name, same_name}

@@ -7,7 +7,7 @@ use Rattle.clif_ir.specs.Consistent.{IsConsistent}
 use Rattle.clif_paths.specs.Places.{inside, Path, Follows, end_of}
 use Rattle.clif_paths.specs.Blocks.{Blocks, front}
 use Rattle.clif_ssa.specs.Ssa.{SsaState, sealed_of}
-use Rattle.clif_ssa.specs.Tables.{is_yes, pending_of}
+use Rattle.clif_records.specs.Tables.{is_yes, pending_of}
 use Rattle.clif_meaning.specs.Name.{Name}
 use Rattle.clif_meaning.specs.Request.{AnsweredCall}
 use Rattle.clif_meaning.specs.Instruction.{Edge}

@@ -13,7 +13,7 @@ use Rattle.clif_paths.specs.Denotation.{denotes}
 use Rattle.clif_paths.specs.Blocks.{Blocks, front, last_place}
 use Rattle.clif_paths.proofs.PathLemmas.{same_place-refl}
 use Rattle.clif_ssa.specs.Ssa.{SsaState, predecessors_of, sealed_of}
-use Rattle.clif_ssa.specs.Tables.{is_yes, pending_of}
+use Rattle.clif_records.specs.Tables.{is_yes, pending_of}
 use Rattle.clif_ssa.specs.Sound.{IsEdgeInto, edges_at, edge_target}
 use Rattle.clif_meaning.specs.Bits.{Bits}
 use Rattle.clif_meaning.specs.Memory.{Memory}

@@ -11,7 +11,7 @@ use Rattle.clif_paths.specs.Sound.{Allowed}
 use Rattle.clif_paths.proofs.PathLemmas.{same_place-true, same_place-refl, same_place-other}
 use Rattle.clif_paths.proofs.Tables.{updated-same, updated-other}
 use Rattle.clif_ssa.specs.Ssa.{SsaState, sealed_of}
-use Rattle.clif_ssa.specs.Tables.{is_yes}
+use Rattle.clif_records.specs.Tables.{is_yes}
 use Rattle.clif_ssa.specs.Sound.{has_entry}
 use Rattle.clif_ssa.specs.SoundLaws.{enters}
 use Rattle.clif_meaning.specs.Name.{Name}

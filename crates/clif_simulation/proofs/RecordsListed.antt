@@ -1,9 +1,9 @@
 -- What is on record in the states of the worked examples.
 use Rattle.std.proofs.Common.{◌≡◌, ℕ, List, [], ◌∷◌, Option, Some, None}
-use Rattle.clif_ssa.specs.declared.tables.Pending.{Pending}
-use Rattle.clif_ssa.specs.Tables.{Recorded}
+use Rattle.clif_records.specs.declared.tables.Pending.{Pending}
+use Rattle.clif_records.specs.Tables.{Recorded}
 use Rattle.clif_ssa.specs.Ssa.{record_of}
-use Rattle.clif_ssa.proofs.RecordMaps.{value_among, record_at-entries, record_at-empty}
+use Rattle.clif_records.proofs.RecordMaps.{value_among, record_at-entries, record_at-empty}
 use Rattle.clif_simulation.specs.CarryingExamples.{recorded_in, loop_state}
 use Rattle.clif_simulation.specs.ReadingExamples.{half_state_with}
 use Rattle.clif_simulation.specs.InterruptedExamples.{loop_state_recording, waiting_loop_state, passing_loop_state, early_jump_state}

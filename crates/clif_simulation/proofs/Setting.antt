@@ -13,9 +13,9 @@ use Rattle.clif_paths.specs.Denotation.{Instance, absent, zero, given, unknown, 
 use Rattle.clif_paths.specs.Blocks.{front, sealed_at}
 use Rattle.clif_paths.proofs.PathLemmas.{dec_place, same_place-equal, same_place-other}
 use Rattle.clif_paths.proofs.Executing.{program_steps, entered-unsealed, variable-entered, denotes-here, denotes-past}
-use Rattle.clif_ssa.specs.declared.tables.Pending.{Pending}
+use Rattle.clif_records.specs.declared.tables.Pending.{Pending}
 use Rattle.clif_ssa.specs.Ssa.{SsaState, record_of, sealed_of}
-use Rattle.clif_ssa.specs.Tables.{is_yes, pending_of}
+use Rattle.clif_records.specs.Tables.{is_yes, pending_of}
 use Rattle.clif_ssa.specs.Sound.{HomeFits}
 use Rattle.clif_meaning.specs.Bits.{Bits}
 use Rattle.clif_meaning.specs.Name.{Name}

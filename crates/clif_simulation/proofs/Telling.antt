@@ -9,7 +9,7 @@ use Rattle.clif_instructions.proofs.Members.{if_true, if_false, Once-tail}
 use Rattle.clif_paths.specs.Blocks.{Blocks}
 use Rattle.clif_ssa.specs.LookUp.{branch_block}
 use Rattle.clif_ssa.specs.Own.{Own}
-use Rattle.clif_ssa.specs.Tables.{is_yes}
+use Rattle.clif_records.specs.Tables.{is_yes}
 use Rattle.clif_ssa.specs.Ssa.{SsaState, predecessors_of, sealed_of, Declares, SameBlocks}
 use Rattle.clif_ssa.specs.Sound.{PassesOwn, args_of, edges_at, entry_of, has_entry}
 use Rattle.clif_ssa.specs.SoundLaws.{DescribesSoundly}

@@ -10,10 +10,10 @@ use Rattle.clif_instructions.specs.declared.instructions.InstructionData.TheVari
 use Rattle.clif_ir.specs.declared.function.ValueOrigin.TheVariants.{Result, Param}
 use Rattle.clif_ir.specs.Body.{Body}
 use Rattle.clif_ir.specs.Consistent.{IsConsistent}
-use Rattle.clif_ssa.specs.declared.tables.Sealed.{Sealed}
-use Rattle.clif_ssa.specs.declared.tables.Sealed.TheVariants.{No, Yes}
+use Rattle.clif_records.specs.declared.tables.Sealed.{Sealed}
+use Rattle.clif_records.specs.declared.tables.Sealed.TheVariants.{No, Yes}
 use Rattle.std.specs.FinMap as map
-use Rattle.clif_ssa.specs.Tables.{Recorded}
+use Rattle.clif_records.specs.Tables.{Recorded}
 use Rattle.clif_ssa.specs.Ssa.{SsaState}
 use Rattle.clif_types.specs.declared.opcodes.BinaryOpcode.TheVariants as binary
 use Rattle.clif_meaning.specs.Instruction.{Compute}

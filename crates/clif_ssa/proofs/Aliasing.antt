@@ -9,7 +9,7 @@ use Rattle.clif_ir.proofs.Lists.{below_or_not}
 use Rattle.clif_instructions.proofs.Members.{Stands-without, without-stood, Once-without}
 use Rattle.clif_paths.specs.State.{Kind, unborn, born, pending, complete, zero_of, Definition}
 use Rattle.clif_paths.specs.Blocks.{Blocks, with_dropped}
-use Rattle.clif_ssa.specs.declared.tables.Pending.{Pending}
+use Rattle.clif_records.specs.declared.tables.Pending.{Pending}
 use Rattle.clif_ssa.specs.Own.{Own}
 use Rattle.clif_ssa.specs.Ssa.{SsaState, predecessors_of}
 use Rattle.clif_ssa.specs.Sound.{Describes, CountsArguments, IsBehind, IsCounted, edge_target, passed_count}

@@ -10,7 +10,7 @@ use Rattle.clif_ir.specs.Changes.{with_alias, with_layout, inserted_in}
 use Rattle.clif_ir.specs.Reading.{param_home}
 use Rattle.clif_instructions.specs.Members.{stands_in}
 use Rattle.clif_paths.specs.Steps.{aliased}
-use Rattle.clif_ssa.specs.declared.tables.Pending.{Pending}
+use Rattle.clif_records.specs.declared.tables.Pending.{Pending}
 use Rattle.clif_ssa.specs.Ssa.{zeroed, zeroed_in, completed, zero_value}
 use Rattle.clif_ssa.specs.Structure.{StayAlike}
 use Rattle.clif_ir.proofs.Aliases.{follow_end}

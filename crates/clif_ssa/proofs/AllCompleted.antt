@@ -7,11 +7,12 @@ use Rattle.clif_ir.specs.Reading.{param_home}
 use Rattle.clif_paths.specs.Places.{Edges}
 use Rattle.clif_paths.specs.Blocks.{Blocks}
 use Rattle.clif_paths.specs.BlockLaws.{BlocksSound}
-use Rattle.clif_ssa.specs.declared.tables.Pending.{Pending}
+use Rattle.clif_records.specs.declared.tables.Pending.{Pending}
 use Rattle.clif_ssa.specs.Own.{Own}
-use Rattle.clif_ssa.specs.Tables.{is_yes, pending_of}
+use Rattle.clif_records.specs.Tables.{is_yes, pending_of}
 use Rattle.clif_ssa.specs.Ssa.{SsaState, record_of, sealed_of, SameRecords, SamePredecessors, Seals}
-use Rattle.clif_ssa.specs.LookUp.{Stage, LookUpState}
+use Rattle.clif_records.specs.Stacks.{LookUpState}
+use Rattle.clif_ssa.specs.LookUp.{Stage}
 use Rattle.clif_ssa.specs.Running.{CompletesAll}
 use Rattle.clif_ssa.specs.Sound.{Describes, CountsArguments, SameProgram, Keeps}
 use Rattle.clif_ssa.specs.SoundLaws.{DescribesSoundly, with_seal, arms_into}

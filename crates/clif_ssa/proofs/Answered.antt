@@ -7,12 +7,13 @@ use Rattle.clif_types.specs.declared.types.«Type».{«Type»}
 use Rattle.clif_ir.specs.Body.{Body, resolved, value_at}
 use Rattle.clif_ir.specs.Changes.{with_alias}
 use Rattle.clif_ir.specs.Consistent.{IsConsistent}
-use Rattle.clif_ir.specs.Reading.{param_home}
-use Rattle.clif_instructions.specs.Members.{stands_in}
-use Rattle.clif_ssa.specs.declared.look_up.Call.{Call}
-use Rattle.clif_ssa.specs.declared.look_up.Call.TheVariants.{UseVar, FinishPredecessorsLookup}
+use Rattle.clif_ir.specs.Reading.{param_home, stands_in}
+use Rattle.clif_records.specs.declared.look_up.Call.{Call}
+use Rattle.clif_records.specs.declared.look_up.Call.TheVariants.{UseVar, FinishPredecessorsLookup}
 use Rattle.clif_ssa.specs.Ssa.{SsaState, NamesExist, record_of, predecessors_of, zeroed, RecordsStay, zero_value}
-use Rattle.clif_ssa.specs.LookUp.{Stage, LookUpState, IsWalk, Copies, before_first, LooksUp, FinishesLookUp, MakesCall, MakesCalls, none_made, made, no_look_up, calls_for, with_calls}
+use Rattle.clif_records.specs.Passed.{before_first}
+use Rattle.clif_records.specs.Stacks.{LookUpState, no_look_up, calls_for}
+use Rattle.clif_ssa.specs.LookUp.{Stage, IsWalk, Copies, LooksUp, FinishesLookUp, MakesCall, MakesCalls, none_made, made, with_calls}
 use Rattle.clif_ssa.specs.Running.{stage, found, MakesAll}
 use Rattle.clif_ssa.specs.Structure.{HasRecordOf}
 use Rattle.clif_ssa.proofs.Bodies.{Firm, resolved_twice}

@@ -15,7 +15,7 @@ use Rattle.clif_paths.specs.Blocks.{Blocks, front, state_of, with_born}
 use Rattle.clif_paths.proofs.BlockSteps.{born_keeps}
 use Rattle.clif_paths.proofs.Tables.{updated-same, updated-other}
 use Rattle.clif_ssa.specs.Own.{Own, with_own_param}
-use Rattle.clif_ssa.specs.Tables.{pending_of}
+use Rattle.clif_records.specs.Tables.{pending_of}
 use Rattle.clif_ssa.specs.Ssa.{SsaState, sealed_of, predecessors_of}
 use Rattle.clif_ssa.specs.Sound.{BelongsTo, CountsArguments, Describes, HomeFits, IsBehind, IsCounted, IsWaiting, passed_count, edge_target}
 use Rattle.clif_ssa.specs.SoundLaws.{DescribesSoundly}

@@ -7,16 +7,17 @@ use Rattle.clif_types.specs.declared.error.BuildError.{BuildError}
 use Rattle.clif_types.specs.declared.types.«Type».{«Type»}
 use Rattle.clif_ir.specs.Body.{Body}
 use Rattle.clif_ir.specs.Changes.{with_param}
-use Rattle.clif_instructions.specs.Members.{stands_in}
-use Rattle.clif_ssa.specs.declared.look_up.Call.{Call}
-use Rattle.clif_ssa.specs.declared.look_up.Call.TheVariants.{UseVar, FinishPredecessorsLookup}
-use Rattle.clif_ssa.specs.declared.tables.Sealed.TheVariants.{No}
-use Rattle.clif_ssa.specs.Tables.{is_yes, pending_of}
+use Rattle.clif_ir.specs.Reading.{stands_in}
+use Rattle.clif_records.specs.declared.look_up.Call.{Call}
+use Rattle.clif_records.specs.declared.look_up.Call.TheVariants.{UseVar, FinishPredecessorsLookup}
+use Rattle.clif_records.specs.declared.tables.Sealed.TheVariants.{No}
+use Rattle.clif_records.specs.Tables.{is_yes, pending_of}
 use Rattle.clif_ssa.specs.Ssa.{SsaState, record_of, sealed_of, predecessors_of, NamesExist, HasMore, Records, SameBlocks, SameLookups, SamePredecessors, CountsLookup}
-use Rattle.clif_ssa.specs.LookUp.{LookUpState, Stage, Copies, LooksUp, calls_for, FinishesLookUp, MakesCall, branch_block, with_calls}
+use Rattle.clif_records.specs.Stacks.{LookUpState, calls_for}
+use Rattle.clif_ssa.specs.LookUp.{Stage, Copies, LooksUp, FinishesLookUp, MakesCall, branch_block, with_calls}
 use Rattle.clif_ssa.specs.Running.{stage, with_call, CallExists, Balances, CallsFit, work_at, work_below, work_of, Got}
 use Rattle.clif_ssa.proofs.Making.{got_added}
-use Rattle.clif_ssa.proofs.Copying.{get_or-inside}
+use Rattle.clif_records.proofs.Copying.{get_or-inside}
 
 none_some : {x : ℕ} → ◌≡◌ {A = Option ℕ} None (Some x) → ⊥
 none_some same = cc

@@ -15,9 +15,9 @@ use Rattle.clif_paths.specs.Steps.{IsNewName}
 use Rattle.clif_paths.specs.BlockLaws.{BlocksSound}
 use Rattle.clif_paths.proofs.BlockSteps.{zero_in_keeps, undefined_keeps}
 use Rattle.clif_paths.proofs.Tables.{updated-same, updated-other}
-use Rattle.clif_ssa.specs.declared.tables.Pending.{Pending}
+use Rattle.clif_records.specs.declared.tables.Pending.{Pending}
 use Rattle.clif_ssa.specs.Own.{Own}
-use Rattle.clif_ssa.specs.Tables.{is_yes}
+use Rattle.clif_records.specs.Tables.{is_yes}
 use Rattle.clif_ssa.specs.Ssa.{SsaState, sealed_of, predecessors_of, zeroed, zero_value}
 use Rattle.clif_ssa.specs.Sound.{Describes, IsWaiting, IsEdgeInto, InOrder, has_entry, entry_of, SameProgram}
 use Rattle.clif_ssa.specs.SoundLaws.{with_entry, with_zeroed}

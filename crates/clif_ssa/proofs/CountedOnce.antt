@@ -5,16 +5,16 @@ use Rattle.std.proofs.lemmas.Grind.{common_steps}
 use Rattle.std.proofs.lemmas.Bool.{cases_eq}
 use Rattle.std.proofs.lemmas.List.{map-append}
 use Rattle.std.proofs.lemmas.List.Elements.{Contains-push_cases}
-use Rattle.clif_instructions.specs.Members.{Once}
-use Rattle.clif_instructions.proofs.Members.{if_true, if_false, Once-tail}
-use Rattle.clif_ssa.specs.declared.tables.Pending.{Pending}
-use Rattle.clif_ssa.specs.declared.tables.Sealed.{Sealed}
-use Rattle.clif_ssa.specs.declared.tables.Sealed.TheVariants.{No, Yes}
-use Rattle.clif_ssa.specs.Tables.{Recorded, is_yes, pending_of, one_more}
+use Rattle.clif_ir.specs.Consistent.{Once}
+use Rattle.clif_ir.proofs.Reading.{if_true, if_false, Once-tail}
+use Rattle.clif_records.specs.declared.tables.Pending.{Pending}
+use Rattle.clif_records.specs.declared.tables.Sealed.{Sealed}
+use Rattle.clif_records.specs.declared.tables.Sealed.TheVariants.{No, Yes}
+use Rattle.clif_records.specs.Tables.{Recorded, is_yes, pending_of, one_more}
 use Rattle.clif_ssa.specs.Ssa.{SsaState, no_state, record_of, lookups_of, sealed_of, Records, SameBlocks, SameLookups, SameRecords, SealedStays, Seals, CountsLookup}
 use Rattle.clif_ssa.specs.Structure.{LooksOnce}
 use Rattle.clif_ssa.specs.Running.{CountsOnce, ToComplete}
-use Rattle.clif_ssa.proofs.RecordMaps.{recorded_at-empty}
+use Rattle.clif_records.proofs.RecordMaps.{recorded_at-empty}
 use Rattle.clif_ssa.proofs.Ordering.{contains_cons, contains_more, contains_first, none_contained}
 use Rattle.clif_ssa.proofs.Leading.{once_first, once_push}
 

@@ -21,9 +21,9 @@ use Rattle.clif_paths.specs.State.{Definition, Kind, unborn, born, pending, comp
 use Rattle.clif_paths.specs.Blocks.{Blocks, front, with_zero_in}
 use Rattle.clif_paths.specs.BlockLaws.{BlocksSound}
 use Rattle.clif_paths.proofs.Tables.{updated-other}
-use Rattle.clif_ssa.specs.declared.tables.Pending.{Pending}
+use Rattle.clif_records.specs.declared.tables.Pending.{Pending}
 use Rattle.clif_ssa.specs.Own.{Own, no_own}
-use Rattle.clif_ssa.specs.Tables.{is_yes}
+use Rattle.clif_records.specs.Tables.{is_yes}
 use Rattle.clif_ssa.specs.Ssa.{SsaState, sealed_of, predecessors_of, SameRecords, SameBlocks, SamePredecessors, zero_value}
 use Rattle.clif_ssa.specs.LookUp.{branch_block}
 use Rattle.clif_ssa.specs.Sound.{Describes, CountsArguments, HomeFits, IsBehind, IsCounted, PassesOwn, edge_target, args_of, passed_count, has_entry, entry_of}

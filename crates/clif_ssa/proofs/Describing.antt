@@ -16,9 +16,9 @@ use Rattle.clif_paths.specs.State.{fresh, Kind, unborn, born, pending, complete,
 use Rattle.clif_paths.specs.Steps.{updated}
 use Rattle.clif_paths.specs.Blocks.{Blocks, front, last_place, AssignsNot}
 use Rattle.clif_paths.proofs.Tables.{updated-same, updated-other}
-use Rattle.clif_ssa.specs.declared.tables.Pending.{Pending}
+use Rattle.clif_records.specs.declared.tables.Pending.{Pending}
 use Rattle.clif_ssa.specs.Own.{Own}
-use Rattle.clif_ssa.specs.Tables.{is_yes, pending_of}
+use Rattle.clif_records.specs.Tables.{is_yes, pending_of}
 use Rattle.clif_ssa.specs.Ssa.{SsaState, sealed_of, predecessors_of, SamePredecessors}
 use Rattle.clif_ssa.specs.LookUp.{branch_block}
 use Rattle.clif_ssa.specs.Zeros.{ZeroAt, value_of_zero}

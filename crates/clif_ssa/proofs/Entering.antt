@@ -11,9 +11,9 @@ use Rattle.clif_paths.specs.Blocks.{Blocks, front, chosen_front, with_blocks_sea
 use Rattle.clif_paths.specs.BlockLaws.{BlocksSound}
 use Rattle.clif_paths.proofs.PathLemmas.{same_place-true, same_place-refl}
 use Rattle.clif_paths.proofs.BlockSteps.{seal_blocks_keeps}
-use Rattle.clif_ssa.specs.declared.tables.Pending.{Pending}
+use Rattle.clif_records.specs.declared.tables.Pending.{Pending}
 use Rattle.clif_ssa.specs.Own.{Own}
-use Rattle.clif_ssa.specs.Tables.{is_yes, pending_of}
+use Rattle.clif_records.specs.Tables.{is_yes, pending_of}
 use Rattle.clif_ssa.specs.Ssa.{SsaState, sealed_of, record_of, predecessors_of, SameRecords, SamePredecessors}
 use Rattle.clif_ssa.specs.Sound.{Describes, IsWaiting, IsEdgeInto, InOrder, parameters_of, has_entry, entry_of}
 use Rattle.clif_ssa.specs.SoundLaws.{enters, with_entry}

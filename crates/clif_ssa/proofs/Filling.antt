@@ -17,7 +17,7 @@ use Rattle.clif_paths.specs.Blocks.{Blocks, front, last_place, with_filled}
 use Rattle.clif_paths.specs.LookUp.{Paired}
 use Rattle.clif_paths.proofs.Tables.{updated-same, updated-other}
 use Rattle.clif_ssa.specs.Zeros.{ZeroAt, value_of_zero}
-use Rattle.clif_ssa.specs.declared.tables.Pending.{Pending}
+use Rattle.clif_records.specs.declared.tables.Pending.{Pending}
 use Rattle.clif_ssa.specs.Own.{Own}
 use Rattle.clif_ssa.specs.Ssa.{SsaState, predecessors_of}
 use Rattle.clif_ssa.specs.LookUp.{branch_block, with_arguments}

@@ -5,9 +5,10 @@ use Rattle.std.proofs.lemmas.Grind.{common_steps}
 use Rattle.clif_ir.specs.Body.{Body}
 use Rattle.clif_ir.specs.Reading.{param_home}
 use Rattle.clif_ssa.specs.Ssa.{SsaState, predecessors_of}
-use Rattle.clif_ssa.specs.LookUp.{LookUpState, IsNoParameter, EndsLookUp, FinishesLookUp}
+use Rattle.clif_records.specs.Stacks.{LookUpState}
+use Rattle.clif_ssa.specs.LookUp.{IsNoParameter, EndsLookUp, FinishesLookUp}
 use Rattle.clif_ssa.specs.Running.{stage}
-use Rattle.clif_ssa.proofs.Stacks.{take_then_drop}
+use Rattle.clif_records.proofs.Stacks.{take_then_drop}
 
 abbrev EndsSo : ℕ → ℕ → List ℕ → List ℕ → Body → Body → ℕ → List ℕ → Type 0
 EndsSo param block predecessors results f g value zeros =

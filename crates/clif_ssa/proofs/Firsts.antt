@@ -7,9 +7,9 @@ use Rattle.clif_instructions.specs.Members.{place_of}
 use Rattle.clif_ir.proofs.Aliases.{follow_end}
 use Rattle.clif_paths.specs.State.{pending}
 use Rattle.clif_paths.specs.Blocks.{Blocks, front}
-use Rattle.clif_ssa.specs.declared.tables.Pending.{Pending}
+use Rattle.clif_records.specs.declared.tables.Pending.{Pending}
 use Rattle.clif_ssa.specs.Own.{Own}
-use Rattle.clif_ssa.specs.Tables.{is_yes, pending_of}
+use Rattle.clif_records.specs.Tables.{is_yes, pending_of}
 use Rattle.clif_ssa.specs.Ssa.{SsaState, sealed_of}
 use Rattle.clif_ssa.specs.Sound.{Describes, IsWaiting, InOrder, parameters_of, is_parameter_of}
 use Rattle.clif_ssa.proofs.Bodies.{param_origin}

@@ -17,9 +17,10 @@ use Rattle.clif_paths.specs.Blocks.{Blocks, front, last_place, Knows, with_dropp
 use Rattle.clif_paths.specs.BlockLaws.{BlocksSound}
 use Rattle.clif_paths.specs.LookUp.{Frame, results_of, AtRest, Delivers, InList, Paired}
 use Rattle.clif_paths.proofs.LookingUp.{dropping_finishes, filling_finishes, zero_finishes, results_are_counted}
-use Rattle.clif_ssa.specs.declared.tables.Pending.{Pending}
+use Rattle.clif_records.specs.declared.tables.Pending.{Pending}
 use Rattle.clif_ssa.specs.Ssa.{SsaState, predecessors_of, zeroed, zero_value}
-use Rattle.clif_ssa.specs.LookUp.{branch_block, Stage, LookUpState, with_arguments, NothingComes, OneComes, SeveralCome, FinishesLookUp}
+use Rattle.clif_records.specs.Stacks.{LookUpState}
+use Rattle.clif_ssa.specs.LookUp.{branch_block, Stage, with_arguments, NothingComes, OneComes, SeveralCome, FinishesLookUp}
 use Rattle.clif_ssa.specs.Sound.{Describes, CountsArguments, SameProgram, has_entry}
 use Rattle.clif_ssa.specs.SoundLaws.{with_entry}
 use Rattle.clif_ssa.proofs.Bodies.{Firm, past_alias, param_exists, resolved_twice, home-set_other}

@@ -15,12 +15,13 @@ use Rattle.clif_paths.specs.State.{Definition}
 use Rattle.clif_paths.specs.Blocks.{Blocks, front, last_place, Knows}
 use Rattle.clif_paths.specs.BlockLaws.{BlocksSound}
 use Rattle.clif_paths.specs.LookUp.{Frame, results_of, back_onto, AllKnow, FrameFits, GoesTo, AtRest, InList, LeavesOneOf}
-use Rattle.clif_ssa.specs.declared.look_up.Call.{Call}
-use Rattle.clif_ssa.specs.declared.tables.Pending.{Pending}
+use Rattle.clif_records.specs.declared.look_up.Call.{Call}
+use Rattle.clif_records.specs.declared.tables.Pending.{Pending}
 use Rattle.clif_ssa.specs.Own.{Own}
-use Rattle.clif_ssa.specs.Tables.{is_yes}
+use Rattle.clif_records.specs.Tables.{is_yes}
 use Rattle.clif_ssa.specs.Ssa.{SsaState, record_of, sealed_of, predecessors_of, RecordsStay}
-use Rattle.clif_ssa.specs.LookUp.{branch_block, calls_for, Stage}
+use Rattle.clif_records.specs.Stacks.{calls_for}
+use Rattle.clif_ssa.specs.LookUp.{branch_block, Stage}
 use Rattle.clif_ssa.specs.Sound.{Describes, CountsArguments, SameProgram, IsEdgeInto, InOrder, has_entry, entry_of, no_pending, is_some_block, is_parameter_of, parameters_of}
 use Rattle.clif_ssa.proofs.Bodies.{Firm, past_alias}
 use Rattle.clif_ssa.proofs.Housing.{Housed}

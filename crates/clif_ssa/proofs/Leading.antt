@@ -10,7 +10,7 @@ use Rattle.clif_paths.specs.Places.{start, Arm}
 use Rattle.clif_paths.specs.Blocks.{Blocks, front}
 use Rattle.clif_paths.specs.BlockLaws.{BlocksSound}
 use Rattle.clif_ssa.specs.Own.{Own}
-use Rattle.clif_ssa.specs.Tables.{is_yes}
+use Rattle.clif_records.specs.Tables.{is_yes}
 use Rattle.clif_ssa.specs.Ssa.{SsaState, sealed_of, predecessors_of, SameRecords, SameBlocks}
 use Rattle.clif_ssa.specs.LookUp.{branch_block}
 use Rattle.clif_ssa.specs.Sound.{Describes, IsEdgeInto, has_entry, entry_of}

@@ -3,7 +3,7 @@ use Rattle.std.proofs.Common.{◌≡◌, ℕ, length, refl, ap, ◌∙◌}
 use Rattle.clif_ir.specs.Body.{Body}
 use Rattle.clif_ssa.specs.Ssa.{SsaState, SameBlocks, SamePredecessors, SameRecords}
 use Rattle.clif_ssa.specs.Steps.{StepKeeps, StepLeaves}
-use Rattle.clif_ssa.specs.Tables.{is_yes, predecessors_at, sealed_at}
+use Rattle.clif_records.specs.Tables.{is_yes, predecessors_at, sealed_at}
 use Rattle.clif_ssa.proofs.Constructing.{constructs_none, constructs_then}
 use Rattle.clif_ssa.proofs.Local.{named-same}
 use Rattle.clif_ssa.proofs.Naming.{has_more, more-then}

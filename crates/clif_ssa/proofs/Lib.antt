@@ -4,16 +4,10 @@ pub mod Machine
 pub mod Looking
 pub mod Framing
 pub mod FrameEnds
-pub mod RecordLaws
-pub mod RecordMaps
-pub mod EmptyRecords
-pub mod SparseSet
 pub mod Passing
-pub mod Stacks
 pub mod Naming
 pub mod Local
 pub mod Waited
-pub mod Copying
 pub mod Coming
 pub mod Finished
 pub mod Making

@@ -6,7 +6,7 @@ use Rattle.clif_types.specs.declared.types.«Type».{«Type»}
 use Rattle.clif_ir.specs.Body.{Body, value_at}
 use Rattle.clif_ir.specs.Changes.{with_param}
 use Rattle.clif_ir.specs.Reading.{param_home}
-use Rattle.clif_ssa.specs.Tables.{pending_of}
+use Rattle.clif_records.specs.Tables.{pending_of}
 use Rattle.clif_ssa.specs.Ssa.{SsaState, NamesExist, HasMore, Records, SameBlocks, SamePredecessors, SameRecords, Zeroes, zeroed, zeroed_in, zero_value}
 use Rattle.clif_ssa.proofs.Naming.{named-more, param_more, param-named}
 use Rattle.clif_ssa.proofs.Parameters.{param_home_new}

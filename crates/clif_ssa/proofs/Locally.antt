@@ -10,11 +10,12 @@ use Rattle.clif_ir.specs.Reading.{param_home}
 use Rattle.clif_paths.specs.Blocks.{Blocks, with_parameter, with_zero_in}
 use Rattle.clif_paths.specs.BlockLaws.{BlocksSound}
 use Rattle.clif_paths.proofs.Tables.{aliased_cases}
-use Rattle.clif_ssa.specs.declared.tables.Pending.{Pending}
+use Rattle.clif_records.specs.declared.tables.Pending.{Pending}
 use Rattle.clif_ssa.specs.Own.{Own}
-use Rattle.clif_ssa.specs.Tables.{is_yes, pending_of}
+use Rattle.clif_records.specs.Tables.{is_yes, pending_of}
 use Rattle.clif_ssa.specs.Ssa.{SsaState, record_of, sealed_of, predecessors_of, zeroed, zeroed_in, completed, SameRecords, SamePredecessors, Seals, Waits, Zeroes, zero_value}
-use Rattle.clif_ssa.specs.LookUp.{LookUpState, no_look_up, UsesVariable}
+use Rattle.clif_records.specs.Stacks.{LookUpState, no_look_up}
+use Rattle.clif_ssa.specs.LookUp.{UsesVariable}
 use Rattle.clif_ssa.specs.Running.{CompletesAll}
 use Rattle.clif_ssa.specs.Sound.{Describes, CountsArguments, SameProgram, Keeps, KeepsAndKnows}
 use Rattle.clif_ssa.specs.SoundLaws.{DescribesSoundly, with_entry, with_zeroed, with_seal, arms_into}

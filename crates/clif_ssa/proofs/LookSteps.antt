@@ -6,12 +6,13 @@ use Rattle.clif_types.specs.declared.error.BuildError.TheVariants.{Memory}
 use Rattle.clif_types.specs.declared.types.«Type».{«Type»}
 use Rattle.clif_ir.specs.Body.{Body}
 use Rattle.clif_ir.specs.Consistent.{IsConsistent}
-use Rattle.clif_instructions.specs.Members.{stands_in}
-use Rattle.clif_ssa.specs.LookUp.{Stage, before_first, Copies, IsWalk, LooksUp, WalksTo}
+use Rattle.clif_ir.specs.Reading.{stands_in}
+use Rattle.clif_records.specs.Passed.{before_first}
+use Rattle.clif_ssa.specs.LookUp.{Stage, Copies, IsWalk, LooksUp, WalksTo}
 use Rattle.clif_ssa.specs.Running.{stage, Got}
 use Rattle.clif_ssa.specs.Ssa.{SsaState, record_of, NamesExist, SameBlocks, SameLookups}
 use Rattle.clif_ssa.specs.Steps.{StepKeeps, StepEnds}
-use Rattle.clif_ssa.specs.Tables.{is_yes, predecessors_at, sealed_at}
+use Rattle.clif_records.specs.Tables.{is_yes, predecessors_at, sealed_at}
 use Rattle.clif_ssa.proofs.CountedOnce.{NoneLost, counts_then, once_kept}
 use Rattle.clif_ssa.proofs.Making.{looked-named, looked-stay, looks_up}
 use Rattle.clif_ssa.proofs.Steps.{ends_memory, ends_ok, known_same}

@@ -18,14 +18,16 @@ use Rattle.clif_paths.specs.BlockLaws.{BlocksSound}
 use Rattle.clif_paths.specs.LookUp.{Frame, results_of, Expects, Finds, Delivers, NotFor, last_of}
 use Rattle.clif_paths.proofs.LookingUp.{record_is_found, found_is_delivered, parameter_is_added, frame_is_pushed}
 use Rattle.clif_paths.proofs.Tables.{updated-same}
-use Rattle.clif_ssa.specs.declared.look_up.Call.{Call}
-use Rattle.clif_ssa.specs.declared.tables.Pending.{Pending}
+use Rattle.clif_records.specs.declared.look_up.Call.{Call}
+use Rattle.clif_records.specs.declared.tables.Pending.{Pending}
 use Rattle.clif_ssa.specs.Own.{Own}
-use Rattle.clif_ssa.specs.Tables.{is_yes}
+use Rattle.clif_records.specs.Tables.{is_yes}
 use Rattle.clif_ssa.specs.Ssa.{SsaState, record_of, sealed_of, predecessors_of, Records, RecordsStay}
-use Rattle.clif_ssa.specs.LookUp.{Stage, LookUpState, branch_block, only_block, single_predecessor, IsWalk, before_first, Copies, FindsRecord, AddsParameter, ParameterWaits, ParameterBegins, LooksUp}
+use Rattle.clif_records.specs.Passed.{before_first}
+use Rattle.clif_records.specs.Stacks.{LookUpState}
+use Rattle.clif_ssa.specs.LookUp.{Stage, branch_block, only_block, single_predecessor, IsWalk, Copies, FindsRecord, AddsParameter, ParameterWaits, ParameterBegins, LooksUp}
 use Rattle.clif_ssa.specs.Sound.{Describes, CountsArguments, SameProgram, has_entry}
-use Rattle.clif_ssa.proofs.RecordMaps.{record_at-insert}
+use Rattle.clif_records.proofs.RecordMaps.{record_at-insert}
 use Rattle.clif_ssa.proofs.Bodies.{Firm, past_alias, param_exists, home-append}
 use Rattle.clif_ssa.proofs.Housing.{Housed}
 use Rattle.clif_ssa.proofs.Ordering.{contains_first, contains_cons, nothing_contained}

@@ -12,9 +12,9 @@ use Rattle.clif_instructions.specs.Members.{Stands, without, stands_in}
 use Rattle.clif_ir.specs.Reading.{param_home, home_of_param}
 use Rattle.clif_ir.specs.declared.function.BlockNode.{BlockNode}
 use Rattle.clif_ir.proofs.Lists.{at_set}
-use Rattle.clif_ssa.specs.declared.tables.Pending.{Pending}
-use Rattle.clif_ssa.specs.Tables.{is_yes}
-use Rattle.clif_ssa.specs.declared.side_effects.SideEffects.{SideEffects}
+use Rattle.clif_records.specs.declared.tables.Pending.{Pending}
+use Rattle.clif_records.specs.Tables.{is_yes}
+use Rattle.clif_records.specs.declared.side_effects.SideEffects.{SideEffects}
 use Rattle.clif_ssa.specs.Ssa.{SsaState, record_of, sealed_of, zeroed, completed, Records, Waits, Zeroes, zero_value}
 use Rattle.clif_ssa.specs.Structure.{StayAlike, HasRecordOf, Remembers, Moment, AreSteps, last_of, LosesWaiting}
 use Rattle.clif_ssa.proofs.Bodies.{Firm, firm_from, home_inside, param_exists, param_origin}

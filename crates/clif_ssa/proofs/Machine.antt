@@ -12,13 +12,14 @@ use Rattle.clif_paths.specs.Blocks.{Blocks, Knows}
 use Rattle.clif_paths.specs.BlockLaws.{BlocksSound}
 use Rattle.clif_paths.specs.LookUp.{Frame, Expects, GoesTo, AtRest}
 use Rattle.clif_paths.proofs.LookingUp.{result_is_pushed, next_is_expected, last_result_answers, sealing_begins}
-use Rattle.clif_ssa.specs.declared.look_up.Call.{Call}
-use Rattle.clif_ssa.specs.declared.look_up.Call.TheVariants.{UseVar, FinishPredecessorsLookup}
-use Rattle.clif_ssa.specs.declared.tables.Pending.{Pending}
+use Rattle.clif_records.specs.declared.look_up.Call.{Call}
+use Rattle.clif_records.specs.declared.look_up.Call.TheVariants.{UseVar, FinishPredecessorsLookup}
+use Rattle.clif_records.specs.declared.tables.Pending.{Pending}
 use Rattle.clif_ssa.specs.Own.{Own}
-use Rattle.clif_ssa.specs.Tables.{is_yes}
+use Rattle.clif_records.specs.Tables.{is_yes}
 use Rattle.clif_ssa.specs.Ssa.{SsaState, record_of, sealed_of, predecessors_of, zeroed, zero_value}
-use Rattle.clif_ssa.specs.LookUp.{branch_block, calls_for, Stage, LookUpState, no_look_up, Copies, FinishesLookUp, MakesLook, MakesFinish, MakesCall, MakesCalls, none_made, made, UsesVariable, CompletesParameter, with_calls}
+use Rattle.clif_records.specs.Stacks.{calls_for, LookUpState, no_look_up}
+use Rattle.clif_ssa.specs.LookUp.{branch_block, Stage, Copies, FinishesLookUp, MakesLook, MakesFinish, MakesCall, MakesCalls, none_made, made, UsesVariable, CompletesParameter, with_calls}
 use Rattle.clif_ssa.specs.Sound.{Describes, CountsArguments, IsWaiting, SameProgram, KeepsAndKnows, has_entry}
 use Rattle.clif_ssa.specs.SoundLaws.{with_entry, DescribesSoundly}
 use Rattle.clif_ssa.proofs.Bodies.{Firm, firm_from, param_exists, param_origin}

@@ -6,13 +6,16 @@ use Rattle.std.proofs.lemmas.Bool.{cases_eq}
 use Rattle.clif_types.specs.declared.types.«Type».{«Type»}
 use Rattle.clif_ir.specs.Body.{Body}
 use Rattle.clif_ir.specs.Changes.{with_param}
-use Rattle.clif_instructions.specs.Members.{Stands, stands_in}
-use Rattle.clif_instructions.proofs.Members.{Stands-from_test}
-use Rattle.clif_ssa.specs.Tables.{is_yes, pending_of}
+use Rattle.clif_ir.specs.Consistent.{Stands}
+use Rattle.clif_ir.specs.Reading.{stands_in}
+use Rattle.clif_ir.proofs.Reading.{Stands-from_test}
+use Rattle.clif_records.specs.Tables.{is_yes, pending_of}
 use Rattle.clif_ssa.specs.Ssa.{SsaState, record_of, lookups_of, sealed_of, predecessors_of, NamesExist, RecordsStay, SameLookups}
-use Rattle.clif_ssa.specs.LookUp.{LookUpState, Stage, IsWalk, WalksTo, before_first, Copies, AddsParameter, ParameterWaits, ParameterBegins, LooksUp}
+use Rattle.clif_records.specs.Passed.{before_first}
+use Rattle.clif_records.specs.Stacks.{LookUpState}
+use Rattle.clif_ssa.specs.LookUp.{Stage, IsWalk, WalksTo, Copies, AddsParameter, ParameterWaits, ParameterBegins, LooksUp}
 use Rattle.clif_ssa.specs.Running.{stage, Adds, Got}
-use Rattle.clif_ssa.proofs.Copying.{before-all}
+use Rattle.clif_records.proofs.Copying.{before-all}
 use Rattle.clif_ssa.proofs.Naming.{named-more, has_more}
 
 none_some : {x : ℕ} → ◌≡◌ {A = Option ℕ} None (Some x) → ⊥

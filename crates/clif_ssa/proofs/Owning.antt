@@ -17,7 +17,7 @@ use Rattle.clif_paths.proofs.Tables.{updated-same, updated-other}
 use Rattle.clif_ssa.specs.Ssa.{SsaState}
 use Rattle.clif_ssa.specs.LookUp.{branch_block}
 use Rattle.clif_ssa.specs.Sound.{Describes, CountsArguments, HasInstructions, HomeFits, IsWaiting}
-use Rattle.clif_ssa.specs.declared.tables.Pending.{Pending}
+use Rattle.clif_records.specs.declared.tables.Pending.{Pending}
 use Rattle.clif_ssa.specs.Own.{Own, with_one_more}
 use Rattle.clif_ssa.specs.SoundLaws.{with_own, shape_passes, DescribesSoundly, IsOpen}
 use Rattle.clif_ssa.proofs.Bodies.{Firm}

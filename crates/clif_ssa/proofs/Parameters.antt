@@ -19,9 +19,9 @@ use Rattle.clif_paths.specs.Blocks.{Blocks, front, with_parameter}
 use Rattle.clif_paths.specs.BlockLaws.{BlocksSound}
 use Rattle.clif_paths.proofs.BlockSteps.{parameter_keeps}
 use Rattle.clif_paths.proofs.Tables.{updated-same, updated-other}
-use Rattle.clif_ssa.specs.declared.tables.Pending.{Pending}
+use Rattle.clif_records.specs.declared.tables.Pending.{Pending}
 use Rattle.clif_ssa.specs.Own.{Own}
-use Rattle.clif_ssa.specs.Tables.{is_yes, pending_of}
+use Rattle.clif_records.specs.Tables.{is_yes, pending_of}
 use Rattle.clif_ssa.specs.Ssa.{SsaState, sealed_of, record_of, Records, SamePredecessors}
 use Rattle.clif_ssa.specs.Sound.{Describes, HomeFits, IsWaiting, IsEdgeInto, InOrder, parameters_of, BelongsTo}
 use Rattle.clif_ssa.proofs.Bodies.{Firm, past_alias, no_alias_behind, resolved-append, leads_inside-append, home-append, param_exists}

@@ -6,12 +6,13 @@ use Rattle.clif_types.specs.declared.types.«Type».{«Type»}
 use Rattle.clif_ir.specs.Body.{Body}
 use Rattle.clif_ir.specs.Consistent.{IsConsistent}
 use Rattle.clif_paths.specs.Blocks.{Blocks}
-use Rattle.clif_ssa.specs.declared.side_effects.SideEffects.{SideEffects}
-use Rattle.clif_ssa.specs.declared.tables.Pending.{Pending}
+use Rattle.clif_records.specs.declared.side_effects.SideEffects.{SideEffects}
+use Rattle.clif_records.specs.declared.tables.Pending.{Pending}
 use Rattle.clif_ssa.specs.Own.{Own}
-use Rattle.clif_ssa.specs.Tables.{is_yes, pending_of, record_at}
+use Rattle.clif_records.specs.Tables.{is_yes, pending_of, record_at}
 use Rattle.clif_ssa.specs.Ssa.{SsaState, SomethingLeads, record_of, sealed_of, predecessors_of, SamePredecessors, Seals, Waits, Zeroes}
-use Rattle.clif_ssa.specs.LookUp.{LookUpState, no_look_up, LooksUp, UsesVariable}
+use Rattle.clif_records.specs.Stacks.{LookUpState, no_look_up}
+use Rattle.clif_ssa.specs.LookUp.{LooksUp, UsesVariable}
 use Rattle.clif_ssa.specs.Running.{stage, found, CompletesAll, MakesAll}
 use Rattle.clif_ssa.specs.Sealing.{SealsLocally, SealsByLookUp}
 use Rattle.clif_ssa.specs.Sound.{Keeps, KeepsAndKnows}

@@ -9,8 +9,8 @@ use Rattle.std.specs.Prelude.{Result, Ok, Err, OnOk, IfOk, None}
 use Rattle.clif_types.specs.declared.types.«Type».{«Type»}
 use Rattle.clif_ir.specs.Body.{Body, value_at}
 use Rattle.clif_ir.specs.Consistent.{IsConsistent}
-use Rattle.clif_ssa.specs.declared.side_effects.SideEffects.{SideEffects}
-use Rattle.clif_ssa.specs.Tables.{is_yes}
+use Rattle.clif_records.specs.declared.side_effects.SideEffects.{SideEffects}
+use Rattle.clif_records.specs.Tables.{is_yes}
 use Rattle.clif_ssa.specs.Ssa.{SsaState, record_of, sealed_of, Waits, Zeroes, zero_value}
 use Rattle.clif_ssa.specs.Structure.{HasRecordOf}
 use Rattle.clif_ssa.proofs.Losing.{waits_used, zeroes_used}

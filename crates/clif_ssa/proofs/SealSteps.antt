@@ -3,16 +3,16 @@ use Rattle.std.proofs.Common.{◌≡◌, ◌≢◌, ℕ, ◌+◌, List, [], leng
 use Rattle.std.specs.Prelude.{Result, Ok, Err, OnOk, IfOk}
 use Rattle.clif_types.specs.declared.error.BuildError.{BuildError}
 use Rattle.clif_ir.specs.Body.{Body}
-use Rattle.clif_ssa.specs.declared.side_effects.SideEffects.{SideEffects}
-use Rattle.clif_ssa.specs.declared.tables.Pending.{Pending}
+use Rattle.clif_records.specs.declared.side_effects.SideEffects.{SideEffects}
+use Rattle.clif_records.specs.declared.tables.Pending.{Pending}
 use Rattle.clif_ssa.specs.Constructs.{OnlyConstructs, TellsMore, TellsZeros}
-use Rattle.clif_ssa.specs.LookUp.{LookUpState, no_look_up}
+use Rattle.clif_records.specs.Stacks.{LookUpState, no_look_up}
 use Rattle.clif_ssa.specs.Running.{stage, CompletesAll, ToComplete}
 use Rattle.clif_ssa.specs.Sealing.{SealsOne}
 use Rattle.clif_ssa.specs.Ssa.{SsaState, sealed_of, predecessors_of, completed, completing_blocks, CountsEach, HasMore, KnowsNoMore, SameBlocks, SameLookups, SamePredecessors, SameRecords, Seals}
 use Rattle.clif_ssa.specs.Steps.{SealKeeps, SealMakes, StepLeaves}
 use Rattle.clif_ssa.specs.Structure.{LooksOnce}
-use Rattle.clif_ssa.specs.Tables.{is_yes, lookups_at, pending_of, predecessors_at, record_at, sealed_at}
+use Rattle.clif_records.specs.Tables.{is_yes, lookups_at, pending_of, predecessors_at, record_at, sealed_at}
 use Rattle.clif_ssa.proofs.Constructing.{constructs_none, tells_all}
 use Rattle.clif_ssa.proofs.CountedOnce.{none_lost, once_kept, once_same, once_seals}
 use Rattle.clif_ssa.proofs.Local.{named-same}

@@ -19,8 +19,8 @@ use Rattle.clif_ir.specs.declared.function.ValueOrigin.TheVariants.{Alias}
 use Rattle.clif_ir.proofs.Lists.{at_set}
 use Rattle.clif_instructions.proofs.Members.{Once-tail}
 use Rattle.clif_ssa.specs.Own.{Own}
-use Rattle.clif_ssa.specs.declared.tables.Pending.{Pending}
-use Rattle.clif_ssa.specs.Tables.{is_yes}
+use Rattle.clif_records.specs.declared.tables.Pending.{Pending}
+use Rattle.clif_records.specs.Tables.{is_yes}
 use Rattle.clif_ssa.specs.Ssa.{SsaState, sealed_of, predecessors_of, zeroed, zero_value}
 use Rattle.clif_ssa.specs.LookUp.{with_arguments}
 use Rattle.clif_ssa.specs.Sound.{edges_at, edge_target, args_of}

@@ -9,12 +9,14 @@ use Rattle.clif_ir.specs.Changes.{with_alias, with_param, inserted_in}
 use Rattle.clif_ir.specs.Reading.{param_home}
 use Rattle.clif_instructions.specs.Members.{stands_in}
 use Rattle.clif_ssa.specs.Own.{Own}
-use Rattle.clif_ssa.specs.declared.look_up.Call.{Call}
-use Rattle.clif_ssa.specs.declared.look_up.Call.TheVariants.{UseVar, FinishPredecessorsLookup}
-use Rattle.clif_ssa.specs.declared.tables.Pending.{Pending}
-use Rattle.clif_ssa.specs.Tables.{is_yes}
+use Rattle.clif_records.specs.declared.look_up.Call.{Call}
+use Rattle.clif_records.specs.declared.look_up.Call.TheVariants.{UseVar, FinishPredecessorsLookup}
+use Rattle.clif_records.specs.declared.tables.Pending.{Pending}
+use Rattle.clif_records.specs.Tables.{is_yes}
 use Rattle.clif_ssa.specs.Ssa.{SsaState, sealed_of, predecessors_of, zeroed, zero_value}
-use Rattle.clif_ssa.specs.LookUp.{Stage, LookUpState, branch_block, calls_for, before_first, with_arguments, with_calls, OneComes, SeveralCome, IsNoParameter, EndsLookUp, LooksUp, FinishesLookUp, MakesCall, MakesCalls, none_made, made}
+use Rattle.clif_records.specs.Passed.{before_first}
+use Rattle.clif_records.specs.Stacks.{LookUpState, calls_for}
+use Rattle.clif_ssa.specs.LookUp.{Stage, branch_block, with_arguments, with_calls, OneComes, SeveralCome, IsNoParameter, EndsLookUp, LooksUp, FinishesLookUp, MakesCall, MakesCalls, none_made, made}
 use Rattle.clif_ssa.specs.Structured.{VariableTypes, HasType, Structured, waiting_in}
 use Rattle.clif_ssa.proofs.Bodies.{Firm, resolved_twice}
 use Rattle.clif_ssa.proofs.Housing.{Housed}

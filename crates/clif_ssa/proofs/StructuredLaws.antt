@@ -19,12 +19,12 @@ use Rattle.clif_paths.specs.Steps.{updated}
 use Rattle.clif_paths.proofs.Tables.{updated-same, updated-other}
 use Rattle.clif_ssa.specs.SoundLaws.{shape_passes, with_own}
 use Rattle.clif_ssa.specs.Own.{Own, no_own, with_own_param}
-use Rattle.clif_ssa.specs.declared.tables.Pending.{Pending}
-use Rattle.clif_ssa.specs.Tables.{is_yes}
+use Rattle.clif_records.specs.declared.tables.Pending.{Pending}
+use Rattle.clif_records.specs.Tables.{is_yes}
 use Rattle.clif_ssa.specs.Ssa.{SsaState, no_state, record_of, sealed_of, predecessors_of, SameBlocks, SamePredecessors, Records}
 use Rattle.clif_ssa.specs.Sound.{edges_at, edge_target, args_of}
 use Rattle.clif_ssa.specs.Structured.{VariableTypes, HasType, AreFor, EdgePasses, HasParameters, Structured, waiting_of, waiting_in}
-use Rattle.clif_ssa.proofs.RecordMaps.{record_at-empty}
+use Rattle.clif_records.proofs.RecordMaps.{record_at-empty}
 use Rattle.clif_ssa.proofs.Bodies.{Firm}
 use Rattle.clif_ssa.proofs.Counting.{block_params}
 use Rattle.clif_ssa.proofs.Instructions.{inst_params, inst_resolved, inst_param_home, inst_old}

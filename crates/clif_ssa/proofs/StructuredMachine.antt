@@ -9,14 +9,15 @@ use Rattle.clif_ir.specs.Changes.{with_param}
 use Rattle.clif_ir.specs.Reading.{param_home}
 use Rattle.clif_instructions.specs.Members.{stands_in}
 use Rattle.clif_ssa.specs.Own.{Own}
-use Rattle.clif_ssa.specs.declared.look_up.Call.{Call}
-use Rattle.clif_ssa.specs.declared.look_up.Call.TheVariants.{UseVar, FinishPredecessorsLookup}
-use Rattle.clif_ssa.specs.declared.tables.Pending.{Pending}
-use Rattle.clif_ssa.specs.declared.tables.Sealed.{Sealed}
-use Rattle.clif_ssa.specs.declared.tables.Sealed.TheVariants.{No, Yes}
-use Rattle.clif_ssa.specs.Tables.{is_yes, pending_of}
+use Rattle.clif_records.specs.declared.look_up.Call.{Call}
+use Rattle.clif_records.specs.declared.look_up.Call.TheVariants.{UseVar, FinishPredecessorsLookup}
+use Rattle.clif_records.specs.declared.tables.Pending.{Pending}
+use Rattle.clif_records.specs.declared.tables.Sealed.{Sealed}
+use Rattle.clif_records.specs.declared.tables.Sealed.TheVariants.{No, Yes}
+use Rattle.clif_records.specs.Tables.{is_yes, pending_of}
 use Rattle.clif_ssa.specs.Ssa.{SsaState, record_of, sealed_of, predecessors_of, SameBlocks}
-use Rattle.clif_ssa.specs.LookUp.{calls_for, Copies}
+use Rattle.clif_records.specs.Stacks.{calls_for}
+use Rattle.clif_ssa.specs.LookUp.{Copies}
 use Rattle.clif_ssa.specs.Sound.{parameters_of}
 use Rattle.clif_ssa.specs.Structured.{VariableTypes, HasType, Structured, waiting_of, waiting_in}
 use Rattle.clif_ssa.proofs.Bodies.{Firm, param_exists, home-append}

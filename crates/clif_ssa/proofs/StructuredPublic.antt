@@ -6,10 +6,11 @@ use Rattle.clif_types.specs.declared.types.«Type».{«Type»}
 use Rattle.clif_ir.specs.Body.{Body}
 use Rattle.clif_ir.specs.Consistent.{IsConsistent}
 use Rattle.clif_ssa.specs.Own.{Own}
-use Rattle.clif_ssa.specs.declared.side_effects.SideEffects.{SideEffects}
-use Rattle.clif_ssa.specs.Tables.{is_yes, pending_of}
+use Rattle.clif_records.specs.declared.side_effects.SideEffects.{SideEffects}
+use Rattle.clif_records.specs.Tables.{is_yes, pending_of}
 use Rattle.clif_ssa.specs.Ssa.{SsaState, record_of, sealed_of, predecessors_of, SamePredecessors, Waits, Zeroes}
-use Rattle.clif_ssa.specs.LookUp.{LookUpState, no_look_up, LooksUp}
+use Rattle.clif_records.specs.Stacks.{LookUpState, no_look_up}
+use Rattle.clif_ssa.specs.LookUp.{LooksUp}
 use Rattle.clif_ssa.specs.Running.{stage, MakesAll}
 use Rattle.clif_ssa.specs.Sealing.{SealsLocally, SealsByLookUp}
 use Rattle.clif_ssa.specs.Structured.{VariableTypes, HasType, Structured}

@@ -9,13 +9,14 @@ use Rattle.clif_ir.specs.Changes.{with_param}
 use Rattle.clif_instructions.specs.Members.{Once}
 use Rattle.clif_ir.specs.Reading.{param_home}
 use Rattle.clif_ssa.specs.Own.{Own}
-use Rattle.clif_ssa.specs.declared.look_up.Call.{Call}
-use Rattle.clif_ssa.specs.declared.tables.Pending.{Pending}
-use Rattle.clif_ssa.specs.declared.tables.Sealed.{Sealed}
-use Rattle.clif_ssa.specs.declared.tables.Sealed.TheVariants.{No, Yes}
-use Rattle.clif_ssa.specs.Tables.{is_yes, pending_of}
+use Rattle.clif_records.specs.declared.look_up.Call.{Call}
+use Rattle.clif_records.specs.declared.tables.Pending.{Pending}
+use Rattle.clif_records.specs.declared.tables.Sealed.{Sealed}
+use Rattle.clif_records.specs.declared.tables.Sealed.TheVariants.{No, Yes}
+use Rattle.clif_records.specs.Tables.{is_yes, pending_of}
 use Rattle.clif_ssa.specs.Ssa.{SsaState, record_of, sealed_of, predecessors_of, zeroed, zeroed_in, completed, Records, SamePredecessors, Seals, Waits, Zeroes}
-use Rattle.clif_ssa.specs.LookUp.{Stage, LookUpState, calls_for, no_look_up, LooksUp, MakesCalls, UsesVariable, CompletesParameter}
+use Rattle.clif_records.specs.Stacks.{LookUpState, calls_for, no_look_up}
+use Rattle.clif_ssa.specs.LookUp.{Stage, LooksUp, MakesCalls, UsesVariable, CompletesParameter}
 use Rattle.clif_ssa.specs.Running.{CompletesAll}
 use Rattle.clif_ssa.specs.Sound.{is_parameter_of}
 use Rattle.clif_ssa.specs.Structured.{VariableTypes, HasType, HasParameters, Structured, waiting_of, waiting_in}

@@ -1,6 +1,6 @@
 -- A variable is used in a block, or assigned.
 use Rattle.std.proofs.Common.{◌≡◌, ◌≢◌, ℕ, ◌==◌, ◌&&◌, ap, sym, ◌∙◌}
-use Rattle.std.specs.Prelude.{Some, None, cond, Result, Ok, Err, OnOk}
+use Rattle.std.specs.Prelude.{Some, None, cond}
 use Rattle.clif_ir.specs.Body.{Body}
 use Rattle.clif_paths.specs.Places.{start}
 use Rattle.clif_paths.specs.Blocks.{Blocks, last_place, with_write}
@@ -8,13 +8,6 @@ use Rattle.clif_ssa.specs.Own.{Own}
 use Rattle.clif_ssa.specs.Ssa.{SsaState, record_of, Records, SameBlocks, SamePredecessors}
 use Rattle.clif_ssa.specs.SoundLaws.{DescribesSoundly, IsOpen}
 use Rattle.clif_ssa.proofs.Writing.{write_described}
-
--- THE CALLS -------------------------------------------------------------------------------------------------------
-
--- what follows where nothing failed
-pub on_ok : {T E : Type 0} (result : Result T E) (A B : Type 0) → (A → B) → OnOk result A → OnOk result B
-on_ok (Ok value) A B follows holds = follows holds
-on_ok (Err error) A B follows holds = tt
 
 -- an assignment of a name's answer
 pub def_keeps : (own : Own) (f : Body) (s t : SsaState) (blocks : Blocks) (b x n value : ℕ) → DescribesSoundly own f s blocks → blocks.answer n ≡ value

@@ -7,16 +7,17 @@ use Rattle.std.proofs.lemmas.Bool.{cases_eq}
 use Rattle.clif_types.specs.declared.types.«Type».{«Type»}
 use Rattle.clif_types.specs.declared.error.BuildError.{BuildError}
 use Rattle.clif_ir.specs.Body.{Body, value_at}
-use Rattle.clif_ssa.specs.declared.look_up.Call.{Call}
-use Rattle.clif_ssa.specs.declared.look_up.Call.TheVariants.{UseVar, FinishPredecessorsLookup}
-use Rattle.clif_ssa.specs.declared.side_effects.SideEffects.{SideEffects}
-use Rattle.clif_ssa.specs.declared.tables.Pending.{Pending}
-use Rattle.clif_ssa.specs.declared.tables.SsaBlock.{SsaBlock}
-use Rattle.clif_ssa.specs.declared.tables.Sealed.{Sealed}
-use Rattle.clif_ssa.specs.declared.tables.Sealed.TheVariants.{Yes}
-use Rattle.clif_ssa.specs.Tables.{is_yes, pending_of, sealed_at, predecessors_at}
+use Rattle.clif_records.specs.declared.look_up.Call.{Call}
+use Rattle.clif_records.specs.declared.look_up.Call.TheVariants.{UseVar, FinishPredecessorsLookup}
+use Rattle.clif_records.specs.declared.side_effects.SideEffects.{SideEffects}
+use Rattle.clif_records.specs.declared.tables.Pending.{Pending}
+use Rattle.clif_records.specs.declared.tables.SsaBlock.{SsaBlock}
+use Rattle.clif_records.specs.declared.tables.Sealed.{Sealed}
+use Rattle.clif_records.specs.declared.tables.Sealed.TheVariants.{Yes}
+use Rattle.clif_records.specs.Tables.{is_yes, pending_of, sealed_at, predecessors_at}
 use Rattle.clif_ssa.specs.Ssa.{SsaState, sealed_of, predecessors_of, lookups_of, completed, completing_blocks, counted_for, KnowsNoMore, NamesExist, Named, Seals, SealedStays, SamePredecessors, SameRecords, SameLookups, CountsLookup, CountsEach}
-use Rattle.clif_ssa.specs.LookUp.{LookUpState, Stage, calls_for, CompletesParameter}
+use Rattle.clif_records.specs.Stacks.{LookUpState, calls_for}
+use Rattle.clif_ssa.specs.LookUp.{Stage, CompletesParameter}
 use Rattle.clif_ssa.specs.Running.{stage, found, Balances, CallExists, CallsFit, CompletesAll, MakesAll}
 use Rattle.clif_ssa.specs.Sealing.{SealsOne, SealsLocally}
 use Rattle.clif_ssa.proofs.Ordering.{contains_more, contains_first, contains_cons, none_contained}

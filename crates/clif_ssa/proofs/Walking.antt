@@ -10,11 +10,12 @@ use Rattle.clif_instructions.proofs.Members.{if_true, if_false}
 use Rattle.clif_paths.specs.Places.{start, Arm}
 use Rattle.clif_paths.specs.Blocks.{Blocks, front, last_place, ComesFrom, IsChain, with_chain, with_record}
 use Rattle.clif_paths.specs.LookUp.{last_of, Unrecorded}
-use Rattle.clif_ssa.specs.declared.tables.Pending.{Pending}
+use Rattle.clif_records.specs.declared.tables.Pending.{Pending}
 use Rattle.clif_ssa.specs.Own.{Own}
-use Rattle.clif_ssa.specs.Tables.{is_yes, pending_of}
+use Rattle.clif_records.specs.Tables.{is_yes, pending_of}
 use Rattle.clif_ssa.specs.Ssa.{SsaState, record_of, sealed_of, predecessors_of, SameBlocks, SamePredecessors}
-use Rattle.clif_ssa.specs.LookUp.{branch_block, only_block, single_predecessor, IsWalk, before_first, Copies}
+use Rattle.clif_records.specs.Passed.{before_first}
+use Rattle.clif_ssa.specs.LookUp.{branch_block, only_block, single_predecessor, IsWalk, Copies}
 use Rattle.clif_ssa.specs.Sound.{Describes, IsEdgeInto, has_entry, entry_of, CountsArguments}
 use Rattle.clif_ssa.proofs.Describing.{Arms, arms_of, SameEdges, arms_kept, Ordered, ordered_of, same_kinds, ordered_kept, Extends, instructions_kept, waiting_kept, homes_kept, assigns_not_kept, record_changed, not_recorded, is_recorded}
 use Rattle.clif_ssa.proofs.Counts.{counts_kept}

@@ -9,7 +9,7 @@ use Rattle.clif_ir.proofs.Lists.{below_or_not}
 use Rattle.clif_ir.proofs.Orders.{Once-length}
 use Rattle.clif_ssa.specs.Ssa.{SsaState, record_of}
 use Rattle.clif_ssa.specs.LookUp.{single_predecessor, IsWalk}
-use Rattle.clif_ssa.proofs.SparseSet.{at_end, at_last}
+use Rattle.clif_records.proofs.SparseSet.{at_end, at_last}
 
 -- one step more
 pub walk-further : (f : Body) (s : SsaState) (x block : ℕ) (passed : List ℕ) (reached next : ℕ) → IsWalk f s x block passed reached

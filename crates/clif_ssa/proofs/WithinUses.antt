@@ -7,12 +7,13 @@ use Rattle.clif_types.specs.declared.types.«Type».{«Type»}
 use Rattle.clif_ir.specs.Body.{Body, value_at}
 use Rattle.clif_ir.specs.Changes.{with_param}
 use Rattle.clif_ir.specs.Reading.{param_home}
-use Rattle.clif_ssa.specs.declared.side_effects.SideEffects.{SideEffects}
-use Rattle.clif_ssa.specs.declared.tables.Pending.{Pending}
-use Rattle.clif_ssa.specs.declared.tables.Sealed.TheVariants.{Yes}
-use Rattle.clif_ssa.specs.Tables.{is_yes, pending_of}
+use Rattle.clif_records.specs.declared.side_effects.SideEffects.{SideEffects}
+use Rattle.clif_records.specs.declared.tables.Pending.{Pending}
+use Rattle.clif_records.specs.declared.tables.Sealed.TheVariants.{Yes}
+use Rattle.clif_records.specs.Tables.{is_yes, pending_of}
 use Rattle.clif_ssa.specs.Ssa.{SsaState, sealed_of, predecessors_of, zeroed, zeroed_in, completed, completing_blocks, Named, Seals, Waits, Zeroes}
-use Rattle.clif_ssa.specs.LookUp.{Stage, LookUpState, UsesVariable, CompletesParameter, LooksUp, no_look_up}
+use Rattle.clif_records.specs.Stacks.{LookUpState, no_look_up}
+use Rattle.clif_ssa.specs.LookUp.{Stage, UsesVariable, CompletesParameter, LooksUp}
 use Rattle.clif_ssa.specs.Running.{stage, CompletesAll, MakesAll}
 use Rattle.clif_ssa.specs.Sealing.{SealsLocally, SealsByLookUp, SealsWith, SealsBelow, none_sealed, next_sealed}
 use Rattle.clif_ssa.specs.Within.{HoldsBranches, HoldsWaiting, StaysWithin, WaitingHeld}

@@ -17,13 +17,13 @@ use Rattle.clif_paths.specs.Blocks.{Blocks, front, last_place, state_of, no_bloc
 use Rattle.clif_paths.proofs.BlockSteps.{first_sound, item_keeps, read_keeps, write_keeps}
 use Rattle.clif_paths.proofs.Tables.{updated-same, updated-other, record_other}
 use Rattle.clif_ssa.specs.Own.{Own, no_own}
-use Rattle.clif_ssa.specs.Tables.{is_yes, pending_of}
-use Rattle.clif_ssa.specs.declared.tables.Pending.{Pending}
+use Rattle.clif_records.specs.Tables.{is_yes, pending_of}
+use Rattle.clif_records.specs.declared.tables.Pending.{Pending}
 use Rattle.clif_ssa.specs.Ssa.{SsaState, no_state, record_of, sealed_of, predecessors_of, Records, SameRecords, SameBlocks, SamePredecessors}
 use Rattle.clif_ssa.specs.LookUp.{branch_block}
 use Rattle.clif_ssa.specs.Sound.{Describes, IsEdgeInto, InOrder, entry_of}
 use Rattle.clif_ssa.specs.SoundLaws.{DescribesSoundly, IsOpen}
-use Rattle.clif_ssa.proofs.RecordMaps.{record_at-empty}
+use Rattle.clif_records.proofs.RecordMaps.{record_at-empty}
 use Rattle.clif_ssa.proofs.Ordering.{none_contained, in_order_small}
 use Rattle.clif_ssa.proofs.Describing.{Extends, Arms, arms_of, arms_kept, SameEdges, same_edges, Ordered, ordered_of, ordered_kept, same_passed, same_kinds, instructions_kept, waiting_kept, homes_kept, assigns_not_kept, record_changed, not_recorded, is_recorded}
 use Rattle.clif_ssa.proofs.Entering.{Waiting, relaid, same_leads}

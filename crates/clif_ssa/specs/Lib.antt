@@ -1,11 +1,8 @@
-pub mod Tables
 pub mod Own
 pub mod Zeros
 pub mod Ssa
 pub mod Constructs
-pub mod Passed
 pub mod LookUp
-pub mod Cells
 pub mod Incoming
 pub mod Running
 pub mod Sealing

@@ -2,16 +2,18 @@
 -- of blocks.
 -- Source: Braun et al. 2013 (reading a variable, adding operands, removing trivial parameters); the walk, and the two
 -- stacks in place of recursion, are upstream's.
-use Rattle.std.specs.Prelude.{◌≡◌, ◌≢◌, ℕ, ◌<◌, ◌==◌, ◌&&◌, ◌⊎◌, List, [], ◌∷◌, ◌++◌, length, map, reverse, Option, Some, None, true, false, Contains, if◌then◌else◌}
+use Rattle.std.specs.Prelude.{◌≡◌, ◌≢◌, ℕ, ◌<◌, ◌==◌, ◌&&◌, ◌⊎◌, List, [], ◌∷◌, ◌++◌, length, reverse, Option, Some, None, true, false, Contains, if◌then◌else◌}
 use Rattle.clif_types.specs.declared.types.«Type».{«Type»}
 use Rattle.clif_ir.specs.Body.{Body, inst_at, value_at, resolved}
 use Rattle.clif_ir.specs.Changes.{with_param, with_branch_argument, with_alias}
-use Rattle.clif_instructions.specs.Members.{Once, stands_in}
-use Rattle.clif_ir.specs.Reading.{param_home}
-use Rattle.clif_ssa.specs.declared.look_up.Call.{Call}
-use Rattle.clif_ssa.specs.declared.look_up.Call.TheVariants.{UseVar, FinishPredecessorsLookup}
-use Rattle.clif_ssa.specs.declared.tables.Sealed.TheVariants.{No}
-use Rattle.clif_ssa.specs.Tables.{is_yes, pending_of}
+use Rattle.clif_ir.specs.Consistent.{Once}
+use Rattle.clif_ir.specs.Reading.{param_home, stands_in}
+use Rattle.clif_records.specs.declared.look_up.Call.{Call}
+use Rattle.clif_records.specs.declared.look_up.Call.TheVariants.{UseVar, FinishPredecessorsLookup}
+use Rattle.clif_records.specs.declared.tables.Sealed.TheVariants.{No}
+use Rattle.clif_records.specs.Tables.{is_yes, pending_of}
+use Rattle.clif_records.specs.Passed.{before_first}
+use Rattle.clif_records.specs.Stacks.{LookUpState, calls_for}
 use Rattle.clif_ssa.specs.Ssa.{SsaState, record_of, sealed_of, predecessors_of, zeroed, zero_value, SameBlocks, SamePredecessors, SameLookups, CountsLookup}
 
 -- THE WALK --------------------------------------------------------------------------------------------------------
@@ -44,23 +46,11 @@ pub record WalksTo (f : Body) (s : SsaState) (x block : ℕ) (passed : List ℕ)
   pub once : Once passed
   pub ends : (record_of s x reached ≢ None) ⊎ ((single_predecessor f s reached ≡ None) ⊎ (stands_in reached passed ≡ true))
 
--- the entries of a list before the first `x`
-abbrev pub before_first : ℕ → List ℕ → List ℕ
-before_first x [] = []
-before_first x (y ∷ ys) = if y == x then [] else y ∷ before_first x ys
-
 -- a value is recorded for the variable in these blocks, and all other records are as before
 abbrev pub Copies : SsaState → SsaState → ℕ → ℕ → List ℕ → Type 0
 Copies s t x value blocks = (y b : ℕ) → record_of t y b ≡ (if y == x && stands_in b blocks then Some value else record_of s y b)
 
 -- THE MACHINE -----------------------------------------------------------------------------------------------------
-
--- the calls that are still to do, the next one first; the results so far, the latest first; and the blocks of the zeros
--- that were put, in order
-pub record LookUpState : Type 0 where
-  pub calls : List Call
-  pub results : List ℕ
-  pub zeros : List ℕ
 
 -- what the construction has while variables are looked up
 pub record Stage : Type 0 where
@@ -100,10 +90,6 @@ pub record ParameterWaits (x : ℕ) (ty : «Type») (block : ℕ) (m n : Stage) 
   pub blocks : (b : ℕ) → sealed_of n.state b ≡ (if b == reached then No (pending_of (sealed_of m.state b) ++ record { variable = x; param = length m.function.values } ∷ []) else sealed_of m.state b)
   pub lookups : SameLookups m.state n.state
   pub look_up : n.look_up ≡ record m.look_up { results = length m.function.values ∷ m.look_up.results }
-
--- the calls that look the variable up in the predecessors of a block, for a parameter of it
-abbrev pub calls_for : List ℕ → ℕ → ℕ → List Call
-calls_for predecessors param block = map UseVar predecessors ++ FinishPredecessorsLookup param block ∷ []
 
 -- a look-up in the predecessors of a block begins
 pub record BeginsLookUp (x param block : ℕ) (m n : Stage) : Type 0 where
@@ -221,10 +207,6 @@ MakesCall x ty m n = MakesLook x ty m n ⊎ MakesFinish m n
 pub data MakesCalls (x : ℕ) (ty : «Type») : Stage → Stage → Type 0 where
   none_made : {m : Stage} → MakesCalls x ty m m
   made : {m n k : Stage} → MakesCalls x ty m n → MakesCall x ty n k → MakesCalls x ty m k
-
--- nothing is looked up yet
-abbrev pub no_look_up : LookUpState
-no_look_up = record { calls = []; results = []; zeros = [] }
 
 -- A use of a variable: it is looked up in the block, and calls are made until none is left; the one result is the
 -- answer.

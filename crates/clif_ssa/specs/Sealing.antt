@@ -2,10 +2,10 @@
 use Rattle.std.specs.Prelude.{◌≡◌, ◌≢◌, ℕ, ◌+◌, ◌==◌, ◌⊎◌, List, [], ◌++◌, true, Result, Ok, OnOk, OnErr, IfOk, if◌then◌else◌}
 use Rattle.clif_types.specs.declared.error.BuildError.{BuildError}
 use Rattle.clif_ir.specs.Body.{Body}
-use Rattle.clif_ssa.specs.declared.side_effects.SideEffects.{SideEffects}
-use Rattle.clif_ssa.specs.Tables.{is_yes, pending_of}
+use Rattle.clif_records.specs.declared.side_effects.SideEffects.{SideEffects}
+use Rattle.clif_records.specs.Tables.{is_yes, pending_of}
 use Rattle.clif_ssa.specs.Ssa.{SsaState, sealed_of, predecessors_of, completed, completing_blocks, CountsEach, SameBlocks, SamePredecessors, SameRecords, Seals}
-use Rattle.clif_ssa.specs.LookUp.{LookUpState, no_look_up}
+use Rattle.clif_records.specs.Stacks.{LookUpState, no_look_up}
 use Rattle.clif_ssa.specs.Running.{stage, CompletesAll}
 
 -- the block is sealed, and no other one

@@ -16,8 +16,8 @@ use Rattle.clif_paths.specs.Places.{start, Edges, same_place}
 use Rattle.clif_paths.specs.Steps.{updated, IsNewName}
 use Rattle.clif_paths.specs.Blocks.{Blocks, front, last_place, state_of, no_blocks, with_blocks_sealed, with_block_sealed, with_zero_in, with_dropped, with_item, with_born, with_read, with_write, Knows}
 use Rattle.clif_paths.specs.BlockLaws.{BlocksSound}
-use Rattle.clif_ssa.specs.declared.tables.Pending.{Pending}
-use Rattle.clif_ssa.specs.Tables.{is_yes, pending_of}
+use Rattle.clif_records.specs.declared.tables.Pending.{Pending}
+use Rattle.clif_records.specs.Tables.{is_yes, pending_of}
 use Rattle.clif_ssa.specs.Ssa.{SsaState, no_state, record_of, sealed_of, predecessors_of, completed, Records, SameRecords, SameBlocks, SamePredecessors, Seals, Waits, Zeroes}
 use Rattle.clif_ssa.specs.LookUp.{branch_block}
 use Rattle.clif_ssa.specs.Zeros.{steps_before}

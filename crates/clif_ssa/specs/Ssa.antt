@@ -10,16 +10,15 @@ use Rattle.clif_ir.specs.declared.function.ValueOrigin.TheVariants.{Result}
 use Rattle.std.specs.List.{range_with_len}
 use Rattle.clif_ssa.specs.Zeros.{ZeroStep, zero_steps, steps_before}
 use Rattle.std.specs.Option.{option_to_list}
-use Rattle.clif_ir.specs.Reading.{param_home}
-use Rattle.clif_instructions.specs.Members.{without}
-use Rattle.clif_ssa.specs.declared.tables.Pending.{Pending}
-use Rattle.clif_ssa.specs.declared.tables.Sealed.{Sealed}
-use Rattle.clif_ssa.specs.declared.tables.SsaBlock.{SsaBlock}
-use Rattle.clif_ssa.specs.declared.tables.Sealed.TheVariants.{No, Yes}
+use Rattle.clif_ir.specs.Reading.{param_home, without}
+use Rattle.clif_records.specs.declared.tables.Pending.{Pending}
+use Rattle.clif_records.specs.declared.tables.Sealed.{Sealed}
+use Rattle.clif_records.specs.declared.tables.SsaBlock.{SsaBlock}
+use Rattle.clif_records.specs.declared.tables.Sealed.TheVariants.{No, Yes}
 use Rattle.std.specs.FinMap as map
 use Rattle.std.specs.Coded.{Coded, code_by, coded×, coded_list}
-use Rattle.clif_ssa.specs.contracts.tables.SsaBlock as block
-use Rattle.clif_ssa.specs.Tables.{RecordMap, record_map_code, record_at, lookups_at, one_more, sealed_at, predecessors_at, is_yes, pending_of}
+use Rattle.clif_records.specs.contracts.tables.SsaBlock as block
+use Rattle.clif_records.specs.Tables.{RecordMap, record_map_code, record_at, lookups_at, one_more, sealed_at, predecessors_at, is_yes, pending_of}
 
 -- what is known of each variable in each block, and of each block
 pub record SsaState : Type 0 where

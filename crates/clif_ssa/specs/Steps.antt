@@ -4,14 +4,14 @@ use Rattle.clif_types.specs.declared.error.BuildError.{BuildError}
 use Rattle.clif_types.specs.declared.error.BuildError.TheVariants.{Full, Failed}
 use Rattle.clif_types.specs.declared.types.«Type».{«Type»}
 use Rattle.clif_ir.specs.Body.{Body}
-use Rattle.clif_ssa.specs.declared.side_effects.SideEffects.{SideEffects}
+use Rattle.clif_records.specs.declared.side_effects.SideEffects.{SideEffects}
 use Rattle.clif_ssa.specs.Constructs.{OnlyConstructs, TellsZeros}
 use Rattle.clif_ssa.specs.Limits.{IsFull}
 use Rattle.clif_ssa.specs.Running.{CountsOnce}
 use Rattle.clif_ssa.specs.Ssa.{SsaState, predecessors_of, sealed_of, CountsLookup, HasMore, KnowsNoMore, NamesExist, RecordsStay, SameBlocks, SameLookups, SamePredecessors, SealedStays, Waits, Zeroes}
 use Rattle.clif_ssa.specs.Sealing.{SealsByLookUp, SealsLocally, SealsOne}
 use Rattle.clif_ssa.specs.Structure.{LooksOnce}
-use Rattle.clif_ssa.specs.Tables.{is_yes}
+use Rattle.clif_records.specs.Tables.{is_yes}
 use Rattle.clif_ssa.specs.Zeros.{steps_before}
 
 -- From one function and state to the next, also where the step fails: the branches that lead to a block, what is sealed and

@@ -6,8 +6,8 @@ use Rattle.std.specs.List.{AllByRecursion}
 use Rattle.clif_ir.specs.Body.{Body, block_at, resolved}
 use Rattle.clif_instructions.specs.Members.{Once, Stands}
 use Rattle.clif_ir.specs.Reading.{param_home}
-use Rattle.clif_ssa.specs.declared.tables.Pending.{Pending}
-use Rattle.clif_ssa.specs.Tables.{is_yes, pending_of}
+use Rattle.clif_records.specs.declared.tables.Pending.{Pending}
+use Rattle.clif_records.specs.Tables.{is_yes, pending_of}
 use Rattle.clif_ssa.specs.Zeros.{ZeroAt, HasZero, insts_of_zeros, value_of_zero}
 use Rattle.clif_ssa.specs.Ssa.{SsaState, record_of, lookups_of, sealed_of}
 

@@ -9,9 +9,9 @@ ghost use Rattle.clif_ssa.specs.LookUp.{EndsLookUp, IsNoParameter, FinishesLookU
 ghost use Rattle.clif_ssa.specs.Incoming.{IncomingExists, IsIncoming};
 ghost use Rattle.clif_ssa.specs.Running.{stage};
 
-use crate::look_up::LookUp;
 use crate::zeros::{Ending, become_zero};
 use clif_ir::Function;
+use clif_records::look_up::LookUp;
 use clif_types::{Block, BuildError, Inst, Value};
 
 /// What comes to a parameter from the predecessors of its block, beside itself.

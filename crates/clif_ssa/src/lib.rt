@@ -2,7 +2,7 @@
 //!
 //! After Braun, Buchwald, Hack, Leißa, Mallon and Zwinkau, "Simple and Efficient Construction of Static
 //! Single Assignment Form" (CC 2013), with the walk along single predecessors and the two stacks in place of
-//! recursion of cranelift-frontend.
+//! recursion of cranelift-frontend. The records, the predecessors and the stacks are tables of `clif_records`.
 //!
 //! In a block that is unsealed, or to which nothing leads, the clauses say exactly what a call makes. Where branches
 //! lead to it, the relations of `specs/LookUp` do, and sealing all blocks is sealing each in turn. Beside that,
@@ -17,15 +17,9 @@
 
 mod ending;
 pub mod laws;
-mod look_up;
-mod passed;
-pub mod side_effects;
 pub mod ssa;
 mod ssa_tables;
-mod tables;
-pub mod variable;
 mod zeros;
 
-pub use side_effects::SideEffects;
+pub use clif_records::{SideEffects, Variable};
 pub use ssa::SSABuilder;
-pub use variable::Variable;

@@ -2,10 +2,10 @@
 use Rattle.std.proofs.Common.{◌≡◌, ◌≤◌, ◌∙◌, ℕ, length, arith, subst, sym}
 use Rattle.std.specs.Prelude.{Option, None, Some, Contains}
 use Rattle.clif_ir.specs.Body.{Body}
-use Rattle.clif_ssa.specs.Tables.{record_at, pending_of}
+use Rattle.clif_records.specs.Tables.{record_at, pending_of}
 use Rattle.clif_ssa.specs.Ssa.{SsaState, SamePredecessors, SameBlocks, NamesExist, no_state}
 use Rattle.clif_ssa.proofs.Ordering.{none_contained}
-use Rattle.clif_ssa.proofs.RecordMaps.{record_at-empty}
+use Rattle.clif_records.proofs.RecordMaps.{record_at-empty}
 
 -- values and instructions stay, and maybe more are made
 pub record Grows (f g : Body) : Type 0 where

@@ -1,5 +1,5 @@
-//! Tests of `clif_ssa`, of what no clause says: that calls succeed, what they make of a function's text, and that long
-//! look-ups end in time.
+//! Tests of `clif_records` and `clif_ssa`, of what no clause says: that calls succeed, what they make of a function's
+//! text, and that long look-ups end in time.
 #![tactic(auto)]
 
 #[cfg(test)]
@@ -10,6 +10,8 @@ mod long;
 mod predecessors;
 #[cfg(test)]
 mod programs;
+#[cfg(test)]
+mod records;
 #[cfg(test)]
 mod steps;
 #[cfg(test)]

@@ -38,8 +38,8 @@ pub fn i(rt: &impl Abort, number: u32) -> Inst {
     Inst::from_u32(number)
 }
 
-// The variable with this number.
-fn var(number: u8) -> Variable {
+/// The variable with this number.
+pub fn var(number: u8) -> Variable {
     Variable::from_u32(u32::from(number))
 }
 

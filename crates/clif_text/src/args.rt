@@ -8,7 +8,7 @@ use clif_words::number::{decimal, number};
 use crate::scope::{Scope, is_name};
 use clif_words::types::type_named;
 use clif_calls::{Edge, Name};
-use clif_ssa::Variable;
+use clif_records::Variable;
 use clif_types::Type;
 use std::alloc::Global;
 

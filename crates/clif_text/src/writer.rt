@@ -4,7 +4,7 @@ ghost use Rattle.clif_text.specs.Texts.{answer_text, answers_text, edge_text, pl
 ghost use Rattle.clif_text.specs.Operands.{operands_text};
 
 use clif_calls::{Call, Edge, Name, Plan};
-use clif_ssa::Variable;
+use clif_records::Variable;
 use clif_types::{PointerWidth, Signature, TargetFrontendConfig, Type, UserFuncName};
 use std::alloc::{AllocError, Global};
 use std::fmt;

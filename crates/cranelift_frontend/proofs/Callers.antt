@@ -8,12 +8,12 @@ use Rattle.clif_ir.specs.Body.{Body, block_at}
 use Rattle.clif_ir.specs.Consistent.{IsConsistent}
 use Rattle.clif_instructions.specs.Members.{Stands}
 use Rattle.clif_ir.specs.Reading.{param_home}
-use Rattle.clif_ssa.specs.declared.tables.Pending.{Pending}
+use Rattle.clif_records.specs.declared.tables.Pending.{Pending}
 use Rattle.clif_ssa.specs.Constructs.{ConstructsBlock, OnlyConstructs, Rises}
 use Rattle.clif_ssa.specs.Own.{Own}
 use Rattle.clif_ssa.specs.Ssa.{SsaState, sealed_of}
 use Rattle.clif_ssa.specs.Structured.{Structured, VariableTypes, waiting_in}
-use Rattle.clif_ssa.specs.Tables.{pending_of}
+use Rattle.clif_records.specs.Tables.{pending_of}
 use Rattle.clif_ssa.proofs.Bodies.{param_exists}
 use Rattle.clif_ssa.proofs.Housing.{housed_from}
 use Rattle.clif_simulation.proofs.Whole.{waiting_pending}

@@ -13,7 +13,7 @@ use Rattle.clif_meaning.specs.Request.{AnsweredCall, CreateBlock, SwitchToBlock,
 use Rattle.clif_meaning.specs.Ledger.{answer_at, Answered, ABlock, BlockState, Ledger, VariableState, ledger_with, new_block, next_answer}
 use Rattle.clif_meaning.proofs.CallLists as earlier
 use Rattle.clif_ssa.specs.Own.{Own}
-use Rattle.clif_ssa.specs.Tables.{RecordMap, is_yes, record_at}
+use Rattle.clif_records.specs.Tables.{RecordMap, is_yes, record_at}
 use Rattle.clif_ssa.specs.LookUp.{branch_block}
 use Rattle.clif_ssa.specs.Ssa.{predecessors_of, sealed_of, SameBlocks, SamePredecessors}
 use Rattle.clif_ssa.specs.Structured.{Structured}

@@ -14,7 +14,7 @@ use Rattle.clif_meaning.specs.Instruction.{Edge}
 use Rattle.clif_meaning.specs.Request.{AnsweredCall, number_of}
 use Rattle.clif_meaning.specs.Ledger.{Answered, BlockState, Ledger, VariableState, answer_at}
 use Rattle.clif_ssa.specs.Own.{Own}
-use Rattle.clif_ssa.specs.Tables.{is_yes}
+use Rattle.clif_records.specs.Tables.{is_yes}
 use Rattle.clif_ssa.specs.LookUp.{branch_block}
 use Rattle.clif_ssa.specs.Ssa.{predecessors_of, sealed_of}
 use Rattle.clif_simulation.proofs.Telling.{along_old_or_it}

@@ -24,7 +24,7 @@ use Rattle.clif_meaning.specs.Program as program
 use Rattle.clif_meaning.specs.Ledger.{Answered, AValue, AnInstruction, BlockState, Ledger, is_terminator, ledger_with, next_answer, with_begun, with_filled_at, with_predecessor, with_state}
 use Rattle.clif_meaning.proofs.CallLists as earlier
 use Rattle.clif_ssa.specs.Own.{Own}
-use Rattle.clif_ssa.specs.Tables.{is_yes}
+use Rattle.clif_records.specs.Tables.{is_yes}
 use Rattle.clif_ssa.specs.LookUp.{branch_block}
 use Rattle.clif_ssa.specs.Sound.{args_of}
 use Rattle.clif_ssa.specs.SoundLaws.{shape_passes, with_own}

@@ -9,7 +9,7 @@ use Rattle.clif_meaning.specs.Request.{AnsweredCall, number_of, Finalize}
 use Rattle.clif_meaning.specs.Ledger.{BlockState, empty_ledger}
 use Rattle.clif_meaning.specs.Acceptance.{Refusal, refusal_of, is_unfinished, unfinished}
 use Rattle.clif_meaning.specs.Acceptance as refusal
-use Rattle.clif_ssa.specs.Tables.{is_yes}
+use Rattle.clif_records.specs.Tables.{is_yes}
 use Rattle.clif_ssa.specs.Ssa.{sealed_of}
 use Rattle.clif_ssa.specs.Own.{no_own}
 use Rattle.clif_ssa.proofs.Ordering.{none_contained}

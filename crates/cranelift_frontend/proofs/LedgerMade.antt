@@ -13,7 +13,7 @@ use Rattle.clif_meaning.specs.Request.{AnsweredCall, number_of}
 use Rattle.clif_meaning.specs.Ledger.{ABlock, Answered, BlockState, Ledger, VariableState, with_state, with_layout, with_begun, with_begun_at, is_inserted}
 use Rattle.clif_meaning.proofs.CallLists.{kept}
 use Rattle.clif_ssa.specs.Own.{Own}
-use Rattle.clif_ssa.specs.Tables.{is_yes}
+use Rattle.clif_records.specs.Tables.{is_yes}
 use Rattle.clif_ssa.specs.LookUp.{branch_block}
 use Rattle.clif_ssa.specs.Ssa.{SamePredecessors, predecessors_of, sealed_of}
 use Rattle.cranelift_frontend.specs.declared.context.BlockStatus.{BlockStatus}

@@ -15,7 +15,7 @@ use Rattle.clif_meaning.specs.Request.{AnsweredCall, EnsureInsertedBlock, SetCol
 use Rattle.clif_meaning.specs.Ledger.{ABlock, BlockState, Ledger, ledger_with, with_cold_mark}
 use Rattle.clif_meaning.proofs.CallLists.{kept}
 use Rattle.clif_ssa.specs.Ssa.{NamesExist, SsaState, predecessors_of, sealed_of}
-use Rattle.clif_ssa.specs.Tables.{is_yes}
+use Rattle.clif_records.specs.Tables.{is_yes}
 use Rattle.clif_ssa.specs.LookUp.{branch_block}
 use Rattle.clif_ssa.specs.Structured.{Structured}
 use Rattle.clif_ssa.proofs.Completing.{inserted_same}

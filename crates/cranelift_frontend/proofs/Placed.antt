@@ -17,7 +17,7 @@ use Rattle.clif_meaning.specs.Request.{AnsweredCall}
 use Rattle.clif_meaning.specs.Ledger.{Ledger, or_invalid}
 use Rattle.clif_ssa.specs.Own.{Own}
 use Rattle.clif_ssa.specs.Ssa.{predecessors_of, sealed_of}
-use Rattle.clif_ssa.specs.Tables.{pending_of}
+use Rattle.clif_records.specs.Tables.{pending_of}
 use Rattle.clif_ssa.specs.LookUp.{branch_block}
 use Rattle.clif_ssa.specs.Structured.{Structured, VariableTypes}
 use Rattle.clif_ssa.specs.Constructs.{MayPassMore, OnlyConstructs}

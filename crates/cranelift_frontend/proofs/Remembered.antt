@@ -10,7 +10,7 @@ use Rattle.clif_instructions.specs.Instruction.{destinations, result_types}
 use Rattle.clif_instructions.specs.Edges.{targets}
 use Rattle.clif_ir.specs.Changes.{with_block, with_inst, inserted_in}
 use Rattle.clif_ir.specs.Consistent.{IsConsistent}
-use Rattle.clif_ssa.specs.Tables.{RecordMap, record_at}
+use Rattle.clif_records.specs.Tables.{RecordMap, record_at}
 use Rattle.clif_ssa.specs.Ssa.{no_srcloc, SsaState, record_of, Records, SameRecords}
 use Rattle.clif_ssa.specs.Structure.{StayAlike, HasRecordOf, Remembers}
 use Rattle.clif_ssa.proofs.Bodies.{firm_from}

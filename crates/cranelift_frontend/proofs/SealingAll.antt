@@ -12,7 +12,7 @@ use Rattle.clif_meaning.specs.Name.{Name}
 use Rattle.clif_meaning.specs.Request.{AnsweredCall, SealAllBlocks}
 use Rattle.clif_meaning.specs.Ledger.{ABlock, BlockState, Ledger, ledger_with, sealed}
 use Rattle.clif_meaning.proofs.CallLists as earlier
-use Rattle.clif_ssa.specs.Tables.{is_yes}
+use Rattle.clif_records.specs.Tables.{is_yes}
 use Rattle.clif_ssa.specs.Ssa.{predecessors_of, sealed_of}
 use Rattle.clif_simulation.proofs.Further.{carries_sealed_all}
 use Rattle.cranelift_frontend.specs.Context.{Begins, ContextState, SameStatus}

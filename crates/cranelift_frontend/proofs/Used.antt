@@ -5,7 +5,7 @@ use Rattle.clif_types.specs.declared.types.«Type».{«Type»}
 use Rattle.clif_ir.specs.Body.{Body}
 use Rattle.clif_ir.specs.Changes.{inserted_in}
 use Rattle.clif_ssa.specs.Ssa.{SsaState, Waits, Zeroes, predecessors_of, record_of, sealed_of}
-use Rattle.clif_ssa.specs.Tables.{is_yes}
+use Rattle.clif_records.specs.Tables.{is_yes}
 use Rattle.clif_ssa.specs.Zeros.{steps_before}
 use Rattle.cranelift_frontend.specs.Builder.{UsesIn}
 use Rattle.cranelift_frontend.specs.Construction.{IsUse}

@@ -20,7 +20,7 @@ use Rattle.clif_meaning.specs.Request.{AnsweredCall, script_of, number_of}
 use Rattle.clif_meaning.specs.Ledger.{Answered, ABlock, AVariable, AValue, AnInstruction, BlockState, Ledger, ledger_after, answer_at, has_block, has_value}
 use Rattle.clif_meaning.specs.Acceptance.{Refusal}
 use Rattle.clif_meaning.specs.Acceptance as refusal
-use Rattle.clif_ssa.specs.Tables.{is_yes}
+use Rattle.clif_records.specs.Tables.{is_yes}
 use Rattle.clif_ssa.specs.Own.{Own}
 use Rattle.clif_ssa.specs.LookUp.{branch_block}
 use Rattle.clif_ssa.specs.Structured.{Structured, VariableTypes}

@@ -110,8 +110,9 @@ impl FunctionBuilderContext {
     ghost use Rattle.cranelift_frontend.specs.Context.{empty_context, status_of, SetsStatus, Begins};
     ghost use Rattle.cranelift_frontend.specs.Construction.{IsUse, IsSealing, IsSealingAll, IsDeclared};
     ghost use Rattle.clif_ir.specs.Body.{Body};
-    ghost use Rattle.clif_instructions.specs.Edges.{targets};
-    ghost use Rattle.clif_ssa.specs.LookUp.{no_look_up, UsesVariable};
+    ghost use Rattle.clif_ir.specs.Reading.{targets};
+    ghost use Rattle.clif_records.specs.Stacks.{no_look_up};
+    ghost use Rattle.clif_ssa.specs.LookUp.{UsesVariable};
     ghost use Rattle.clif_ssa.specs.Running.{stage, found};
     ghost use Rattle.clif_ssa.specs.Sealing.{SealsBelow, SealsByLookUp};
     ghost use Rattle.clif_ssa.specs.Ssa.{record_of, sealed_of, predecessors_of, completed, HasMore, IsLocal, NamesExist, Records, RecordsStay, SameBlocks, SamePredecessors, SameRecords, Seals, Waits, Zeroes};
@@ -119,7 +120,7 @@ impl FunctionBuilderContext {
     ghost use Rattle.clif_ssa.specs.Limits.{IsFull};
     ghost use Rattle.clif_ssa.specs.Structure.{LooksOnce};
     ghost use Rattle.clif_ssa.specs.Constructs.{OnlyConstructs};
-    ghost use Rattle.clif_ssa.specs.Tables.{is_yes, pending_of};
+    ghost use Rattle.clif_records.specs.Tables.{is_yes, pending_of};
 
     /// A context for a first function.
     pub fn new(alloc: Global) -> Self

@@ -1,6 +1,6 @@
 use Rattle.std.proofs.Common.{rules, ◌≡◌, ◌++◌}
 use Rattle.std.specs.Option.{option_to_list}
-use Rattle.clif_ssa.proofs.Using.{on_ok}
+use Rattle.clif_records.proofs.RecordLaws.{on_ok}
 use Rattle.clif_ssa.proofs.Finished.{finishes}
 use Rattle.clif_ssa.proofs.ending.finish_look_up.Goals as goal
 

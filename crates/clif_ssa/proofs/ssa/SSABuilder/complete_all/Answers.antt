@@ -1,6 +1,6 @@
 use Rattle.std.proofs.Common.{rules, ◌<◌, ◌≤◌, ◌+◌, List, ◌∷◌, sym, length, drop, arith}
 use Rattle.std.specs.Prelude.{Contains}
-use Rattle.clif_ssa.specs.declared.tables.Pending.{Pending}
+use Rattle.clif_records.specs.declared.tables.Pending.{Pending}
 use Rattle.clif_ssa.specs.Running.{stage}
 use Rattle.clif_ssa.proofs.CountedOnce.{once_same}
 use Rattle.clif_ssa.proofs.Constructing.{tells_more_none, tells_more_then}

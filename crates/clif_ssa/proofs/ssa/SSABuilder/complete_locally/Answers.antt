@@ -1,6 +1,6 @@
 use Rattle.std.proofs.Common.{rules, ◌<◌, ◌+◌, ◌∙◌, ◌∷◌, ap, length, drop, arith, refl, inl, inr}
 use Rattle.std.proofs.lemmas.Grind.{common_steps}
-use Rattle.clif_ssa.specs.Tables.{sealed_at}
+use Rattle.clif_records.specs.Tables.{sealed_at}
 use Rattle.clif_ssa.proofs.CountedOnce.{once_same, once_completes}
 use Rattle.clif_ssa.proofs.Constructing.{constructs_none, constructs_then, tells_all, tells_more_none, tells_more_then}
 use Rattle.clif_ssa.proofs.Naming.{has_more}

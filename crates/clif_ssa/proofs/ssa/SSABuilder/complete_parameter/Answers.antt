@@ -1,7 +1,7 @@
 use Rattle.std.proofs.Common.{ap, subst}
 use Rattle.clif_ir.specs.Body.{value_at}
 use Rattle.clif_ssa.specs.Running.{stage, MakesAll}
-use Rattle.clif_ssa.specs.Tables.{sealed_at, predecessors_at}
+use Rattle.clif_records.specs.Tables.{sealed_at, predecessors_at}
 use Rattle.clif_ssa.proofs.CountedOnce.{once_completes, once_follows}
 use Rattle.clif_ssa.proofs.Naming.{has_more}
 use Rattle.clif_ssa.proofs.Local.{named-same}

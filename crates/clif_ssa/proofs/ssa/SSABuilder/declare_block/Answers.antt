@@ -1,5 +1,5 @@
 use Rattle.std.proofs.Common.{[], ap}
-use Rattle.clif_ssa.specs.Tables.{record_at}
+use Rattle.clif_records.specs.Tables.{record_at}
 use Rattle.clif_ssa.proofs.Writing.{same_state}
 use Rattle.clif_ssa.proofs.Structuring.{same_structured}
 use Rattle.clif_ssa.proofs.ssa.SSABuilder.declare_block.Goals as goal

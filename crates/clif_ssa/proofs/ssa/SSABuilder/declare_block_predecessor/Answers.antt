@@ -1,6 +1,6 @@
 use Rattle.std.proofs.Common.{ap}
-use Rattle.clif_ssa.specs.Tables.{record_at}
-use Rattle.clif_ssa.proofs.Using.{on_ok}
+use Rattle.clif_records.specs.Tables.{record_at}
+use Rattle.clif_records.proofs.RecordLaws.{on_ok}
 use Rattle.clif_ssa.proofs.Counting.{declared_soundly}
 use Rattle.clif_ssa.proofs.StructuredLaws.{declared_structured}
 use Rattle.clif_ssa.proofs.ssa.SSABuilder.declare_block_predecessor.Goals as goal

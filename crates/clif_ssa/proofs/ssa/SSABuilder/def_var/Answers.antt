@@ -1,6 +1,7 @@
 use Rattle.std.proofs.Common.{ap}
-use Rattle.clif_ssa.specs.Tables.{sealed_at, predecessors_at}
-use Rattle.clif_ssa.proofs.Using.{on_ok, def_keeps}
+use Rattle.clif_records.specs.Tables.{sealed_at, predecessors_at}
+use Rattle.clif_records.proofs.RecordLaws.{on_ok}
+use Rattle.clif_ssa.proofs.Using.{def_keeps}
 use Rattle.clif_ssa.proofs.StructuredLaws.{assigned_structured}
 use Rattle.clif_ssa.proofs.ssa.SSABuilder.def_var.Goals as goal
 

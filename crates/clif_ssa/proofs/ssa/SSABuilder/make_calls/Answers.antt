@@ -1,7 +1,8 @@
 use Rattle.std.proofs.Common.{◌≡◌, ℕ, List, ◌∙◌, ap, sym, subst}
 use Rattle.std.proofs.lemmas.Result.{err_from_is_err_and}
 use Rattle.clif_ssa.specs.Constructs.{TellsMore}
-use Rattle.clif_ssa.specs.LookUp.{LookUpState, MakesCall}
+use Rattle.clif_records.specs.Stacks.{LookUpState}
+use Rattle.clif_ssa.specs.LookUp.{MakesCall}
 use Rattle.clif_ssa.specs.LookUp.MakesCalls.{none_made, made}
 use Rattle.clif_ssa.specs.Running.{stage, CallsFit}
 use Rattle.clif_ssa.proofs.Calling.{call-less, popped_is}

@@ -1,5 +1,5 @@
 use Rattle.std.proofs.Common.{ap}
-use Rattle.clif_ssa.specs.Tables.{record_at}
+use Rattle.clif_records.specs.Tables.{record_at}
 use Rattle.clif_ssa.proofs.Counting.{removed_soundly}
 use Rattle.clif_ssa.proofs.StructuredLaws.{removed_structured}
 use Rattle.clif_ssa.proofs.ssa.SSABuilder.remove_block_predecessor.Goals as goal

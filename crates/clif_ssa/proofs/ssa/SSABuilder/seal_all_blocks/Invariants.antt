@@ -5,7 +5,7 @@ use Rattle.clif_ssa.specs.Constructs.{OnlyConstructs, TellsMore}
 use Rattle.clif_ssa.specs.Sealing.{SealsBelow}
 use Rattle.clif_ssa.specs.Sound.{Keeps}
 use Rattle.clif_ssa.specs.SoundLaws.{DescribesSoundly}
-use Rattle.clif_ssa.specs.Tables.{is_yes}
+use Rattle.clif_records.specs.Tables.{is_yes}
 use Rattle.clif_ssa.specs.Ssa.{sealed_of, SamePredecessors, RecordsStay, HasMore, Named, NamesExist}
 use Rattle.clif_ssa.specs.Structure.{LooksOnce, Remembers}
 use Rattle.clif_ssa.specs.Structured.{Structured, VariableTypes}

@@ -2,7 +2,7 @@ use Rattle.std.proofs.Common.{rules, ap, ◌≡◌, ◌≢◌, ◌∙◌, [], fa
 use Rattle.std.specs.Prelude.{Contains}
 use Rattle.std.proofs.lemmas.Grind.{common_steps}
 use Rattle.std.proofs.lemmas.Result.{err_from_is_err_and}
-use Rattle.clif_ssa.specs.Tables.{pending_of, record_at}
+use Rattle.clif_records.specs.Tables.{pending_of, record_at}
 use Rattle.clif_ssa.specs.Ssa.{SsaState, NamesExist, sealed_of, predecessors_of}
 use Rattle.clif_ssa.specs.Running.{stage, CompletesAll, ToComplete}
 use Rattle.clif_ssa.specs.Steps.{StepLeaves}

@@ -1,6 +1,6 @@
 use Rattle.std.proofs.Common.{rules, ◌≡◌, ◌≢◌, Some, None, true, [], ◌∙◌, refl, sym, subst, arith}
 use Rattle.std.proofs.lemmas.Grind.{common_steps}
-use Rattle.clif_ssa.specs.Tables.{is_yes}
+use Rattle.clif_records.specs.Tables.{is_yes}
 use Rattle.clif_ssa.specs.Ssa.{record_of, sealed_of, predecessors_of, Named, NamesExist}
 use Rattle.clif_ssa.specs.Running.{stage}
 use Rattle.clif_ssa.specs.Structured.{HasType}
@@ -12,7 +12,7 @@ use Rattle.clif_ssa.proofs.Constructing.{constructs_none, constructs_then}
 use Rattle.clif_ssa.proofs.Recorded.{used_exists, local_recorded}
 use Rattle.clif_ssa.proofs.Alongside.{use_alike, local_remembers, local_leaves}
 use Rattle.clif_ssa.proofs.Losing.{same_remembers}
-use Rattle.clif_ssa.proofs.Using.{on_ok}
+use Rattle.clif_records.proofs.RecordLaws.{on_ok}
 use Rattle.clif_ssa.proofs.Public.{something_leads, popped_nothing, known_use, local_use, machine_use, uses_machine}
 use Rattle.clif_ssa.proofs.StructuredPublic.{local_structured, machine_structured}
 use Rattle.clif_ssa.proofs.WithinUses.{leads_of, same_within, local_within, machine_within}

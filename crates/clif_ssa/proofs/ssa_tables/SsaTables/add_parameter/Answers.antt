@@ -1,7 +1,7 @@
 use Rattle.std.proofs.Common.{◌∙◌, ap, sym}
 use Rattle.std.proofs.lemmas.Result.{err_from_is_err_and}
-use Rattle.clif_ssa.specs.LookUp.{LookUpState}
-use Rattle.clif_ssa.specs.Tables.{is_yes, sealed_at}
+use Rattle.clif_records.specs.Stacks.{LookUpState}
+use Rattle.clif_records.specs.Tables.{is_yes, sealed_at}
 use Rattle.clif_ssa.proofs.LocalSteps.{param_tells}
 use Rattle.clif_ssa.proofs.Steps.{ends_as, ends_memory, ends_ok, got_begun, got_waiting, keeps_begun, keeps_not_waiting, keeps_waits}
 use Rattle.clif_ssa.proofs.ssa_tables.SsaTables.add_parameter.Goals as goal

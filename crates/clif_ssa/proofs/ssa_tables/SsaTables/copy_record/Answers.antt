@@ -1,4 +1,4 @@
-use Rattle.clif_ssa.proofs.Copying.{set-recorded, set-others, set-none_lost}
+use Rattle.clif_records.proofs.Copying.{set-recorded, set-others, set-none_lost}
 use Rattle.clif_ssa.proofs.ssa_tables.SsaTables.copy_record.Goals as goal
 
 pub returns-clause-recorded : goal.returns-clause-recorded

@@ -1,7 +1,7 @@
 use Rattle.std.proofs.Common.{ap, length, refl, subst}
 use Rattle.std.proofs.lemmas.Result.{err_from_is_err_and}
 use Rattle.clif_ssa.specs.Ssa.{Records}
-use Rattle.clif_ssa.specs.Tables.{sealed_at, predecessors_at}
+use Rattle.clif_records.specs.Tables.{sealed_at, predecessors_at}
 use Rattle.clif_ssa.proofs.CountedOnce.{once_recorded}
 use Rattle.clif_ssa.proofs.Steps.{ends_memory, ends_ok, ends_unmade, keeps_same, keeps_recorded, keeps_unrecorded, known_same}
 use Rattle.clif_ssa.proofs.ssa_tables.SsaTables.new_parameter.Goals as goal

@@ -1,6 +1,6 @@
 use Rattle.std.proofs.Common.{rules, ◌≡◌, ◌<◌, ℕ, Bool, true, false, List, [], sym, subst, length, arith}
 use Rattle.std.specs.Prelude.{Contains, if◌then◌else◌}
-use Rattle.clif_ssa.specs.Tables.{is_yes}
+use Rattle.clif_records.specs.Tables.{is_yes}
 use Rattle.clif_ssa.specs.Ssa.{sealed_of, predecessors_of}
 use Rattle.clif_ssa.proofs.Ordering.{none_contained}
 use Rattle.clif_ssa.proofs.ssa_tables.SsaTables.single_predecessor.Goals as goal

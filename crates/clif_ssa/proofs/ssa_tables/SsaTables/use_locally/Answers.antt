@@ -1,6 +1,6 @@
 use Rattle.std.proofs.Common.{◌∙◌, ap, sym, inl, inr, length}
 use Rattle.std.proofs.lemmas.Result.{err_from_is_err_and}
-use Rattle.clif_ssa.specs.Tables.{is_yes, sealed_at, record_at, lookups_at}
+use Rattle.clif_records.specs.Tables.{is_yes, sealed_at, record_at, lookups_at}
 use Rattle.clif_ssa.proofs.LocalSteps.{counted_from, use_refused, use_waits, use_zeroes, waiting_from}
 use Rattle.clif_ssa.proofs.Steps.{ends_as, ends_grown, ends_memory, ends_ok, keeps_begun, keeps_grown, keeps_not_waiting, keeps_then, keeps_waits}
 use Rattle.clif_ssa.proofs.ssa_tables.SsaTables.use_locally.Goals as goal

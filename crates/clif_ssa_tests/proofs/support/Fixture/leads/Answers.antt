@@ -2,11 +2,10 @@
 use Rattle.std.proofs.Common.{◌≡◌, ◌<◌, ◌==◌, ◌⊎◌, inl, inr, ℕ, zero, suc, Bool, true, false, List, [], ◌∷◌, ◌++◌, length, arith, subst}
 use Rattle.std.specs.Prelude.{Some, Contains}
 use Rattle.clif_ir.specs.Body.{Body}
-use Rattle.clif_ssa.specs.Tables.{record_at, pending_of}
-use Rattle.clif_ssa.specs.Ssa.{SsaState, SamePredecessors, NamesExist}
+use Rattle.clif_records.specs.Tables.{record_at, pending_of}
+use Rattle.clif_ssa.specs.Ssa.{SsaState, SamePredecessors, NamesExist, predecessors_of, Declares}
 use Rattle.std.specs.Prelude.{Result, Ok, Err, OnOk, OnErr, if◌then◌else◌}
 use Rattle.clif_types.specs.declared.error.BuildError.{BuildError}
-use Rattle.clif_ssa.specs.Ssa.{predecessors_of, Declares}
 use Rattle.clif_ssa_tests.proofs.support.Fixture.leads.Goals as goal
 
 contains_last : (xs : List ℕ) (y x : ℕ) → Contains (xs ++ y ∷ []) x → Contains xs x ⊎ (y ≡ x)

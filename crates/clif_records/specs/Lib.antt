@@ -1,0 +1,4 @@
+pub mod Tables
+pub mod Passed
+pub mod Cells
+pub mod Stacks

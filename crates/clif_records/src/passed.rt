@@ -1,0 +1,95 @@
+//! The blocks that a walk passes.
+ghost use Rattle.std.specs.Prelude.{◌≡◌, ◌↔◌, ◌++◌, ◌∷◌, [], false, IsTrue, Some, OnOk, OnErr, slice_get};
+ghost use Rattle.clif_instructions.specs.Members.{Stands};
+
+use clif_types::{Block, BuildError, EntityRef};
+use std::alloc::Global;
+use std::marker::Model;
+
+/// The blocks that a walk passes, in order, each once.
+///
+/// It is a sparse set (Briggs and Torczon, "An Efficient Representation for Sparse Sets", 1993): it is
+/// asked, grows and is emptied in a step each, and no entry is ever cleared.
+#[derive(Debug, Drop)]
+pub struct PassedBlocks {
+    blocks: Vec<Block>,
+    // For each block of the set, where it stands in `blocks`. What it says of other blocks means nothing.
+    places: Vec<usize>,
+}
+
+impl Model for PassedBlocks {
+    ghost use Rattle.std.specs.Prelude.{ℕ, List};
+    ghost use Rattle.clif_records.specs.Passed.{KnowsPlaces};
+
+    ghost Value = { List ℕ };
+
+    ghost view = { λ p. p.blocks.items };
+
+    ghost invariant = { λ p. KnowsPlaces p.places.items p.blocks.items };
+}
+
+impl PassedBlocks {
+    /// No block was passed.
+    pub fn new(alloc: Global) -> Self
+        ensures { result ≡ [] }
+    {
+        PassedBlocks {
+            blocks: Vec::new(alloc),
+            places: Vec::new(alloc),
+        }
+    }
+
+    /// The blocks, in order.
+    pub fn as_slice(&self) -> &[Block]
+        ensures { result.now ≡ self.now }
+    {
+        self.blocks.as_slice()
+    }
+
+    /// Forgets all blocks, in a step.
+    pub fn clear(&mut self)
+        ensures { self.new ≡ [] }
+    {
+        self.blocks.clear();
+    }
+
+    #[tactic(auto, using(crate::proofs::SparseSet::passed_rules))]
+    /// Whether a block was passed.
+    pub fn contains(&self, block: Block) -> bool
+        ensures { IsTrue result ↔ Stands block self.now }
+    {
+        match self.places.get(block.index()) {
+            Some(place) => self.stands_at(block, *place),
+            None => false,
+        }
+    }
+
+    // Whether this block stands at this place.
+    fn stands_at(&self, block: Block, place: usize) -> bool
+        ensures { IsTrue result ↔ (slice_get self.now place ≡ Some block) }
+    {
+        match self.blocks.get(place) {
+            Some(other) => *other == block,
+            None => false,
+        }
+    }
+
+    #[tactic(auto, using(crate::proofs::SparseSet::passed_rules))]
+    /// Puts a block that wasn't passed behind the others. The only error is `Memory`, and the blocks are
+    /// then as they were.
+    pub fn push(&mut self, block: Block) -> Result<(), BuildError>
+        requires { Stands block self.old → ⊥ }
+        ensures ok { OnOk result (self.new ≡ self.old ++ block ∷ []) }
+        ensures err { OnErr result (self.new ≡ self.old) }
+        ensures only_memory { OnErr result (result ≡ Err BuildError.Memory) }
+    {
+        let missing = (block.index() + 1).saturating_sub(self.places.len());
+        for _ in 0..missing {
+            self.places.push(0)?;
+        }
+        let place = self.blocks.len();
+        self.blocks.push(block)?;
+        self.places[block.index()] = place;
+        Ok(())
+    }
+}
