@@ -8,7 +8,7 @@ use Rattle.std.proofs.lemmas.Grind.{common_steps}
 use Rattle.clif_ir.specs.Body.{follow, follow_link, alias_of, alias_of_origin, no_value}
 use Rattle.clif_ir.specs.Consistent.{alias_count}
 use Rattle.std.proofs.lemmas.Bool.{cases_eq}
-use Rattle.clif_ir.proofs.Lists.{below_or_not}
+use Rattle.clif_instructions.proofs.Lists.{below_or_not}
 
 -- without a step one stays
 pub follow_nothing : (values : List ValueNode) (steps v : ℕ) → steps ≡ 0 → follow steps values v ≡ v

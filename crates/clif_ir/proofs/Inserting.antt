@@ -11,7 +11,7 @@ use Rattle.clif_instructions.specs.declared.inst_list.InsertAt.{InsertAt}
 use Rattle.clif_instructions.specs.declared.inst_list.InsertAt.TheVariants.{Behind, Back}
 use Rattle.clif_instructions.specs.Members.{IsPlaceOf, put_at, Stands, Once}
 use Rattle.clif_ir.specs.Whole.{lowered, moved_count, next_slot, placed_at}
-use Rattle.clif_ir.proofs.Lists.{at_push, below_or_not}
+use Rattle.clif_instructions.proofs.Lists.{at_push, below_or_not}
 use Rattle.clif_ir.proofs.Keeps.{Stands-append, Stands-push, Once-push}
 
 -- THE LIST --------------------------------------------------------------------------------------------------------

@@ -13,7 +13,7 @@ use Rattle.clif_ir.specs.Body.{Body, value_at, inst_at, block_at, alias_of_origi
 use Rattle.clif_ir.specs.Consistent.{IsConsistent, IsOrigin, PassedExists, EdgeExists}
 use Rattle.clif_instructions.specs.Members.{Stands, Once}
 use Rattle.clif_ir.proofs.Aliases.{LeadsInside}
-use Rattle.clif_ir.proofs.Lists.{below_or_not}
+use Rattle.clif_instructions.proofs.Lists.{below_or_not}
 
 not_some : {x : ℕ} → ◌≡◌ {A = Option ℕ} None (Some x) → ⊥
 not_some same = cc

@@ -11,7 +11,7 @@ use Rattle.clif_ir.specs.Changes.{with_alias, home_of}
 use Rattle.clif_instructions.specs.Members.{without, Stands, Once}
 use Rattle.clif_ir.specs.Consistent.{IsConsistent, IsOrigin}
 use Rattle.clif_ir.specs.Whole.{IsPlaced, no_place}
-use Rattle.clif_ir.proofs.Lists.{at_set}
+use Rattle.clif_instructions.proofs.Lists.{at_set}
 use Rattle.clif_ir.proofs.Keeps.{larger_edges, larger_origin, leads_inside}
 use Rattle.clif_instructions.proofs.Members.{Stands-without, without-stood, Once-without}
 use Rattle.clif_ir.proofs.Aliases.{ways_end-set, follow-inside, resolved-no_alias}

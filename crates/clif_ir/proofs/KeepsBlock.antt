@@ -7,7 +7,7 @@ use Rattle.clif_ir.specs.Body.{Body, value_at, inst_at, block_at, empty_block}
 use Rattle.clif_ir.specs.Changes.{with_block}
 use Rattle.clif_ir.specs.Consistent.{IsConsistent}
 use Rattle.clif_instructions.specs.Members.{Stands, Once}
-use Rattle.clif_ir.proofs.Lists.{at_push}
+use Rattle.clif_instructions.proofs.Lists.{at_push}
 use Rattle.clif_ir.proofs.Keeps.{larger_edges, larger_origin}
 use Rattle.clif_ir.specs.declared.function.BlockNode.{BlockNode}
 use Rattle.clif_ir.specs.declared.function.ValueOrigin.TheVariants.{Param}

@@ -17,7 +17,7 @@ use Rattle.clif_ir.specs.Changes.{with_branch_argument}
 use Rattle.clif_ir.specs.Consistent.{IsConsistent, PassedExists, EdgeExists}
 use Rattle.clif_instructions.specs.Members.{Stands}
 use Rattle.clif_ir.specs.Whole.{IsPlaced}
-use Rattle.clif_ir.proofs.Lists.{at_set}
+use Rattle.clif_instructions.proofs.Lists.{at_set}
 use Rattle.clif_ir.proofs.Keeps.{larger_origin}
 
 pub operands-with_argument : (b v : ℕ) (shape : InstructionData) → operands (with_argument b v shape) ≡ operands shape

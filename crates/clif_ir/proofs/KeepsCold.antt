@@ -10,7 +10,7 @@ use Rattle.clif_ir.specs.Changes.{with_cold}
 use Rattle.clif_ir.specs.Consistent.{IsConsistent}
 use Rattle.clif_instructions.specs.Members.{Stands, Once}
 use Rattle.clif_ir.specs.Whole.{IsPlaced, no_place}
-use Rattle.clif_ir.proofs.Lists.{at_set}
+use Rattle.clif_instructions.proofs.Lists.{at_set}
 use Rattle.clif_ir.proofs.Keeps.{larger_edges, larger_origin}
 
 -- a cold block has the parameters and the instructions that it had

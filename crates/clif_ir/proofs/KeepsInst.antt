@@ -19,7 +19,7 @@ use Rattle.clif_ir.specs.Body.{Body, value_at, inst_at, block_at, empty_block, n
 use Rattle.clif_instructions.specs.Members.{IsPlaceOf, put_at, Stands, Once}
 use Rattle.clif_ir.specs.Changes.{with_inst, inst_node, result_nodes}
 use Rattle.clif_ir.specs.Consistent.{IsConsistent, IsOrigin, EdgeExists, alias_count}
-use Rattle.clif_ir.proofs.Lists.{at_push, at_set, at_append}
+use Rattle.clif_instructions.proofs.Lists.{at_push, at_set, at_append}
 use Rattle.clif_ir.proofs.Keeps.{larger_edges, leads_inside, larger_origin}
 use Rattle.clif_ir.proofs.Inserting.{put_at-each, put_at-Stands, put_at-stands, put_at-Once}
 use Rattle.clif_ir.proofs.Aliases.{ways_end-append, follow_end}

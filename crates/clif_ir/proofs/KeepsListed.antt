@@ -15,7 +15,7 @@ use Rattle.clif_ir.specs.Whole.{IsListed}
 use Rattle.clif_ir.specs.Changes.{result_nodes}
 use Rattle.clif_types.specs.declared.types.«Type».{«Type»}
 use Rattle.clif_ir.proofs.KeepsInst.{alias_of-result_nodes}
-use Rattle.clif_ir.proofs.Lists.{at_append, at_past, at_set}
+use Rattle.clif_instructions.proofs.Lists.{at_append, at_past, at_set}
 
 -- an entry of a list stands in it with one more at its head, and so does that one
 here : {X : Type 0} (x : X) (xs : List X) → Contains (x ∷ xs) x

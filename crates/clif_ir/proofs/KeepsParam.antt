@@ -11,7 +11,7 @@ use Rattle.clif_ir.specs.Body.{Body, value_at, inst_at, block_at, empty_block, n
 use Rattle.clif_ir.specs.Changes.{with_param}
 use Rattle.clif_ir.specs.Consistent.{IsConsistent, IsOrigin}
 use Rattle.clif_instructions.specs.Members.{Stands, Once}
-use Rattle.clif_ir.proofs.Lists.{at_push, at_set}
+use Rattle.clif_instructions.proofs.Lists.{at_push, at_set}
 use Rattle.clif_ir.proofs.Keeps.{larger_edges, leads_inside, larger_origin, Stands-append, Stands-push, Once-push}
 use Rattle.clif_ir.proofs.Aliases.{ways_end-append}
 

@@ -13,7 +13,7 @@ use Rattle.clif_instructions.specs.Members.{IsPlaceOf, put_at, Once}
 use Rattle.clif_ir.specs.Changes.{with_block, with_param, with_inst}
 use Rattle.clif_ir.specs.Consistent.{IsConsistent}
 use Rattle.clif_ir.specs.Whole.{IsPlaced, IsLinked, chain, no_place, placed_at}
-use Rattle.clif_ir.proofs.Lists.{at_push, at_set}
+use Rattle.clif_instructions.proofs.Lists.{at_push, at_set}
 use Rattle.clif_ir.proofs.Inserting.{length-slots_with, slots_put, slots_with, slots_with-other}
 use Rattle.clif_ir.proofs.Keeps.{larger_edges, larger_origin}
 use Rattle.clif_ir.proofs.Links.{linked_same, linked-chain}

@@ -1,6 +1,5 @@
 pub mod Aliases
 pub mod Changes
-pub mod Lists
 pub mod Keeps
 pub mod KeepsBlock
 pub mod KeepsParam

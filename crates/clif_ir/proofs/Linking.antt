@@ -10,7 +10,7 @@ use Rattle.clif_ir.specs.Changes.{put_behind}
 use Rattle.clif_ir.specs.Consistent.{IsConsistent}
 use Rattle.clif_instructions.specs.Members.{Stands, Once}
 use Rattle.clif_ir.specs.Whole.{IsPlaced, IsLinked, chain, no_place, linked_after, last_after}
-use Rattle.clif_ir.proofs.Lists.{at_set}
+use Rattle.clif_instructions.proofs.Lists.{at_set}
 use Rattle.clif_ir.proofs.KeepsPlaces.{with_order_consistent, with_order_placed}
 use Rattle.clif_ir.proofs.Links.{linked-chain, linked_behind, linked_only}
 use Rattle.clif_ir.proofs.Orders.{put_behind-once, put_behind-below}

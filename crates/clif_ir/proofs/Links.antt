@@ -6,7 +6,7 @@ use Rattle.clif_ir.specs.declared.function.BlockPlace.{BlockPlace}
 use Rattle.clif_ir.specs.Changes.{put_behind}
 use Rattle.clif_instructions.specs.Members.{Stands, Once, next_in, stands_in}
 use Rattle.clif_ir.specs.Whole.{IsLinked, chain, last_after, linked_after, no_place}
-use Rattle.clif_ir.proofs.Lists.{at_set}
+use Rattle.clif_instructions.proofs.Lists.{at_set}
 use Rattle.clif_ir.proofs.Orders.{Once-length, put_behind-new, put_behind-test, put_behind-first, put_behind-next_after, put_behind-next_new, put_behind-next_old, put_behind-last, put_behind-stands}
 use Rattle.clif_instructions.proofs.Members.{next_in-at, test-from_Stands}
 

@@ -4,7 +4,7 @@ use Rattle.std.specs.Prelude.{Option, Some, None, slice_index, slice_index_or, i
 use Rattle.std.proofs.lemmas.List.Folds.{list_any-append}
 use Rattle.std.proofs.lemmas.Grind.{common_steps}
 use Rattle.std.proofs.lemmas.Bool.{cases_eq}
-use Rattle.clif_ir.specs.Reading.{stands_in}
+use Rattle.clif_instructions.specs.Members.{stands_in}
 use Rattle.clif_records.specs.declared.tables.Cell.{Cell}
 use Rattle.clif_records.specs.Cells.{no_cell, recording, ChangesCells, ChangesSome, SameCells, MayBeSet}
 use Rattle.clif_records.specs.Passed.{before_first}

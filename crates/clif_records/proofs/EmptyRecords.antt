@@ -5,7 +5,7 @@ use Rattle.std.specs.FinMap as map
 use Rattle.std.specs.FinMap.{get-empty, same_map}
 use Rattle.std.proofs.lemmas.Bool.{cases_eq}
 use Rattle.std.proofs.lemmas.List.{get_or_past}
-use Rattle.clif_ir.proofs.Lists.{below_or_not}
+use Rattle.clif_instructions.proofs.Lists.{below_or_not}
 use Rattle.clif_records.specs.declared.tables.Cell.{Cell}
 use Rattle.clif_records.specs.Tables.{RecordMap, variable_then_block}
 use Rattle.clif_records.specs.Cells.{no_cell, is_no_cell, recorded_in, cell_at, records_in}

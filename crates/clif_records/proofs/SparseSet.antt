@@ -5,7 +5,7 @@ use Rattle.std.proofs.Math.ListN.{get_or-append}
 use Rattle.std.proofs.lemmas.Grind.{common_steps}
 use Rattle.std.proofs.lemmas.Option.{slice_get-get_or, slice_get_past}
 use Rattle.clif_instructions.specs.Members.{Stands}
-use Rattle.clif_ir.proofs.Lists.{below_or_not}
+use Rattle.clif_instructions.proofs.Lists.{below_or_not}
 use Rattle.clif_records.specs.Passed.{KnowsPlaces}
 
 none_some : {x : ℕ} → ◌≡◌ {A = Option ℕ} None (Some x) → ⊥

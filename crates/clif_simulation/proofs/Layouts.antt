@@ -5,7 +5,8 @@ use Rattle.std.proofs.lemmas.List.Folds.{list_any-append}
 use Rattle.std.proofs.lemmas.Bool.Decides.{nat_tests}
 use Rattle.clif_ir.specs.Body.{Body}
 use Rattle.clif_ir.specs.Changes.{inserted_in, with_layout}
-use Rattle.clif_ir.specs.Reading.{stands_in, param_home}
+use Rattle.clif_instructions.specs.Members.{stands_in}
+use Rattle.clif_ir.specs.Reading.{param_home}
 use Rattle.clif_records.specs.declared.tables.Pending.{Pending}
 use Rattle.clif_ssa.specs.Ssa.{completed, zeroed_in}
 

@@ -2,7 +2,7 @@
 use Rattle.std.proofs.Common.{◌≡◌, ◌≢◌, ℕ, zero, suc, ◌<◌, List, [], ◌∷◌, inl, inr, Some, None, refl, sym, ◌∙◌, ap, subst, arith, Contains, slice_get}
 use Rattle.std.specs.List.{AllByRecursion}
 use Rattle.clif_ir.specs.Body.{resolved, value_at}
-use Rattle.clif_ir.specs.Consistent.{Once}
+use Rattle.clif_instructions.specs.Members.{Once}
 use Rattle.clif_records.specs.declared.tables.Pending.{Pending}
 use Rattle.clif_records.specs.Tables.{pending_of}
 use Rattle.clif_ssa.specs.Ssa.{record_of, sealed_of, predecessors_of}

@@ -10,7 +10,7 @@ use Rattle.clif_ir.specs.Changes.{with_param}
 use Rattle.clif_ir.specs.Reading.{param_home}
 use Rattle.clif_instructions.specs.Members.{place_of, Stands, Once}
 use Rattle.clif_ir.proofs.Keeps.{Stands-append, Stands-push, Once-push}
-use Rattle.clif_ir.proofs.Lists.{below_or_not, at_push}
+use Rattle.clif_instructions.proofs.Lists.{below_or_not, at_push}
 use Rattle.clif_paths.specs.State.{pending, complete, Definition, Kind}
 use Rattle.clif_paths.specs.Blocks.{Blocks, front, with_parameter, CanAddParameter}
 use Rattle.clif_paths.proofs.Tables.{updated-same, updated-other}

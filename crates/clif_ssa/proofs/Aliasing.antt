@@ -5,7 +5,7 @@ use Rattle.clif_ir.specs.Body.{Body, block_at, resolved}
 use Rattle.clif_ir.specs.Changes.{with_alias}
 use Rattle.clif_instructions.specs.Members.{Stands, Once, place_of, without}
 use Rattle.clif_ir.specs.Reading.{param_home}
-use Rattle.clif_ir.proofs.Lists.{below_or_not}
+use Rattle.clif_instructions.proofs.Lists.{below_or_not}
 use Rattle.clif_instructions.proofs.Members.{Stands-without, without-stood, Once-without}
 use Rattle.clif_paths.specs.State.{Kind, unborn, born, pending, complete, zero_of, Definition}
 use Rattle.clif_paths.specs.Blocks.{Blocks, with_dropped}

@@ -15,7 +15,7 @@ use Rattle.clif_ir.specs.Changes.{result_nodes}
 use Rattle.clif_ir.specs.Reading.{home_of_node, home_of_param, param_home}
 use Rattle.clif_instructions.specs.Members.{place_of}
 use Rattle.clif_ir.specs.Consistent.{IsConsistent, IsOrigin, alias_count}
-use Rattle.clif_ir.proofs.Lists.{below_or_not, at_past}
+use Rattle.clif_instructions.proofs.Lists.{below_or_not, at_past}
 use Rattle.clif_ir.proofs.Keeps.{leads_inside}
 use Rattle.clif_ir.proofs.Aliases.{LeadsInside, EachWayEnds, MovesOn, follow_end, follow-append, follow-ended, follow-set, alias_of-set_same, alias_of-set_other, resolved-no_alias, ways_end-set}
 use Rattle.clif_paths.specs.Steps.{aliased}

@@ -12,7 +12,7 @@ use Rattle.clif_ir.specs.declared.function.ValueNode.{ValueNode}
 use Rattle.clif_ir.specs.declared.function.ValueOrigin.{ValueOrigin}
 use Rattle.clif_ir.specs.declared.function.ValueOrigin.TheVariants.{Param, Alias}
 use Rattle.clif_instructions.specs.declared.instructions.InstructionData.{InstructionData}
-use Rattle.clif_ir.proofs.Lists.{below_or_not}
+use Rattle.clif_instructions.proofs.Lists.{below_or_not}
 use Rattle.clif_ssa.specs.Constructs.{Rises, StaysOrNames, with_passed, in_turn, AreToldFrom, FitsZero, MayPassMore, IsNewStep, StandsWhole, ConstructsBlock, OnlyConstructs, TellsZeros, TellsMore}
 use Rattle.clif_ssa.proofs.ZeroTable.{plain_step, step_there}
 use Rattle.clif_ssa.specs.Zeros.{zero_steps, ZeroAt, ZeroStep, IsStep}

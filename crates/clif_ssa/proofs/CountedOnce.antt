@@ -5,8 +5,8 @@ use Rattle.std.proofs.lemmas.Grind.{common_steps}
 use Rattle.std.proofs.lemmas.Bool.{cases_eq}
 use Rattle.std.proofs.lemmas.List.{map-append}
 use Rattle.std.proofs.lemmas.List.Elements.{Contains-push_cases}
-use Rattle.clif_ir.specs.Consistent.{Once}
-use Rattle.clif_ir.proofs.Reading.{if_true, if_false, Once-tail}
+use Rattle.clif_instructions.specs.Members.{Once}
+use Rattle.clif_instructions.proofs.Members.{if_true, if_false, Once-tail}
 use Rattle.clif_records.specs.declared.tables.Pending.{Pending}
 use Rattle.clif_records.specs.declared.tables.Sealed.{Sealed}
 use Rattle.clif_records.specs.declared.tables.Sealed.TheVariants.{No, Yes}

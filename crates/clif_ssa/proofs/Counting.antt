@@ -15,7 +15,7 @@ use Rattle.clif_ir.specs.declared.function.InstNode.{InstNode}
 use Rattle.clif_instructions.specs.declared.inst_list.InsertAt.{InsertAt}
 use Rattle.clif_instructions.specs.declared.instructions.InstructionData.{InstructionData}
 use Rattle.clif_instructions.proofs.Members.{if_true, if_false}
-use Rattle.clif_ir.proofs.Lists.{at_push, at_past}
+use Rattle.clif_instructions.proofs.Lists.{at_push, at_past}
 use Rattle.clif_paths.specs.Places.{Place}
 use Rattle.clif_paths.specs.State.{Definition, Kind, unborn, born, pending, complete, zero_of}
 use Rattle.clif_paths.specs.Blocks.{Blocks, front, with_zero_in}

@@ -9,7 +9,7 @@ use Rattle.clif_ir.specs.Body.{Body, block_at, resolved}
 use Rattle.clif_ir.specs.Reading.{param_home}
 use Rattle.clif_instructions.specs.Members.{place_of}
 use Rattle.clif_ir.proofs.Aliases.{follow-inside, follow_end}
-use Rattle.clif_ir.proofs.Lists.{below_or_not}
+use Rattle.clif_instructions.proofs.Lists.{below_or_not}
 use Rattle.clif_paths.specs.Places.{start, Arm}
 use Rattle.clif_paths.specs.State.{Definition}
 use Rattle.clif_paths.specs.Blocks.{Blocks, front, last_place, Knows}

@@ -15,7 +15,7 @@ use Rattle.clif_ir.specs.declared.function.ValueNode.{ValueNode}
 use Rattle.clif_ir.specs.declared.function.ValueOrigin.TheVariants.{Result}
 use Rattle.clif_instructions.specs.declared.inst_list.InsertAt.{InsertAt}
 use Rattle.clif_instructions.specs.declared.instructions.InstructionData.{InstructionData}
-use Rattle.clif_ir.proofs.Lists.{at_set}
+use Rattle.clif_instructions.proofs.Lists.{at_set}
 use Rattle.clif_ir.proofs.Aliases.{ways_end-append}
 use Rattle.clif_paths.specs.Blocks.{Blocks}
 use Rattle.clif_ssa.proofs.Bodies.{Firm, no_alias_behind, resolved-append, leads_inside-append, results_no_alias, results_no_home, home-append_none}

@@ -6,7 +6,7 @@ use Rattle.clif_types.specs.declared.error.BuildError.TheVariants.{Memory}
 use Rattle.clif_types.specs.declared.types.«Type».{«Type»}
 use Rattle.clif_ir.specs.Body.{Body}
 use Rattle.clif_ir.specs.Consistent.{IsConsistent}
-use Rattle.clif_ir.specs.Reading.{stands_in}
+use Rattle.clif_instructions.specs.Members.{stands_in}
 use Rattle.clif_records.specs.Passed.{before_first}
 use Rattle.clif_ssa.specs.LookUp.{Stage, Copies, IsWalk, LooksUp, WalksTo}
 use Rattle.clif_ssa.specs.Running.{stage, Got}

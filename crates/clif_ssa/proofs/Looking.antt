@@ -11,7 +11,7 @@ use Rattle.clif_ir.specs.Changes.{with_param}
 use Rattle.clif_ir.specs.Reading.{param_home}
 use Rattle.clif_instructions.specs.Members.{stands_in}
 use Rattle.clif_ir.proofs.Aliases.{follow_end}
-use Rattle.clif_ir.proofs.Lists.{below_or_not}
+use Rattle.clif_instructions.proofs.Lists.{below_or_not}
 use Rattle.clif_paths.specs.State.{Function, pending, Definition}
 use Rattle.clif_paths.specs.Blocks.{Blocks, front, with_record, with_chain, with_parameter}
 use Rattle.clif_paths.specs.BlockLaws.{BlocksSound}

@@ -11,7 +11,7 @@ use Rattle.clif_ir.specs.Consistent.{IsConsistent, IsOrigin}
 use Rattle.clif_instructions.specs.Members.{Stands, without, stands_in}
 use Rattle.clif_ir.specs.Reading.{param_home, home_of_param}
 use Rattle.clif_ir.specs.declared.function.BlockNode.{BlockNode}
-use Rattle.clif_ir.proofs.Lists.{at_set}
+use Rattle.clif_instructions.proofs.Lists.{at_set}
 use Rattle.clif_records.specs.declared.tables.Pending.{Pending}
 use Rattle.clif_records.specs.Tables.{is_yes}
 use Rattle.clif_records.specs.declared.side_effects.SideEffects.{SideEffects}

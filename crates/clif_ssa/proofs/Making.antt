@@ -6,9 +6,8 @@ use Rattle.std.proofs.lemmas.Bool.{cases_eq}
 use Rattle.clif_types.specs.declared.types.«Type».{«Type»}
 use Rattle.clif_ir.specs.Body.{Body}
 use Rattle.clif_ir.specs.Changes.{with_param}
-use Rattle.clif_ir.specs.Consistent.{Stands}
-use Rattle.clif_ir.specs.Reading.{stands_in}
-use Rattle.clif_ir.proofs.Reading.{Stands-from_test}
+use Rattle.clif_instructions.specs.Members.{Stands, stands_in}
+use Rattle.clif_instructions.proofs.Members.{Stands-from_test}
 use Rattle.clif_records.specs.Tables.{is_yes, pending_of}
 use Rattle.clif_ssa.specs.Ssa.{SsaState, record_of, lookups_of, sealed_of, predecessors_of, NamesExist, RecordsStay, SameLookups}
 use Rattle.clif_records.specs.Passed.{before_first}

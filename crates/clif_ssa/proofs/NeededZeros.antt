@@ -19,7 +19,7 @@ use Rattle.clif_ir.specs.declared.function.ValueNode.{ValueNode}
 use Rattle.clif_ir.specs.declared.function.ValueOrigin.TheVariants.{Alias}
 use Rattle.clif_instructions.specs.declared.inst_list.InsertAt.TheVariants.{Back}
 use Rattle.clif_ir.proofs.Aliases.{follow_end, follow-inside}
-use Rattle.clif_ir.proofs.Lists.{at_set, below_or_not}
+use Rattle.clif_instructions.proofs.Lists.{at_set, below_or_not}
 use Rattle.clif_paths.proofs.Tables.{updated-same, updated-other}
 use Rattle.clif_records.specs.declared.tables.Sealed.{Sealed}
 use Rattle.clif_ssa.specs.Ssa.{zeroed, zero_value}

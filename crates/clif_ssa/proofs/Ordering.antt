@@ -5,9 +5,9 @@ use Rattle.std.proofs.lemmas.Grind.{common_steps}
 use Rattle.std.proofs.lemmas.Bool.{cases_eq}
 use Rattle.std.proofs.lemmas.List.Elements.{Contains-get_or, Contains-push_cases}
 use Rattle.clif_ir.specs.Body.{Body}
-use Rattle.clif_ir.specs.Consistent.{Stands}
-use Rattle.clif_ir.specs.Reading.{param_home, place_of, without}
-use Rattle.clif_ir.proofs.Reading.{if_true, if_false}
+use Rattle.clif_instructions.specs.Members.{Stands, place_of, without}
+use Rattle.clif_ir.specs.Reading.{param_home}
+use Rattle.clif_instructions.proofs.Members.{if_true, if_false}
 use Rattle.clif_records.specs.declared.tables.Pending.{Pending}
 use Rattle.clif_ssa.specs.Sound.{InOrder, parameters_of, is_parameter_of, is_some_block, no_pending}
 

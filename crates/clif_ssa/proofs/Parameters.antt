@@ -12,7 +12,7 @@ use Rattle.clif_instructions.specs.Members.{place_of}
 use Rattle.clif_ir.specs.declared.function.BlockNode.{BlockNode}
 use Rattle.clif_ir.specs.declared.function.ValueNode.{ValueNode}
 use Rattle.clif_ir.specs.declared.function.ValueOrigin.TheVariants.{Param}
-use Rattle.clif_ir.proofs.Lists.{at_set, at_push}
+use Rattle.clif_instructions.proofs.Lists.{at_set, at_push}
 use Rattle.clif_ir.proofs.Aliases.{ways_end-append, follow_end}
 use Rattle.clif_paths.specs.State.{pending, complete, Definition, Kind}
 use Rattle.clif_paths.specs.Blocks.{Blocks, front, with_parameter}

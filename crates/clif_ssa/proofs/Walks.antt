@@ -5,7 +5,7 @@ use Rattle.std.proofs.Math.ListN.{get_or-append}
 use Rattle.std.proofs.lemmas.Grind.{common_steps}
 use Rattle.clif_ir.specs.Body.{Body}
 use Rattle.clif_instructions.specs.Members.{Stands, Once}
-use Rattle.clif_ir.proofs.Lists.{below_or_not}
+use Rattle.clif_instructions.proofs.Lists.{below_or_not}
 use Rattle.clif_ir.proofs.Orders.{Once-length}
 use Rattle.clif_ssa.specs.Ssa.{SsaState, record_of}
 use Rattle.clif_ssa.specs.LookUp.{single_predecessor, IsWalk}

@@ -11,7 +11,7 @@ use Rattle.clif_instructions.specs.Members.{place_of, without}
 use Rattle.clif_ir.specs.declared.function.BlockNode.{BlockNode}
 use Rattle.clif_ir.specs.declared.function.ValueNode.{ValueNode}
 use Rattle.clif_ir.specs.declared.function.ValueOrigin.TheVariants.{Alias}
-use Rattle.clif_ir.proofs.Lists.{at_set}
+use Rattle.clif_instructions.proofs.Lists.{at_set}
 use Rattle.clif_ir.proofs.Aliases.{follow_end, resolved-no_alias, ways_end-set}
 use Rattle.clif_paths.specs.State.{Kind, born, unborn, pending, complete, zero_of, Definition}
 use Rattle.clif_paths.specs.Steps.{aliased}

@@ -6,8 +6,8 @@ use Rattle.std.specs.Prelude.{◌≡◌, ◌≢◌, ℕ, ◌<◌, ◌==◌, ◌&
 use Rattle.clif_types.specs.declared.types.«Type».{«Type»}
 use Rattle.clif_ir.specs.Body.{Body, inst_at, value_at, resolved}
 use Rattle.clif_ir.specs.Changes.{with_param, with_branch_argument, with_alias}
-use Rattle.clif_ir.specs.Consistent.{Once}
-use Rattle.clif_ir.specs.Reading.{param_home, stands_in}
+use Rattle.clif_instructions.specs.Members.{Once, stands_in}
+use Rattle.clif_ir.specs.Reading.{param_home}
 use Rattle.clif_records.specs.declared.look_up.Call.{Call}
 use Rattle.clif_records.specs.declared.look_up.Call.TheVariants.{UseVar, FinishPredecessorsLookup}
 use Rattle.clif_records.specs.declared.tables.Sealed.TheVariants.{No}

@@ -10,7 +10,8 @@ use Rattle.clif_ir.specs.declared.function.ValueOrigin.TheVariants.{Result}
 use Rattle.std.specs.List.{range_with_len}
 use Rattle.clif_ssa.specs.Zeros.{ZeroStep, zero_steps, steps_before}
 use Rattle.std.specs.Option.{option_to_list}
-use Rattle.clif_ir.specs.Reading.{param_home, without}
+use Rattle.clif_ir.specs.Reading.{param_home}
+use Rattle.clif_instructions.specs.Members.{without}
 use Rattle.clif_records.specs.declared.tables.Pending.{Pending}
 use Rattle.clif_records.specs.declared.tables.Sealed.{Sealed}
 use Rattle.clif_records.specs.declared.tables.SsaBlock.{SsaBlock}

@@ -9,7 +9,7 @@ ghost use Rattle.clif_ssa.specs.Ssa.{with_steps, with_zero, zero_value, zeroed_i
 ghost use Rattle.clif_ssa.specs.Ssa.{HasSomeSteps, MayHaveSomeSteps};
 ghost use Rattle.clif_ssa.specs.Zeros.{zero_steps, IsStepAt};
 
-use clif_ir::inst_list::InsertAt;
+use clif_instructions::inst_list::InsertAt;
 use clif_ir::{Function, InstructionData};
 use clif_records::SideEffects;
 use clif_types::{Block, BuildError, EntityRef, SourceLoc, Type, Value};

@@ -10,8 +10,8 @@ use Rattle.clif_instructions.specs.declared.instructions.InstructionData.TheVari
 use Rattle.clif_ir.specs.Body.{Body, inst_at}
 use Rattle.clif_ir.specs.Changes.{with_inst, inst_node}
 use Rattle.clif_ir.specs.declared.function.InstNode.{InstNode}
-use Rattle.clif_ir.specs.Instruction.{destinations, is_branch, is_terminator}
-use Rattle.clif_ir.specs.Reading.{targets}
+use Rattle.clif_instructions.specs.Instruction.{destinations, is_branch, is_terminator}
+use Rattle.clif_instructions.specs.Edges.{targets}
 use Rattle.clif_records.specs.Tables.{is_yes}
 use Rattle.clif_ssa.specs.Ssa.{SsaState, NamesExist, predecessors_of, sealed_of}
 use Rattle.cranelift_frontend.specs.Context.{ContextState}

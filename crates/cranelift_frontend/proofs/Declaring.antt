@@ -12,7 +12,7 @@ use Rattle.clif_instructions.specs.Members.{Once, Stands, stands_in}
 use Rattle.clif_instructions.specs.Edges.{targets}
 use Rattle.clif_instructions.specs.declared.block_call.BlockCall.{BlockCall}
 use Rattle.clif_ir.proofs.Keeps.{Once-outside}
-use Rattle.clif_ir.proofs.Reading.{Once-tail, Stands-from_test, test-from_Stands}
+use Rattle.clif_instructions.proofs.Members.{Once-tail, Stands-from_test, test-from_Stands}
 use Rattle.clif_records.specs.Tables.{RecordMap, record_at, is_yes, pending_of}
 use Rattle.clif_ssa.specs.Ssa.{SsaState, no_state, NamesExist, predecessors_of, sealed_of, Declares, SameBlocks, SamePredecessors, SameRecords}
 use Rattle.clif_ssa.proofs.Local.{named-same}

@@ -8,7 +8,7 @@ use Rattle.clif_types.specs.Signature.{SignatureShape}
 use Rattle.clif_ir.specs.Body.{Body, block_at, empty_body, value_at}
 use Rattle.clif_ir.specs.Consistent.{IsConsistent}
 use Rattle.clif_ir.specs.Changes.{with_block, inserted_in, with_layout}
-use Rattle.clif_ir.specs.Reading.{stands_in}
+use Rattle.clif_instructions.specs.Members.{stands_in}
 use Rattle.clif_records.specs.Tables.{RecordMap, record_at}
 use Rattle.clif_ssa.specs.Ssa.{sealed_of, predecessors_of, Records, SameBlocks, SamePredecessors}
 use Rattle.clif_meaning.specs.Name.{Name}

@@ -14,7 +14,6 @@ use Rattle.clif_ssa.specs.Structured.{HasType, Structured, VariableTypes}
 use Rattle.clif_ssa.specs.Constructs.{OnlyConstructs, TellsZeros}
 use Rattle.clif_ssa.specs.Within.{HoldsBranches, HoldsWaiting, StaysWithin}
 use Rattle.clif_records.specs.Tables.{is_yes}
-use Rattle.clif_ir.specs.Consistent.{Once}
 use Rattle.clif_simulation.specs.Carries.{DeclaredAlong}
 
 -- A use of a variable of type `ty` in a block of the layout answers `value`; zeros come into the blocks `told`.

@@ -110,7 +110,7 @@ impl FunctionBuilderContext {
     ghost use Rattle.cranelift_frontend.specs.Context.{empty_context, status_of, SetsStatus, Begins};
     ghost use Rattle.cranelift_frontend.specs.Construction.{IsUse, IsSealing, IsSealingAll, IsDeclared};
     ghost use Rattle.clif_ir.specs.Body.{Body};
-    ghost use Rattle.clif_ir.specs.Reading.{targets};
+    ghost use Rattle.clif_instructions.specs.Edges.{targets};
     ghost use Rattle.clif_records.specs.Stacks.{no_look_up};
     ghost use Rattle.clif_ssa.specs.LookUp.{UsesVariable};
     ghost use Rattle.clif_ssa.specs.Running.{stage, found};

@@ -1,10 +1,10 @@
 use Rattle.std.proofs.Common.{◌≡◌, ℕ, false, List, [], sym, ap, subst, arith, ◌∙◌}
 use Rattle.std.specs.Prelude.{Contains}
 use Rattle.clif_ir.specs.Body.{Body}
-use Rattle.clif_ir.specs.Instruction.{destinations, result_types}
-use Rattle.clif_ir.specs.Reading.{targets}
-use Rattle.clif_ir.specs.declared.block_call.BlockCall.{BlockCall}
-use Rattle.clif_ir.specs.declared.inst_list.InsertAt.TheVariants.{Back}
+use Rattle.clif_instructions.specs.Instruction.{destinations, result_types}
+use Rattle.clif_instructions.specs.Edges.{targets}
+use Rattle.clif_instructions.specs.declared.block_call.BlockCall.{BlockCall}
+use Rattle.clif_instructions.specs.declared.inst_list.InsertAt.TheVariants.{Back}
 use Rattle.clif_records.specs.Tables.{is_yes}
 use Rattle.clif_ssa.specs.Ssa.{SsaState, NamesExist, sealed_of}
 use Rattle.cranelift_frontend.specs.Context.{ContextState}

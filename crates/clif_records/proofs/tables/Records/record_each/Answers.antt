@@ -1,6 +1,6 @@
 use Rattle.std.proofs.Common.{rules, ◌≡◌, ◌≤◌, ◌∙◌, sym, subst, length, take, arith}
 use Rattle.std.proofs.lemmas.Grind.{common_steps}
-use Rattle.clif_ir.specs.Reading.{stands_in}
+use Rattle.clif_instructions.specs.Members.{stands_in}
 use Rattle.clif_records.specs.Cells.{recording, ChangesCells}
 use Rattle.clif_records.specs.Passed.{before_first}
 use Rattle.clif_records.proofs.Copying.{cells-some, cells-then_same, before-all}

@@ -1,5 +1,5 @@
 use Rattle.std.proofs.Common.{◌≢◌, ◌<◌, ℕ, take, get_or}
-use Rattle.clif_ir.specs.Reading.{stands_in}
+use Rattle.clif_instructions.specs.Members.{stands_in}
 use Rattle.clif_records.specs.Cells.{recording, ChangesCells}
 use Rattle.clif_records.proofs.tables.Records.record_each.Given as goal
 

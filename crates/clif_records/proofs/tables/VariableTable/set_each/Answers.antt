@@ -2,7 +2,7 @@ use Rattle.std.proofs.Common.{rules, ◌≡◌, ◌<◌, [], length, ap, subst, 
 use Rattle.std.specs.Prelude.{slice_index_or}
 use Rattle.std.proofs.lemmas.Result.{err_from_is_err_and}
 use Rattle.std.proofs.lemmas.Grind.{common_steps}
-use Rattle.clif_ir.specs.Reading.{stands_in}
+use Rattle.clif_instructions.specs.Members.{stands_in}
 use Rattle.clif_records.specs.Tables.{Recorded}
 use Rattle.clif_records.specs.Passed.{before_first}
 use Rattle.clif_records.specs.Cells.{recording, ChangesCells, ChangesSome}

@@ -2,7 +2,7 @@
 use Rattle.std.proofs.Common.{◌≡◌, ◌==◌, ℕ, zero, suc, Bool, true, false, List, [], ◌∷◌, arith, subst}
 use Rattle.std.specs.Prelude.{Some, Contains, if◌then◌else◌}
 use Rattle.clif_ir.specs.Body.{Body}
-use Rattle.clif_ir.specs.Reading.{without}
+use Rattle.clif_instructions.specs.Members.{without}
 use Rattle.clif_records.specs.Tables.{record_at, pending_of}
 use Rattle.clif_ssa.specs.Ssa.{SsaState, predecessors_of, Removes, SameBlocks, NamesExist}
 use Rattle.clif_ssa_tests.proofs.support.Fixture.leads_in_place.Goals as goal
