@@ -1,17 +1,22 @@
 -- What building an instruction makes of a builder.
-use Rattle.std.proofs.Common.{◌≡◌, ◌≢◌, ◌<◌, ℕ, List, [], ◌∷◌, sym, ◌∙◌, ap, subst}
-use Rattle.std.specs.Prelude.{All, false, is_err, Option, Some, IfSome, IfOk, Result, Ok, Err, length}
+use Rattle.std.proofs.Common.{◌≡◌, ◌≢◌, ◌<◌, ◌==◌, ℕ, List, [], ◌∷◌, refl, sym, ◌∙◌, ap, subst}
+use Rattle.std.proofs.lemmas.Bool.{eq-eqb, ne_eqb}
+use Rattle.std.specs.Prelude.{All, Bool, true, false, if◌then◌else◌, is_err, OnOk, Option, Some, IfSome, IfOk, Result, Ok, Err, length}
 use Rattle.clif_types.specs.declared.error.BuildError.{BuildError}
 use Rattle.clif_types.specs.declared.error.BuildError.TheVariants.{Full, Failed}
 use Rattle.clif_types.specs.declared.types.«Type».{«Type»}
 use Rattle.clif_instructions.specs.declared.instructions.InstructionData.{InstructionData}
 use Rattle.clif_ir.specs.Body.{inst_at}
 use Rattle.clif_ir.specs.Consistent.{IsConsistent}
-use Rattle.clif_instructions.specs.Instruction.{destinations, is_branch, is_terminator, result_types}
-use Rattle.clif_instructions.specs.Edges.{targets}
+use Rattle.clif_ir.specs.Instruction.{destinations, is_branch, is_terminator, result_types}
+use Rattle.clif_ir.specs.Reading.{targets}
+use Rattle.clif_ssa.specs.Ssa.{SealedStays, SsaState}
 use Rattle.clif_ssa.specs.Structure.{LooksOnce}
+use Rattle.clif_ssa.specs.Tables.{is_yes}
+use Rattle.cranelift_frontend.specs.declared.context.BlockStatus.TheVariants.{Filled}
+use Rattle.cranelift_frontend.specs.Context.{begun, status_of}
 use Rattle.cranelift_frontend.specs.declared.builder.FunctionBuilder.{FunctionBuilder}
-use Rattle.cranelift_frontend.specs.Builder.{Appends, CanLead, HasCurrent, SameLoans}
+use Rattle.cranelift_frontend.specs.Builder.{Appends, CanLead, FillsCurrent, HasCurrent, IsLeft, SameLoans, status_after}
 use Rattle.cranelift_frontend.specs.Built.{Builds, BuildsValue, HasFullTable, after_build, numbers_of, numbers_with}
 use Rattle.cranelift_frontend.specs.Construction.{IsDeclared}
 use Rattle.clif_meaning.specs.Instruction.{Instruction}
@@ -19,11 +24,36 @@ use Rattle.clif_meaning.specs.Name.{Name}
 use Rattle.clif_meaning.specs.Request.{AnsweredCall}
 use Rattle.cranelift_frontend.specs.Ledger.{AgreesWithLedger, HasShape, LedgerAgrees, ledger_of}
 use Rattle.cranelift_frontend.specs.StandsFor.{StandsFor, StandsIn}
-use Rattle.cranelift_frontend.proofs.Growing.{append_exists, append_grows, appends_value, at_current, current_appended, current_results}
+use Rattle.cranelift_frontend.proofs.Framed.{appended-typed, appended-types, left-free}
+use Rattle.cranelift_frontend.proofs.Growing.{append_exists, append_grows, appends_value, at_current, current_appended, current_results, fills_none_begun, on_ok_step, status_after_none}
+use Rattle.cranelift_frontend.proofs.LedgerLeads.{blocks-along}
+use Rattle.cranelift_frontend.proofs.LedgerLists.{if-no, if-yes}
 use Rattle.cranelift_frontend.proofs.LedgerShaped.{current-is, ledger-shaped}
 use Rattle.cranelift_frontend.proofs.Remembered.{remembers_appended}
 use Rattle.cranelift_frontend.proofs.Standing.{current_exists, current_open}
 use Rattle.cranelift_frontend.proofs.StandingShaped.{stands_shaped}
+
+-- the branches that are declared seal no block
+declared-seals : {E : Type 0} (r : Result ℕ E) (s t : SsaState) (targets : List ℕ) → IfOk r (λ inst. IsDeclared s inst targets t) → OnOk r (SealedStays s t)
+declared-seals (Err e) s t targets declares = tt
+declared-seals (Ok inst) s t targets declares = λ b. ap is_yes (blocks-along declares.told s t inst declares.along b)
+
+-- which blocks are filled when an instruction was appended to the current one
+appended-fills : (r : Result ℕ BuildError) (old new : FunctionBuilder) (block : ℕ) (shape : InstructionData) (ty : «Type») → old.position ≡ Some block → IfOk r (Appends old new block shape ty)
+    → OnOk r (FillsCurrent old new)
+appended-fills (Err e) old new block shape ty at appends = tt
+appended-fills (Ok inst) old new block shape ty at appends = λ b other filled.
+    let apart : b ≢ block = λ same. other (at ∙ ap Some (sym same)) in
+    sym (appends.status b ∙ if-no (b == block) (status_after shape (status_of old.ctx.now block)) (status_of old.ctx.now b) (ne_eqb b block apart)) ∙ filled
+
+appended-left : (r : Result ℕ BuildError) (old new : FunctionBuilder) (block : ℕ) (shape : InstructionData) (ty : «Type») → old.position ≡ Some block → new.position ≡ old.position
+    → is_terminator shape ≡ true → IfOk r (Appends old new block shape ty) → OnOk r (IsLeft new)
+appended-left (Err e) old new block shape ty at position ends appends = tt
+appended-left (Ok inst) old new block shape ty at position ends appends = record {
+  filled = subst (λ (o : Option ℕ). IfSome o (λ b. status_of new.ctx.now b ≡ Filled)) (sym (position ∙ at))
+      (appends.status block ∙ if-yes (block == block) (status_after shape (status_of old.ctx.now block)) (status_of old.ctx.now block) (eq-eqb block block refl)
+      ∙ ap (λ (t : Bool). if t then Filled else begun (status_of old.ctx.now block)) ends);
+}
 
 -- an instruction was appended to the current block, or that was refused
 module _ (old new : FunctionBuilder) (shape : InstructionData) (ty : «Type») (block : ℕ) (r : Result ℕ BuildError)
@@ -75,6 +105,11 @@ module _ (old new : FunctionBuilder) (shape : InstructionData) (ty : «Type») (
         remembers = λ v b.
             remembers_appended r v b old.func.now new.func.now old.ctx.now new.ctx.now block shape ty consistent appends declares;
         current = λ goes_on. current_appended r old new shape ty current position appends_at goes_on;
+        types = appended-types r old.func.now old.ctx.now new.func.now new.ctx.now block shape ty appends;
+        seals = declared-seals r old.ctx.now.ssa new.ctx.now.ssa (targets (destinations shape)) declares;
+        fills = appended-fills r old new block shape ty at appends;
+        left = λ ends. appended-left r old new block shape ty at position ends appends;
+        free = λ ends. on_ok_step r _ _ (λ (left : IsLeft new). left-free new.position new.func.now new.ctx.now left.filled) (appended-left r old new block shape ty at position ends appends);
       }
 
 -- its result is answered
@@ -113,4 +148,10 @@ module _ (old new : FunctionBuilder) (shape : InstructionData) (ty : «Type») (
     grows = built.grows;
     remembers = built.remembers;
     current = built.current goes_on;
+    types = built.types;
+    typed = appended-typed old.func.now old.ctx.now new.func.now new.ctx.now current.0 shape ty inst value
+        (at_current old (λ block. Appends old new block shape ty inst) current built.appends) one is;
+    fills = fills_none_begun old.ctx.now new.ctx.now current.0 (λ b.
+        (at_current old (λ block. Appends old new block shape ty inst) current built.appends).status b
+        ∙ ap (λ s. if b == current.0 then s else status_of old.ctx.now b) (status_after_none shape (status_of old.ctx.now current.0) goes_on));
   }

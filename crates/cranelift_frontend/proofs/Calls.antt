@@ -8,7 +8,10 @@ use Rattle.clif_meaning.specs.Request.{AnsweredCall}
 use Rattle.clif_ssa.specs.Ssa.{SsaState}
 use Rattle.clif_ssa.specs.Structure.{LooksOnce}
 use Rattle.cranelift_frontend.specs.declared.builder.FunctionBuilder.{FunctionBuilder}
-use Rattle.cranelift_frontend.specs.Builder.{SameLoans}
+use Rattle.cranelift_frontend.specs.Builder.{IsLeft, SameLoans}
+use Rattle.cranelift_frontend.specs.Growth.{TypesStay}
+use Rattle.cranelift_frontend.proofs.Framed.{SameFilled, left-free, still-left}
+use Rattle.cranelift_frontend.proofs.Growing.{on_ok_step}
 use Rattle.cranelift_frontend.specs.Calls.{IsCall, IsTold}
 use Rattle.cranelift_frontend.specs.Ledger.{AgreesWithLedger}
 use Rattle.cranelift_frontend.specs.StandsFor.{StandsFor}
@@ -44,8 +47,9 @@ told_by old new answer names call ledger stands =
 -- a call of a builder that hasn't failed
 pub made : {A : Type 0} (old new : FunctionBuilder) (answer : Result A BuildError)
     → SameLoans old new → new.position ≡ old.position → old.failed ≡ false → answer ≢ Err Failed → new.failed ≡ is_err answer
-    → (LooksOnce old.ctx.now.ssa → LooksOnce new.ctx.now.ssa) → IsCall old new answer
-made old new answer loans position fine never_failed fails looks_once =
+    → (LooksOnce old.ctx.now.ssa → LooksOnce new.ctx.now.ssa) → OnOk answer (TypesStay old.func.now new.func.now) → OnOk answer (SameFilled old.ctx.now new.ctx.now)
+    → IsCall old new answer
+made {A} old new answer loans position fine never_failed fails looks_once types filled =
     record {
       loans = loans;
       position = position;
@@ -53,7 +57,14 @@ made old new answer loans position fine never_failed fails looks_once =
       unchanged = λ failed. let no_way : ⊥ = cc in absurd no_way;
       fails = fails;
       looks_once = looks_once;
+      types = types;
+      fills = on_ok_step answer _ _ (λ same b. (same b).0) filled;
+      left = λ left. on_ok_step answer _ _ (still left) filled;
+      free = λ left. on_ok_step answer _ _ (λ same. left-free new.position new.func.now new.ctx.now (still left same).filled) filled;
     }
+  where
+    still : IsLeft old → SameFilled old.ctx.now new.ctx.now → IsLeft new
+    still left same = record { filled = still-left old.position new.position old.ctx.now new.ctx.now position same left.filled }
 
 -- what fails by memory alone doesn't fail because the builder failed before
 pub by_memory : {A : Type 0} (answer : Result A BuildError) → OnErr answer (answer ≡ Err Memory) → answer ≢ Err Failed

@@ -199,7 +199,7 @@ names_same f t u records blocks same named =
     named-same f f t u (has_more f) same (λ x c. ap (λ (m : RecordMap). record_at m x c) records) blocks named
 
 -- nothing is named where nothing is known
-names_none : (f : Body) → NamesExist f no_state
+pub names_none : (f : Body) → NamesExist f no_state
 names_none f = record {
   recorded = λ x c v is. nothing (sym (record_at-empty x c) ∙ is);
   leading = λ c i here. absurd (none_contained i here);

@@ -39,7 +39,7 @@ use Rattle.cranelift_frontend.specs.Builder.{answer_of, block_fault, first_fault
 use Rattle.cranelift_frontend.specs.Ledger.{ledger_of, block_name}
 use Rattle.cranelift_frontend.specs.StandsFor.{StandsIn, StandsFor}
 use Rattle.cranelift_frontend.proofs.LedgerNames.{state-by-name, name-number}
-use Rattle.cranelift_frontend.proofs.Placed.{waiting_begun}
+use Rattle.cranelift_frontend.proofs.Placed.{in_order, waiting_begun}
 use Rattle.cranelift_frontend.proofs.Standing.{standing_edges}
 
 -- no block is at fault, where none is the first
@@ -107,7 +107,7 @@ module _ (declared : SignatureShape) (calls : List AnsweredCall) (f : Body) (c :
       order n k = grind arith
 
       by : (b : ℕ) → pending_of (sealed_of c.ssa b) ≢ [] → (length f.blocks ≤ b) ⊎ (b < length f.blocks) → is_yes (sealed_of c.ssa b) ≡ true
-      by b some (inl past) = absurd ((waiting_begun calls (ledger_of calls) f c p stands.ledger b some).begun (stands.ledger.fresh b past).1)
+      by b some (inl past) = absurd ((waiting_begun f c (in_order stands.ledger) b some).begun (stands.ledger.fresh b past).1)
       by b some (inr there) = sealed b there
 
 module _ (declared : SignatureShape) (calls : List AnsweredCall) (f : Body) (c : ContextState) (p : Option ℕ) (stands : StandsIn declared calls f c p)
@@ -128,7 +128,7 @@ module _ (declared : SignatureShape) (calls : List AnsweredCall) (f : Body) (c :
       by (inr there) = or_empty (sealed_unless_empty (status_of c b) (is_yes (sealed_of c.ssa b)) b (no_fault c (length f.blocks) 0 b none (omega arith) (omega (arith, there))))
 
   none_waits : (b : ℕ) → pending_of (sealed_of c.ssa b) ≡ []
-  none_waits = none_waiting declared calls f c p stands (λ b some. begun_sealed b (waiting_begun calls (ledger_of calls) f c p stands.ledger b some).begun)
+  none_waits = none_waiting declared calls f c p stands (λ b some. begun_sealed b (waiting_begun f c (in_order stands.ledger) b some).begun)
 
   filled_not_empty : (status : BlockStatus) → IsTrue (is_filled_status status) → status ≢ Empty
   filled_not_empty Empty filled = absurd (false_is filled)

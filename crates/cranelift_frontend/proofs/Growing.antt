@@ -17,7 +17,7 @@ use Rattle.clif_instructions.specs.Members.{stands_in}
 use Rattle.clif_ssa.specs.Ssa.{no_srcloc}
 use Rattle.cranelift_frontend.specs.declared.context.BlockStatus.{BlockStatus}
 use Rattle.cranelift_frontend.specs.declared.context.BlockStatus.TheVariants.{Empty, Partial, Filled}
-use Rattle.cranelift_frontend.specs.Context.{ContextState, begun, status_of, SetsStatus, Begins}
+use Rattle.cranelift_frontend.specs.Context.{ContextState, begun, status_of, FillsNone, SetsStatus, Begins}
 use Rattle.cranelift_frontend.specs.declared.builder.FunctionBuilder.{FunctionBuilder}
 use Rattle.cranelift_frontend.specs.Builder.{Appends, AppendsIn, AppendsValue, HasCurrent, status_after, with_appended}
 use Rattle.cranelift_frontend.specs.Construction.{IsUse, IsSealingOf}
@@ -114,10 +114,6 @@ begun_unfilled Empty same = let no_way : ⊥ = cc in absurd no_way
 begun_unfilled Partial same = same
 begun_unfilled Filled same = same
 
--- no block is filled that wasn't
-abbrev pub FillsNone : ContextState → ContextState → Type 0
-FillsNone c d = (b : ℕ) → status_of d b ≡ Filled → status_of c b ≡ Filled
-
 pub fills_none_same : (c d : ContextState) → d.status ≡ c.status → FillsNone c d
 fills_none_same c d same b filled = ap (λ (xs : List BlockStatus). slice_index_or xs b Empty) (sym same) ∙ filled
 
@@ -152,7 +148,7 @@ pub at_current : (old : FunctionBuilder) (P : ℕ → Type 0) (current : HasCurr
 at_current old P current holds = let Q : Option ℕ → Type 0 = λ o. IfSome o P in subst Q current.1 holds
 
 -- where an instruction was appended that doesn't end its block
-status_after_none : (shape : InstructionData) (s : BlockStatus) → is_terminator shape ≡ false → status_after shape s ≡ begun s
+pub status_after_none : (shape : InstructionData) (s : BlockStatus) → is_terminator shape ≡ false → status_after shape s ≡ begun s
 status_after_none shape s none = ap (λ t. if t then Filled else begun s) none
 
 pub current_appended : (r : Result ℕ BuildError) (old new : FunctionBuilder) (shape : InstructionData) (ty : «Type») → HasCurrent old → new.position ≡ old.position

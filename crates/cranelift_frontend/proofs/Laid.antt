@@ -44,7 +44,7 @@ after-same ledger block after b a (x ∷ names) (j ∷ numbers) test at same =
     by false true is here rest others = let no_way : ⊥ = cc in absurd no_way
 
 -- what stood in the layout goes on standing in it
-still_stands : (b a x : ℕ) (layout : List ℕ) → stands_in x layout ≡ true → stands_in x (put_behind b a layout) ≡ true
+pub still_stands : (b a x : ℕ) (layout : List ℕ) → stands_in x layout ≡ true → stands_in x (put_behind b a layout) ≡ true
 still_stands b a x layout there = by (stands_in x (put_behind b a layout)) refl
   where
     by : (t : Bool) → stands_in x (put_behind b a layout) ≡ t → stands_in x (put_behind b a layout) ≡ true

@@ -30,7 +30,7 @@ use Rattle.cranelift_frontend.proofs.LedgerLists.{get-front, get-last, get-push,
 use Rattle.cranelift_frontend.proofs.LedgerNames.{name-number, named-block, state-entries}
 use Rattle.cranelift_frontend.proofs.LedgerKept.{answer-still, Extends, Keeps, extends-constructs, keeps-block, keeps-itself, keeps-of, answers-after, places-after, answers-none, answers-one, concluded, types-kept}
 use Rattle.cranelift_frontend.proofs.LedgerMade.{block-exists, changed-names, numbers-kept}
-use Rattle.cranelift_frontend.proofs.Placed.{are_listed, listed_structured, listed_types, sealed_alone, sealed_branches, sealed_layout, sealed_status}
+use Rattle.cranelift_frontend.proofs.Placed.{in_order, are_listed, listed_structured, listed_types, sealed_alone, sealed_branches, sealed_layout, sealed_status}
 
 -- a block that doesn't exist has no parameters
 past_params : (nodes : List BlockNode) (b : ℕ) → length nodes ≤ b → (slice_index_or nodes b empty_block).params ≡ []
@@ -203,7 +203,7 @@ agrees-created calls ledger f g c d p block agrees function number records seale
     none_new : (b : ℕ) → length f.blocks ≤ b → agrees.own.params b ≡ []
     none_new b past =
         first_none (agrees.own.params b) _
-        (sym ((listed_structured calls ledger f c p agrees).parameters b).in_order
+        (sym ((listed_structured f c (in_order agrees)).parameters b).in_order
         ∙ past_params f.blocks b past)
 
     types_agree : (k : ℕ) (s : BlockState) → slice_get (ledger_with ledger CreateBlock).blocks k ≡ Some s → HaveTypes g (agrees.own.params k) s.parameters
@@ -277,10 +277,10 @@ module _ (calls : List AnsweredCall) (ledger : Ledger) (f g : Body) (c d : Conte
   extends = extends-constructs f g sealing.constructs
 
   layout : g.layout ≡ f.layout
-  layout = sealed_layout calls ledger f c p agrees g d (λ b. b == block) told sealing firm consistent
+  layout = sealed_layout f c (in_order agrees) g d (λ b. b == block) told sealing firm consistent
 
   status_at : SameStatus c d
-  status_at = sealed_status calls ledger f c p agrees g d (λ b. b == block) told sealing firm begins
+  status_at = sealed_status f c (in_order agrees) g d (λ b. b == block) told sealing firm begins
 
   names : (k : ℕ) (x : Name) → block_name ledger k ≡ Some x → block_name new k ≡ Some x
   names k x is = changed-names ledger new name change (λ s. refl) refl k ∙ is
@@ -330,9 +330,9 @@ module _ (calls : List AnsweredCall) (ledger : Ledger) (f g : Body) (c d : Conte
             types-kept f g (keeps-of f g extends) (agrees.own.params k) entry.0.parameters (agrees.callers_types k entry.0 entry.1)
             ∙ ap (map Some) (sym (kept_types (k == block) entry.0) ∙ ap (λ (s : BlockState). s.parameters) entry.2);
         callers_alone = λ b.
-            sealed_alone calls ledger f c p agrees g d (λ b. b == block) told sealing firm consistent begins agrees.own (listed_types d.variables)
+            sealed_alone f c (in_order agrees) g d (λ b. b == block) told sealing firm consistent begins agrees.own (listed_types d.variables)
             (structured (listed_types d.variables) (are_listed d.variables)) b (agrees.callers_alone b);
-        branches = sealed_branches calls ledger f c p agrees g d (λ b. b == block) told sealing firm consistent begins;
+        branches = sealed_branches f c (in_order agrees) g d (λ b. b == block) told sealing firm consistent begins;
         fresh = λ k above.
             let past : length f.blocks ≤ k = omega (arith, above, extends.block_count) in
             let exists : block < length f.blocks = block-exists calls ledger f c p agrees block name named in

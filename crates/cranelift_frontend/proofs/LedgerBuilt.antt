@@ -42,6 +42,7 @@ use Rattle.cranelift_frontend.specs.Context.{ContextState, status_of, begun, Set
 use Rattle.cranelift_frontend.specs.Builder.{CanLeadIn}
 use Rattle.cranelift_frontend.specs.Construction.{IsDeclared}
 use Rattle.cranelift_frontend.specs.Ledger.{AreTypesOf, IsEnded, IsStructured, LedgerAgrees, NamesEdges, block_name, value_type, ledger_of}
+use Rattle.cranelift_frontend.specs.Order.{IsInOrder}
 use Rattle.cranelift_frontend.proofs.LedgerLists.{get-last, name-of-some}
 use Rattle.cranelift_frontend.proofs.LedgerNames.{name-number, state-twice}
 use Rattle.cranelift_frontend.proofs.LedgerKept.{Continues, Extends, Extends-then, Extends-inserted, Continues-inst, branch-kept, inserted-insts, inserted-values, keeps-of, answers-one, answers-two}
@@ -49,7 +50,7 @@ use Rattle.cranelift_frontend.proofs.LedgerMade.{ChangeAgrees, MadeLedger, Makes
 use Rattle.cranelift_frontend.proofs.LedgerUsed.{begun-agrees, begun-not-empty}
 use Rattle.cranelift_frontend.proofs.LedgerLeads.{LedLedger, lead-still, lead-to, led-ledger}
 use Rattle.cranelift_frontend.proofs.LedgerBranched.{agrees-led}
-use Rattle.cranelift_frontend.proofs.Placed.{branch_exists}
+use Rattle.cranelift_frontend.proofs.Placed.{in_order, branch_exists}
 
 -- what the caller made, with one more instruction
 pub appended-structured : (types : VariableTypes) (own : Own) (f : Body) (s : SsaState) (block : ℕ) (shape : InstructionData) (results : List «Type») → IsConsistent f → block < length f.blocks
@@ -69,11 +70,11 @@ appended-is-structured f g c d block shape results consistent exists function ss
     (appended-structured types mine f c.ssa block shape results consistent exists (before types (subst (λ (xs : List «Type»). AreTypesOf xs types) variables are))))
 
 -- what an appended instruction makes
-pub appends-make : (calls : List AnsweredCall) (ledger : Ledger) (f g : Body) (c d : ContextState) (p : Option ℕ) (block : ℕ) (shape : InstructionData) (types : List «Type») (status : BlockStatus)
-    (agrees : LedgerAgrees calls ledger f c p) → IsConsistent f → block < length f.blocks
+pub appends-make : (f g : Body) (c d : ContextState) (block : ℕ) (shape : InstructionData) (types : List «Type») (status : BlockStatus)
+    (order : IsInOrder f c) → IsConsistent f → block < length f.blocks
     → g ≡ with_inst (inserted_in f block) block Back shape types no_srcloc → SetsStatus c d block status → status ≢ Empty → (status_of c block ≡ Filled → status ≡ Filled)
-    → d.ssa ≡ c.ssa → d.variables ≡ c.variables → Makes agrees.own f c g d block
-appends-make calls ledger f g c d p block shape types status agrees consistent exists function sets some stays ssa variables =
+    → d.ssa ≡ c.ssa → d.variables ≡ c.variables → Makes order.own f c g d block
+appends-make f g c d block shape types status order consistent exists function sets some stays ssa variables =
     let made : Continues (inserted_in f block) g = subst (Continues (inserted_in f block)) (sym function) (Continues-inst (inserted_in f block) block Back shape types no_srcloc) in
     let extends : Extends f g = Extends-then f (inserted_in f block) g (Extends-inserted f block) made.extends in
     record {
@@ -82,18 +83,18 @@ appends-make calls ledger f g c d p block shape types status agrees consistent e
       sealed = λ b. ap (λ (s : SsaState). is_yes (sealed_of s b)) ssa;
       predecessors = λ b. ap (λ (s : SsaState). predecessors_of s b) ssa;
       variables = variables;
-      own = with_own agrees.own block (length (inserted_in f block).insts) shape;
-      structured = appended-is-structured f g c d block shape types consistent exists function ssa variables agrees.own agrees.structured;
+      own = with_own order.own block (length (inserted_in f block).insts) shape;
+      structured = appended-is-structured f g c d block shape types consistent exists function ssa variables order.own order.structured;
       callers = λ b. refl;
       callers_alone = λ b.
-          alone-still (with_own agrees.own block (length (inserted_in f block).insts) shape) agrees.own f g c d block status made.layout sets some b refl
+          alone-still (with_own order.own block (length (inserted_in f block).insts) shape) order.own f g c d block status made.layout sets some b refl
           (ap (λ (h : Body). (block_at h b).params) function ∙ inst_params (inserted_in f block) block Back shape types no_srcloc b
           ∙ ap (λ (blocks : List BlockNode). (block_at (record f { blocks = blocks }) b).params) (inserted_same f block).blocks)
-          (agrees.callers_alone b);
+          (order.callers_alone b);
       branches = λ b i leads.
           let before : Contains (predecessors_of c.ssa b) i = subst (λ (s : SsaState). Contains (predecessors_of s b) i) ssa leads in
-          let same : branch_block g i ≡ branch_block f i = branch-kept f g (keeps-of f g extends) i (branch_exists calls ledger f c p agrees b i before) in
-          subst (IsEnded g d) (sym same) (ended-still f g c d block status made.layout sets stays (branch_block f i) (agrees.branches b i before));
+          let same : branch_block g i ≡ branch_block f i = branch-kept f g (keeps-of f g extends) i (branch_exists f c order b i before) in
+          subst (IsEnded g d) (sym same) (ended-still f g c d block status made.layout sets stays (branch_block f i) (order.branches b i before));
     }
 
 -- the node of an appended instruction
@@ -132,7 +133,7 @@ agrees-computed calls ledger f g c d p block shape arithmetic ty operands inst v
     agrees-made calls call ledger new f g c d p block current.0 unpristine (begun (status_of c block)) (AnInstruction ∷ AValue ty ∷ []) agrees current.2
     (ap (λ (types : List «Type»). ledger.answers ++ (AnInstruction ∷ map AValue types) ∷ []) (types_of arithmetic)) changed
     (begun-agrees (status_of c block)) sets
-    (appends-make calls ledger f g c d p block shape (ty ∷ []) (begun (status_of c block)) agrees consistent exists function sets (begun-not-empty (status_of c block)) (λ filled. ap begun filled) ssa variables)
+    (appends-make f g c d block shape (ty ∷ []) (begun (status_of c block)) (in_order agrees) consistent exists function sets (begun-not-empty (status_of c block)) (λ filled. ap begun filled) ssa variables)
     (answers-two new g (length calls) inst value node ty there results (ap (value_type g) is_value ∙ result-type f g block shape ty function))
   where
     types_of : (a : Arithmetic) → program.result_types (Compute a) ty ≡ ty ∷ []
@@ -183,7 +184,7 @@ filled-ledger ledger name current =
 
 -- A TERMINATOR ------------------------------------------------------------------------------------------------------
 
-contained-stands : (xs : List ℕ) (x : ℕ) → Contains xs x → stands_in x xs ≡ true
+pub contained-stands : (xs : List ℕ) (x : ℕ) → Contains xs x → stands_in x xs ≡ true
 contained-stands [] x here = absurd (none_contained x here)
 contained-stands (y ∷ xs) x here =
     elim (contains_cons y xs x here) [
@@ -234,7 +235,7 @@ module _ (calls : List AnsweredCall) (f g : Body) (c d : ContextState) (p : Opti
   some is = cc
 
   makes : Makes agrees.own f c g undeclared block
-  makes = appends-make calls ledger f g c undeclared p block shape [] Filled agrees consistent exists function sets some (λ filled. refl) refl variables
+  makes = appends-make f g c undeclared block shape [] Filled (in_order agrees) consistent exists function sets some (λ filled. refl) refl variables
 
   current : (x : Name) × (ledger.current ≡ Some x) × (block_name ledger block ≡ Some x)
   current = name-of-some (block_name ledger) ledger.current block (agrees.current ∙ ap (option_map (block_name ledger)) at)
@@ -261,7 +262,7 @@ module _ (calls : List AnsweredCall) (f g : Body) (c d : ContextState) (p : Opti
   number = ap (λ (n : ℕ). number_of (calls ++ call ∷ []) (record { place = n; index = 0 })) agrees.places ∙ earlier.new calls call 0
 
   is_new : (b : ℕ) → Contains (predecessors_of c.ssa b) inst → ⊥
-  is_new b here = omega (arith, branch_exists calls ledger f c p agrees b inst here, is_inst)
+  is_new b here = omega (arith, branch_exists f c (in_order agrees) b inst here, is_inst)
 
   -- the branch stands in the block
   stands : branch_block g inst ≡ block
@@ -271,7 +272,7 @@ module _ (calls : List AnsweredCall) (f g : Body) (c d : ContextState) (p : Opti
   may_lead x here = record {
     unsealed = unsealed-target f c (destinations shape) may x (sym (declared.each x) ∙ contained-stands declared.told x here);
     apart = λ j leads same.
-        let stays : branch_block g j ≡ branch_block f j = branch-kept f g (keeps-of f g makes.extends) j (branch_exists calls ledger f c p agrees x j leads) in
+        let stays : branch_block g j ≡ branch_block f j = branch-kept f g (keeps-of f g makes.extends) j (branch_exists f c (in_order agrees) x j leads) in
         let is_block : branch_block f j ≡ block = sym stays ∙ same ∙ stands in
         open_in (ap (status_of c) (sym is_block) ∙ (agrees.branches x j leads).filled);
   }

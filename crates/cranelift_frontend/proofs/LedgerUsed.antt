@@ -18,10 +18,11 @@ use Rattle.cranelift_frontend.specs.Context.{Begins, ContextState, status_of, be
 use Rattle.cranelift_frontend.specs.Builder.{is_empty_status, is_filled_status}
 use Rattle.cranelift_frontend.specs.Construction.{IsUse}
 use Rattle.cranelift_frontend.specs.Ledger.{AreTypesOf, LedgerAgrees, block_name, value_type, ledger_of}
+use Rattle.cranelift_frontend.specs.Order.{IsInOrder}
 use Rattle.cranelift_frontend.proofs.LedgerLists.{name-of-some}
 use Rattle.cranelift_frontend.proofs.LedgerKept.{Extends-inserted, Extends-then, answers-one, concluded, extends-constructs}
 use Rattle.cranelift_frontend.proofs.LedgerMade.{ChangeAgrees, MadeLedger, Makes, agrees-made, begun-ledger, unpristine}
-use Rattle.cranelift_frontend.proofs.Placed.{are_listed, listed_types, used_alone, used_branches, used_layout, used_status}
+use Rattle.cranelift_frontend.proofs.Placed.{in_order, are_listed, listed_types, used_alone, used_branches, used_layout, used_status}
 
 -- a mark on a variable leaves the types
 pub types-touched : (variable : ℕ) (states : List VariableState) → map (λ (v : VariableState). v.ty) (touched_at variable states) ≡ map (λ (v : VariableState). v.ty) states
@@ -67,37 +68,49 @@ begun-not-empty Filled same = cc
 pub typed-value : (f : Body) (v : ℕ) (ty : «Type») → HasType f v ty → value_type f v ≡ Some ty
 typed-value f v ty has = ap (option_map (λ (n : ValueNode). n.ty)) (slice_get-get_or f.values v no_value has.0) ∙ ap Some has.1
 
+-- what a use answers has the type of the variable
+pub used-typed : (f g : Body) (c d : ContextState) (variable : ℕ) (ty : «Type») (block value : ℕ) (told : List ℕ) → IsInOrder f c → slice_get c.variables variable ≡ Some ty
+    → IsUse (inserted_in f block) c.ssa g d.ssa variable ty block value told → HasType g value ty
+used-typed f g c d variable ty block value told order declared use_of =
+    (use_of.structured (listed_types c.variables) order.own (sym (are_listed c.variables variable ty declared))
+    (inserted_structured (listed_types c.variables) order.own f c.ssa block (order.structured (listed_types c.variables) (are_listed c.variables)))).1
+
 -- a use of a declared variable in the current block
-module _ (calls : List AnsweredCall) (ledger : Ledger) (f g : Body) (c d : ContextState) (p : Option ℕ) (variable : ℕ) (ty : «Type») (block value : ℕ) (told : List ℕ)
-    (agrees : LedgerAgrees calls ledger f c p) (declared : slice_get c.variables variable ≡ Some ty)
+module _ (f g : Body) (c d : ContextState) (variable : ℕ) (ty : «Type») (block value : ℕ) (told : List ℕ)
+    (order : IsInOrder f c) (declared : slice_get c.variables variable ≡ Some ty)
     (use_of : IsUse (inserted_in f block) c.ssa g d.ssa variable ty block value told) (begins : Begins c d (block ∷ told)) (consistent : IsConsistent g)
     (variables : d.variables ≡ c.variables) where
   -- the structure then
-  used-structured : (types : VariableTypes) → AreTypesOf c.variables types → Structured types agrees.own g d.ssa [] × HasType g value ty
+  pub used-structured : (types : VariableTypes) → AreTypesOf c.variables types → Structured types order.own g d.ssa [] × HasType g value ty
   used-structured types are =
-      use_of.structured types agrees.own (sym (are variable ty declared)) (inserted_structured types agrees.own f c.ssa block (agrees.structured types are))
+      use_of.structured types order.own (sym (are variable ty declared)) (inserted_structured types order.own f c.ssa block (order.structured types are))
 
   -- what a use makes, and the type of its answer
-  pub use-makes : Makes agrees.own f c g d block
+  pub use-makes : Makes order.own f c g d block
   use-makes =
       record {
         extends = Extends-then f (inserted_in f block) g (Extends-inserted f block) (extends-constructs (inserted_in f block) g use_of.constructs);
-        layout = used_layout calls ledger f c p agrees g d variable ty block value told use_of consistent;
+        layout = used_layout f c order g d variable ty block value told use_of consistent;
         sealed = use_of.flags;
         predecessors = use_of.predecessors;
         variables = variables;
-        own = agrees.own;
+        own = order.own;
         structured = λ types are. (used-structured types (subst (λ (xs : List «Type»). AreTypesOf xs types) variables are)).0;
         callers = λ b. refl;
         callers_alone = λ b.
-            used_alone calls ledger f c p agrees g d variable ty block value told use_of consistent begins agrees.own (listed_types c.variables)
-            (used-structured (listed_types c.variables) (are_listed c.variables)).0 b (agrees.callers_alone b);
-        branches = used_branches calls ledger f c p agrees g d variable ty block value told use_of consistent begins;
+            used_alone f c order g d variable ty block value told use_of consistent begins order.own (listed_types c.variables)
+            (used-structured (listed_types c.variables) (are_listed c.variables)).0 b (order.callers_alone b);
+        branches = used_branches f c order g d variable ty block value told use_of consistent begins;
       }
 
   pub use-typed : value_type g value ≡ Some ty
   use-typed = typed-value g value ty (used-structured (listed_types c.variables) (are_listed c.variables)).1
 
+-- the agreement then
+module _ (calls : List AnsweredCall) (ledger : Ledger) (f g : Body) (c d : ContextState) (p : Option ℕ) (variable : ℕ) (ty : «Type») (block value : ℕ) (told : List ℕ)
+    (agrees : LedgerAgrees calls ledger f c p) (declared : slice_get c.variables variable ≡ Some ty)
+    (use_of : IsUse (inserted_in f block) c.ssa g d.ssa variable ty block value told) (begins : Begins c d (block ∷ told)) (consistent : IsConsistent g)
+    (variables : d.variables ≡ c.variables) where
   pub agrees-used : p ≡ Some block
       → LedgerAgrees (calls ++ record { request = UseVar variable; numbers = value ∷ [] } ∷ []) (ledger_with ledger (UseVar variable)) g d p
   agrees-used at =
@@ -116,8 +129,9 @@ module _ (calls : List AnsweredCall) (ledger : Ledger) (f g : Body) (c d : Conte
       let typed : variable_type ledger variable ≡ Some ty = ledger-type calls ledger f c p agrees variable ∙ declared in
       agrees-made calls call ledger new f g c d p block name unpristine (begun (status_of c block)) (AValue ty ∷ []) agrees current.2
       (ap (λ (o : Option «Type»). ledger.answers ++ (AValue (or_invalid o) ∷ []) ∷ []) typed) changed
-      (begun-agrees (status_of c block)) (used_status calls ledger f c p agrees g d variable ty block value told use_of begins) use-makes
-      (answers-one new g (length calls) (AValue ty) value use-typed tt)
+      (begun-agrees (status_of c block)) (used_status f c (in_order agrees) g d variable ty block value told use_of begins)
+      (use-makes f g c d variable ty block value told (in_order agrees) declared use_of begins consistent variables)
+      (answers-one new g (length calls) (AValue ty) value (use-typed f g c d variable ty block value told (in_order agrees) declared use_of begins consistent variables) tt)
 
 -- what comes of a use
 pub used : {E : Type 0} (calls : List AnsweredCall) (f g : Body) (c d : ContextState) (p : Option ℕ) (variable : ℕ) (ty : «Type») (block : ℕ) (r : Result ℕ E)
@@ -137,4 +151,4 @@ pub used-statuses : {E : Type 0} (calls : List AnsweredCall) (f g : Body) (c d :
     → OnOk r (SetsStatus c d block (begun (status_of c block)))
 used-statuses calls f g c d p variable ty block (Err e) agrees uses = tt
 used-statuses calls f g c d p variable ty block (Ok value) agrees uses =
-    used_status calls (ledger_of calls) f c p agrees g d variable ty block value uses.0 uses.1 uses.2
+    used_status f c (in_order agrees) g d variable ty block value uses.0 uses.1 uses.2

@@ -33,4 +33,6 @@ pub mod StandingShaped
 mod Remembered
 pub mod Built
 pub mod Parameters
+pub mod Ordered
+pub mod Framed
 pub mod StandingParameters

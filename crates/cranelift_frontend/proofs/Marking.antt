@@ -25,13 +25,14 @@ use Rattle.clif_simulation.proofs.Further.{carries_cold, carries_ensured, cold_i
 use Rattle.cranelift_frontend.specs.declared.context.BlockStatus.TheVariants.{Empty}
 use Rattle.cranelift_frontend.specs.Context.{ContextState, begun, status_of, SetsStatus}
 use Rattle.cranelift_frontend.specs.Ledger.{AreTypesOf, BlockAgrees, IsEnded, LedgerAgrees, NamesBlock, block_name, ledger_of}
+use Rattle.cranelift_frontend.specs.Order.{IsInOrder}
 use Rattle.cranelift_frontend.specs.StandsFor.{StandsIn}
 use Rattle.cranelift_frontend.proofs.LedgerKept.{Extends-inserted, Keeps, answer-still, answers-after, answers-none, branch-kept, concluded, keeps-of, places-after}
 use Rattle.cranelift_frontend.proofs.LedgerLists.{name-of-some, named-more, one-named-more}
 use Rattle.cranelift_frontend.proofs.LedgerMade.{MadeLedger, Makes, agrees-made, alone-still, begun-ledger, block-exists, ended-still, numbers-kept, unpristine}
 use Rattle.cranelift_frontend.proofs.LedgerNames.{name-number, named-block, state-entries, state-names}
 use Rattle.cranelift_frontend.proofs.LedgerUsed.{begun-agrees, begun-not-empty}
-use Rattle.cranelift_frontend.proofs.Placed.{branch_exists}
+use Rattle.cranelift_frontend.proofs.Placed.{in_order, branch_exists}
 use Rattle.cranelift_frontend.proofs.Standing.{current_name, first_cases}
 use Rattle.cranelift_frontend.proofs.StandingCallers.{alone_after, kept_alone, same_callers}
 
@@ -160,9 +161,9 @@ cold_stands declared calls f c p name b stands ledger =
 -- THE LAYOUT --------------------------------------------------------------------------------------------------------------
 
 -- a block that is brought into the layout
-ensured-makes : (calls : List AnsweredCall) (ledger : Ledger) (f : Body) (c d : ContextState) (p : Option ℕ) (block : ℕ) (agrees : LedgerAgrees calls ledger f c p)
-    → SetsStatus c d block (begun (status_of c block)) → d.ssa ≡ c.ssa → d.variables ≡ c.variables → Makes agrees.own f c (inserted_in f block) d block
-ensured-makes calls ledger f c d p block agrees sets ssa variables =
+pub ensured-makes : (f : Body) (c d : ContextState) (block : ℕ) (order : IsInOrder f c)
+    → SetsStatus c d block (begun (status_of c block)) → d.ssa ≡ c.ssa → d.variables ≡ c.variables → Makes order.own f c (inserted_in f block) d block
+ensured-makes f c d block order sets ssa variables =
     let g : Body = inserted_in f block in
     let extends = Extends-inserted f block in
     record {
@@ -171,19 +172,19 @@ ensured-makes calls ledger f c d p block agrees sets ssa variables =
       sealed = λ b. ap (λ (s : SsaState). is_yes (sealed_of s b)) ssa;
       predecessors = λ b. ap (λ (s : SsaState). predecessors_of s b) ssa;
       variables = variables;
-      own = agrees.own;
+      own = order.own;
       structured = λ types are.
-          subst (λ (s : SsaState). Structured types agrees.own g s []) (sym ssa)
-          (inserted_structured types agrees.own f c.ssa block (agrees.structured types (subst (λ (xs : List «Type»). AreTypesOf xs types) variables are)));
+          subst (λ (s : SsaState). Structured types order.own g s []) (sym ssa)
+          (inserted_structured types order.own f c.ssa block (order.structured types (subst (λ (xs : List «Type»). AreTypesOf xs types) variables are)));
       callers = λ b. refl;
       callers_alone = λ b.
-          alone-still agrees.own agrees.own f g c d block (begun (status_of c block)) refl sets (begun-not-empty (status_of c block)) b refl
-          (ap (λ (blocks : List BlockNode). (block_at (record f { blocks = blocks }) b).params) (inserted_same f block).blocks) (agrees.callers_alone b);
+          alone-still order.own order.own f g c d block (begun (status_of c block)) refl sets (begun-not-empty (status_of c block)) b refl
+          (ap (λ (blocks : List BlockNode). (block_at (record f { blocks = blocks }) b).params) (inserted_same f block).blocks) (order.callers_alone b);
       branches = λ b i leads.
           let before : Contains (predecessors_of c.ssa b) i = subst (λ (s : SsaState). Contains (predecessors_of s b) i) ssa leads in
-          let same : branch_block g i ≡ branch_block f i = branch-kept f g (keeps-of f g extends) i (branch_exists calls ledger f c p agrees b i before) in
+          let same : branch_block g i ≡ branch_block f i = branch-kept f g (keeps-of f g extends) i (branch_exists f c order b i before) in
           subst (IsEnded g d) (sym same)
-          (ended-still f g c d block (begun (status_of c block)) refl sets (λ filled. ap begun filled) (branch_block f i) (agrees.branches b i before));
+          (ended-still f g c d block (begun (status_of c block)) refl sets (λ filled. ap begun filled) (branch_block f i) (order.branches b i before));
     }
 
 pub ensured : {E : Type 0} (calls : List AnsweredCall) (f g : Body) (c d : ContextState) (p : Option ℕ) (block : ℕ) (r : Result (Unit {0}) E)
@@ -202,7 +203,7 @@ ensured calls f g c d p block (Ok u) agrees at is sets ssa variables =
     concluded calls call g d p
     (subst (λ (h : Body). LedgerAgrees (calls ++ call ∷ []) new h d p) (sym is)
     (agrees-made calls call ledger new f (inserted_in f block) c d p block current.0 unpristine (begun (status_of c block)) [] agrees current.2 refl changed
-    (begun-agrees (status_of c block)) sets (ensured-makes calls ledger f c d p block agrees sets ssa variables) (answers-none new (inserted_in f block) (length calls))))
+    (begun-agrees (status_of c block)) sets (ensured-makes f c d block (in_order agrees) sets ssa variables) (answers-none new (inserted_in f block) (length calls))))
 
 -- one block has another status than empty, if it had one, or is the one in which something was made
 still_begun : (c d : ContextState) (block : ℕ) → SetsStatus c d block (begun (status_of c block))

@@ -1,10 +1,14 @@
 -- What the construction names exists: what calls of the builder keep of it.
+use Rattle.std.specs.Coded.{Coded-set}
+use Rattle.clif_types.specs.contracts.types.«Type» as value_type
+use Rattle.cranelift_frontend.specs.contracts.context.BlockStatus as block_status
 use Rattle.std.proofs.Common.{◌≡◌, ℕ, ◌<◌, ◌==◌, ◌&&◌, if◌then◌else◌, Bool, true, false, List, length, sym, ◌∙◌, ap, subst, arith}
-use Rattle.std.specs.Prelude.{Option, Some, Contains, Result, Ok, Err, OnOk, OnErr, unwrap_or}
-use mathlib.Core.Logic.{∥∥₁_elim, ∥∥₁_prop}
+use Rattle.std.specs.Prelude.{Option, Some, ◌∷◌, Contains, Result, Ok, Err, IfOk, OnOk, OnErr, is_err, slice_get, unwrap_or}
+use Rattle.clif_types.specs.declared.error.BuildError.{BuildError}
+use mathlib.Core.Logic.{∥∥₁_elim, ∥∥₁_map, ∥∥₁_prop}
 use denote.Struct.Props.{props}
 use Rattle.clif_types.specs.declared.types.«Type».{«Type»}
-use Rattle.clif_ir.specs.Body.{Body}
+use Rattle.clif_ir.specs.Body.{Body, value_at}
 use Rattle.clif_ir.specs.Changes.{inserted_in, with_block, with_inst, with_param}
 use Rattle.clif_instructions.specs.declared.inst_list.InsertAt.{InsertAt}
 use Rattle.clif_instructions.specs.declared.instructions.InstructionData.{InstructionData}
@@ -12,16 +16,51 @@ use Rattle.clif_records.specs.declared.tables.SsaBlock.{SsaBlock}
 use Rattle.clif_records.specs.Tables.{predecessors_at, sealed_at, pending_of}
 use Rattle.clif_ssa.specs.Ssa.{SsaState, NamesExist, record_of, Records, SameRecords}
 use Rattle.cranelift_frontend.proofs.Growing.{Grows-inserted, Grows-with_block, Grows-with_inst, Grows-with_param}
+use Rattle.cranelift_frontend.specs.Construction.{IsUse}
+use Rattle.cranelift_frontend.specs.Context.{Begins, ContextState}
+use Rattle.cranelift_frontend.specs.Order.{IsInOrder, IsKept, IsUntouched}
+use Rattle.cranelift_frontend.proofs.LedgerUsed.{used-typed}
 use Rattle.cranelift_frontend.specs.Growth.{Grows}
 use Rattle.cranelift_frontend.specs.declared.builder.FunctionBuilder.{FunctionBuilder}
 
 -- what a builder keeps
-pub opened : (f : Body) (s : SsaState) → ∥ NamesExist f s ∥₁ → NamesExist f s
-opened f s named = record {
-  recorded = λ x b v is. ∥∥₁_elim named (search props) (λ n. n.recorded x b v is);
-  leading = λ b i here. ∥∥₁_elim named (search props) (λ n. n.leading b i here);
-  waiting = λ b p here. ∥∥₁_elim named (search props) (λ n. n.waiting b p here);
+pub opened : (f : Body) (c : ContextState) (failed : Bool) → ∥ IsKept f c failed ∥₁ → NamesExist f c.ssa
+opened f c failed kept = record {
+  recorded = λ x b v is. ∥∥₁_elim kept (search props) (λ k. k.names.recorded x b v is);
+  leading = λ b i here. ∥∥₁_elim kept (search props) (λ k. k.names.leading b i here);
+  waiting = λ b p here. ∥∥₁_elim kept (search props) (λ k. k.names.waiting b p here);
 }
+
+-- a call of a builder that hadn't failed keeps it
+pub kept_by : {A : Type 0} (r : Result A BuildError) (f g : Body) (c d : ContextState) (was now : Bool) → was ≡ false → now ≡ is_err r
+    → (NamesExist f c.ssa → NamesExist g d.ssa) → (IsInOrder f c → OnOk r (IsInOrder g d)) → ∥ IsKept f c was ∥₁ → ∥ IsKept g d now ∥₁
+kept_by {A} r f g c d was now sound fails names order kept =
+    ∥∥₁_map kept (λ k. record { names = names k.names; in_order = λ fine. by r (sym fails ∙ fine) (order (k.in_order sound)) })
+  where
+    by : (r : Result A BuildError) → is_err r ≡ false → OnOk r (IsInOrder g d) → IsInOrder g d
+    by (Ok a) fine holds = holds
+    by (Err e) fine holds = let no_way : ⊥ = cc in absurd no_way
+
+-- so does one that can't fail
+pub kept_still : (f g : Body) (c d : ContextState) (failed : Bool) → (NamesExist f c.ssa → NamesExist g d.ssa) → (IsInOrder f c → IsInOrder g d) → ∥ IsKept f c failed ∥₁ → ∥ IsKept g d failed ∥₁
+kept_still f g c d failed names order kept = ∥∥₁_map kept (λ k. record { names = names k.names; in_order = λ fine. order (k.in_order fine) })
+
+-- a block that doesn't exist yet is untouched
+pub kept_fresh : (f : Body) (c : ContextState) (failed : Bool) → failed ≡ false → ∥ IsKept f c failed ∥₁ → IsUntouched c (length f.blocks)
+kept_fresh f c failed sound kept = record {
+  unsealed = ∥∥₁_elim kept (search props) (λ k. ((k.in_order sound).fresh (length f.blocks) (omega arith)).0);
+  pristine = ∥∥₁_elim kept (Coded-set (block_status.the_row).coded _ _) (λ k. ((k.in_order sound).fresh (length f.blocks) (omega arith)).1);
+  alone = ∥∥₁_elim kept (search props) (λ k. ((k.in_order sound).fresh (length f.blocks) (omega arith)).2);
+}
+
+-- a use of a variable answers a value of its type
+pub kept_typed : {E : Type 0} (r : Result ℕ E) (f g : Body) (c d : ContextState) (failed : Bool) (variable : ℕ) (ty : «Type») (block : ℕ) → failed ≡ false → slice_get c.variables variable ≡ Some ty
+    → IfOk r (λ value. (told : List ℕ) × IsUse (inserted_in f block) c.ssa g d.ssa variable ty block value told × Begins c d (block ∷ told)) → ∥ IsKept f c failed ∥₁
+    → IfOk r (λ value. slice_get c.variables variable ≡ Some (value_at g value).ty)
+kept_typed (Err e) f g c d failed variable ty block sound declared uses kept = tt
+kept_typed (Ok value) f g c d failed variable ty block sound declared uses kept =
+    let same : (value_at g value).ty ≡ ty = ∥∥₁_elim kept (Coded-set (value_type.the_row).coded _ _) (λ k. (used-typed f g c d variable ty block value uses.0 (k.in_order sound) declared uses.1).1) in
+    declared ∙ ap Some (sym same)
 
 -- the function grows
 pub names_grow : (f g : Body) (s : SsaState) → Grows f g → NamesExist f s → NamesExist g s
@@ -71,5 +110,5 @@ names_recorded {X} {Y} r f s t variable block value records kept same exists nam
 pub ruleset names_rules = (names_inserted, names_made, names_recorded)
 
 -- two builders that differ in no part that runs are one
-pub same_builder : (b : FunctionBuilder) (named : ∥ NamesExist b.func.now b.ctx.now.ssa ∥₁) → (record b { named = named }) ≡ b
-same_builder b named = ap (λ (n : ∥ NamesExist b.func.now b.ctx.now.ssa ∥₁). record b { named = n }) (∥∥₁_prop named b.named)
+pub same_builder : (b : FunctionBuilder) (named : ∥ IsKept b.func.now b.ctx.now b.failed ∥₁) → (record b { named = named }) ≡ b
+same_builder b named = ap (λ (n : ∥ IsKept b.func.now b.ctx.now b.failed ∥₁). record b { named = n }) (∥∥₁_prop named b.named)

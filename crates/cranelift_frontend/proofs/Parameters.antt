@@ -30,7 +30,7 @@ use Rattle.cranelift_frontend.proofs.LedgerNames.{name-number, state-entries}
 use Rattle.cranelift_frontend.proofs.LedgerKept.{answer-still, answers-after, branch-kept, Extends, Extends-param, Extends-same, Extends-then, keeps-of, places-after, types-kept}
 use Rattle.cranelift_frontend.proofs.LedgerMade.{block-exists, changed-names, numbers-kept}
 use Rattle.cranelift_frontend.proofs.LedgerUsed.{typed-value}
-use Rattle.cranelift_frontend.proofs.Placed.{branch_exists}
+use Rattle.cranelift_frontend.proofs.Placed.{in_order, branch_exists}
 
 -- THE FUNCTION ----------------------------------------------------------------------------------------------------------
 
@@ -219,7 +219,7 @@ module _ (calls : List AnsweredCall) (ledger : Ledger) (f : Body) (c : ContextSt
     callers_alone = alone_or_begun;
     branches = λ d i leads.
         let old = agrees.branches d i leads in
-        let same : branch_block g i ≡ branch_block f i = branch-kept f g (keeps-of f g extends) i (branch_exists calls ledger f c p agrees d i leads) in
+        let same : branch_block g i ≡ branch_block f i = branch-kept f g (keeps-of f g extends) i (branch_exists f c (in_order agrees) d i leads) in
         record {
           inserted = ap (λ (k : ℕ). stands_in k g.layout) same ∙ ap (stands_in (branch_block f i)) (same_layout f b types) ∙ old.inserted;
           filled = ap (status_of c) same ∙ old.filled;

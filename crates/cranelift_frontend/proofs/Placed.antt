@@ -1,4 +1,4 @@
--- Where a use of a variable and a sealing put zeros and parameters, beside a ledger that agrees: into blocks of the layout
+-- Where a use of a variable and a sealing put zeros and parameters, where the parts of a builder are in order: into blocks of the layout
 -- in which something was made. So no other block enters the layout, and no other block's status changes.
 use Rattle.std.proofs.Common.{◌≡◌, ◌≢◌, ◌<◌, ◌==◌, ℕ, suc, List, [], ◌∷◌, ◌++◌, length, refl, sym, ◌∙◌, ap, subst, arith, inl, inr}
 use Rattle.std.specs.Prelude.{Bool, true, false, not, ◌&&◌, ◌||◌, if◌then◌else◌, slice_get, slice_index, Option, Some, Contains}
@@ -29,10 +29,21 @@ use Rattle.cranelift_frontend.specs.declared.context.BlockStatus.TheVariants.{Em
 use Rattle.cranelift_frontend.specs.Context.{Begins, ContextState, SameStatus, SetsStatus, begun, status_of}
 use Rattle.cranelift_frontend.specs.Builder.{is_empty_status}
 use Rattle.cranelift_frontend.specs.Construction.{IsSealingOf, IsUse}
-use Rattle.cranelift_frontend.specs.Ledger.{AloneUnlessBegun, AreTypesOf, IsBegun, IsEnded, LedgerAgrees}
+use Rattle.cranelift_frontend.specs.Ledger.{LedgerAgrees}
+use Rattle.cranelift_frontend.specs.Order.{AloneUnlessBegun, AreTypesOf, IsBegun, IsEnded, IsInOrder}
 use Rattle.cranelift_frontend.proofs.Callers.{alone_stays, none_waits_alone}
 use Rattle.cranelift_frontend.proofs.LedgerLists.{if-yes, if-no}
 use Rattle.cranelift_frontend.proofs.LedgerKept.{inserted-insts, stands-inserted, stands-still}
+
+-- where a ledger agrees with the parts of a builder they are in order
+abbrev pub in_order : {calls : List AnsweredCall} {ledger : Ledger} {f : Body} {c : ContextState} {p : Option ℕ} → LedgerAgrees calls ledger f c p → IsInOrder f c
+in_order agrees = record {
+  own = agrees.own;
+  structured = agrees.structured;
+  callers_alone = agrees.callers_alone;
+  branches = agrees.branches;
+  fresh = agrees.fresh;
+}
 
 -- STATUSES --------------------------------------------------------------------------------------------------------
 
@@ -118,21 +129,21 @@ pub are_listed : (variables : List «Type») → AreTypesOf variables (listed_ty
 are_listed variables x ty is = ap or_invalid is
 
 -- parameters, edges and records are in order, by the types that were declared
-pub listed_structured : (calls : List AnsweredCall) (ledger : Ledger) (f : Body) (c : ContextState) (p : Option ℕ) (agrees : LedgerAgrees calls ledger f c p)
-    → Structured (listed_types c.variables) agrees.own f c.ssa []
-listed_structured calls ledger f c p agrees = agrees.structured (listed_types c.variables) (are_listed c.variables)
+pub listed_structured : (f : Body) (c : ContextState) (order : IsInOrder f c)
+    → Structured (listed_types c.variables) order.own f c.ssa []
+listed_structured f c order = order.structured (listed_types c.variables) (are_listed c.variables)
 
 -- a branch that leads somewhere exists
-pub branch_exists : (calls : List AnsweredCall) (ledger : Ledger) (f : Body) (c : ContextState) (p : Option ℕ) → LedgerAgrees calls ledger f c p
+pub branch_exists : (f : Body) (c : ContextState) → IsInOrder f c
     → (b i : ℕ) → Contains (predecessors_of c.ssa b) i → i < length f.insts
-branch_exists calls ledger f c p agrees b i leads = (listed_structured calls ledger f c p agrees).leading b i leads
+branch_exists f c order b i leads = (listed_structured f c order).leading b i leads
 
 -- where a parameter waits something was made
-pub waiting_begun : (calls : List AnsweredCall) (ledger : Ledger) (f : Body) (c : ContextState) (p : Option ℕ) → LedgerAgrees calls ledger f c p
+pub waiting_begun : (f : Body) (c : ContextState) → IsInOrder f c
     → (b : ℕ) → pending_of (sealed_of c.ssa b) ≢ [] → IsBegun f c b
-waiting_begun calls ledger f c p agrees b some =
-    elim (agrees.callers_alone b) [
-      | inl alone ↦ absurd (some (none_waits_alone agrees.own (listed_types c.variables) f c.ssa b (listed_structured calls ledger f c p agrees) alone))
+waiting_begun f c order b some =
+    elim (order.callers_alone b) [
+      | inl alone ↦ absurd (some (none_waits_alone order.own (listed_types c.variables) f c.ssa b (listed_structured f c order) alone))
       | inr is ↦ is
     ]
 
@@ -149,7 +160,7 @@ branch_stays f g i constructs below =
     let more : MayPassMore (inst_at f i) (inst_at g i) = constructs.same_insts i below in
     ap (λ (node : InstNode). node.block) more.1
 
-module _ (calls : List AnsweredCall) (ledger : Ledger) (f : Body) (c : ContextState) (p : Option ℕ) (agrees : LedgerAgrees calls ledger f c p) (g : Body) (d : ContextState) where
+module _ (f : Body) (c : ContextState) (order : IsInOrder f c) (g : Body) (d : ContextState) where
   -- A USE ---------------------------------------------------------------------------------------------------------
 
   module _ (variable : ℕ) (ty : «Type») (block value : ℕ) (told : List ℕ) (used : IsUse (inserted_in f block) c.ssa g d.ssa variable ty block value told) where
@@ -175,7 +186,7 @@ module _ (calls : List AnsweredCall) (ledger : Ledger) (f : Body) (c : ContextSt
     held =
         used.within holds
         (λ b i leads.
-        let ended : IsEnded f c (branch_block f i) = agrees.branches b i leads in
+        let ended : IsEnded f c (branch_block f i) = order.branches b i leads in
         let node : inst_at (inserted_in f block) i ≡ inst_at f i = inserted_inst f block i in
         ap (λ (n : InstNode). holds n.block) node
         ∙ holds_some (branch_block f i) (stands-still f block (branch_block f i) ended.inserted) (λ other. (ended-begun f c (branch_block f i) ended).begun))
@@ -238,8 +249,8 @@ module _ (calls : List AnsweredCall) (ledger : Ledger) (f : Body) (c : ContextSt
     pub used_branches : IsConsistent g → Begins c d (block ∷ told) → (b i : ℕ) → Contains (predecessors_of d.ssa b) i → IsEnded g d (branch_block g i)
     used_branches consistent begins b i leads =
         let before : Contains (predecessors_of c.ssa b) i = subst (λ (is : List ℕ). Contains is i) (used.predecessors b) leads in
-        let ended : IsEnded f c (branch_block f i) = agrees.branches b i before in
-        let below : i < length (inserted_in f block).insts = subst (λ (n : ℕ). i < n) (sym (inserted-insts f block)) (branch_exists calls ledger f c p agrees b i before) in
+        let ended : IsEnded f c (branch_block f i) = order.branches b i before in
+        let below : i < length (inserted_in f block).insts = subst (λ (n : ℕ). i < n) (sym (inserted-insts f block)) (branch_exists f c order b i before) in
         let same : branch_block g i ≡ branch_block f i =
         branch_stays (inserted_in f block) g i used.constructs below ∙ ap (λ (n : InstNode). n.block) (inserted_inst f block i) in
         subst (IsEnded g d) (sym same) (record {
@@ -272,10 +283,10 @@ module _ (calls : List AnsweredCall) (ledger : Ledger) (f : Body) (c : ContextSt
     kept : StaysWithin keeps f g told
     kept =
         sealing.within keeps
-        (λ b i leads. keeps_begun (branch_block f i) (ended-begun f c (branch_block f i) (agrees.branches b i leads)))
+        (λ b i leads. keeps_begun (branch_block f i) (ended-begun f c (branch_block f i) (order.branches b i leads)))
         (λ b is_sealed.
-        waiting_held (listed_types c.variables) agrees.own f c.ssa keeps b firm (listed_structured calls ledger f c p agrees)
-        (λ some. keeps_begun b (waiting_begun calls ledger f c p agrees b some)))
+        waiting_held (listed_types c.variables) order.own f c.ssa keeps b firm (listed_structured f c order)
+        (λ some. keeps_begun b (waiting_begun f c order b some)))
 
     -- no block enters the layout
     pub sealed_layout : IsConsistent g → g.layout ≡ f.layout
@@ -313,8 +324,8 @@ module _ (calls : List AnsweredCall) (ledger : Ledger) (f : Body) (c : ContextSt
     pub sealed_branches : IsConsistent g → Begins c d told → (b i : ℕ) → Contains (predecessors_of d.ssa b) i → IsEnded g d (branch_block g i)
     sealed_branches consistent begins b i leads =
         let before : Contains (predecessors_of c.ssa b) i = subst (λ (is : List ℕ). Contains is i) (sealing.predecessors b) leads in
-        let ended : IsEnded f c (branch_block f i) = agrees.branches b i before in
-        let same : branch_block g i ≡ branch_block f i = branch_stays f g i sealing.constructs (branch_exists calls ledger f c p agrees b i before) in
+        let ended : IsEnded f c (branch_block f i) = order.branches b i before in
+        let same : branch_block g i ≡ branch_block f i = branch_stays f g i sealing.constructs (branch_exists f c order b i before) in
         subst (IsEnded g d) (sym same) (record {
           inserted = ap (stands_in (branch_block f i)) (sealed_layout consistent) ∙ ended.inserted;
           filled = sealed_status begins (branch_block f i) ∙ ended.filled;

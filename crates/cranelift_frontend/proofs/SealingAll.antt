@@ -23,7 +23,7 @@ use Rattle.cranelift_frontend.specs.StandsFor.{StandsIn}
 use Rattle.cranelift_frontend.proofs.LedgerLists.{if-yes, if-no, map-some, named-more, one-named-more}
 use Rattle.cranelift_frontend.proofs.LedgerKept.{Extends, answer-still, answers-after, answers-none, concluded, extends-constructs, keeps-of, places-after, types-kept}
 use Rattle.cranelift_frontend.proofs.LedgerMade.{numbers-kept}
-use Rattle.cranelift_frontend.proofs.Placed.{are_listed, listed_types, sealed_alone, sealed_branches, sealed_layout, sealed_status}
+use Rattle.cranelift_frontend.proofs.Placed.{in_order, are_listed, listed_types, sealed_alone, sealed_branches, sealed_layout, sealed_status}
 use Rattle.cranelift_frontend.proofs.Standing.{begins_not_empty}
 use Rattle.cranelift_frontend.proofs.StandingCallers.{alone_after, same_callers}
 use Rattle.clif_simulation.proofs.Whole.{declared_types}
@@ -44,10 +44,10 @@ module _ (calls : List AnsweredCall) (ledger : Ledger) (f g : Body) (c d : Conte
   extends = extends-constructs f g sealing.constructs
 
   layout : g.layout ≡ f.layout
-  layout = sealed_layout calls ledger f c p agrees g d all_blocks told sealing firm consistent
+  layout = sealed_layout f c (in_order agrees) g d all_blocks told sealing firm consistent
 
   status_at : SameStatus c d
-  status_at = sealed_status calls ledger f c p agrees g d all_blocks told sealing firm begins
+  status_at = sealed_status f c (in_order agrees) g d all_blocks told sealing firm begins
 
   same_names : (k : ℕ) → block_name new k ≡ block_name ledger k
   same_names k = ap (option_map (λ (s : BlockState). s.block)) (slice_get-map sealed ledger.blocks k) ∙ by (slice_get ledger.blocks k)
@@ -100,9 +100,9 @@ module _ (calls : List AnsweredCall) (ledger : Ledger) (f g : Body) (c d : Conte
         types-kept f g (keeps-of f g extends) (agrees.own.params k) state.0.parameters (agrees.callers_types k state.0 state.1)
         ∙ ap (λ (s : BlockState). map Some s.parameters) state.2;
     callers_alone = λ b.
-        sealed_alone calls ledger f c p agrees g d all_blocks told sealing firm consistent begins agrees.own (listed_types d.variables)
+        sealed_alone f c (in_order agrees) g d all_blocks told sealing firm consistent begins agrees.own (listed_types d.variables)
         (structured (listed_types d.variables) (are_listed d.variables)) b (agrees.callers_alone b);
-    branches = sealed_branches calls ledger f c p agrees g d all_blocks told sealing firm consistent begins;
+    branches = sealed_branches f c (in_order agrees) g d all_blocks told sealing firm consistent begins;
     fresh = λ k above.
         let past : length f.blocks ≤ k = omega (arith, above, extends.block_count) in (
           sealing.sealed k ∙ if-no (all_blocks k) true (is_yes (sealed_of c.ssa k)) (le-ltb k (length f.blocks) past) ∙ (agrees.fresh k past).0,
@@ -126,7 +126,7 @@ pub sealed_all_stands : {E : Type 0} (declared : SignatureShape) (calls : List A
 sealed_all_stands declared calls f g c d p (Err e) stands consistent are after ledger = tt
 sealed_all_stands declared calls f g c d p (Ok u) stands consistent are after ledger =
     let seals = are.1 in
-    let layout : g.layout ≡ f.layout = sealed_layout calls (ledger_of calls) f c p stands.ledger g d (λ b. ltb b (length f.blocks)) are.0 seals consistent after in
+    let layout : g.layout ≡ f.layout = sealed_layout f c (in_order stands.ledger) g d (λ b. ltb b (length f.blocks)) are.0 seals consistent after in
     record {
       signature = ap (λ (h : Body). h.signature) seals.constructs.same ∙ stands.signature;
       ledger = ledger;
@@ -134,7 +134,7 @@ sealed_all_stands declared calls f g c d p (Ok u) stands consistent are after le
       begun = λ b there. begins_not_empty c d are.0 are.2 b (inl (stands.begun b (ap (λ (blocks : List ℕ). slice_get blocks 0) (sym layout) ∙ there)));
       callers_alone = λ b.
           alone_after calls seals_all f g c d stands.carries.own stands.carries.holds.parameters (same_callers calls seals_all f c.ssa stands.carries tt tt) b
-          (sealed_alone calls (ledger_of calls) f c p stands.ledger g d (λ x. ltb x (length f.blocks)) are.0 seals consistent after are.2 stands.carries.own (declared_types calls)
+          (sealed_alone f c (in_order stands.ledger) g d (λ x. ltb x (length f.blocks)) are.0 seals consistent after are.2 stands.carries.own (declared_types calls)
           (seals.structured (declared_types calls) stands.carries.own (structured_so_far calls f c.ssa stands.carries)) b)
           (stands.callers_alone b);
     }

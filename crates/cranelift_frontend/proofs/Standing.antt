@@ -36,7 +36,7 @@ use Rattle.cranelift_frontend.specs.Ledger.{IsBegun, LedgerAgrees, NamesValue, l
 use Rattle.cranelift_frontend.specs.Laws.{StandingMatchesEdges}
 use Rattle.cranelift_frontend.specs.StandsFor.{StandsIn}
 use Rattle.cranelift_frontend.proofs.LedgerNames.{state-by-name, name-number}
-use Rattle.cranelift_frontend.proofs.Placed.{sealed_alone, used_alone}
+use Rattle.cranelift_frontend.proofs.Placed.{in_order, sealed_alone, used_alone}
 use Rattle.cranelift_frontend.proofs.StandingCallers.{alone_after, created_callers, kept_alone, same_callers}
 
 pub begun_not_empty : (s : BlockStatus) → begun s ≢ Empty
@@ -143,7 +143,7 @@ module _ (declared : SignatureShape) (calls : List AnsweredCall) (f : Body) (c :
     callers_alone = λ b.
         let call : AnsweredCall = record { request = SealBlock name; numbers = [] } in
         alone_after calls call f g c d stands.carries.own stands.carries.holds.parameters (same_callers calls call f c.ssa stands.carries tt tt) b
-        (sealed_alone calls (ledger_of calls) f c p stands.ledger g d (λ b. b == block) told seals consistent after begins stands.carries.own (declared_types calls)
+        (sealed_alone f c (in_order stands.ledger) g d (λ b. b == block) told seals consistent after begins stands.carries.own (declared_types calls)
         (seals.structured (declared_types calls) stands.carries.own (structured_so_far calls f c.ssa stands.carries)) b)
         (stands.callers_alone b);
   }
@@ -202,7 +202,7 @@ module _ (declared : SignatureShape) (calls : List AnsweredCall) (f : Body) (c :
         callers_alone = λ b.
             let call : AnsweredCall = record { request = UseVar variable; numbers = value ∷ [] } in
             alone_after calls call f g c d stands.carries.own stands.carries.holds.parameters (same_callers calls call f c.ssa stands.carries tt tt) b
-            (used_alone calls (ledger_of calls) f c p stands.ledger g d variable ty block value told is_use after begins stands.carries.own (declared_types calls) answer.0 b)
+            (used_alone f c (in_order stands.ledger) g d variable ty block value told is_use after begins stands.carries.own (declared_types calls) answer.0 b)
             (stands.callers_alone b);
       }
     where

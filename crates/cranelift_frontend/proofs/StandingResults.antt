@@ -14,7 +14,7 @@ use Rattle.cranelift_frontend.specs.Context.{ContextState, status_of, Begins}
 use Rattle.cranelift_frontend.specs.Construction.{IsUse, IsSealing}
 use Rattle.cranelift_frontend.specs.Ledger.{LedgerAgrees, NamesValue, ledger_of}
 use Rattle.cranelift_frontend.specs.StandsFor.{StandsIn}
-use Rattle.cranelift_frontend.proofs.Placed.{sealed_layout, used_layout}
+use Rattle.cranelift_frontend.proofs.Placed.{in_order, sealed_layout, used_layout}
 use Rattle.cranelift_frontend.proofs.Standing.{stands_created, stands_declared, stands_sealed, stands_assigned, stands_used}
 
 module _ {E : Type 0} (declared : SignatureShape) (calls : List AnsweredCall) where
@@ -41,7 +41,7 @@ module _ {E : Type 0} (declared : SignatureShape) (calls : List AnsweredCall) wh
   sealed_stands f g c d p name block (Err e) stands consistent seals after ledger = tt
   sealed_stands f g c d p name block (Ok u) stands consistent seals after ledger =
       stands_sealed declared calls f c p stands g d name block seals.0 consistent seals.1 seals.2 after
-      (sealed_layout calls (ledger_of calls) f c p stands.ledger g d (λ b. b == block) seals.0 seals.1 consistent after) ledger
+      (sealed_layout f c (in_order stands.ledger) g d (λ b. b == block) seals.0 seals.1 consistent after) ledger
 
   pub assigned_stands : (f : Body) (c d : ContextState) (p : Option ℕ) (variable value block : ℕ) (name : Name) (r : Result (Unit {0}) E) → StandsIn declared calls f c p
       → p ≡ Some block → IsConsistent f → status_of c block ≢ Filled → value < length f.values → slice_get c.variables variable ≡ Some (value_at f value).ty
@@ -61,4 +61,4 @@ module _ {E : Type 0} (declared : SignatureShape) (calls : List AnsweredCall) wh
   used_stands f g c d p variable ty block (Err e) stands consistent at open_block of_type is_use after ledger = tt
   used_stands f g c d p variable ty block (Ok value) stands consistent at open_block of_type is_use after ledger =
       stands_used declared calls f c p stands g d variable ty block value is_use.0 consistent at open_block of_type is_use.1 is_use.2 after
-      (used_layout calls (ledger_of calls) f c p stands.ledger g d variable ty block value is_use.0 is_use.1 after) ledger
+      (used_layout f c (in_order stands.ledger) g d variable ty block value is_use.0 is_use.1 after) ledger

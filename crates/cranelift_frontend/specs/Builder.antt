@@ -1,5 +1,5 @@
 -- What clauses see of a builder. Source: the crate's documentation of `FunctionBuilder`.
-use Rattle.std.specs.Prelude.{◌≡◌, ◌≢◌, ◌<◌, ◌+◌, length, slice_get, ℕ, List, [], ◌∷◌, Bool, true, false, not, ◌&&◌, ◌||◌, ◌==◌, Option, Some, None, if◌then◌else◌, zero, suc, Result, Ok, Err}
+use Rattle.std.specs.Prelude.{◌≡◌, ◌≢◌, ◌<◌, ◌+◌, length, slice_get, ℕ, List, [], ◌∷◌, Bool, true, false, not, ◌&&◌, ◌||◌, ◌==◌, Option, Some, None, IfSome, if◌then◌else◌, zero, suc, Result, Ok, Err}
 use Rattle.cranelift_frontend.specs.declared.error.FinalizeError.{FinalizeError}
 use Rattle.cranelift_frontend.specs.declared.error.FinalizeError.TheVariants.{Unsealed, Unfilled, Failed}
 use Rattle.clif_types.specs.declared.types.LaneType.TheVariants.{I8, I16, I32, I64}
@@ -76,6 +76,14 @@ is_filled_status Filled = true
 -- there is a current block, and no terminator was appended to it
 abbrev pub HasCurrent : FunctionBuilder → Type 0
 HasCurrent b = (block : ℕ) × (b.position ≡ Some block) × (block < length b.func.now.blocks) × (status_of b.ctx.now block ≢ Filled)
+
+-- the current block, if there is one, has its terminator
+pub record IsLeft (b : FunctionBuilder) : Type 0 where
+  pub filled : IfSome b.position (λ block. status_of b.ctx.now block ≡ Filled)
+
+-- no block but the current one is filled that wasn't
+abbrev pub FillsCurrent : FunctionBuilder → FunctionBuilder → Type 0
+FillsCurrent old new = (b : ℕ) → old.position ≢ Some b → status_of new.ctx.now b ≡ Filled → status_of old.ctx.now b ≡ Filled
 
 -- A use of a variable of type `ty` in a block answers `value`: the recorded value, or else a new parameter of the block;
 -- where the block is sealed and nothing leads to it, a zero. (Where something does, `is_use` says what is kept.)

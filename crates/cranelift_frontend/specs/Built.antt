@@ -1,22 +1,24 @@
 -- What building an instruction makes of a builder, whatever it answers. Source: own, after the crate's documentation of
 -- `InstBuilder`.
-use Rattle.std.specs.Prelude.{◌≡◌, ◌<◌, ◌-◌, ◌^◌, ◌⊎◌, ◌↔◌, ℕ, List, [], ◌∷◌, ◌++◌, length, false, is_err, IsTrue, Result, Err, IfOk, OnOk, IfSome}
+use Rattle.std.specs.Prelude.{◌≡◌, ◌<◌, ◌-◌, ◌^◌, ◌⊎◌, ◌↔◌, ℕ, List, [], ◌∷◌, ◌++◌, length, true, false, is_err, IsTrue, Result, Err, IfOk, OnOk, IfSome}
 use Rattle.clif_types.specs.declared.error.BuildError.{BuildError}
 use Rattle.clif_types.specs.declared.error.BuildError.TheVariants.{Full, Failed}
 use Rattle.clif_types.specs.declared.types.«Type».{«Type»}
 use Rattle.clif_types.specs.Signature.{SignatureShape}
-use Rattle.clif_ir.specs.Body.{inst_at}
-use Rattle.clif_instructions.specs.Instruction.{destinations, is_branch, is_terminator}
-use Rattle.clif_instructions.specs.Edges.{targets}
-use Rattle.clif_instructions.specs.declared.instructions.InstructionData.{InstructionData}
+use Rattle.clif_ir.specs.Body.{inst_at, value_at}
+use Rattle.clif_ir.specs.Instruction.{destinations, is_branch, is_terminator}
+use Rattle.clif_ir.specs.Reading.{targets}
+use Rattle.clif_ir.specs.declared.instructions.InstructionData.{InstructionData}
 use Rattle.clif_meaning.specs.Instruction.{Instruction}
 use Rattle.clif_meaning.specs.Name.{Name}
 use Rattle.clif_meaning.specs.Request.{AnsweredCall, Build}
+use Rattle.clif_ssa.specs.Ssa.{SealedStays}
 use Rattle.clif_ssa.specs.Structure.{LooksOnce}
 use Rattle.cranelift_frontend.specs.declared.builder.FunctionBuilder.{FunctionBuilder}
-use Rattle.cranelift_frontend.specs.Builder.{Appends, AppendsValue, HasCurrent, SameLoans}
+use Rattle.cranelift_frontend.specs.Builder.{Appends, AppendsValue, FillsCurrent, HasCurrent, IsLeft, SameLoans, is_free}
 use Rattle.cranelift_frontend.specs.Construction.{IsDeclared}
-use Rattle.cranelift_frontend.specs.Growth.{Grows, RemembersIn}
+use Rattle.cranelift_frontend.specs.Context.{FillsNone}
+use Rattle.cranelift_frontend.specs.Growth.{Grows, RemembersIn, TypesStay}
 use Rattle.cranelift_frontend.specs.Ledger.{AgreesWithLedger, HasShape}
 use Rattle.cranelift_frontend.specs.StandsFor.{StandsFor}
 
@@ -59,6 +61,12 @@ pub record Builds (old new : FunctionBuilder) (shape : InstructionData) (ty : «
   pub grows : OnOk answer (Grows old.func.now new.func.now)
   pub remembers : (v b : ℕ) → OnOk answer (RemembersIn v b old new)
   pub current : is_terminator shape ≡ false → OnOk answer (HasCurrent new)
+  pub types : OnOk answer (TypesStay old.func.now new.func.now)
+  pub seals : OnOk answer (SealedStays old.ctx.now.ssa new.ctx.now.ssa)
+  pub fills : OnOk answer (FillsCurrent old new)
+  -- after a terminator the block may be left
+  pub left : is_terminator shape ≡ true → OnOk answer (IsLeft new)
+  pub free : is_terminator shape ≡ true → OnOk answer (IsTrue (is_free new))
 
 -- The same of an instruction that has one result and ends no block; the answer is that result.
 pub record BuildsValue (old new : FunctionBuilder) (shape : InstructionData) (ty : «Type») (answer : Result ℕ BuildError) : Type 0 where
@@ -82,3 +90,6 @@ pub record BuildsValue (old new : FunctionBuilder) (shape : InstructionData) (ty
   pub grows : OnOk answer (Grows old.func.now new.func.now)
   pub remembers : (v b : ℕ) → OnOk answer (RemembersIn v b old new)
   pub current : OnOk answer (HasCurrent new)
+  pub types : OnOk answer (TypesStay old.func.now new.func.now)
+  pub typed : IfOk answer (λ value. (value_at new.func.now value).ty ≡ ty)
+  pub fills : OnOk answer (FillsNone old.ctx.now new.ctx.now)

@@ -1,6 +1,6 @@
 -- What holds of each call of the builder, whatever it makes. Source: own, after the crate's documentation of
 -- `FunctionBuilder`.
-use Rattle.std.specs.Prelude.{◌≡◌, ◌↔◌, ℕ, List, [], ◌∷◌, ◌++◌, length, is_err, IsTrue, Result, Err, IfOk}
+use Rattle.std.specs.Prelude.{◌≡◌, ◌↔◌, ℕ, List, [], ◌∷◌, ◌++◌, length, is_err, IsTrue, Result, Err, IfOk, OnOk}
 use Rattle.clif_types.specs.declared.error.BuildError.{BuildError}
 use Rattle.clif_types.specs.declared.error.BuildError.TheVariants.{Failed}
 use Rattle.clif_types.specs.declared.types.«Type».{«Type»}
@@ -11,7 +11,9 @@ use Rattle.clif_meaning.specs.Request.{AnsweredCall, AppendBlockParams, AppendFu
 use Rattle.clif_simulation.specs.Carries.{numbers_from}
 use Rattle.clif_ssa.specs.Structure.{LooksOnce}
 use Rattle.cranelift_frontend.specs.declared.builder.FunctionBuilder.{FunctionBuilder}
-use Rattle.cranelift_frontend.specs.Builder.{SameLoans}
+use Rattle.cranelift_frontend.specs.Builder.{IsLeft, SameLoans, is_free}
+use Rattle.cranelift_frontend.specs.Context.{FillsNone}
+use Rattle.cranelift_frontend.specs.Growth.{TypesStay}
 use Rattle.cranelift_frontend.specs.Ledger.{AgreesWithLedger}
 use Rattle.cranelift_frontend.specs.StandsFor.{StandsFor}
 
@@ -21,7 +23,8 @@ answered request numbers = record { request = request; numbers = numbers }
 
 -- A call that may fail: the builder keeps its function, its context and its current block. A builder that failed answers
 -- `Failed` and stays as it is, and a call that fails leaves one that failed. Whatever it answers, at most one look-up of a
--- variable began in the predecessors of a block, if that was so before.
+-- variable began in the predecessors of a block, if that was so before. A call that succeeds changes no value's type and
+-- appends no terminator.
 pub record IsCall {A : Type 0} (old new : FunctionBuilder) (answer : Result A BuildError) : Type 0 where
   pub loans : SameLoans old new
   pub position : new.position ≡ old.position
@@ -29,6 +32,11 @@ pub record IsCall {A : Type 0} (old new : FunctionBuilder) (answer : Result A Bu
   pub unchanged : IsTrue old.failed → new ≡ old
   pub fails : new.failed ≡ is_err answer
   pub looks_once : LooksOnce old.ctx.now.ssa → LooksOnce new.ctx.now.ssa
+  pub types : OnOk answer (TypesStay old.func.now new.func.now)
+  pub fills : OnOk answer (FillsNone old.ctx.now new.ctx.now)
+  -- a current block that has its terminator keeps it, so that it may be left
+  pub left : IsLeft old → OnOk answer (IsLeft new)
+  pub free : IsLeft old → OnOk answer (IsTrue (is_free new))
 
 -- Where the builder stood for a list of calls, and where names in it are as the call means them, the builder stands for
 -- the list with the call, by its answer. The ledger agrees even where the builder doesn't stand for the list.

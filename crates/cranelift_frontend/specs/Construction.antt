@@ -1,6 +1,6 @@
 -- What a use of a variable and a sealing make of a function and of the state of its construction: the contracts of the
 -- crate below, of a call that answers. Source: own, after Braun et al. 2013.
-use Rattle.std.specs.Prelude.{◌≡◌, ℕ, ◌==◌, List, [], length, Bool, true, ltb, if◌then◌else◌}
+use Rattle.std.specs.Prelude.{◌≡◌, ◌≢◌, ℕ, ◌==◌, List, [], length, Bool, true, ltb, if◌then◌else◌}
 use Rattle.clif_types.specs.declared.types.«Type».{«Type»}
 use Rattle.clif_ir.specs.Body.{Body}
 use Rattle.clif_instructions.specs.Members.{stands_in, Once}
@@ -45,6 +45,10 @@ pub record IsSealingOf (f : Body) (s : SsaState) (g : Body) (t : SsaState) (seal
 -- A block is sealed.
 abbrev pub IsSealing : Body → SsaState → Body → SsaState → ℕ → List ℕ → Type 0
 IsSealing f s g t block told = IsSealingOf f s g t (λ b. b == block) told
+
+-- no other block is sealed that wasn't
+abbrev pub SealsAtMost : SsaState → SsaState → ℕ → Type 0
+SealsAtMost s t block = (b : ℕ) → b ≢ block → is_yes (sealed_of t b) ≡ is_yes (sealed_of s b)
 
 -- Each block of the function is sealed.
 abbrev pub IsSealingAll : Body → SsaState → Body → SsaState → List ℕ → Type 0

@@ -42,6 +42,10 @@ begun Empty = Partial
 begun Partial = Partial
 begun Filled = Filled
 
+-- no block is filled that wasn't
+abbrev pub FillsNone : ContextState → ContextState → Type 0
+FillsNone old new = (b : ℕ) → status_of new b ≡ Filled → status_of old b ≡ Filled
+
 -- something was made in these blocks, and nothing in the others
 abbrev pub Begins : ContextState → ContextState → List ℕ → Type 0
 Begins old new blocks = (b : ℕ) → status_of new b ≡ (if stands_in b blocks then begun (status_of old b) else status_of old b)

@@ -1,6 +1,6 @@
 -- What goes on existing, and goes on standing for one value, as calls are made. Source: own.
 use Rattle.std.specs.Prelude.{◌≡◌, ◌<◌, ◌≤◌, ◌+◌, ◌-◌, ◌^◌, ℕ, List, [], ◌∷◌, length}
-use Rattle.clif_ir.specs.Body.{Body, resolved}
+use Rattle.clif_ir.specs.Body.{Body, resolved, value_at}
 use Rattle.clif_ssa.specs.Structure.{HasRecordOf, Remembers}
 use Rattle.cranelift_frontend.specs.declared.builder.FunctionBuilder.{FunctionBuilder}
 
@@ -9,6 +9,10 @@ abbrev pub Grows : Body → Body → Type 0
 Grows f g =
     (length f.values ≤ length g.values) × (length f.insts ≤ length g.insts) × (length f.blocks ≤ length g.blocks)
     × (g.name ≡ f.name) × (g.signature ≡ f.signature)
+
+-- each value keeps its type
+abbrev pub TypesStay : Body → Body → Type 0
+TypesStay f g = (v : ℕ) → v < length f.values → (value_at g v).ty ≡ (value_at f v).ty
 
 -- with some of so many parameters, and not with all, the function's table of values holds 2^32 - 1 entries
 abbrev pub NoRoomFor : Body → ℕ → Type 0

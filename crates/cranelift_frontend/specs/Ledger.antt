@@ -30,6 +30,7 @@ use Rattle.cranelift_frontend.specs.declared.error.FinalizeError.{FinalizeError}
 use Rattle.cranelift_frontend.specs.declared.error.FinalizeError.TheVariants as error
 use Rattle.cranelift_frontend.specs.declared.builder.FunctionBuilder.{FunctionBuilder}
 use Rattle.cranelift_frontend.specs.Context.{ContextState, status_of}
+pub use Rattle.cranelift_frontend.specs.Order.{AloneUnlessBegun, AreTypesOf, IsBegun, IsEnded, IsStructured}
 use Rattle.cranelift_frontend.specs.Builder.{is_empty_status, is_filled_status}
 
 -- the ledger of answered calls
@@ -124,32 +125,9 @@ pub record AnswersAgree (ledger : Ledger) (f : Body) (place : ℕ) (answers : Li
       → AnswerAgrees ledger f (answer_of place index) answer number
   pub results : ResultsFollow f answers numbers
 
--- something was made in a block: it is in the layout, and no longer empty
-pub record IsBegun (f : Body) (c : ContextState) (block : ℕ) : Type 0 where
-  pub inserted : stands_in block f.layout ≡ true
-  pub begun : status_of c block ≢ Empty
-
--- a block of the layout has its terminator
-pub record IsEnded (f : Body) (c : ContextState) (block : ℕ) : Type 0 where
-  pub inserted : stands_in block f.layout ≡ true
-  pub filled : status_of c block ≡ Filled
-
--- types of variables: those that were declared have these types
-abbrev pub AreTypesOf : List «Type» → VariableTypes → Type 0
-AreTypesOf variables types = (x : ℕ) (ty : «Type») → slice_get variables x ≡ Some ty → types x ≡ ty
-
--- what the construction has made is in order beside what the caller made, whatever the types of variables that weren't
--- declared: these have no records
-abbrev pub IsStructured : Own → Body → ContextState → Type 0
-IsStructured own f c = (types : VariableTypes) → AreTypesOf c.variables types → Structured types own f c.ssa []
-
 -- these values have these types, in order
 abbrev pub HaveTypes : Body → List ℕ → List «Type» → Type 0
 HaveTypes f values types = map (value_type f) values ≡ map Some types
-
--- a block has the caller's parameters alone, and none of a variable, unless something was made in it
-abbrev pub AloneUnlessBegun : Own → Body → ContextState → ℕ → Type 0
-AloneUnlessBegun own f c block = ((block_at f block).params ≡ own.params block) ⊎ IsBegun f c block
 
 -- a ledger of calls agrees with the parts of a builder: its function, its context and its current block
 pub record LedgerAgrees (calls : List AnsweredCall) (ledger : Ledger) (f : Body) (c : ContextState) (position : Option ℕ) : Type 0 where

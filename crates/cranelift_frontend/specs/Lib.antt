@@ -2,6 +2,7 @@ pub mod Errors
 pub mod Context
 pub mod Builder
 pub mod Construction
+pub mod Order
 pub mod Ledger
 pub mod Growth
 pub mod StandsFor

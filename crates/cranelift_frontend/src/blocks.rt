@@ -6,7 +6,7 @@ ghost use Rattle.clif_simulation.specs.Carries.{with_params};
 ghost use Rattle.cranelift_frontend.specs.Growth.{Grows, NoRoomFor, RemembersIn};
 ghost use Rattle.cranelift_frontend.specs.Calls.{IsCall, IsTold, answered, appended_params, appended_returns};
 ghost use Rattle.cranelift_frontend.specs.Builder.{SameLoans, HasCurrent};
-ghost use Rattle.clif_ir.specs.Body.{block_at};
+ghost use Rattle.clif_ir.specs.Body.{block_at, value_at};
 ghost use Rattle.clif_ir.specs.Changes.{inserted_in, with_cold, with_layout_after, with_param};
 ghost use Rattle.clif_instructions.specs.Members.{Stands};
 ghost use Rattle.clif_meaning.specs.Event.{types_of};
@@ -111,6 +111,7 @@ impl<'a> FunctionBuilder<'a> {
         ensures call { IsCall self.old self.new result }
         ensures function { OnOk result (self.new.func.now ≡ with_param self.old.func.now block ty) }
         ensures number { IfOk result (λ value. value ≡ length self.old.func.now.values) }
+        ensures typed { IfOk result (λ value. (value_at self.new.func.now value).ty ≡ ty) }
         ensures context { self.new.ctx.now ≡ self.old.ctx.now }
         ensures full { result ≡ Err BuildError.Full → length self.old.func.now.values ≡ 2 ^ 32 - 1 }
         ensures told { (name : Name) → IsTold self.old self.new result

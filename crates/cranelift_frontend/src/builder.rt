@@ -1,5 +1,5 @@
 //! What a builder holds.
-ghost use Rattle.clif_ssa.specs.Ssa.{NamesExist};
+ghost use Rattle.cranelift_frontend.specs.Order.{IsKept};
 
 use crate::context::FunctionBuilderContext;
 use clif_ir::Function;
@@ -14,6 +14,6 @@ pub struct FunctionBuilder<'a> {
     pub(crate) ctx: &'a mut FunctionBuilderContext,
     pub(crate) position: Option<Block>,
     pub(crate) failed: bool,
-    // What the construction names exists.
-    ghost named: { ∥ NamesExist func.now ctx.now.ssa ∥₁ },
+    // What the construction names exists, and unless a call failed all is in order.
+    ghost named: { ∥ IsKept func.now ctx.now failed ∥₁ },
 }

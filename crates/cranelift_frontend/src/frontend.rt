@@ -2,14 +2,15 @@
 ghost use Rattle.std.specs.Prelude.{◌≡◌, ◌≢◌, ◌<◌, ◌-◌, ◌^◌, ◌+◌, ◌++◌, ◌∷◌, [], ◌==◌, ℕ, List, IsTrue, ◌↔◌, OnOk, OnErr, IfOk, IfSome, IsSome, is_err, Some, None, true, false, length, slice_index, slice_get, EachIndex};
 ghost use Rattle.cranelift_frontend.specs.Context.{empty_context, status_of, begun, Begins, SetsStatus};
 ghost use Rattle.cranelift_frontend.specs.Growth.{Grows, HasRecordIn, RemembersIn};
-ghost use Rattle.cranelift_frontend.specs.Construction.{IsUse, IsSealing, IsSealingAll};
+ghost use Rattle.cranelift_frontend.specs.Construction.{IsUse, IsSealing, IsSealingAll, SealsAtMost};
 ghost use Rattle.cranelift_frontend.specs.Calls.{IsCall, IsTold, answered};
+ghost use Rattle.cranelift_frontend.specs.Order.{IsUntouched};
 ghost use Rattle.cranelift_frontend.specs.Builder.{with_position, is_unreachable, is_free, is_declarable, HasCurrent, Uses, UsesIn};
 ghost use Rattle.clif_ssa.specs.Limits.{IsFull};
 ghost use Rattle.clif_ssa.specs.Structure.{LooksOnce};
 ghost use Rattle.clif_ssa.specs.Constructs.{OnlyConstructs};
-ghost use Rattle.clif_records.specs.Tables.{is_yes, pending_of};
-ghost use Rattle.clif_ssa.specs.Ssa.{sealed_of, predecessors_of, completed, NamesExist, Records, RecordsStay, SameBlocks, SamePredecessors, SameRecords, Seals};
+ghost use Rattle.clif_ssa.specs.Tables.{is_yes, pending_of};
+ghost use Rattle.clif_ssa.specs.Ssa.{sealed_of, predecessors_of, completed, NamesExist, Records, RecordsStay, SealedStays, SameBlocks, SamePredecessors, SameRecords, Seals};
 ghost use Rattle.clif_ir.specs.Body.{empty_body, inst_at, value_at};
 ghost use Rattle.clif_ir.specs.Changes.{with_block, inserted_in};
 ghost use Rattle.clif_meaning.specs.Name.{Name};
@@ -135,6 +136,8 @@ impl<'a> FunctionBuilder<'a> {
         ensures number { IfOk result (λ b. b ≡ length self.old.func.now.blocks) }
         ensures records { self.new.ctx.now.ssa.records ≡ self.old.ctx.now.ssa.records }
         ensures sealed { SameBlocks self.old.ctx.now.ssa self.new.ctx.now.ssa }
+        ensures predecessors { SamePredecessors self.old.ctx.now.ssa self.new.ctx.now.ssa }
+        ensures untouched { IfOk result (IsUntouched self.new.ctx.now) }
         ensures status { self.new.ctx.now.status ≡ self.old.ctx.now.status }
         ensures variables { self.new.ctx.now.variables ≡ self.old.ctx.now.variables }
         ensures full { result ≡ Err BuildError.Full → length self.old.func.now.blocks ≡ 2 ^ 32 - 1 }
@@ -167,6 +170,7 @@ impl<'a> FunctionBuilder<'a> {
         ensures function { predecessors_of self.old.ctx.now.ssa block ≡ [] → OnOk result (self.new.func.now ≡ completed self.old.func.now (pending_of (sealed_of self.old.ctx.now.ssa block))) }
         ensures is_sealing { OnOk result ((told : List ℕ) × IsSealing self.old.func.now self.old.ctx.now.ssa self.new.func.now self.new.ctx.now.ssa block told × Begins self.old.ctx.now self.new.ctx.now told) }
         ensures sealed { predecessors_of self.old.ctx.now.ssa block ≡ [] → OnOk result (Seals self.old.ctx.now.ssa self.new.ctx.now.ssa block) }
+        ensures others { OnOk result (SealsAtMost self.old.ctx.now.ssa self.new.ctx.now.ssa block) }
         ensures records { predecessors_of self.old.ctx.now.ssa block ≡ [] → SameRecords self.old.ctx.now.ssa self.new.ctx.now.ssa }
         ensures stay { RecordsStay self.old.ctx.now.ssa self.new.ctx.now.ssa }
         ensures variables { self.new.ctx.now.variables ≡ self.old.ctx.now.variables }
@@ -283,6 +287,8 @@ impl<'a> FunctionBuilder<'a> {
         requires declared { variable < length self.old.ctx.now.variables }
         ensures call { IsCall self.old self.new result }
         ensures uses { IfSome self.old.position (λ block. IfOk result (Uses self.old self.new variable block)) }
+        ensures typed { IfOk result (λ v. slice_get self.old.ctx.now.variables variable ≡ Some (value_at self.new.func.now v).ty) }
+        ensures seals { OnOk result (SealedStays self.old.ctx.now.ssa self.new.ctx.now.ssa) }
         ensures is_use { (ty : «Type») → slice_get self.old.ctx.now.variables variable ≡ Some ty → IfSome self.old.position (λ block. IfOk result (λ value. (told : List ℕ) × IsUse (inserted_in self.old.func.now block) self.old.ctx.now.ssa self.new.func.now self.new.ctx.now.ssa variable ty block value told × Begins self.old.ctx.now self.new.ctx.now (block ∷ told))) }
         ensures status { (calls : List AnsweredCall) → AgreesWithLedger calls self.old → IfSome self.old.position (λ block. OnOk result (SetsStatus self.old.ctx.now self.new.ctx.now block (begun (status_of self.old.ctx.now block)))) }
         ensures variables { self.new.ctx.now.variables ≡ self.old.ctx.now.variables }

@@ -1,15 +1,25 @@
 use Rattle.std.proofs.Common.{refl}
 use Rattle.cranelift_frontend.proofs.Calls.{told_by, made}
-use mathlib.Core.Logic.{∥∥₁_map}
 use Rattle.std.proofs.Common.{[], ◌∷◌}
-use Rattle.cranelift_frontend.proofs.Named.{names_param}
+use Rattle.cranelift_frontend.proofs.Framed.{filled-same, more-types, param-typed}
+use Rattle.cranelift_frontend.proofs.Named.{kept_by, names_param}
+use Rattle.cranelift_frontend.proofs.Ordered.{order-more}
 use Rattle.cranelift_frontend.proofs.StandingParameters.{one_agrees, one_stands, remembers_params}
 use Rattle.cranelift_frontend.proofs.builder.FunctionBuilder.append_block_param.Goals as goal
 
 pub invariant_of-self : goal.invariant_of-self
 invariant_of-self c =
     let done = c.append_block_param-appended.ensures in
-    record { named = ∥∥₁_map c.args.self.now.named (names_param c.append_block_param-appended.result _ _ _ c.args.block c.args.ty done.ok done.err) }
+    record {
+      named = kept_by c.append_block_param-appended.result _ _ _ _ _ _ c.if-self.false c.is_err-self.ensures.value
+          (names_param c.append_block_param-appended.result _ _ _ c.args.block c.args.ty done.ok done.err)
+          (order-more c.append_block_param-appended.result c.args.self.now.func.now _ c.args.self.now.ctx.now c.args.block (c.args.ty ∷ []) c.law_consistent.ensures c.requires.exists c.requires.pristine done.ok)
+          c.args.self.now.named;
+    }
+
+pub returns-clause-typed : goal.returns-clause-typed
+returns-clause-typed c =
+    param-typed c.append_block_param-appended.result c.args.self.now.func.now _ c.args.block c.args.ty c.append_block_param-appended.ensures.ok c.append_block_param-appended.ensures.number
 
 pub returns-clause-told : goal.returns-clause-told
 returns-clause-told c = λ name.
@@ -24,7 +34,8 @@ returns-clause-told c = λ name.
 pub returns-clause-call : goal.returns-clause-call
 returns-clause-call c =
     made c.args.self.now _ c.append_block_param-appended.result (record { func = refl; ctx = refl }) refl c.if-self.false c.append_block_param-appended.ensures.never_failed c.is_err-self.ensures.value
-    (λ once. once)
+    (λ once. once) (more-types c.append_block_param-appended.result c.args.self.now.func.now _ c.args.block (c.args.ty ∷ []) c.append_block_param-appended.ensures.ok)
+    (filled-same c.append_block_param-appended.result c.args.self.now.ctx.now c.args.self.now.ctx.now refl)
 
 pub returns-clause-remembers : goal.returns-clause-remembers
 returns-clause-remembers c = λ x b.

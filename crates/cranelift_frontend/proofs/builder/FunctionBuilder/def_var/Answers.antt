@@ -1,5 +1,7 @@
+use Rattle.cranelift_frontend.proofs.Framed.{filled-same, same-types}
+use Rattle.cranelift_frontend.proofs.Named.{kept_by}
+use Rattle.cranelift_frontend.proofs.Ordered.{order-assigned}
 use Rattle.cranelift_frontend.proofs.Calls.{told, made, by_memory}
-use mathlib.Core.Logic.{∥∥₁_map}
 use Rattle.std.proofs.Common.{refl, ap, sym, ◌∙◌, Some}
 use Rattle.cranelift_frontend.proofs.Remembered.{remembers_assigned}
 use Rattle.cranelift_frontend.proofs.LedgerVariables.{assigned}
@@ -22,7 +24,8 @@ returns-clause-told c = λ name.
 pub returns-clause-call : goal.returns-clause-call
 returns-clause-call c =
     made c.args.self.now _ c.def_var-recorded.result (record { func = refl; ctx = refl }) refl c.if-self.false (by_memory _ c.def_var-recorded.ensures.only_memory) c.is_err-self.ensures.value
-    c.def_var-recorded.ensures.looks_once
+    c.def_var-recorded.ensures.looks_once (same-types c.def_var-recorded.result c.args.self.now.func.now)
+    (filled-same c.def_var-recorded.result c.args.self.now.ctx.now c.def_var-recorded.new.self c.def_var-recorded.ensures.status)
 
 pub returns-clause-remembers : goal.returns-clause-remembers
 returns-clause-remembers c = λ x b apart.
@@ -30,4 +33,10 @@ returns-clause-remembers c = λ x b apart.
     (λ first second. apart first (c.in-Some.is ∙ ap Some (sym second))) refl c.def_var-recorded.ensures.ok
 
 pub invariant_of-self : goal.invariant_of-self
-invariant_of-self c = record { named = ∥∥₁_map c.args.self.now.named (c.def_var-recorded.ensures.names _ c.requires.value_exists) }
+invariant_of-self c =
+    let done = c.def_var-recorded.ensures in
+    record {
+      named = kept_by c.def_var-recorded.result _ _ _ _ _ _ c.if-self.false c.is_err-self.ensures.value (done.names _ c.requires.value_exists)
+          (order-assigned c.def_var-recorded.result c.args.self.now.func.now c.args.self.now.ctx.now c.def_var-recorded.new.self c.args.variable c.in-Some.block c.args.value _
+          c.requires.same_type (c.requires.value_exists, refl) done.ok done.blocks done.status done.variables) c.args.self.now.named;
+    }

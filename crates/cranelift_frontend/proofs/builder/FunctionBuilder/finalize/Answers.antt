@@ -1,3 +1,8 @@
+use Rattle.clif_ssa.specs.Ssa.{NamesExist}
+use Rattle.cranelift_frontend.specs.Context.{ContextState}
+use Rattle.cranelift_frontend.proofs.Declaring.{names_none}
+use Rattle.cranelift_frontend.proofs.Named.{kept_still}
+use Rattle.cranelift_frontend.proofs.Ordered.{order-cleared}
 use Rattle.std.proofs.Common.{sym, subst}
 use Rattle.std.specs.Prelude.{Result, OnOk}
 use Rattle.clif_meaning.specs.Request.{Finalize, script_of}
@@ -6,7 +11,7 @@ use Rattle.cranelift_frontend.specs.declared.error.FinalizeError.{FinalizeError}
 use Rattle.cranelift_frontend.specs.Ledger.{RefusalAgrees, ledger_of}
 use Rattle.clif_meaning.specs.View.{view_of}
 use Rattle.clif_meaning.specs.Headline.{MeansTheSame}
-use Rattle.cranelift_frontend.proofs.Declaring.{names_nothing}
+use Rattle.cranelift_frontend.proofs.Declaring.{names_none}
 use Rattle.cranelift_frontend.proofs.LedgerEnds.{finished}
 use Rattle.clif_meaning.specs.Typing.{EdgesMatch}
 use Rattle.clif_meaning.specs.WellPlaced.{RecordsWellPlaced, WellPlaced}
@@ -44,4 +49,7 @@ returns-clause-records_well_placed c = λ signature calls records stands are pre
     (finished_records signature calls records c.args.self stands c.law_consistent.ensures are premises)
 
 pub invariant_of-self-2 : goal.invariant_of-self-2
-invariant_of-self-2 c = record { named = names_nothing c.args.self.func.now c.clear.new.self c.clear.ensures }
+invariant_of-self-2 c = record {
+  named = kept_still c.args.self.func.now _ c.args.self.ctx.now _ _ (λ names. subst (λ (d : ContextState). NamesExist c.args.self.func.now d.ssa) (sym c.clear.ensures) (names_none c.args.self.func.now))
+      (order-cleared c.args.self.func.now c.args.self.ctx.now c.clear.new.self c.clear.ensures) c.args.self.named;
+}

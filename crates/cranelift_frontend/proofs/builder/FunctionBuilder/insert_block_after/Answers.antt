@@ -1,4 +1,10 @@
-use mathlib.Core.Logic.{∥∥₁_map}
+use Rattle.std.proofs.Common.{ap}
+use Rattle.clif_types.specs.declared.error.BuildError.{BuildError}
+use Rattle.clif_ir.specs.Body.{value_at}
+use Rattle.cranelift_frontend.specs.Order.{IsInOrder}
+use Rattle.cranelift_frontend.proofs.Framed.{filled-same}
+use Rattle.cranelift_frontend.proofs.Named.{kept_still}
+use Rattle.cranelift_frontend.proofs.Ordered.{order-laid}
 use Rattle.std.proofs.Common.{List, [], ◌∷◌, ◌++◌, refl, sym, subst}
 use Rattle.std.specs.Prelude.{Ok}
 use Rattle.cranelift_frontend.proofs.Calls.{told, made, by_success}
@@ -12,9 +18,11 @@ use Rattle.cranelift_frontend.proofs.builder.FunctionBuilder.insert_block_after.
 
 pub invariant_of-self : goal.invariant_of-self
 invariant_of-self c = record {
-  named = ∥∥₁_map c.args.self.now.named (λ named.
-      subst (λ (f : Body). NamesExist f c.args.self.now.ctx.now.ssa) (sym c.insert_block_after.ensures)
-      (names_laid c.args.self.now.func.now c.args.self.now.ctx.now.ssa c.args.block c.args.after named));
+  named = kept_still c.args.self.now.func.now _ c.args.self.now.ctx.now _ _
+      (λ names. subst (λ (f : Body). NamesExist f c.args.self.now.ctx.now.ssa) (sym c.insert_block_after.ensures)
+      (names_laid c.args.self.now.func.now c.args.self.now.ctx.now.ssa c.args.block c.args.after names))
+      (λ order. subst (λ (f : Body). IsInOrder f c.args.self.now.ctx.now) (sym c.insert_block_after.ensures)
+      (order-laid c.args.self.now.func.now c.args.self.now.ctx.now c.args.block c.args.after order)) c.args.self.now.named;
 }
 
 pub returns-clause-told : goal.returns-clause-told
@@ -33,4 +41,5 @@ returns-clause-told c = λ name behind.
 pub returns-clause-call : goal.returns-clause-call
 returns-clause-call c =
     made c.args.self.now _ (Ok tt) (record { func = refl; ctx = refl }) refl c.if-self.false (by_success tt) c.if-self.false
-    (λ once. once)
+    (λ once. once) (λ v inside. ap (λ (f : Body). (value_at f v).ty) c.insert_block_after.ensures)
+    (filled-same {A = Unit {0}} {E = BuildError} (Ok tt) c.args.self.now.ctx.now c.args.self.now.ctx.now refl)

@@ -1,3 +1,5 @@
+use mathlib.Core.Logic.{∥∥₁_map}
+use Rattle.cranelift_frontend.proofs.Ordered.{order-begins}
 use Rattle.std.proofs.Common.{refl, sym, subst}
 use Rattle.clif_ssa.specs.Structure.{LooksOnce}
 use Rattle.clif_ssa.proofs.CountedOnce.{nothing_looked}
@@ -8,7 +10,10 @@ use Rattle.cranelift_frontend.proofs.LedgerEnds.{begins-empty}
 use Rattle.cranelift_frontend.proofs.builder.FunctionBuilder.new.Goals as goal
 
 pub invariant_of-result : goal.invariant_of-result
-invariant_of-result c = record { named = names_nothing c.args.func.now c.args.ctx.now c.requires.empty }
+invariant_of-result c = record {
+  named = ∥∥₁_map (names_nothing c.args.func.now c.args.ctx.now c.requires.empty) (λ names.
+      record { names = names; in_order = λ fine. order-begins c.args.func.now c.args.ctx.now c.requires.fresh c.requires.empty });
+}
 
 pub returns-clause-ledger : goal.returns-clause-ledger
 returns-clause-ledger c = begins-empty _ _ _ c.requires.fresh c.requires.empty refl

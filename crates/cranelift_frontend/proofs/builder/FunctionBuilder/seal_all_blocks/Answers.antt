@@ -5,13 +5,15 @@ use Rattle.cranelift_frontend.proofs.Remembered.{remembers_sealed}
 use Rattle.cranelift_frontend.proofs.SealingAll.{all_sealed, sealed_all, sealed_all_stands}
 use Rattle.cranelift_frontend.proofs.Finishing.{sealed_edges}
 use Rattle.cranelift_frontend.proofs.Growing.{sealed_current, sealed_grows}
-use Rattle.cranelift_frontend.proofs.Named.{opened}
+use Rattle.cranelift_frontend.proofs.Framed.{sealed-filled, sealed-types}
+use Rattle.cranelift_frontend.proofs.Named.{kept_by, opened}
+use Rattle.cranelift_frontend.proofs.Ordered.{order-sealed-all}
 use Rattle.clif_simulation.proofs.CarriedStructure.{sealed_parameters}
 use Rattle.clif_ssa.proofs.Constructing.{constructs_none}
 use Rattle.cranelift_frontend.proofs.builder.FunctionBuilder.seal_all_blocks.Goals as goal
 
 pub seal_all_blocks-sealed-requires : goal.seal_all_blocks-sealed-requires
-seal_all_blocks-sealed-requires c = record { named = opened _ _ c.args.self.now.named }
+seal_all_blocks-sealed-requires c = record { named = opened _ _ _ c.args.self.now.named }
 
 pub returns-clause-told : goal.returns-clause-told
 returns-clause-told c =
@@ -25,7 +27,8 @@ returns-clause-told c =
 pub returns-clause-call : goal.returns-clause-call
 returns-clause-call c =
     made c.args.self.now _ c.seal_all_blocks-sealed.result (record { func = refl; ctx = refl }) refl c.if-self.false c.seal_all_blocks-sealed.ensures.never_failed c.is_err-self.ensures.value
-    c.seal_all_blocks-sealed.ensures.looks_once
+    c.seal_all_blocks-sealed.ensures.looks_once (sealed-types c.seal_all_blocks-sealed.result c.args.self.now.func.now c.seal_all_blocks-sealed.new.func c.args.self.now.ctx.now c.seal_all_blocks-sealed.new.self (λ b. ltb b (length c.args.self.now.func.now.blocks)) c.seal_all_blocks-sealed.ensures.is_sealing)
+    (sealed-filled c.seal_all_blocks-sealed.result c.args.self.now.func.now c.seal_all_blocks-sealed.new.func c.args.self.now.ctx.now c.seal_all_blocks-sealed.new.self (λ b. ltb b (length c.args.self.now.func.now.blocks)) c.seal_all_blocks-sealed.ensures.is_sealing)
 
 pub returns-clause-sealed : goal.returns-clause-sealed
 returns-clause-sealed c =
@@ -59,3 +62,12 @@ returns-clause-parameters c = λ signature calls stands. sealed_parameters calls
 
 pub returns-then-self-clause-constructs : goal.returns-then-self-clause-constructs
 returns-then-self-clause-constructs c = constructs_none _
+
+pub invariant_of-self : goal.invariant_of-self
+invariant_of-self c =
+    let done = c.seal_all_blocks-sealed.ensures in
+    record {
+      named = kept_by c.seal_all_blocks-sealed.result _ _ _ _ _ _ c.if-self.false c.is_err-self.ensures.value (λ names. done.names)
+          (order-sealed-all c.seal_all_blocks-sealed.result c.args.self.now.func.now c.seal_all_blocks-sealed.new.func c.args.self.now.ctx.now c.seal_all_blocks-sealed.new.self done.is_sealing c.law_consistent.ensures c.law_consistent-2.ensures done.variables)
+          c.args.self.now.named;
+    }

@@ -6,7 +6,9 @@ use Rattle.cranelift_frontend.proofs.LedgerBlocks.{sealed}
 use Rattle.cranelift_frontend.proofs.Standing.{standing_edges}
 use Rattle.cranelift_frontend.proofs.StandingResults.{sealed_stands}
 use Rattle.cranelift_frontend.proofs.Growing.{sealed_current, sealed_grows}
-use Rattle.cranelift_frontend.proofs.Named.{opened}
+use Rattle.cranelift_frontend.proofs.Framed.{sealed-filled, sealed-others, sealed-types}
+use Rattle.cranelift_frontend.proofs.Named.{kept_by, opened}
+use Rattle.cranelift_frontend.proofs.Ordered.{order-sealed-one}
 use Rattle.clif_simulation.proofs.CarriedStructure.{sealed_parameters}
 use Rattle.clif_ssa.proofs.Constructing.{constructs_none}
 use Rattle.cranelift_frontend.proofs.builder.FunctionBuilder.seal_block.Goals as goal
@@ -24,7 +26,8 @@ returns-clause-told c = λ name.
 pub returns-clause-call : goal.returns-clause-call
 returns-clause-call c =
     made c.args.self.now _ c.seal_block-sealed.result (record { func = refl; ctx = refl }) refl c.if-self.false c.seal_block-sealed.ensures.never_failed c.is_err-self.ensures.value
-    c.seal_block-sealed.ensures.looks_once
+    c.seal_block-sealed.ensures.looks_once (sealed-types c.seal_block-sealed.result c.args.self.now.func.now c.seal_block-sealed.new.func c.args.self.now.ctx.now c.seal_block-sealed.new.self (λ b. b == c.args.block) c.seal_block-sealed.ensures.is_sealing)
+    (sealed-filled c.seal_block-sealed.result c.args.self.now.func.now c.seal_block-sealed.new.func c.args.self.now.ctx.now c.seal_block-sealed.new.self (λ b. b == c.args.block) c.seal_block-sealed.ensures.is_sealing)
 
 pub returns-clause-grows : goal.returns-clause-grows
 returns-clause-grows c = sealed_grows c.seal_block-sealed.result c.args.self.now.func.now c.args.self.now.ctx.now c.seal_block-sealed.new.func c.seal_block-sealed.new.self (λ b. b == c.args.block) c.seal_block-sealed.ensures.is_sealing
@@ -33,7 +36,7 @@ pub returns-clause-current : goal.returns-clause-current
 returns-clause-current c = sealed_current c.seal_block-sealed.result c.args.self.now.position c.args.self.now.func.now c.args.self.now.ctx.now c.seal_block-sealed.new.func c.seal_block-sealed.new.self (λ b. b == c.args.block) c.seal_block-sealed.ensures.is_sealing
 
 pub seal_block-sealed-requires : goal.seal_block-sealed-requires
-seal_block-sealed-requires c = record { named = opened _ _ c.args.self.now.named }
+seal_block-sealed-requires c = record { named = opened _ _ _ c.args.self.now.named }
 
 pub returns-then-self-clause-edges_match : goal.returns-then-self-clause-edges_match
 returns-then-self-clause-edges_match c = λ signature calls stands none_waits typed. standing_edges signature calls _ _ _ stands none_waits typed
@@ -53,3 +56,15 @@ returns-clause-parameters c = λ signature calls stands. sealed_parameters calls
 
 pub returns-then-self-clause-constructs : goal.returns-then-self-clause-constructs
 returns-then-self-clause-constructs c = constructs_none _
+
+pub returns-clause-others : goal.returns-clause-others
+returns-clause-others c = sealed-others c.seal_block-sealed.result c.args.self.now.func.now c.seal_block-sealed.new.func c.args.self.now.ctx.now c.seal_block-sealed.new.self c.args.block c.seal_block-sealed.ensures.is_sealing
+
+pub invariant_of-self : goal.invariant_of-self
+invariant_of-self c =
+    let done = c.seal_block-sealed.ensures in
+    record {
+      named = kept_by c.seal_block-sealed.result _ _ _ _ _ _ c.if-self.false c.is_err-self.ensures.value (λ names. done.names)
+          (order-sealed-one c.seal_block-sealed.result c.args.self.now.func.now c.seal_block-sealed.new.func c.args.self.now.ctx.now c.seal_block-sealed.new.self c.args.block c.requires.exists done.is_sealing c.law_consistent.ensures c.law_consistent-2.ensures done.variables)
+          c.args.self.now.named;
+    }

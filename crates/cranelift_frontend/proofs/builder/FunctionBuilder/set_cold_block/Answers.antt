@@ -1,4 +1,6 @@
-use mathlib.Core.Logic.{∥∥₁_map}
+use Rattle.cranelift_frontend.specs.Order.{IsInOrder}
+use Rattle.cranelift_frontend.proofs.Named.{kept_still}
+use Rattle.cranelift_frontend.proofs.Ordered.{order-cold}
 use Rattle.std.proofs.Common.{List, [], ◌∷◌, ◌++◌, sym, subst}
 use Rattle.clif_ir.specs.Body.{Body}
 use Rattle.clif_ssa.specs.Ssa.{NamesExist}
@@ -10,8 +12,10 @@ use Rattle.cranelift_frontend.proofs.builder.FunctionBuilder.set_cold_block.Goal
 
 pub invariant_of-self : goal.invariant_of-self
 invariant_of-self c = record {
-  named = ∥∥₁_map c.args.self.now.named (λ named.
-      subst (λ (f : Body). NamesExist f c.args.self.now.ctx.now.ssa) (sym c.set_cold_block.ensures) (names_cold c.args.self.now.func.now c.args.self.now.ctx.now.ssa c.args.block named));
+  named = kept_still c.args.self.now.func.now _ c.args.self.now.ctx.now _ _
+      (λ names. subst (λ (f : Body). NamesExist f c.args.self.now.ctx.now.ssa) (sym c.set_cold_block.ensures) (names_cold c.args.self.now.func.now c.args.self.now.ctx.now.ssa c.args.block names))
+      (λ order. subst (λ (f : Body). IsInOrder f c.args.self.now.ctx.now) (sym c.set_cold_block.ensures) (order-cold c.args.self.now.func.now c.args.self.now.ctx.now c.args.block order))
+      c.args.self.now.named;
 }
 
 pub returns-clause-ledger : goal.returns-clause-ledger

@@ -3,10 +3,12 @@ use Rattle.cranelift_frontend.proofs.Calls.{told_by, made}
 use Rattle.cranelift_frontend.proofs.Remembered.{remembers_used, has_record_used}
 use Rattle.std.proofs.Common.{sym, ◌∙◌, ℕ, subst}
 use Rattle.cranelift_frontend.proofs.LedgerUsed.{used, used-statuses}
-use Rattle.cranelift_frontend.proofs.Standing.{current_open}
+use Rattle.cranelift_frontend.proofs.Standing.{current_exists, current_open}
 use Rattle.cranelift_frontend.proofs.StandingResults.{used_stands}
 use Rattle.cranelift_frontend.proofs.Growing.{used_current, used_grows}
-use Rattle.cranelift_frontend.proofs.Named.{opened}
+use Rattle.cranelift_frontend.proofs.Framed.{used-filled, used-seals, used-types}
+use Rattle.cranelift_frontend.proofs.Named.{kept_by, kept_typed, opened}
+use Rattle.cranelift_frontend.proofs.Ordered.{order-used}
 use Rattle.std.specs.Prelude.{IfSome, OnOk, Option}
 use Rattle.cranelift_frontend.specs.Context.{SetsStatus, begun, status_of}
 use Rattle.clif_simulation.proofs.CarriedStructure.{sealed_parameters}
@@ -26,7 +28,8 @@ returns-clause-told c =
 pub returns-clause-call : goal.returns-clause-call
 returns-clause-call c =
     made c.args.self.now _ c.use_variable-used.result (record { func = refl; ctx = refl }) refl c.if-self.false c.use_variable-used.ensures.never_failed c.is_err-self.ensures.value
-    c.use_variable-used.ensures.looks_once
+    c.use_variable-used.ensures.looks_once (used-types c.use_variable-used.result c.args.self.now.func.now c.args.self.now.ctx.now c.use_variable-used.new.func c.use_variable-used.new.ctx c.args.variable c.in-Some-var_type.ty c.in-Some.block c.use_variable-used.ensures.is_use)
+    (used-filled c.use_variable-used.result c.args.self.now.func.now c.args.self.now.ctx.now c.use_variable-used.new.func c.use_variable-used.new.ctx c.args.variable c.in-Some-var_type.ty c.in-Some.block c.use_variable-used.ensures.is_use)
 
 pub returns-clause-status : goal.returns-clause-status
 returns-clause-status c = λ calls agrees.
@@ -49,10 +52,28 @@ returns-clause-current c =
     used_current c.use_variable-used.result c.args.self.now.position c.args.self.now.func.now c.args.self.now.ctx.now c.use_variable-used.new.func c.use_variable-used.new.ctx c.args.variable c.in-Some-var_type.ty c.in-Some.block c.use_variable-used.ensures.is_use c.requires.current
 
 pub use_variable-used-requires-clause-named : goal.use_variable-used-requires-clause-named
-use_variable-used-requires-clause-named c = opened _ _ c.args.self.now.named
+use_variable-used-requires-clause-named c = opened _ _ _ c.args.self.now.named
 
 pub returns-then-self-clause-parameters : goal.returns-then-self-clause-parameters
 returns-then-self-clause-parameters c = λ signature calls stands. sealed_parameters calls _ _ stands.carries
 
 pub returns-clause-parameters : goal.returns-clause-parameters
 returns-clause-parameters c = λ signature calls stands. sealed_parameters calls _ _ stands.carries
+
+pub returns-clause-typed : goal.returns-clause-typed
+returns-clause-typed c =
+    kept_typed c.use_variable-used.result c.args.self.now.func.now c.use_variable-used.new.func c.args.self.now.ctx.now c.use_variable-used.new.ctx _ c.args.variable c.in-Some-var_type.ty c.in-Some.block
+    c.if-self.false (sym c.var_type.ensures ∙ c.in-Some-var_type.is) c.use_variable-used.ensures.is_use c.args.self.now.named
+
+pub returns-clause-seals : goal.returns-clause-seals
+returns-clause-seals c = used-seals c.use_variable-used.result c.args.self.now.func.now c.args.self.now.ctx.now c.use_variable-used.new.func c.use_variable-used.new.ctx c.args.variable c.in-Some-var_type.ty c.in-Some.block c.use_variable-used.ensures.is_use
+
+pub invariant_of-self : goal.invariant_of-self
+invariant_of-self c =
+    let done = c.use_variable-used.ensures in
+    record {
+      named = kept_by c.use_variable-used.result _ _ _ _ _ _ c.if-self.false c.is_err-self.ensures.value (λ names. done.names)
+          (order-used c.use_variable-used.result c.args.self.now.func.now c.use_variable-used.new.func c.args.self.now.ctx.now c.use_variable-used.new.ctx c.args.variable c.in-Some-var_type.ty c.in-Some.block
+          (current_exists c.args.self.now c.requires.current c.in-Some.block c.in-Some.is) (sym c.var_type.ensures ∙ c.in-Some-var_type.is) done.is_use c.law_consistent-2.ensures done.variables)
+          c.args.self.now.named;
+    }
