@@ -8,11 +8,11 @@ use Rattle.clif_types.specs.declared.types.«Type».{«Type»}
 use Rattle.clif_instructions.specs.declared.instructions.InstructionData.{InstructionData}
 use Rattle.clif_ir.specs.Body.{inst_at}
 use Rattle.clif_ir.specs.Consistent.{IsConsistent}
-use Rattle.clif_ir.specs.Instruction.{destinations, is_branch, is_terminator, result_types}
-use Rattle.clif_ir.specs.Reading.{targets}
+use Rattle.clif_instructions.specs.Instruction.{destinations, is_branch, is_terminator, result_types}
+use Rattle.clif_instructions.specs.Edges.{targets}
 use Rattle.clif_ssa.specs.Ssa.{SealedStays, SsaState}
 use Rattle.clif_ssa.specs.Structure.{LooksOnce}
-use Rattle.clif_ssa.specs.Tables.{is_yes}
+use Rattle.clif_records.specs.Tables.{is_yes}
 use Rattle.cranelift_frontend.specs.declared.context.BlockStatus.TheVariants.{Filled}
 use Rattle.cranelift_frontend.specs.Context.{begun, status_of}
 use Rattle.cranelift_frontend.specs.declared.builder.FunctionBuilder.{FunctionBuilder}

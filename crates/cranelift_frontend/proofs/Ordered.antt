@@ -7,26 +7,27 @@ use Rattle.std.proofs.lemmas.Option.{get_or_from_slice_get}
 use Rattle.clif_types.specs.declared.types.«Type».{«Type»}
 use Rattle.clif_types.specs.declared.extname.UserFuncName.{UserFuncName}
 use Rattle.clif_types.specs.Signature.{SignatureShape}
-use Rattle.clif_ir.specs.declared.block_call.BlockCall.{BlockCall}
+use Rattle.clif_instructions.specs.declared.block_call.BlockCall.{BlockCall}
 use Rattle.clif_ir.specs.declared.function.BlockNode.{BlockNode}
 use Rattle.clif_ir.specs.declared.function.InstNode.{InstNode}
-use Rattle.clif_ir.specs.declared.inst_list.InsertAt.TheVariants.{Back}
-use Rattle.clif_ir.specs.declared.instructions.InstructionData.{InstructionData}
-use Rattle.clif_ir.specs.declared.instructions.InstructionData.TheVariants.{UnaryImm, Unary, Binary, Jump, Brif, MultiAry}
+use Rattle.clif_instructions.specs.declared.inst_list.InsertAt.TheVariants.{Back}
+use Rattle.clif_instructions.specs.declared.instructions.InstructionData.{InstructionData}
+use Rattle.clif_instructions.specs.declared.instructions.InstructionData.TheVariants.{UnaryImm, Unary, Binary, Jump, Brif, MultiAry}
 use Rattle.clif_ir.specs.Body.{Body, block_at, empty_block, empty_body, inst_at, no_inst}
 use Rattle.clif_ir.specs.Changes.{inserted_in, inst_node, with_block, with_cold, with_inst, with_layout_after, with_param}
 use Rattle.clif_ir.specs.Consistent.{IsConsistent}
-use Rattle.clif_ir.specs.Instruction.{destinations, is_branch, is_terminator, result_types}
-use Rattle.clif_ir.specs.Reading.{stands_in, targets}
+use Rattle.clif_instructions.specs.Instruction.{destinations, is_branch, is_terminator, result_types}
+use Rattle.clif_instructions.specs.Members.{stands_in}
+use Rattle.clif_instructions.specs.Edges.{targets}
 use Rattle.clif_paths.proofs.Tables.{updated-same}
-use Rattle.clif_ssa.specs.declared.tables.SsaBlock.{SsaBlock}
+use Rattle.clif_records.specs.declared.tables.SsaBlock.{SsaBlock}
 use Rattle.clif_ssa.specs.LookUp.{branch_block}
 use Rattle.clif_ssa.specs.Own.{Own, no_own}
 use Rattle.clif_ssa.specs.Sound.{args_of}
 use Rattle.clif_ssa.specs.SoundLaws.{shape_passes, with_own}
 use Rattle.clif_ssa.specs.Ssa.{Records, SameBlocks, SamePredecessors, SsaState, no_srcloc, no_state, predecessors_of, sealed_of}
 use Rattle.clif_ssa.specs.Structured.{HasType, Structured, VariableTypes}
-use Rattle.clif_ssa.specs.Tables.{RecordMap, is_yes, predecessors_at, record_at, sealed_at}
+use Rattle.clif_records.specs.Tables.{RecordMap, is_yes, predecessors_at, record_at, sealed_at}
 use Rattle.clif_ssa.proofs.Bodies.{firm_from}
 use Rattle.clif_ssa.proofs.Counting.{block_params}
 use Rattle.clif_ssa.proofs.Ordering.{none_contained}

@@ -9,7 +9,7 @@ ghost use Rattle.cranelift_frontend.specs.Builder.{with_position, is_unreachable
 ghost use Rattle.clif_ssa.specs.Limits.{IsFull};
 ghost use Rattle.clif_ssa.specs.Structure.{LooksOnce};
 ghost use Rattle.clif_ssa.specs.Constructs.{OnlyConstructs};
-ghost use Rattle.clif_ssa.specs.Tables.{is_yes, pending_of};
+ghost use Rattle.clif_records.specs.Tables.{is_yes, pending_of};
 ghost use Rattle.clif_ssa.specs.Ssa.{sealed_of, predecessors_of, completed, NamesExist, Records, RecordsStay, SealedStays, SameBlocks, SamePredecessors, SameRecords, Seals};
 ghost use Rattle.clif_ir.specs.Body.{empty_body, inst_at, value_at};
 ghost use Rattle.clif_ir.specs.Changes.{with_block, inserted_in};
