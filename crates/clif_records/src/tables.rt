@@ -91,6 +91,9 @@ impl Records {
         ensures ok { OnOk result (block < length self.new) }
         ensures only_memory { OnErr result (result ≡ Err BuildError.Memory) }
     {
+        if block.index() < self.cells.len() {
+            return Ok(());
+        }
         let missing = (block.index() + 1).saturating_sub(self.cells.len());
         for _ in 0..missing {
             self.cells.push(NO_CELL)?;
@@ -312,6 +315,9 @@ fn reach_row(rows: &mut Vec<Records>, variable: Variable) -> Result<(), BuildErr
     ensures ok { OnOk result (variable < length rows.new.items) }
     ensures only_memory { OnErr result (result ≡ Err BuildError.Memory) }
 {
+    if variable.index() < rows.len() {
+        return Ok(());
+    }
     let alloc = *rows.allocator();
     let missing = (variable.index() + 1).saturating_sub(rows.len());
     for _ in 0..missing {
@@ -497,6 +503,9 @@ impl BlockTable {
         ensures no_more { (length self.new ≤ length self.old) ⊎ (length self.new ≤ block + 1) }
         ensures only_memory { OnErr result (result ≡ Err BuildError.Memory) }
     {
+        if block.index() < self.blocks.len() {
+            return Ok(());
+        }
         let alloc = *self.blocks.allocator();
         let missing = (block.index() + 1).saturating_sub(self.blocks.len());
         for _ in 0..missing {
