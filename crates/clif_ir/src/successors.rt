@@ -4,8 +4,8 @@ ghost use Rattle.std.specs.Iterator.{YieldsFirst, item_count};
 ghost use Rattle.clif_ir.specs.Body.{block_at};
 ghost use Rattle.clif_ir.specs.Reading.{edges_of, successors};
 
-use clif_instructions::block_call::BlockCall;
 use crate::function::Function;
+use clif_instructions::block_call::BlockCall;
 use clif_types::Block;
 use std::marker::Model;
 

@@ -11,8 +11,8 @@ ghost use Rattle.std.specs.Prelude.{ℕ, ◌≡◌, ◌<◌, length, EachIndex, 
 ghost use Rattle.clif_ir.specs.Consistent.{EdgeExists};
 ghost use Rattle.clif_instructions.specs.Instruction.{operands, destinations};
 
-use clif_instructions::block_call::{BlockArg, BlockCall};
 use crate::function::{Function, ValueDef};
+use clif_instructions::block_call::{BlockArg, BlockCall};
 use clif_instructions::immediates::{Imm64, signed_at};
 use clif_instructions::instructions::InstructionData;
 use clif_types::{Block, EntityRef, Inst, Suffix, Type, Value};

@@ -7,10 +7,10 @@ use crate::support::{
     value_of,
 };
 use clif_instructions::block_call::BlockCall;
-use clif_ir::function::Function;
 use clif_instructions::inst_list::InsertAt;
 use clif_instructions::instructions::InstructionData;
 use clif_instructions::value_list::ValueList;
+use clif_ir::function::Function;
 use clif_types::{BinaryOpcode, SourceLoc, Type, UnaryOpcode, Value};
 use std::alloc::Global;
 use std::process::Abort;

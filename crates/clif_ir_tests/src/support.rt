@@ -8,8 +8,8 @@ ghost use Rattle.clif_instructions.specs.Members.{IsPlaceOf};
 ghost use Rattle.clif_ir.specs.Consistent.{EdgeExists};
 
 use clif_instructions::block_call::BlockCall;
-use clif_ir::function::{Function, ValueOrigin};
 use clif_instructions::inst_list::InsertAt;
+use clif_ir::function::{Function, ValueOrigin};
 use clif_types::{
     AbiParam, Block, CallConv, EntityRef, Inst, Signature, Type, UserFuncName, Value,
 };

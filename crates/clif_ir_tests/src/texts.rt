@@ -6,8 +6,8 @@ use crate::steps::Step::{
 };
 use crate::steps::{makes, makes_of};
 use crate::support::{prints, typed};
-use clif_ir::function::Function;
 use clif_instructions::inst_list::InsertAt::{Back, Behind};
+use clif_ir::function::Function;
 use clif_types::BinaryOpcode::{Band, Bor, Bxor, Iadd, Imul, Isub};
 use clif_types::UnaryOpcode::{Bnot, Ineg};
 use clif_types::types::{F64, I8, I16, I32, I64};

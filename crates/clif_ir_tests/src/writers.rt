@@ -4,8 +4,8 @@
 use crate::steps::Step::{Alias, Binary, Create, Iconst, LayOut, Param, ReturnTwo};
 use crate::steps::make_all;
 use crate::support::sample;
-use clif_ir::function::Function;
 use clif_instructions::inst_list::InsertAt::Back;
+use clif_ir::function::Function;
 use clif_types::BinaryOpcode::Iadd;
 use clif_types::types::I32;
 use std::alloc::Global;

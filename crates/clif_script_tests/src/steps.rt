@@ -5,8 +5,8 @@ ghost use Rattle.std.specs.Prelude.{◌≡◌};
 ghost use Rattle.cranelift_frontend.specs.Context.{empty_context};
 
 use clif_ir::Function;
-use clif_script::{Call, Edge, Name, PlainInstruction, ReplayError, replay};
 use clif_records::Variable;
+use clif_script::{Call, Edge, Name, PlainInstruction, ReplayError, replay};
 use clif_types::{
     AbiParam, CallConv, LaneType, PointerWidth, Signature, TargetFrontendConfig, Type, UserFuncName,
 };

@@ -2,14 +2,14 @@
 ghost use Rattle.std.specs.Prelude.{◌≡◌, ◌++◌, ℕ, List, IfSome, codes};
 ghost use Rattle.clif_words.specs.Spelling.{IsDecimal};
 
-use clif_words::cursor::Cursor;
-use clif_words::error::{Expected, Fault, LineError};
-use clif_words::number::{decimal, number};
 use crate::scope::{Scope, is_name};
-use clif_words::types::type_named;
 use clif_calls::{Edge, Name};
 use clif_records::Variable;
 use clif_types::Type;
+use clif_words::cursor::Cursor;
+use clif_words::error::{Expected, Fault, LineError};
+use clif_words::number::{decimal, number};
+use clif_words::types::type_named;
 use std::alloc::Global;
 
 /// The words that are left, and what names in them stand for.

@@ -7,11 +7,11 @@ ghost use Rattle.clif_text.specs.Grammar.{IsCall};
 ghost use Rattle.clif_text.specs.Scope.{names_of};
 
 use crate::args::Args;
-use clif_words::error::{Expected, Fault, LineError};
 use crate::scope::Scope;
-use clif_words::types::type_named;
 use clif_calls::{Call, PlainInstruction};
 use clif_types::{BinaryOpcode, UnaryOpcode};
+use clif_words::error::{Expected, Fault, LineError};
+use clif_words::types::type_named;
 use std::alloc::Global;
 
 // The calls of the format that aren't understood so far, without the type that may follow their name.

@@ -5,14 +5,14 @@ ghost use Rattle.clif_words.specs.Cursor.{texts, words_left};
 ghost use Rattle.clif_text.specs.Header.{AreReturned, AreTypes, IsFunction, IsFunctionName, IsUserName, name_in, signature_in};
 ghost use Rattle.clif_words.specs.Spelling.{pointer_text};
 
-use clif_words::cursor::Cursor;
-use clif_words::error::{Expected, Fault, LineError};
-use clif_words::number::short_decimal;
-use clif_words::types::{call_conv_named, pointer_width_named};
 use clif_types::{
     AbiParam, CallConv, PointerWidth, Signature, TargetFrontendConfig, UserExternalName,
     UserFuncName,
 };
+use clif_words::cursor::Cursor;
+use clif_words::error::{Expected, Fault, LineError};
+use clif_words::number::short_decimal;
+use clif_words::types::{call_conv_named, pointer_width_named};
 use std::alloc::Global;
 
 /// What the header lines so far say.

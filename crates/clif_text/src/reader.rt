@@ -7,12 +7,12 @@ ghost use Rattle.clif_text.specs.Reader.{NamesAnswers};
 ghost use Rattle.clif_text.specs.Script as script;
 
 use crate::calls::{Answers, answers_of, call_of};
-use clif_words::error::{Expected, Fault, LineError, ReadError};
 use crate::header::{Header, is_header};
 use crate::scope::{Scope, is_name};
-use clif_words::words::words_of;
 use clif_calls::{Call, Name};
 use clif_types::{Signature, TargetFrontendConfig, UserFuncName};
+use clif_words::error::{Expected, Fault, LineError, ReadError};
+use clif_words::words::words_of;
 use std::alloc::{AllocError, Global};
 
 /// What a text says.

@@ -2,8 +2,8 @@
 ghost use Rattle.std.specs.Prelude.{◌≤◌, IfSome, vec_len};
 ghost use Rattle.clif_text.specs.Grammar.{IsPlaceName};
 
-use clif_words::number::decimal;
 use clif_calls::Name;
+use clif_words::number::decimal;
 use std::alloc::{AllocError, Global};
 use std::collections::BTreeMap;
 

@@ -20,8 +20,18 @@ fn is_cut(rt: &impl Abort, alloc: Global, line: &str, words: &[&str]) -> Result<
 fn words(rt: HostRuntime) -> Result<(), Fail> {
     is_cut(&rt, rt.alloc(), "", &[])?;
     is_cut(&rt, rt.alloc(), " \t# nothing", &[])?;
-    is_cut(&rt, rt.alloc(), "v2 = iadd v0, v1 # a sum", &["v2", "=", "iadd", "v0", "v1"])?;
-    is_cut(&rt, rt.alloc(), "jump b1(x,y)", &["jump", "b1", "(", "x", "y", ")"])?;
+    is_cut(
+        &rt,
+        rt.alloc(),
+        "v2 = iadd v0, v1 # a sum",
+        &["v2", "=", "iadd", "v0", "v1"],
+    )?;
+    is_cut(
+        &rt,
+        rt.alloc(),
+        "jump b1(x,y)",
+        &["jump", "b1", "(", "x", "y", ")"],
+    )?;
     is_cut(&rt, rt.alloc(), "iconst.i32 -1#", &["iconst.i32", "-1"])
 }
 

@@ -1,9 +1,8 @@
 //! Numbers, types, conventions and widths of pointers as words.
 #![tactic(auto)]
 
-use clif_types::types;
 use clif_types::types::Type;
-use clif_types::{CallConv, PointerWidth};
+use clif_types::{CallConv, PointerWidth, types};
 use clif_words::number::{decimal, number, short_decimal};
 use clif_words::types::{call_conv_named, pointer_width_named, type_named};
 use std::process::Abort;

@@ -3,7 +3,6 @@ use Rattle.std.proofs.Common.{◌≡◌, ◌≢◌, ◌<◌, ◌≤◌, ◌+◌,
 use Rattle.std.specs.Prelude.{All, slice_get, slice_index_or, ltb, Bool, true, false, if◌then◌else◌, Option, Some, Contains, Result, Ok, Err, OnOk, IfOk}
 use Rattle.std.proofs.lemmas.Bool.{cases_eq, le-ltb, ne_eqb}
 use Rattle.std.proofs.lemmas.Option.{get_or_from_slice_get}
-
 use Rattle.clif_types.specs.declared.types.«Type».{«Type»}
 use Rattle.clif_types.specs.declared.extname.UserFuncName.{UserFuncName}
 use Rattle.clif_types.specs.Signature.{SignatureShape}
@@ -290,9 +289,9 @@ module _ (f : Body) (c : ContextState) (b : ℕ) (types : List «Type») (order 
   alone_or_begun k = elim (cases_eq k b) [
     | inl same ↦ inl (subst (λ (j : ℕ). (block_at with_more j).params ≡ more_own.params j) (sym same) (bare_still b 0 order.own f types there bare))
     | inr other ↦ elim (order.callers_alone k) [
-        | inl alone ↦ inl (params_elsewhere b 0 f types k there other ∙ alone ∙ sym (elsewhere k other))
-        | inr was ↦ inr (record { inserted = ap (stands_in k) (same_layout f b types) ∙ was.inserted; begun = was.begun })
-      ]
+      | inl alone ↦ inl (params_elsewhere b 0 f types k there other ∙ alone ∙ sym (elsewhere k other))
+      | inr was ↦ inr (record { inserted = ap (stands_in k) (same_layout f b types) ∙ was.inserted; begun = was.begun })
+    ]
   ]
 
   order-params : IsInOrder with_more c
