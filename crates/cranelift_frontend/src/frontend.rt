@@ -339,7 +339,8 @@ impl<'a> FunctionBuilder<'a> {
         requires declared { variable < length self.old.ctx.now.variables }
         ensures call { IsCall self.old self.new result }
         ensures uses { IfSome self.old.position (λ block. IfOk result (Uses self.old self.new variable block)) }
-        ensures typed { IfOk result (λ v. slice_get self.old.ctx.now.variables variable ≡ Some (value_at self.new.func.now v).ty) }
+        ensures typed { IfOk result (λ v.
+            slice_get self.old.ctx.now.variables variable ≡ Some (value_at self.new.func.now v).ty) }
         ensures seals { OnOk result (SealedStays self.old.ctx.now.ssa self.new.ctx.now.ssa) }
         ensures is_use { (ty : «Type») → slice_get self.old.ctx.now.variables variable ≡ Some ty → IfSome self.old.position (λ block. IfOk result (λ value. (told : List ℕ) × IsUse (inserted_in self.old.func.now block) self.old.ctx.now.ssa self.new.func.now self.new.ctx.now.ssa variable ty block value told × Begins self.old.ctx.now self.new.ctx.now (block ∷ told))) }
         ensures status { (calls : List AnsweredCall) → AgreesWithLedger calls self.old → IfSome self.old.position (λ block. OnOk result (SetsStatus self.old.ctx.now self.new.ctx.now block (begun (status_of self.old.ctx.now block)))) }
