@@ -6,7 +6,7 @@ use Rattle.clif_types.specs.declared.types.«Type».{«Type»}
 use Rattle.clif_ir.specs.declared.function.ValueNode.{ValueNode}
 use Rattle.clif_instructions.specs.declared.instructions.InstructionData.{InstructionData}
 use Rattle.clif_ir.specs.Body.{Body, no_value, value_at}
-use Rattle.clif_ir.specs.Changes.{inserted_in, result_nodes, with_block, with_layout, with_layout_after, with_param}
+use Rattle.clif_ir.specs.Changes.{inserted_in, result_nodes, with_block, with_layout, with_param}
 use Rattle.clif_instructions.specs.Instruction.{result_types}
 use Rattle.clif_instructions.specs.Members.{stands_in}
 use Rattle.clif_simulation.specs.Carries.{with_params}

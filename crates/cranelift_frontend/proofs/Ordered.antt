@@ -1,19 +1,18 @@
 -- The parts of a builder stay in order, whatever the calls are.
 use Rattle.std.proofs.Common.{◌≡◌, ◌≢◌, ◌<◌, ◌≤◌, ◌+◌, ◌==◌, ◌||◌, ℕ, suc, List, [], ◌∷◌, ◌++◌, length, refl, sym, ◌∙◌, ap, subst, arith, inl, inr, length-append, length-set, append-nil}
-use Rattle.std.specs.Prelude.{All, slice_get, slice_index_or, ltb, Bool, true, false, if◌then◌else◌, Option, Some, Contains, Result, Ok, Err, OnOk, IfOk}
+use Rattle.std.specs.Prelude.{All, slice_get, slice_index_or, ltb, Bool, true, false, if◌then◌else◌, Some, Contains, Result, Ok, Err, OnOk, IfOk}
 use Rattle.std.proofs.lemmas.Bool.{cases_eq, le-ltb, ne_eqb}
 use Rattle.std.proofs.lemmas.Option.{get_or_from_slice_get}
 use Rattle.clif_types.specs.declared.types.«Type».{«Type»}
 use Rattle.clif_types.specs.declared.extname.UserFuncName.{UserFuncName}
 use Rattle.clif_types.specs.Signature.{SignatureShape}
 use Rattle.clif_instructions.specs.declared.block_call.BlockCall.{BlockCall}
-use Rattle.clif_ir.specs.declared.function.BlockNode.{BlockNode}
 use Rattle.clif_ir.specs.declared.function.InstNode.{InstNode}
 use Rattle.clif_instructions.specs.declared.inst_list.InsertAt.TheVariants.{Back}
 use Rattle.clif_instructions.specs.declared.instructions.InstructionData.{InstructionData}
 use Rattle.clif_instructions.specs.declared.instructions.InstructionData.TheVariants.{UnaryImm, Unary, Binary, Jump, Brif, MultiAry}
-use Rattle.clif_ir.specs.Body.{Body, block_at, empty_block, empty_body, inst_at, no_inst}
-use Rattle.clif_ir.specs.Changes.{inserted_in, inst_node, with_block, with_cold, with_inst, with_layout_after, with_param}
+use Rattle.clif_ir.specs.Body.{Body, block_at, empty_body, inst_at, no_inst}
+use Rattle.clif_ir.specs.Changes.{inserted_in, inst_node, with_block, with_cold, with_inst, with_layout_after}
 use Rattle.clif_ir.specs.Consistent.{IsConsistent}
 use Rattle.clif_instructions.specs.Instruction.{destinations, is_branch, is_terminator, result_types}
 use Rattle.clif_instructions.specs.Members.{stands_in}
@@ -24,8 +23,8 @@ use Rattle.clif_ssa.specs.LookUp.{branch_block}
 use Rattle.clif_ssa.specs.Own.{Own, no_own}
 use Rattle.clif_ssa.specs.Sound.{args_of}
 use Rattle.clif_ssa.specs.SoundLaws.{shape_passes, with_own}
-use Rattle.clif_ssa.specs.Ssa.{Records, SameBlocks, SamePredecessors, SsaState, no_srcloc, no_state, predecessors_of, sealed_of}
-use Rattle.clif_ssa.specs.Structured.{HasType, Structured, VariableTypes}
+use Rattle.clif_ssa.specs.Ssa.{Records, SameBlocks, SamePredecessors, no_srcloc, predecessors_of, sealed_of}
+use Rattle.clif_ssa.specs.Structured.{HasType, Structured}
 use Rattle.clif_records.specs.Tables.{RecordMap, is_yes, predecessors_at, record_at, sealed_at}
 use Rattle.clif_ssa.proofs.Bodies.{firm_from}
 use Rattle.clif_ssa.proofs.Counting.{block_params}
@@ -38,11 +37,10 @@ use Rattle.clif_simulation.proofs.Further.{cold_insts, cold_params}
 use Rattle.clif_simulation.proofs.Telling.{MayLead, along_old_or_it, along_structured}
 use Rattle.cranelift_frontend.specs.declared.context.BlockStatus.{BlockStatus}
 use Rattle.cranelift_frontend.specs.declared.context.BlockStatus.TheVariants.{Empty, Filled}
-use Rattle.cranelift_frontend.specs.Builder.{AppendsIn, CanLeadIn, status_after}
+use Rattle.cranelift_frontend.specs.Builder.{AppendsIn, CanLeadIn}
 use Rattle.cranelift_frontend.specs.Construction.{IsDeclared, IsSealingOf, IsUse}
 use Rattle.cranelift_frontend.specs.Context.{Begins, ContextState, SameStatus, SetsStatus, begun, empty_context, status_of}
-use Rattle.cranelift_frontend.specs.Order.{AloneUnlessBegun, AreTypesOf, IsBegun, IsEnded, IsInOrder, IsStructured}
-use Rattle.cranelift_frontend.proofs.Appending.{none_of_inner}
+use Rattle.cranelift_frontend.specs.Order.{AloneUnlessBegun, AreTypesOf, IsEnded, IsInOrder, IsStructured}
 use Rattle.cranelift_frontend.proofs.Laid.{still_stands}
 use Rattle.cranelift_frontend.proofs.LedgerBuilt.{appended-structured, appends-make, contained-stands, node-there, unsealed-target}
 use Rattle.cranelift_frontend.proofs.LedgerKept.{branch-kept, extends-constructs, inserted-insts, keeps-of}

@@ -1,6 +1,6 @@
 -- How a builder agrees with the ledger of the calls that were made on it: what the ledger tells of answers, blocks,
 -- layout and variables is what the builder answered and its queries answer. Own.
-use Rattle.std.specs.Prelude.{◌≡◌, ◌≢◌, ◌⊎◌, ℕ, ◌≤◌, List, [], ◌∷◌, length, map, slice_get, Option, Some, None, option_map, Contains, false, true, IsTrue, Result, Ok, Err}
+use Rattle.std.specs.Prelude.{◌≡◌, ℕ, ◌≤◌, List, [], ◌∷◌, length, map, slice_get, Option, Some, None, option_map, Contains, false, IsTrue, Result, Ok, Err}
 use Rattle.clif_types.specs.declared.types.«Type».{«Type»}
 use Rattle.clif_types.specs.declared.types.«Type».TheVariants.{Invalid}
 use Rattle.clif_instructions.specs.declared.instructions.InstructionData.{InstructionData}
@@ -14,7 +14,6 @@ use Rattle.clif_meaning.specs.View.{operation_of}
 use Rattle.clif_ir.specs.declared.function.ValueNode.{ValueNode}
 use Rattle.clif_ir.specs.declared.function.InstNode.{InstNode}
 use Rattle.clif_ir.specs.Body.{Body, block_at, value_at}
-use Rattle.clif_instructions.specs.Members.{stands_in}
 use Rattle.clif_meaning.specs.Name.{Name, answer_of}
 use Rattle.clif_meaning.specs.Request.{AnsweredCall, script_of, number_of}
 use Rattle.clif_meaning.specs.Ledger.{Answered, ABlock, AVariable, AValue, AnInstruction, BlockState, Ledger, ledger_after, answer_at, has_block, has_value}
@@ -23,9 +22,8 @@ use Rattle.clif_meaning.specs.Acceptance as refusal
 use Rattle.clif_records.specs.Tables.{is_yes}
 use Rattle.clif_ssa.specs.Own.{Own}
 use Rattle.clif_ssa.specs.LookUp.{branch_block}
-use Rattle.clif_ssa.specs.Structured.{Structured, VariableTypes}
 use Rattle.clif_ssa.specs.Ssa.{predecessors_of, sealed_of}
-use Rattle.cranelift_frontend.specs.declared.context.BlockStatus.TheVariants.{Empty, Filled}
+use Rattle.cranelift_frontend.specs.declared.context.BlockStatus.TheVariants.{Empty}
 use Rattle.cranelift_frontend.specs.declared.error.FinalizeError.{FinalizeError}
 use Rattle.cranelift_frontend.specs.declared.error.FinalizeError.TheVariants as error
 use Rattle.cranelift_frontend.specs.declared.builder.FunctionBuilder.{FunctionBuilder}

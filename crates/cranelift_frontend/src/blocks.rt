@@ -23,7 +23,7 @@ use clif_ir::Function;
 use clif_types::{Block, BuildError, Type, Value};
 
 impl<'a> FunctionBuilder<'a> {
-    /// The parameters of a block, in order: those of variables, too.
+    /// The parameters of a block, in order: the caller's own, and behind them those that were made for variables.
     pub fn block_params(&self, block: Block) -> &[Value]
         requires { block < length self.now.func.now.blocks }
         ensures exact { result.now ≡ (block_at self.now.func.now block).params }
@@ -32,9 +32,10 @@ impl<'a> FunctionBuilder<'a> {
         self.func.block_params(block)
     }
 
-    /// Puts a block, which isn't in the layout, behind a block that is in it.
+    /// Puts a block into the layout right behind another one, which has no effect but on the order of the text.
     ///
-    /// It takes no memory, so its one error is `Failed`.
+    /// `after` is in the layout and `block` isn't. Without this call a block enters the layout as its last one,
+    /// once something is made in it. It takes no memory, so its one error is `Failed`.
     pub fn insert_block_after(&mut self, block: Block, after: Block) -> Result<(), BuildError>
         requires exists { block < length self.old.func.now.blocks }
         requires outside { Stands block self.old.func.now.layout → ⊥ }
@@ -58,7 +59,8 @@ impl<'a> FunctionBuilder<'a> {
         Ok(())
     }
 
-    /// Marks a block as cold: as one that is seldom reached.
+    /// Marks a block as cold, which tells later stages that it is seldom reached (an error path, say). What the
+    /// function means doesn't change. It takes no memory and can't fail.
     pub fn set_cold_block(&mut self, block: Block)
         requires exists { block < length self.old.func.now.blocks }
         ensures loans { SameLoans self.old self.new }
@@ -75,7 +77,10 @@ impl<'a> FunctionBuilder<'a> {
         self.func.set_cold_block(block);
     }
 
-    /// Brings the current block into the layout, as if something were made in it.
+    /// Brings the current block into the layout now, as its last block, even if nothing is made in it yet. It is
+    /// no longer pristine then.
+    ///
+    /// There is a current block, which isn't filled.
     pub fn ensure_inserted_block(&mut self) -> Result<(), BuildError>
         requires current { HasCurrent self.old }
         ensures call { IsCall self.old self.new result }
@@ -102,9 +107,11 @@ impl<'a> FunctionBuilder<'a> {
         begun
     }
 
-    /// Puts a parameter of the caller's behind those of a block, in which nothing was made, and answers it.
+    /// Appends a parameter to a block, and answers its value. Each branch to the block passes an argument for it.
     ///
-    /// It gets the next number of a value. `Full` comes where there are 2^32 - 1 values.
+    /// The block is pristine ([`FunctionBuilder::is_pristine`]); later, parameters of variables may follow. `Full`
+    /// means that there are 2^32 - 1 values. After an error the block has the parameters that it had, and the
+    /// builder has failed.
     pub fn append_block_param(&mut self, block: Block, ty: Type) -> Result<Value, BuildError>
         requires exists { block < length self.old.func.now.blocks }
         requires pristine { status_of self.old.ctx.now block ≡ BlockStatus.Empty }
@@ -131,9 +138,11 @@ impl<'a> FunctionBuilder<'a> {
         appended
     }
 
-    /// Puts the parameters of the function behind those of a block, in which nothing was made and to which no branch leads.
+    /// Appends the function's parameters, as its signature lists them, to a block: the entry block, which
+    /// [`FunctionBuilder::block_params`] then tells the values of.
     ///
-    /// They get the next numbers of values. `Full` comes where there are 2^32 - 1 values then, so there was no room for all.
+    /// The block is pristine, and no branch leads to it ([`FunctionBuilder::has_any_predecessors`]). `Full` means
+    /// that there are 2^32 - 1 values now, and so no room for all of the parameters; some may have been appended.
     pub fn append_block_params_for_function_params(
         &mut self,
         block: Block,
@@ -163,9 +172,11 @@ impl<'a> FunctionBuilder<'a> {
         appended
     }
 
-    /// Puts what the function returns, as parameters, behind those of a block, in which nothing was made.
+    /// Appends a parameter to a block for each value that the function returns: for a block that all returns jump
+    /// to.
     ///
-    /// They get the next numbers of values. `Full` comes where there are 2^32 - 1 values then, so there was no room for all.
+    /// The block is pristine. `Full` means that there are 2^32 - 1 values now, and so no room for all of the
+    /// parameters; some may have been appended.
     pub fn append_block_params_for_function_returns(
         &mut self,
         block: Block,

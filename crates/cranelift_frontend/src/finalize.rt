@@ -20,10 +20,13 @@ use crate::error::FinalizeError;
 use clif_types::{Block, EntityRef, TargetFrontendConfig};
 
 impl<'a> FunctionBuilder<'a> {
-    /// Ends the building: the function is finished where each block in which something was made is
-    /// sealed and filled.
+    /// Ends the building. The function is finished if each block that isn't pristine is sealed and has its
+    /// terminator; otherwise the first such block, by number, is answered as `Unsealed` or `Unfilled`. A builder
+    /// that failed answers `Failed`.
     ///
-    /// The context is cleared in every case. After an error the function is as it was.
+    /// A finished function does what the calls said, with variables: its events, and how it returns or traps, are
+    /// the same. The function itself isn't changed here. The context is cleared in every case, and so serves
+    /// for the next function.
     pub fn finalize(self, config: TargetFrontendConfig) -> Result<(), FinalizeError>
         ensures answer { result ≡ verdict_of self.entry.failed self.entry.ctx.now (length self.entry.func.now.blocks) }
         ensures ledger { (calls : List AnsweredCall) → AgreesWithLedger calls self.entry → self.entry.failed ≡ false → RefusalAgrees calls (refusal_of (ledger_of calls) Finalize) result }

@@ -30,7 +30,17 @@ use clif_ssa::Variable;
 use clif_types::{Block, BuildError, Inst, Type, Value};
 
 impl<'a> FunctionBuilder<'a> {
-    /// A builder of `func`, which is as its makers leave it, with an empty context.
+    /// Starts building `func`.
+    ///
+    /// `func` must be fresh from one of its makers, and `ctx` empty, as it is when new and again after
+    /// [`FunctionBuilder::finalize`] ([`FunctionBuilderContext::is_empty`] tests it). Keep one context for many
+    /// functions: its memory is used again.
+    ///
+    /// ```
+    /// let mut func = Function::with_name_signature(alloc, name, signature);
+    /// let mut ctx = FunctionBuilderContext::new(alloc);
+    /// let mut builder = FunctionBuilder::new(&mut func, &mut ctx);
+    /// ```
     pub fn new(func: &'a mut Function, ctx: &'a mut FunctionBuilderContext) -> Self
         requires fresh { func.old ≡ empty_body func.old.name func.old.signature }
         requires empty { ctx.old ≡ empty_context }
@@ -47,50 +57,54 @@ impl<'a> FunctionBuilder<'a> {
         }
     }
 
-    /// The function as it is so far.
+    /// The function built so far, for reading. Nothing outside the builder writes it.
     pub fn func(&self) -> &Function
         ensures { result.now ≡ self.now.func.now }
     {
         self.func
     }
 
-    /// The block in which instructions are made, if there is one.
+    /// The block that instructions are appended to, if [`FunctionBuilder::switch_to_block`] was called.
     pub fn current_block(&self) -> Option<Block>
         ensures { result ≡ self.now.position }
     {
         self.position
     }
 
-    /// Whether all predecessors of a block are known.
+    /// Whether a block is sealed: whether the builder was told that all of its predecessors are known.
     pub fn is_sealed(&self, block: Block) -> bool
         ensures { result ≡ is_yes (sealed_of self.now.ctx.now.ssa block) }
     {
         self.ctx.is_sealed(block)
     }
 
-    /// Whether a terminator was appended to a block.
+    /// Whether a block has its terminator. Nothing can be appended to it then.
     pub fn is_filled(&self, block: Block) -> bool
         ensures { IsTrue result ↔ (status_of self.now.ctx.now block ≡ BlockStatus.Filled) }
     {
         self.ctx.block_status(block) == BlockStatus::Filled
     }
 
-    /// Whether nothing was made in a block so far.
+    /// Whether a block is pristine: no instruction was appended to it, no variable used in it, and
+    /// [`FunctionBuilder::ensure_inserted_block`] wasn't called for it. Only a pristine block takes parameters.
     pub fn is_pristine(&self, block: Block) -> bool
         ensures { IsTrue result ↔ (status_of self.now.ctx.now block ≡ BlockStatus.Empty) }
     {
         self.ctx.block_status(block) == BlockStatus::Empty
     }
 
-    /// Whether a branch leads to a block.
+    /// Whether a branch that was built so far leads to a block.
     pub fn has_any_predecessors(&self, block: Block) -> bool
         ensures { IsTrue result ↔ (predecessors_of self.now.ctx.now.ssa block ≢ []) }
     {
         self.ctx.has_any_predecessors(block)
     }
 
-    /// Whether nothing leads to the current block: the layout isn't empty, and the current block isn't
+    /// Whether control can't reach the current block: the layout isn't empty, and the current block isn't
     /// its first one, is sealed, and has no predecessor.
+    ///
+    /// A front end may stop translating such a block, since no code that is built in it ever runs. There has
+    /// to be a current block ([`FunctionBuilder::current_block`]).
     pub fn is_unreachable(&self) -> bool
         requires { IsSome self.now.position }
         ensures { IfSome self.now.position (λ block. result ≡ is_unreachable self.now.func.now self.now.ctx.now block) }
@@ -106,7 +120,7 @@ impl<'a> FunctionBuilder<'a> {
         }
     }
 
-    /// The results of an instruction, in order.
+    /// The results of an instruction, in order. The instruction has to exist.
     pub fn inst_results(&self, inst: Inst) -> &[Value]
         requires { inst < length self.now.func.now.insts }
         ensures exact { result.now ≡ (inst_at self.now.func.now inst).results }
@@ -115,7 +129,12 @@ impl<'a> FunctionBuilder<'a> {
         self.func.inst_results(inst)
     }
 
-    /// Makes `block` the current one, where the block that was current may be left.
+    /// Makes `block` the current block: instructions, uses and assignments go there from now on.
+    ///
+    /// `block` must not have its terminator yet ([`FunctionBuilder::is_filled`]), and the block that was current
+    /// must be one that can be left: filled, pristine, or unreachable. It takes no memory and can't fail.
+    /// The block enters the layout only once something is made in it, so blocks are printed in the order in
+    /// which they were begun.
     pub fn switch_to_block(&mut self, block: Block)
         requires exists { block < length self.old.func.now.blocks }
         requires unfilled { status_of self.old.ctx.now block ≢ BlockStatus.Filled }
@@ -129,7 +148,10 @@ impl<'a> FunctionBuilder<'a> {
         self.position = Some(block);
     }
 
-    /// Makes a block.
+    /// Makes a new block. It isn't sealed, is pristine, and isn't in the layout until something is made in it.
+    ///
+    /// Blocks are numbered from 0 on. After an error nothing was made, and the builder has failed: this and
+    /// every later call that may take memory answers `Failed`. `Full` means that there are 2^32 - 1 blocks.
     pub fn create_block(&mut self) -> Result<Block, BuildError>
         ensures call { IsCall self.old self.new result }
         ensures function { OnOk result (self.new.func.now ≡ with_block self.old.func.now) }
@@ -158,11 +180,17 @@ impl<'a> FunctionBuilder<'a> {
         made
     }
 
-    /// Says that all predecessors of a block are known.
+    /// Tells the builder that all predecessors of a block are known: no branch to it will be built anymore.
     ///
-    /// Each parameter that waits in it is completed, in the order in which they were made: where no value or
-    /// one comes from the predecessors it becomes another name, and else each edge to the block passes its
-    /// argument.
+    /// Seal a block as soon as its last predecessor has its branch; a loop's header, once the jump back to it
+    /// is built. A variable that was used in the block before has a pending parameter, which is completed now, in
+    /// the order in which the parameters were made. If no value or a single one comes from the predecessors, the
+    /// parameter becomes an alias of it (of a zero, if none does); otherwise it stays, and each edge to the block
+    /// passes its argument.
+    ///
+    /// A block is sealed once ([`FunctionBuilder::is_sealed`] tests it). If it is sealed too early, a branch to
+    /// it can't be built later; if it is never sealed, [`FunctionBuilder::finalize`] answers `Unsealed`. After
+    /// `Memory` or `Full` the builder has failed; the function may have got some of the parameters' arguments.
     pub fn seal_block(&mut self, block: Block) -> Result<(), BuildError>
         requires exists { block < length self.old.func.now.blocks }
         requires unsealed { is_yes (sealed_of self.old.ctx.now.ssa block) ≡ false }
@@ -195,7 +223,10 @@ impl<'a> FunctionBuilder<'a> {
         sealed
     }
 
-    /// Says that all predecessors of all blocks are known: seals each block that isn't sealed, by rising number.
+    /// Seals each block that isn't sealed, by rising number: [`FunctionBuilder::seal_block`] for front ends that
+    /// don't know when a block has its last predecessor. Call it once all branches are built.
+    ///
+    /// The function means the same, but it may have parameters that earlier sealing would have spared.
     pub fn seal_all_blocks(&mut self) -> Result<(), BuildError>
         ensures call { IsCall self.old self.new result }
         ensures sealed { OnOk result ((b : ℕ) → b < length self.new.func.now.blocks → is_yes (sealed_of self.new.ctx.now.ssa b) ≡ true) }
@@ -223,7 +254,11 @@ impl<'a> FunctionBuilder<'a> {
         sealed
     }
 
-    /// Makes a variable. So far its type is one of I8 to I64.
+    /// Declares a variable of the source language, and answers its number: 0, 1, and so on.
+    ///
+    /// A variable is assigned by [`FunctionBuilder::def_var`] and read by [`FunctionBuilder::use_var`], in any
+    /// block; the builder finds the values and block parameters that this takes in SSA form. A variable that is
+    /// read before it is assigned is zero. So far its type is one of I8 to I64.
     pub fn declare_var(&mut self, ty: Type) -> Result<Variable, BuildError>
         requires { IsTrue (is_declarable ty) }
         ensures call { IsCall self.old self.new result }
@@ -246,7 +281,10 @@ impl<'a> FunctionBuilder<'a> {
         declared
     }
 
-    /// Assigns a value to a variable of its type, in the current block.
+    /// Assigns a value to a variable, from this point of the current block on.
+    ///
+    /// The variable is declared, and its type is the value's. There is a current block, which isn't filled. An
+    /// assignment makes no instruction. After an error the variable is what it was, and the builder has failed.
     pub fn def_var(&mut self, variable: Variable, value: Value) -> Result<(), BuildError>
         requires current { HasCurrent self.old }
         requires declared { variable < length self.old.ctx.now.variables }
@@ -278,16 +316,31 @@ impl<'a> FunctionBuilder<'a> {
         recorded
     }
 
-    /// The value of a variable at this point of the current block.
+    /// The value that a variable has at this point of the current block.
     ///
-    /// Where the block has no record of it, it is looked up in the predecessors: a parameter of the block is
-    /// made for it, which waits until the block is sealed, or is completed at once.
+    /// The last value that was assigned in the block is answered. Without one, the builder looks through
+    /// the predecessors. In a block that isn't sealed they aren't all known, so the block gets a pending parameter
+    /// for the variable, which is the answer and is completed by [`FunctionBuilder::seal_block`]. In a sealed
+    /// block the predecessors are searched at once, back along single predecessors as far as these are
+    /// sealed; a parameter stays only where different values meet, and a zero is put where no value comes.
+    ///
+    /// The variable is declared. There is a current block, which isn't filled. The value stays good: use it
+    /// wherever the block's code goes on, and ask again in other blocks. After `Memory` or `Full` the builder has
+    /// failed.
+    ///
+    /// ```
+    /// let before = builder.use_var(total)?;
+    /// let two = builder.ins().iconst(I32, 2)?;
+    /// let sum = builder.ins().iadd(before, two)?;
+    /// builder.def_var(total, sum)?;
+    /// ```
     pub fn use_var(&mut self, variable: Variable) -> Result<Value, BuildError>
         requires current { HasCurrent self.old }
         requires declared { variable < length self.old.ctx.now.variables }
         ensures call { IsCall self.old self.new result }
         ensures uses { IfSome self.old.position (λ block. IfOk result (Uses self.old self.new variable block)) }
-        ensures typed { IfOk result (λ v. slice_get self.old.ctx.now.variables variable ≡ Some (value_at self.new.func.now v).ty) }
+        ensures typed { IfOk result (λ v.
+            slice_get self.old.ctx.now.variables variable ≡ Some (value_at self.new.func.now v).ty) }
         ensures seals { OnOk result (SealedStays self.old.ctx.now.ssa self.new.ctx.now.ssa) }
         ensures is_use { (ty : «Type») → slice_get self.old.ctx.now.variables variable ≡ Some ty → IfSome self.old.position (λ block. IfOk result (λ value. (told : List ℕ) × IsUse (inserted_in self.old.func.now block) self.old.ctx.now.ssa self.new.func.now self.new.ctx.now.ssa variable ty block value told × Begins self.old.ctx.now self.new.ctx.now (block ∷ told))) }
         ensures status { (calls : List AnsweredCall) → AgreesWithLedger calls self.old → IfSome self.old.position (λ block. OnOk result (SetsStatus self.old.ctx.now self.new.ctx.now block (begun (status_of self.old.ctx.now block)))) }

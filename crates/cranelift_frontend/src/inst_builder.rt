@@ -85,9 +85,14 @@ pub trait InstBuilderBase {
     ghost like_is_value: { LikeIsValue builds_like builds_value type_of };
 }
 
-/// The instructions, by name. Each goes through the method of its format.
+/// The instructions, by name: `builder.ins().iadd(x, y)?`.
+///
+/// Each is appended to the current block, which must not have its terminator; the values and blocks that it names
+/// exist. An instruction with a result answers its value, and any other one its number. Operands aren't checked
+/// for their types here. The only errors are those of [`BuildError`]: memory was refused, a table is full, or the
+/// builder had failed before. After one the function has no new instruction, and the builder has failed.
 pub trait InstBuilder: InstBuilderBase {
-    /// `iconst.ty imm`: the low bits of a 64-bit number, at an integer type.
+    /// `iconst.ty imm`: a constant of an integer type, which is the low bits of `imm`.
     final fn iconst(&mut self, ty: Type, imm: i64) -> Result<Value, BuildError>
         requires current { Self.can_build self.old }
         requires integer { IsTrue (is_int ty) }
@@ -126,7 +131,7 @@ pub trait InstBuilder: InstBuilderBase {
         self.binary(BinaryOpcode::Imul, x, y)
     }
 
-    /// `band x, y`: the bits that are set in both.
+    /// `band x, y`: bitwise and.
     final fn band(&mut self, x: Value, y: Value) -> Result<Value, BuildError>
         requires current { Self.can_build self.old }
         requires x_exists { Self.has_value self.old x }
@@ -136,7 +141,7 @@ pub trait InstBuilder: InstBuilderBase {
         self.binary(BinaryOpcode::Band, x, y)
     }
 
-    /// `bor x, y`: the bits that are set in one or both.
+    /// `bor x, y`: bitwise or.
     final fn bor(&mut self, x: Value, y: Value) -> Result<Value, BuildError>
         requires current { Self.can_build self.old }
         requires x_exists { Self.has_value self.old x }
@@ -146,7 +151,7 @@ pub trait InstBuilder: InstBuilderBase {
         self.binary(BinaryOpcode::Bor, x, y)
     }
 
-    /// `bxor x, y`: the bits that are set in one of the two.
+    /// `bxor x, y`: bitwise exclusive or.
     final fn bxor(&mut self, x: Value, y: Value) -> Result<Value, BuildError>
         requires current { Self.can_build self.old }
         requires x_exists { Self.has_value self.old x }
@@ -165,7 +170,7 @@ pub trait InstBuilder: InstBuilderBase {
         self.unary(UnaryOpcode::Ineg, x)
     }
 
-    /// `bnot x`: each bit turned.
+    /// `bnot x`: bitwise not.
     final fn bnot(&mut self, x: Value) -> Result<Value, BuildError>
         requires current { Self.can_build self.old }
         requires x_exists { Self.has_value self.old x }
@@ -174,7 +179,10 @@ pub trait InstBuilder: InstBuilderBase {
         self.unary(UnaryOpcode::Bnot, x)
     }
 
-    /// `jump block(x, ..)`: goes to `block`, and passes `args` to its parameters.
+    /// `jump block(x, ..)`: goes to `block`, and passes `args` to the parameters that the caller appended to it.
+    /// Arguments for variables are added by the builder.
+    ///
+    /// The block must not be sealed, since this is one more predecessor. The current block is filled afterwards.
     final fn jump(&mut self, block: Block, args: &[BlockArg]) -> Result<Inst, BuildError>
         requires current { Self.can_build self.old }
         requires leads { Self.can_lead self.old (edge_to block args.now) }
@@ -186,8 +194,10 @@ pub trait InstBuilder: InstBuilderBase {
         }
     }
 
-    /// `brif c, block_then(x, ..), block_else(y, ..)`: goes to `block_then` where `c` isn't zero, and else to
-    /// `block_else`, with the arguments of that block.
+    /// `brif c, block_then(x, ..), block_else(y, ..)`: goes to `block_then` if `c` isn't zero, and otherwise to
+    /// `block_else`, with the arguments of that block. The two may be the same block.
+    ///
+    /// Neither block may be sealed. The current block is filled afterwards.
     final fn brif(
         &mut self,
         c: Value,
@@ -218,7 +228,8 @@ pub trait InstBuilder: InstBuilderBase {
         }
     }
 
-    /// `return x, ..`: ends the function with these values.
+    /// `return x, ..`: ends the function with these values, which the signature gives the types of. The current
+    /// block is filled afterwards.
     final fn return_(&mut self, values: &[Value]) -> Result<Inst, BuildError>
         requires current { Self.can_build self.old }
         requires values_exist { All (Self.has_value self.old) values.now }

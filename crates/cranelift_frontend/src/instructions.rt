@@ -23,7 +23,10 @@ use std::alloc::Global;
 pub type FuncInstBuilder<'short, 'long> = &'short mut FunctionBuilder<'long>;
 
 impl<'a> FunctionBuilder<'a> {
-    /// The builder, to make an instruction at the end of the current block.
+    /// Lends the builder for one instruction, which is appended to the current block: `builder.ins().iadd(x, y)?`.
+    /// [`crate::InstBuilder`] has the instructions.
+    ///
+    /// There is a current block, which isn't filled. The block enters the layout with its first instruction.
     pub fn ins<'short>(&'short mut self) -> FuncInstBuilder<'short, 'a>
         requires { HasCurrent self.old }
         ensures same { result.ghost_name ≡ self.entry.ghost_name }
