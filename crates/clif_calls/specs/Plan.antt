@@ -1,8 +1,9 @@
 -- What an instruction of a script is: its format, opcode and operands. After Cranelift's `InstructionData`, with names in
 -- place of values.
 use Rattle.std.specs.Prelude.{List, [], ◌∷◌}
-use Rattle.clif_types.specs.declared.opcodes.BinaryOpcode.TheVariants as binary
-use Rattle.clif_types.specs.declared.opcodes.UnaryOpcode.TheVariants as unary
+use Rattle.clif_opcodes.specs.declared.opcodes.BinaryOpcode.TheVariants as binary
+use Rattle.clif_opcodes.specs.declared.opcodes.ConvertOpcode.TheVariants as convert
+use Rattle.clif_opcodes.specs.declared.opcodes.UnaryOpcode.TheVariants as unary
 use Rattle.clif_calls.specs.declared.call.Edge.{Edge}
 use Rattle.clif_calls.specs.declared.call.Name.{Name}
 use Rattle.clif_calls.specs.declared.call.PlainInstruction.{PlainInstruction}
@@ -19,6 +20,17 @@ plan_of (plain.Imul x y) = plan.Binary binary.Imul (x ∷ y ∷ [])
 plan_of (plain.Band x y) = plan.Binary binary.Band (x ∷ y ∷ [])
 plan_of (plain.Bor x y) = plan.Binary binary.Bor (x ∷ y ∷ [])
 plan_of (plain.Bxor x y) = plan.Binary binary.Bxor (x ∷ y ∷ [])
+plan_of (plain.Ishl x y) = plan.Binary binary.Ishl (x ∷ y ∷ [])
+plan_of (plain.Ushr x y) = plan.Binary binary.Ushr (x ∷ y ∷ [])
+plan_of (plain.Sshr x y) = plan.Binary binary.Sshr (x ∷ y ∷ [])
+plan_of (plain.Udiv x y) = plan.Binary binary.Udiv (x ∷ y ∷ [])
+plan_of (plain.Sdiv x y) = plan.Binary binary.Sdiv (x ∷ y ∷ [])
+plan_of (plain.Urem x y) = plan.Binary binary.Urem (x ∷ y ∷ [])
+plan_of (plain.Srem x y) = plan.Binary binary.Srem (x ∷ y ∷ [])
+plan_of (plain.Splat ty x) = plan.Convert convert.Splat ty x
+plan_of (plain.Uextend ty x) = plan.Convert convert.Uextend ty x
+plan_of (plain.Ireduce ty x) = plan.Convert convert.Ireduce ty x
+plan_of (plain.Select c x y) = plan.Ternary (c ∷ x ∷ y ∷ [])
 plan_of (plain.Ineg x) = plan.Unary unary.Ineg x
 plan_of (plain.Bnot x) = plan.Unary unary.Bnot x
 
@@ -27,6 +39,8 @@ abbrev pub operands_in : Plan → List Name
 operands_in (plan.UnaryImm ty imm) = []
 operands_in (plan.Unary opcode arg) = arg ∷ []
 operands_in (plan.Binary opcode args) = args
+operands_in (plan.Convert opcode ty arg) = arg ∷ []
+operands_in (plan.Ternary args) = args
 operands_in (plan.Jump destination) = []
 operands_in (plan.Brif condition block_then block_else) = condition ∷ []
 operands_in (plan.MultiAry args) = args.now
@@ -36,6 +50,8 @@ abbrev pub edges_in : Plan → List Edge
 edges_in (plan.UnaryImm ty imm) = []
 edges_in (plan.Unary opcode arg) = []
 edges_in (plan.Binary opcode args) = []
+edges_in (plan.Convert opcode ty arg) = []
+edges_in (plan.Ternary args) = []
 edges_in (plan.Jump destination) = destination.now ∷ []
 edges_in (plan.Brif condition block_then block_else) = block_then.now ∷ block_else.now ∷ []
 edges_in (plan.MultiAry args) = []

@@ -44,6 +44,28 @@ pub enum PlainInstruction {
     Bor { x: Name, y: Name },
     /// `bxor x, y`.
     Bxor { x: Name, y: Name },
+    /// `ishl x, y`.
+    Ishl { x: Name, y: Name },
+    /// `ushr x, y`.
+    Ushr { x: Name, y: Name },
+    /// `sshr x, y`.
+    Sshr { x: Name, y: Name },
+    /// `udiv x, y`.
+    Udiv { x: Name, y: Name },
+    /// `sdiv x, y`.
+    Sdiv { x: Name, y: Name },
+    /// `urem x, y`.
+    Urem { x: Name, y: Name },
+    /// `srem x, y`.
+    Srem { x: Name, y: Name },
+    /// `splat.ty x`, at a type of vectors.
+    Splat { ty: Type, x: Name },
+    /// `uextend.ty x`, at a type of integers.
+    Uextend { ty: Type, x: Name },
+    /// `ireduce.ty x`, at a type of integers.
+    Ireduce { ty: Type, x: Name },
+    /// `select c, x, y`.
+    Select { c: Name, x: Name, y: Name },
     /// `ineg x`.
     Ineg { x: Name },
     /// `bnot x`.

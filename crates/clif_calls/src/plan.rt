@@ -3,7 +3,8 @@ ghost use Rattle.std.specs.Prelude.{◌≡◌, ◌∷◌, []};
 ghost use Rattle.clif_calls.specs.Plan.{plan_of};
 
 use crate::call::{Edge, Name, PlainInstruction};
-use clif_types::{BinaryOpcode, Type, UnaryOpcode};
+use clif_opcodes::{BinaryOpcode, ConvertOpcode, UnaryOpcode};
+use clif_types::Type;
 
 /// An instruction by its format: what it does, and the names of its operands and of its edges, in order.
 #[derive(Clone, Copy)]
@@ -18,10 +19,20 @@ pub enum Plan<'a> {
         opcode: UnaryOpcode,
         arg: Name,
     },
-    /// Two operands of one type.
+    /// Two operands; the first has the controlling type.
     Binary {
         opcode: BinaryOpcode,
         args: [Name; 2],
+    },
+    /// One operand, and the type of the result.
+    Convert {
+        opcode: ConvertOpcode,
+        ty: Type,
+        arg: Name,
+    },
+    /// A condition, and two operands of one type.
+    Ternary {
+        args: [Name; 3],
     },
     /// An edge.
     Jump {
@@ -52,6 +63,17 @@ impl PlainInstruction {
             PlainInstruction::Band { x, y } => two(BinaryOpcode::Band, x, y),
             PlainInstruction::Bor { x, y } => two(BinaryOpcode::Bor, x, y),
             PlainInstruction::Bxor { x, y } => two(BinaryOpcode::Bxor, x, y),
+            PlainInstruction::Ishl { x, y } => two(BinaryOpcode::Ishl, x, y),
+            PlainInstruction::Ushr { x, y } => two(BinaryOpcode::Ushr, x, y),
+            PlainInstruction::Sshr { x, y } => two(BinaryOpcode::Sshr, x, y),
+            PlainInstruction::Udiv { x, y } => two(BinaryOpcode::Udiv, x, y),
+            PlainInstruction::Sdiv { x, y } => two(BinaryOpcode::Sdiv, x, y),
+            PlainInstruction::Urem { x, y } => two(BinaryOpcode::Urem, x, y),
+            PlainInstruction::Srem { x, y } => two(BinaryOpcode::Srem, x, y),
+            PlainInstruction::Splat { ty, x } => typed(ConvertOpcode::Splat, ty, x),
+            PlainInstruction::Uextend { ty, x } => typed(ConvertOpcode::Uextend, ty, x),
+            PlainInstruction::Ireduce { ty, x } => typed(ConvertOpcode::Ireduce, ty, x),
+            PlainInstruction::Select { c, x, y } => Plan::Ternary { args: [c, x, y] },
             PlainInstruction::Ineg { x } => one(UnaryOpcode::Ineg, x),
             PlainInstruction::Bnot { x } => one(UnaryOpcode::Bnot, x),
         }
@@ -67,6 +89,17 @@ impl PlainInstruction {
         }
     }
 
+    /// The instruction of one operand with this opcode, whose result has this type.
+    pub fn convert(opcode: ConvertOpcode, ty: Type, x: Name) -> PlainInstruction
+        ensures { plan_of result ≡ Plan.Convert opcode ty x }
+    {
+        match opcode {
+            ConvertOpcode::Splat => PlainInstruction::Splat { ty, x },
+            ConvertOpcode::Uextend => PlainInstruction::Uextend { ty, x },
+            ConvertOpcode::Ireduce => PlainInstruction::Ireduce { ty, x },
+        }
+    }
+
     /// The instruction of two operands with this opcode.
     pub fn binary(opcode: BinaryOpcode, x: Name, y: Name) -> PlainInstruction
         ensures { plan_of result ≡ Plan.Binary opcode (x ∷ y ∷ []) }
@@ -78,6 +111,13 @@ impl PlainInstruction {
             BinaryOpcode::Band => PlainInstruction::Band { x, y },
             BinaryOpcode::Bor => PlainInstruction::Bor { x, y },
             BinaryOpcode::Bxor => PlainInstruction::Bxor { x, y },
+            BinaryOpcode::Ishl => PlainInstruction::Ishl { x, y },
+            BinaryOpcode::Ushr => PlainInstruction::Ushr { x, y },
+            BinaryOpcode::Sshr => PlainInstruction::Sshr { x, y },
+            BinaryOpcode::Udiv => PlainInstruction::Udiv { x, y },
+            BinaryOpcode::Sdiv => PlainInstruction::Sdiv { x, y },
+            BinaryOpcode::Urem => PlainInstruction::Urem { x, y },
+            BinaryOpcode::Srem => PlainInstruction::Srem { x, y },
         }
     }
 }
@@ -87,6 +127,13 @@ fn one(opcode: UnaryOpcode, arg: Name) -> Plan<'static>
     ensures { result ≡ Plan.Unary opcode arg }
 {
     Plan::Unary { opcode, arg }
+}
+
+// One operand, at a type.
+fn typed(opcode: ConvertOpcode, ty: Type, arg: Name) -> Plan<'static>
+    ensures { result ≡ Plan.Convert opcode ty arg }
+{
+    Plan::Convert { opcode, ty, arg }
 }
 
 // Two operands.

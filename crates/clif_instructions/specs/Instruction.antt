@@ -2,17 +2,22 @@
 -- Source: own, after the crate's instruction set.
 use Rattle.std.specs.Prelude.{ℕ, Bool, true, false, List, [], ◌∷◌, map, is_some, slice_get}
 use Rattle.clif_types.specs.declared.types.«Type».{«Type»}
-use Rattle.clif_types.specs.Typing.{Typing, type_of_kind, constant_typing, unary_typing, binary_typing, jump_typing, brif_typing, return_typing}
+use Rattle.clif_opcodes.specs.declared.opcodes.Opcode.{Opcode}
+use Rattle.clif_opcodes.specs.declared.opcodes.Opcode.TheVariants as opcode
+use Rattle.clif_opcodes.specs.Kinds.{result_type}
+use Rattle.clif_opcodes.specs.Typing.{Row, row_of}
 use Rattle.clif_instructions.specs.declared.block_call.BlockCall.{BlockCall}
 use Rattle.clif_instructions.specs.Edges.{appended_to, with_argument_to}
 use Rattle.clif_instructions.specs.declared.instructions.InstructionData.{InstructionData}
-use Rattle.clif_instructions.specs.declared.instructions.InstructionData.TheVariants.{UnaryImm, Unary, Binary, Jump, Brif, MultiAry}
+use Rattle.clif_instructions.specs.declared.instructions.InstructionData.TheVariants.{UnaryImm, Unary, Binary, Convert, Ternary, Jump, Brif, MultiAry}
 
 -- the operands, as they are printed
 abbrev pub operands : InstructionData → List ℕ
 operands (UnaryImm imm) = []
 operands (Unary opcode arg) = arg ∷ []
 operands (Binary opcode args) = args
+operands (Convert opcode arg) = arg ∷ []
+operands (Ternary args) = args
 operands (Jump destination) = []
 operands (Brif arg blocks) = arg ∷ []
 operands (MultiAry args) = args
@@ -22,6 +27,8 @@ abbrev pub destinations : InstructionData → List BlockCall
 destinations (UnaryImm imm) = []
 destinations (Unary opcode arg) = []
 destinations (Binary opcode args) = []
+destinations (Convert opcode arg) = []
+destinations (Ternary args) = []
 destinations (Jump destination) = destination ∷ []
 destinations (Brif arg blocks) = blocks
 destinations (MultiAry args) = []
@@ -31,6 +38,8 @@ abbrev pub with_argument : ℕ → ℕ → InstructionData → InstructionData
 with_argument block value (UnaryImm imm) = UnaryImm imm
 with_argument block value (Unary opcode arg) = Unary opcode arg
 with_argument block value (Binary opcode args) = Binary opcode args
+with_argument block value (Convert opcode arg) = Convert opcode arg
+with_argument block value (Ternary args) = Ternary args
 with_argument block value (Jump destination) = Jump (appended_to block value destination)
 with_argument block value (Brif arg blocks) = Brif arg (with_argument_to block value blocks)
 with_argument block value (MultiAry args) = MultiAry args
@@ -40,18 +49,26 @@ abbrev pub is_branch : InstructionData → Bool
 is_branch (UnaryImm imm) = false
 is_branch (Unary opcode arg) = false
 is_branch (Binary opcode args) = false
+is_branch (Convert opcode arg) = false
+is_branch (Ternary args) = false
 is_branch (Jump destination) = true
 is_branch (Brif arg blocks) = true
 is_branch (MultiAry args) = false
 
+-- the opcode
+abbrev pub opcode_of : InstructionData → Opcode
+opcode_of (UnaryImm imm) = opcode.Iconst
+opcode_of (Unary name arg) = opcode.Unary name
+opcode_of (Binary name args) = opcode.Binary name
+opcode_of (Convert name arg) = opcode.Convert name
+opcode_of (Ternary args) = opcode.Select
+opcode_of (Jump destination) = opcode.Jump
+opcode_of (Brif arg blocks) = opcode.Brif
+opcode_of (MultiAry args) = opcode.Return
+
 -- its row of the typing table
-abbrev pub typing_of : InstructionData → Typing
-typing_of (UnaryImm imm) = constant_typing
-typing_of (Unary opcode arg) = unary_typing opcode
-typing_of (Binary opcode args) = binary_typing opcode
-typing_of (Jump destination) = jump_typing
-typing_of (Brif arg blocks) = brif_typing
-typing_of (MultiAry args) = return_typing
+abbrev pub typing_of : InstructionData → Row
+typing_of shape = row_of (opcode_of shape)
 
 -- whether the instruction ends its block
 abbrev pub is_terminator : InstructionData → Bool
@@ -63,4 +80,4 @@ has_result shape = is_some (slice_get (typing_of shape).results 0)
 
 -- the types of the results, in order
 abbrev pub result_types : InstructionData → «Type» → List «Type»
-result_types shape ty = map (type_of_kind ty) (typing_of shape).results
+result_types shape ty = map (result_type ty) (typing_of shape).results

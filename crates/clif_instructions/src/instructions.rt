@@ -1,10 +1,11 @@
 //! Instructions: their shapes, operands and results.
 ghost use Rattle.std.specs.Prelude.{◌≡◌, OnOk, OnErr};
-ghost use Rattle.clif_instructions.specs.Instruction.{operands, destinations, with_argument, has_result, is_branch, is_terminator, typing_of};
+ghost use Rattle.clif_instructions.specs.Instruction.{operands, destinations, with_argument, has_result, is_branch, is_terminator, opcode_of, typing_of};
 
 use crate::block_call::{BlockCall, append_to_edge, append_to_edges};
 use crate::value_list::ValueList;
-use clif_types::{BinaryOpcode, Block, BuildError, Kind, Suffix, UnaryOpcode, Value};
+use clif_opcodes::{BinaryOpcode, Control, ConvertOpcode, Opcode, ResultKind, UnaryOpcode};
+use clif_types::{Block, BuildError, Value};
 use std::slice;
 
 /// An instruction without its results and its place: what it does, and with which operands.
@@ -26,12 +27,21 @@ pub enum InstructionData {
         opcode: BinaryOpcode,
         args: [Value; 2],
     },
+    /// `uextend.T x` and the like: the result has a type that is given.
+    Convert {
+        opcode: ConvertOpcode,
+        arg: Value,
+    },
+    /// `select c, x, y`: `x` if `c` isn't zero, otherwise `y`.
+    Ternary {
+        args: [Value; 3],
+    },
     /// `jump block(x, ..)`: goes along its one edge.
     Jump {
         destination: BlockCall,
     },
-    /// `brif c, block(x, ..), block(y, ..)`: goes along the first edge where `c` isn't zero, and else along
-    /// the second.
+    /// `brif c, block(x, ..), block(y, ..)`: goes along the first edge if `c` isn't zero, otherwise along the
+    /// second.
     Brif {
         arg: Value,
         blocks: [BlockCall; 2],
@@ -51,6 +61,8 @@ impl InstructionData {
             InstructionData::UnaryImm { .. } => &[],
             InstructionData::Unary { arg, .. } => slice::from_ref(arg),
             InstructionData::Binary { args, .. } => args,
+            InstructionData::Convert { arg, .. } => slice::from_ref(arg),
+            InstructionData::Ternary { args } => args,
             InstructionData::Jump { .. } => &[],
             InstructionData::Brif { arg, .. } => slice::from_ref(arg),
             InstructionData::MultiAry { args } => args.as_slice(),
@@ -67,6 +79,8 @@ impl InstructionData {
             InstructionData::UnaryImm { .. }
             | InstructionData::Unary { .. }
             | InstructionData::Binary { .. }
+            | InstructionData::Convert { .. }
+            | InstructionData::Ternary { .. }
             | InstructionData::MultiAry { .. } => &[],
         }
     }
@@ -84,22 +98,33 @@ impl InstructionData {
             InstructionData::UnaryImm { .. }
             | InstructionData::Unary { .. }
             | InstructionData::Binary { .. }
+            | InstructionData::Convert { .. }
+            | InstructionData::Ternary { .. }
             | InstructionData::MultiAry { .. } => Ok(()),
         }
     }
 
-    /// The kinds of the results, in order.
-    pub fn result_kinds(&self) -> &'static [Kind]
-        ensures { result.now ≡ (typing_of self.now).results }
+    /// The opcode.
+    pub fn opcode(&self) -> Opcode
+        ensures { result ≡ opcode_of self.now }
     {
         match self {
-            InstructionData::UnaryImm { .. }
-            | InstructionData::Unary { .. }
-            | InstructionData::Binary { .. } => &[Kind::Controlling],
-            InstructionData::Jump { .. }
-            | InstructionData::Brif { .. }
-            | InstructionData::MultiAry { .. } => &[],
+            InstructionData::UnaryImm { .. } => Opcode::Iconst,
+            InstructionData::Unary { opcode, .. } => Opcode::Unary(*opcode),
+            InstructionData::Binary { opcode, .. } => Opcode::Binary(*opcode),
+            InstructionData::Convert { opcode, .. } => Opcode::Convert(*opcode),
+            InstructionData::Ternary { .. } => Opcode::Select,
+            InstructionData::Jump { .. } => Opcode::Jump,
+            InstructionData::Brif { .. } => Opcode::Brif,
+            InstructionData::MultiAry { .. } => Opcode::Return,
         }
+    }
+
+    /// The kinds of the results, in order.
+    pub fn result_kinds(&self) -> &'static [ResultKind]
+        ensures { result.now ≡ (typing_of self.now).results }
+    {
+        self.opcode().typing().results
     }
 
     /// Whether the instruction has a result.
@@ -109,29 +134,11 @@ impl InstructionData {
         !self.result_kinds().is_empty()
     }
 
-    /// Where the controlling type is printed behind the name.
-    pub fn suffix(&self) -> Suffix
-        ensures { result ≡ (typing_of self.now).suffix }
+    /// Where the controlling type comes from.
+    pub fn control(&self) -> Control
+        ensures { result ≡ (typing_of self.now).control }
     {
-        match self {
-            InstructionData::UnaryImm { .. } => Suffix::Always,
-            InstructionData::Unary { .. }
-            | InstructionData::Binary { .. }
-            | InstructionData::Brif { .. } => Suffix::Elsewhere,
-            InstructionData::Jump { .. } | InstructionData::MultiAry { .. } => Suffix::Never,
-        }
-    }
-
-    /// The name, as it is printed.
-    pub fn name(&self) -> &'static str {
-        match self {
-            InstructionData::UnaryImm { .. } => "iconst",
-            InstructionData::Unary { opcode, .. } => opcode.to_static_str(),
-            InstructionData::Binary { opcode, .. } => opcode.to_static_str(),
-            InstructionData::Jump { .. } => "jump",
-            InstructionData::Brif { .. } => "brif",
-            InstructionData::MultiAry { .. } => "return",
-        }
+        self.opcode().typing().control
     }
 
     /// Whether the instruction has edges.
@@ -143,6 +150,8 @@ impl InstructionData {
             InstructionData::UnaryImm { .. }
             | InstructionData::Unary { .. }
             | InstructionData::Binary { .. }
+            | InstructionData::Convert { .. }
+            | InstructionData::Ternary { .. }
             | InstructionData::MultiAry { .. } => false,
         }
     }
@@ -151,13 +160,6 @@ impl InstructionData {
     pub fn is_terminator(&self) -> bool
         ensures { result ≡ is_terminator self.now }
     {
-        match self {
-            InstructionData::Jump { .. }
-            | InstructionData::Brif { .. }
-            | InstructionData::MultiAry { .. } => true,
-            InstructionData::UnaryImm { .. }
-            | InstructionData::Unary { .. }
-            | InstructionData::Binary { .. } => false,
-        }
+        self.opcode().typing().ends
     }
 }

@@ -4,8 +4,8 @@ use Rattle.std.specs.List.{range_with_len}
 use Rattle.std.proofs.lemmas.List.{take_more, take-map, get_or-map}
 use Rattle.std.proofs.lemmas.Grind.{common_steps}
 use Rattle.clif_types.specs.declared.types.«Type».{«Type»}
-use Rattle.clif_types.specs.declared.typing.Kind.{Kind}
-use Rattle.clif_types.specs.Typing.{type_of_kind}
+use Rattle.clif_opcodes.specs.declared.kinds.ResultKind.{ResultKind}
+use Rattle.clif_opcodes.specs.Kinds.{result_type}
 use Rattle.clif_ir.specs.declared.function.ValueOrigin.TheVariants.{Result}
 use Rattle.clif_ir.specs.declared.function.ValueNode.{ValueNode}
 use Rattle.clif_ir.specs.Changes.{result_nodes}
@@ -45,13 +45,13 @@ result_nodes_pushed before values after i k types d inside so_far pushed =
     ∙ ap (λ nodes. before ++ nodes) (sym (result_nodes_more i types k d inside))
 
 -- the same, by the kinds of the results
-pub result_kinds_pushed : (before values after : List ValueNode) (i k : ℕ) (ty of_kind : «Type») (kinds : List Kind) (d : Kind) → k < length kinds
-    → values ≡ before ++ result_nodes i 0 (map (type_of_kind ty) (take k kinds)) → of_kind ≡ type_of_kind ty (get_or kinds k d) → after ≡ values ++ result_node i k of_kind ∷ []
-    → after ≡ before ++ result_nodes i 0 (map (type_of_kind ty) (take (k + 1) kinds))
+pub result_kinds_pushed : (before values after : List ValueNode) (i k : ℕ) (ty of_kind : «Type») (kinds : List ResultKind) (d : ResultKind) → k < length kinds
+    → values ≡ before ++ result_nodes i 0 (map (result_type ty) (take k kinds)) → of_kind ≡ result_type ty (get_or kinds k d) → after ≡ values ++ result_node i k of_kind ∷ []
+    → after ≡ before ++ result_nodes i 0 (map (result_type ty) (take (k + 1) kinds))
 result_kinds_pushed before values after i k ty of_kind kinds d inside so_far is pushed =
-    let types : List «Type» = map (type_of_kind ty) kinds in
+    let types : List «Type» = map (result_type ty) kinds in
     let there : k < length types = grind (arith, common_steps, inside) in
     result_nodes_pushed before values after i k types ty there
-    (so_far ∙ ap (λ (ts : List «Type»). before ++ result_nodes i 0 ts) (sym (take-map (type_of_kind ty) k kinds)))
-    (pushed ∙ ap (λ (t : «Type»). values ++ result_node i k t ∷ []) (is ∙ sym (get_or-map (type_of_kind ty) kinds k d ty inside)))
-    ∙ ap (λ (ts : List «Type»). before ++ result_nodes i 0 ts) (take-map (type_of_kind ty) (k + 1) kinds)
+    (so_far ∙ ap (λ (ts : List «Type»). before ++ result_nodes i 0 ts) (sym (take-map (result_type ty) k kinds)))
+    (pushed ∙ ap (λ (t : «Type»). values ++ result_node i k t ∷ []) (is ∙ sym (get_or-map (result_type ty) kinds k d ty inside)))
+    ∙ ap (λ (ts : List «Type»). before ++ result_nodes i 0 ts) (take-map (result_type ty) (k + 1) kinds)

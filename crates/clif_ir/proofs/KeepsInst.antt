@@ -13,7 +13,7 @@ use Rattle.clif_ir.specs.declared.function.ValueNode.{ValueNode}
 use Rattle.clif_ir.specs.declared.function.ValueOrigin.TheVariants.{Result, Param}
 use Rattle.clif_instructions.specs.declared.inst_list.InsertAt.{InsertAt}
 use Rattle.clif_instructions.specs.declared.instructions.InstructionData.{InstructionData}
-use Rattle.clif_instructions.specs.declared.instructions.InstructionData.TheVariants.{UnaryImm, Unary, Binary, Jump, Brif, MultiAry}
+use Rattle.clif_instructions.specs.declared.instructions.InstructionData.TheVariants.{UnaryImm, Unary, Binary, Convert, Ternary, Jump, Brif, MultiAry}
 use Rattle.clif_instructions.specs.Instruction.{operands, destinations, result_types}
 use Rattle.clif_ir.specs.Body.{Body, value_at, inst_at, block_at, empty_block, no_value, no_inst, alias_of_origin, resolved}
 use Rattle.clif_instructions.specs.Members.{IsPlaceOf, put_at, Stands, Once}
@@ -29,6 +29,8 @@ pub length-result_types-le : (shape : InstructionData) (ty : «Type») → lengt
 length-result_types-le (UnaryImm imm) ty = omega arith
 length-result_types-le (Unary opcode arg) ty = omega arith
 length-result_types-le (Binary opcode args) ty = omega arith
+length-result_types-le (Convert opcode arg) ty = omega arith
+length-result_types-le (Ternary args) ty = omega arith
 length-result_types-le (Jump destination) ty = omega arith
 length-result_types-le (Brif arg blocks) ty = omega arith
 length-result_types-le (MultiAry args) ty = omega arith
@@ -38,6 +40,8 @@ pub branch-result_types : (shape : InstructionData) (ty : «Type») → destinat
 branch-result_types (UnaryImm imm) ty branch = absurd (branch refl)
 branch-result_types (Unary opcode arg) ty branch = absurd (branch refl)
 branch-result_types (Binary opcode args) ty branch = absurd (branch refl)
+branch-result_types (Convert opcode arg) ty branch = absurd (branch refl)
+branch-result_types (Ternary args) ty branch = absurd (branch refl)
 branch-result_types (Jump destination) ty branch = refl
 branch-result_types (Brif arg blocks) ty branch = refl
 branch-result_types (MultiAry args) ty branch = refl

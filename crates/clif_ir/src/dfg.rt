@@ -4,7 +4,7 @@
 //! errors are `Memory`, where memory was refused, and `Full`, which comes exactly where a table that
 //! the call grows holds 2^32 - 1 entries already.
 ghost use Rattle.std.specs.Prelude.{◌≡◌, ◌≢◌, [], ◌∷◌, ◌++◌, length, ◌+◌, ◌-◌, ◌^◌, ◌≤◌, ◌<◌, ◌⊎◌, ℕ, true, slice_index, slice_index_or, slice_set, map, EachIndex, vec_len, vec_capacity, All, IfOk, OnOk, OnErr};
-ghost use Rattle.clif_types.specs.Typing.{type_of_kind};
+ghost use Rattle.clif_opcodes.specs.Kinds.{result_type};
 ghost use Rattle.clif_ir.specs.Body.{Body, value_at, block_at, empty_block, resolved};
 ghost use Rattle.clif_instructions.specs.Members.{Stands, IsPlaceOf, put_at};
 ghost use Rattle.clif_ir.specs.Consistent.{EdgeExists};
@@ -17,7 +17,8 @@ use crate::function::{BlockNode, BlockPlace, Function, InstNode, ValueNode, Valu
 use clif_instructions::inst_list::{InsertAt, InstList};
 use clif_instructions::instructions::InstructionData;
 use clif_instructions::value_list::ValueList;
-use clif_types::{Block, BuildError, EntityRef, Inst, Kind, SourceLoc, Type, Value};
+use clif_opcodes::ResultKind;
+use clif_types::{Block, BuildError, EntityRef, Inst, SourceLoc, Type, Value};
 use std::alloc::Global;
 
 /// How many entries a table holds at most.
@@ -95,11 +96,16 @@ fn room_for_inst(
 }
 
 // Puts the results of `inst` into the table of values, which has room for them.
-fn push_result_nodes(values: &mut Vec<ValueNode>, inst: Inst, controlling: Type, kinds: &[Kind])
+fn push_result_nodes(
+    values: &mut Vec<ValueNode>,
+    inst: Inst,
+    controlling: Type,
+    kinds: &[ResultKind],
+)
     requires room { vec_len values.old + length kinds.now ≤ vec_capacity values.old }
     requires few { length kinds.now < 2 ^ 32 }
     ensures { values.new.items ≡
-        values.old.items ++ result_nodes inst 0 (map (type_of_kind controlling) kinds.now) }
+        values.old.items ++ result_nodes inst 0 (map (result_type controlling) kinds.now) }
 {
     for (place, kind) in kinds.iter().enumerate() {
         let ty = kind.at(controlling);

@@ -15,7 +15,8 @@ use crate::function::{Function, ValueDef};
 use clif_instructions::block_call::{BlockArg, BlockCall};
 use clif_instructions::immediates::{Imm64, signed_at};
 use clif_instructions::instructions::InstructionData;
-use clif_types::{Block, EntityRef, Inst, Suffix, Type, Value};
+use clif_opcodes::Control;
+use clif_types::{Block, EntityRef, Inst, Type, Value};
 use std::fmt;
 
 /// A function that prints as its text.
@@ -136,7 +137,7 @@ fn write_operation<W: fmt::Write>(
     requires { inst < length func.now.insts }
 {
     let shape = func.inst_data(inst);
-    f.write_str(shape.name())?;
+    f.write_str(shape.opcode().name())?;
     write_suffix(f, func, inst)?;
     if let InstructionData::UnaryImm { imm } = shape {
         let number = Imm64(signed_at(*imm, result_type(func, inst)));
@@ -192,7 +193,7 @@ fn result_type(func: &Function, inst: Inst) -> Type
     }
 }
 
-// The controlling type of an instruction, where it is printed: always, or where the first operand, which tells it, is
+// The controlling type of an instruction, where it is printed: if it is given, or if the operand that tells it is
 // defined in another block.
 fn write_suffix<W: fmt::Write>(
     f: &mut fmt::Formatter<W>,
@@ -202,16 +203,16 @@ fn write_suffix<W: fmt::Write>(
     requires { inst < length func.now.insts }
 {
     let shape = func.inst_data(inst);
-    match shape.suffix() {
-        Suffix::Always => {
+    match shape.control() {
+        Control::Absent => Ok(()),
+        Control::Given => {
             let ty = result_type(func, inst);
             write!(f, ".{ty}")
         }
-        Suffix::Elsewhere => match shape.arguments().first() {
+        Control::Operand(place) => match shape.arguments().get(place) {
             Some(operand) => write_type_elsewhere(f, func, inst, *operand),
             None => Ok(()),
         },
-        Suffix::Never => Ok(()),
     }
 }
 

@@ -10,7 +10,7 @@ use crate::support::typed;
 use clif_instructions::block_call::{BlockArg, BlockArgs, BlockCall};
 use clif_instructions::inst_list::InsertAt::Back;
 use clif_instructions::instructions::InstructionData;
-use clif_types::BinaryOpcode::{Iadd, Isub};
+use clif_opcodes::BinaryOpcode::{Iadd, Isub};
 use clif_types::types::I32;
 use clif_types::{Block, CallConv, Value};
 use std::process::Abort;

@@ -5,7 +5,8 @@ use crate::support::{i, is_place_of, v};
 use clif_instructions::inst_list::{InsertAt, InstList};
 use clif_instructions::instructions::InstructionData;
 use clif_instructions::value_list::ValueList;
-use clif_types::{BinaryOpcode, Value};
+use clif_opcodes::BinaryOpcode;
+use clif_types::Value;
 use std::process::Abort;
 use std::test::Fail;
 
@@ -84,8 +85,9 @@ fn is_of(rt: &impl Abort, shape: &InstructionData, args: &[Value], has_result: b
 fn shapes(rt: HostRuntime) -> Result<(), Fail> {
     let args = [v(&rt, 1), v(&rt, 2)];
     let opcode = BinaryOpcode::Iadd;
-    assert!(rt; format!(in rt.alloc(); "{opcode}")?.as_str() == "iadd");
-    is_of(&rt, &InstructionData::Binary { opcode, args }, &args, true);
+    let sum = InstructionData::Binary { opcode, args };
+    assert!(rt; sum.opcode().name() == "iadd");
+    is_of(&rt, &sum, &args, true);
     let returned = InstructionData::MultiAry {
         args: ValueList::from_slice(rt.alloc(), &args)?,
     };

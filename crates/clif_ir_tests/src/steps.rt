@@ -11,7 +11,8 @@ use clif_instructions::inst_list::InsertAt;
 use clif_instructions::instructions::InstructionData;
 use clif_instructions::value_list::ValueList;
 use clif_ir::function::Function;
-use clif_types::{BinaryOpcode, SourceLoc, Type, UnaryOpcode, Value};
+use clif_opcodes::{BinaryOpcode, ConvertOpcode, UnaryOpcode};
+use clif_types::{SourceLoc, Type, Value};
 use std::alloc::Global;
 use std::process::Abort;
 use std::test::Fail;
@@ -37,6 +38,10 @@ pub enum Step {
     Unary(UnaryOpcode, u32, Type, u32),
     /// Puts an operation on two values at the end of a block.
     Binary(BinaryOpcode, u32, Type, u32, u32),
+    /// Puts a conversion of a value to a type at the end of a block.
+    Convert(ConvertOpcode, u32, Type, u32),
+    /// Puts a choice between two values at the end of a block: the condition, and then the values.
+    Select(u32, Type, u32, u32, u32),
     /// Puts a jump at the end of a block.
     Jump(u32, u32),
     /// Puts a branch by a value at the end of a block: the block that it goes to where the value isn't zero, and
@@ -193,6 +198,28 @@ fn make(rt: &impl Abort, func: &mut Function, step: Step) -> Result<(), Fail> {
                 block,
                 InsertAt::Back,
                 InstructionData::Binary { opcode, args },
+                ty,
+            )
+        }
+        Step::Convert(opcode, block, ty, x) => {
+            let arg = v(rt, x);
+            insert(
+                rt,
+                func,
+                block,
+                InsertAt::Back,
+                InstructionData::Convert { opcode, arg },
+                ty,
+            )
+        }
+        Step::Select(block, ty, c, x, y) => {
+            let args = [v(rt, c), v(rt, x), v(rt, y)];
+            insert(
+                rt,
+                func,
+                block,
+                InsertAt::Back,
+                InstructionData::Ternary { args },
                 ty,
             )
         }

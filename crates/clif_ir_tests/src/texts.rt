@@ -2,15 +2,19 @@
 #![tactic(auto)]
 
 use crate::steps::Step::{
-    Alias, Binary, Cold, Create, Iconst, LayOut, Param, Return, ReturnFour, ReturnOne, Unary,
+    Alias, Binary, Cold, Convert, Create, Iconst, LayOut, Param, Return, ReturnFour, ReturnOne,
+    Select, Unary,
 };
 use crate::steps::{makes, makes_of};
 use crate::support::{prints, typed};
 use clif_instructions::inst_list::InsertAt::{Back, Behind};
 use clif_ir::function::Function;
-use clif_types::BinaryOpcode::{Band, Bor, Bxor, Iadd, Imul, Isub};
-use clif_types::UnaryOpcode::{Bnot, Ineg};
-use clif_types::types::{F64, I8, I16, I32, I64};
+use clif_opcodes::BinaryOpcode::{
+    Band, Bor, Bxor, Iadd, Imul, Ishl, Isub, Sdiv, Srem, Sshr, Udiv, Urem, Ushr,
+};
+use clif_opcodes::ConvertOpcode::{Ireduce, Splat, Uextend};
+use clif_opcodes::UnaryOpcode::{Bnot, Ineg};
+use clif_types::types::{F64, I8, I8X16, I16, I32, I64};
 use clif_types::{CallConv, Signature, UserFuncName};
 use std::test::Fail;
 
@@ -143,5 +147,53 @@ fn operations(rt: HostRuntime) -> Result<(), Fail> {
     ];
     let text =
         "function %sample() system_v {\nblock0(v0: i16):\n    v1 = iconst.i16 3\n    v2 = ineg v0\n    v3 = bnot v1  ; v1 = 3\n    v4 = iadd v0, v2\n    v5 = isub v0, v2\n    v6 = imul v0, v1  ; v1 = 3\n    v7 = band v2, v3\n    v8 = bor v2, v3\n    v9 = bxor v2, v3\n\nblock1:\n    v10 = bnot.i16 v0\n    v11 = bxor.i16 v0, v1  ; v1 = 3\n    return\n}\n";
+    makes(&rt, rt.alloc(), &steps, text)
+}
+
+// Shifts, quotients and remainders by their names. The first operand tells the type: an amount may have another one.
+#[test]
+fn shifts_and_quotients(rt: HostRuntime) -> Result<(), Fail> {
+    let steps = [
+        Create,
+        Create,
+        LayOut(0),
+        LayOut(1),
+        Param(0, I16),
+        Param(0, I8),
+        Binary(Ishl, 0, I16, 0, 1),
+        Binary(Ushr, 0, I16, 2, 1),
+        Binary(Sshr, 1, I16, 3, 1),
+        Binary(Udiv, 1, I16, 4, 0),
+        Binary(Sdiv, 1, I16, 5, 0),
+        Binary(Urem, 1, I16, 6, 0),
+        Binary(Srem, 1, I16, 0, 7),
+        Return(1),
+    ];
+    let text =
+        "function %sample() system_v {\nblock0(v0: i16, v1: i8):\n    v2 = ishl v0, v1\n    v3 = ushr v2, v1\n\nblock1:\n    v4 = sshr.i16 v3, v1\n    v5 = udiv v4, v0\n    v6 = sdiv v5, v0\n    v7 = urem v6, v0\n    v8 = srem.i16 v0, v7\n    return\n}\n";
+    makes(&rt, rt.alloc(), &steps, text)
+}
+
+// A conversion prints the type that it was given. The second operand tells the type of a choice.
+#[test]
+fn conversions_and_choices(rt: HostRuntime) -> Result<(), Fail> {
+    let steps = [
+        Create,
+        Create,
+        LayOut(0),
+        LayOut(1),
+        Param(0, I8),
+        Iconst(0, Back, I8, 3),
+        Convert(Uextend, 0, I64, 1),
+        Convert(Ireduce, 0, I16, 2),
+        Convert(Splat, 0, I8X16, 0),
+        Select(0, I8, 3, 0, 1),
+        Select(1, I8, 3, 0, 1),
+        Convert(Uextend, 1, I64, 6),
+        Select(1, I64, 0, 7, 2),
+        Return(1),
+    ];
+    let text =
+        "function %sample() system_v {\nblock0(v0: i8):\n    v1 = iconst.i8 3\n    v2 = uextend.i64 v1  ; v1 = 3\n    v3 = ireduce.i16 v2\n    v4 = splat.i8x16 v0\n    v5 = select v3, v0, v1  ; v1 = 3\n\nblock1:\n    v6 = select.i8 v3, v0, v1  ; v1 = 3\n    v7 = uextend.i64 v6\n    v8 = select v0, v7, v2\n    return\n}\n";
     makes(&rt, rt.alloc(), &steps, text)
 }

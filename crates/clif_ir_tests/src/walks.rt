@@ -12,7 +12,7 @@ use crate::steps::{makes, runs};
 use crate::support::{PLACE, sample};
 use clif_instructions::inst_list::InsertAt::{Back, Behind};
 use clif_ir::function::Function;
-use clif_types::BinaryOpcode::Iadd;
+use clif_opcodes::BinaryOpcode::Iadd;
 use clif_types::types::{I8, I32, I64};
 use clif_types::{CallConv, Inst};
 use std::process::Abort;

@@ -6,7 +6,7 @@ use crate::steps::make_all;
 use crate::support::sample;
 use clif_instructions::inst_list::InsertAt::Back;
 use clif_ir::function::Function;
-use clif_types::BinaryOpcode::Iadd;
+use clif_opcodes::BinaryOpcode::Iadd;
 use clif_types::types::I32;
 use std::alloc::Global;
 use std::fmt;

@@ -2,14 +2,17 @@
 -- documentation of Cranelift's `FunctionBuilder`.
 use Rattle.std.specs.Prelude.{ℕ, suc, not, ◌&&◌, ◌||◌, if◌then◌else◌, Bool, true, false, List, [], ◌∷◌, ◌++◌, Option, Some, None, is_some, find, ℤ}
 use Rattle.std.specs.List.{list_all}
-use Rattle.clif_types.specs.declared.opcodes.UnaryOpcode.{UnaryOpcode}
-use Rattle.clif_types.specs.declared.opcodes.BinaryOpcode.{BinaryOpcode}
+use Rattle.clif_opcodes.specs.declared.opcodes.UnaryOpcode.{UnaryOpcode}
+use Rattle.clif_opcodes.specs.declared.opcodes.BinaryOpcode.{BinaryOpcode}
+use Rattle.clif_opcodes.specs.declared.opcodes.ConvertOpcode.{ConvertOpcode}
+use Rattle.clif_opcodes.specs.Kinds.{is_met}
+use Rattle.clif_opcodes.specs.Typing.{convert_demand}
 use Rattle.clif_types.specs.declared.types.«Type».{«Type»}
 use Rattle.clif_types.specs.declared.types.«Type».TheVariants as type
 use Rattle.clif_types.specs.declared.types.LaneType.TheVariants as lane
 use Rattle.clif_types.specs.Types.{is_int}
 use Rattle.clif_meaning.specs.SameType.{same_type}
-use Rattle.clif_meaning.specs.Instruction.{Iconst, Unary, Binary, Operation, Compute, Jump, Brif, Return, Argument, Known, CallResult, CallPayload, Edge}
+use Rattle.clif_meaning.specs.Instruction.{Iconst, Unary, Binary, Convert, Select, Operation, Compute, Jump, Brif, Return, Argument, Known, CallResult, CallPayload, Edge}
 use Rattle.clif_meaning.specs.Name.{Name}
 use Rattle.clif_meaning.specs.Request.{Request, CreateBlock, SwitchToBlock, SealBlock, SealAllBlocks, InsertBlockAfter, SetColdBlock, EnsureInsertedBlock, AppendBlockParams, AppendFunctionParams, DeclareVar, DefVar, UseVar, Build, Finalize, Script}
 use Rattle.clif_meaning.specs.Ledger.{BlockState, Ledger, empty_ledger, type_of, or_invalid, has_value, has_block, is_filled, is_sealed, is_inserted, is_pristine, has_predecessors, is_unreachable, variable_type, ledger_with}
@@ -52,6 +55,8 @@ abbrev pub can_operate : Operation → «Type» → Bool
 can_operate (Compute (Iconst number)) ty = is_int ty
 can_operate (Compute (Unary opcode)) ty = true
 can_operate (Compute (Binary opcode)) ty = true
+can_operate (Compute (Convert opcode)) ty = is_met (convert_demand opcode) ty
+can_operate (Compute Select) ty = true
 can_operate Jump ty = true
 can_operate Brif ty = true
 can_operate Return ty = true
@@ -120,6 +125,14 @@ unary ledger opcode a = Build (record { operation = Compute (Unary opcode); cont
 
 abbrev pub binary : Ledger → BinaryOpcode → Name → Name → Request
 binary ledger opcode a b = Build (record { operation = Compute (Binary opcode); controlling = or_invalid (type_of ledger a); operands = a ∷ b ∷ []; edges = [] })
+
+abbrev pub convert : ConvertOpcode → «Type» → Name → Request
+convert opcode ty a = Build (record { operation = Compute (Convert opcode); controlling = ty; operands = a ∷ []; edges = [] })
+
+-- at the type of its second operand
+abbrev pub select : Ledger → Name → Name → Name → Request
+select ledger condition a b =
+    Build (record { operation = Compute Select; controlling = or_invalid (type_of ledger a); operands = condition ∷ a ∷ b ∷ []; edges = [] })
 
 abbrev pub jump : Edge Name Name → Request
 jump edge = Build (record { operation = Jump; controlling = type.Invalid; operands = []; edges = edge ∷ [] })

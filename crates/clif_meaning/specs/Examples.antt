@@ -8,18 +8,21 @@ use Rattle.clif_types.specs.declared.call_conv.CallConv.TheVariants.{SystemV, Fa
 use Rattle.clif_types.specs.declared.types.«Type».TheVariants as type
 use Rattle.clif_types.specs.declared.types.LaneType.TheVariants as lane
 use Rattle.clif_types.specs.Types.{bits_of}
+use Rattle.clif_types.specs.declared.trapcode.TrapCode.TheVariants.{DivisionByZero, IntegerOverflow}
 use Rattle.clif_types.specs.Signature.{SignatureShape}
 use Rattle.clif_types.specs.declared.target.PointerWidth.TheVariants.{U64}
 use Rattle.clif_types.specs.Target.{pointer_type_of}
 use Rattle.clif_meaning.specs.Bits.{value_bytes, value_of_bytes}
 use Rattle.clif_meaning.specs.Memory.{Memory, bytes_in, copied, filled, written, byte_order}
 use Rattle.clif_meaning.specs.Switch.{switch_target}
-use Rattle.clif_meaning.specs.Instruction.{Iconst, Unary, Binary, Operation, Compute, Return}
-use Rattle.clif_types.specs.declared.opcodes.BinaryOpcode.TheVariants.{Iadd, Imul, Band, Bor, Bxor}
-use Rattle.clif_types.specs.declared.opcodes.UnaryOpcode.TheVariants.{Ineg, Bnot}
+use Rattle.clif_meaning.specs.Instruction.{Iconst, Unary, Binary, Convert, Select, Operation, Compute, Return}
+use Rattle.clif_opcodes.specs.declared.opcodes.BinaryOpcode.TheVariants.{Iadd, Imul, Band, Bor, Bxor, Ishl, Ushr, Sshr, Udiv, Sdiv, Urem, Srem}
+use Rattle.clif_opcodes.specs.declared.opcodes.UnaryOpcode.TheVariants.{Ineg, Bnot}
+use Rattle.clif_opcodes.specs.declared.opcodes.ConvertOpcode.TheVariants.{Splat, Uextend, Ireduce}
+use Rattle.clif_types.specs.declared.types.LaneCount.TheVariants as count
 use Rattle.clif_meaning.specs.Event.{CallShape, Event}
 use Rattle.clif_meaning.specs.World.{World}
-use Rattle.clif_meaning.specs.Outcome.{Values, Undefined, computed}
+use Rattle.clif_meaning.specs.Outcome.{Values, Fault, Undefined, computed}
 use Rattle.clif_meaning.specs.Machine.{Observation, Returned, Stuck}
 use Rattle.clif_meaning.specs.SameMeaning.{SameMeaning}
 use Rattle.clif_meaning.specs.Name.{Name, answer_of}
@@ -38,10 +41,14 @@ i8 = type.Lane lane.I8
 abbrev pub i32 : «Type»
 i32 = type.Lane lane.I32
 
+abbrev pub i8x4 : «Type»
+i8x4 = type.Vector lane.I8 count.Four
+
 abbrev pub i128 : «Type»
 i128 = type.Lane lane.I128
 
--- Constants are cut to their width, or have their sign repeated; sums and products wrap.
+-- Constants are cut to their width, or have their sign repeated; sums and products wrap; signed quotients are rounded
+-- toward zero.
 pub record ArithmeticExamples : Type 0 where
   pub cut : computed (Iconst (pos 300)) i8 [] ≡ Values (44 ∷ [])
   pub negative : computed (Iconst (negsuc 6)) i8 [] ≡ Values (249 ∷ [])
@@ -58,9 +65,30 @@ pub record ArithmeticExamples : Type 0 where
   pub both : computed (Binary Band) i8 (12 ∷ 10 ∷ []) ≡ Values (8 ∷ [])
   pub either : computed (Binary Bor) i8 (12 ∷ 10 ∷ []) ≡ Values (14 ∷ [])
   pub one_of_two : computed (Binary Bxor) i8 (12 ∷ 10 ∷ []) ≡ Values (6 ∷ [])
+  -- at 8 bits a shift by 9 is a shift by 1; 200 is -56, whose eighth is -7
+  pub left : computed (Binary Ishl) i8 (1 ∷ 9 ∷ []) ≡ Values (2 ∷ [])
+  pub right : computed (Binary Ushr) i8 (200 ∷ 3 ∷ []) ≡ Values (25 ∷ [])
+  pub right_by_sign : computed (Binary Sshr) i8 (200 ∷ 3 ∷ []) ≡ Values (249 ∷ [])
+  -- -7 / 2 is -3, with remainder -1
+  pub quotient : computed (Binary Udiv) i8 (200 ∷ 7 ∷ []) ≡ Values (28 ∷ [])
+  pub remainder : computed (Binary Urem) i8 (200 ∷ 7 ∷ []) ≡ Values (4 ∷ [])
+  pub signed_quotient : computed (Binary Sdiv) i8 (249 ∷ 2 ∷ []) ≡ Values (253 ∷ [])
+  pub signed_remainder : computed (Binary Srem) i8 (249 ∷ 2 ∷ []) ≡ Values (255 ∷ [])
+  -- the least number by -1
+  pub too_great : computed (Binary Sdiv) i8 (128 ∷ 255 ∷ []) ≡ Fault IntegerOverflow
+  pub none_left : computed (Binary Srem) i8 (128 ∷ 255 ∷ []) ≡ Values (0 ∷ [])
+  pub by_none : computed (Binary Udiv) i8 (7 ∷ 0 ∷ []) ≡ Fault DivisionByZero
+  pub signed_by_none : computed (Binary Sdiv) i8 (128 ∷ 0 ∷ []) ≡ Fault DivisionByZero
+  -- 300 - 256 is 44; 84215045 is 05050505 in hexadecimal
+  pub widened : computed (Convert Uextend) i32 (200 ∷ []) ≡ Values (200 ∷ [])
+  pub narrowed : computed (Convert Ireduce) i8 (300 ∷ []) ≡ Values (44 ∷ [])
+  pub in_each_lane : computed (Convert Splat) i8x4 (5 ∷ []) ≡ Values (84215045 ∷ [])
+  pub chosen : computed Select i8 (7 ∷ 1 ∷ 2 ∷ []) ≡ Values (1 ∷ [])
+  pub other_chosen : computed Select i8 (0 ∷ 1 ∷ 2 ∷ []) ≡ Values (2 ∷ [])
   -- wrong rows
   pub not_one : computed (Unary Ineg) i8 (1 ∷ []) ≢ Values (1 ∷ [])
   pub not_either : computed (Binary Bxor) i8 (12 ∷ 10 ∷ []) ≢ Values (14 ∷ [])
+  pub not_rounded_down : computed (Binary Sdiv) i8 (249 ∷ 2 ∷ []) ≢ Values (252 ∷ [])
 
 -- the byte at an address of a memory that holds 1, 2, 3 .. from an address on
 abbrev pub counting_from : ℕ → Memory

@@ -1,9 +1,12 @@
 -- The one shape of an instruction, for the script's machine and for the function's: what operands are is a parameter,
 -- a name or a value. After Cranelift's `InstructionData`, its opcode and controlling type apart from its operands.
 use Rattle.std.specs.Prelude.{ℕ, List, ℤ}
-use Rattle.clif_types.specs.declared.opcodes.UnaryOpcode.{UnaryOpcode}
-use Rattle.clif_types.specs.declared.opcodes.BinaryOpcode.{BinaryOpcode}
-use Rattle.clif_types.specs.Typing.{Typing, constant_typing, unary_typing, binary_typing, jump_typing, brif_typing, return_typing}
+use Rattle.clif_opcodes.specs.declared.opcodes.UnaryOpcode.{UnaryOpcode}
+use Rattle.clif_opcodes.specs.declared.opcodes.BinaryOpcode.{BinaryOpcode}
+use Rattle.clif_opcodes.specs.declared.opcodes.ConvertOpcode.{ConvertOpcode}
+use Rattle.clif_opcodes.specs.declared.opcodes.Opcode.{Opcode}
+use Rattle.clif_opcodes.specs.declared.opcodes.Opcode.TheVariants as opcode
+use Rattle.clif_opcodes.specs.Typing.{Row, row_of}
 use Rattle.clif_types.specs.declared.types.«Type».{«Type»}
 
 -- operations that compute bits from bits, without memory, world or control
@@ -14,6 +17,10 @@ pub data Arithmetic : Type 0 where
   Unary : UnaryOpcode → Arithmetic
   -- an operation on two operands
   Binary : BinaryOpcode → Arithmetic
+  -- an operation on one operand, whose result has a type that is given
+  Convert : ConvertOpcode → Arithmetic
+  -- the second of three operands if the first isn't zero, and else the third
+  Select : Arithmetic
 
 -- what an instruction does
 pub data Operation : Type 0 where
@@ -26,14 +33,20 @@ pub data Operation : Type 0 where
   -- ends the run with the operands
   Return : Operation
 
+-- its opcode
+abbrev pub operation_opcode : Operation → Opcode
+operation_opcode (Compute (Iconst number)) = opcode.Iconst
+operation_opcode (Compute (Unary name)) = opcode.Unary name
+operation_opcode (Compute (Binary name)) = opcode.Binary name
+operation_opcode (Compute (Convert name)) = opcode.Convert name
+operation_opcode (Compute Select) = opcode.Select
+operation_opcode Jump = opcode.Jump
+operation_opcode Brif = opcode.Brif
+operation_opcode Return = opcode.Return
+
 -- its row of the typing table
-abbrev pub operation_typing : Operation → Typing
-operation_typing (Compute (Iconst number)) = constant_typing
-operation_typing (Compute (Unary opcode)) = unary_typing opcode
-operation_typing (Compute (Binary opcode)) = binary_typing opcode
-operation_typing Jump = jump_typing
-operation_typing Brif = brif_typing
-operation_typing Return = return_typing
+abbrev pub operation_typing : Operation → Row
+operation_typing operation = row_of (operation_opcode operation)
 
 -- what an edge passes to a parameter of its target
 pub data Argument (Operand : Type 0) : Type 0 where

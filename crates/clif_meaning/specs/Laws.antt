@@ -1,11 +1,12 @@
 -- Laws of the definitions, as the contracts of this crate's functions state them.
 use Rattle.std.specs.Prelude.{◌≡◌, ℕ, List, [], ◌∷◌, ◌++◌, length, slice_get, Some, IsTrue}
 use Rattle.clif_types.specs.declared.types.«Type».{«Type»}
-use Rattle.clif_types.specs.Typing.{FitOperands, meets}
+use Rattle.clif_opcodes.specs.Kinds.{is_met}
 use Rattle.clif_meaning.specs.Bits.{Bits, AreValues}
 use Rattle.clif_meaning.specs.Instruction.{Operation, operation_typing}
 use Rattle.clif_meaning.specs.Memory.{Memory}
 use Rattle.clif_meaning.specs.Outcome.{Outcome, Gives, Goes, Returns, Traps, Calls, NoStep, outcome_of}
+use Rattle.clif_meaning.specs.Typing.{TakesOperands}
 use Rattle.clif_meaning.specs.World.{World}
 use Rattle.clif_meaning.specs.Machine.{observed, EndStays}
 use Rattle.clif_meaning.specs.Name.{Name, answer_of}
@@ -50,5 +51,5 @@ FitsTypes results returns NoStep = ⊥
 abbrev pub OutcomesFit : Type 0
 OutcomesFit =
     (world : World) (operation : Operation) (ty : «Type») (returns types : List «Type») (operands : List Bits) (memory : Memory)
-    → IsTrue (meets (operation_typing operation).demand ty) → FitOperands returns ty (operation_typing operation).operands types
+    → IsTrue (is_met (operation_typing operation).demand ty) → TakesOperands returns operation ty types
     → AreValues types operands → FitsTypes (result_types operation ty) returns (outcome_of world operation ty types operands memory)

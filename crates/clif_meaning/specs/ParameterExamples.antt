@@ -7,7 +7,7 @@ use Rattle.clif_types.specs.declared.target.PointerWidth.TheVariants.{U64}
 use Rattle.clif_types.specs.Signature.{SignatureShape}
 use Rattle.clif_meaning.specs.World.{World}
 use Rattle.clif_meaning.specs.Instruction.{Binary, Compute, Return, Known}
-use Rattle.clif_types.specs.declared.opcodes.BinaryOpcode.TheVariants.{Isub}
+use Rattle.clif_opcodes.specs.declared.opcodes.BinaryOpcode.TheVariants.{Isub}
 use Rattle.clif_meaning.specs.Name.{answer_of}
 use Rattle.clif_meaning.specs.Request.{CreateBlock, SwitchToBlock, SealBlock, AppendBlockParams, AppendFunctionParams, Build, Script}
 use Rattle.clif_meaning.specs.Ledger.{ledger_after, type_of}

@@ -3,14 +3,14 @@
 -- what variables mean is from the documentation of Cranelift's `FunctionBuilder`.
 use Rattle.std.specs.Prelude.{ℕ, suc, if◌then◌else◌, List, [], ◌∷◌, ◌++◌, map, Option, Some, None, fold}
 use Rattle.clif_types.specs.declared.types.«Type».{«Type»}
-use Rattle.clif_types.specs.Typing.{type_of_kind}
+use Rattle.clif_opcodes.specs.Kinds.{result_type}
 use Rattle.clif_meaning.specs.Instruction.{Operation, operation_typing, Instruction}
 use Rattle.clif_meaning.specs.Name.{Name, answer_of, same_name}
 use Rattle.clif_meaning.specs.Request.{Request, CreateBlock, SwitchToBlock, SealBlock, SealAllBlocks, InsertBlockAfter, SetColdBlock, EnsureInsertedBlock, AppendBlockParams, AppendFunctionParams, DeclareVar, DefVar, UseVar, Build, Finalize, Script}
 
 -- the types of an instruction's results, at the controlling type
 abbrev pub result_types : Operation → «Type» → List «Type»
-result_types operation ty = map (type_of_kind ty) (operation_typing operation).results
+result_types operation ty = map (result_type ty) (operation_typing operation).results
 
 -- the answers to the call at this place from this one on, as many as types
 abbrev pub answers_from : ℕ → ℕ → List «Type» → List Name

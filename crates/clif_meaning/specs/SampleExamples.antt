@@ -9,7 +9,7 @@ use Rattle.clif_types.specs.declared.target.PointerWidth.TheVariants.{U64}
 use Rattle.clif_types.specs.Signature.{SignatureShape}
 use Rattle.clif_meaning.specs.World.{World}
 use Rattle.clif_meaning.specs.Instruction.{Arithmetic, Iconst, Binary, Compute, Return, Known, Edge}
-use Rattle.clif_types.specs.declared.opcodes.BinaryOpcode.TheVariants.{Iadd, Isub}
+use Rattle.clif_opcodes.specs.declared.opcodes.BinaryOpcode.TheVariants.{Iadd, Isub}
 use Rattle.clif_meaning.specs.Name.{Name, answer_of}
 use Rattle.clif_meaning.specs.Request.{Request, CreateBlock, SwitchToBlock, SealBlock, SealAllBlocks, AppendFunctionParams, DeclareVar, DefVar, UseVar, Build, Script}
 use Rattle.clif_meaning.specs.Acceptance.{iconst, jump, return_, Accepted, verdict_on}

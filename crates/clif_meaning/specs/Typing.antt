@@ -2,7 +2,8 @@
 use Rattle.std.specs.Prelude.{◌≡◌, ℕ, List, [], ◌∷◌, map, Option, Some, None, slice_get, IsTrue}
 use Rattle.std.specs.List.{AllByRecursion}
 use Rattle.clif_types.specs.declared.types.«Type».{«Type»}
-use Rattle.clif_types.specs.Typing.{FitOperands, meets}
+use Rattle.clif_opcodes.specs.Kinds.{is_met}
+use Rattle.clif_opcodes.specs.Typing.{FitOperands, Row}
 use Rattle.clif_meaning.specs.Instruction.{Operation, operation_typing, Compute, Jump, Brif, Return, Argument, Known, CallResult, CallPayload, Edge, Instruction}
 use Rattle.clif_meaning.specs.Event.{CallShape, types_of, payload_types}
 use Rattle.clif_meaning.specs.FunctionView.{FunctionView}
@@ -35,10 +36,21 @@ EachEdgeMatches type_of parameter_types (Some call) (normal ∷ items) =
     EdgeMatches type_of parameter_types (types_of call.signature.returns) [] normal
     × AllByRecursion (EdgeMatches type_of parameter_types [] payload_types) items
 
+-- the types of what a call takes; none where there is no call
+abbrev pub argument_types : Option CallShape → List «Type»
+argument_types None = []
+argument_types (Some call) = types_of call.signature.params
+
+-- operands of these types are those that the operation takes, at a controlling type, in a function that returns these types
+abbrev pub TakesOperands : List «Type» → Operation → «Type» → List «Type» → Type 0
+TakesOperands returns operation ty types =
+    let row : Row = operation_typing operation in
+    FitOperands returns (argument_types (call_shape operation)) ty row.others row.operands types
+
 -- the operands have their types, and so has what each edge passes
 pub record IsWellTyped {Block Operand : Type 0} (type_of : Operand → «Type») (parameter_types : Block → List «Type») (returns : List «Type») (instruction : Instruction Block Operand) : Type 0 where
-  pub made_at : IsTrue (meets (operation_typing instruction.operation).demand instruction.controlling)
-  pub operands : FitOperands returns instruction.controlling (operation_typing instruction.operation).operands (map type_of instruction.operands)
+  pub made_at : IsTrue (is_met (operation_typing instruction.operation).demand instruction.controlling)
+  pub operands : TakesOperands returns instruction.operation instruction.controlling (map type_of instruction.operands)
   pub edges : EachEdgeMatches type_of parameter_types (call_shape instruction.operation) instruction.edges
 
 -- the types of a block's parameters in a function

@@ -4,7 +4,7 @@ use Rattle.std.specs.List.{list_any}
 use Rattle.clif_types.specs.declared.types.«Type».{«Type»}
 use Rattle.clif_types.specs.declared.types.«Type».TheVariants as type
 use Rattle.clif_instructions.specs.declared.instructions.InstructionData.{InstructionData}
-use Rattle.clif_instructions.specs.declared.instructions.InstructionData.TheVariants.{UnaryImm, Unary, Binary, Jump, Brif, MultiAry}
+use Rattle.clif_instructions.specs.declared.instructions.InstructionData.TheVariants.{UnaryImm, Unary, Binary, Convert, Ternary, Jump, Brif, MultiAry}
 use Rattle.clif_ir.specs.declared.function.InstNode.{InstNode}
 use Rattle.clif_instructions.specs.declared.block_call.BlockArg.{BlockArg}
 use Rattle.clif_instructions.specs.declared.block_call.BlockArg.TheVariants as arg
@@ -20,6 +20,8 @@ abbrev pub operation_of : InstructionData → Operation
 operation_of (UnaryImm imm) = Compute (Iconst imm)
 operation_of (Unary opcode arg) = Compute (operation.Unary opcode)
 operation_of (Binary opcode args) = Compute (operation.Binary opcode)
+operation_of (Convert opcode arg) = Compute (operation.Convert opcode)
+operation_of (Ternary args) = Compute operation.Select
 operation_of (Jump destination) = operation.Jump
 operation_of (Brif arg blocks) = operation.Brif
 operation_of (MultiAry args) = Return
@@ -48,6 +50,8 @@ abbrev pub controlling_of : Body → InstructionData → List ℕ → «Type»
 controlling_of body (UnaryImm imm) results = first_type body results
 controlling_of body (Unary opcode arg) results = first_type body results
 controlling_of body (Binary opcode args) results = first_type body results
+controlling_of body (Convert opcode arg) results = first_type body results
+controlling_of body (Ternary args) results = first_type body results
 controlling_of body (Jump destination) results = type.Invalid
 controlling_of body (Brif arg blocks) results = (value_at body arg).ty
 controlling_of body (MultiAry args) results = type.Invalid

@@ -2,7 +2,7 @@
 use Rattle.std.specs.Prelude.{◌≡◌, [], ◌∷◌, Some, pos, false}
 use Rattle.clif_types.specs.declared.extname.UserFuncName.TheVariants.{Testcase}
 use Rattle.clif_types.specs.declared.target.PointerWidth.TheVariants.{U64}
-use Rattle.clif_types.specs.declared.opcodes.BinaryOpcode.TheVariants as binary
+use Rattle.clif_opcodes.specs.declared.opcodes.BinaryOpcode.TheVariants as binary
 use Rattle.clif_instructions.specs.declared.instructions.InstructionData.TheVariants.{UnaryImm, Binary, MultiAry}
 use Rattle.clif_ir.specs.declared.function.ValueOrigin.TheVariants.{Result, Alias}
 use Rattle.clif_ir.specs.Body.{Body}

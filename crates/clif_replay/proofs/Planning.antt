@@ -10,8 +10,9 @@ use Rattle.clif_types.specs.Signature.{SignatureShape}
 use Rattle.clif_ir.specs.Body.{value_at}
 use Rattle.clif_instructions.specs.Instruction.{destinations, operands}
 use Rattle.clif_instructions.specs.declared.block_call.BlockCall.{BlockCall}
-use Rattle.clif_types.specs.declared.opcodes.BinaryOpcode.{BinaryOpcode}
-use Rattle.clif_types.specs.declared.opcodes.UnaryOpcode.{UnaryOpcode}
+use Rattle.clif_opcodes.specs.declared.opcodes.BinaryOpcode.{BinaryOpcode}
+use Rattle.clif_opcodes.specs.declared.opcodes.ConvertOpcode.{ConvertOpcode}
+use Rattle.clif_opcodes.specs.declared.opcodes.UnaryOpcode.{UnaryOpcode}
 use Rattle.clif_instructions.specs.declared.instructions.InstructionData.{InstructionData}
 use Rattle.clif_instructions.specs.declared.instructions.InstructionData.TheVariants as shape
 use Rattle.clif_meaning.specs.Acceptance.{allows, can_lead}
@@ -61,6 +62,10 @@ controlling-same first second same (plan.UnaryImm ty imm) = refl
 controlling-same first second same (plan.Unary opcode arg) = same arg
 controlling-same first second same (plan.Binary opcode []) = refl
 controlling-same first second same (plan.Binary opcode (x ∷ args)) = same x
+controlling-same first second same (plan.Convert opcode ty arg) = refl
+controlling-same first second same (plan.Ternary []) = refl
+controlling-same first second same (plan.Ternary (c ∷ [])) = refl
+controlling-same first second same (plan.Ternary (c ∷ x ∷ args)) = same x
 controlling-same first second same (plan.Jump destination) = refl
 controlling-same first second same (plan.Brif condition block_then block_else) = same condition
 controlling-same first second same (plan.MultiAry args) = refl
@@ -144,6 +149,27 @@ planned-binary b answers code args x y ty found typed = record {
     by [] found = let no_way : ⊥ = cc in absurd no_way
     by (name ∷ names) found = let here : value_of b.func.now answers name ≡ Some x = cc in ap (type_in b.func.now) here
 
+pub planned-convert : (b : FunctionBuilder) (answers : List Answer) (code : ConvertOpcode) (ty : «Type») (name : Name) (x : ℕ) → value_of b.func.now answers name ≡ Some x
+    → IsPlanned b answers (plan.Convert code ty name) (shape.Convert code x) ty
+planned-convert b answers code ty name x found =
+    record { operation = refl; controlling = refl; operands = ap (λ (o : Option ℕ). o ∷ []) found; edges = tt }
+
+pub planned-ternary : (b : FunctionBuilder) (answers : List Answer) (args : List Name) (test x y : ℕ) (ty : «Type»)
+    → map (value_of b.func.now answers) args ≡ map Some (test ∷ x ∷ y ∷ []) → ty ≡ (value_at b.func.now x).ty
+    → IsPlanned b answers (plan.Ternary args) (shape.Ternary (test ∷ x ∷ y ∷ [])) ty
+planned-ternary b answers args test x y ty found typed = record {
+  operation = refl;
+  controlling = by args found ∙ sym typed;
+  operands = found;
+  edges = tt;
+}
+  where
+    by : (names : List Name) → map (value_of b.func.now answers) names ≡ map Some (test ∷ x ∷ y ∷ [])
+        → controlling_in (λ name. type_in b.func.now (value_of b.func.now answers name)) (plan.Ternary names) ≡ (value_at b.func.now x).ty
+    by [] found = let no_way : ⊥ = cc in absurd no_way
+    by (first ∷ []) found = let no_way : ⊥ = cc in absurd no_way
+    by (first ∷ name ∷ names) found = let here : value_of b.func.now answers name ≡ Some x = cc in ap (type_in b.func.now) here
+
 -- what names lead to is there
 edges-there : (b : FunctionBuilder) (answers : List Answer) (edges : List Edge) (made : List BlockCall) → AreFound b answers edges made → list_all (may_lead b answers) edges ≡ true
 edges-there b answers [] [] found = refl
@@ -173,3 +199,11 @@ planned-found b answers given p made s ty is same planned =
 pub first-exists : (b : FunctionBuilder) (answers : List Answer) (names : List Name) (x y : ℕ) → ValuesExist b answers → map (value_of b.func.now answers) names ≡ map Some (x ∷ y ∷ []) → x < length b.func.now.values
 first-exists b answers [] x y exist found = let no_way : ⊥ = cc in absurd no_way
 first-exists b answers (name ∷ names) x y exist found = let here : value_of b.func.now answers name ≡ Some x = cc in exist name x here
+
+-- the second of three values exists
+pub second-exists : (b : FunctionBuilder) (answers : List Answer) (names : List Name) (test x y : ℕ) → ValuesExist b answers
+    → map (value_of b.func.now answers) names ≡ map Some (test ∷ x ∷ y ∷ []) → x < length b.func.now.values
+second-exists b answers [] test x y exist found = let no_way : ⊥ = cc in absurd no_way
+second-exists b answers (first ∷ []) test x y exist found = let no_way : ⊥ = cc in absurd no_way
+second-exists b answers (first ∷ name ∷ names) test x y exist found =
+    let here : value_of b.func.now answers name ≡ Some x = cc in exist name x here

@@ -3,7 +3,7 @@ use Rattle.std.specs.Prelude.{◌≡◌, ℕ, List, [], ◌∷◌, ◌++◌, map
 use Rattle.clif_ir.specs.Body.{Body}
 use Rattle.clif_meaning.specs.Event.{types_of}
 use Rattle.clif_meaning.specs.Name.{Name}
-use Rattle.clif_meaning.specs.Instruction.{Binary, Brif, Compute, Edge, Iconst, Jump, Known, Operation, Return, Unary}
+use Rattle.clif_meaning.specs.Instruction.{Binary, Brif, Compute, Convert, Edge, Iconst, Jump, Known, Operation, Return, Select, Unary}
 use Rattle.clif_meaning.specs.Request.{Request, CreateBlock, SwitchToBlock, SealBlock, SealAllBlocks, InsertBlockAfter, SetColdBlock, EnsureInsertedBlock, AppendBlockParams, AppendFunctionParams, DeclareVar, DefVar, UseVar, Build, Finalize, Script, AnsweredCall, script_of}
 use Rattle.clif_meaning.specs.Ledger.{Ledger, empty_ledger, ledger_after, ledger_with, or_invalid, type_of}
 use Rattle.clif_meaning.specs.Acceptance.{Verdict, Accepted, Misuse, Refused, jump, brif, return_, allows, verdict_from, verdict_on}
@@ -37,6 +37,8 @@ abbrev pub operation_in : Plan → Operation
 operation_in (plan.UnaryImm ty imm) = Compute (Iconst imm)
 operation_in (plan.Unary opcode arg) = Compute (Unary opcode)
 operation_in (plan.Binary opcode args) = Compute (Binary opcode)
+operation_in (plan.Convert opcode ty arg) = Compute (Convert opcode)
+operation_in (plan.Ternary args) = Compute Select
 operation_in (plan.Jump destination) = Jump
 operation_in (plan.Brif condition block_then block_else) = Brif
 operation_in (plan.MultiAry args) = Return
@@ -46,11 +48,13 @@ abbrev pub first_type : (named.Name → «Type») → List named.Name → «Type
 first_type typed [] = Invalid
 first_type typed (name ∷ names) = typed name
 
--- the type at which it is made: its own, or that of its first operand
+-- the type at which it is made: its own, that of its first operand, or that of the second operand of `select`
 abbrev pub controlling_in : (named.Name → «Type») → Plan → «Type»
 controlling_in typed (plan.UnaryImm ty imm) = ty
 controlling_in typed (plan.Unary opcode arg) = typed arg
 controlling_in typed (plan.Binary opcode args) = first_type typed args
+controlling_in typed (plan.Convert opcode ty arg) = ty
+controlling_in typed (plan.Ternary args) = first_type typed (drop 1 args)
 controlling_in typed (plan.Jump destination) = Invalid
 controlling_in typed (plan.Brif condition block_then block_else) = typed condition
 controlling_in typed (plan.MultiAry args) = Invalid

@@ -10,11 +10,12 @@ ghost use Rattle.clif_replay.specs.Ready.{AnswersExist, IsSound};
 ghost use Rattle.clif_replay.specs.Requests.{operation_in};
 
 use crate::make::has_current;
-use crate::names::{edge_named, two_edges, two_values, value_named, values_named};
+use crate::names::{edge_named, three_values, two_edges, two_values, value_named, values_named};
 use crate::script::{Answer, CallError};
 use clif_calls::Plan;
 use clif_ir::{Function, InstructionData};
-use clif_types::{BinaryOpcode, BuildError, Inst, Type, UnaryOpcode, Value};
+use clif_opcodes::{BinaryOpcode, ConvertOpcode, Opcode, UnaryOpcode};
+use clif_types::{BuildError, Inst, Type, Value};
 use cranelift_frontend::{FunctionBuilder, InstBuilderBase};
 
 // An instruction, before it is made: its shape and its controlling type.
@@ -79,8 +80,10 @@ fn can_operate(plan: &Plan<'_>, ty: Type) -> bool
 {
     match plan {
         Plan::UnaryImm { .. } => ty.is_int(),
+        Plan::Convert { opcode, .. } => Opcode::Convert(*opcode).typing().demand.is_met(ty),
         Plan::Unary { .. }
         | Plan::Binary { .. }
+        | Plan::Ternary { .. }
         | Plan::Jump { .. }
         | Plan::Brif { .. }
         | Plan::MultiAry { .. } => true,
@@ -113,6 +116,14 @@ fn shaped(
         Plan::Binary { opcode, args } => {
             let (x, y) = two_values(func, answers, args)?;
             Ok(binary(func, *opcode, x, y))
+        }
+        Plan::Convert { opcode, ty, arg } => {
+            let x = value_named(func, answers, *arg).ok_or(CallError::Misuse)?;
+            Ok(converted(*opcode, *ty, x))
+        }
+        Plan::Ternary { args } => {
+            let (test, x, y) = three_values(func, answers, args)?;
+            Ok(ternary(func, test, x, y))
         }
         Plan::Jump { destination } => {
             let destination = edge_named(builder, answers, destination)?;
@@ -159,6 +170,29 @@ fn binary(func: &Function, opcode: BinaryOpcode, x: Value, y: Value) -> Planned
             opcode,
             args: [x, y],
         },
+        ty: func.value_type(x),
+    }
+}
+
+// An instruction of one value, which is made at a type that is given.
+fn converted(opcode: ConvertOpcode, ty: Type, x: Value) -> Planned
+    ensures { result ≡ record { shape = InstructionData.Convert opcode x; ty = ty } }
+{
+    let shape = InstructionData::Convert { opcode, arg: x };
+    Planned { shape, ty }
+}
+
+// An instruction of three values, which is made at the type of the second.
+fn ternary(func: &Function, test: Value, x: Value, y: Value) -> Planned
+    requires { x < length func.now.values }
+    ensures { result ≡ record {
+      shape = InstructionData.Ternary (test ∷ x ∷ y ∷ []);
+      ty = (value_at func.now x).ty;
+    } }
+{
+    let args = [test, x, y];
+    Planned {
+        shape: InstructionData::Ternary { args },
         ty: func.value_type(x),
     }
 }

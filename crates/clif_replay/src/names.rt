@@ -139,6 +139,31 @@ pub(crate) fn two_values(
     Ok((x, y))
 }
 
+// The three values that names lead to.
+pub(crate) fn three_values(
+    func: &Function,
+    answers: &[Answer],
+    names: &[Name; 3],
+) -> Result<(Value, Value, Value), CallError>
+    requires { AnswersExist func.now answers.now }
+    ensures { Finds
+        (λ three. map (value_of func.now answers.now) names.now
+        ≡ map Some (three.0 ∷ three.1 ∷ three.2 ∷ []))
+        (all_values func.now answers.now names.now) result }
+{
+    let [x, y, z] = *names;
+    let Some(x) = value_named(func, answers, x) else {
+        return Err(CallError::Misuse);
+    };
+    let Some(y) = value_named(func, answers, y) else {
+        return Err(CallError::Misuse);
+    };
+    let Some(z) = value_named(func, answers, z) else {
+        return Err(CallError::Misuse);
+    };
+    Ok((x, y, z))
+}
+
 // The two edges that names lead to.
 pub(crate) fn two_edges(
     builder: &FunctionBuilder<'_>,

@@ -9,7 +9,7 @@ use crate::support::{row_of, script_of};
 use clif_ir::Function;
 use clif_script::{Call, Name, replay};
 use clif_text::Script;
-use clif_types::EntityRef;
+use clif_types::{EntityRef, TrapCode};
 use cranelift_frontend::FunctionBuilderContext;
 use std::alloc::Global;
 use std::process::Abort;
@@ -26,19 +26,18 @@ fn built(alloc: Global, text: &Script, ctx: &mut FunctionBuilderContext) -> Resu
     Ok(replay(alloc, calls, name, signature, ctx, text.config)?)
 }
 
-// A script and its function answer this number where they get these arguments.
-fn both_answer(
+// A script and its function end so where they get these arguments.
+fn both_end(
     rt: &impl Abort,
     alloc: Global,
     text: &Script,
     func: &Function,
     args: &[u128],
-    number: u128,
+    end: &End,
 ) -> Result<(), Fail> {
-    let answer = End::Returned(vec![in alloc; number]?);
     let calls = text.calls.as_slice();
-    assert!(rt; script::run(alloc, calls, &text.signature, args)? == answer);
-    assert!(rt; function::run(alloc, func, args)? == answer);
+    assert!(rt; script::run(alloc, calls, &text.signature, args)? == *end);
+    assert!(rt; function::run(alloc, func, args)? == *end);
     Ok(())
 }
 
@@ -52,8 +51,9 @@ fn answers(
 ) -> Result<(), Fail> {
     let mut ctx = FunctionBuilderContext::new(alloc);
     let func = built(alloc, text, &mut ctx)?;
+    let end = End::Returned(vec![in alloc; number]?);
     for args in rows {
-        both_answer(rt, alloc, text, &func, args, number)?;
+        both_end(rt, alloc, text, &func, args, &end)?;
     }
     Ok(())
 }
@@ -264,4 +264,106 @@ seal_block block0
 #[test]
 fn operations(rt: HostRuntime) -> Result<(), Fail> {
     text_answers(&rt, rt.alloc(), OPERATIONS, &[&[12, 10]], 123)
+}
+
+/// The script that makes one operation of two bytes.
+const OPERATION: &str = "\
+function %operation (i8, i8) -> i8 system_v
+block0 = create_block
+a, b = append_block_params_for_function_params block0
+switch_to_block block0
+";
+
+// A script that makes this operation of two bytes ends so, and so does its function.
+fn operation_ends(
+    rt: &impl Abort,
+    alloc: Global,
+    name: &str,
+    args: &[u128],
+    end: &End,
+) -> Result<(), Fail> {
+    let text = format!(in alloc; "{OPERATION}c = {name} a b\nreturn c\nseal_block block0\n")?;
+    let text = script_of(alloc, text.as_str())?;
+    let mut ctx = FunctionBuilderContext::new(alloc);
+    let func = built(alloc, &text, &mut ctx)?;
+    both_end(rt, alloc, &text, &func, args, end)
+}
+
+/// Shifts, by amounts modulo eight, and quotients and remainders, of which signed ones are rounded toward zero.
+#[test]
+fn shifts_and_quotients(rt: HostRuntime) -> Result<(), Fail> {
+    let rows: [(&str, u128, u128, u128); 16] = [
+        ("ishl", 3, 2, 12),
+        ("ishl", 1, 9, 2),
+        ("ishl", 200, 1, 144),
+        ("ushr", 200, 3, 25),
+        ("ushr", 200, 11, 25),
+        ("sshr", 200, 3, 249),
+        ("sshr", 100, 3, 12),
+        ("udiv", 200, 7, 28),
+        ("urem", 200, 7, 4),
+        ("sdiv", 249, 2, 253),
+        ("sdiv", 249, 254, 3),
+        ("sdiv", 128, 2, 192),
+        ("srem", 249, 2, 255),
+        ("srem", 7, 254, 1),
+        ("srem", 128, 255, 0),
+        ("urem", 128, 255, 128),
+    ];
+    let alloc = rt.alloc();
+    for (name, x, y, number) in rows {
+        let end = End::Returned(vec![in alloc; number]?);
+        operation_ends(&rt, alloc, name, &[x, y], &end)?;
+    }
+    Ok(())
+}
+
+/// Division and remainder by zero, and `sdiv` of the least number by -1.
+#[test]
+fn traps(rt: HostRuntime) -> Result<(), Fail> {
+    let rows = [
+        ("udiv", 7, 0, TrapCode::DivisionByZero),
+        ("sdiv", 7, 0, TrapCode::DivisionByZero),
+        ("sdiv", 128, 0, TrapCode::DivisionByZero),
+        ("urem", 7, 0, TrapCode::DivisionByZero),
+        ("srem", 7, 0, TrapCode::DivisionByZero),
+        ("sdiv", 128, 255, TrapCode::IntegerOverflow),
+    ];
+    for (name, x, y, code) in rows {
+        operation_ends(&rt, rt.alloc(), name, &[x, y], &End::Trapped(code))?;
+    }
+    Ok(())
+}
+
+/// A choice between the parameters, by the low byte of a wider number: 256 chooses `b`, and any other number up to 511
+/// chooses `a`.
+const CHOICE: &str = "\
+function %choice (i32, i8, i8) -> i64 system_v
+block0 = create_block
+n, a, b = append_block_params_for_function_params block0
+switch_to_block block0
+low = ireduce.i8 n
+chosen = select low a b
+wide = uextend.i64 chosen
+return wide
+seal_block block0
+";
+
+/// Conversions and a choice.
+#[test]
+fn conversions_and_choices(rt: HostRuntime) -> Result<(), Fail> {
+    text_answers(
+        &rt,
+        rt.alloc(),
+        CHOICE,
+        &[&[256, 1, 200], &[0, 1, 200]],
+        200,
+    )?;
+    text_answers(
+        &rt,
+        rt.alloc(),
+        CHOICE,
+        &[&[257, 200, 1], &[1, 200, 1]],
+        200,
+    )
 }

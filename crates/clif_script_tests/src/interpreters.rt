@@ -2,16 +2,21 @@
 //! machine. They share the arithmetic below and nothing else, and no contract names them.
 #![tactic(auto)]
 
+ghost use Rattle.std.specs.Prelude.{◌<◌, IfOk};
+
 pub mod function;
 pub mod script;
 
-use clif_types::{BinaryOpcode, Type, UnaryOpcode};
+use clif_opcodes::{BinaryOpcode, ConvertOpcode, UnaryOpcode};
+use clif_types::{TrapCode, Type};
 
 /// How a run ended.
 #[derive(PartialEq, Eq, Drop)]
 pub enum End {
     /// With these bits.
     Returned(Vec<u128>),
+    /// With this trap.
+    Trapped(TrapCode),
     /// It can't step.
     Stuck,
     /// Not within so many steps.
@@ -50,8 +55,93 @@ pub fn unary(opcode: UnaryOpcode, ty: Type, x: u128) -> u128 {
     bits & greatest(ty)
 }
 
+/// A vector of at most 128 bits, with the same bits in every lane.
+fn splat(ty: Type, x: u128) -> u128 {
+    let mut bits = 0u128;
+    for _ in 0..ty.lane_count() {
+        bits = bits.wrapping_shl(ty.lane_type().bits()) | x;
+    }
+    bits
+}
+
+/// A value of a type from the bits of one operand.
+pub fn convert(opcode: ConvertOpcode, ty: Type, x: u128) -> u128 {
+    let bits = match opcode {
+        ConvertOpcode::Uextend | ConvertOpcode::Ireduce => x,
+        ConvertOpcode::Splat => splat(ty, x),
+    };
+    bits & greatest(ty)
+}
+
+/// Whether a number of a type is negative in two's complement.
+fn is_negative(ty: Type, x: u128) -> bool {
+    x > greatest(ty) >> 1
+}
+
+/// How far a number in two's complement is from zero.
+fn magnitude(ty: Type, x: u128) -> u128 {
+    if is_negative(ty, x) {
+        0u128.wrapping_sub(x) & greatest(ty)
+    } else {
+        x
+    }
+}
+
+/// A number of a sign, from how far it is from zero.
+fn with_sign(negative: bool, x: u128) -> u128 {
+    if negative { 0u128.wrapping_sub(x) } else { x }
+}
+
+/// A divisor that isn't zero.
+fn divisor(y: u128) -> Result<u128, TrapCode>
+    ensures { IfOk result (λ d. 0 < d) }
+{
+    if y == 0 {
+        return Err(TrapCode::DivisionByZero);
+    }
+    Ok(y)
+}
+
+/// The quotient and the remainder of unsigned numbers.
+fn divided(x: u128, y: u128) -> Result<(u128, u128), TrapCode> {
+    let by = divisor(y)?;
+    Ok((x / by, x % by))
+}
+
+/// The quotient and the remainder of signed numbers.
+fn divided_signed(ty: Type, x: u128, y: u128) -> Result<(u128, u128), TrapCode> {
+    let (quotient, rest) = divided(magnitude(ty, x), magnitude(ty, y))?;
+    let (above, below) = (is_negative(ty, x), is_negative(ty, y));
+    Ok((with_sign(above != below, quotient), with_sign(above, rest)))
+}
+
+/// The quotient of signed numbers, which may be too great for the type.
+fn quotient(ty: Type, x: u128, y: u128) -> Result<u128, TrapCode> {
+    let (bits, _) = divided_signed(ty, x, y)?;
+    let is_too_great = is_negative(ty, x) == is_negative(ty, y) && is_negative(ty, bits);
+    if is_too_great {
+        Err(TrapCode::IntegerOverflow)
+    } else {
+        Ok(bits)
+    }
+}
+
+/// By how many bits a shift goes.
+fn amount(ty: Type, y: u128) -> u32 {
+    (y % u128::from(ty.bits().max(1))) as u32
+}
+
+/// Shifted right, with copies of the sign.
+fn shifted(ty: Type, x: u128, count: u32) -> u128 {
+    if is_negative(ty, x) {
+        !((!x & greatest(ty)).wrapping_shr(count))
+    } else {
+        x.wrapping_shr(count)
+    }
+}
+
 /// An operation on two operands, of a type.
-pub fn binary(opcode: BinaryOpcode, ty: Type, x: u128, y: u128) -> u128 {
+pub fn binary(opcode: BinaryOpcode, ty: Type, x: u128, y: u128) -> Result<u128, TrapCode> {
     let bits = match opcode {
         BinaryOpcode::Iadd => x.wrapping_add(y),
         BinaryOpcode::Isub => x.wrapping_sub(y),
@@ -59,6 +149,13 @@ pub fn binary(opcode: BinaryOpcode, ty: Type, x: u128, y: u128) -> u128 {
         BinaryOpcode::Band => x & y,
         BinaryOpcode::Bor => x | y,
         BinaryOpcode::Bxor => x ^ y,
+        BinaryOpcode::Ishl => x.wrapping_shl(amount(ty, y)),
+        BinaryOpcode::Ushr => x.wrapping_shr(amount(ty, y)),
+        BinaryOpcode::Sshr => shifted(ty, x, amount(ty, y)),
+        BinaryOpcode::Udiv => divided(x, y)?.0,
+        BinaryOpcode::Sdiv => quotient(ty, x, y)?,
+        BinaryOpcode::Urem => divided(x, y)?.1,
+        BinaryOpcode::Srem => divided_signed(ty, x, y)?.1,
     };
-    bits & greatest(ty)
+    Ok(bits & greatest(ty))
 }

@@ -3,15 +3,17 @@ use Rattle.std.proofs.Common.{◌≡◌, ℕ, zero, suc, if◌then◌else◌, Bo
 use Rattle.std.specs.Prelude.{IsTrue}
 use Rattle.std.specs.List.{AllByRecursion}
 use Rattle.clif_types.specs.declared.types.«Type».{«Type»}
+use Rattle.clif_types.specs.declared.trapcode.TrapCode.{TrapCode}
+use Rattle.clif_types.specs.Types.{bits_of}
 use Rattle.clif_meaning.specs.Bits.{Bits}
 use Rattle.clif_meaning.specs.Memory.{Memory}
 use Rattle.clif_meaning.specs.Name.{Name, same_name, answer_of}
-use Rattle.clif_meaning.specs.Instruction.{Instruction, Operation, Compute, Jump, Brif, Return, Arithmetic, Iconst, Unary, Binary}
+use Rattle.clif_meaning.specs.Instruction.{Instruction, Operation, Compute, Jump, Brif, Return, Arithmetic, Iconst, Unary, Binary, Convert, Select}
 use Rattle.clif_meaning.specs.Request.{Request, Script}
 use Rattle.clif_meaning.specs.Program.{Program, Item, Instruct, Use, Assign, result_types, result_names, answers_from, with_item_at, with_inserted, extended, with_call, empty_program, program_of}
 use Rattle.clif_meaning.specs.Ledger.{is_terminator}
 use Rattle.clif_meaning.specs.World.{World}
-use Rattle.clif_meaning.specs.Outcome.{Outcome, Gives, Goes, Returns, Traps, Calls, NoStep, computed, outcome_of_computed, outcome_of}
+use Rattle.clif_meaning.specs.Outcome.{Outcome, Gives, Goes, Returns, Traps, Calls, NoStep, binary_fault, binary_number, computed, low_bits_at, outcome_of_computed, outcome_of, unless_fault}
 use Rattle.clif_simulation.proofs.Effects.{ProgramEffect, program_effect, Leaves, Inserts, Takes, Switches, Assigns, Uses, Builds}
 
 -- an instruction gives the names of its results
@@ -83,6 +85,10 @@ GivesCount count (Traps reason) = Unit {0}
 GivesCount count (Calls callee call arguments) = Unit {0}
 GivesCount count NoStep = Unit {0}
 
+one_unless : (fault : Option TrapCode) (bits : Bits) (memory : Memory) → GivesCount 1 (outcome_of_computed (unless_fault fault bits) memory)
+one_unless None bits memory = refl
+one_unless (Some reason) bits memory = tt
+
 counted_arithmetic : (arithmetic : Arithmetic) (ty : «Type») (operands : List Bits) (memory : Memory)
     → GivesCount 1 (outcome_of_computed (computed arithmetic ty operands) memory)
 counted_arithmetic (Iconst number) ty [] memory = refl
@@ -92,13 +98,24 @@ counted_arithmetic (Unary opcode) ty (x ∷ []) memory = refl
 counted_arithmetic (Unary opcode) ty (x ∷ y ∷ operands) memory = tt
 counted_arithmetic (Binary opcode) ty [] memory = tt
 counted_arithmetic (Binary opcode) ty (x ∷ []) memory = tt
-counted_arithmetic (Binary opcode) ty (x ∷ y ∷ []) memory = refl
+counted_arithmetic (Binary opcode) ty (x ∷ y ∷ []) memory =
+    one_unless (binary_fault opcode (bits_of ty) x y) (low_bits_at ty (binary_number opcode (bits_of ty) x y)) memory
 counted_arithmetic (Binary opcode) ty (x ∷ y ∷ z ∷ operands) memory = tt
+counted_arithmetic (Convert opcode) ty [] memory = tt
+counted_arithmetic (Convert opcode) ty (x ∷ []) memory = refl
+counted_arithmetic (Convert opcode) ty (x ∷ y ∷ operands) memory = tt
+counted_arithmetic Select ty [] memory = tt
+counted_arithmetic Select ty (c ∷ []) memory = tt
+counted_arithmetic Select ty (c ∷ x ∷ []) memory = tt
+counted_arithmetic Select ty (c ∷ x ∷ y ∷ []) memory = refl
+counted_arithmetic Select ty (c ∷ x ∷ y ∷ z ∷ operands) memory = tt
 
 one_type : (arithmetic : Arithmetic) (ty : «Type») → length (result_types (Compute arithmetic) ty) ≡ 1
 one_type (Iconst number) ty = refl
 one_type (Unary opcode) ty = refl
 one_type (Binary opcode) ty = refl
+one_type (Convert opcode) ty = refl
+one_type Select ty = refl
 
 counted_outcome : (world : World) (operation : Operation) (ty : «Type») (types : List «Type») (operands : List Bits) (memory : Memory)
     → GivesCount (length (result_types operation ty)) (outcome_of world operation ty types operands memory)
@@ -129,6 +146,8 @@ terminator_gives_none place instruction ends = ap (answers_from place 1) (none i
     none (Compute (Iconst number)) ends = cc
     none (Compute (Unary opcode)) ends = cc
     none (Compute (Binary opcode)) ends = cc
+    none (Compute (Convert opcode)) ends = cc
+    none (Compute Select) ends = cc
     none Jump ends = refl
     none Brif ends = refl
     none Return ends = refl

@@ -11,7 +11,7 @@ use Rattle.clif_ir.specs.declared.function.InstNode.{InstNode}
 use Rattle.clif_ir.specs.declared.function.ValueNode.{ValueNode}
 use Rattle.clif_instructions.specs.declared.inst_list.InsertAt.{InsertAt}
 use Rattle.clif_instructions.specs.declared.instructions.InstructionData.{InstructionData}
-use Rattle.clif_instructions.specs.declared.instructions.InstructionData.TheVariants.{UnaryImm, Unary, Binary, Jump, Brif, MultiAry}
+use Rattle.clif_instructions.specs.declared.instructions.InstructionData.TheVariants.{UnaryImm, Unary, Binary, Convert, Ternary, Jump, Brif, MultiAry}
 use Rattle.clif_instructions.specs.Edges.{with_argument_to, targets}
 use Rattle.clif_instructions.specs.Instruction.{operands, destinations, with_argument}
 use Rattle.clif_ir.specs.Body.{Body, no_value, inst_at, value_at}
@@ -115,6 +115,8 @@ targets_with : (b v : ℕ) (shape : InstructionData) → targets (destinations (
 targets_with b v (UnaryImm imm) = refl
 targets_with b v (Unary opcode arg) = refl
 targets_with b v (Binary opcode args) = refl
+targets_with b v (Convert opcode arg) = refl
+targets_with b v (Ternary args) = refl
 targets_with b v (Jump destination) = targets_appended b v (destination ∷ [])
 targets_with b v (Brif arg blocks) = targets_appended b v blocks
 targets_with b v (MultiAry args) = refl
@@ -123,6 +125,8 @@ operation_with : (b v : ℕ) (shape : InstructionData) → operation_of (with_ar
 operation_with b v (UnaryImm imm) = refl
 operation_with b v (Unary opcode arg) = refl
 operation_with b v (Binary opcode args) = refl
+operation_with b v (Convert opcode arg) = refl
+operation_with b v (Ternary args) = refl
 operation_with b v (Jump destination) = refl
 operation_with b v (Brif arg blocks) = refl
 operation_with b v (MultiAry args) = refl
@@ -131,6 +135,8 @@ operands_with : (b v : ℕ) (shape : InstructionData) → operands (with_argumen
 operands_with b v (UnaryImm imm) = refl
 operands_with b v (Unary opcode arg) = refl
 operands_with b v (Binary opcode args) = refl
+operands_with b v (Convert opcode arg) = refl
+operands_with b v (Ternary args) = refl
 operands_with b v (Jump destination) = refl
 operands_with b v (Brif arg blocks) = refl
 operands_with b v (MultiAry args) = refl
@@ -139,6 +145,8 @@ controlling_with : (g : Body) (b v : ℕ) (shape : InstructionData) (values : Li
 controlling_with g b v (UnaryImm imm) values = refl
 controlling_with g b v (Unary opcode arg) values = refl
 controlling_with g b v (Binary opcode args) values = refl
+controlling_with g b v (Convert opcode arg) values = refl
+controlling_with g b v (Ternary args) values = refl
 controlling_with g b v (Jump destination) values = refl
 controlling_with g b v (Brif arg blocks) values = refl
 controlling_with g b v (MultiAry args) values = refl
@@ -189,6 +197,8 @@ controlling_kept : (f g : Body) → GoesOn f g → (shape : InstructionData) (va
 controlling_kept f g on (UnaryImm imm) values exist operands_exist = first_kept f g on values exist
 controlling_kept f g on (Unary opcode arg) values exist operands_exist = first_kept f g on values exist
 controlling_kept f g on (Binary opcode args) values exist operands_exist = first_kept f g on values exist
+controlling_kept f g on (Convert opcode arg) values exist operands_exist = first_kept f g on values exist
+controlling_kept f g on (Ternary args) values exist operands_exist = first_kept f g on values exist
 controlling_kept f g on (Jump destination) values exist operands_exist = refl
 controlling_kept f g on (Brif arg blocks) values exist operands_exist = on.types arg (operands_exist 0 (omega arith))
 controlling_kept f g on (MultiAry args) values exist operands_exist = refl

@@ -15,7 +15,7 @@ use Rattle.clif_records.specs.declared.tables.Sealed.TheVariants.{No, Yes}
 use Rattle.std.specs.FinMap as map
 use Rattle.clif_records.specs.Tables.{Recorded}
 use Rattle.clif_ssa.specs.Ssa.{SsaState}
-use Rattle.clif_types.specs.declared.opcodes.BinaryOpcode.TheVariants as binary
+use Rattle.clif_opcodes.specs.declared.opcodes.BinaryOpcode.TheVariants as binary
 use Rattle.clif_meaning.specs.Instruction.{Compute}
 use Rattle.clif_meaning.specs.Instruction as operation
 use Rattle.clif_meaning.specs.Name.{answer_of}

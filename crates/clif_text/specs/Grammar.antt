@@ -1,6 +1,6 @@
 -- Which words stand for which call. Source: own; docs/SCRIPTS.md describes the same format.
 use Rattle.std.specs.Prelude.{◌≡◌, ℕ, ◌⊎◌, ◌++◌, List, [], ◌∷◌, Option, Some, None, codes}
-use Rattle.clif_types.specs.Texts.{binary_opcode_text, unary_opcode_text}
+use Rattle.clif_opcodes.specs.Names.{binary_name, convert_name, unary_name}
 use Rattle.clif_words.specs.Spelling.{IsDecimal, IsNumber, IsTypeWord}
 use Rattle.clif_calls.specs.declared.call.Name.{Name}
 use Rattle.clif_calls.specs.declared.call.Edge.{Edge}
@@ -53,8 +53,11 @@ IsLastEdge names words edge = (block : List ℕ) × (passed : List (List ℕ)) �
 -- The words stand for an instruction of this plan, which neither branches nor ends its block.
 abbrev pub IsPlain : Names → List (List ℕ) → Plan → Type 0
 IsPlain names words (plan.UnaryImm ty imm) = (t n : List ℕ) × (words ≡ (codes "iconst." ++ t) ∷ n ∷ []) × IsTypeWord t ty × IsNumber n imm
-IsPlain names words (plan.Unary opcode arg) = (operand : List ℕ) × (words ≡ unary_opcode_text opcode ∷ operand ∷ []) × IsAnswer names operand arg
-IsPlain names words (plan.Binary opcode args) = (operands : List (List ℕ)) × (words ≡ binary_opcode_text opcode ∷ operands) × AreAnswers names operands args
+IsPlain names words (plan.Unary opcode arg) = (operand : List ℕ) × (words ≡ unary_name opcode ∷ operand ∷ []) × IsAnswer names operand arg
+IsPlain names words (plan.Binary opcode args) = (operands : List (List ℕ)) × (words ≡ binary_name opcode ∷ operands) × AreAnswers names operands args
+IsPlain names words (plan.Convert opcode ty arg) =
+    (t operand : List ℕ) × (words ≡ (convert_name opcode ++ (codes "." ++ t)) ∷ operand ∷ []) × IsTypeWord t ty × IsAnswer names operand arg
+IsPlain names words (plan.Ternary args) = (operands : List (List ℕ)) × (words ≡ codes "select" ∷ operands) × AreAnswers names operands args
 IsPlain names words _ = ⊥
 
 -- The words stand for the call: its name, and then what it takes, in order.

@@ -1,5 +1,6 @@
 -- What the contracts of this crate cite.
 pub mod Grammar
+pub mod Reading
 pub mod Given
 pub mod Scope
 pub mod Script

@@ -1,7 +1,8 @@
 -- The text of a call, as a line of a script that gives no names. Source: own; docs/SCRIPTS.md describes the format.
 use Rattle.std.specs.Prelude.{ℕ, List, [], ◌∷◌, ◌++◌, codes, flat_map}
 use Rattle.std.specs.Fmt.{decimal, signed_decimal}
-use Rattle.clif_types.specs.Texts.{binary_opcode_text, unary_opcode_text, type_text, call_conv_text, signature_text, user_func_name_text}
+use Rattle.clif_opcodes.specs.Names.{binary_name, convert_name, unary_name}
+use Rattle.clif_types.specs.Texts.{type_text, call_conv_text, signature_text, user_func_name_text}
 use Rattle.clif_types.specs.Signature.{SignatureShape}
 use Rattle.clif_types.specs.declared.extname.UserFuncName.{UserFuncName}
 use Rattle.clif_types.specs.declared.target.TargetFrontendConfig.{TargetFrontendConfig}
@@ -33,8 +34,10 @@ variable_text number = codes "var" ++ decimal number
 -- an instruction of this plan: its name, and what it takes
 abbrev pub plan_text : Plan → List ℕ
 plan_text (plan.UnaryImm ty imm) = codes "iconst." ++ (type_text ty ++ (codes " " ++ signed_decimal imm))
-plan_text (plan.Unary opcode arg) = unary_opcode_text opcode ++ (codes " " ++ answer_text arg)
-plan_text (plan.Binary opcode args) = binary_opcode_text opcode ++ answers_text args
+plan_text (plan.Unary opcode arg) = unary_name opcode ++ (codes " " ++ answer_text arg)
+plan_text (plan.Binary opcode args) = binary_name opcode ++ answers_text args
+plan_text (plan.Convert opcode ty arg) = convert_name opcode ++ (codes "." ++ (type_text ty ++ (codes " " ++ answer_text arg)))
+plan_text (plan.Ternary args) = codes "select" ++ answers_text args
 plan_text (plan.Jump destination) = codes "jump " ++ edge_text destination.now
 plan_text (plan.Brif condition first second) = codes "brif " ++ (answer_text condition ++ (codes " " ++ (edge_text first.now ++ (codes " " ++ edge_text second.now))))
 plan_text (plan.MultiAry args) = codes "return" ++ answers_text args.now

@@ -1,21 +1,22 @@
 //! The calls that are understood: one arm each.
-ghost use Rattle.std.specs.Prelude.{◌≡◌, ◌++◌, ◌∷◌, ℕ, List, IfOk, IfSome, codes};
-ghost use Rattle.clif_types.specs.Texts.{binary_opcode_text, unary_opcode_text};
-ghost use Rattle.clif_words.specs.Cursor.{texts, words_left};
+ghost use Rattle.std.specs.Prelude.{◌≡◌, ◌++◌, IfOk, IfSome, codes};
+ghost use Rattle.clif_opcodes.specs.Names.{binary_name, convert_name, unary_name};
+ghost use Rattle.clif_words.specs.Cursor.{texts};
 ghost use Rattle.clif_text.specs.Given.{is_instruction};
 ghost use Rattle.clif_text.specs.Grammar.{IsCall};
+ghost use Rattle.clif_text.specs.Reading.{ReadsCall};
 ghost use Rattle.clif_text.specs.Scope.{names_of};
 
 use crate::args::Args;
 use crate::scope::Scope;
 use clif_calls::{Call, PlainInstruction};
-use clif_types::{BinaryOpcode, UnaryOpcode};
+use clif_opcodes::{BinaryOpcode, ConvertOpcode, UnaryOpcode};
 use clif_words::error::{Expected, Fault, LineError};
 use clif_words::types::type_named;
 use std::alloc::Global;
 
 // The calls of the format that aren't understood so far, without the type that may follow their name.
-const NOT_SUPPORTED: [&str; 60] = [
+const NOT_SUPPORTED: [&str; 49] = [
     "declare_var_needs_stack_map",
     "declare_value_needs_stack_map",
     "try_use_var",
@@ -48,21 +49,10 @@ const NOT_SUPPORTED: [&str; 60] = [
     "f64const",
     "f128const",
     "vconst",
-    "splat",
-    "uextend",
     "sextend",
-    "ireduce",
     "isplit",
-    "ishl",
-    "ushr",
-    "sshr",
-    "udiv",
-    "urem",
-    "sdiv",
-    "srem",
     "iconcat",
     "icmp",
-    "select",
     "load",
     "store",
     "stack_addr",
@@ -84,7 +74,7 @@ fn read_call<'a>(
     head: &'a str,
     args: &mut Args<'_, 'a>,
 ) -> Result<Call, LineError<'a>>
-    ensures { IfOk result (λ call. (words : List (List ℕ)) × (words_left args.old.words ≡ words ++ words_left args.new.words) × IsCall (names_of args.old.scope.now) (head.now ∷ words) call) }
+    ensures { IfOk result (ReadsCall args.old args.new head.now) }
 {
     match head {
         "declare_var" => Ok(Call::DeclareVar { ty: args.ty()? }),
@@ -112,10 +102,13 @@ fn read_call<'a>(
 
 // The same for an instruction of values.
 fn read_instruction<'a>(head: &'a str, args: &mut Args<'_, 'a>) -> Result<Call, LineError<'a>>
-    ensures { IfOk result (λ call. (words : List (List ℕ)) × (words_left args.old.words ≡ words ++ words_left args.new.words) × IsCall (names_of args.old.scope.now) (head.now ∷ words) call) }
+    ensures { IfOk result (ReadsCall args.old args.new head.now) }
 {
     if let Some(opcode) = unary_named(head) {
         return read_unary_call(head, opcode, args);
+    }
+    if head == "select" {
+        return read_select_call(head, args);
     }
     match binary_named(head) {
         Some(opcode) => read_binary_call(head, opcode, args),
@@ -123,9 +116,9 @@ fn read_instruction<'a>(head: &'a str, args: &mut Args<'_, 'a>) -> Result<Call, 
     }
 }
 
-// The operation of this name, of one value: a row an instruction.
+// The operation of this name, of one value: one row per instruction.
 fn unary_named(name: &str) -> Option<UnaryOpcode>
-    ensures { IfSome result (λ opcode. name.now ≡ unary_opcode_text opcode) }
+    ensures { IfSome result (λ opcode. name.now ≡ unary_name opcode) }
 {
     match name {
         "ineg" => Some(UnaryOpcode::Ineg),
@@ -134,9 +127,9 @@ fn unary_named(name: &str) -> Option<UnaryOpcode>
     }
 }
 
-// The operation of this name, of two values: a row an instruction.
+// The operation of this name, of two values: one row per instruction.
 fn binary_named(name: &str) -> Option<BinaryOpcode>
-    ensures { IfSome result (λ opcode. name.now ≡ binary_opcode_text opcode) }
+    ensures { IfSome result (λ opcode. name.now ≡ binary_name opcode) }
 {
     match name {
         "iadd" => Some(BinaryOpcode::Iadd),
@@ -145,6 +138,13 @@ fn binary_named(name: &str) -> Option<BinaryOpcode>
         "band" => Some(BinaryOpcode::Band),
         "bor" => Some(BinaryOpcode::Bor),
         "bxor" => Some(BinaryOpcode::Bxor),
+        "ishl" => Some(BinaryOpcode::Ishl),
+        "ushr" => Some(BinaryOpcode::Ushr),
+        "sshr" => Some(BinaryOpcode::Sshr),
+        "udiv" => Some(BinaryOpcode::Udiv),
+        "sdiv" => Some(BinaryOpcode::Sdiv),
+        "urem" => Some(BinaryOpcode::Urem),
+        "srem" => Some(BinaryOpcode::Srem),
         _ => None,
     }
 }
@@ -155,8 +155,8 @@ fn read_unary_call<'a>(
     opcode: UnaryOpcode,
     args: &mut Args<'_, 'a>,
 ) -> Result<Call, LineError<'a>>
-    requires { head.now ≡ unary_opcode_text opcode }
-    ensures { IfOk result (λ call. (words : List (List ℕ)) × (words_left args.old.words ≡ words ++ words_left args.new.words) × IsCall (names_of args.old.scope.now) (head.now ∷ words) call) }
+    requires { head.now ≡ unary_name opcode }
+    ensures { IfOk result (ReadsCall args.old args.new head.now) }
 {
     let x = args.value()?;
     Ok(Call::Plain(PlainInstruction::unary(opcode, x)))
@@ -168,17 +168,57 @@ fn read_binary_call<'a>(
     opcode: BinaryOpcode,
     args: &mut Args<'_, 'a>,
 ) -> Result<Call, LineError<'a>>
-    requires { head.now ≡ binary_opcode_text opcode }
-    ensures { IfOk result (λ call. (words : List (List ℕ)) × (words_left args.old.words ≡ words ++ words_left args.new.words) × IsCall (names_of args.old.scope.now) (head.now ∷ words) call) }
+    requires { head.now ≡ binary_name opcode }
+    ensures { IfOk result (ReadsCall args.old args.new head.now) }
 {
     let x = args.value()?;
     let y = args.value()?;
     Ok(Call::Plain(PlainInstruction::binary(opcode, x, y)))
 }
 
+// The same for `select`.
+fn read_select_call<'a>(head: &'a str, args: &mut Args<'_, 'a>) -> Result<Call, LineError<'a>>
+    requires { head.now ≡ codes "select" }
+    ensures { IfOk result (ReadsCall args.old args.new head.now) }
+{
+    let c = args.value()?;
+    let x = args.value()?;
+    let y = args.value()?;
+    Ok(Call::Plain(PlainInstruction::Select { c, x, y }))
+}
+
+// The conversion of this name: one row per instruction.
+fn convert_named(name: &str) -> Option<ConvertOpcode>
+    ensures { IfSome result (λ opcode. name.now ≡ convert_name opcode) }
+{
+    match name {
+        "splat" => Some(ConvertOpcode::Splat),
+        "uextend" => Some(ConvertOpcode::Uextend),
+        "ireduce" => Some(ConvertOpcode::Ireduce),
+        _ => None,
+    }
+}
+
+// The same for an instruction of one value, whose name is followed by its result type.
+fn read_convert_call<'a>(
+    head: &'a str,
+    opcode: ConvertOpcode,
+    suffix: &'a str,
+    args: &mut Args<'_, 'a>,
+) -> Result<Call, LineError<'a>>
+    requires { head.now ≡ convert_name opcode ++ (codes "." ++ suffix.now) }
+    ensures { IfOk result (ReadsCall args.old args.new head.now) }
+{
+    let Some(ty) = type_named(suffix) else {
+        return Err(LineError::wanted(Expected::Type));
+    };
+    let x = args.value()?;
+    Ok(Call::Plain(PlainInstruction::convert(opcode, ty, x)))
+}
+
 // The same for a call that makes, marks or places blocks.
 fn read_block_call<'a>(head: &'a str, args: &mut Args<'_, 'a>) -> Result<Call, LineError<'a>>
-    ensures { IfOk result (λ call. (words : List (List ℕ)) × (words_left args.old.words ≡ words ++ words_left args.new.words) × IsCall (names_of args.old.scope.now) (head.now ∷ words) call) }
+    ensures { IfOk result (ReadsCall args.old args.new head.now) }
 {
     match head {
         "create_block" => Ok(Call::CreateBlock),
@@ -197,7 +237,7 @@ fn read_block_call<'a>(head: &'a str, args: &mut Args<'_, 'a>) -> Result<Call, L
 
 // The same for a call whose name has a block behind it.
 fn read_call_at_block<'a>(head: &'a str, args: &mut Args<'_, 'a>) -> Result<Call, LineError<'a>>
-    ensures { IfOk result (λ call. (words : List (List ℕ)) × (words_left args.old.words ≡ words ++ words_left args.new.words) × IsCall (names_of args.old.scope.now) (head.now ∷ words) call) }
+    ensures { IfOk result (ReadsCall args.old args.new head.now) }
 {
     let block = args.block()?;
     match head {
@@ -224,7 +264,7 @@ fn read_call_at_block<'a>(head: &'a str, args: &mut Args<'_, 'a>) -> Result<Call
 
 // The same for a call whose name has a type behind it, as `iconst.i32`.
 fn read_typed_call<'a>(head: &'a str, args: &mut Args<'_, 'a>) -> Result<Call, LineError<'a>>
-    ensures { IfOk result (λ call. (words : List (List ℕ)) × (words_left args.old.words ≡ words ++ words_left args.new.words) × IsCall (names_of args.old.scope.now) (head.now ∷ words) call) }
+    ensures { IfOk result (ReadsCall args.old args.new head.now) }
 {
     let Some((name, suffix)) = name_and_type(head) else {
         return Err(not_understood(head, head));
@@ -237,7 +277,10 @@ fn read_typed_call<'a>(head: &'a str, args: &mut Args<'_, 'a>) -> Result<Call, L
             let imm = args.number()?;
             Ok(Call::Plain(PlainInstruction::Iconst { ty, imm }))
         }
-        _ => Err(not_understood(head, name)),
+        _ => match convert_named(name) {
+            Some(opcode) => read_convert_call(head, opcode, suffix, args),
+            None => Err(not_understood(head, name)),
+        },
     }
 }
 
@@ -250,7 +293,7 @@ fn name_and_type(head: &str) -> Option<(&str, &str)>
 
 // No call is read that has this name, in front of the type that may follow.
 fn not_understood<'a>(head: &'a str, name: &'a str) -> LineError<'a> {
-    if name == "iconst" {
+    if name == "iconst" || convert_named(name).is_some() {
         LineError::wanted(Expected::Type)
     } else if NOT_SUPPORTED.contains(&name) {
         LineError::Fault(Fault::NotSupported(name))

@@ -62,8 +62,12 @@ impl fmt::Display for PlanText<'_> {
     fn fmt<W: fmt::Write>(&self, f: &mut fmt::Formatter<W>) -> fmt::Result {
         match &self.0 {
             Plan::UnaryImm { ty, imm } => write!(f, "iconst.{ty} {imm}"),
-            Plan::Unary { opcode, arg } => write!(f, "{opcode} {}", AnswerText(*arg)),
-            Plan::Binary { opcode, args } => write!(f, "{opcode}{}", AnswersText(args)),
+            Plan::Unary { opcode, arg } => write!(f, "{} {}", opcode.name(), AnswerText(*arg)),
+            Plan::Binary { opcode, args } => write!(f, "{}{}", opcode.name(), AnswersText(args)),
+            Plan::Convert { opcode, ty, arg } => {
+                write!(f, "{}.{ty} {}", opcode.name(), AnswerText(*arg))
+            }
+            Plan::Ternary { args } => write!(f, "select{}", AnswersText(args)),
             Plan::Jump { destination } => write!(f, "jump {}", EdgeText(destination)),
             Plan::Brif {
                 condition,

@@ -6,4 +6,3 @@ pub mod StackSlot
 pub mod Target
 pub mod Texts
 pub mod Types
-pub mod Typing

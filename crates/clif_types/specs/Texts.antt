@@ -11,10 +11,6 @@ use Rattle.clif_types.specs.declared.call_conv.CallConv.{CallConv}
 use Rattle.clif_types.specs.declared.call_conv.CallConv.TheVariants as conv
 use Rattle.clif_types.specs.declared.condcodes.IntCC.{IntCC}
 use Rattle.clif_types.specs.declared.condcodes.IntCC.TheVariants as cc
-use Rattle.clif_types.specs.declared.opcodes.BinaryOpcode.{BinaryOpcode}
-use Rattle.clif_types.specs.declared.opcodes.BinaryOpcode.TheVariants as binary
-use Rattle.clif_types.specs.declared.opcodes.UnaryOpcode.{UnaryOpcode}
-use Rattle.clif_types.specs.declared.opcodes.UnaryOpcode.TheVariants as unary
 use Rattle.clif_types.specs.declared.trapcode.TrapCode.{TrapCode}
 use Rattle.clif_types.specs.declared.trapcode.TrapCode.TheVariants as trap
 use Rattle.clif_types.specs.declared.libcall.LibCall.{LibCall}
@@ -71,20 +67,6 @@ int_cc_text cc.UnsignedLessThan = codes "ult"
 int_cc_text cc.UnsignedGreaterThanOrEqual = codes "uge"
 int_cc_text cc.UnsignedGreaterThan = codes "ugt"
 int_cc_text cc.UnsignedLessThanOrEqual = codes "ule"
-
--- `ineg`
-abbrev pub unary_opcode_text : UnaryOpcode → List ℕ
-unary_opcode_text unary.Ineg = codes "ineg"
-unary_opcode_text unary.Bnot = codes "bnot"
-
--- `iadd`
-abbrev pub binary_opcode_text : BinaryOpcode → List ℕ
-binary_opcode_text binary.Iadd = codes "iadd"
-binary_opcode_text binary.Isub = codes "isub"
-binary_opcode_text binary.Imul = codes "imul"
-binary_opcode_text binary.Band = codes "band"
-binary_opcode_text binary.Bor = codes "bor"
-binary_opcode_text binary.Bxor = codes "bxor"
 
 -- `user7`, `int_ovf`
 abbrev pub trap_code_text : TrapCode → List ℕ

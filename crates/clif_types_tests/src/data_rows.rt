@@ -16,7 +16,7 @@ use clif_types::stackmap::UserStackMapEntry;
 use clif_types::stackslot::{DynamicStackSlotData, StackSlotData};
 use clif_types::target::{PointerWidth, TargetFrontendConfig};
 use clif_types::trapcode::TrapCode;
-use clif_types::{AliasRegion, BinaryOpcode, SigRef, StackSlot, UnaryOpcode, types};
+use clif_types::{AliasRegion, SigRef, StackSlot, types};
 use std::alloc::{AllocError, Global};
 use std::fmt;
 use std::fmt::Write;
@@ -64,21 +64,6 @@ fn conditions(rt: HostRuntime) -> Result<(), Fail> {
         is_called(&rt, rt.alloc(), *condition, text)?;
     }
     Ok(())
-}
-
-#[test]
-fn opcodes(rt: HostRuntime) -> Result<(), Fail> {
-    let rows = [
-        (Datum::Unary(UnaryOpcode::Ineg), "ineg"),
-        (Datum::Unary(UnaryOpcode::Bnot), "bnot"),
-        (Datum::Binary(BinaryOpcode::Iadd), "iadd"),
-        (Datum::Binary(BinaryOpcode::Isub), "isub"),
-        (Datum::Binary(BinaryOpcode::Imul), "imul"),
-        (Datum::Binary(BinaryOpcode::Band), "band"),
-        (Datum::Binary(BinaryOpcode::Bor), "bor"),
-        (Datum::Binary(BinaryOpcode::Bxor), "bxor"),
-    ];
-    all_show(&rt, rt.alloc(), &rows)
 }
 
 fn testcase(alloc: Global, text: &str) -> Result<TestcaseName, AllocError> {

@@ -6,7 +6,6 @@ use clif_types::condcodes::IntCC;
 use clif_types::error::BuildError;
 use clif_types::libcall::LibCall;
 use clif_types::memflags::MemFlagsData;
-use clif_types::opcodes::{BinaryOpcode, UnaryOpcode};
 use clif_types::stackmap::UserStackMapEntry;
 use clif_types::stackslot::{DynamicStackSlotData, StackSlotData};
 use clif_types::trapcode::TrapCode;
@@ -28,8 +27,6 @@ pub enum Datum {
     StackMapEntry(UserStackMapEntry),
     MemFlags(MemFlagsData),
     Condition(IntCC),
-    Unary(UnaryOpcode),
-    Binary(BinaryOpcode),
     Type(Type),
     /// The same, by its `Debug`.
     DebugType(Type),
@@ -70,8 +67,6 @@ pub fn copies<T: Display + Clone>(
 pub fn shows(rt: &impl Abort, alloc: Global, datum: Datum, text: &str) -> Result<(), Fail> {
     match datum {
         Datum::CallConv(value) => prints(rt, alloc, &value, text),
-        Datum::Unary(value) => prints(rt, alloc, &value, text),
-        Datum::Binary(value) => prints(rt, alloc, &value, text),
         Datum::TrapCode(value) => prints(rt, alloc, &value, text),
         Datum::LibCall(value) => prints(rt, alloc, &value, text),
         Datum::BuildError(value) => prints(rt, alloc, &value, text),

@@ -18,7 +18,7 @@ use Rattle.clif_instructions.specs.Members.{stands_in}
 use Rattle.clif_instructions.specs.Edges.{targets}
 use Rattle.clif_paths.proofs.Tables.{updated-same}
 use Rattle.clif_meaning.specs.Name.{Name}
-use Rattle.clif_meaning.specs.Instruction.{Arithmetic, Iconst, Unary, Binary, Compute, Instruction}
+use Rattle.clif_meaning.specs.Instruction.{Arithmetic, Iconst, Unary, Binary, Convert, Select, Compute, Instruction}
 use Rattle.clif_meaning.specs.Request.{AnsweredCall, Build, Request, number_of}
 use Rattle.clif_meaning.specs.Program as program
 use Rattle.clif_meaning.specs.Ledger.{Answered, AValue, AnInstruction, BlockState, Ledger, is_terminator, ledger_with, next_answer, with_begun, with_filled_at, with_predecessor, with_state}
@@ -140,6 +140,8 @@ agrees-computed calls ledger f g c d p block shape arithmetic ty operands inst v
     types_of (Iconst number) = refl
     types_of (Unary opcode) = refl
     types_of (Binary opcode) = refl
+    types_of (Convert opcode) = refl
+    types_of Select = refl
 
     begun_by : (a : Arithmetic) (x : Name) → ledger.current ≡ Some x
         → MadeLedger ledger (ledger_with ledger (Build (record { operation = Compute a; controlling = ty; operands = operands; edges = [] }))) x unpristine
@@ -150,6 +152,12 @@ agrees-computed calls ledger f g c d p block shape arithmetic ty operands inst v
         let begins = begun-ledger ledger x is in
         record { blocks = begins.blocks; layout = begins.layout; current = begins.current; variables = begins.variables }
     begun_by (Binary opcode) x is =
+        let begins = begun-ledger ledger x is in
+        record { blocks = begins.blocks; layout = begins.layout; current = begins.current; variables = begins.variables }
+    begun_by (Convert opcode) x is =
+        let begins = begun-ledger ledger x is in
+        record { blocks = begins.blocks; layout = begins.layout; current = begins.current; variables = begins.variables }
+    begun_by Select x is =
         let begins = begun-ledger ledger x is in
         record { blocks = begins.blocks; layout = begins.layout; current = begins.current; variables = begins.variables }
 

@@ -9,10 +9,11 @@ use Rattle.clif_instructions.specs.declared.block_call.BlockCall.{BlockCall}
 use Rattle.clif_ir.specs.declared.function.InstNode.{InstNode}
 use Rattle.clif_ir.specs.declared.function.ValueNode.{ValueNode}
 use Rattle.clif_instructions.specs.declared.inst_list.InsertAt.TheVariants.{Back}
-use Rattle.clif_types.specs.declared.opcodes.BinaryOpcode.{BinaryOpcode}
-use Rattle.clif_types.specs.declared.opcodes.UnaryOpcode.{UnaryOpcode}
+use Rattle.clif_opcodes.specs.declared.opcodes.BinaryOpcode.{BinaryOpcode}
+use Rattle.clif_opcodes.specs.declared.opcodes.ConvertOpcode.{ConvertOpcode}
+use Rattle.clif_opcodes.specs.declared.opcodes.UnaryOpcode.{UnaryOpcode}
 use Rattle.clif_instructions.specs.declared.instructions.InstructionData.{InstructionData}
-use Rattle.clif_instructions.specs.declared.instructions.InstructionData.TheVariants.{UnaryImm, Unary, Binary, Jump, Brif, MultiAry}
+use Rattle.clif_instructions.specs.declared.instructions.InstructionData.TheVariants.{UnaryImm, Unary, Binary, Convert, Ternary, Jump, Brif, MultiAry}
 use Rattle.clif_ir.specs.Body.{Body, inst_at, no_inst, no_value, value_at}
 use Rattle.clif_ir.specs.Changes.{inserted_in, with_inst, inst_node}
 use Rattle.clif_ir.specs.Consistent.{IsConsistent}
@@ -70,6 +71,8 @@ pub computes : (f : Body) (shape : InstructionData) (ty : «Type») (arithmetic 
 computes f (UnaryImm imm) ty arithmetic is = record { one = refl; goes_on = refl; typed = refl; no_edges = refl }
 computes f (Unary opcode arg) ty arithmetic is = record { one = refl; goes_on = refl; typed = refl; no_edges = refl }
 computes f (Binary opcode args) ty arithmetic is = record { one = refl; goes_on = refl; typed = refl; no_edges = refl }
+computes f (Convert opcode arg) ty arithmetic is = record { one = refl; goes_on = refl; typed = refl; no_edges = refl }
+computes f (Ternary args) ty arithmetic is = record { one = refl; goes_on = refl; typed = refl; no_edges = refl }
 computes f (Jump destination) ty arithmetic is = let no_way : ⊥ = cc in absurd no_way
 computes f (Brif arg blocks) ty arithmetic is = let no_way : ⊥ = cc in absurd no_way
 computes f (MultiAry args) ty arithmetic is = let no_way : ⊥ = cc in absurd no_way
@@ -137,6 +140,10 @@ shaped-ledger calls f g c d p block instruction (Unary opcode arg) ty inst agree
     with_results calls f g c d p block instruction (Unary opcode arg) ty inst agrees at exists consistent has appends variables (operation.Unary opcode) refl (ssa refl)
 shaped-ledger calls f g c d p block instruction (Binary opcode args) ty inst agrees at exists open_in consistent has may appends declared ssa variables =
     with_results calls f g c d p block instruction (Binary opcode args) ty inst agrees at exists consistent has appends variables (operation.Binary opcode) refl (ssa refl)
+shaped-ledger calls f g c d p block instruction (Convert opcode arg) ty inst agrees at exists open_in consistent has may appends declared ssa variables =
+    with_results calls f g c d p block instruction (Convert opcode arg) ty inst agrees at exists consistent has appends variables (operation.Convert opcode) refl (ssa refl)
+shaped-ledger calls f g c d p block instruction (Ternary args) ty inst agrees at exists open_in consistent has may appends declared ssa variables =
+    with_results calls f g c d p block instruction (Ternary args) ty inst agrees at exists consistent has appends variables operation.Select refl (ssa refl)
 shaped-ledger calls f g c d p block instruction (Jump destination) ty inst agrees at exists open_in consistent has may appends declared ssa variables =
     ending calls f g c d p block instruction (Jump destination) ty inst agrees at exists consistent has appends variables refl refl refl refl open_in may declared
 shaped-ledger calls f g c d p block instruction (Brif arg blocks) ty inst agrees at exists open_in consistent has may appends declared ssa variables =
@@ -195,6 +202,25 @@ binary-shape calls f c p agrees opcode a b x y first second =
       controlling = named-type calls f c p agrees a x first;
       operands_numbered =
           ap (λ (o : Option ℕ). o ∷ number_of calls b ∷ []) first.number ∙ ap (λ (o : Option ℕ). Some x ∷ o ∷ []) second.number;
+      edges = tt;
+    }
+
+pub convert-shape : (calls : List AnsweredCall) (f : Body) (opcode : ConvertOpcode) (ty : «Type») (a : Name) (x : ℕ) → NamesValue calls a x
+    → HasShape calls f (plain (Compute (operation.Convert opcode)) ty (a ∷ [])) (Convert opcode x) ty
+convert-shape calls f opcode ty a x names =
+    record { operation = refl; controlling = refl; operands_numbered = ap (λ (o : Option ℕ). o ∷ []) names.number; edges = tt }
+
+pub select-shape : (calls : List AnsweredCall) (f : Body) (c : ContextState) (p : Option ℕ) → LedgerAgrees calls (ledger_of calls) f c p
+    → (condition a b : Name) (n x y : ℕ) → NamesValue calls condition n → NamesValue calls a x → NamesValue calls b y
+    → HasShape calls f (plain (Compute operation.Select) (or_invalid (type_of (ledger_of calls) a)) (condition ∷ a ∷ b ∷ [])) (Ternary (n ∷ x ∷ y ∷ [])) (value_at f x).ty
+select-shape calls f c p agrees condition a b n x y tested first second =
+    record {
+      operation = refl;
+      controlling = named-type calls f c p agrees a x first;
+      operands_numbered =
+          ap (λ (o : Option ℕ). o ∷ number_of calls a ∷ number_of calls b ∷ []) tested.number
+          ∙ ap (λ (o : Option ℕ). Some n ∷ o ∷ number_of calls b ∷ []) first.number
+          ∙ ap (λ (o : Option ℕ). Some n ∷ Some x ∷ o ∷ []) second.number;
       edges = tt;
     }
 

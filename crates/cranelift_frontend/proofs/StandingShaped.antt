@@ -9,7 +9,7 @@ use Rattle.clif_types.specs.Signature.{SignatureShape}
 use Rattle.clif_instructions.specs.declared.block_call.BlockCall.{BlockCall}
 use Rattle.clif_ir.specs.declared.function.ValueNode.{ValueNode}
 use Rattle.clif_instructions.specs.declared.instructions.InstructionData.{InstructionData}
-use Rattle.clif_instructions.specs.declared.instructions.InstructionData.TheVariants.{UnaryImm, Unary, Binary, Jump, Brif, MultiAry}
+use Rattle.clif_instructions.specs.declared.instructions.InstructionData.TheVariants.{UnaryImm, Unary, Binary, Convert, Ternary, Jump, Brif, MultiAry}
 use Rattle.clif_ir.specs.Body.{Body, inst_at, value_at}
 use Rattle.clif_ir.specs.Changes.{inserted_in, with_inst}
 use Rattle.clif_ir.specs.Consistent.{IsConsistent}
@@ -132,6 +132,8 @@ module _ (declared : SignatureShape) (calls : List AnsweredCall) (f g : Body) (c
       types_of (Iconst number) t = refl
       types_of (operation.Unary opcode) t = refl
       types_of (operation.Binary opcode) t = refl
+      types_of (operation.Convert opcode) t = refl
+      types_of operation.Select t = refl
 
   -- it ends its block, and goes nowhere
   stands_ended : destinations shape ≡ [] → result_types shape ty ≡ [] → program.result_types instruction.operation instruction.controlling ≡ []
@@ -173,6 +175,12 @@ shaped_stands declared calls f g c d p instruction (Unary opcode arg) ty inst bl
 shaped_stands declared calls f g c d p instruction (Binary opcode args) ty inst block stands consistent has at there open_block appends edges declares same kept =
     stands_computed declared calls f g c d p instruction (Binary opcode args) ty inst block stands consistent has at there open_block appends kept
     (operation.Binary opcode) refl refl refl has.controlling (λ h values. refl) (same refl)
+shaped_stands declared calls f g c d p instruction (Convert opcode arg) ty inst block stands consistent has at there open_block appends edges declares same kept =
+    stands_computed declared calls f g c d p instruction (Convert opcode arg) ty inst block stands consistent has at there open_block appends kept
+    (operation.Convert opcode) refl refl refl has.controlling (λ h values. refl) (same refl)
+shaped_stands declared calls f g c d p instruction (Ternary args) ty inst block stands consistent has at there open_block appends edges declares same kept =
+    stands_computed declared calls f g c d p instruction (Ternary args) ty inst block stands consistent has at there open_block appends kept
+    operation.Select refl refl refl has.controlling (λ h values. refl) (same refl)
 shaped_stands declared calls f g c d p instruction (Jump destination) ty inst block stands consistent has at there open_block appends edges declares same kept =
     stands_branch declared calls f g c d p instruction (Jump destination) ty inst block stands consistent has at there open_block appends kept
     refl (ap (λ (o : Operation). program.result_types o instruction.controlling) has.operation) (ap ledger.is_terminator has.operation) (sym has.controlling) edges declares

@@ -4,6 +4,7 @@ use Rattle.std.specs.Prelude.{◌≡◌, ℕ, ◌==◌, List, [], slice_index_or
 use Rattle.clif_types.specs.declared.types.«Type».{«Type»}
 use Rattle.clif_types.specs.contracts.types.«Type» as value_type
 use Rattle.std.specs.Coded.{Coded, code_by, coded×, coded_list}
+use Rattle.clif_ir.specs.Body.{Body, empty_body}
 use Rattle.clif_ssa.specs.Ssa.{SsaState, ssa_state_code, no_state}
 use Rattle.clif_instructions.specs.Members.{stands_in}
 use Rattle.cranelift_frontend.specs.contracts.context.BlockStatus as block_status
@@ -23,6 +24,14 @@ context_code =
 
 abbrev pub empty_context : ContextState
 empty_context = record { ssa = no_state; status = []; variables = [] }
+
+-- the context is empty, as `new` and `finalize` leave it
+abbrev pub IsClear : ContextState → Type 0
+IsClear c = c ≡ empty_context
+
+-- the function is as its constructors leave it
+abbrev pub IsFresh : Body → Type 0
+IsFresh f = f ≡ empty_body f.name f.signature
 
 -- the status of a block; one that was never set is empty
 abbrev pub status_of : ContextState → ℕ → BlockStatus

@@ -1,7 +1,9 @@
--- What the refusals of the builder print. Source: the texts of upstream's panics, for a block that isn't finished; the
+-- What the errors of the builder print. Source: the texts of upstream's panics, for a block that isn't finished; the
 -- others are own.
 use Rattle.std.specs.Prelude.{ℕ, List, ◌++◌, codes}
 use Rattle.std.specs.Fmt.{decimal}
+use Rattle.clif_types.specs.declared.error.BuildError.{BuildError}
+use Rattle.clif_types.specs.declared.error.BuildError.TheVariants as build_error
 use Rattle.cranelift_frontend.specs.declared.error.FinalizeError.{FinalizeError}
 use Rattle.cranelift_frontend.specs.declared.error.FinalizeError.TheVariants.{Unsealed, Unfilled, TrackedContext, Memory, Full, Failed}
 
@@ -12,3 +14,9 @@ finalize_error_text (TrackedContext inst) = codes "the context of inst" ++ decim
 finalize_error_text Memory = codes "no memory"
 finalize_error_text Full = codes "table full"
 finalize_error_text Failed = codes "failed before"
+
+-- why a function isn't finished, if a call failed with this error
+abbrev pub failure_of : BuildError → FinalizeError
+failure_of build_error.Memory = Memory
+failure_of build_error.Full = Full
+failure_of build_error.Failed = Failed

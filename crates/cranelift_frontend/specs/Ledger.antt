@@ -4,7 +4,7 @@ use Rattle.std.specs.Prelude.{◌≡◌, ℕ, ◌≤◌, List, [], ◌∷◌, le
 use Rattle.clif_types.specs.declared.types.«Type».{«Type»}
 use Rattle.clif_types.specs.declared.types.«Type».TheVariants.{Invalid}
 use Rattle.clif_instructions.specs.declared.instructions.InstructionData.{InstructionData}
-use Rattle.clif_instructions.specs.declared.instructions.InstructionData.TheVariants.{UnaryImm, Unary, Binary, Jump, Brif, MultiAry}
+use Rattle.clif_instructions.specs.declared.instructions.InstructionData.TheVariants.{UnaryImm, Unary, Binary, Convert, Ternary, Jump, Brif, MultiAry}
 use Rattle.clif_instructions.specs.declared.block_call.BlockArg.{BlockArg}
 use Rattle.clif_instructions.specs.declared.block_call.BlockArg.TheVariants as arg
 use Rattle.clif_instructions.specs.declared.block_call.BlockCall.{BlockCall}
@@ -59,6 +59,8 @@ abbrev pub made_at : Body → InstructionData → «Type» → «Type»
 made_at f (UnaryImm imm) ty = ty
 made_at f (Unary opcode arg) ty = ty
 made_at f (Binary opcode args) ty = ty
+made_at f (Convert opcode arg) ty = ty
+made_at f (Ternary args) ty = ty
 made_at f (Jump destination) ty = Invalid
 made_at f (Brif arg blocks) ty = (value_at f arg).ty
 made_at f (MultiAry args) ty = Invalid

@@ -1,7 +1,8 @@
 -- What a ledger and requests say by names, where it agrees with a builder, as this crate's law functions state it. Own.
 use Rattle.std.specs.Prelude.{◌≡◌, ℕ, ◌<◌, ◌==◌, List, length, map, slice_get, Option, Some, true, ℤ}
-use Rattle.clif_types.specs.declared.opcodes.BinaryOpcode.{BinaryOpcode}
-use Rattle.clif_types.specs.declared.opcodes.UnaryOpcode.{UnaryOpcode}
+use Rattle.clif_opcodes.specs.declared.opcodes.BinaryOpcode.{BinaryOpcode}
+use Rattle.clif_opcodes.specs.declared.opcodes.ConvertOpcode.{ConvertOpcode}
+use Rattle.clif_opcodes.specs.declared.opcodes.UnaryOpcode.{UnaryOpcode}
 use Rattle.clif_types.specs.declared.types.«Type».TheVariants.{Invalid}
 use Rattle.clif_instructions.specs.declared.block_call.BlockArg.{BlockArg}
 use Rattle.clif_instructions.specs.declared.block_call.BlockCall.{BlockCall}
@@ -31,6 +32,10 @@ pub record AskForTheirShapes (calls : List AnsweredCall) (f : Body) : Type 0 whe
       → AsksForShape calls f (request.unary (ledger_of calls) opcode a) (shape.unary opcode x) (value_at f x).ty
   pub binary : (opcode : BinaryOpcode) (a b : Name) (x y : ℕ) → NamesValue calls a x → NamesValue calls b y
       → AsksForShape calls f (request.binary (ledger_of calls) opcode a b) (shape.binary opcode x y) (value_at f x).ty
+  pub convert : (opcode : ConvertOpcode) (ty : «Type») (a : Name) (x : ℕ) → NamesValue calls a x
+      → AsksForShape calls f (request.convert opcode ty a) (shape.convert opcode x) ty
+  pub select : (condition a b : Name) (c x y : ℕ) → NamesValue calls condition c → NamesValue calls a x → NamesValue calls b y
+      → AsksForShape calls f (request.select (ledger_of calls) condition a b) (shape.ternary c x y) (value_at f x).ty
   pub jump : (edge : Edge Name Name) (block : ℕ) (args : List BlockArg) → NamesEdge calls edge (edge_to block args)
       → AsksForShape calls f (request.jump edge) (shape.jump block args) Invalid
   pub brif : (condition : Name) (c : ℕ) (first second : Edge Name Name) (taken other : BlockCall)

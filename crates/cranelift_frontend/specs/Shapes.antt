@@ -5,10 +5,11 @@ use Rattle.clif_types.specs.declared.error.BuildError.{BuildError}
 use Rattle.clif_types.specs.declared.types.«Type».{«Type»}
 use Rattle.clif_instructions.specs.declared.block_call.BlockArg.{BlockArg}
 use Rattle.clif_instructions.specs.declared.block_call.BlockCall.{BlockCall}
-use Rattle.clif_types.specs.declared.opcodes.BinaryOpcode.{BinaryOpcode}
-use Rattle.clif_types.specs.declared.opcodes.UnaryOpcode.{UnaryOpcode}
+use Rattle.clif_opcodes.specs.declared.opcodes.BinaryOpcode.{BinaryOpcode}
+use Rattle.clif_opcodes.specs.declared.opcodes.ConvertOpcode.{ConvertOpcode}
+use Rattle.clif_opcodes.specs.declared.opcodes.UnaryOpcode.{UnaryOpcode}
 use Rattle.clif_instructions.specs.declared.instructions.InstructionData.{InstructionData}
-use Rattle.clif_instructions.specs.declared.instructions.InstructionData.TheVariants.{UnaryImm, Unary, Binary, Jump, Brif, MultiAry}
+use Rattle.clif_instructions.specs.declared.instructions.InstructionData.TheVariants.{UnaryImm, Unary, Binary, Convert, Ternary, Jump, Brif, MultiAry}
 use Rattle.clif_instructions.specs.Instruction.{destinations, is_branch, is_terminator, result_types}
 
 -- an edge to a block that passes these arguments
@@ -23,6 +24,12 @@ unary opcode x = Unary opcode x
 
 abbrev pub binary : BinaryOpcode → ℕ → ℕ → InstructionData
 binary opcode x y = Binary opcode (x ∷ y ∷ [])
+
+abbrev pub convert : ConvertOpcode → ℕ → InstructionData
+convert opcode x = Convert opcode x
+
+abbrev pub ternary : ℕ → ℕ → ℕ → InstructionData
+ternary c x y = Ternary (c ∷ x ∷ y ∷ [])
 
 abbrev pub jump : ℕ → List BlockArg → InstructionData
 jump block args = Jump (edge_to block args)

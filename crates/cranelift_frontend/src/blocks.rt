@@ -23,7 +23,7 @@ use clif_ir::Function;
 use clif_types::{Block, BuildError, Type, Value};
 
 impl<'a> FunctionBuilder<'a> {
-    /// The parameters of a block, in order: the caller's own, and behind them those that were made for variables.
+    /// The parameters of a block, in order: the caller's own, followed by those that were made for variables.
     pub fn block_params(&self, block: Block) -> &[Value]
         requires { block < length self.now.func.now.blocks }
         ensures exact { result.now ≡ (block_at self.now.func.now block).params }
@@ -32,7 +32,7 @@ impl<'a> FunctionBuilder<'a> {
         self.func.block_params(block)
     }
 
-    /// Puts a block into the layout right behind another one, which has no effect but on the order of the text.
+    /// Puts a block into the layout right after another one. This affects nothing but the order of the text.
     ///
     /// `after` is in the layout and `block` isn't. Without this call a block enters the layout as its last one,
     /// once something is made in it. It takes no memory, so its one error is `Failed`.
@@ -107,7 +107,8 @@ impl<'a> FunctionBuilder<'a> {
         begun
     }
 
-    /// Appends a parameter to a block, and answers its value. Each branch to the block passes an argument for it.
+    /// Appends a parameter to a block, and returns its value. Pass an argument for it on each branch to the block;
+    /// that isn't checked.
     ///
     /// The block is pristine ([`FunctionBuilder::is_pristine`]); later, parameters of variables may follow. `Full`
     /// means that there are 2^32 - 1 values. After an error the block has the parameters that it had, and the
@@ -206,7 +207,7 @@ impl<'a> FunctionBuilder<'a> {
     }
 }
 
-// Puts a parameter behind those of a block for each parameter of the function.
+// Appends a parameter to a block for each parameter of the function.
 fn append_function_params(func: &mut Function, block: Block) -> Result<(), BuildError>
     requires { block < length func.old.blocks }
     ensures ok { OnOk result (func.new ≡ with_params func.old block (types_of func.old.signature.params)) }
@@ -223,7 +224,7 @@ fn append_function_params(func: &mut Function, block: Block) -> Result<(), Build
     Ok(())
 }
 
-// Puts a parameter behind those of a block for each returned value of the function.
+// Appends a parameter to a block for each value that the function returns.
 fn append_function_returns(func: &mut Function, block: Block) -> Result<(), BuildError>
     requires { block < length func.old.blocks }
     ensures ok { OnOk result (func.new ≡ with_params func.old block (types_of func.old.signature.returns)) }

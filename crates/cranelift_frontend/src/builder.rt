@@ -7,7 +7,7 @@ use clif_types::Block;
 
 /// Builds one function.
 ///
-/// After a call that answers `Memory` or `Full` each later call that may take memory answers `Failed`.
+/// After a call that returns `Memory` or `Full`, each later call that returns a `Result` returns `Failed`.
 #[derive(Drop)]
 pub struct FunctionBuilder<'a> {
     pub(crate) func: &'a mut Function,

@@ -1,8 +1,8 @@
-//! The refusals of the builder.
-ghost use Rattle.std.specs.Prelude.{Some};
-ghost use Rattle.cranelift_frontend.specs.Errors.{finalize_error_text};
+//! The errors of the builder.
+ghost use Rattle.std.specs.Prelude.{◌≡◌, Some};
+ghost use Rattle.cranelift_frontend.specs.Errors.{failure_of, finalize_error_text};
 
-use clif_types::{Block, Inst};
+use clif_types::{Block, BuildError, Inst};
 use std::error::Error;
 use std::fmt;
 
@@ -51,3 +51,16 @@ impl fmt::Display for FinalizeError {
 }
 
 impl Error for FinalizeError {}
+
+/// Lets a function use `?` both for the builder's calls and for `finalize`.
+impl From<BuildError> for FinalizeError {
+    ghost from_gives = { λ error result. result ≡ failure_of error };
+
+    fn from(error: BuildError) -> FinalizeError {
+        match error {
+            BuildError::Memory => FinalizeError::Memory,
+            BuildError::Full => FinalizeError::Full,
+            BuildError::Failed => FinalizeError::Failed,
+        }
+    }
+}

@@ -21,8 +21,8 @@ use clif_types::{Block, EntityRef, TargetFrontendConfig};
 
 impl<'a> FunctionBuilder<'a> {
     /// Ends the building. The function is finished if each block that isn't pristine is sealed and has its
-    /// terminator; otherwise the first such block, by number, is answered as `Unsealed` or `Unfilled`. A builder
-    /// that failed answers `Failed`.
+    /// terminator; otherwise the first one that lacks either, by number, is returned as `Unsealed` or
+    /// `Unfilled`. A builder that failed returns `Failed`.
     ///
     /// A finished function does what the calls said, with variables: its events, and how it returns or traps, are
     /// the same. The function itself isn't changed here. The context is cleared in every case, and so serves
@@ -45,7 +45,7 @@ impl<'a> FunctionBuilder<'a> {
         answer
     }
 
-    // What `finalize` answers.
+    // What `finalize` returns.
     fn verdict(&self) -> Result<(), FinalizeError>
         ensures { result ≡ verdict_of self.now.failed self.now.ctx.now (length self.now.func.now.blocks) }
     {

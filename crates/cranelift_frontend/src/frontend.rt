@@ -1,6 +1,6 @@
 //! The builder of a function.
 ghost use Rattle.std.specs.Prelude.{◌≡◌, ◌≢◌, ◌<◌, ◌-◌, ◌^◌, ◌+◌, ◌++◌, ◌∷◌, [], ◌==◌, ℕ, List, IsTrue, ◌↔◌, OnOk, OnErr, IfOk, IfSome, IsSome, is_err, Some, None, true, false, length, slice_index, slice_get, EachIndex};
-ghost use Rattle.cranelift_frontend.specs.Context.{empty_context, status_of, begun, Begins, SetsStatus};
+ghost use Rattle.cranelift_frontend.specs.Context.{IsClear, IsFresh, status_of, begun, Begins, SetsStatus};
 ghost use Rattle.cranelift_frontend.specs.Growth.{Grows, HasRecordIn, RemembersIn};
 ghost use Rattle.cranelift_frontend.specs.Construction.{IsUse, IsSealing, IsSealingAll, SealsAtMost};
 ghost use Rattle.cranelift_frontend.specs.Calls.{IsCall, IsTold, answered};
@@ -11,7 +11,7 @@ ghost use Rattle.clif_ssa.specs.Structure.{LooksOnce};
 ghost use Rattle.clif_ssa.specs.Constructs.{OnlyConstructs};
 ghost use Rattle.clif_records.specs.Tables.{is_yes, pending_of};
 ghost use Rattle.clif_ssa.specs.Ssa.{sealed_of, predecessors_of, completed, NamesExist, Records, RecordsStay, SealedStays, SameBlocks, SamePredecessors, SameRecords, Seals};
-ghost use Rattle.clif_ir.specs.Body.{empty_body, inst_at, value_at};
+ghost use Rattle.clif_ir.specs.Body.{inst_at, value_at};
 ghost use Rattle.clif_ir.specs.Changes.{with_block, inserted_in};
 ghost use Rattle.clif_meaning.specs.Name.{Name};
 ghost use Rattle.clif_meaning.specs.View.{view_of};
@@ -42,8 +42,8 @@ impl<'a> FunctionBuilder<'a> {
     /// let mut builder = FunctionBuilder::new(&mut func, &mut ctx);
     /// ```
     pub fn new(func: &'a mut Function, ctx: &'a mut FunctionBuilderContext) -> Self
-        requires fresh { func.old ≡ empty_body func.old.name func.old.signature }
-        requires empty { ctx.old ≡ empty_context }
+        requires fresh { IsFresh func.old }
+        requires empty { IsClear ctx.old }
         ensures builder { (named : _) × (result ≡ record { func = func.entry; ctx = ctx.entry; position = None; failed = false; named = named }) }
         ensures ledger { AgreesWithLedger [] result }
         ensures stands { StandsFor func.old.signature [] result }
@@ -150,8 +150,9 @@ impl<'a> FunctionBuilder<'a> {
 
     /// Makes a new block. It isn't sealed, is pristine, and isn't in the layout until something is made in it.
     ///
-    /// Blocks are numbered from 0 on. After an error nothing was made, and the builder has failed: this and
-    /// every later call that may take memory answers `Failed`. `Full` means that there are 2^32 - 1 blocks.
+    /// Blocks are numbered from 0 on. `Full` means that there are 2^32 - 1 blocks. After an error the builder has
+    /// failed: every later call that returns a `Result` returns `Failed`. Where memory was refused, the function may
+    /// have one block more.
     pub fn create_block(&mut self) -> Result<Block, BuildError>
         ensures call { IsCall self.old self.new result }
         ensures function { OnOk result (self.new.func.now ≡ with_block self.old.func.now) }
@@ -189,7 +190,7 @@ impl<'a> FunctionBuilder<'a> {
     /// passes its argument.
     ///
     /// A block is sealed once ([`FunctionBuilder::is_sealed`] tests it). If it is sealed too early, a branch to
-    /// it can't be built later; if it is never sealed, [`FunctionBuilder::finalize`] answers `Unsealed`. After
+    /// it can't be built later; if it is never sealed, [`FunctionBuilder::finalize`] returns `Unsealed`. After
     /// `Memory` or `Full` the builder has failed; the function may have got some of the parameters' arguments.
     pub fn seal_block(&mut self, block: Block) -> Result<(), BuildError>
         requires exists { block < length self.old.func.now.blocks }
@@ -254,7 +255,7 @@ impl<'a> FunctionBuilder<'a> {
         sealed
     }
 
-    /// Declares a variable of the source language, and answers its number: 0, 1, and so on.
+    /// Declares a variable of the source language, and returns its number: 0, 1, and so on.
     ///
     /// A variable is assigned by [`FunctionBuilder::def_var`] and read by [`FunctionBuilder::use_var`], in any
     /// block; the builder finds the values and block parameters that this takes in SSA form. A variable that is
@@ -318,9 +319,9 @@ impl<'a> FunctionBuilder<'a> {
 
     /// The value that a variable has at this point of the current block.
     ///
-    /// The last value that was assigned in the block is answered. Without one, the builder looks through
+    /// The last value that was assigned in the block is returned. Without one, the builder looks through
     /// the predecessors. In a block that isn't sealed they aren't all known, so the block gets a pending parameter
-    /// for the variable, which is the answer and is completed by [`FunctionBuilder::seal_block`]. In a sealed
+    /// for the variable, which is returned and is completed by [`FunctionBuilder::seal_block`]. In a sealed
     /// block the predecessors are searched at once, back along single predecessors as far as these are
     /// sealed; a parameter stays only where different values meet, and a zero is put where no value comes.
     ///

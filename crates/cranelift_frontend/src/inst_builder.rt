@@ -2,9 +2,13 @@
 ghost use Rattle.std.specs.Prelude.{◌≡◌, ◌∷◌, [], IsTrue, IfOk, OnErr, Err, All};
 ghost use Rattle.clif_types.specs.Types.{is_int};
 ghost use Rattle.clif_instructions.specs.Instruction.{operands, destinations};
-ghost use Rattle.cranelift_frontend.specs.Shapes.{GivesValue, AfterValue, LikeIsValue, binary, brif_to, edge_to, jump, multi_ary, unary, unary_imm};
+ghost use Rattle.clif_opcodes.specs.Kinds.{is_met};
+ghost use Rattle.clif_opcodes.specs.declared.kinds.Demand.{Demand};
+ghost use Rattle.cranelift_frontend.specs.Shapes.{GivesValue, AfterValue, LikeIsValue, binary, brif_to, convert, edge_to, jump, multi_ary, ternary, unary, unary_imm};
 
-use clif_ir::{BinaryOpcode, BlockArg, BlockCall, InstructionData, UnaryOpcode, ValueList};
+use clif_ir::{
+    BinaryOpcode, BlockArg, BlockCall, ConvertOpcode, InstructionData, UnaryOpcode, ValueList,
+};
 use clif_types::{Block, BuildError, Inst, Type, Value};
 use std::alloc::Global;
 
@@ -28,7 +32,7 @@ pub trait InstBuilderBase {
     // the type of a value
     ghost type_of: { Self → ℕ → «Type» };
 
-    // what `build` makes of the builder, by its answer
+    // what `build` makes of the builder, by its result
     ghost builds: { Self → Self → InstructionData → «Type» → Result ℕ BuildError → Type 0 };
 
     // what `build_value` makes of it
@@ -54,14 +58,14 @@ pub trait InstBuilderBase {
         requires edges { All (can_lead self.old) (destinations shape) }
         ensures built { builds self.old self.new shape ctrl_type result };
 
-    /// Appends an instruction that gives a value, and answers the value.
+    /// Appends an instruction that has one result, and returns the result's value.
     fn build_value(&mut self, shape: InstructionData, ctrl_type: Type) -> Result<Value, BuildError>
         requires current { can_build self.old }
         requires operands_exist { All (has_value self.old) (operands shape) }
         requires value { GivesValue shape }
         ensures built { builds_value self.old self.new shape ctrl_type result };
 
-    /// The same at the type of a value.
+    /// The same, with the type of `like` as the controlling type.
     fn build_like(&mut self, shape: InstructionData, like: Value) -> Result<Value, BuildError>
         requires current { can_build self.old }
         requires operands_exist { All (has_value self.old) (operands shape) }
@@ -88,9 +92,10 @@ pub trait InstBuilderBase {
 /// The instructions, by name: `builder.ins().iadd(x, y)?`.
 ///
 /// Each is appended to the current block, which must not have its terminator; the values and blocks that it names
-/// exist. An instruction with a result answers its value, and any other one its number. Operands aren't checked
-/// for their types here. The only errors are those of [`BuildError`]: memory was refused, a table is full, or the
-/// builder had failed before. After one the function has no new instruction, and the builder has failed.
+/// exist. The method of an instruction with a result returns its value, and any other one the instruction's number.
+/// Operands aren't checked for their types here. The only errors are those of [`BuildError`]: memory was refused, a
+/// table is full, or the builder had failed before. After an error the builder has failed, and the function may
+/// still contain the instruction.
 pub trait InstBuilder: InstBuilderBase {
     /// `iconst.ty imm`: a constant of an integer type, which is the low bits of `imm`.
     final fn iconst(&mut self, ty: Type, imm: i64) -> Result<Value, BuildError>
@@ -161,6 +166,79 @@ pub trait InstBuilder: InstBuilderBase {
         self.binary(BinaryOpcode::Bxor, x, y)
     }
 
+    /// `ishl x, y`: `x` shifted left. The shift amount `y` has any integer type, and is taken modulo the width of `x`.
+    final fn ishl(&mut self, x: Value, y: Value) -> Result<Value, BuildError>
+        requires current { Self.can_build self.old }
+        requires x_exists { Self.has_value self.old x }
+        requires y_exists { Self.has_value self.old y }
+        ensures built { Self.builds_like self.old self.new (binary BinaryOpcode.Ishl x y) x result }
+    {
+        self.binary(BinaryOpcode::Ishl, x, y)
+    }
+
+    /// `ushr x, y`: `x` shifted right, with zeros from the left. `y` is taken as in [`InstBuilder::ishl`].
+    final fn ushr(&mut self, x: Value, y: Value) -> Result<Value, BuildError>
+        requires current { Self.can_build self.old }
+        requires x_exists { Self.has_value self.old x }
+        requires y_exists { Self.has_value self.old y }
+        ensures built { Self.builds_like self.old self.new (binary BinaryOpcode.Ushr x y) x result }
+    {
+        self.binary(BinaryOpcode::Ushr, x, y)
+    }
+
+    /// `sshr x, y`: `x` shifted right, with copies of its sign bit from the left. `y` is taken as in
+    /// [`InstBuilder::ishl`].
+    final fn sshr(&mut self, x: Value, y: Value) -> Result<Value, BuildError>
+        requires current { Self.can_build self.old }
+        requires x_exists { Self.has_value self.old x }
+        requires y_exists { Self.has_value self.old y }
+        ensures built { Self.builds_like self.old self.new (binary BinaryOpcode.Sshr x y) x result }
+    {
+        self.binary(BinaryOpcode::Sshr, x, y)
+    }
+
+    /// `udiv x, y`: the quotient of unsigned numbers. It traps with `int_divz` if `y` is zero.
+    final fn udiv(&mut self, x: Value, y: Value) -> Result<Value, BuildError>
+        requires current { Self.can_build self.old }
+        requires x_exists { Self.has_value self.old x }
+        requires y_exists { Self.has_value self.old y }
+        ensures built { Self.builds_like self.old self.new (binary BinaryOpcode.Udiv x y) x result }
+    {
+        self.binary(BinaryOpcode::Udiv, x, y)
+    }
+
+    /// `sdiv x, y`: the quotient of signed numbers, rounded toward zero. It traps with `int_divz` if `y` is zero,
+    /// and with `int_ovf` if `x` is the least number and `y` is -1.
+    final fn sdiv(&mut self, x: Value, y: Value) -> Result<Value, BuildError>
+        requires current { Self.can_build self.old }
+        requires x_exists { Self.has_value self.old x }
+        requires y_exists { Self.has_value self.old y }
+        ensures built { Self.builds_like self.old self.new (binary BinaryOpcode.Sdiv x y) x result }
+    {
+        self.binary(BinaryOpcode::Sdiv, x, y)
+    }
+
+    /// `urem x, y`: the remainder of unsigned numbers. It traps with `int_divz` if `y` is zero.
+    final fn urem(&mut self, x: Value, y: Value) -> Result<Value, BuildError>
+        requires current { Self.can_build self.old }
+        requires x_exists { Self.has_value self.old x }
+        requires y_exists { Self.has_value self.old y }
+        ensures built { Self.builds_like self.old self.new (binary BinaryOpcode.Urem x y) x result }
+    {
+        self.binary(BinaryOpcode::Urem, x, y)
+    }
+
+    /// `srem x, y`: the remainder of signed numbers, with the sign of `x`. It traps with `int_divz` if `y` is zero;
+    /// the least number by -1 gives 0.
+    final fn srem(&mut self, x: Value, y: Value) -> Result<Value, BuildError>
+        requires current { Self.can_build self.old }
+        requires x_exists { Self.has_value self.old x }
+        requires y_exists { Self.has_value self.old y }
+        ensures built { Self.builds_like self.old self.new (binary BinaryOpcode.Srem x y) x result }
+    {
+        self.binary(BinaryOpcode::Srem, x, y)
+    }
+
     /// `ineg x`: the negative, in two's complement.
     final fn ineg(&mut self, x: Value) -> Result<Value, BuildError>
         requires current { Self.can_build self.old }
@@ -177,6 +255,48 @@ pub trait InstBuilder: InstBuilderBase {
         ensures built { Self.builds_like self.old self.new (unary UnaryOpcode.Bnot x) x result }
     {
         self.unary(UnaryOpcode::Bnot, x)
+    }
+
+    /// `uextend.ty x`: a wider integer, with zeros above the bits of `x`. That `x` is narrower isn't checked here.
+    final fn uextend(&mut self, ty: Type, x: Value) -> Result<Value, BuildError>
+        requires current { Self.can_build self.old }
+        requires integer { IsTrue (is_int ty) }
+        requires x_exists { Self.has_value self.old x }
+        ensures built { Self.builds_value self.old self.new (convert ConvertOpcode.Uextend x) ty result }
+    {
+        self.convert(ConvertOpcode::Uextend, ty, x)
+    }
+
+    /// `ireduce.ty x`: a narrower integer, the low bits of `x`. That `x` is wider isn't checked here.
+    final fn ireduce(&mut self, ty: Type, x: Value) -> Result<Value, BuildError>
+        requires current { Self.can_build self.old }
+        requires integer { IsTrue (is_int ty) }
+        requires x_exists { Self.has_value self.old x }
+        ensures built { Self.builds_value self.old self.new (convert ConvertOpcode.Ireduce x) ty result }
+    {
+        self.convert(ConvertOpcode::Ireduce, ty, x)
+    }
+
+    /// `splat.ty x`: a vector with `x` in every lane.
+    final fn splat(&mut self, ty: Type, x: Value) -> Result<Value, BuildError>
+        requires current { Self.can_build self.old }
+        requires vector { IsTrue (is_met Demand.AVector ty) }
+        requires x_exists { Self.has_value self.old x }
+        ensures built { Self.builds_value self.old self.new (convert ConvertOpcode.Splat x) ty result }
+    {
+        self.convert(ConvertOpcode::Splat, ty, x)
+    }
+
+    /// `select c, x, y`: `x` if `c` isn't zero, and otherwise `y`. `c` is an integer of any type.
+    final fn select(&mut self, c: Value, x: Value, y: Value) -> Result<Value, BuildError>
+        requires current { Self.can_build self.old }
+        requires c_exists { Self.has_value self.old c }
+        requires x_exists { Self.has_value self.old x }
+        requires y_exists { Self.has_value self.old y }
+        ensures built { Self.builds_like self.old self.new (ternary c x y) x result }
+    {
+        let args = [c, x, y];
+        self.build_like(InstructionData::Ternary { args }, x)
     }
 
     /// `jump block(x, ..)`: goes to `block`, and passes `args` to the parameters that the caller appended to it.
@@ -272,6 +392,20 @@ pub trait InstBuilder: InstBuilderBase {
     {
         let args = [x, y];
         self.build_like(InstructionData::Binary { opcode, args }, x)
+    }
+
+    /// An instruction of one operand, whose result has a type that is given.
+    final fn convert(
+        &mut self,
+        opcode: ConvertOpcode,
+        ty: Type,
+        x: Value,
+    ) -> Result<Value, BuildError>
+        requires current { Self.can_build self.old }
+        requires x_exists { Self.has_value self.old x }
+        ensures built { Self.builds_value self.old self.new (convert opcode x) ty result }
+    {
+        self.build_value(InstructionData::Convert { opcode, arg: x }, ty)
     }
 }
 

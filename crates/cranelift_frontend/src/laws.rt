@@ -34,7 +34,7 @@ pub fn standing_is_well_placed()
     ensures { StandingIsWellPlaced }
 {}
 
-/// So is what the builder recorded, before the ends of its blocks, and what answered uses.
+/// So is what the builder recorded, before the ends of its blocks, and what uses returned.
 pub fn standing_records_are_well_placed()
     ensures { StandingRecordsAreWellPlaced }
 {}

@@ -1,4 +1,4 @@
-//! A front end's way to Cranelift's IR: cranelift-frontend 0.137.1, proved.
+//! A proved port of cranelift-frontend 0.137.1.
 #![tactic(auto)]
 
 pub mod blocks;
@@ -13,8 +13,8 @@ pub mod laws;
 
 pub use builder::FunctionBuilder;
 pub use clif_ir::{
-    BinaryOpcode, BlockArg, BlockArgs, BlockCall, Function, InstructionData, UnaryOpcode, ValueDef,
-    ValueList,
+    BinaryOpcode, BlockArg, BlockArgs, BlockCall, ConvertOpcode, Function, InstructionData,
+    UnaryOpcode, ValueDef, ValueList,
 };
 pub use clif_ssa::Variable;
 pub use clif_types::{

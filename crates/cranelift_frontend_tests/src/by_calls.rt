@@ -2,13 +2,16 @@
 #![tactic(auto)]
 
 use crate::steps::Ending::{Return, ReturnNone};
-use crate::steps::Operand::{Binary, ByDouble, Constant, Param, Read, Unary};
+use crate::steps::Operand::{Binary, ByDouble, Constant, Convert, Param, Read, Select, Unary};
 use crate::steps::State::{Filled, Pristine, Sealed};
 use crate::steps::Step::{
     Create, Current, Define, End, Enter, Is, Make, Seal, SealAll, Shaped, Unreachable,
 };
 use crate::steps::{builds, built};
-use cranelift_frontend::BinaryOpcode::{Band, Bor, Bxor, Iadd, Imul, Isub};
+use cranelift_frontend::BinaryOpcode::{
+    Band, Bor, Bxor, Iadd, Imul, Ishl, Isub, Sdiv, Srem, Sshr, Udiv, Urem, Ushr,
+};
+use cranelift_frontend::ConvertOpcode::{Ireduce, Splat, Uextend};
 use cranelift_frontend::UnaryOpcode::{Bnot, Ineg};
 use cranelift_frontend::{Block, FinalizeError};
 use std::test::Fail;
@@ -105,10 +108,37 @@ fn operations(rt: HostRuntime) -> Result<(), Fail> {
         Make(Binary(Band, 3, 6)),
         Make(Binary(Bor, 7, 0)),
         Make(Binary(Bxor, 8, 1)),
-        End(Return(9)),
+        Make(Binary(Ishl, 9, 0)),
+        Make(Binary(Ushr, 10, 0)),
+        Make(Binary(Sshr, 11, 0)),
+        Make(Binary(Udiv, 12, 1)),
+        Make(Binary(Sdiv, 13, 1)),
+        Make(Binary(Urem, 14, 1)),
+        Make(Binary(Srem, 15, 1)),
+        End(Return(16)),
         Seal(0),
     ];
     let text =
-        "function %operations() -> i32 system_v {\nblock0(v0: i32, v1: i32):\n    v2 = ineg v0\n    v3 = bnot v2\n    v4 = iadd v0, v1\n    v5 = isub v0, v1\n    v6 = imul v4, v5\n    v7 = band v3, v6\n    v8 = bor v7, v0\n    v9 = bxor v8, v1\n    return v9\n}\n";
+        "function %operations() -> i32 system_v {\nblock0(v0: i32, v1: i32):\n    v2 = ineg v0\n    v3 = bnot v2\n    v4 = iadd v0, v1\n    v5 = isub v0, v1\n    v6 = imul v4, v5\n    v7 = band v3, v6\n    v8 = bor v7, v0\n    v9 = bxor v8, v1\n    v10 = ishl v9, v0\n    v11 = ushr v10, v0\n    v12 = sshr v11, v0\n    v13 = udiv v12, v1\n    v14 = sdiv v13, v1\n    v15 = urem v14, v1\n    v16 = srem v15, v1\n    return v16\n}\n";
     builds(&rt, rt.alloc(), "operations", 0, &steps, text)
+}
+
+/// Conversions and a choice by their methods.
+#[test]
+fn conversions_and_choices(rt: HostRuntime) -> Result<(), Fail> {
+    let steps = [
+        Create,
+        Enter(0),
+        Make(Param(0)),
+        Make(Constant(5)),
+        Make(Convert(Uextend, 0)),
+        Make(Convert(Ireduce, 2)),
+        Make(Convert(Splat, 0)),
+        Make(Select(3, 0, 1)),
+        End(Return(5)),
+        Seal(0),
+    ];
+    let text =
+        "function %chosen() -> i32 system_v {\nblock0(v0: i32):\n    v1 = iconst.i32 5\n    v2 = uextend.i64 v0\n    v3 = ireduce.i16 v2\n    v4 = splat.i32x4 v0\n    v5 = select v3, v0, v1  ; v1 = 5\n    return v5\n}\n";
+    builds(&rt, rt.alloc(), "chosen", 0, &steps, text)
 }

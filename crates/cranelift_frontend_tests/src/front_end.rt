@@ -5,10 +5,10 @@ ghost use Rattle.std.specs.Prelude.{◌≡◌, ◌<◌, length, slice_get, Some}
 ghost use Rattle.cranelift_frontend.specs.Builder.{HasCurrent};
 
 use crate::generic::there_and_back;
-use clif_types::types::I32;
+use clif_types::types::{I16, I32, I32X4, I64};
 use cranelift_frontend::{
-    BinaryOpcode, Block, BlockArg, EntityRef, FunctionBuilder, InstBuilder, InstBuilderBase,
-    InstructionData, UnaryOpcode, Value, Variable,
+    BinaryOpcode, Block, BlockArg, ConvertOpcode, EntityRef, FunctionBuilder, InstBuilder,
+    InstBuilderBase, InstructionData, UnaryOpcode, Value, Variable,
 };
 use std::process::Abort;
 
@@ -253,8 +253,51 @@ pub fn binary(
         BinaryOpcode::Band => builder.ins().band(x, y),
         BinaryOpcode::Bor => builder.ins().bor(x, y),
         BinaryOpcode::Bxor => builder.ins().bxor(x, y),
+        BinaryOpcode::Ishl => builder.ins().ishl(x, y),
+        BinaryOpcode::Ushr => builder.ins().ushr(x, y),
+        BinaryOpcode::Sshr => builder.ins().sshr(x, y),
+        BinaryOpcode::Udiv => builder.ins().udiv(x, y),
+        BinaryOpcode::Sdiv => builder.ins().sdiv(x, y),
+        BinaryOpcode::Urem => builder.ins().urem(x, y),
+        BinaryOpcode::Srem => builder.ins().srem(x, y),
     };
     made.expect(rt, "a value")
+}
+
+/// A conversion of a value, by its method: to I64, to I16, or to four lanes.
+pub fn convert(
+    rt: &impl Abort,
+    builder: &mut FunctionBuilder<'_>,
+    opcode: ConvertOpcode,
+    x: Value,
+) -> Value
+    ensures { builder.new.ctx.now.variables ≡ builder.old.ctx.now.variables }
+{
+    asserts_current(rt, builder);
+    asserts_value(rt, builder, x);
+    let made = match opcode {
+        ConvertOpcode::Uextend => builder.ins().uextend(I64, x),
+        ConvertOpcode::Ireduce => builder.ins().ireduce(I16, x),
+        ConvertOpcode::Splat => builder.ins().splat(I32X4, x),
+    };
+    made.expect(rt, "a value")
+}
+
+/// A choice between two values.
+pub fn select(
+    rt: &impl Abort,
+    builder: &mut FunctionBuilder<'_>,
+    c: Value,
+    x: Value,
+    y: Value,
+) -> Value
+    ensures { builder.new.ctx.now.variables ≡ builder.old.ctx.now.variables }
+{
+    asserts_current(rt, builder);
+    asserts_value(rt, builder, c);
+    asserts_value(rt, builder, x);
+    asserts_value(rt, builder, y);
+    builder.ins().select(c, x, y).expect(rt, "a value")
 }
 
 /// Ends the current block with a jump.

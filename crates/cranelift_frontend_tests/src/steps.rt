@@ -10,9 +10,9 @@ ghost use Rattle.clif_ir.specs.Body.{empty_body};
 use crate::front_end;
 use clif_types::types::I32;
 use cranelift_frontend::{
-    AbiParam, BinaryOpcode, Block, CallConv, FinalizeError, Function, FunctionBuilder,
-    FunctionBuilderContext, PointerWidth, Signature, TargetFrontendConfig, UnaryOpcode,
-    UserFuncName, Value, Variable,
+    AbiParam, BinaryOpcode, Block, CallConv, ConvertOpcode, FinalizeError, Function,
+    FunctionBuilder, FunctionBuilderContext, PointerWidth, Signature, TargetFrontendConfig,
+    UnaryOpcode, UserFuncName, Value, Variable,
 };
 use std::alloc::{AllocError, Global};
 use std::fmt::Write;
@@ -68,6 +68,9 @@ pub enum Operand {
     Constant(i64),
     Unary(UnaryOpcode, usize),
     Binary(BinaryOpcode, usize, usize),
+    Convert(ConvertOpcode, usize),
+    /// The condition, and then what is chosen from.
+    Select(usize, usize, usize),
     /// What a generic caller makes of a value.
     ByDouble(usize),
 }
@@ -130,6 +133,13 @@ fn make(
         Operand::Binary(opcode, x, y) => {
             let (x, y) = (named(rt, values, x), named(rt, values, y));
             front_end::binary(rt, builder, opcode, x, y)
+        }
+        Operand::Convert(opcode, x) => {
+            front_end::convert(rt, builder, opcode, named(rt, values, x))
+        }
+        Operand::Select(c, x, y) => {
+            let (x, y) = (named(rt, values, x), named(rt, values, y));
+            front_end::select(rt, builder, named(rt, values, c), x, y)
         }
         Operand::ByDouble(x) => front_end::by_double(rt, builder, named(rt, values, x)),
     }

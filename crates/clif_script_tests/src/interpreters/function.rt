@@ -1,9 +1,9 @@
 //! The interpreter of functions. It has the bits of all values, and follows aliases.
 #![tactic(auto)]
 
-use crate::interpreters::{End, STEPS, binary, constant, unary};
+use crate::interpreters::{End, STEPS, binary, constant, convert, unary};
 use clif_ir::{BlockArg, BlockCall, Function, InstructionData};
-use clif_types::{Block, EntityRef, Inst, Type, Value, types};
+use clif_types::{Block, EntityRef, Inst, TrapCode, Type, Value, types};
 use std::alloc::{AllocError, Global};
 
 /// What comes behind an instruction: the next one of its block, another one, if there is any, or the end.
@@ -12,6 +12,7 @@ enum Next {
     InBlock,
     At(Option<Inst>),
     Ended(Vec<u128>),
+    Trapped(TrapCode),
 }
 
 /// A run of a function: the bits of the values that were given, newest last. All others are zero.
@@ -100,8 +101,20 @@ impl<'a> State<'a> {
             }
             InstructionData::Binary { opcode, args } => {
                 let [x, y] = *args;
-                let bits = binary(*opcode, self.type_of(x), self.bits(x), self.bits(y));
-                self.give(results, &[bits])?;
+                match binary(*opcode, self.type_of(x), self.bits(x), self.bits(y)) {
+                    Ok(bits) => self.give(results, &[bits])?,
+                    Err(code) => return Ok(Next::Trapped(code)),
+                }
+            }
+            InstructionData::Convert { opcode, arg } => {
+                let first = results.first();
+                let ty = first.map_or(types::INVALID, |value| self.type_of(*value));
+                self.give(results, &[convert(*opcode, ty, self.bits(*arg))])?;
+            }
+            InstructionData::Ternary { args } => {
+                let [c, x, y] = *args;
+                let chosen = if self.bits(c) != 0 { x } else { y };
+                self.give(results, &[self.bits(chosen)])?;
             }
             InstructionData::Jump { destination } => return self.follow(destination),
             InstructionData::Brif { arg, blocks } => {
@@ -147,6 +160,7 @@ pub fn run(alloc: Global, func: &Function, args: &[u128]) -> Result<End, AllocEr
         match state.step(inst)? {
             Next::At(following) => next = following,
             Next::Ended(bits) => return Ok(End::Returned(bits)),
+            Next::Trapped(code) => return Ok(End::Trapped(code)),
             Next::InBlock => return Ok(End::Stuck),
         }
     }

@@ -1,9 +1,9 @@
 //! The interpreter of scripts. It has variables and names of answers, and no aliases, slots or parameters of its own.
 #![tactic(auto)]
 
-use crate::interpreters::{End, STEPS, binary, constant, unary};
+use crate::interpreters::{End, STEPS, binary, constant, convert, unary};
 use clif_script::{Call, Edge, Name, Plan};
-use clif_types::{AbiParam, EntityRef, Signature, Type, types};
+use clif_types::{AbiParam, EntityRef, Signature, TrapCode, Type, types};
 use std::alloc::{AllocError, Global};
 use std::slice;
 
@@ -25,6 +25,7 @@ enum Did<'a> {
     WentOn,
     Left(&'a Edge),
     Ended(Vec<u128>),
+    Trapped(TrapCode),
 }
 
 /// A run of a script: what variables and names hold, newest last. What isn't listed is zero.
@@ -49,8 +50,8 @@ impl<'a> State<'a> {
     }
 
     /// What an instruction computes that neither branches nor ends a block.
-    fn computed(&self, plan: &Plan<'_>) -> Typed {
-        match plan {
+    fn computed(&self, plan: &Plan<'_>) -> Result<Typed, TrapCode> {
+        let value = match plan {
             Plan::UnaryImm { ty, imm } => Typed {
                 ty: *ty,
                 bits: constant(*ty, *imm),
@@ -62,11 +63,20 @@ impl<'a> State<'a> {
             }
             Plan::Binary { opcode, args } => {
                 let Typed { ty, bits } = self.name(args[0]);
-                let bits = binary(*opcode, ty, bits, self.name(args[1]).bits);
+                let bits = binary(*opcode, ty, bits, self.name(args[1]).bits)?;
                 Typed { ty, bits }
             }
+            Plan::Convert { opcode, ty, arg } => Typed {
+                ty: *ty,
+                bits: convert(*opcode, *ty, self.name(*arg).bits),
+            },
+            Plan::Ternary { args } => {
+                let [c, x, y] = args;
+                self.name(if self.name(*c).bits != 0 { *x } else { *y })
+            }
             Plan::Jump { .. } | Plan::Brif { .. } | Plan::MultiAry { .. } => NOTHING,
-        }
+        };
+        Ok(value)
     }
 
     fn assign(&mut self, variable: usize, value: Typed) {
@@ -128,7 +138,10 @@ impl<'a> State<'a> {
                 self.give(Name { place, answer: 0 }, held.unwrap_or(NOTHING))?;
             }
             Call::DefVar { variable, value } => self.assign(variable.index(), self.name(*value)),
-            Call::Plain(instruction) => self.give(result, self.computed(&instruction.plan()))?,
+            Call::Plain(instruction) => match self.computed(&instruction.plan()) {
+                Ok(value) => self.give(result, value)?,
+                Err(code) => return Ok(Did::Trapped(code)),
+            },
             Call::Jump { destination } => return Ok(Did::Left(destination)),
             Call::Brif {
                 condition,
@@ -231,6 +244,7 @@ pub fn run(
                 from = 0;
             }
             Did::Ended(bits) => return Ok(End::Returned(bits)),
+            Did::Trapped(code) => return Ok(End::Trapped(code)),
         }
     }
     Ok(End::Running)

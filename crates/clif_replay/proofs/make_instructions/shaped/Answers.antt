@@ -5,7 +5,7 @@ use Rattle.clif_ir.specs.Body.{Body, value_at}
 use Rattle.clif_instructions.specs.declared.instructions.InstructionData.TheVariants as shape
 use Rattle.clif_calls.specs.declared.plan.Plan.TheVariants as plan
 use Rattle.clif_replay.specs.Ready.{value_of}
-use Rattle.clif_replay.proofs.Planning.{first-exists, planned-binary, planned-found, planned-returns, planned-unary}
+use Rattle.clif_replay.proofs.Planning.{first-exists, planned-binary, planned-found, planned-returns, planned-ternary, planned-unary, second-exists}
 use Rattle.clif_replay.proofs.make_instructions.shaped.Goals as goal
 
 pub returns-in_ok-args-in-MultiAry : goal.returns-in_ok-args-in-MultiAry
@@ -48,3 +48,19 @@ returns-in_ok-x-in-Binary c =
     let made = c.binary.ensures ∙ ap (λ (f : Body). record { shape = shape.Binary code (x ∷ y ∷ []); ty = (value_at f x).ty }) c.func-func.ensures in
     planned-found b c.args.answers.now c.args.plan.now (plan.Binary code c.in-Binary.args) c.binary.result (shape.Binary code (x ∷ y ∷ [])) (value_at b.func.now x).ty c.in-Binary.is made
     (planned-binary b c.args.answers.now code c.in-Binary.args x y (value_at b.func.now x).ty found refl)
+
+pub ternary-requires : goal.ternary-requires
+ternary-requires c =
+    let b = c.args.builder.now in
+    let it = c.in_ok-test-in-Ternary in
+    let found = subst (λ (f : Body). map (value_of f c.args.answers.now) c.in-Ternary.args ≡ map Some (it.test ∷ it.x ∷ it.y ∷ [])) c.func-func.ensures it.ensures.found in
+    subst (λ (f : Body). it.x < length f.values) (sym c.func-func.ensures) (second-exists b c.args.answers.now c.in-Ternary.args it.test it.x it.y c.requires.values found)
+
+pub returns-in_ok-test-in-Ternary : goal.returns-in_ok-test-in-Ternary
+returns-in_ok-test-in-Ternary c =
+    let b = c.args.builder.now in
+    let it = c.in_ok-test-in-Ternary in
+    let found = subst (λ (f : Body). map (value_of f c.args.answers.now) c.in-Ternary.args ≡ map Some (it.test ∷ it.x ∷ it.y ∷ [])) c.func-func.ensures it.ensures.found in
+    let made = c.ternary.ensures ∙ ap (λ (f : Body). record { shape = shape.Ternary (it.test ∷ it.x ∷ it.y ∷ []); ty = (value_at f it.x).ty }) c.func-func.ensures in
+    planned-found b c.args.answers.now c.args.plan.now (plan.Ternary c.in-Ternary.args) c.ternary.result (shape.Ternary (it.test ∷ it.x ∷ it.y ∷ [])) (value_at b.func.now it.x).ty c.in-Ternary.is made
+    (planned-ternary b c.args.answers.now c.in-Ternary.args it.test it.x it.y (value_at b.func.now it.x).ty found refl)

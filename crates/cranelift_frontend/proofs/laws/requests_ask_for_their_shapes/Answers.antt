@@ -1,6 +1,6 @@
 use Rattle.std.proofs.Common.{refl}
 use Rattle.cranelift_frontend.specs.Shapes.{edge_to}
-use Rattle.cranelift_frontend.proofs.LedgerShaped.{binary-shape, brif-shape, iconst-shape, jump-shape, return-shape, unary-shape}
+use Rattle.cranelift_frontend.proofs.LedgerShaped.{binary-shape, brif-shape, convert-shape, iconst-shape, jump-shape, return-shape, select-shape, unary-shape}
 use Rattle.cranelift_frontend.proofs.laws.requests_ask_for_their_shapes.Goals as goal
 
 pub returns : goal.returns
@@ -8,6 +8,8 @@ returns c = λ calls f d p agrees. record {
   iconst = λ ty imm. (_, refl, iconst-shape calls f ty imm);
   unary = λ opcode a x first. (_, refl, unary-shape calls f d p agrees opcode a x first);
   binary = λ opcode a b x y first second. (_, refl, binary-shape calls f d p agrees opcode a b x y first second);
+  convert = λ opcode ty a x names. (_, refl, convert-shape calls f opcode ty a x names);
+  select = λ condition a b c x y tested first second. (_, refl, select-shape calls f d p agrees condition a b c x y tested first second);
   jump = λ edge block args names. (_, refl, jump-shape calls f edge (edge_to block args) names);
   brif = λ condition value first second taken other names one two.
       (_, refl, brif-shape calls f d p agrees condition value first second taken other _ refl names one two);

@@ -1,0 +1,214 @@
+-- What goes on holding of a builder's blocks and values while more calls are made.
+use Rattle.std.proofs.Common.{◌≡◌, ◌≢◌, ℕ, ◌<◌, ◌≤◌, false, List, [], ◌∷◌, ◌++◌, length, refl, sym, ◌∙◌, ap, subst, arith}
+use Rattle.std.specs.Prelude.{true, slice_index_or, slice_get, Some, Ok}
+use Rattle.std.proofs.lemmas.Option.{slice_get_within}
+use Rattle.clif_types.specs.declared.types.«Type».{«Type»}
+use Rattle.clif_instructions.specs.Instruction.{is_terminator}
+use Rattle.clif_instructions.specs.declared.instructions.InstructionData.{InstructionData}
+use Rattle.clif_ir.specs.Body.{value_at}
+use Rattle.clif_records.specs.Tables.{is_yes}
+use Rattle.clif_ssa.proofs.Passing.{some_pushed}
+use Rattle.clif_ssa.specs.Ssa.{SameBlocks, SealedStays, sealed_of}
+use Rattle.cranelift_frontend.specs.declared.builder.FunctionBuilder.{FunctionBuilder}
+use Rattle.cranelift_frontend.specs.declared.context.BlockStatus.TheVariants.{Filled}
+use Rattle.cranelift_frontend.specs.Builder.{CanLead, IsLeft, with_position}
+use Rattle.cranelift_frontend.specs.Built.{Builds, BuildsValue}
+use Rattle.cranelift_frontend.specs.Calls.{IsCall}
+use Rattle.cranelift_frontend.specs.Construction.{SealsAtMost}
+use Rattle.cranelift_frontend.specs.Context.{ContextState, FillsNone, status_of}
+use Rattle.cranelift_frontend.specs.Growth.{Grows, TypesStay}
+use Rattle.cranelift_frontend.specs.Order.{IsUntouched}
+use Rattle.cranelift_frontend.specs.Shapes.{edge_to}
+
+-- CALLS -----------------------------------------------------------------------------------------------------------------
+
+-- what calls keep that seal no block, end none and go to none
+pub record Keeps (old new : FunctionBuilder) : Type 0 where
+  pub grows : Grows old.func.now new.func.now
+  pub types : TypesStay old.func.now new.func.now
+  pub seals : SealedStays old.ctx.now.ssa new.ctx.now.ssa
+  pub fills : FillsNone old.ctx.now new.ctx.now
+  pub variables : new.ctx.now.variables ≡ old.ctx.now.variables
+  pub position : new.position ≡ old.position
+
+pub and_then : {first middle last : FunctionBuilder} → Keeps first middle → Keeps middle last → Keeps first last
+and_then a b = record {
+  grows = (omega (arith, a.grows.0, b.grows.0), omega (arith, a.grows.1, b.grows.1), omega (arith, a.grows.2, b.grows.2), b.grows.3 ∙ a.grows.3, b.grows.4 ∙ a.grows.4);
+  types = λ v here. b.types v (omega (arith, here, a.grows.0)) ∙ a.types v here;
+  seals = λ k. b.seals k ∙ a.seals k;
+  fills = λ k filled. a.fills k (b.fills k filled);
+  variables = b.variables ∙ a.variables;
+  position = b.position ∙ a.position;
+}
+
+pub called : {A : Type 0} {old new : FunctionBuilder} {answer : A} → IsCall old new (Ok answer) → Grows old.func.now new.func.now
+    → SealedStays old.ctx.now.ssa new.ctx.now.ssa → new.ctx.now.variables ≡ old.ctx.now.variables → Keeps old new
+called call grows seals variables = record { grows = grows; types = call.types; seals = seals; fills = call.fills; variables = variables; position = call.position }
+
+-- a block is made
+pub created : {A : Type 0} {old new : FunctionBuilder} {answer : A} → IsCall old new (Ok answer) → Grows old.func.now new.func.now
+    → SameBlocks old.ctx.now.ssa new.ctx.now.ssa → new.ctx.now.variables ≡ old.ctx.now.variables → Keeps old new
+created call grows same variables = called call grows (λ k. ap is_yes (same k)) variables
+
+-- a call that leaves the context as it was
+pub same_context : {A : Type 0} {old new : FunctionBuilder} {answer : A} → IsCall old new (Ok answer) → Grows old.func.now new.func.now
+    → new.ctx.now ≡ old.ctx.now → Keeps old new
+same_context call grows same = called call grows (λ k. ap (λ (c : ContextState). is_yes (sealed_of c.ssa k)) same) (ap (λ (c : ContextState). c.variables) same)
+
+-- an assignment
+pub assigned : {A : Type 0} {old new : FunctionBuilder} {answer : A} → IsCall old new (Ok answer) → Grows old.func.now new.func.now
+    → new.ctx.now.ssa.blocks ≡ old.ctx.now.ssa.blocks → new.ctx.now.variables ≡ old.ctx.now.variables → Keeps old new
+assigned call grows same variables = called call grows (λ k. rw same refl) variables
+
+-- an instruction with a result, for which the builder was lent and came back
+pub valued : {old lent built back : FunctionBuilder} {shape : InstructionData} {ty : «Type»} {value : ℕ}
+    → lent ≡ old → BuildsValue lent built shape ty (Ok value) → back ≡ built → Keeps old back
+valued {old} {lent} {built} {back} {shape} {ty} {value} is built_is came =
+    subst (λ (b : FunctionBuilder). Keeps b back) is (subst (λ (b : FunctionBuilder). Keeps lent b) (sym came) (record {
+      grows = built_is.grows;
+      types = built_is.types;
+      seals = λ k. rw built_is.ssa refl;
+      fills = built_is.fills;
+      variables = built_is.variables;
+      position = built_is.position;
+    }))
+
+-- the builder is lent
+pub lent_on : {first old lent : FunctionBuilder} → Keeps first old → lent ≡ old → Keeps first lent
+lent_on {first} kept is = subst (λ (b : FunctionBuilder). Keeps first b) (sym is) kept
+
+pub same : {old new : FunctionBuilder} → new ≡ old → Keeps old new
+same {old} is = subst (λ (b : FunctionBuilder). Keeps old b) (sym is) (record {
+  grows = (omega arith, omega arith, omega arith, refl, refl);
+  types = λ v here. refl;
+  seals = λ k. refl;
+  fills = λ k filled. filled;
+  variables = refl;
+  position = refl;
+})
+
+-- what every call keeps, once the variables are declared
+pub record Carries (old new : FunctionBuilder) : Type 0 where
+  pub values : length old.func.now.values ≤ length new.func.now.values
+  pub types : TypesStay old.func.now new.func.now
+  pub variables : new.ctx.now.variables ≡ old.ctx.now.variables
+
+pub carries_then : {first middle last : FunctionBuilder} → Carries first middle → Carries middle last → Carries first last
+carries_then a b = record {
+  values = omega (arith, a.values, b.values);
+  types = λ v here. b.types v (omega (arith, here, a.values)) ∙ a.types v here;
+  variables = b.variables ∙ a.variables;
+}
+
+pub carries_kept : {old new : FunctionBuilder} → Keeps old new → Carries old new
+carries_kept kept = record { values = kept.grows.0; types = kept.types; variables = kept.variables }
+
+pub carries_called : {A : Type 0} {old new : FunctionBuilder} {answer : A} → IsCall old new (Ok answer) → Grows old.func.now new.func.now
+    → new.ctx.now.variables ≡ old.ctx.now.variables → Carries old new
+carries_called call grows variables = record { values = grows.0; types = call.types; variables = variables }
+
+pub carries_ended : {lent built back : FunctionBuilder} {shape : InstructionData} {ty : «Type»} {inst : ℕ}
+    → Builds lent built shape ty (Ok inst) → back ≡ built → Carries lent back
+carries_ended {lent} ends came =
+    subst (λ (b : FunctionBuilder). Carries lent b) (sym came) (record { values = ends.grows.0; types = ends.types; variables = ends.variables })
+
+pub carries_moved : {old new : FunctionBuilder} (to : ℕ) → new ≡ with_position old to → Carries old new
+carries_moved {old} to is = subst (λ (b : FunctionBuilder). Carries old b) (sym is) (record { values = omega arith; types = λ v here. refl; variables = refl })
+
+-- BLOCKS ----------------------------------------------------------------------------------------------------------------
+
+-- a block that a branch may lead to
+pub record IsOpen (b : FunctionBuilder) (block : ℕ) : Type 0 where
+  pub exists : block < length b.func.now.blocks
+  pub unsealed : is_yes (sealed_of b.ctx.now.ssa block) ≡ false
+
+-- a block without its terminator
+pub record IsUnfilled (b : FunctionBuilder) (block : ℕ) : Type 0 where
+  pub unfilled : status_of b.ctx.now block ≢ Filled
+
+pub made_open : {b : FunctionBuilder} {block : ℕ} → block < length b.func.now.blocks → IsUntouched b.ctx.now block → IsOpen b block
+made_open exists untouched = record { exists = exists; unsealed = untouched.unsealed }
+
+pub made_unfilled : {b : FunctionBuilder} {block : ℕ} → IsUntouched b.ctx.now block → IsUnfilled b block
+made_unfilled untouched = record { unfilled = λ filled. let e = sym untouched.pristine ∙ filled in cc }
+
+pub open_kept : {old new : FunctionBuilder} {block : ℕ} → Keeps old new → IsOpen old block → IsOpen new block
+open_kept {old} {new} {block} kept was = record { exists = omega (arith, was.exists, kept.grows.2); unsealed = kept.seals block ∙ was.unsealed }
+
+pub unfilled_kept : {old new : FunctionBuilder} {block : ℕ} → Keeps old new → IsUnfilled old block → IsUnfilled new block
+unfilled_kept {old} {new} {block} kept was = record { unfilled = λ filled. was.unfilled (kept.fills block filled) }
+
+-- another block is sealed
+pub open_sealed : {A : Type 0} {old new : FunctionBuilder} {answer : A} {block : ℕ} (other : ℕ) → IsCall old new (Ok answer) → Grows old.func.now new.func.now
+    → SealsAtMost old.ctx.now.ssa new.ctx.now.ssa other → block ≢ other → IsOpen old block → IsOpen new block
+open_sealed {old = old} {new = new} {block = block} other call grows seals apart was = record { exists = omega (arith, was.exists, grows.2); unsealed = seals block apart ∙ was.unsealed }
+
+pub unfilled_called : {A : Type 0} {old new : FunctionBuilder} {answer : A} {block : ℕ} → IsCall old new (Ok answer) → IsUnfilled old block → IsUnfilled new block
+unfilled_called {block = block} call was = record { unfilled = λ filled. was.unfilled (call.fills block filled) }
+
+-- an instruction ends the current block, for which the builder was lent and came back
+pub open_ended : {lent built back : FunctionBuilder} {shape : InstructionData} {ty : «Type»} {inst block : ℕ}
+    → Builds lent built shape ty (Ok inst) → back ≡ built → IsOpen lent block → IsOpen back block
+open_ended {lent} {built} {back} {block = block} ends came was =
+    subst (λ (b : FunctionBuilder). IsOpen b block) (sym came) (record { exists = omega (arith, was.exists, ends.grows.2); unsealed = ends.seals block ∙ was.unsealed })
+
+pub unfilled_ended : {lent built back : FunctionBuilder} {shape : InstructionData} {ty : «Type»} {inst block : ℕ}
+    → Builds lent built shape ty (Ok inst) → back ≡ built → (current : ℕ) → lent.position ≡ Some current → block ≢ current → IsUnfilled lent block → IsUnfilled back block
+unfilled_ended {lent} {built} {back} {block = block} ends came current at apart was =
+    subst (λ (b : FunctionBuilder). IsUnfilled b block) (sym came) (record {
+      unfilled = λ filled. was.unfilled (ends.fills block (λ here. apart (other (sym here ∙ at))) filled);
+    })
+  where
+    other : Some block ≡ Some current → block ≡ current
+    other same = cc
+
+-- another block becomes the current one
+pub open_moved : {old new : FunctionBuilder} {block : ℕ} (to : ℕ) → new ≡ with_position old to → IsOpen old block → IsOpen new block
+open_moved {old} {new} {block} to is was = subst (λ (b : FunctionBuilder). IsOpen b block) (sym is) (record { exists = was.exists; unsealed = was.unsealed })
+
+pub unfilled_moved : {old new : FunctionBuilder} {block : ℕ} (to : ℕ) → new ≡ with_position old to → IsUnfilled old block → IsUnfilled new block
+unfilled_moved {old} {new} {block} to is was = subst (λ (b : FunctionBuilder). IsUnfilled b block) (sym is) (record { unfilled = was.unfilled })
+
+-- WHAT CALLS ASK FOR ----------------------------------------------------------------------------------------------------
+
+-- a branch may lead to an open block, with no arguments
+pub leads : {b : FunctionBuilder} {block : ℕ} → IsOpen b block → CanLead b (edge_to block [])
+leads open_block = ((open_block.exists, λ k arg below. absurd (omega (arith, below))), open_block.unsealed)
+
+-- a block that was made earlier has a lower number
+pub made_before : {count earlier later : ℕ} → earlier < count → later ≡ count → earlier < later
+made_before below is = omega (arith, below, is)
+
+pub not_above : {low high : ℕ} → low < high → low ≢ high
+not_above below same = absurd (omega (arith, below, same))
+
+pub not_below : {low high : ℕ} → low < high → high ≢ low
+not_below below same = absurd (omega (arith, below, same))
+
+-- the one value of a list exists
+pub one_exists : {value count : ℕ} → value < count → (k d : ℕ) → k < 1 → slice_index_or {A = ℕ} (value ∷ []) k d < count
+one_exists {value} {count} here k d first = let e : k ≡ 0 = omega (arith, first) in subst (λ (j : ℕ). slice_index_or {A = ℕ} (value ∷ []) j d < count) (sym e) here
+
+-- a block that has its terminator now may be left
+pub left_ended : {lent built back : FunctionBuilder} {shape : InstructionData} {ty : «Type»} {inst : ℕ}
+    → Builds lent built shape ty (Ok inst) → is_terminator shape ≡ true → back ≡ built → IsLeft back
+left_ended ends last came = subst IsLeft (sym came) (ends.left last)
+
+-- a variable has the type of what was made at the type of its own value
+pub typed_alike : {read lent built back : FunctionBuilder} {shape : InstructionData} {variables : List «Type»} {made : ℕ} (variable value : ℕ)
+    → slice_get variables variable ≡ Some (value_at read.func.now value).ty → read.ctx.now.variables ≡ variables → value < length read.func.now.values
+    → Carries read lent → BuildsValue lent built shape (value_at lent.func.now value).ty (Ok made) → back ≡ built
+    → slice_get back.ctx.now.variables variable ≡ Some (value_at back.func.now made).ty
+typed_alike {read} {lent} {built} {back} {shape} {variables} {made} variable value typed unchanged here kept built_is came =
+    subst (λ (b : FunctionBuilder). slice_get b.ctx.now.variables variable ≡ Some (value_at b.func.now made).ty) (sym came)
+    (ap (λ (types : List «Type»). slice_get types variable) (built_is.variables ∙ kept.variables ∙ unchanged) ∙ typed
+    ∙ ap (λ (ty : «Type»). Some ty) (sym (built_is.typed ∙ kept.types value here)))
+
+-- a variable that has a type is declared
+pub declared : {now : List «Type»} (variables : List «Type») (variable : ℕ) (ty : «Type») → slice_get variables variable ≡ Some ty → now ≡ variables → variable < length now
+declared variables variable ty typed same = subst (λ (types : List «Type»). variable < length types) (sym same) (slice_get_within variables variable ty typed)
+
+-- the variable that was declared last has its type
+pub last_declared : (variables : List «Type») (variable : ℕ) (ty : «Type») {now : List «Type»} → variable ≡ length variables → now ≡ variables ++ ty ∷ [] → slice_get now variable ≡ Some ty
+last_declared variables variable ty number is =
+    ap (λ (types : List «Type»). slice_get types variable) is ∙ ap (λ (k : ℕ). slice_get (variables ++ ty ∷ []) k) number ∙ some_pushed variables ty

@@ -1,0 +1,101 @@
+//! Functions built as a front end builds them, each printed.
+#![tactic(auto)]
+
+ghost use Rattle.std.specs.Prelude.{IfOk};
+ghost use Rattle.cranelift_frontend.specs.Context.{IsClear, IsFresh};
+
+mod count_down;
+mod diamond;
+mod straight_line;
+
+use crate::count_down::count_down;
+use crate::diamond::diamond;
+use crate::straight_line::straight_line;
+use clif_types::types::I32;
+use cranelift_frontend::{
+    AbiParam, BuildError, CallConv, FinalizeError, Function, FunctionBuilderContext, PointerWidth,
+    Signature, TargetFrontendConfig, UserFuncName,
+};
+use std::alloc::Global;
+use std::process::ExitCode;
+
+// The target of each function.
+const CONFIG: TargetFrontendConfig = TargetFrontendConfig {
+    default_call_conv: CallConv::SystemV,
+    pointer_width: PointerWidth::U64,
+    page_size_align_log2: 12,
+};
+
+#[derive(Clone, Copy)]
+enum Example {
+    StraightLine,
+    CountDown,
+    Diamond,
+}
+
+impl Example {
+    fn name(self) -> &'static str {
+        match self {
+            Example::StraightLine => "straight_line",
+            Example::CountDown => "count_down",
+            Example::Diamond => "diamond",
+        }
+    }
+
+    fn param_count(self) -> usize {
+        match self {
+            Example::StraightLine => 0,
+            Example::CountDown => 1,
+            Example::Diamond => 3,
+        }
+    }
+
+    fn build(
+        self,
+        func: &mut Function,
+        ctx: &mut FunctionBuilderContext,
+    ) -> Result<(), FinalizeError>
+        requires fresh { IsFresh func.old }
+        requires empty { IsClear ctx.old }
+    {
+        match self {
+            Example::StraightLine => straight_line(func, ctx, CONFIG),
+            Example::CountDown => count_down(func, ctx, CONFIG),
+            Example::Diamond => diamond(func, ctx, CONFIG),
+        }
+    }
+}
+
+fn main(rt: HostRuntime) -> ExitCode {
+    for example in [Example::StraightLine, Example::CountDown, Example::Diamond] {
+        if let Err(error) = print(&rt, rt.alloc(), example) {
+            let _ = eprintln!(rt; "{error}");
+            return ExitCode::from(1);
+        }
+    }
+    ExitCode::from(0)
+}
+
+// Builds a function and prints it.
+fn print(rt: &HostRuntime, alloc: Global, example: Example) -> Result<(), FinalizeError> {
+    let mut func = function(alloc, example)?;
+    let mut ctx = FunctionBuilderContext::new(alloc);
+    let built = example.build(&mut func, &mut ctx);
+    if built.is_ok() {
+        let _ = print!(rt; "{}", func.display());
+    }
+    built
+}
+
+// A function of integers of 32 bits that returns one, without blocks.
+fn function(alloc: Global, example: Example) -> Result<Function, BuildError>
+    ensures { IfOk result IsFresh }
+{
+    let name = UserFuncName::testcase(String::from_str(alloc, example.name())?);
+    let mut signature = Signature::new(alloc, CallConv::SystemV);
+    for _ in 0..example.param_count() {
+        signature.params.push(AbiParam::new(I32))?;
+    }
+    signature.returns.push(AbiParam::new(I32))?;
+    Ok(Function::with_name_signature(alloc, name, signature))
+}
