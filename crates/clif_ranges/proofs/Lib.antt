@@ -1,0 +1,3 @@
+-- Ranges, one case more, and why they are the fewest.
+pub mod Gathering
+pub mod Fewest
