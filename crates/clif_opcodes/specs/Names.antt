@@ -33,6 +33,7 @@ unary_name unary.Bnot = codes "bnot"
 abbrev pub convert_name : ConvertOpcode → List ℕ
 convert_name convert.Splat = codes "splat"
 convert_name convert.Uextend = codes "uextend"
+convert_name convert.Sextend = codes "sextend"
 convert_name convert.Ireduce = codes "ireduce"
 
 abbrev pub binary_name : BinaryOpcode → List ℕ
@@ -65,7 +66,6 @@ opcode_name (opcode.PooledConst o) = pooled_const_name o
 opcode_name (opcode.Unary o) = unary_name o
 opcode_name (opcode.Binary o) = binary_name o
 opcode_name (opcode.Convert o) = convert_name o
-opcode_name opcode.Sextend = codes "sextend"
 opcode_name opcode.Iconcat = codes "iconcat"
 opcode_name opcode.Isplit = codes "isplit"
 opcode_name opcode.Icmp = codes "icmp"

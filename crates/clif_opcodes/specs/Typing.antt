@@ -117,6 +117,7 @@ unary_row = like_first demand.AnInteger (operand.Controlling ∷ []) (kind.Contr
 abbrev pub convert_operand : ConvertOpcode → OperandKind
 convert_operand convert.Splat = operand.Lane
 convert_operand convert.Uextend = operand.Narrower
+convert_operand convert.Sextend = operand.Narrower
 convert_operand convert.Ireduce = operand.Wider
 
 abbrev pub convert_demand : ConvertOpcode → Demand
@@ -146,7 +147,6 @@ row_of (opcode.FloatConst o) = float_const_row o
 row_of (opcode.PooledConst o) = pooled_const_row o
 row_of (opcode.Unary o) = unary_row
 row_of (opcode.Convert o) = convert_row o
-row_of opcode.Sextend = given demand.AnInteger (operand.Narrower ∷ [])
 row_of (opcode.Binary o) = binary_row o
 row_of opcode.Iconcat = like_first demand.ADoubled (operand.Controlling ∷ operand.Controlling ∷ []) (kind.Double ∷ [])
 row_of opcode.Isplit = like_first demand.AHalved (operand.Controlling ∷ []) (kind.Half ∷ kind.Half ∷ [])

@@ -8,7 +8,7 @@ use clif_types::types::{I8, I16, I32, I64, I128};
 use clif_types::{LaneType, Type};
 
 /// Where an instruction's controlling type comes from.
-#[derive(Clone, Copy, Debug, PartialEq, Eq)]
+#[derive(Clone, Copy, PartialEq, Eq)]
 pub enum Control {
     /// There is none: no type varies.
     Absent,
@@ -19,7 +19,7 @@ pub enum Control {
 }
 
 /// What an instruction requires of its controlling type.
-#[derive(Clone, Copy, Debug, PartialEq, Eq)]
+#[derive(Clone, Copy, PartialEq, Eq)]
 pub enum Demand {
     /// Nothing.
     Nothing,
@@ -52,7 +52,7 @@ impl Demand {
 }
 
 /// The types that an operand may have.
-#[derive(Clone, Copy, Debug, PartialEq, Eq)]
+#[derive(Clone, Copy, PartialEq, Eq)]
 pub enum OperandKind {
     /// The controlling type.
     Controlling,
@@ -88,7 +88,7 @@ impl OperandKind {
 }
 
 /// The type of a result.
-#[derive(Clone, Copy, Debug, PartialEq, Eq)]
+#[derive(Clone, Copy, PartialEq, Eq)]
 pub enum ResultKind {
     /// The controlling type.
     Controlling,
@@ -115,7 +115,7 @@ impl ResultKind {
 }
 
 /// The operands of an instruction beside those of fixed number.
-#[derive(Clone, Copy, Debug, PartialEq, Eq)]
+#[derive(Clone, Copy, PartialEq, Eq)]
 pub enum OtherOperands {
     /// There are none.
     Nothing,

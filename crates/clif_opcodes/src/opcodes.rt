@@ -7,7 +7,7 @@ ghost use Rattle.clif_opcodes.specs.Names.{binary_name, cond_trap_name, convert_
 use std::fmt;
 
 /// Constants that are the bits of a float of at most 64 bits.
-#[derive(Clone, Copy, Debug, PartialEq, Eq, Hash)]
+#[derive(Clone, Copy, PartialEq, Eq)]
 pub enum FloatConstOpcode {
     /// The bits of an F16.
     F16const,
@@ -31,7 +31,7 @@ impl FloatConstOpcode {
 }
 
 /// Constants whose bytes are pooled.
-#[derive(Clone, Copy, Debug, PartialEq, Eq, Hash)]
+#[derive(Clone, Copy, PartialEq, Eq)]
 pub enum PooledConstOpcode {
     /// An F128.
     F128const,
@@ -52,7 +52,7 @@ impl PooledConstOpcode {
 }
 
 /// Instructions of one operand, whose result has its type.
-#[derive(Clone, Copy, Debug, PartialEq, Eq, Hash)]
+#[derive(Clone, Copy, PartialEq, Eq)]
 pub enum UnaryOpcode {
     /// The negative in two's complement.
     Ineg,
@@ -73,12 +73,14 @@ impl UnaryOpcode {
 }
 
 /// Instructions with one operand and an explicit result type.
-#[derive(Clone, Copy, Debug, PartialEq, Eq, Hash)]
+#[derive(Clone, Copy, PartialEq, Eq)]
 pub enum ConvertOpcode {
     /// A vector with the operand in every lane.
     Splat,
     /// A wider integer, with zeros above the operand.
     Uextend,
+    /// A wider integer, with copies of the operand's sign bit above it.
+    Sextend,
     /// A narrower integer: the operand's low bits.
     Ireduce,
 }
@@ -91,13 +93,14 @@ impl ConvertOpcode {
         match self {
             ConvertOpcode::Splat => "splat",
             ConvertOpcode::Uextend => "uextend",
+            ConvertOpcode::Sextend => "sextend",
             ConvertOpcode::Ireduce => "ireduce",
         }
     }
 }
 
 /// Instructions of two operands, whose result has the type of the first.
-#[derive(Clone, Copy, Debug, PartialEq, Eq, Hash)]
+#[derive(Clone, Copy, PartialEq, Eq)]
 pub enum BinaryOpcode {
     /// The sum, modulo two to the type's width.
     Iadd,
@@ -153,7 +156,7 @@ impl BinaryOpcode {
 }
 
 /// Instructions that name a stack slot and give a value.
-#[derive(Clone, Copy, Debug, PartialEq, Eq, Hash)]
+#[derive(Clone, Copy, PartialEq, Eq)]
 pub enum StackOpcode {
     /// The address of a byte of the slot.
     StackAddr,
@@ -174,7 +177,7 @@ impl StackOpcode {
 }
 
 /// Instructions that trap under a condition.
-#[derive(Clone, Copy, Debug, PartialEq, Eq, Hash)]
+#[derive(Clone, Copy, PartialEq, Eq)]
 pub enum CondTrapOpcode {
     /// Traps if the operand is zero.
     Trapz,
@@ -195,7 +198,7 @@ impl CondTrapOpcode {
 }
 
 /// The opcode of any instruction: one variant per format, with the format's own opcode where it has several.
-#[derive(Clone, Copy, Debug, PartialEq, Eq, Hash)]
+#[derive(Clone, Copy, PartialEq, Eq)]
 pub enum Opcode {
     /// An integer constant.
     Iconst,
@@ -207,8 +210,6 @@ pub enum Opcode {
     Unary(UnaryOpcode),
     /// One operand, and a result of a given type.
     Convert(ConvertOpcode),
-    /// A wider integer, with copies of the operand's sign bit above it. The operand's type determines which bit that is.
-    Sextend,
     /// Two operands, and a result of the first one's type.
     Binary(BinaryOpcode),
     /// An integer of twice the width, of its low half and its high half.
@@ -261,7 +262,6 @@ impl Opcode {
             Opcode::Unary(opcode) => opcode.name(),
             Opcode::Binary(opcode) => opcode.name(),
             Opcode::Convert(opcode) => opcode.name(),
-            Opcode::Sextend => "sextend",
             Opcode::Iconcat => "iconcat",
             Opcode::Isplit => "isplit",
             Opcode::Icmp => "icmp",

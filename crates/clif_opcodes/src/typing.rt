@@ -11,7 +11,7 @@ use crate::opcodes::{
 use clif_types::types::{F16, F32, F64, F128, I8, I32};
 
 /// A row of the typing table.
-#[derive(Clone, Copy, Debug)]
+#[derive(Clone, Copy)]
 pub struct Typing {
     /// What the instruction requires of its controlling type.
     pub demand: Demand,
@@ -40,7 +40,6 @@ impl Opcode {
             Opcode::PooledConst(opcode) => pooled_const(opcode),
             Opcode::Unary(_) => unary(),
             Opcode::Convert(opcode) => convert(opcode),
-            Opcode::Sextend => given(Demand::AnInteger, &[OperandKind::Narrower]),
             Opcode::Binary(opcode) => binary(opcode),
             Opcode::Iconcat => like_first(
                 Demand::ADoubled,
@@ -126,7 +125,9 @@ fn convert(opcode: ConvertOpcode) -> Typing
 {
     match opcode {
         ConvertOpcode::Splat => given(Demand::AVector, &[OperandKind::Lane]),
-        ConvertOpcode::Uextend => given(Demand::AnInteger, &[OperandKind::Narrower]),
+        ConvertOpcode::Uextend | ConvertOpcode::Sextend => {
+            given(Demand::AnInteger, &[OperandKind::Narrower])
+        }
         ConvertOpcode::Ireduce => given(Demand::AnInteger, &[OperandKind::Wider]),
     }
 }

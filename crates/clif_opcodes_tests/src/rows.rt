@@ -139,7 +139,7 @@ fn of_one_operand(rt: HostRuntime) -> Result<(), Fail> {
             &[OperandKind::Narrower],
         ),
         given(
-            Opcode::Sextend,
+            Opcode::Convert(ConvertOpcode::Sextend),
             "sextend",
             Demand::AnInteger,
             &[OperandKind::Narrower],
