@@ -1,7 +1,8 @@
 -- The table of instructions: operands, results, and which ones end a block.
 -- Source: own, after the crate's instruction set.
-use Rattle.std.specs.Prelude.{ℕ, Bool, true, false, List, [], ◌∷◌, map, is_some, slice_get}
+use Rattle.std.specs.Prelude.{ℕ, Bool, true, false, List, [], ◌∷◌, map, is_some, slice_get, slice_index_or}
 use Rattle.clif_types.specs.declared.types.«Type».{«Type»}
+use Rattle.clif_types.specs.declared.types.«Type».TheVariants.{Invalid}
 use Rattle.clif_opcodes.specs.declared.opcodes.Opcode.{Opcode}
 use Rattle.clif_opcodes.specs.declared.opcodes.Opcode.TheVariants as opcode
 use Rattle.clif_opcodes.specs.Kinds.{result_type}
@@ -9,62 +10,61 @@ use Rattle.clif_opcodes.specs.Typing.{Row, row_of}
 use Rattle.clif_instructions.specs.declared.block_call.BlockCall.{BlockCall}
 use Rattle.clif_instructions.specs.Edges.{appended_to, with_argument_to}
 use Rattle.clif_instructions.specs.declared.instructions.InstructionData.{InstructionData}
-use Rattle.clif_instructions.specs.declared.instructions.InstructionData.TheVariants.{UnaryImm, Unary, Binary, Convert, Ternary, Jump, Brif, MultiAry}
+use Rattle.clif_instructions.specs.declared.instructions.InstructionData.TheVariants.{UnaryImm, UnaryIeee, Unary, Binary, IntCompare, Concat, Convert, Ternary, Load, Store, Jump, Brif, MultiAry, Trap, CondTrap}
 
 -- the operands, as they are printed
 abbrev pub operands : InstructionData → List ℕ
 operands (UnaryImm imm) = []
+operands (UnaryIeee opcode bits) = []
 operands (Unary opcode arg) = arg ∷ []
 operands (Binary opcode args) = args
+operands (IntCompare cond args) = args
+operands (Concat args) = args
 operands (Convert opcode arg) = arg ∷ []
 operands (Ternary args) = args
+operands (Load flags arg offset) = arg ∷ []
+operands (Store flags args offset) = args
 operands (Jump destination) = []
 operands (Brif arg blocks) = arg ∷ []
 operands (MultiAry args) = args
+operands (Trap code) = []
+operands (CondTrap opcode arg code) = arg ∷ []
 
 -- the edges, as they are printed
 abbrev pub destinations : InstructionData → List BlockCall
-destinations (UnaryImm imm) = []
-destinations (Unary opcode arg) = []
-destinations (Binary opcode args) = []
-destinations (Convert opcode arg) = []
-destinations (Ternary args) = []
 destinations (Jump destination) = destination ∷ []
 destinations (Brif arg blocks) = blocks
-destinations (MultiAry args) = []
+destinations _ = []
 
 -- an instruction, of whose edges each that goes to the block passes this value as well, at the end
 abbrev pub with_argument : ℕ → ℕ → InstructionData → InstructionData
-with_argument block value (UnaryImm imm) = UnaryImm imm
-with_argument block value (Unary opcode arg) = Unary opcode arg
-with_argument block value (Binary opcode args) = Binary opcode args
-with_argument block value (Convert opcode arg) = Convert opcode arg
-with_argument block value (Ternary args) = Ternary args
 with_argument block value (Jump destination) = Jump (appended_to block value destination)
 with_argument block value (Brif arg blocks) = Brif arg (with_argument_to block value blocks)
-with_argument block value (MultiAry args) = MultiAry args
+with_argument block value shape = shape
 
 -- whether the instruction has edges
 abbrev pub is_branch : InstructionData → Bool
-is_branch (UnaryImm imm) = false
-is_branch (Unary opcode arg) = false
-is_branch (Binary opcode args) = false
-is_branch (Convert opcode arg) = false
-is_branch (Ternary args) = false
 is_branch (Jump destination) = true
 is_branch (Brif arg blocks) = true
-is_branch (MultiAry args) = false
+is_branch _ = false
 
 -- the opcode
 abbrev pub opcode_of : InstructionData → Opcode
 opcode_of (UnaryImm imm) = opcode.Iconst
+opcode_of (UnaryIeee name bits) = opcode.FloatConst name
 opcode_of (Unary name arg) = opcode.Unary name
 opcode_of (Binary name args) = opcode.Binary name
+opcode_of (IntCompare cond args) = opcode.Icmp
+opcode_of (Concat args) = opcode.Iconcat
 opcode_of (Convert name arg) = opcode.Convert name
 opcode_of (Ternary args) = opcode.Select
+opcode_of (Load flags arg offset) = opcode.Load
+opcode_of (Store flags args offset) = opcode.Store
 opcode_of (Jump destination) = opcode.Jump
 opcode_of (Brif arg blocks) = opcode.Brif
 opcode_of (MultiAry args) = opcode.Return
+opcode_of (Trap code) = opcode.Trap
+opcode_of (CondTrap name arg code) = opcode.CondTrap name
 
 -- its row of the typing table
 abbrev pub typing_of : InstructionData → Row
@@ -81,3 +81,7 @@ has_result shape = is_some (slice_get (typing_of shape).results 0)
 -- the types of the results, in order
 abbrev pub result_types : InstructionData → «Type» → List «Type»
 result_types shape ty = map (result_type ty) (typing_of shape).results
+
+-- the type of the first result; the invalid type where there is none
+abbrev pub result_type_of : InstructionData → «Type» → «Type»
+result_type_of shape ty = slice_index_or (result_types shape ty) 0 Invalid

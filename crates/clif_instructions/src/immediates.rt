@@ -4,6 +4,7 @@ ghost use Rattle.std.specs.Fmt.{WritesOnOk};
 ghost use Rattle.clif_instructions.specs.Immediates.{centred, signed_at, hex_groups, significant, imm64_text};
 ghost use Rattle.clif_types.specs.Types.{bits_of};
 
+use clif_opcodes::FloatConstOpcode;
 use clif_types::Type;
 use std::fmt;
 
@@ -86,5 +87,45 @@ impl fmt::Display for Imm64 {
             (bits >> 16) % 0x1_0000,
             bits % 0x1_0000,
         )
+    }
+}
+
+/// The bits of a float as they are printed: `0.0` if they are all zero, and else `0x` and a digit for each four bits.
+#[derive(Clone, Copy)]
+pub struct FloatBits {
+    /// Which float it is.
+    pub opcode: FloatConstOpcode,
+    /// Its bits, of which those above its width are zero.
+    pub bits: u64,
+}
+
+impl fmt::Display for FloatBits {
+    fn fmt<W: fmt::Write>(&self, f: &mut fmt::Formatter<W>) -> fmt::Result {
+        let bits = self.bits;
+        if bits == 0 {
+            return f.write_str("0.0");
+        }
+        match self.opcode {
+            FloatConstOpcode::F16const => write!(f, "0x{bits:04x}"),
+            FloatConstOpcode::F32const => write!(f, "0x{bits:08x}"),
+            FloatConstOpcode::F64const => write!(f, "0x{bits:016x}"),
+        }
+    }
+}
+
+/// The offset of an address as it is printed behind that: its sign and its amount, and nothing where it is zero. An
+/// amount above 9999 is hexadecimal, as [`Imm64`] prints it.
+#[derive(Clone, Copy)]
+pub struct Offset32(pub i32);
+
+impl fmt::Display for Offset32 {
+    fn fmt<W: fmt::Write>(&self, f: &mut fmt::Formatter<W>) -> fmt::Result {
+        let offset = self.0;
+        if offset == 0 {
+            return Ok(());
+        }
+        f.write_str(if offset < 0 { "-" } else { "+" })?;
+        let amount = Imm64(i64::from(offset.unsigned_abs()));
+        write!(f, "{amount}")
     }
 }

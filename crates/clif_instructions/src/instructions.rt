@@ -1,21 +1,31 @@
 //! Instructions: their shapes, operands and results.
 ghost use Rattle.std.specs.Prelude.{◌≡◌, OnOk, OnErr};
+ghost use Rattle.clif_opcodes.specs.Typing.{float_const_row};
 ghost use Rattle.clif_instructions.specs.Instruction.{operands, destinations, with_argument, has_result, is_branch, is_terminator, opcode_of, typing_of};
 
 use crate::block_call::{BlockCall, append_to_edge, append_to_edges};
 use crate::value_list::ValueList;
-use clif_opcodes::{BinaryOpcode, Control, ConvertOpcode, Opcode, ResultKind, UnaryOpcode};
-use clif_types::{Block, BuildError, Value};
+use clif_opcodes::{
+    BinaryOpcode, CondTrapOpcode, Control, ConvertOpcode, FloatConstOpcode, Opcode, ResultKind,
+    UnaryOpcode,
+};
+use clif_types::types::{F16, F32, F64, I8};
+use clif_types::{Block, BuildError, IntCC, MemFlagsData, TrapCode, Value};
 use std::slice;
 
 /// An instruction without its results and its place: what it does, and with which operands.
 ///
 /// The controlling type, which tells the types of the results, is given where an instruction is made.
-#[derive(Debug, Drop)]
+#[derive(Drop)]
 pub enum InstructionData {
     /// `iconst.T imm`: the low bits of a 64-bit number.
     UnaryImm {
         imm: i64,
+    },
+    /// `f32const bits` and the like: the bits of a float, of which those above its width are zero.
+    UnaryIeee {
+        opcode: FloatConstOpcode,
+        bits: u64,
     },
     /// `ineg x` and the like.
     Unary {
@@ -27,6 +37,15 @@ pub enum InstructionData {
         opcode: BinaryOpcode,
         args: [Value; 2],
     },
+    /// `icmp cond x, y`: 1 if the condition holds of the two integers, and 0 otherwise.
+    IntCompare {
+        cond: IntCC,
+        args: [Value; 2],
+    },
+    /// `iconcat x, y`: the integer of twice the width, with `x` as its low half and `y` as its high half.
+    Concat {
+        args: [Value; 2],
+    },
     /// `uextend.T x` and the like: the result has a type that is given.
     Convert {
         opcode: ConvertOpcode,
@@ -35,6 +54,18 @@ pub enum InstructionData {
     /// `select c, x, y`: `x` if `c` isn't zero, otherwise `y`.
     Ternary {
         args: [Value; 3],
+    },
+    /// `load.T flags p+offset`: what is in memory at an address.
+    Load {
+        flags: MemFlagsData,
+        arg: Value,
+        offset: i32,
+    },
+    /// `store flags x, p+offset`: puts `x` into memory at an address. `args` are `x` and `p`.
+    Store {
+        flags: MemFlagsData,
+        args: [Value; 2],
+        offset: i32,
     },
     /// `jump block(x, ..)`: goes along its one edge.
     Jump {
@@ -50,6 +81,16 @@ pub enum InstructionData {
     MultiAry {
         args: ValueList,
     },
+    /// `trap code`: ends the run with a trap.
+    Trap {
+        code: TrapCode,
+    },
+    /// `trapz x, code` and `trapnz x, code`: ends the run with a trap if `x` is zero, or if it isn't.
+    CondTrap {
+        opcode: CondTrapOpcode,
+        arg: Value,
+        code: TrapCode,
+    },
 }
 
 impl InstructionData {
@@ -58,14 +99,21 @@ impl InstructionData {
         ensures { result.now ≡ operands self.now }
     {
         match self {
-            InstructionData::UnaryImm { .. } => &[],
+            InstructionData::UnaryImm { .. }
+            | InstructionData::UnaryIeee { .. }
+            | InstructionData::Jump { .. }
+            | InstructionData::Trap { .. } => &[],
             InstructionData::Unary { arg, .. } => slice::from_ref(arg),
             InstructionData::Binary { args, .. } => args,
+            InstructionData::IntCompare { args, .. } => args,
+            InstructionData::Concat { args } => args,
             InstructionData::Convert { arg, .. } => slice::from_ref(arg),
             InstructionData::Ternary { args } => args,
-            InstructionData::Jump { .. } => &[],
+            InstructionData::Load { arg, .. } => slice::from_ref(arg),
+            InstructionData::Store { args, .. } => args,
             InstructionData::Brif { arg, .. } => slice::from_ref(arg),
             InstructionData::MultiAry { args } => args.as_slice(),
+            InstructionData::CondTrap { arg, .. } => slice::from_ref(arg),
         }
     }
 
@@ -76,12 +124,7 @@ impl InstructionData {
         match self {
             InstructionData::Jump { destination } => slice::from_ref(destination),
             InstructionData::Brif { blocks, .. } => blocks,
-            InstructionData::UnaryImm { .. }
-            | InstructionData::Unary { .. }
-            | InstructionData::Binary { .. }
-            | InstructionData::Convert { .. }
-            | InstructionData::Ternary { .. }
-            | InstructionData::MultiAry { .. } => &[],
+            _ => &[],
         }
     }
 
@@ -95,12 +138,7 @@ impl InstructionData {
         match self {
             InstructionData::Jump { destination } => append_to_edge(destination, block, value),
             InstructionData::Brif { blocks, .. } => append_to_edges(blocks, block, value),
-            InstructionData::UnaryImm { .. }
-            | InstructionData::Unary { .. }
-            | InstructionData::Binary { .. }
-            | InstructionData::Convert { .. }
-            | InstructionData::Ternary { .. }
-            | InstructionData::MultiAry { .. } => Ok(()),
+            _ => Ok(()),
         }
     }
 
@@ -110,21 +148,44 @@ impl InstructionData {
     {
         match self {
             InstructionData::UnaryImm { .. } => Opcode::Iconst,
+            InstructionData::UnaryIeee { opcode, .. } => Opcode::FloatConst(*opcode),
             InstructionData::Unary { opcode, .. } => Opcode::Unary(*opcode),
             InstructionData::Binary { opcode, .. } => Opcode::Binary(*opcode),
+            InstructionData::IntCompare { .. } => Opcode::Icmp,
+            InstructionData::Concat { .. } => Opcode::Iconcat,
             InstructionData::Convert { opcode, .. } => Opcode::Convert(*opcode),
             InstructionData::Ternary { .. } => Opcode::Select,
+            InstructionData::Load { .. } => Opcode::Load,
+            InstructionData::Store { .. } => Opcode::Store,
             InstructionData::Jump { .. } => Opcode::Jump,
             InstructionData::Brif { .. } => Opcode::Brif,
             InstructionData::MultiAry { .. } => Opcode::Return,
+            InstructionData::Trap { .. } => Opcode::Trap,
+            InstructionData::CondTrap { opcode, .. } => Opcode::CondTrap(*opcode),
         }
     }
 
-    /// The kinds of the results, in order.
+    /// The kinds of the results, in order: those of its row of the typing table, told by the format.
     pub fn result_kinds(&self) -> &'static [ResultKind]
         ensures { result.now ≡ (typing_of self.now).results }
     {
-        self.opcode().typing().results
+        match self {
+            InstructionData::UnaryIeee { opcode, .. } => float_kinds(*opcode),
+            InstructionData::IntCompare { .. } => &[ResultKind::Exactly(I8)],
+            InstructionData::Concat { .. } => &[ResultKind::Double],
+            InstructionData::UnaryImm { .. }
+            | InstructionData::Unary { .. }
+            | InstructionData::Binary { .. }
+            | InstructionData::Convert { .. }
+            | InstructionData::Ternary { .. }
+            | InstructionData::Load { .. } => &[ResultKind::Controlling],
+            InstructionData::Store { .. }
+            | InstructionData::Jump { .. }
+            | InstructionData::Brif { .. }
+            | InstructionData::MultiAry { .. }
+            | InstructionData::Trap { .. }
+            | InstructionData::CondTrap { .. } => &[],
+        }
     }
 
     /// Whether the instruction has a result.
@@ -145,21 +206,33 @@ impl InstructionData {
     pub fn is_branch(&self) -> bool
         ensures { result ≡ is_branch self.now }
     {
-        match self {
-            InstructionData::Jump { .. } | InstructionData::Brif { .. } => true,
-            InstructionData::UnaryImm { .. }
-            | InstructionData::Unary { .. }
-            | InstructionData::Binary { .. }
-            | InstructionData::Convert { .. }
-            | InstructionData::Ternary { .. }
-            | InstructionData::MultiAry { .. } => false,
-        }
+        matches!(
+            self,
+            InstructionData::Jump { .. } | InstructionData::Brif { .. }
+        )
     }
 
-    /// Whether the instruction ends its block.
+    /// Whether the instruction ends its block, as its row of the typing table says.
     pub fn is_terminator(&self) -> bool
         ensures { result ≡ is_terminator self.now }
     {
-        self.opcode().typing().ends
+        matches!(
+            self,
+            InstructionData::Jump { .. }
+                | InstructionData::Brif { .. }
+                | InstructionData::MultiAry { .. }
+                | InstructionData::Trap { .. }
+        )
+    }
+}
+
+// The kind of the result of a float constant.
+fn float_kinds(opcode: FloatConstOpcode) -> &'static [ResultKind]
+    ensures { result.now ≡ (float_const_row opcode).results }
+{
+    match opcode {
+        FloatConstOpcode::F16const => &[ResultKind::Exactly(F16)],
+        FloatConstOpcode::F32const => &[ResultKind::Exactly(F32)],
+        FloatConstOpcode::F64const => &[ResultKind::Exactly(F64)],
     }
 }

@@ -9,7 +9,7 @@ use Rattle.clif_ir.specs.declared.function.BlockPlace.{BlockPlace}
 use Rattle.clif_ir.specs.declared.function.InstNode.{InstNode}
 use Rattle.clif_ir.specs.declared.function.ValueOrigin.TheVariants.{Result}
 use Rattle.clif_instructions.specs.declared.instructions.InstructionData.{InstructionData}
-use Rattle.clif_instructions.specs.declared.instructions.InstructionData.TheVariants.{UnaryImm, Unary, Binary, Convert, Ternary, Jump, Brif, MultiAry}
+use Rattle.clif_instructions.specs.declared.instructions.InstructionData.TheVariants.{Jump, Brif}
 use Rattle.clif_instructions.specs.Edges.{appended_to, with_argument_to}
 use Rattle.clif_instructions.specs.Instruction.{operands, destinations, with_argument}
 use Rattle.clif_ir.specs.Body.{Body, inst_at, value_at, block_at, no_inst}
@@ -21,24 +21,14 @@ use Rattle.clif_instructions.proofs.Lists.{at_set}
 use Rattle.clif_ir.proofs.Keeps.{larger_origin}
 
 pub operands-with_argument : (b v : ℕ) (shape : InstructionData) → operands (with_argument b v shape) ≡ operands shape
-operands-with_argument b v (UnaryImm imm) = refl
-operands-with_argument b v (Unary opcode arg) = refl
-operands-with_argument b v (Binary opcode args) = refl
-operands-with_argument b v (Convert opcode arg) = refl
-operands-with_argument b v (Ternary args) = refl
 operands-with_argument b v (Jump destination) = refl
 operands-with_argument b v (Brif arg blocks) = refl
-operands-with_argument b v (MultiAry args) = refl
+operands-with_argument b v _ = refl
 
 pub destinations-with_argument : (b v : ℕ) (shape : InstructionData) → destinations (with_argument b v shape) ≡ with_argument_to b v (destinations shape)
-destinations-with_argument b v (UnaryImm imm) = refl
-destinations-with_argument b v (Unary opcode arg) = refl
-destinations-with_argument b v (Binary opcode args) = refl
-destinations-with_argument b v (Convert opcode arg) = refl
-destinations-with_argument b v (Ternary args) = refl
 destinations-with_argument b v (Jump destination) = refl
 destinations-with_argument b v (Brif arg blocks) = refl
-destinations-with_argument b v (MultiAry args) = refl
+destinations-with_argument b v _ = refl
 
 -- an edge that passes an existing value more names what exists, by whether it goes to the block
 appended-exists-by : (f : Body) (b v : ℕ) (edge : BlockCall) → v < length f.values → EdgeExists f edge → (test : Bool) → (edge.block == b) ≡ test

@@ -13,7 +13,8 @@ use Rattle.clif_ir.specs.declared.function.ValueNode.{ValueNode}
 use Rattle.clif_ir.specs.declared.function.ValueOrigin.TheVariants.{Result, Param}
 use Rattle.clif_instructions.specs.declared.inst_list.InsertAt.{InsertAt}
 use Rattle.clif_instructions.specs.declared.instructions.InstructionData.{InstructionData}
-use Rattle.clif_instructions.specs.declared.instructions.InstructionData.TheVariants.{UnaryImm, Unary, Binary, Convert, Ternary, Jump, Brif, MultiAry}
+use Rattle.clif_instructions.specs.declared.instructions.InstructionData.TheVariants.{UnaryIeee, Jump, Brif}
+use Rattle.clif_opcodes.specs.declared.opcodes.FloatConstOpcode.TheVariants.{F16const, F32const, F64const}
 use Rattle.clif_instructions.specs.Instruction.{operands, destinations, result_types}
 use Rattle.clif_ir.specs.Body.{Body, value_at, inst_at, block_at, empty_block, no_value, no_inst, alias_of_origin, resolved}
 use Rattle.clif_instructions.specs.Members.{IsPlaceOf, put_at, Stands, Once}
@@ -26,25 +27,16 @@ use Rattle.clif_ir.proofs.Aliases.{ways_end-append, follow_end}
 
 -- no instruction has more than one result so far
 pub length-result_types-le : (shape : InstructionData) (ty : «Type») → length (result_types shape ty) ≤ 1
-length-result_types-le (UnaryImm imm) ty = omega arith
-length-result_types-le (Unary opcode arg) ty = omega arith
-length-result_types-le (Binary opcode args) ty = omega arith
-length-result_types-le (Convert opcode arg) ty = omega arith
-length-result_types-le (Ternary args) ty = omega arith
-length-result_types-le (Jump destination) ty = omega arith
-length-result_types-le (Brif arg blocks) ty = omega arith
-length-result_types-le (MultiAry args) ty = omega arith
+length-result_types-le (UnaryIeee F16const bits) ty = omega arith
+length-result_types-le (UnaryIeee F32const bits) ty = omega arith
+length-result_types-le (UnaryIeee F64const bits) ty = omega arith
+length-result_types-le _ ty = omega arith
 
 -- an instruction with edges has no results
 pub branch-result_types : (shape : InstructionData) (ty : «Type») → destinations shape ≢ [] → result_types shape ty ≡ []
-branch-result_types (UnaryImm imm) ty branch = absurd (branch refl)
-branch-result_types (Unary opcode arg) ty branch = absurd (branch refl)
-branch-result_types (Binary opcode args) ty branch = absurd (branch refl)
-branch-result_types (Convert opcode arg) ty branch = absurd (branch refl)
-branch-result_types (Ternary args) ty branch = absurd (branch refl)
 branch-result_types (Jump destination) ty branch = refl
 branch-result_types (Brif arg blocks) ty branch = refl
-branch-result_types (MultiAry args) ty branch = refl
+branch-result_types _ ty branch = absurd (branch refl)
 
 length-result_nodes : (i k : ℕ) (types : List «Type») → length (result_nodes i k types) ≡ length types
 length-result_nodes i k [] = refl

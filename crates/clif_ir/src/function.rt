@@ -41,7 +41,7 @@ pub struct ValueNode {
 }
 
 /// An instruction with its results, its block and its source place.
-#[derive(Debug, Drop)]
+#[derive(Drop)]
 pub struct InstNode {
     pub shape: InstructionData,
     pub results: ValueList,
@@ -50,7 +50,7 @@ pub struct InstNode {
 }
 
 /// A block: its parameters and its instructions, in order, and whether it is seldom reached.
-#[derive(Debug, Drop)]
+#[derive(Drop)]
 pub struct BlockNode {
     pub params: ValueList,
     pub insts: InstList,
@@ -59,7 +59,7 @@ pub struct BlockNode {
 
 /// Where a block stands: how many of its instructions were put behind so many and not at its back, the
 /// block after it in the layout, and whether it is in the layout.
-#[derive(Clone, Copy, Debug)]
+#[derive(Clone, Copy)]
 pub(crate) struct BlockPlace {
     pub(crate) front: u32,
     pub(crate) next: Option<Block>,
@@ -74,7 +74,7 @@ pub(crate) struct BlockPlace {
 /// an alias of it, in order. An instruction at place `k` of a block into which `n` instructions were put
 /// elsewhere than at its back has the slot 2^32 + `k` - `n`, so that only those before a new one change
 /// their slots, and none does as instructions are put at either end.
-#[derive(Debug, Drop)]
+#[derive(Drop)]
 pub struct Function {
     pub(crate) alloc: Global,
     pub(crate) name: UserFuncName,

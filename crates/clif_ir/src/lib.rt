@@ -17,6 +17,8 @@ pub mod write;
 pub use clif_instructions::block_call::{BlockArg, BlockArgs, BlockCall};
 pub use clif_instructions::instructions::InstructionData;
 pub use clif_instructions::value_list::ValueList;
-pub use clif_opcodes::{BinaryOpcode, ConvertOpcode, UnaryOpcode};
+pub use clif_opcodes::{
+    BinaryOpcode, CondTrapOpcode, ConvertOpcode, FloatConstOpcode, UnaryOpcode,
+};
 pub use function::{BlockNode, Function, InstNode, ValueDef, ValueNode, ValueOrigin};
 pub use successors::Successors;

@@ -13,9 +13,9 @@ ghost use Rattle.clif_instructions.specs.Instruction.{operands, destinations};
 
 use crate::function::{Function, ValueDef};
 use clif_instructions::block_call::{BlockArg, BlockCall};
-use clif_instructions::immediates::{Imm64, signed_at};
+use clif_instructions::immediates::{FloatBits, Imm64, Offset32, signed_at};
 use clif_instructions::instructions::InstructionData;
-use clif_opcodes::Control;
+use clif_opcodes::{Control, FloatConstOpcode};
 use clif_types::{Block, EntityRef, Inst, Type, Value};
 use std::fmt;
 
@@ -139,10 +139,44 @@ fn write_operation<W: fmt::Write>(
     let shape = func.inst_data(inst);
     f.write_str(shape.opcode().name())?;
     write_suffix(f, func, inst)?;
-    if let InstructionData::UnaryImm { imm } = shape {
-        let number = Imm64(signed_at(*imm, result_type(func, inst)));
-        return write!(f, " {number}");
+    match shape {
+        InstructionData::UnaryImm { imm } => {
+            let number = Imm64(signed_at(*imm, result_type(func, inst)));
+            return write!(f, " {number}");
+        }
+        InstructionData::UnaryIeee { opcode, bits } => {
+            let float = float_bits(*opcode, *bits);
+            return write!(f, " {float}");
+        }
+        InstructionData::IntCompare { cond, .. } => write!(f, " {cond}")?,
+        InstructionData::Load { flags, .. } => write!(f, "{flags}")?,
+        InstructionData::Store { flags, .. } => write!(f, "{flags}")?,
+        _ => {}
     }
+    write_operands(f, shape)?;
+    match shape {
+        InstructionData::Load { offset, .. } => write_offset(f, *offset),
+        InstructionData::Store { offset, .. } => write_offset(f, *offset),
+        InstructionData::Trap { code } => write!(f, " {code}"),
+        InstructionData::CondTrap { code, .. } => write!(f, ", {code}"),
+        _ => Ok(()),
+    }
+}
+
+fn float_bits(opcode: FloatConstOpcode, bits: u64) -> FloatBits {
+    FloatBits { opcode, bits }
+}
+
+fn write_offset<W: fmt::Write>(f: &mut fmt::Formatter<W>, offset: i32) -> fmt::Result {
+    let offset = Offset32(offset);
+    write!(f, "{offset}")
+}
+
+// The operands and then the edges, after a space and joined by `, `; nothing where there are none.
+fn write_operands<W: fmt::Write>(
+    f: &mut fmt::Formatter<W>,
+    shape: &InstructionData,
+) -> fmt::Result {
     let operands = shape.arguments();
     let edges = shape.branch_destination();
     if operands.is_empty() && edges.is_empty() {
@@ -280,7 +314,7 @@ fn write_edge_constants<'a, W: fmt::Write>(
     Ok(separator)
 }
 
-// The part of a comment on one value, if it stands for a constant; answers what goes before the next part.
+// The part of a comment on one value, if an `iconst` or a float constant makes it; answers what goes before the next part.
 fn write_constant<'a, W: fmt::Write>(
     f: &mut fmt::Formatter<W>,
     func: &Function,
@@ -289,24 +323,21 @@ fn write_constant<'a, W: fmt::Write>(
 ) -> Result<&'a str, fmt::Error>
     requires { value < length func.now.values }
 {
-    let Some(number) = constant(func, value) else {
+    let ValueDef::Result(inst, _) = func.value_def(value) else {
         return Ok(separator);
     };
-    write!(f, "{separator}{value} = {number}")?;
+    match func.inst_data(inst) {
+        InstructionData::UnaryImm { imm } => {
+            let number = Imm64(signed_at(*imm, func.value_type(value)));
+            write!(f, "{separator}{value} = {number}")?;
+        }
+        InstructionData::UnaryIeee { opcode, bits } => {
+            let float = float_bits(*opcode, *bits);
+            write!(f, "{separator}{value} = {float}")?;
+        }
+        _ => return Ok(separator),
+    }
     Ok(", ")
-}
-
-// The number that a value stands for, where an `iconst` makes it.
-fn constant(func: &Function, value: Value) -> Option<Imm64>
-    requires { value < length func.now.values }
-{
-    let ValueDef::Result(inst, _) = func.value_def(value) else {
-        return None;
-    };
-    let InstructionData::UnaryImm { imm } = func.inst_data(inst) else {
-        return None;
-    };
-    Some(Imm64(signed_at(*imm, func.value_type(value))))
 }
 
 // The alias lines of each of these values, in order.
