@@ -10,9 +10,9 @@ use Rattle.clif_meaning.specs.Event.{CallShape, Event}
 use Rattle.clif_meaning.specs.World.{World, PlacesSlots}
 use Rattle.clif_meaning.specs.Machine.{Control, At, HasReturned, HasTrapped, IsStuck, state_after, IsEnd, EndStays}
 use Rattle.clif_meaning.specs.SameMeaning.{Behaviour, ShowsAllOf, SameMeaning}
-use Rattle.clif_meaning.specs.Program.{Item, Instruct, Use, Assign}
+use Rattle.clif_meaning.specs.Program.{program_of}
 use Rattle.clif_meaning.specs.ScriptMachine.{ScriptRun, ScriptState, script_machine}
-use Rattle.clif_meaning.specs.Premises.{Premises, OfNextItem, InEachStep, SparesSpillSlots, ClaimsAreTrue}
+use Rattle.clif_meaning.specs.Premises.{Premises, EachItem}
 use Rattle.clif_meaning.specs.Headline.{script_run, function_run, script_behaviour, function_behaviour, IsWorldOf, MeansTheSame}
 use Rattle.clif_meaning.specs.FunctionView.{FunctionView}
 use Rattle.clif_meaning.specs.FunctionMachine.{ByMaps}
@@ -22,44 +22,11 @@ use Rattle.clif_meaning.proofs.FirstRow
 use Rattle.clif_meaning.proofs.SampleWorld
 use Rattle.clif_meaning.proofs.WorkedExamples
 use Rattle.clif_meaning.proofs.Endings
+use Rattle.clif_meaning.proofs.EachStep.{IsQuietItem, spares, claims}
 
-none_touched : (world : World) (operation : Operation) (ty : «Type») (types : List «Type») (bits : List ℕ) → touched_ranges world operation ty types bits ≡ []
-none_touched world (Compute arithmetic) ty types bits = refl
-none_touched world Jump ty types bits = refl
-none_touched world Brif ty types bits = refl
-none_touched world Return ty types bits = refl
-
-none_claimed : (world : World) (operation : Operation) (ty : «Type») (types : List «Type») (bits : List ℕ) → claims_of world operation ty types bits ≡ []
-none_claimed world (Compute arithmetic) ty types bits = refl
-none_claimed world Jump ty types bits = refl
-none_claimed world Brif ty types bits = refl
-none_claimed world Return ty types bits = refl
-
--- it holds of each element of no list
-of_none : {X : Type 0} (P : X → Type 0) (xs : List X) → xs ≡ [] → AllByRecursion P xs
-of_none P xs none = subst (λ (ys : List _). AllByRecursion P ys) (sym none) tt
-
--- so far no item touches memory
-pub spares : (run : ScriptRun) (state : ScriptState) (item : Item) → SparesSpillSlots run state item
-spares run state (Instruct place instruction results) = of_none _ _ (none_touched run.world instruction.operation _ _ _)
-spares run state (Use variable name) = tt
-spares run state (Assign variable name) = tt
-
--- and none claims anything
-pub claims : (run : ScriptRun) (state : ScriptState) (item : Item) → ClaimsAreTrue run state item
-claims run state (Instruct place instruction results) = of_none _ _ (none_claimed run.world instruction.operation _ _ _)
-claims run state (Use variable name) = tt
-claims run state (Assign variable name) = tt
-
-next_item : (P : Item → Type 0) → ((item : Item) → P item) → (control : Control Item) → OfNextItem P control
-next_item P each (At []) = tt
-next_item P each (At (item ∷ rest)) = each item
-next_item P each (HasReturned results) = tt
-next_item P each (HasTrapped reason) = tt
-next_item P each IsStuck = tt
-
-pub each_step : (P : ScriptState → Item → Type 0) (run : ScriptRun) → ((state : ScriptState) (item : Item) → P state item) → InEachStep P run
-each_step P run each n = next_item _ (each (state_after (script_machine run) n)) (state_after (script_machine run) n).control
+-- no item of it touches memory
+quiet : EachItem IsQuietItem (program_of first_script)
+quiet = FirstRow.first_items _ (tt, (tt, (tt, (tt, (tt, (tt, tt))))))
 
 -- beside any function
 premises_beside : (function : FunctionView) (world : World) → Premises first_script first_signature (pointer_type_of U64) (script_run first_script function world)
@@ -87,8 +54,8 @@ premises_beside function world = record {
   };
   given_before = FirstRow.script_well_placed;
   tracked_apart = FirstRow.first_items _ ((λ h. h), (tt, (tt, ((λ h. h), ((λ h. h), (tt, tt))))));
-  spares_spill_slots = each_step _ (script_run first_script function world) (spares (script_run first_script function world));
-  claims_true = each_step _ (script_run first_script function world) (claims (script_run first_script function world));
+  spares_spill_slots = spares (script_run first_script function world) quiet;
+  claims_true = claims (script_run first_script function world) quiet;
   libc_as_named = FirstRow.first_items _ (tt, (tt, (tt, (tt, (tt, (tt, tt))))));
 }
 

@@ -1,15 +1,27 @@
 -- Outcomes fit the typing table.
-use Rattle.std.proofs.Common.{◌^◌, ◌<◌, ℕ, List, [], ◌∷◌, arith, subst}
-use Rattle.std.specs.Prelude.{ℤ, pos, negsuc, Option, Some, None, Bool, true, false, ◌==◌, if◌then◌else◌}
+use Rattle.std.proofs.Common.{◌≡◌, ◌^◌, ◌*◌, ◌+◌, ◌%◌, ◌<◌, ℕ, zero, suc, List, [], ◌∷◌, ◌++◌, arith, subst, refl, sym, ◌∙◌, ap}
+use Rattle.std.specs.Prelude.{ℤ, pos, negsuc, Option, Some, None, Bool, true, false, ◌==◌, ◌&&◌, not, IsTrue, if◌then◌else◌}
+use Rattle.std.specs.List.{AllByRecursion}
 use Rattle.std.proofs.Math.Nat.{mod-lt}
+use Rattle.std.proofs.lemmas.Bool.{eq-eqb}
 use Rattle.clif_types.specs.declared.types.«Type».{«Type»}
 use Rattle.clif_types.specs.Types.{bits_of}
 use Rattle.clif_types.specs.declared.trapcode.TrapCode.{TrapCode}
-use Rattle.clif_meaning.specs.Bits.{Bits, HasWidth, IsValue, AreValues, wrapped}
-use Rattle.clif_meaning.specs.Instruction.{Iconst, Unary, Binary, Convert, Select, Compute, Jump, Brif, Return}
-use Rattle.clif_meaning.specs.Memory.{Memory}
-use Rattle.clif_meaning.specs.Outcome.{converted_number, low_bits_at, unary_number, binary_fault, binary_number, outcome_of_computed, unless_fault}
+use Rattle.clif_types.specs.declared.trapcode.TrapCode.TheVariants.{HeapOutOfBounds}
+use Rattle.clif_types.specs.MemFlags.{MemFlagsShape}
+use Rattle.clif_opcodes.specs.declared.opcodes.FloatConstOpcode.TheVariants.{F16const, F32const, F64const}
+use Rattle.clif_opcodes.specs.declared.kinds.OperandKind.{OperandKind}
+use Rattle.clif_opcodes.specs.Kinds.{IsOfKind, double_of}
+use Rattle.clif_opcodes.specs.declared.kinds.OperandKind.TheVariants as kind
+use Rattle.clif_opcodes.specs.Typing.{AreOfKinds, binary_second, convert_operand}
+use Rattle.clif_meaning.specs.Bits.{Bits, HasWidth, IsValue, AreValues, value_bytes, value_of_bytes, wrapped}
+use Rattle.clif_meaning.specs.Instruction.{Iconst, FloatConst, Unary, Binary, Compare, Concat, Convert, Select, Operation, Compute, Load, Store, Trap, CondTrap, Jump, Brif, Return}
+use Rattle.clif_meaning.specs.Memory.{Memory, Range, address_in, bytes_in, written}
+use Rattle.clif_meaning.specs.Access.{Accessible, Aligned, Holds, access_claims, claims_if, claims_of}
+use Rattle.clif_meaning.specs.Outcome.{Outcome, Gives, NoStep, Traps, access_outcome, accessed, are_accessible, compares, converted_number, low_bits_at, operand_type, traps_on, unary_number, binary_fault, binary_number, outcome_of, outcome_of_computed, unless_fault}
 use Rattle.clif_meaning.specs.Laws.{FitsTypes, OutcomesFit}
+use Rattle.clif_meaning.specs.Program.{result_types}
+use Rattle.clif_meaning.specs.World.{World}
 use Rattle.clif_meaning.proofs.SampleWorld.{pow_pos}
 
 low_fits : (ty : «Type») (number : ℕ) → IsValue ty (low_bits_at ty number)
@@ -30,45 +42,153 @@ fits_unless : (ty : «Type») (returns : List «Type») (memory : Memory) (fault
 fits_unless ty returns memory None bits is_value = (is_value, tt)
 fits_unless ty returns memory (Some reason) bits is_value = tt
 
+-- a bit is an I8
+bit_fits : (b : Bool) → HasWidth 8 (if b then 1 else 0)
+bit_fits true = omega arith
+bit_fits false = omega arith
+
+trap_fits : (b : Bool) (reason : TrapCode) (returns : List «Type») (memory : Memory) → FitsTypes [] returns (if b then Traps reason else Gives [] memory)
+trap_fits true reason returns memory = tt
+trap_fits false reason returns memory = tt
+
+-- BY THE NUMBER OF OPERANDS ---------------------------------------------------------------------------------------------
+
+module _ (P : List «Type» → List Bits → Type 0) (ty : «Type») where
+  no_operand : (types : List «Type») (operands : List Bits) → AreOfKinds ty [] types → AreValues types operands → P [] [] → P types operands
+  no_operand [] [] fits values it = it
+  no_operand [] (x ∷ operands) fits values it = absurd values
+  no_operand (t ∷ types) operands fits values it = absurd fits
+
+  one_operand : (k : OperandKind) (types : List «Type») (operands : List Bits) → AreOfKinds ty (k ∷ []) types → AreValues types operands
+      → ((t : «Type») (x : Bits) → IsOfKind ty k t → IsValue t x → P (t ∷ []) (x ∷ [])) → P types operands
+  one_operand k [] operands fits values it = absurd fits
+  one_operand k (t ∷ u ∷ types) operands fits values it = absurd fits.1
+  one_operand k (t ∷ []) [] fits values it = absurd values
+  one_operand k (t ∷ []) (x ∷ y ∷ operands) fits values it = absurd values.1
+  one_operand k (t ∷ []) (x ∷ []) fits values it = it t x fits.0 values.0
+
+  two_operands : (j k : OperandKind) (types : List «Type») (operands : List Bits) → AreOfKinds ty (j ∷ k ∷ []) types → AreValues types operands
+      → ((t u : «Type») (x y : Bits) → IsOfKind ty j t → IsOfKind ty k u → IsValue t x → IsValue u y → P (t ∷ u ∷ []) (x ∷ y ∷ [])) → P types operands
+  two_operands j k [] operands fits values it = absurd fits
+  two_operands j k (t ∷ []) operands fits values it = absurd fits.1
+  two_operands j k (t ∷ u ∷ v ∷ types) operands fits values it = absurd fits.1.1
+  two_operands j k (t ∷ u ∷ []) [] fits values it = absurd values
+  two_operands j k (t ∷ u ∷ []) (x ∷ []) fits values it = absurd values.1
+  two_operands j k (t ∷ u ∷ []) (x ∷ y ∷ z ∷ operands) fits values it = absurd values.1.1
+  two_operands j k (t ∷ u ∷ []) (x ∷ y ∷ []) fits values it = it t u x y fits.0 fits.1.0 values.0 values.1.0
+
+  three_operands : (i j k : OperandKind) (types : List «Type») (operands : List Bits) → AreOfKinds ty (i ∷ j ∷ k ∷ []) types → AreValues types operands
+      → ((t u v : «Type») (x y z : Bits) → IsOfKind ty j u → IsOfKind ty k v → IsValue u y → IsValue v z → P (t ∷ u ∷ v ∷ []) (x ∷ y ∷ z ∷ [])) → P types operands
+  three_operands i j k [] operands fits values it = absurd fits
+  three_operands i j k (t ∷ []) operands fits values it = absurd fits.1
+  three_operands i j k (t ∷ u ∷ []) operands fits values it = absurd fits.1.1
+  three_operands i j k (t ∷ u ∷ v ∷ w ∷ types) operands fits values it = absurd fits.1.1.1
+  three_operands i j k (t ∷ u ∷ v ∷ []) [] fits values it = absurd values
+  three_operands i j k (t ∷ u ∷ v ∷ []) (x ∷ []) fits values it = absurd values.1
+  three_operands i j k (t ∷ u ∷ v ∷ []) (x ∷ y ∷ []) fits values it = absurd values.1.1
+  three_operands i j k (t ∷ u ∷ v ∷ []) (x ∷ y ∷ z ∷ w ∷ operands) fits values it = absurd values.1.1.1
+  three_operands i j k (t ∷ u ∷ v ∷ []) (x ∷ y ∷ z ∷ []) fits values it = it t u v x y z fits.1.0 fits.1.1.0 values.1.0 values.1.1.0
+
+-- ACCESSES --------------------------------------------------------------------------------------------------------------
+
+-- bytes of which each may be touched are accessible
+all_accessible : (world : World) (range : Range) (count : ℕ) → ((k : ℕ) → k < count → IsTrue (world.is_accessible (address_in range k))) → are_accessible world range count ≡ true
+all_accessible world range zero each = refl
+all_accessible world range (suc count) each =
+    ap (λ (b : Bool). b && are_accessible world range count) (each count (omega arith))
+    ∙ all_accessible world range count (λ k below. each k (omega (arith, below)))
+
+-- the parts of what an access claims
+claimed_inside : (world : World) (aligned : Bool) (inside multiple : _) → AllByRecursion (Holds world) (claims_if true inside ++ claims_if aligned multiple) → Holds world inside
+claimed_inside world aligned inside multiple claims = claims.0
+
+claimed_aligned : (world : World) (notrap : Bool) (inside multiple : _) → AllByRecursion (Holds world) (claims_if notrap inside ++ claims_if true multiple) → Holds world multiple
+claimed_aligned world true inside multiple claims = claims.1.0
+claimed_aligned world false inside multiple claims = claims.0
+
+access_by : (world : World) (range : Range) (outcome : Outcome) (results returns : List «Type») (notrap aligned is_multiple accessible : Bool)
+    → (range.start % range.size == 0) ≡ is_multiple → are_accessible world range range.size ≡ accessible
+    → AllByRecursion (Holds world) (claims_if notrap (Accessible range) ++ claims_if aligned (Aligned range.start range.size)) → FitsTypes results returns outcome
+    → FitsTypes results returns (if aligned && not is_multiple then NoStep else (if accessible then outcome else (if notrap then NoStep else Traps HeapOutOfBounds)))
+access_by world range outcome results returns notrap true false accessible multiple inside claims fits =
+    let is : Holds world (Aligned range.start range.size) = claimed_aligned world notrap (Accessible range) (Aligned range.start range.size) claims in
+    let none : range.start % range.size ≡ 0 = subst (λ (n : ℕ). range.start % n ≡ 0) (sym is.1) is.2 in
+    let same : true ≡ false = sym (eq-eqb (range.start % range.size) 0 none) ∙ multiple in
+    let no_way : ⊥ = cc in absurd no_way
+access_by world range outcome results returns notrap true true true multiple inside claims fits = fits
+access_by world range outcome results returns notrap false is_multiple true multiple inside claims fits = fits
+access_by world range outcome results returns false true true false multiple inside claims fits = tt
+access_by world range outcome results returns false false is_multiple false multiple inside claims fits = tt
+access_by world range outcome results returns true true true false multiple inside claims fits =
+    let each : Holds world (Accessible range) = claimed_inside world true (Accessible range) (Aligned range.start range.size) claims in
+    let same : true ≡ false = sym (all_accessible world range range.size each) ∙ inside in
+    let no_way : ⊥ = cc in absurd no_way
+access_by world range outcome results returns true false is_multiple false multiple inside claims fits =
+    let each : Holds world (Accessible range) = claimed_inside world false (Accessible range) (Aligned range.start range.size) claims in
+    let same : true ≡ false = sym (all_accessible world range range.size each) ∙ inside in
+    let no_way : ⊥ = cc in absurd no_way
+
+-- an access whose claims are true fits if what it does fits
+access_fits : (world : World) (flags : MemFlagsShape) (range : Range) (outcome : Outcome) (results returns : List «Type»)
+    → AllByRecursion (Holds world) (access_claims flags range) → FitsTypes results returns outcome → FitsTypes results returns (access_outcome world flags range outcome)
+access_fits world flags range outcome results returns claims fits =
+    access_by world range outcome results returns flags.notrap flags.aligned (range.start % range.size == 0) (are_accessible world range range.size) refl refl claims fits
+
+-- THE TABLE -------------------------------------------------------------------------------------------------------------
+
+-- an outcome fits, if the claims are true
+abbrev Fits : World → Operation → «Type» → List «Type» → Memory → List «Type» → List Bits → Type 0
+Fits world operation ty returns memory types operands =
+    AllByRecursion (Holds world) (claims_of world operation ty types operands)
+    → FitsTypes (result_types operation ty) returns (outcome_of world operation ty types operands memory)
+
 pub outcomes_fit : OutcomesFit
-outcomes_fit world (Compute (Iconst number)) ty returns [] [] memory at fits values = (constant_fits (bits_of ty) number, tt)
-outcomes_fit world (Compute (Iconst number)) ty returns [] (x ∷ operands) memory at fits values = absurd values
-outcomes_fit world (Compute (Iconst number)) ty returns (t ∷ types) operands memory at fits values = absurd fits
-outcomes_fit world (Compute (Unary opcode)) ty returns [] operands memory at fits values = absurd fits
-outcomes_fit world (Compute (Unary opcode)) ty returns (t ∷ u ∷ types) operands memory at fits values = absurd fits.1
-outcomes_fit world (Compute (Unary opcode)) ty returns (t ∷ []) [] memory at fits values = absurd values
-outcomes_fit world (Compute (Unary opcode)) ty returns (t ∷ []) (x ∷ y ∷ operands) memory at fits values = absurd values.1
-outcomes_fit world (Compute (Unary opcode)) ty returns (t ∷ []) (x ∷ []) memory at fits values = (low_fits ty (unary_number opcode (bits_of ty) x), tt)
-outcomes_fit world (Compute (Binary opcode)) ty returns [] operands memory at fits values = absurd fits
-outcomes_fit world (Compute (Binary opcode)) ty returns (t ∷ []) operands memory at fits values = absurd fits.1
-outcomes_fit world (Compute (Binary opcode)) ty returns (t ∷ u ∷ v ∷ types) operands memory at fits values = absurd fits.1.1
-outcomes_fit world (Compute (Binary opcode)) ty returns (t ∷ u ∷ []) [] memory at fits values = absurd values
-outcomes_fit world (Compute (Binary opcode)) ty returns (t ∷ u ∷ []) (x ∷ []) memory at fits values = absurd values.1
-outcomes_fit world (Compute (Binary opcode)) ty returns (t ∷ u ∷ []) (x ∷ y ∷ z ∷ operands) memory at fits values = absurd values.1.1
-outcomes_fit world (Compute (Binary opcode)) ty returns (t ∷ u ∷ []) (x ∷ y ∷ []) memory at fits values =
-    fits_unless ty returns memory (binary_fault opcode (bits_of ty) x y) (low_bits_at ty (binary_number opcode (bits_of ty) x y))
-    (low_fits ty (binary_number opcode (bits_of ty) x y))
-outcomes_fit world (Compute (Convert opcode)) ty returns [] operands memory at fits values = absurd fits
-outcomes_fit world (Compute (Convert opcode)) ty returns (t ∷ u ∷ types) operands memory at fits values = absurd fits.1
-outcomes_fit world (Compute (Convert opcode)) ty returns (t ∷ []) [] memory at fits values = absurd values
-outcomes_fit world (Compute (Convert opcode)) ty returns (t ∷ []) (x ∷ y ∷ operands) memory at fits values = absurd values.1
-outcomes_fit world (Compute (Convert opcode)) ty returns (t ∷ []) (x ∷ []) memory at fits values = (low_fits ty (converted_number opcode ty x), tt)
-outcomes_fit world (Compute Select) ty returns [] operands memory at fits values = absurd fits
-outcomes_fit world (Compute Select) ty returns (t ∷ []) operands memory at fits values = absurd fits.1
-outcomes_fit world (Compute Select) ty returns (t ∷ u ∷ []) operands memory at fits values = absurd fits.1.1
-outcomes_fit world (Compute Select) ty returns (t ∷ u ∷ v ∷ w ∷ types) operands memory at fits values = absurd fits.1.1.1
-outcomes_fit world (Compute Select) ty returns (t ∷ u ∷ v ∷ []) [] memory at fits values = absurd values
-outcomes_fit world (Compute Select) ty returns (t ∷ u ∷ v ∷ []) (c ∷ []) memory at fits values = absurd values.1
-outcomes_fit world (Compute Select) ty returns (t ∷ u ∷ v ∷ []) (c ∷ x ∷ []) memory at fits values = absurd values.1.1
-outcomes_fit world (Compute Select) ty returns (t ∷ u ∷ v ∷ []) (c ∷ x ∷ y ∷ z ∷ operands) memory at fits values = absurd values.1.1.1
-outcomes_fit world (Compute Select) ty returns (t ∷ u ∷ v ∷ []) (c ∷ x ∷ y ∷ []) memory at fits values =
-    (either_fits ty (c == 0) x y (subst (λ (s : «Type»). IsValue s x) fits.1.0 values.1.0) (subst (λ (s : «Type»). IsValue s y) fits.1.1.0 values.1.1.0), tt)
-outcomes_fit world Jump ty returns [] [] memory at fits values = tt
-outcomes_fit world Jump ty returns [] (x ∷ operands) memory at fits values = absurd values
-outcomes_fit world Jump ty returns (t ∷ types) operands memory at fits values = absurd fits
-outcomes_fit world Brif ty returns [] operands memory at fits values = absurd fits
-outcomes_fit world Brif ty returns (t ∷ u ∷ types) operands memory at fits values = absurd fits.1
-outcomes_fit world Brif ty returns (t ∷ []) [] memory at fits values = absurd values
-outcomes_fit world Brif ty returns (t ∷ []) (x ∷ y ∷ operands) memory at fits values = absurd values.1
-outcomes_fit world Brif ty returns (t ∷ []) (x ∷ []) memory at fits values = tt
-outcomes_fit world Return ty returns types operands memory at fits values = subst (λ (ts : List «Type»). AreValues ts operands) fits values
+outcomes_fit world (Compute (Iconst number)) ty returns types operands memory at fits values =
+    no_operand (Fits world (Compute (Iconst number)) ty returns memory) ty types operands fits values (λ claims. (constant_fits (bits_of ty) number, tt))
+outcomes_fit world (Compute (FloatConst F16const bits)) ty returns types operands memory at fits values =
+    no_operand (Fits world (Compute (FloatConst F16const bits)) ty returns memory) ty types operands fits values (λ claims. (mod-lt bits (pow_pos 16), tt))
+outcomes_fit world (Compute (FloatConst F32const bits)) ty returns types operands memory at fits values =
+    no_operand (Fits world (Compute (FloatConst F32const bits)) ty returns memory) ty types operands fits values (λ claims. (mod-lt bits (pow_pos 32), tt))
+outcomes_fit world (Compute (FloatConst F64const bits)) ty returns types operands memory at fits values =
+    no_operand (Fits world (Compute (FloatConst F64const bits)) ty returns memory) ty types operands fits values (λ claims. (mod-lt bits (pow_pos 64), tt))
+outcomes_fit world (Compute (Unary opcode)) ty returns types operands memory at fits values =
+    one_operand (Fits world (Compute (Unary opcode)) ty returns memory) ty kind.Controlling types operands fits values
+    (λ t x is_kind is_value claims. (low_fits ty (unary_number opcode (bits_of ty) x), tt))
+outcomes_fit world (Compute (Binary opcode)) ty returns types operands memory at fits values =
+    two_operands (Fits world (Compute (Binary opcode)) ty returns memory) ty kind.Controlling (binary_second opcode) types operands fits values
+    (λ t u x y first second x_is y_is claims. fits_unless ty returns memory (binary_fault opcode (bits_of ty) x y) (low_bits_at ty (binary_number opcode (bits_of ty) x y))
+    (low_fits ty (binary_number opcode (bits_of ty) x y)))
+outcomes_fit world (Compute (Compare condition)) ty returns types operands memory at fits values =
+    two_operands (Fits world (Compute (Compare condition)) ty returns memory) ty kind.Controlling kind.Controlling types operands fits values
+    (λ t u x y first second x_is y_is claims. (bit_fits (compares condition (bits_of ty) x y), tt))
+outcomes_fit world (Compute Concat) ty returns types operands memory at fits values =
+    two_operands (Fits world (Compute Concat) ty returns memory) ty kind.Controlling kind.Controlling types operands fits values
+    (λ t u x y first second x_is y_is claims. (low_fits (double_of ty) (x + 2 ^ bits_of ty * y), tt))
+outcomes_fit world (Compute (Convert opcode)) ty returns types operands memory at fits values =
+    one_operand (Fits world (Compute (Convert opcode)) ty returns memory) ty (convert_operand opcode) types operands fits values
+    (λ t x is_kind is_value claims. (low_fits ty (converted_number opcode t ty x), tt))
+outcomes_fit world (Compute Select) ty returns types operands memory at fits values =
+    three_operands (Fits world (Compute Select) ty returns memory) ty kind.AnInteger kind.Controlling kind.Controlling types operands fits values
+    (λ t u v x y z second third y_is z_is claims. (either_fits ty (x == 0) y z (subst (λ (s : «Type»). IsValue s y) second y_is) (subst (λ (s : «Type»). IsValue s z) third z_is), tt))
+outcomes_fit world (Load flags offset) ty returns types operands memory at fits values =
+    one_operand (Fits world (Load flags offset) ty returns memory) ty kind.Address types operands fits values
+    (λ t x is_kind is_value claims.
+    let range : Range = accessed ty t x offset in
+    access_fits world flags range (Gives (low_bits_at ty (value_of_bytes (bytes_in memory range)) ∷ []) memory) (ty ∷ []) returns claims
+    (low_fits ty (value_of_bytes (bytes_in memory range)), tt))
+outcomes_fit world (Store flags offset) ty returns types operands memory at fits values =
+    two_operands (Fits world (Store flags offset) ty returns memory) ty kind.Controlling kind.Address types operands fits values
+    (λ t u x y first second x_is y_is claims.
+    let range : Range = accessed ty u y offset in
+    access_fits world flags range (Gives [] (written memory range (value_bytes range.size x))) [] returns claims tt)
+outcomes_fit world (Trap reason) ty returns types operands memory at fits values =
+    no_operand (Fits world (Trap reason) ty returns memory) ty types operands fits values (λ claims. tt)
+outcomes_fit world (CondTrap opcode reason) ty returns types operands memory at fits values =
+    one_operand (Fits world (CondTrap opcode reason) ty returns memory) ty kind.Controlling types operands fits values
+    (λ t x is_kind is_value claims. trap_fits (traps_on opcode x) reason returns memory)
+outcomes_fit world Jump ty returns types operands memory at fits values =
+    no_operand (Fits world Jump ty returns memory) ty types operands fits values (λ claims. tt)
+outcomes_fit world Brif ty returns types operands memory at fits values =
+    one_operand (Fits world Brif ty returns memory) ty kind.Controlling types operands fits values (λ t x is_kind is_value claims. tt)
+outcomes_fit world Return ty returns types operands memory at fits values =
+    λ claims. subst (λ (ts : List «Type»). AreValues ts operands) fits values

@@ -14,3 +14,4 @@ pub mod ViewRow
 pub mod Ranges
 pub mod CallLists
 pub mod BranchRow
+pub mod EachStep

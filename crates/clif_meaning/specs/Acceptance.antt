@@ -5,14 +5,20 @@ use Rattle.std.specs.List.{list_all}
 use Rattle.clif_opcodes.specs.declared.opcodes.UnaryOpcode.{UnaryOpcode}
 use Rattle.clif_opcodes.specs.declared.opcodes.BinaryOpcode.{BinaryOpcode}
 use Rattle.clif_opcodes.specs.declared.opcodes.ConvertOpcode.{ConvertOpcode}
+use Rattle.clif_opcodes.specs.declared.opcodes.CondTrapOpcode.{CondTrapOpcode}
+use Rattle.clif_opcodes.specs.declared.opcodes.FloatConstOpcode.{FloatConstOpcode}
+use Rattle.clif_opcodes.specs.declared.kinds.Demand.TheVariants.{ADoubled}
 use Rattle.clif_opcodes.specs.Kinds.{is_met}
 use Rattle.clif_opcodes.specs.Typing.{convert_demand}
+use Rattle.clif_types.specs.declared.condcodes.IntCC.{IntCC}
+use Rattle.clif_types.specs.declared.trapcode.TrapCode.{TrapCode}
 use Rattle.clif_types.specs.declared.types.«Type».{«Type»}
 use Rattle.clif_types.specs.declared.types.«Type».TheVariants as type
 use Rattle.clif_types.specs.declared.types.LaneType.TheVariants as lane
-use Rattle.clif_types.specs.Types.{is_int}
+use Rattle.clif_types.specs.MemFlags.{MemFlagsShape}
+use Rattle.clif_types.specs.Types.{is_int, is_type}
 use Rattle.clif_meaning.specs.SameType.{same_type}
-use Rattle.clif_meaning.specs.Instruction.{Iconst, Unary, Binary, Convert, Select, Operation, Compute, Jump, Brif, Return, Argument, Known, CallResult, CallPayload, Edge}
+use Rattle.clif_meaning.specs.Instruction.{Iconst, FloatConst, Unary, Binary, Compare, Concat, Convert, Select, Operation, Compute, Load, Store, Trap, CondTrap, Jump, Brif, Return, Argument, Known, CallResult, CallPayload, Edge}
 use Rattle.clif_meaning.specs.Name.{Name}
 use Rattle.clif_meaning.specs.Request.{Request, CreateBlock, SwitchToBlock, SealBlock, SealAllBlocks, InsertBlockAfter, SetColdBlock, EnsureInsertedBlock, AppendBlockParams, AppendFunctionParams, DeclareVar, DefVar, UseVar, Build, Finalize, Script}
 use Rattle.clif_meaning.specs.Ledger.{BlockState, Ledger, empty_ledger, type_of, or_invalid, has_value, has_block, is_filled, is_sealed, is_inserted, is_pristine, has_predecessors, is_unreachable, variable_type, ledger_with}
@@ -53,13 +59,10 @@ can_lead ledger edge = has_block ledger edge.target && not (is_sealed ledger edg
 -- what an operation asks beside its operands: the table of operations
 abbrev pub can_operate : Operation → «Type» → Bool
 can_operate (Compute (Iconst number)) ty = is_int ty
-can_operate (Compute (Unary opcode)) ty = true
-can_operate (Compute (Binary opcode)) ty = true
 can_operate (Compute (Convert opcode)) ty = is_met (convert_demand opcode) ty
-can_operate (Compute Select) ty = true
-can_operate Jump ty = true
-can_operate Brif ty = true
-can_operate Return ty = true
+can_operate (Compute Concat) ty = is_met ADoubled ty
+can_operate (Load flags offset) ty = is_type ty
+can_operate _ ty = true
 
 -- The condition of each kind of call.
 abbrev pub allows : Ledger → Request → Bool
@@ -128,6 +131,32 @@ binary ledger opcode a b = Build (record { operation = Compute (Binary opcode); 
 
 abbrev pub convert : ConvertOpcode → «Type» → Name → Request
 convert opcode ty a = Build (record { operation = Compute (Convert opcode); controlling = ty; operands = a ∷ []; edges = [] })
+
+abbrev pub float_const : FloatConstOpcode → ℕ → Request
+float_const opcode bits = Build (record { operation = Compute (FloatConst opcode bits); controlling = type.Invalid; operands = []; edges = [] })
+
+abbrev pub compare : Ledger → IntCC → Name → Name → Request
+compare ledger condition a b =
+    Build (record { operation = Compute (Compare condition); controlling = or_invalid (type_of ledger a); operands = a ∷ b ∷ []; edges = [] })
+
+abbrev pub concat : Ledger → Name → Name → Request
+concat ledger low high =
+    Build (record { operation = Compute Concat; controlling = or_invalid (type_of ledger low); operands = low ∷ high ∷ []; edges = [] })
+
+abbrev pub load : MemFlagsShape → «Type» → Name → ℤ → Request
+load flags ty address offset = Build (record { operation = Load flags offset; controlling = ty; operands = address ∷ []; edges = [] })
+
+-- at the type of what is stored
+abbrev pub store : Ledger → MemFlagsShape → Name → Name → ℤ → Request
+store ledger flags stored address offset =
+    Build (record { operation = Store flags offset; controlling = or_invalid (type_of ledger stored); operands = stored ∷ address ∷ []; edges = [] })
+
+abbrev pub trap : TrapCode → Request
+trap reason = Build (record { operation = Trap reason; controlling = type.Invalid; operands = []; edges = [] })
+
+abbrev pub cond_trap : Ledger → CondTrapOpcode → Name → TrapCode → Request
+cond_trap ledger opcode condition reason =
+    Build (record { operation = CondTrap opcode reason; controlling = or_invalid (type_of ledger condition); operands = condition ∷ []; edges = [] })
 
 -- at the type of its second operand
 abbrev pub select : Ledger → Name → Name → Name → Request

@@ -1,12 +1,14 @@
 -- What an item of a script does to memory by itself, and what it claims: the ranges that it may touch, and what its
 -- flags, alignments and overlap promise. After the documentation of Cranelift's memory flags and memory helpers.
-use Rattle.std.specs.Prelude.{◌≡◌, ℕ, ◌%◌, ◌^◌, ◌<◌, false, List, [], IsTrue, ◌&&◌, Option, None}
+use Rattle.std.specs.Prelude.{◌≡◌, ℕ, ◌%◌, ◌^◌, ◌<◌, ◌++◌, Bool, false, if◌then◌else◌, List, [], ◌∷◌, IsTrue, ◌&&◌, Option, None}
 use Rattle.clif_types.specs.declared.types.«Type».{«Type»}
+use Rattle.clif_types.specs.MemFlags.{MemFlagsShape}
 use Rattle.clif_types.specs.Signature.{SignatureShape}
 use Rattle.clif_types.specs.declared.libcall.LibCall.{LibCall}
 use Rattle.clif_meaning.specs.Bits.{Bits}
 use Rattle.clif_meaning.specs.Memory.{Range, address_in, lies_in}
-use Rattle.clif_meaning.specs.Instruction.{Operation, Compute, Jump, Brif, Return}
+use Rattle.clif_meaning.specs.Instruction.{Operation, Load, Store}
+use Rattle.clif_meaning.specs.Outcome.{accessed, operand_type}
 use Rattle.clif_meaning.specs.World.{World}
 
 -- a claim: each byte of the range may be read and written; the address is a multiple of the alignment, which is a
@@ -22,19 +24,24 @@ Holds world (Aligned address alignment) = (shift : ℕ) × (alignment ≡ 2 ^ sh
 Holds world (Apart left right) = (address : ℕ) → (lies_in left address && lies_in right address) ≡ false
 
 -- The table of operations, from the world, which places stack slots, and the operands' types and bits: the ranges that the
--- instruction touches. No operation reaches memory so far.
+-- instruction touches.
 abbrev pub touched_ranges : World → Operation → «Type» → List «Type» → List Bits → List Range
-touched_ranges world (Compute arithmetic) ty types operands = []
-touched_ranges world Jump ty types operands = []
-touched_ranges world Brif ty types operands = []
-touched_ranges world Return ty types operands = []
+touched_ranges world (Load flags offset) ty types (address ∷ []) = accessed ty (operand_type types 0) address offset ∷ []
+touched_ranges world (Store flags offset) ty types (stored ∷ address ∷ []) = accessed ty (operand_type types 1) address offset ∷ []
+touched_ranges world _ ty types operands = []
+
+-- what the flags of an access claim: that no byte is out of bounds, and that the address is a multiple of the size
+abbrev pub claims_if : Bool → Claim → List Claim
+claims_if claimed claim = if claimed then claim ∷ [] else []
+
+abbrev pub access_claims : MemFlagsShape → Range → List Claim
+access_claims flags range = claims_if flags.notrap (Accessible range) ++ claims_if flags.aligned (Aligned range.start range.size)
 
 -- The table of operations: what the instruction claims.
 abbrev pub claims_of : World → Operation → «Type» → List «Type» → List Bits → List Claim
-claims_of world (Compute arithmetic) ty types operands = []
-claims_of world Jump ty types operands = []
-claims_of world Brif ty types operands = []
-claims_of world Return ty types operands = []
+claims_of world (Load flags offset) ty types (address ∷ []) = access_claims flags (accessed ty (operand_type types 0) address offset)
+claims_of world (Store flags offset) ty types (stored ∷ address ∷ []) = access_claims flags (accessed ty (operand_type types 1) address offset)
+claims_of world _ ty types operands = []
 
 -- a call of a function of the C library, by the signature that it gives
 pub record LibraryCall : Type 0 where
@@ -43,7 +50,4 @@ pub record LibraryCall : Type 0 where
 
 -- The table of operations: the call of a library function that it makes, if it makes one. No operation does so far.
 abbrev pub library_call : Operation → Option LibraryCall
-library_call (Compute arithmetic) = None
-library_call Jump = None
-library_call Brif = None
-library_call Return = None
+library_call _ = None

@@ -100,8 +100,8 @@ abbrev pub swapped_function : FunctionView
 swapped_function = both_arms_with (plain 3 ∷ plain 2 ∷ []) (passing 1 3 ∷ passing 1 3 ∷ [])
 
 pub record BranchExamples : Type 0 where
-  pub difference : computed (Binary Isub) i8 (3 ∷ 5 ∷ []) ≡ Values (254 ∷ [])
-  pub no_difference : computed (Binary Isub) i8 (200 ∷ 200 ∷ []) ≡ Values (0 ∷ [])
+  pub difference : computed (Binary Isub) i8 [] (3 ∷ 5 ∷ []) ≡ Values (254 ∷ [])
+  pub no_difference : computed (Binary Isub) i8 [] (200 ∷ 200 ∷ []) ≡ Values (0 ∷ [])
   pub taken : (world : World) → outcome_of world Brif i8 (i8 ∷ []) (7 ∷ []) world.memory ≡ Goes 0 [] world.memory
   pub other : (world : World) → outcome_of world Brif i8 (i8 ∷ []) (0 ∷ []) world.memory ≡ Goes 1 [] world.memory
   -- the row answers 0 on both machines, in every world

@@ -15,10 +15,13 @@ use Rattle.clif_types.specs.Target.{pointer_type_of}
 use Rattle.clif_meaning.specs.Bits.{value_bytes, value_of_bytes}
 use Rattle.clif_meaning.specs.Memory.{Memory, bytes_in, copied, filled, written, byte_order}
 use Rattle.clif_meaning.specs.Switch.{switch_target}
-use Rattle.clif_meaning.specs.Instruction.{Iconst, Unary, Binary, Convert, Select, Operation, Compute, Return}
+use Rattle.clif_meaning.specs.Instruction.{Iconst, FloatConst, Unary, Binary, Compare, Concat, Convert, Select, Operation, Compute, Return}
+use Rattle.clif_types.specs.declared.condcodes.IntCC.TheVariants.{SignedLessThan, SignedGreaterThanOrEqual, UnsignedLessThan}
+use Rattle.clif_types.specs.declared.condcodes.IntCC.TheVariants as cc
+use Rattle.clif_opcodes.specs.declared.opcodes.FloatConstOpcode.TheVariants.{F32const}
 use Rattle.clif_opcodes.specs.declared.opcodes.BinaryOpcode.TheVariants.{Iadd, Imul, Band, Bor, Bxor, Ishl, Ushr, Sshr, Udiv, Sdiv, Urem, Srem}
 use Rattle.clif_opcodes.specs.declared.opcodes.UnaryOpcode.TheVariants.{Ineg, Bnot}
-use Rattle.clif_opcodes.specs.declared.opcodes.ConvertOpcode.TheVariants.{Splat, Uextend, Ireduce}
+use Rattle.clif_opcodes.specs.declared.opcodes.ConvertOpcode.TheVariants.{Splat, Uextend, Sextend, Ireduce}
 use Rattle.clif_types.specs.declared.types.LaneCount.TheVariants as count
 use Rattle.clif_meaning.specs.Event.{CallShape, Event}
 use Rattle.clif_meaning.specs.World.{World}
@@ -41,6 +44,9 @@ i8 = type.Lane lane.I8
 abbrev pub i32 : «Type»
 i32 = type.Lane lane.I32
 
+abbrev pub invalid : «Type»
+invalid = type.Invalid
+
 abbrev pub i8x4 : «Type»
 i8x4 = type.Vector lane.I8 count.Four
 
@@ -50,45 +56,60 @@ i128 = type.Lane lane.I128
 -- Constants are cut to their width, or have their sign repeated; sums and products wrap; signed quotients are rounded
 -- toward zero.
 pub record ArithmeticExamples : Type 0 where
-  pub cut : computed (Iconst (pos 300)) i8 [] ≡ Values (44 ∷ [])
-  pub negative : computed (Iconst (negsuc 6)) i8 [] ≡ Values (249 ∷ [])
-  pub wide : computed (Iconst (negsuc 0)) i128 [] ≡ Values ((2 ^ 128 - 1) ∷ [])
-  pub sum : computed (Binary Iadd) i32 (0 ∷ 7 ∷ []) ≡ Values (7 ∷ [])
-  pub wraps : computed (Binary Iadd) i8 (200 ∷ 100 ∷ []) ≡ Values (44 ∷ [])
-  pub wraps_at_128 : computed (Binary Iadd) i128 ((2 ^ 128 - 1) ∷ 2 ∷ []) ≡ Values (1 ∷ [])
-  pub too_few : computed (Binary Iadd) i8 (200 ∷ []) ≡ Undefined
+  pub cut : computed (Iconst (pos 300)) i8 [] [] ≡ Values (44 ∷ [])
+  pub negative : computed (Iconst (negsuc 6)) i8 [] [] ≡ Values (249 ∷ [])
+  pub wide : computed (Iconst (negsuc 0)) i128 [] [] ≡ Values ((2 ^ 128 - 1) ∷ [])
+  pub sum : computed (Binary Iadd) i32 [] (0 ∷ 7 ∷ []) ≡ Values (7 ∷ [])
+  pub wraps : computed (Binary Iadd) i8 [] (200 ∷ 100 ∷ []) ≡ Values (44 ∷ [])
+  pub wraps_at_128 : computed (Binary Iadd) i128 [] ((2 ^ 128 - 1) ∷ 2 ∷ []) ≡ Values (1 ∷ [])
+  pub too_few : computed (Binary Iadd) i8 [] (200 ∷ []) ≡ Undefined
   -- two's complement, and bit by bit; 300 - 256 is 44
-  pub least : computed (Unary Ineg) i8 (128 ∷ []) ≡ Values (128 ∷ [])
-  pub of_zero : computed (Unary Ineg) i8 (0 ∷ []) ≡ Values (0 ∷ [])
-  pub turned : computed (Unary Bnot) i8 (5 ∷ []) ≡ Values (250 ∷ [])
-  pub product : computed (Binary Imul) i8 (20 ∷ 15 ∷ []) ≡ Values (44 ∷ [])
-  pub both : computed (Binary Band) i8 (12 ∷ 10 ∷ []) ≡ Values (8 ∷ [])
-  pub either : computed (Binary Bor) i8 (12 ∷ 10 ∷ []) ≡ Values (14 ∷ [])
-  pub one_of_two : computed (Binary Bxor) i8 (12 ∷ 10 ∷ []) ≡ Values (6 ∷ [])
+  pub least : computed (Unary Ineg) i8 [] (128 ∷ []) ≡ Values (128 ∷ [])
+  pub of_zero : computed (Unary Ineg) i8 [] (0 ∷ []) ≡ Values (0 ∷ [])
+  pub turned : computed (Unary Bnot) i8 [] (5 ∷ []) ≡ Values (250 ∷ [])
+  pub product : computed (Binary Imul) i8 [] (20 ∷ 15 ∷ []) ≡ Values (44 ∷ [])
+  pub both : computed (Binary Band) i8 [] (12 ∷ 10 ∷ []) ≡ Values (8 ∷ [])
+  pub either : computed (Binary Bor) i8 [] (12 ∷ 10 ∷ []) ≡ Values (14 ∷ [])
+  pub one_of_two : computed (Binary Bxor) i8 [] (12 ∷ 10 ∷ []) ≡ Values (6 ∷ [])
   -- at 8 bits a shift by 9 is a shift by 1; 200 is -56, whose eighth is -7
-  pub left : computed (Binary Ishl) i8 (1 ∷ 9 ∷ []) ≡ Values (2 ∷ [])
-  pub right : computed (Binary Ushr) i8 (200 ∷ 3 ∷ []) ≡ Values (25 ∷ [])
-  pub right_by_sign : computed (Binary Sshr) i8 (200 ∷ 3 ∷ []) ≡ Values (249 ∷ [])
+  pub left : computed (Binary Ishl) i8 [] (1 ∷ 9 ∷ []) ≡ Values (2 ∷ [])
+  pub right : computed (Binary Ushr) i8 [] (200 ∷ 3 ∷ []) ≡ Values (25 ∷ [])
+  pub right_by_sign : computed (Binary Sshr) i8 [] (200 ∷ 3 ∷ []) ≡ Values (249 ∷ [])
   -- -7 / 2 is -3, with remainder -1
-  pub quotient : computed (Binary Udiv) i8 (200 ∷ 7 ∷ []) ≡ Values (28 ∷ [])
-  pub remainder : computed (Binary Urem) i8 (200 ∷ 7 ∷ []) ≡ Values (4 ∷ [])
-  pub signed_quotient : computed (Binary Sdiv) i8 (249 ∷ 2 ∷ []) ≡ Values (253 ∷ [])
-  pub signed_remainder : computed (Binary Srem) i8 (249 ∷ 2 ∷ []) ≡ Values (255 ∷ [])
+  pub quotient : computed (Binary Udiv) i8 [] (200 ∷ 7 ∷ []) ≡ Values (28 ∷ [])
+  pub remainder : computed (Binary Urem) i8 [] (200 ∷ 7 ∷ []) ≡ Values (4 ∷ [])
+  pub signed_quotient : computed (Binary Sdiv) i8 [] (249 ∷ 2 ∷ []) ≡ Values (253 ∷ [])
+  pub signed_remainder : computed (Binary Srem) i8 [] (249 ∷ 2 ∷ []) ≡ Values (255 ∷ [])
   -- the least number by -1
-  pub too_great : computed (Binary Sdiv) i8 (128 ∷ 255 ∷ []) ≡ Fault IntegerOverflow
-  pub none_left : computed (Binary Srem) i8 (128 ∷ 255 ∷ []) ≡ Values (0 ∷ [])
-  pub by_none : computed (Binary Udiv) i8 (7 ∷ 0 ∷ []) ≡ Fault DivisionByZero
-  pub signed_by_none : computed (Binary Sdiv) i8 (128 ∷ 0 ∷ []) ≡ Fault DivisionByZero
+  pub too_great : computed (Binary Sdiv) i8 [] (128 ∷ 255 ∷ []) ≡ Fault IntegerOverflow
+  pub none_left : computed (Binary Srem) i8 [] (128 ∷ 255 ∷ []) ≡ Values (0 ∷ [])
+  pub by_none : computed (Binary Udiv) i8 [] (7 ∷ 0 ∷ []) ≡ Fault DivisionByZero
+  pub signed_by_none : computed (Binary Sdiv) i8 [] (128 ∷ 0 ∷ []) ≡ Fault DivisionByZero
   -- 300 - 256 is 44; 84215045 is 05050505 in hexadecimal
-  pub widened : computed (Convert Uextend) i32 (200 ∷ []) ≡ Values (200 ∷ [])
-  pub narrowed : computed (Convert Ireduce) i8 (300 ∷ []) ≡ Values (44 ∷ [])
-  pub in_each_lane : computed (Convert Splat) i8x4 (5 ∷ []) ≡ Values (84215045 ∷ [])
-  pub chosen : computed Select i8 (7 ∷ 1 ∷ 2 ∷ []) ≡ Values (1 ∷ [])
-  pub other_chosen : computed Select i8 (0 ∷ 1 ∷ 2 ∷ []) ≡ Values (2 ∷ [])
+  pub widened : computed (Convert Uextend) i32 [] (200 ∷ []) ≡ Values (200 ∷ [])
+  pub narrowed : computed (Convert Ireduce) i8 [] (300 ∷ []) ≡ Values (44 ∷ [])
+  pub in_each_lane : computed (Convert Splat) i8x4 [] (5 ∷ []) ≡ Values (84215045 ∷ [])
+  -- 200 is -56 at 8 bits
+  pub sign_repeated : computed (Convert Sextend) i32 (i8 ∷ []) (200 ∷ []) ≡ Values ((2 ^ 32 - 56) ∷ [])
+  pub zeros_repeated : computed (Convert Sextend) i32 (i8 ∷ []) (100 ∷ []) ≡ Values (100 ∷ [])
+  -- -56 is below 5, and 200 isn't
+  pub signed_below : computed (Compare SignedLessThan) i8 [] (200 ∷ 5 ∷ []) ≡ Values (1 ∷ [])
+  pub unsigned_not_below : computed (Compare UnsignedLessThan) i8 [] (200 ∷ 5 ∷ []) ≡ Values (0 ∷ [])
+  pub signed_at_least : computed (Compare SignedGreaterThanOrEqual) i8 [] (200 ∷ 200 ∷ []) ≡ Values (1 ∷ [])
+  pub alike : computed (Compare cc.Equal) i128 [] ((2 ^ 127) ∷ (2 ^ 127) ∷ []) ≡ Values (1 ∷ [])
+  -- 4660 is 18 * 256 + 52
+  pub of_halves : computed Concat i8 [] (52 ∷ 18 ∷ []) ≡ Values (4660 ∷ [])
+  -- the bits of 1.0
+  pub float_bits : computed (FloatConst F32const 0x3f80_0000) invalid [] [] ≡ Values (1065353216 ∷ [])
+  pub chosen : computed Select i8 [] (7 ∷ 1 ∷ 2 ∷ []) ≡ Values (1 ∷ [])
+  pub other_chosen : computed Select i8 [] (0 ∷ 1 ∷ 2 ∷ []) ≡ Values (2 ∷ [])
   -- wrong rows
-  pub not_one : computed (Unary Ineg) i8 (1 ∷ []) ≢ Values (1 ∷ [])
-  pub not_either : computed (Binary Bxor) i8 (12 ∷ 10 ∷ []) ≢ Values (14 ∷ [])
-  pub not_rounded_down : computed (Binary Sdiv) i8 (249 ∷ 2 ∷ []) ≢ Values (252 ∷ [])
+  pub not_one : computed (Unary Ineg) i8 [] (1 ∷ []) ≢ Values (1 ∷ [])
+  pub not_either : computed (Binary Bxor) i8 [] (12 ∷ 10 ∷ []) ≢ Values (14 ∷ [])
+  pub not_extended_by_zeros : computed (Convert Sextend) i32 (i8 ∷ []) (200 ∷ []) ≢ Values (200 ∷ [])
+  pub not_unsigned : computed (Compare SignedLessThan) i8 [] (200 ∷ 5 ∷ []) ≢ Values (0 ∷ [])
+  pub not_halves_swapped : computed Concat i8 [] (52 ∷ 18 ∷ []) ≢ Values (13330 ∷ [])
+  pub not_rounded_down : computed (Binary Sdiv) i8 [] (249 ∷ 2 ∷ []) ≢ Values (252 ∷ [])
 
 -- the byte at an address of a memory that holds 1, 2, 3 .. from an address on
 abbrev pub counting_from : ℕ → Memory

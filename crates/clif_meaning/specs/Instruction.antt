@@ -1,22 +1,33 @@
 -- The one shape of an instruction, for the script's machine and for the function's: what operands are is a parameter,
 -- a name or a value. After Cranelift's `InstructionData`, its opcode and controlling type apart from its operands.
 use Rattle.std.specs.Prelude.{ℕ, List, ℤ}
+use Rattle.clif_opcodes.specs.declared.opcodes.CondTrapOpcode.{CondTrapOpcode}
+use Rattle.clif_opcodes.specs.declared.opcodes.FloatConstOpcode.{FloatConstOpcode}
 use Rattle.clif_opcodes.specs.declared.opcodes.UnaryOpcode.{UnaryOpcode}
 use Rattle.clif_opcodes.specs.declared.opcodes.BinaryOpcode.{BinaryOpcode}
 use Rattle.clif_opcodes.specs.declared.opcodes.ConvertOpcode.{ConvertOpcode}
 use Rattle.clif_opcodes.specs.declared.opcodes.Opcode.{Opcode}
 use Rattle.clif_opcodes.specs.declared.opcodes.Opcode.TheVariants as opcode
 use Rattle.clif_opcodes.specs.Typing.{Row, row_of}
+use Rattle.clif_types.specs.declared.condcodes.IntCC.{IntCC}
+use Rattle.clif_types.specs.declared.trapcode.TrapCode.{TrapCode}
 use Rattle.clif_types.specs.declared.types.«Type».{«Type»}
+use Rattle.clif_types.specs.MemFlags.{MemFlagsShape}
 
 -- operations that compute bits from bits, without memory, world or control
 pub data Arithmetic : Type 0 where
   -- the constant, a number of 64 bits
   Iconst : (number : ℤ) → Arithmetic
+  -- the bits of a float
+  FloatConst : FloatConstOpcode → (bits : ℕ) → Arithmetic
   -- an operation on one operand
   Unary : UnaryOpcode → Arithmetic
   -- an operation on two operands
   Binary : BinaryOpcode → Arithmetic
+  -- 1 if the condition holds of two integers, and else 0
+  Compare : IntCC → Arithmetic
+  -- the integer of twice the width, of its low and its high half
+  Concat : Arithmetic
   -- an operation on one operand, whose result has a type that is given
   Convert : ConvertOpcode → Arithmetic
   -- the second of three operands if the first isn't zero, and else the third
@@ -26,6 +37,14 @@ pub data Arithmetic : Type 0 where
 pub data Operation : Type 0 where
   -- computes its results
   Compute : Arithmetic → Operation
+  -- what is in memory at the address that its operand and the offset make
+  Load : (flags : MemFlagsShape) (offset : ℤ) → Operation
+  -- puts its first operand into memory, at the address that the second one and the offset make
+  Store : (flags : MemFlagsShape) (offset : ℤ) → Operation
+  -- ends the run with a trap
+  Trap : TrapCode → Operation
+  -- does so where its operand is zero, or where it isn't
+  CondTrap : CondTrapOpcode → TrapCode → Operation
   -- goes along its one edge
   Jump : Operation
   -- goes along its first edge where its operand isn't zero, and else along its second
@@ -36,10 +55,17 @@ pub data Operation : Type 0 where
 -- its opcode
 abbrev pub operation_opcode : Operation → Opcode
 operation_opcode (Compute (Iconst number)) = opcode.Iconst
+operation_opcode (Compute (FloatConst name bits)) = opcode.FloatConst name
 operation_opcode (Compute (Unary name)) = opcode.Unary name
 operation_opcode (Compute (Binary name)) = opcode.Binary name
+operation_opcode (Compute (Compare condition)) = opcode.Icmp
+operation_opcode (Compute Concat) = opcode.Iconcat
 operation_opcode (Compute (Convert name)) = opcode.Convert name
 operation_opcode (Compute Select) = opcode.Select
+operation_opcode (Load flags offset) = opcode.Load
+operation_opcode (Store flags offset) = opcode.Store
+operation_opcode (Trap reason) = opcode.Trap
+operation_opcode (CondTrap name reason) = opcode.CondTrap name
 operation_opcode Jump = opcode.Jump
 operation_opcode Brif = opcode.Brif
 operation_opcode Return = opcode.Return

@@ -1,20 +1,30 @@
 -- What an instruction does, from the bits of its operands, memory and the world: the table of the instruction set, by
 -- operation. Both machines read it. After the documentation of Cranelift's instructions.
-use Rattle.std.specs.Prelude.{ℕ, zero, suc, ◌+◌, ◌-◌, ◌*◌, ◌/◌, ◌%◌, ◌^◌, ◌==◌, ◌&&◌, nat_le, not, Bool, if◌then◌else◌, List, [], ◌∷◌, Option, Some, None}
+use Rattle.std.specs.Prelude.{ℕ, ℤ, zero, suc, ◌+◌, ◌-◌, ◌*◌, ◌/◌, ◌%◌, ◌^◌, ◌==◌, ◌&&◌, nat_le, nat_lt, not, Bool, true, if◌then◌else◌, List, [], ◌∷◌, Option, Some, None, slice_index_or}
 use Rattle.std.specs.Int.Bits.{bit_and, bit_or, bit_xor}
 use Rattle.clif_opcodes.specs.declared.opcodes.UnaryOpcode.{UnaryOpcode}
 use Rattle.clif_opcodes.specs.declared.opcodes.UnaryOpcode.TheVariants.{Ineg, Bnot}
 use Rattle.clif_opcodes.specs.declared.opcodes.BinaryOpcode.{BinaryOpcode}
 use Rattle.clif_opcodes.specs.declared.opcodes.BinaryOpcode.TheVariants.{Iadd, Isub, Imul, Band, Bor, Bxor, Ishl, Ushr, Sshr, Udiv, Sdiv, Urem, Srem}
+use Rattle.clif_opcodes.specs.declared.opcodes.CondTrapOpcode.{CondTrapOpcode}
+use Rattle.clif_opcodes.specs.declared.opcodes.CondTrapOpcode.TheVariants.{Trapz, Trapnz}
+use Rattle.clif_opcodes.specs.declared.opcodes.FloatConstOpcode.{FloatConstOpcode}
+use Rattle.clif_opcodes.specs.declared.opcodes.FloatConstOpcode.TheVariants.{F16const, F32const, F64const}
+use Rattle.clif_opcodes.specs.Kinds.{double_of}
+use Rattle.clif_types.specs.declared.condcodes.IntCC.{IntCC}
+use Rattle.clif_types.specs.declared.condcodes.IntCC.TheVariants as cc
+use Rattle.clif_types.specs.declared.types.LaneType.TheVariants as lane
 use Rattle.clif_types.specs.declared.types.«Type».{«Type»}
+use Rattle.clif_types.specs.declared.types.«Type».TheVariants as type
+use Rattle.clif_types.specs.MemFlags.{MemFlagsShape}
 use Rattle.clif_types.specs.declared.trapcode.TrapCode.{TrapCode}
-use Rattle.clif_types.specs.declared.trapcode.TrapCode.TheVariants.{DivisionByZero, IntegerOverflow}
+use Rattle.clif_types.specs.declared.trapcode.TrapCode.TheVariants.{DivisionByZero, HeapOutOfBounds, IntegerOverflow}
 use Rattle.clif_opcodes.specs.declared.opcodes.ConvertOpcode.{ConvertOpcode}
-use Rattle.clif_opcodes.specs.declared.opcodes.ConvertOpcode.TheVariants.{Splat, Uextend, Ireduce}
-use Rattle.clif_types.specs.Types.{bits_of, lane_count_of, lane_type_of}
-use Rattle.clif_meaning.specs.Bits.{Bits, wrapped}
-use Rattle.clif_meaning.specs.Memory.{Memory}
-use Rattle.clif_meaning.specs.Instruction.{Arithmetic, Iconst, Unary, Binary, Convert, Select, Operation, Compute, Jump, Brif, Return}
+use Rattle.clif_opcodes.specs.declared.opcodes.ConvertOpcode.TheVariants.{Splat, Uextend, Sextend, Ireduce}
+use Rattle.clif_types.specs.Types.{bits_of, bytes_of, lane_count_of, lane_type_of}
+use Rattle.clif_meaning.specs.Bits.{Bits, value_bytes, value_of_bytes, wrapped}
+use Rattle.clif_meaning.specs.Memory.{Memory, Range, address_in, bytes_in, written}
+use Rattle.clif_meaning.specs.Instruction.{Arithmetic, Iconst, FloatConst, Unary, Binary, Compare, Concat, Convert, Select, Operation, Compute, Load, Store, Trap, CondTrap, Jump, Brif, Return}
 use Rattle.clif_meaning.specs.Event.{Callee, CallShape}
 use Rattle.clif_meaning.specs.World.{World}
 
@@ -50,6 +60,14 @@ magnitude width x = if is_negative width x then 2 ^ width - x else x
 
 abbrev pub with_sign : ℕ → Bool → ℕ → ℕ
 with_sign width negative number = if negative then 2 ^ width - number else number
+
+-- a number with copies of its sign bit above it, up to a greater width
+abbrev pub sign_extended : (from to : ℕ) → Bits → ℕ
+sign_extended from to x = if is_negative from x then 2 ^ to - (2 ^ from - x) else x
+
+-- a number whose place among all unsigned ones is that of `x` among the signed ones: half of them more
+abbrev pub signed_place : ℕ → Bits → ℕ
+signed_place width x = (x + 2 ^ (width - 1)) % 2 ^ width
 
 -- exactly one of two numbers is negative
 abbrev pub signs_differ : ℕ → Bits → Bits → Bool
@@ -102,26 +120,54 @@ abbrev pub repeated : (count width : ℕ) → Bits → ℕ
 repeated zero width x = 0
 repeated (suc count) width x = x + 2 ^ width * repeated count width x
 
-abbrev pub converted_number : ConvertOpcode → «Type» → Bits → ℕ
-converted_number Splat ty x = repeated (lane_count_of ty) (bits_of (lane_type_of ty)) x
-converted_number Uextend ty x = x
-converted_number Ireduce ty x = x
+abbrev pub converted_number : ConvertOpcode → (from to : «Type») → Bits → ℕ
+converted_number Splat from ty x = repeated (lane_count_of ty) (bits_of (lane_type_of ty)) x
+converted_number Uextend from ty x = x
+converted_number Sextend from ty x = sign_extended (bits_of from) (bits_of ty) x
+converted_number Ireduce from ty x = x
+
+-- Comparisons: whether the condition holds of two integers, at a width.
+abbrev pub compares : IntCC → ℕ → Bits → Bits → Bool
+compares cc.Equal width x y = x == y
+compares cc.NotEqual width x y = not (x == y)
+compares cc.SignedLessThan width x y = nat_lt (signed_place width x) (signed_place width y)
+compares cc.SignedGreaterThanOrEqual width x y = nat_le (signed_place width y) (signed_place width x)
+compares cc.SignedGreaterThan width x y = nat_lt (signed_place width y) (signed_place width x)
+compares cc.SignedLessThanOrEqual width x y = nat_le (signed_place width x) (signed_place width y)
+compares cc.UnsignedLessThan width x y = nat_lt x y
+compares cc.UnsignedGreaterThanOrEqual width x y = nat_le y x
+compares cc.UnsignedGreaterThan width x y = nat_lt y x
+compares cc.UnsignedLessThanOrEqual width x y = nat_le x y
+
+-- the type of a float constant
+abbrev pub float_type : FloatConstOpcode → «Type»
+float_type F16const = type.Lane lane.F16
+float_type F32const = type.Lane lane.F32
+float_type F64const = type.Lane lane.F64
+
+-- the type of the operand at a place; the invalid type where there is none
+abbrev pub operand_type : List «Type» → ℕ → «Type»
+operand_type types place = slice_index_or types place type.Invalid
 
 -- a result, if there is no fault
 abbrev pub unless_fault : Option TrapCode → Bits → Computed
 unless_fault None result = Values (result ∷ [])
 unless_fault (Some reason) result = Fault reason
 
--- The table of arithmetic, by the number of operands, at the controlling type. Another number of operands has no meaning.
-abbrev pub computed : Arithmetic → «Type» → List Bits → Computed
+-- The table of arithmetic, by the number of operands, at the controlling type and the operands' types. Another number of
+-- operands has no meaning.
+abbrev pub computed : Arithmetic → «Type» → List «Type» → List Bits → Computed
 -- the low bits of the constant, or its sign repeated
-computed (Iconst number) ty [] = Values (wrapped (bits_of ty) number ∷ [])
-computed (Unary opcode) ty (x ∷ []) = Values (low_bits_at ty (unary_number opcode (bits_of ty) x) ∷ [])
-computed (Binary opcode) ty (x ∷ y ∷ []) =
+computed (Iconst number) ty types [] = Values (wrapped (bits_of ty) number ∷ [])
+computed (FloatConst opcode bits) ty types [] = Values (low_bits_at (float_type opcode) bits ∷ [])
+computed (Unary opcode) ty types (x ∷ []) = Values (low_bits_at ty (unary_number opcode (bits_of ty) x) ∷ [])
+computed (Binary opcode) ty types (x ∷ y ∷ []) =
     unless_fault (binary_fault opcode (bits_of ty) x y) (low_bits_at ty (binary_number opcode (bits_of ty) x y))
-computed (Convert opcode) ty (x ∷ []) = Values (low_bits_at ty (converted_number opcode ty x) ∷ [])
-computed Select ty (condition ∷ x ∷ y ∷ []) = Values ((if condition == 0 then y else x) ∷ [])
-computed _ ty _ = Undefined
+computed (Compare condition) ty types (x ∷ y ∷ []) = Values ((if compares condition (bits_of ty) x y then 1 else 0) ∷ [])
+computed Concat ty types (low ∷ high ∷ []) = Values (low_bits_at (double_of ty) (low + 2 ^ bits_of ty * high) ∷ [])
+computed (Convert opcode) ty types (x ∷ []) = Values (low_bits_at ty (converted_number opcode (operand_type types 0) ty x) ∷ [])
+computed Select ty types (condition ∷ x ∷ y ∷ []) = Values ((if condition == 0 then y else x) ∷ [])
+computed _ ty types _ = Undefined
 
 -- arithmetic as an instruction: it leaves memory
 abbrev pub outcome_of_computed : Computed → Memory → Outcome
@@ -129,13 +175,46 @@ outcome_of_computed (Values results) memory = Gives results memory
 outcome_of_computed (Fault reason) memory = Traps reason
 outcome_of_computed Undefined memory = NoStep
 
+-- Memory: the bytes that an access at an address with an offset touches, where the access is of one type and the address of
+-- another. Addresses count modulo their width.
+abbrev pub accessed : (access address_type : «Type») → Bits → (offset : ℤ) → Range
+accessed access address_type address offset =
+    let width : ℕ = bits_of address_type in
+    record { width = width; start = (address + wrapped width offset) % 2 ^ width; size = bytes_of access }
+
+-- each of so many bytes from this place of a range on is accessible
+abbrev pub are_accessible : World → Range → ℕ → Bool
+are_accessible world range zero = true
+are_accessible world range (suc count) = world.is_accessible (address_in range count) && are_accessible world range count
+
+-- An access with these flags: where it is said to be aligned and isn't, there is no meaning; where a byte of it isn't
+-- accessible, it traps, except if it is said that it doesn't: then there is no meaning either.
+abbrev pub access_outcome : World → MemFlagsShape → Range → Outcome → Outcome
+access_outcome world flags range outcome =
+    if flags.aligned && not (range.start % range.size == 0) then NoStep
+    else (if are_accessible world range range.size then outcome else (if flags.notrap then NoStep else Traps HeapOutOfBounds))
+
+-- a trap under a condition
+abbrev pub traps_on : CondTrapOpcode → Bits → Bool
+traps_on Trapz condition = condition == 0
+traps_on Trapnz condition = not (condition == 0)
+
 -- the edge that a condition takes: the first one where it isn't zero, and else the second
 abbrev pub edge_by : Bits → ℕ
 edge_by condition = if condition == 0 then 1 else 0
 
 -- the table of operations: world, controlling type, the operands' types and bits, memory
 abbrev pub outcome_of : World → Operation → «Type» → List «Type» → List Bits → Memory → Outcome
-outcome_of world (Compute arithmetic) ty types operands memory = outcome_of_computed (computed arithmetic ty operands) memory
+outcome_of world (Compute arithmetic) ty types operands memory = outcome_of_computed (computed arithmetic ty types operands) memory
+outcome_of world (Load flags offset) ty types (address ∷ []) memory =
+    let range : Range = accessed ty (operand_type types 0) address offset in
+    access_outcome world flags range (Gives (low_bits_at ty (value_of_bytes (bytes_in memory range)) ∷ []) memory)
+outcome_of world (Store flags offset) ty types (stored ∷ address ∷ []) memory =
+    let range : Range = accessed ty (operand_type types 1) address offset in
+    access_outcome world flags range (Gives [] (written memory range (value_bytes range.size stored)))
+outcome_of world (Trap reason) ty types [] memory = Traps reason
+outcome_of world (CondTrap opcode reason) ty types (condition ∷ []) memory =
+    if traps_on opcode condition then Traps reason else Gives [] memory
 outcome_of world Jump ty types [] memory = Goes 0 [] memory
 outcome_of world Brif ty types (condition ∷ []) memory = Goes (edge_by condition) [] memory
 outcome_of world Return ty types operands memory = Returns operands

@@ -4,16 +4,13 @@ use Rattle.std.specs.List.{AllByRecursion}
 use Rattle.clif_types.specs.declared.types.«Type».{«Type»}
 use Rattle.clif_opcodes.specs.Kinds.{is_met}
 use Rattle.clif_opcodes.specs.Typing.{FitOperands, Row}
-use Rattle.clif_meaning.specs.Instruction.{Operation, operation_typing, Compute, Jump, Brif, Return, Argument, Known, CallResult, CallPayload, Edge, Instruction}
+use Rattle.clif_meaning.specs.Instruction.{Operation, operation_typing, Argument, Known, CallResult, CallPayload, Edge, Instruction}
 use Rattle.clif_meaning.specs.Event.{CallShape, types_of, payload_types}
 use Rattle.clif_meaning.specs.FunctionView.{FunctionView}
 
 -- The table of operations: the shape of the call that it makes, if it makes one. No operation does so far.
 abbrev pub call_shape : Operation → Option CallShape
-call_shape (Compute arithmetic) = None
-call_shape Jump = None
-call_shape Brif = None
-call_shape Return = None
+call_shape _ = None
 
 -- the type of what an edge passes, where the call at its start gives results and a payload of these types there. What
 -- the call doesn't give there has none.

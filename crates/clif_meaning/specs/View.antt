@@ -1,15 +1,19 @@
 -- A function of `clif_ir` as the machines see it: its instructions in the one shape. Own.
-use Rattle.std.specs.Prelude.{ℕ, ◌==◌, if◌then◌else◌, List, [], ◌∷◌, map, slice_get}
+use Rattle.std.specs.Prelude.{ℕ, ◌==◌, if◌then◌else◌, List, [], ◌∷◌, drop, map, slice_get}
 use Rattle.std.specs.List.{list_any}
 use Rattle.clif_types.specs.declared.types.«Type».{«Type»}
 use Rattle.clif_types.specs.declared.types.«Type».TheVariants as type
 use Rattle.clif_instructions.specs.declared.instructions.InstructionData.{InstructionData}
-use Rattle.clif_instructions.specs.declared.instructions.InstructionData.TheVariants.{UnaryImm, Unary, Binary, Convert, Ternary, Jump, Brif, MultiAry}
+use Rattle.clif_instructions.specs.declared.instructions.InstructionData.TheVariants.{UnaryImm, UnaryIeee, Unary, Binary, IntCompare, Concat, Convert, Ternary, Load, Store, Jump, Brif, MultiAry, Trap, CondTrap}
 use Rattle.clif_ir.specs.declared.function.InstNode.{InstNode}
 use Rattle.clif_instructions.specs.declared.block_call.BlockArg.{BlockArg}
 use Rattle.clif_instructions.specs.declared.block_call.BlockArg.TheVariants as arg
 use Rattle.clif_instructions.specs.declared.block_call.BlockCall.{BlockCall}
-use Rattle.clif_instructions.specs.Instruction.{operands, destinations}
+use Rattle.clif_instructions.specs.Instruction.{operands, destinations, typing_of}
+use Rattle.clif_opcodes.specs.declared.kinds.Control.{Control}
+use Rattle.clif_opcodes.specs.declared.kinds.Control.TheVariants as control
+use Rattle.clif_opcodes.specs.declared.kinds.ResultKind.{ResultKind}
+use Rattle.clif_opcodes.specs.declared.kinds.ResultKind.TheVariants as kind
 use Rattle.clif_ir.specs.Body.{Body, value_at, inst_at, block_at, resolved}
 use Rattle.clif_meaning.specs.Instruction.{Operation, Compute, Iconst, Return, Edge, Argument, Known, CallResult, CallPayload}
 use Rattle.clif_meaning.specs.Instruction as operation
@@ -18,13 +22,20 @@ use Rattle.clif_meaning.specs.FunctionView.{Placed, BlockView, FunctionView}
 -- The table of instructions: what each one does,
 abbrev pub operation_of : InstructionData → Operation
 operation_of (UnaryImm imm) = Compute (Iconst imm)
+operation_of (UnaryIeee opcode bits) = Compute (operation.FloatConst opcode bits)
 operation_of (Unary opcode arg) = Compute (operation.Unary opcode)
 operation_of (Binary opcode args) = Compute (operation.Binary opcode)
+operation_of (IntCompare condition args) = Compute (operation.Compare condition)
+operation_of (Concat args) = Compute operation.Concat
 operation_of (Convert opcode arg) = Compute (operation.Convert opcode)
 operation_of (Ternary args) = Compute operation.Select
+operation_of (Load flags arg offset) = operation.Load flags offset
+operation_of (Store flags args offset) = operation.Store flags offset
 operation_of (Jump destination) = operation.Jump
 operation_of (Brif arg blocks) = operation.Brif
 operation_of (MultiAry args) = Return
+operation_of (Trap reason) = operation.Trap reason
+operation_of (CondTrap opcode arg reason) = operation.CondTrap opcode reason
 
 -- what an edge passes,
 abbrev pub argument_of : BlockArg → Argument ℕ
@@ -45,16 +56,15 @@ abbrev pub first_type : Body → List ℕ → «Type»
 first_type body [] = type.Invalid
 first_type body (value ∷ values) = (value_at body value).ty
 
--- The table of instructions: the type that each one is made at.
+-- the type that an instruction is made at, by its row of the typing table: that of its first result, if this has it, and
+-- else that of the operand that tells it
+abbrev pub controlled : Body → List ResultKind → Control → (operands results : List ℕ) → «Type»
+controlled body (kind.Controlling ∷ kinds) how operands results = first_type body results
+controlled body _ (control.Operand place) operands results = first_type body (drop place operands)
+controlled body _ _ operands results = type.Invalid
+
 abbrev pub controlling_of : Body → InstructionData → List ℕ → «Type»
-controlling_of body (UnaryImm imm) results = first_type body results
-controlling_of body (Unary opcode arg) results = first_type body results
-controlling_of body (Binary opcode args) results = first_type body results
-controlling_of body (Convert opcode arg) results = first_type body results
-controlling_of body (Ternary args) results = first_type body results
-controlling_of body (Jump destination) results = type.Invalid
-controlling_of body (Brif arg blocks) results = (value_at body arg).ty
-controlling_of body (MultiAry args) results = type.Invalid
+controlling_of body shape results = controlled body (typing_of shape).results (typing_of shape).control (operands shape) results
 
 -- an instruction with its results. There are no stack maps so far.
 abbrev pub placed_of : Body → InstNode → Placed
