@@ -66,6 +66,15 @@ controlled body _ _ operands results = type.Invalid
 abbrev pub controlling_of : Body → InstructionData → List ℕ → «Type»
 controlling_of body shape results = controlled body (typing_of shape).results (typing_of shape).control (operands shape) results
 
+-- the same before it is made, where a type is given with it
+abbrev pub made_with : Body → List ResultKind → Control → (operands : List ℕ) → «Type» → «Type»
+made_with body (kind.Controlling ∷ kinds) how operands ty = ty
+made_with body _ (control.Operand place) operands ty = first_type body (drop place operands)
+made_with body _ _ operands ty = type.Invalid
+
+abbrev pub made_at : Body → InstructionData → «Type» → «Type»
+made_at body shape ty = made_with body (typing_of shape).results (typing_of shape).control (operands shape) ty
+
 -- an instruction with its results. There are no stack maps so far.
 abbrev pub placed_of : Body → InstNode → Placed
 placed_of body node = record {

@@ -34,6 +34,7 @@ use Rattle.clif_simulation.proofs.Unbranched.{CarriesUnbranched, PlainlyEarlier}
 use Rattle.clif_simulation.proofs.Giving.{In, in_contained, name_keeps, value_keeps, same_or_other}
 use Rattle.clif_simulation.proofs.Agreement.{any_value, Agrees, GivesThere, given_agrees, UsesThere, used_agrees, AssignsThere, assigned_agrees}
 use Rattle.clif_simulation.proofs.Straight.{next_arm, straight, straight_end, straight_follows, visits_so_far, absent_name, absent_value, same_step}
+use Rattle.clif_simulation.proofs.OperandTypes.{OutcomesAlike}
 use Rattle.clif_simulation.proofs.Matching.{item_here, rest_behind, same_bits, IsPlain, outcome_plain, same_outcomes}
 use Rattle.clif_simulation.proofs.Listed.{all_at, place_within}
 use Rattle.clif_simulation.proofs.Ended.{with_ends_only, defined-end, is-end, denotes-end, name_stays, value_stays, visited_place}
@@ -81,7 +82,7 @@ mapped_count g (x ∷ xs) = ap suc (mapped_count g xs)
 module _ (calls : List AnsweredCall) (f : Body) (ssa : SsaState) (consistent : IsConsistent f) (carries : CarriesUnbranched calls f ssa)
     (entry : Name) (is_entry : (program_so_far calls).entry ≡ Some entry) (placed : IsWellPlaced (program_code (program_so_far calls)))
     (sealed : ℕ → Bool) (joins : Edges) (opens : Opens carries.whole.tables (Entry.e calls f ssa carries entry is_entry) sealed joins)
-    (width : PointerWidth) (world : World) (tracked : Name → Bool) (collector : Collector)
+    (width : PointerWidth) (world : World) (tracked : Name → Bool) (collector : Collector) (alike : OutcomesAlike calls f world)
   where
     abbrev pub left_run : ScriptRun
     left_run = script_run_so_far calls f world tracked
@@ -475,7 +476,7 @@ module _ (calls : List AnsweredCall) (f : Body) (ssa : SsaState) (consistent : I
         let outcome : Outcome = outcome_of world instruction.operation instruction.controlling (map left_run.name_type instruction.operands) (map p.names instruction.operands) p.memory in
         let same : outcome_of world instruction.operation instruction.controlling (map right_run.function.value_type (map (answered calls) instruction.operands)) (map (value_bits right_run q) (map (answered calls) instruction.operands)) q.memory
         ≡ outcome_of world instruction.operation instruction.controlling (map left_run.name_type instruction.operands) (map p.names instruction.operands) p.memory =
-        same_outcomes world instruction.operation instruction.controlling _ _ _ _ _ _ operands a.same_memory in
+        same_outcomes world instruction.operation instruction.controlling _ _ _ _ _ _ (alike entry k place instruction results stands) operands a.same_memory in
         let function_here : q.control ≡ At (answered_placed instruction results ∷ flat_map (carried calls) rest) =
         a.function_at ∙ ap (λ (ahead : List Item). At (flat_map (carried calls) ahead)) here in
         let right_is : function_machine_of.function_step right_run q ≡ function_machine_of.carry_out right_run q (answered_placed instruction results) (flat_map (carried calls) rest) outcome =

@@ -1,6 +1,6 @@
 -- An instruction that succeeds leaves a function that carries it.
 use Rattle.std.proofs.Common.{◌≡◌, ◌≢◌, ℕ, zero, suc, ◌+◌, ◌<◌, List, [], ◌∷◌, ◌++◌, length, map, get_or, refl, sym, ◌∙◌, ap, ap₂, subst, arith, Some, None, ◌⊎◌, inl, inr, true, false}
-use Rattle.std.specs.Prelude.{slice_get, slice_index_or, Contains, IsTrue, Option}
+use Rattle.std.specs.Prelude.{slice_get, slice_index, slice_index_or, Contains, IsTrue, Option}
 use Rattle.std.proofs.lemmas.Option.{slice_get_within}
 use Rattle.std.specs.List.{AllByRecursion}
 use Rattle.std.proofs.Math.Decide.{ℕ_discrete}
@@ -15,6 +15,9 @@ use Rattle.clif_ir.specs.declared.function.InstNode.{InstNode}
 use Rattle.clif_ir.specs.declared.function.ValueNode.{ValueNode}
 use Rattle.clif_ir.specs.declared.function.BlockNode.{BlockNode}
 use Rattle.clif_instructions.specs.Instruction.{operands, destinations}
+use Rattle.clif_instructions.specs.Instruction as shapes
+use Rattle.clif_opcodes.specs.Kinds.{result_type}
+use Rattle.clif_opcodes.specs.declared.kinds.ResultKind.{ResultKind}
 use Rattle.clif_instructions.specs.Edges.{targets}
 use Rattle.clif_ir.specs.Body.{Body, no_value, inst_at}
 use Rattle.clif_ir.specs.Consistent.{IsConsistent}
@@ -41,14 +44,14 @@ use Rattle.clif_meaning.specs.Request.{Build, AnsweredCall, script_of}
 use Rattle.clif_meaning.specs.Ledger.{AnInstruction, AValue, answers_to, is_filled, is_terminator, ledger_after, value_answer_type}
 use Rattle.clif_meaning.specs.Program.{Item, Instruct, result_types, answers_from, first_block}
 use Rattle.clif_meaning.specs.FunctionView.{Placed}
-use Rattle.clif_meaning.specs.View.{argument_of, edge_of, edges_of, operation_of, controlling_of, first_type}
+use Rattle.clif_meaning.specs.View.{argument_of, edge_of, edges_of, operation_of, controlling_of, first_type, made_at}
 use Rattle.clif_simulation.specs.Tables.{code, answered, block_name, program_so_far}
 use Rattle.clif_simulation.specs.Carries.{AreDeclared, AreTypes, Carries, DeclaredAlong, EdgeEarlier, HasEntry, Holds, IsCurrent, IsEarlier, LeadsOwn, SoundOnPaths, SparesBlock, SparesEntry, answered_edge, as_passed, carried, own_placed}
 use Rattle.clif_simulation.proofs.Calls.{inserted_soundly, longer_calls, name_stays, open_kept, opened, plain, structured_so_far, values_same}
 use Rattle.clif_simulation.proofs.Carrying.{all_contained, all_mapped, earlier_name, edge_earlier, edges_kept, holds_item, item_last, leads_kept, numbers_kept, spares_item}
 use Rattle.clif_simulation.proofs.Extending.{extended, one_answer}
 use Rattle.clif_simulation.proofs.Giving.{In, contained_in}
-use Rattle.clif_simulation.proofs.Growing.{GoesOn, KeepsInsts, goes_on-from, goes_on-with_inst, insts_inserted, insts_kept}
+use Rattle.clif_simulation.proofs.Growing.{GoesOn, KeepsInsts, goes_on-from, goes_on-with_inst, insts_inserted, insts_kept, made_controlled}
 use Rattle.clif_simulation.proofs.ItemCalls.{PutsItem, adds_instruction, adds_result, last-with_item, number_of_answer}
 use Rattle.clif_simulation.proofs.Layouts.{out_before, never_out}
 use Rattle.clif_simulation.proofs.LedgerValues.{typed_on}
@@ -142,6 +145,17 @@ target_contained edges k target to = (k, slice_get_within (targets edges) k targ
     slice_get_or (y ∷ xs) zero x is = cc
     slice_get_or (y ∷ xs) (suc k) x is = slice_get_or xs k x is
 
+-- the first result of a new instruction has the first type
+node_after : (values : List ValueNode) (node : ValueNode) (nodes : List ValueNode) → get_or (values ++ node ∷ nodes) (length values) no_value ≡ node
+node_after [] node nodes = refl
+node_after (v ∷ values) node nodes = node_after values node nodes
+
+first_new : (h : Body) (b : ℕ) (shape : InstructionData) (types : List «Type») (loc : ℕ) (t : «Type») (ts : List «Type») → types ≡ t ∷ ts
+    → first_type (with_inst h b Back shape types loc) (inst_node h b shape types loc).results ≡ t
+first_new h b shape types loc t ts is =
+    ap (λ (us : List «Type»). first_type (with_inst h b Back shape us loc) (inst_node h b shape us loc).results) is
+    ∙ ap (λ (node : ValueNode). node.ty) (node_after h.values _ _)
+
 module _ (calls : List AnsweredCall) (f : Body) (s : SsaState) (c : Carries calls f s) (consistent : IsConsistent f)
     (b : ℕ) (B : Name) (current : IsCurrent calls b B) (unfilled : is_filled (ledger_after (script_of calls)) B ≡ false) (there : b < length f.blocks)
     (shape : InstructionData) (instruction : Instruction Name Name) (loc : ℕ) (numbers : List ℕ) where
@@ -225,6 +239,13 @@ module _ (calls : List AnsweredCall) (f : Body) (s : SsaState) (c : Carries call
 
     keeps : KeepsInsts f g
     keeps = insts_kept f g consistent on
+
+    -- it is made at the type that is told with it
+    pub made_controlling : (ty : «Type») → types ≡ shapes.result_types shape ty → ((k : ℕ) → k < length (operands shape) → slice_index (operands shape) k < length f.values)
+        → controlling_of g shape (inst_node h b shape types loc).results ≡ made_at f shape ty
+    made_controlling ty typed operands_exist =
+        made_controlled f g on (shapes.typing_of shape).results (shapes.typing_of shape).control (operands shape) (inst_node h b shape types loc).results ty operands_exist
+        (λ first others is. first_new h b shape types loc (result_type ty first) (map (result_type ty) others) (typed ∙ ap (map (result_type ty)) is))
 
     longer_insts : i < length g.insts
     longer_insts = grind (arith, common_steps)
@@ -451,8 +472,8 @@ module _ (calls : List AnsweredCall) (f : Body) (s : SsaState) (c : Carries call
 
   -- WITH ONE RESULT -----------------------------------------------------------------------------------------------------
 
-  module _ (matches : SameInstruction calls shape instruction) (ty : «Type») (one_result : result_types instruction.operation instruction.controlling ≡ ty ∷ []) (controlling : instruction.controlling ≡ ty)
-      (by_result : (g : Body) (values : List ℕ) → controlling_of g shape values ≡ first_type g values) (number : slice_get numbers 1 ≡ Some (length h.values)) where
+  module _ (matches : SameInstruction calls shape instruction) (ty : «Type») (one_result : result_types instruction.operation instruction.controlling ≡ ty ∷ [])
+      (controlling : controlling_of (with_inst h b Back shape (ty ∷ []) loc) shape (length h.values ∷ []) ≡ instruction.controlling) (number : slice_get numbers 1 ≡ Some (length h.values)) where
     abbrev k : Body
     k = with_inst h b Back shape (ty ∷ []) loc
 
@@ -466,15 +487,11 @@ module _ (calls : List AnsweredCall) (f : Body) (s : SsaState) (c : Carries call
     puts_result = subst (λ (types : List «Type»). PutsItem calls call B (Instruct (length calls) instruction (answers_from (length calls) 1 types))) one_result
         (Requests.puts_instruction calls call B current.current instruction refl)
 
-    last_type : (values : List ValueNode) (node : ValueNode) → (get_or (values ++ node ∷ []) (length values) no_value) ≡ node
-    last_type [] node = refl
-    last_type (v ∷ values) node = last_type values node
-
     result_is : map (own_placed mine k) (i ∷ []) ≡ carried after (Instruct (length calls) instruction (result ∷ []))
     result_is =
         own_new (ty ∷ []) matches.operation (matches.arguments ∙ sym (numbers_kept calls call instruction.operands matches.earlier))
         (matches.no_edges ∙ sym (ap (map (answered_edge after)) matches.edges)) (result ∷ [])
-        (by_result k (length h.values ∷ []) ∙ ap (λ (node : ValueNode). node.ty) (last_type h.values _) ∙ sym controlling)
+        controlling
         (ap (λ (v : ℕ). v ∷ []) (number_of_answer calls call 1 (length h.values) number))
 
     given_result : (index : ℕ) → IsTrue (is_value_at (AnInstruction ∷ map AValue (result_types instruction.operation instruction.controlling)) index) → Contains (result ∷ []) (answer_of (length calls) index)
@@ -515,7 +532,7 @@ module _ (calls : List AnsweredCall) (f : Body) (s : SsaState) (c : Carries call
         by (suc zero) h =
             let same : ty ≡ a = some_is ty a h in
             subst (λ (v : ℕ). HasType k v a) (number_of_answer calls call 1 (length h'.values) number)
-            (grind (arith, common_steps), ap (λ (node : ValueNode). node.ty) (last_type h'.values _) ∙ same)
+            (grind (arith, common_steps), ap (λ (node : ValueNode). node.ty) (node_after h'.values _ []) ∙ same)
           where
             h' : Body
             h' = inserted_in f b

@@ -1,19 +1,22 @@
 -- An instruction of a script's program gives as many names as it gives bits.
 use Rattle.std.proofs.Common.{◌≡◌, ℕ, zero, suc, if◌then◌else◌, Bool, true, false, List, [], ◌∷◌, ◌++◌, length, fold, slice_get, Option, Some, None, refl, sym, ◌∙◌, ap, subst}
-use Rattle.std.specs.Prelude.{IsTrue}
+use Rattle.std.specs.Prelude.{IsTrue, ◌==◌, ◌&&◌, ◌%◌, not}
 use Rattle.std.specs.List.{AllByRecursion}
 use Rattle.clif_types.specs.declared.types.«Type».{«Type»}
 use Rattle.clif_types.specs.declared.trapcode.TrapCode.{TrapCode}
+use Rattle.clif_types.specs.declared.trapcode.TrapCode.TheVariants.{HeapOutOfBounds}
 use Rattle.clif_types.specs.Types.{bits_of}
 use Rattle.clif_meaning.specs.Bits.{Bits}
-use Rattle.clif_meaning.specs.Memory.{Memory}
+use Rattle.clif_meaning.specs.Memory.{Memory, Range}
 use Rattle.clif_meaning.specs.Name.{Name, same_name, answer_of}
-use Rattle.clif_meaning.specs.Instruction.{Instruction, Operation, Compute, Jump, Brif, Return, Arithmetic, Iconst, Unary, Binary, Convert, Select}
+use Rattle.clif_opcodes.specs.declared.opcodes.FloatConstOpcode.TheVariants.{F16const, F32const, F64const}
+use Rattle.clif_types.specs.MemFlags.{MemFlagsShape}
+use Rattle.clif_meaning.specs.Instruction.{Instruction, Operation, Compute, Load, Store, Trap, CondTrap, Jump, Brif, Return, Arithmetic, Iconst, FloatConst, Unary, Binary, Compare, Concat, Convert, Select}
 use Rattle.clif_meaning.specs.Request.{Request, Script}
 use Rattle.clif_meaning.specs.Program.{Program, Item, Instruct, Use, Assign, result_types, result_names, answers_from, with_item_at, with_inserted, extended, with_call, empty_program, program_of}
 use Rattle.clif_meaning.specs.Ledger.{is_terminator}
 use Rattle.clif_meaning.specs.World.{World}
-use Rattle.clif_meaning.specs.Outcome.{Outcome, Gives, Goes, Returns, Traps, Calls, NoStep, binary_fault, binary_number, computed, low_bits_at, outcome_of_computed, outcome_of, unless_fault}
+use Rattle.clif_meaning.specs.Outcome.{Outcome, Gives, Goes, Returns, Traps, Calls, NoStep, access_outcome, are_accessible, binary_fault, binary_number, computed, traps_on, low_bits_at, outcome_of_computed, outcome_of, unless_fault}
 use Rattle.clif_simulation.proofs.Effects.{ProgramEffect, program_effect, Leaves, Inserts, Takes, Switches, Assigns, Uses, Builds}
 
 -- an instruction gives the names of its results
@@ -89,39 +92,75 @@ one_unless : (fault : Option TrapCode) (bits : Bits) (memory : Memory) → Gives
 one_unless None bits memory = refl
 one_unless (Some reason) bits memory = tt
 
-counted_arithmetic : (arithmetic : Arithmetic) (ty : «Type») (operands : List Bits) (memory : Memory)
-    → GivesCount 1 (outcome_of_computed (computed arithmetic ty operands) memory)
-counted_arithmetic (Iconst number) ty [] memory = refl
-counted_arithmetic (Iconst number) ty (x ∷ operands) memory = tt
-counted_arithmetic (Unary opcode) ty [] memory = tt
-counted_arithmetic (Unary opcode) ty (x ∷ []) memory = refl
-counted_arithmetic (Unary opcode) ty (x ∷ y ∷ operands) memory = tt
-counted_arithmetic (Binary opcode) ty [] memory = tt
-counted_arithmetic (Binary opcode) ty (x ∷ []) memory = tt
-counted_arithmetic (Binary opcode) ty (x ∷ y ∷ []) memory =
+counted_arithmetic : (arithmetic : Arithmetic) (ty : «Type») (types : List «Type») (operands : List Bits) (memory : Memory)
+    → GivesCount 1 (outcome_of_computed (computed arithmetic ty types operands) memory)
+counted_arithmetic (Binary opcode) ty types [] memory = tt
+counted_arithmetic (Binary opcode) ty types (x ∷ []) memory = tt
+counted_arithmetic (Binary opcode) ty types (x ∷ y ∷ []) memory =
     one_unless (binary_fault opcode (bits_of ty) x y) (low_bits_at ty (binary_number opcode (bits_of ty) x y)) memory
-counted_arithmetic (Binary opcode) ty (x ∷ y ∷ z ∷ operands) memory = tt
-counted_arithmetic (Convert opcode) ty [] memory = tt
-counted_arithmetic (Convert opcode) ty (x ∷ []) memory = refl
-counted_arithmetic (Convert opcode) ty (x ∷ y ∷ operands) memory = tt
-counted_arithmetic Select ty [] memory = tt
-counted_arithmetic Select ty (c ∷ []) memory = tt
-counted_arithmetic Select ty (c ∷ x ∷ []) memory = tt
-counted_arithmetic Select ty (c ∷ x ∷ y ∷ []) memory = refl
-counted_arithmetic Select ty (c ∷ x ∷ y ∷ z ∷ operands) memory = tt
+counted_arithmetic (Binary opcode) ty types (x ∷ y ∷ z ∷ operands) memory = tt
+counted_arithmetic (Iconst number) ty types [] memory = refl
+counted_arithmetic (Iconst number) ty types (x ∷ operands) memory = tt
+counted_arithmetic (FloatConst opcode bits) ty types [] memory = refl
+counted_arithmetic (FloatConst opcode bits) ty types (x ∷ operands) memory = tt
+counted_arithmetic (Unary opcode) ty types [] memory = tt
+counted_arithmetic (Unary opcode) ty types (x ∷ []) memory = refl
+counted_arithmetic (Unary opcode) ty types (x ∷ y ∷ operands) memory = tt
+counted_arithmetic (Compare condition) ty types [] memory = tt
+counted_arithmetic (Compare condition) ty types (x ∷ []) memory = tt
+counted_arithmetic (Compare condition) ty types (x ∷ y ∷ []) memory = refl
+counted_arithmetic (Compare condition) ty types (x ∷ y ∷ z ∷ operands) memory = tt
+counted_arithmetic Concat ty types [] memory = tt
+counted_arithmetic Concat ty types (x ∷ []) memory = tt
+counted_arithmetic Concat ty types (x ∷ y ∷ []) memory = refl
+counted_arithmetic Concat ty types (x ∷ y ∷ z ∷ operands) memory = tt
+counted_arithmetic (Convert opcode) ty types [] memory = tt
+counted_arithmetic (Convert opcode) ty types (x ∷ []) memory = refl
+counted_arithmetic (Convert opcode) ty types (x ∷ y ∷ operands) memory = tt
+counted_arithmetic Select ty types [] memory = tt
+counted_arithmetic Select ty types (c ∷ []) memory = tt
+counted_arithmetic Select ty types (c ∷ x ∷ []) memory = tt
+counted_arithmetic Select ty types (c ∷ x ∷ y ∷ []) memory = refl
+counted_arithmetic Select ty types (c ∷ x ∷ y ∷ z ∷ operands) memory = tt
 
 one_type : (arithmetic : Arithmetic) (ty : «Type») → length (result_types (Compute arithmetic) ty) ≡ 1
-one_type (Iconst number) ty = refl
-one_type (Unary opcode) ty = refl
-one_type (Binary opcode) ty = refl
-one_type (Convert opcode) ty = refl
-one_type Select ty = refl
+one_type (FloatConst F16const bits) ty = refl
+one_type (FloatConst F32const bits) ty = refl
+one_type (FloatConst F64const bits) ty = refl
+one_type _ ty = refl
+
+counted_access : (count : ℕ) (world : World) (flags : MemFlagsShape) (range : Range) (outcome : Outcome) → GivesCount count outcome
+    → GivesCount count (access_outcome world flags range outcome)
+counted_access count world flags range outcome counts =
+    by (flags.aligned && not (range.start % range.size == 0)) (are_accessible world range range.size) flags.notrap
+  where
+    by : (misaligned accessible notrap : Bool) → GivesCount count (if misaligned then NoStep else (if accessible then outcome else (if notrap then NoStep else Traps HeapOutOfBounds)))
+    by true accessible notrap = tt
+    by false true notrap = counts
+    by false false true = tt
+    by false false false = tt
+
+counted_trap : (traps : Bool) (reason : TrapCode) (memory : Memory) → GivesCount 0 (if traps then Traps reason else Gives [] memory)
+counted_trap true reason memory = tt
+counted_trap false reason memory = refl
 
 counted_outcome : (world : World) (operation : Operation) (ty : «Type») (types : List «Type») (operands : List Bits) (memory : Memory)
     → GivesCount (length (result_types operation ty)) (outcome_of world operation ty types operands memory)
 counted_outcome world (Compute arithmetic) ty types operands memory =
-    subst (λ (n : ℕ). GivesCount n (outcome_of_computed (computed arithmetic ty operands) memory)) (sym (one_type arithmetic ty))
-    (counted_arithmetic arithmetic ty operands memory)
+    subst (λ (n : ℕ). GivesCount n (outcome_of_computed (computed arithmetic ty types operands) memory)) (sym (one_type arithmetic ty))
+    (counted_arithmetic arithmetic ty types operands memory)
+counted_outcome world (Load flags offset) ty types [] memory = tt
+counted_outcome world (Load flags offset) ty types (address ∷ []) memory = counted_access 1 world flags _ (Gives (_ ∷ []) memory) refl
+counted_outcome world (Load flags offset) ty types (address ∷ x ∷ operands) memory = tt
+counted_outcome world (Store flags offset) ty types [] memory = tt
+counted_outcome world (Store flags offset) ty types (stored ∷ []) memory = tt
+counted_outcome world (Store flags offset) ty types (stored ∷ address ∷ []) memory = counted_access 0 world flags _ (Gives [] _) refl
+counted_outcome world (Store flags offset) ty types (stored ∷ address ∷ x ∷ operands) memory = tt
+counted_outcome world (Trap reason) ty types [] memory = tt
+counted_outcome world (Trap reason) ty types (x ∷ operands) memory = tt
+counted_outcome world (CondTrap opcode reason) ty types [] memory = tt
+counted_outcome world (CondTrap opcode reason) ty types (condition ∷ []) memory = counted_trap (traps_on opcode condition) reason memory
+counted_outcome world (CondTrap opcode reason) ty types (condition ∷ x ∷ operands) memory = tt
 counted_outcome world Jump ty types [] memory = tt
 counted_outcome world Jump ty types (x ∷ operands) memory = tt
 counted_outcome world Brif ty types [] memory = tt
@@ -143,11 +182,14 @@ pub terminator_gives_none : (place : ℕ) (instruction : Instruction Name Name) 
 terminator_gives_none place instruction ends = ap (answers_from place 1) (none instruction.operation ends)
   where
     none : (operation : Operation) → IsTrue (is_terminator operation) → result_types operation instruction.controlling ≡ []
-    none (Compute (Iconst number)) ends = cc
-    none (Compute (Unary opcode)) ends = cc
-    none (Compute (Binary opcode)) ends = cc
-    none (Compute (Convert opcode)) ends = cc
-    none (Compute Select) ends = cc
+    none (Compute (FloatConst F16const bits)) ends = cc
+    none (Compute (FloatConst F32const bits)) ends = cc
+    none (Compute (FloatConst F64const bits)) ends = cc
+    none (Compute _) ends = cc
+    none (Load flags offset) ends = cc
+    none (Store flags offset) ends = refl
+    none (Trap reason) ends = refl
+    none (CondTrap opcode reason) ends = refl
     none Jump ends = refl
     none Brif ends = refl
     none Return ends = refl

@@ -1,6 +1,6 @@
 -- A function that goes on keeps the caller's instructions, as the machine sees them, though their edges may pass more.
-use Rattle.std.proofs.Common.{◌≡◌, ℕ, suc, ◌<◌, ◌≤◌, ◌==◌, List, [], ◌∷◌, ◌++◌, length, map, refl, sym, ◌∙◌, ap, ap₂, subst, arith, Bool, true, false, inl, inr}
-use Rattle.std.specs.Prelude.{slice_get, slice_index, if◌then◌else◌}
+use Rattle.std.proofs.Common.{◌≡◌, ℕ, zero, suc, ◌<◌, ◌≤◌, ◌==◌, List, [], ◌∷◌, ◌++◌, length, map, refl, sym, ◌∙◌, ap, ap₂, subst, arith, Bool, true, false, inl, inr}
+use Rattle.std.specs.Prelude.{drop, slice_get, slice_index, if◌then◌else◌}
 use Rattle.std.proofs.Math.ListN.{get_or-append}
 use Rattle.std.proofs.lemmas.Grind.{common_steps}
 use Rattle.clif_types.specs.declared.types.«Type».{«Type»}
@@ -11,9 +11,14 @@ use Rattle.clif_ir.specs.declared.function.InstNode.{InstNode}
 use Rattle.clif_ir.specs.declared.function.ValueNode.{ValueNode}
 use Rattle.clif_instructions.specs.declared.inst_list.InsertAt.{InsertAt}
 use Rattle.clif_instructions.specs.declared.instructions.InstructionData.{InstructionData}
-use Rattle.clif_instructions.specs.declared.instructions.InstructionData.TheVariants.{UnaryImm, Unary, Binary, Convert, Ternary, Jump, Brif, MultiAry}
+use Rattle.clif_instructions.specs.declared.instructions.InstructionData.TheVariants.{Jump, Brif}
 use Rattle.clif_instructions.specs.Edges.{with_argument_to, targets}
-use Rattle.clif_instructions.specs.Instruction.{operands, destinations, with_argument}
+use Rattle.clif_instructions.specs.Instruction.{operands, destinations, typing_of, with_argument}
+use Rattle.clif_opcodes.specs.Kinds.{result_type}
+use Rattle.clif_opcodes.specs.declared.kinds.Control.{Control}
+use Rattle.clif_opcodes.specs.declared.kinds.Control.TheVariants as control
+use Rattle.clif_opcodes.specs.declared.kinds.ResultKind.{ResultKind}
+use Rattle.clif_opcodes.specs.declared.kinds.ResultKind.TheVariants as kind
 use Rattle.clif_ir.specs.Body.{Body, no_value, inst_at, value_at}
 use Rattle.clif_ir.specs.Consistent.{IsConsistent}
 use Rattle.clif_ir.specs.Changes.{inserted_in, with_inst}
@@ -26,7 +31,7 @@ use Rattle.clif_ssa.proofs.Completing.{inserted_same}
 use Rattle.clif_ssa.proofs.Constructing.{more_none}
 use Rattle.clif_meaning.specs.Instruction.{Operation, Edge}
 use Rattle.clif_meaning.specs.FunctionView.{Placed}
-use Rattle.clif_meaning.specs.View.{argument_of, edge_of, edges_of, first_type, controlling_of, operation_of}
+use Rattle.clif_meaning.specs.View.{argument_of, edge_of, edges_of, first_type, controlling_of, operation_of, controlled, made_with}
 use Rattle.clif_simulation.specs.Carries.{as_passed, own_placed}
 
 -- A function that goes on: its instructions stay, but that their edges may pass more, and its values keep their types.
@@ -112,44 +117,24 @@ targets_appended b v (edge ∷ edges) = ap₂ (λ (t : ℕ) (ts : List ℕ). t �
     by false = refl
 
 targets_with : (b v : ℕ) (shape : InstructionData) → targets (destinations (with_argument b v shape)) ≡ targets (destinations shape)
-targets_with b v (UnaryImm imm) = refl
-targets_with b v (Unary opcode arg) = refl
-targets_with b v (Binary opcode args) = refl
-targets_with b v (Convert opcode arg) = refl
-targets_with b v (Ternary args) = refl
 targets_with b v (Jump destination) = targets_appended b v (destination ∷ [])
 targets_with b v (Brif arg blocks) = targets_appended b v blocks
-targets_with b v (MultiAry args) = refl
+targets_with b v _ = refl
 
 operation_with : (b v : ℕ) (shape : InstructionData) → operation_of (with_argument b v shape) ≡ operation_of shape
-operation_with b v (UnaryImm imm) = refl
-operation_with b v (Unary opcode arg) = refl
-operation_with b v (Binary opcode args) = refl
-operation_with b v (Convert opcode arg) = refl
-operation_with b v (Ternary args) = refl
 operation_with b v (Jump destination) = refl
 operation_with b v (Brif arg blocks) = refl
-operation_with b v (MultiAry args) = refl
+operation_with b v _ = refl
 
 operands_with : (b v : ℕ) (shape : InstructionData) → operands (with_argument b v shape) ≡ operands shape
-operands_with b v (UnaryImm imm) = refl
-operands_with b v (Unary opcode arg) = refl
-operands_with b v (Binary opcode args) = refl
-operands_with b v (Convert opcode arg) = refl
-operands_with b v (Ternary args) = refl
 operands_with b v (Jump destination) = refl
 operands_with b v (Brif arg blocks) = refl
-operands_with b v (MultiAry args) = refl
+operands_with b v _ = refl
 
 controlling_with : (g : Body) (b v : ℕ) (shape : InstructionData) (values : List ℕ) → controlling_of g (with_argument b v shape) values ≡ controlling_of g shape values
-controlling_with g b v (UnaryImm imm) values = refl
-controlling_with g b v (Unary opcode arg) values = refl
-controlling_with g b v (Binary opcode args) values = refl
-controlling_with g b v (Convert opcode arg) values = refl
-controlling_with g b v (Ternary args) values = refl
 controlling_with g b v (Jump destination) values = refl
 controlling_with g b v (Brif arg blocks) values = refl
-controlling_with g b v (MultiAry args) values = refl
+controlling_with g b v _ values = refl
 
 -- the same for more arguments
 record SameButArguments (g : Body) (old new : InstructionData) : Type 0 where
@@ -191,17 +176,36 @@ first_kept : (f g : Body) → GoesOn f g → (values : List ℕ) → ((k : ℕ) 
 first_kept f g on [] exist = refl
 first_kept f g on (v ∷ values) exist = on.types v (exist 0 (omega arith))
 
+-- what stands behind so many things of a list exists as those do
+behind_exist : (n place : ℕ) (values : List ℕ) → ((k : ℕ) → k < length values → slice_index values k < n)
+    → (k : ℕ) → k < length (drop place values) → slice_index (drop place values) k < n
+behind_exist n zero values exist = exist
+behind_exist n (suc place) [] exist = λ k below. absurd (omega (arith, below))
+behind_exist n (suc place) (v ∷ values) exist = behind_exist n place values (λ k below. exist (suc k) (omega (arith, below)))
+
+controlled_kept : (f g : Body) → GoesOn f g → (kinds : List ResultKind) (how : Control) (values results : List ℕ)
+    → ((k : ℕ) → k < length values → slice_index values k < length f.values) → ((k : ℕ) → k < length results → slice_index results k < length f.values)
+    → controlled g kinds how values results ≡ controlled f kinds how values results
+controlled_kept f g on (kind.Controlling ∷ kinds) how values results exist results_exist = first_kept f g on results results_exist
+controlled_kept f g on _ (control.Operand place) values results exist results_exist =
+    first_kept f g on (drop place values) (behind_exist (length f.values) place values exist)
+controlled_kept f g on _ _ values results exist results_exist = refl
+
 controlling_kept : (f g : Body) → GoesOn f g → (shape : InstructionData) (values : List ℕ) → ((k : ℕ) → k < length values → slice_index values k < length f.values)
     → ((k : ℕ) → k < length (operands shape) → slice_index (operands shape) k < length f.values)
     → controlling_of g shape values ≡ controlling_of f shape values
-controlling_kept f g on (UnaryImm imm) values exist operands_exist = first_kept f g on values exist
-controlling_kept f g on (Unary opcode arg) values exist operands_exist = first_kept f g on values exist
-controlling_kept f g on (Binary opcode args) values exist operands_exist = first_kept f g on values exist
-controlling_kept f g on (Convert opcode arg) values exist operands_exist = first_kept f g on values exist
-controlling_kept f g on (Ternary args) values exist operands_exist = first_kept f g on values exist
-controlling_kept f g on (Jump destination) values exist operands_exist = refl
-controlling_kept f g on (Brif arg blocks) values exist operands_exist = on.types arg (operands_exist 0 (omega arith))
-controlling_kept f g on (MultiAry args) values exist operands_exist = refl
+controlling_kept f g on shape values exist operands_exist =
+    controlled_kept f g on (typing_of shape).results (typing_of shape).control (operands shape) values operands_exist exist
+
+-- An instruction that was made at a type is made at it in the function that has it: its first result has its type, and its
+-- operands keep theirs.
+pub made_controlled : (f g : Body) → GoesOn f g → (kinds : List ResultKind) (how : Control) (values results : List ℕ) (ty : «Type»)
+    → ((k : ℕ) → k < length values → slice_index values k < length f.values)
+    → ((first : ResultKind) (others : List ResultKind) → kinds ≡ first ∷ others → first_type g results ≡ result_type ty first)
+    → controlled g kinds how values results ≡ made_with f kinds how values ty
+made_controlled f g on (kind.Controlling ∷ kinds) how values results ty exist first = first kind.Controlling kinds refl
+made_controlled f g on _ (control.Operand place) values results ty exist first = first_kept f g on (drop place values) (behind_exist (length f.values) place values exist)
+made_controlled f g on _ _ values results ty exist first = refl
 
 -- an instruction by its parts
 abbrev parts : Operation → «Type» → List ℕ → List (Edge ℕ ℕ) → List ℕ → Placed

@@ -11,6 +11,7 @@ mod Entered
 pub mod TwoParts
 pub mod InLists
 pub mod GivenNames
+mod OperandTypes
 mod Straight
 mod Effects
 pub mod Listed

@@ -9,10 +9,11 @@ use Rattle.clif_meaning.specs.Program.{program_of}
 use Rattle.clif_meaning.specs.Tracked.{is_tracked}
 use Rattle.clif_meaning.specs.World.{World}
 use Rattle.clif_meaning.specs.ScriptMachine.{ScriptRun}
-use Rattle.clif_meaning.specs.Premises.{CallsLibraryAsNamed, HasGoodTargets, IsGoodTarget, KeepsTrackedApart, Premises}
+use Rattle.clif_meaning.specs.Premises.{CallsLibraryAsNamed, EachItem, HasGoodTargets, IsGoodTarget, KeepsTrackedApart, Premises}
 use Rattle.clif_meaning.specs.Headline.{script_run}
 use Rattle.clif_meaning.specs.BranchExamples.{block, both_arms_function, both_arms_script, both_arms_signature, plain}
 use Rattle.clif_meaning.proofs.FirstPremises as no_memory
+use Rattle.clif_meaning.proofs.EachStep.{IsQuietItem, spares, claims}
 use Rattle.clif_meaning.proofs.SampleWorld
 use Rattle.clif_simulation.specs.CarryingExamples.{LoopMeetsPremises}
 use Rattle.clif_simulation.proofs.LoopAlong
@@ -42,6 +43,11 @@ good_last = record { filled = refl; no_entry = not_first 2 }
 pub apart : (tracked marked : Bool) → tracked ≡ false → IsTrue tracked → IsTrue marked
 apart tracked marked none is = let no_way : ⊥ = cc in absurd no_way
 
+-- no item touches memory
+quiet : EachItem IsQuietItem (program_of both_arms_script)
+quiet = each_items_of_row (AllByRecursion IsQuietItem) tt
+    (tt, (tt, (tt, tt))) (tt, (tt, tt)) (tt, (tt, (tt, (tt, (tt, tt))))) (tt, (tt, tt))
+
 meets : (world : World) → Premises both_arms_script both_arms_signature (pointer_type_of U64) (script_run both_arms_script both_arms_function world)
 meets world =
     let run : ScriptRun = script_run both_arms_script both_arms_function world in
@@ -53,8 +59,8 @@ meets world =
       given_before = LoopAlong.premises.given_before;
       tracked_apart = each_items_of_row (AllByRecursion (KeepsTrackedApart (ledger_after both_arms_script) (is_tracked both_arms_script))) tt
           (tt, (apart _ _ refl, (tt, tt))) (apart _ _ refl, (tt, tt)) (apart _ _ refl, (tt, (tt, (apart _ _ refl, (tt, tt))))) (apart _ _ refl, (tt, tt));
-      spares_spill_slots = no_memory.each_step _ run (no_memory.spares run);
-      claims_true = no_memory.each_step _ run (no_memory.claims run);
+      spares_spill_slots = spares run quiet;
+      claims_true = claims run quiet;
       libc_as_named = each_items_of_row (AllByRecursion (CallsLibraryAsNamed (pointer_type_of U64))) tt
           (tt, (tt, (tt, tt))) (tt, (tt, tt)) (tt, (tt, (tt, (tt, (tt, tt))))) (tt, (tt, tt));
     }

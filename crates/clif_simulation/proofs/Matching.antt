@@ -1,7 +1,8 @@
 -- How one step of the script's machine is matched, and what both machines show at an end.
 use Rattle.std.proofs.Common.{sym, ◌∙◌, ◌≡◌, ℕ, zero, suc, ◌<◌, ◌≤◌, List, [], ◌∷◌, length, map, drop, slice_get, Some, inl, inr, refl, ap₂, arith}
 use Rattle.clif_meaning.specs.Bits.{Bits}
-use Rattle.clif_meaning.specs.Memory.{Memory}
+use Rattle.clif_meaning.specs.Memory.{Memory, Range}
+use Rattle.std.specs.Prelude.{Bool, true, false, ◌==◌, ◌&&◌, ◌%◌, not, if◌then◌else◌}
 use Rattle.clif_meaning.specs.Machine.{Machine, Control, At, HasReturned, HasTrapped, IsStuck, Observation, Ending, ending_of}
 use Rattle.clif_meaning.specs.Event.{Event}
 use Rattle.clif_meaning.specs.Program.{Item}
@@ -10,10 +11,13 @@ use Rattle.clif_meaning.specs.ScriptMachine as script
 use Rattle.clif_meaning.specs.ScriptMachine.{ScriptRun, ScriptState}
 use Rattle.clif_meaning.specs.FunctionMachine as function_machine_of
 use Rattle.clif_meaning.specs.FunctionMachine.{FunctionRun, FunctionState}
-use Rattle.clif_meaning.specs.Instruction.{Operation, Compute, Jump, Brif, Return}
+use Rattle.clif_meaning.specs.Instruction.{Operation, Compute, Load, Store, Trap, CondTrap, Jump, Brif, Return}
+use Rattle.clif_types.specs.declared.trapcode.TrapCode.{TrapCode}
+use Rattle.clif_types.specs.declared.trapcode.TrapCode.TheVariants.{HeapOutOfBounds}
+use Rattle.clif_types.specs.MemFlags.{MemFlagsShape}
 use Rattle.clif_types.specs.declared.types.«Type».{«Type»}
 use Rattle.clif_meaning.specs.World.{World}
-use Rattle.clif_meaning.specs.Outcome.{Outcome, Gives, Goes, Returns, Traps, Calls, NoStep, Computed, Values, Fault, Undefined, computed, outcome_of_computed, outcome_of}
+use Rattle.clif_meaning.specs.Outcome.{Outcome, Gives, Goes, Returns, Traps, Calls, NoStep, Computed, Values, Fault, Undefined, access_outcome, are_accessible, computed, outcome_of_computed, outcome_of, traps_on}
 use Rattle.clif_meaning.proofs.Stuttering.{Matched, ShowsOnlyEnds, steps_from}
 use Rattle.clif_simulation.proofs.Giving.{In}
 
@@ -125,41 +129,49 @@ computed_plain (Values results) memory = tt
 computed_plain (Fault reason) memory = tt
 computed_plain Undefined memory = tt
 
--- what a condition takes is an edge
-goes_plain : (ty : «Type») (world : World) (types : List «Type») (operands : List Bits) (memory : Memory)
-    → IsPlain (outcome_of world Jump ty types operands memory) × IsPlain (outcome_of world Brif ty types operands memory)
-goes_plain ty world types [] memory = (tt, tt)
-goes_plain ty world types (x ∷ []) memory = (tt, tt)
-goes_plain ty world types (x ∷ y ∷ operands) memory = (tt, tt)
+access_plain : (world : World) (flags : MemFlagsShape) (range : Range) (outcome : Outcome) → IsPlain outcome → IsPlain (access_outcome world flags range outcome)
+access_plain world flags range outcome plain =
+    by (flags.aligned && not (range.start % range.size == 0)) (are_accessible world range range.size) flags.notrap
+  where
+    by : (misaligned accessible notrap : Bool) → IsPlain (if misaligned then NoStep else (if accessible then outcome else (if notrap then NoStep else Traps HeapOutOfBounds)))
+    by true accessible notrap = tt
+    by false true notrap = plain
+    by false false true = tt
+    by false false false = tt
+
+trap_plain : (traps : Bool) (reason : TrapCode) (memory : Memory) → IsPlain (if traps then Traps reason else Gives [] memory)
+trap_plain true reason memory = tt
+trap_plain false reason memory = tt
 
 -- no instruction so far is a call
 pub outcome_plain : (world : World) (operation : Operation) (ty : «Type») (types : List «Type») (operands : List Bits) (memory : Memory)
     → IsPlain (outcome_of world operation ty types operands memory)
-outcome_plain world (Compute arithmetic) ty types operands memory = computed_plain (computed arithmetic ty operands) memory
-outcome_plain world Jump ty types operands memory = (goes_plain ty world types operands memory).0
-outcome_plain world Brif ty types operands memory = (goes_plain ty world types operands memory).1
+outcome_plain world (Compute arithmetic) ty types operands memory = computed_plain (computed arithmetic ty types operands) memory
+outcome_plain world (Load flags offset) ty types [] memory = tt
+outcome_plain world (Load flags offset) ty types (address ∷ []) memory = access_plain world flags _ (Gives _ memory) tt
+outcome_plain world (Load flags offset) ty types (address ∷ x ∷ operands) memory = tt
+outcome_plain world (Store flags offset) ty types [] memory = tt
+outcome_plain world (Store flags offset) ty types (stored ∷ []) memory = tt
+outcome_plain world (Store flags offset) ty types (stored ∷ address ∷ []) memory = access_plain world flags _ (Gives [] _) tt
+outcome_plain world (Store flags offset) ty types (stored ∷ address ∷ x ∷ operands) memory = tt
+outcome_plain world (Trap reason) ty types [] memory = tt
+outcome_plain world (Trap reason) ty types (x ∷ operands) memory = tt
+outcome_plain world (CondTrap opcode reason) ty types [] memory = tt
+outcome_plain world (CondTrap opcode reason) ty types (condition ∷ []) memory = trap_plain (traps_on opcode condition) reason memory
+outcome_plain world (CondTrap opcode reason) ty types (condition ∷ x ∷ operands) memory = tt
+outcome_plain world Jump ty types [] memory = tt
+outcome_plain world Jump ty types (x ∷ operands) memory = tt
+outcome_plain world Brif ty types [] memory = tt
+outcome_plain world Brif ty types (x ∷ []) memory = tt
+outcome_plain world Brif ty types (x ∷ y ∷ operands) memory = tt
 outcome_plain world Return ty types operands memory = tt
 
-goes_alike : (ty : «Type») (world : World) (types others : List «Type») (operands : List Bits) (memory : Memory)
-    → (outcome_of world Jump ty types operands memory ≡ outcome_of world Jump ty others operands memory)
-    × (outcome_of world Brif ty types operands memory ≡ outcome_of world Brif ty others operands memory)
-goes_alike ty world types others [] memory = (refl, refl)
-goes_alike ty world types others (x ∷ []) memory = (refl, refl)
-goes_alike ty world types others (x ∷ y ∷ operands) memory = (refl, refl)
-
--- nor does one ask for the types of its operands
-types_aside : (world : World) (operation : Operation) (ty : «Type») (types others : List «Type») (operands : List Bits) (memory : Memory)
-    → outcome_of world operation ty types operands memory ≡ outcome_of world operation ty others operands memory
-types_aside world (Compute arithmetic) ty types others operands memory = refl
-types_aside world Jump ty types others operands memory = (goes_alike ty world types others operands memory).0
-types_aside world Brif ty types others operands memory = (goes_alike ty world types others operands memory).1
-types_aside world Return ty types others operands memory = refl
-
--- the same operation on the same bits, in the same memory
+-- the same operation on the same bits, in the same memory, where the operands' types make no difference
 pub same_outcomes : (world : World) (operation : Operation) (ty : «Type») (types others : List «Type») (operands bits : List Bits) (memory other : Memory)
+    → ((xs : List Bits) (m : Memory) → outcome_of world operation ty others xs m ≡ outcome_of world operation ty types xs m)
     → operands ≡ bits → memory ≡ other → outcome_of world operation ty others bits other ≡ outcome_of world operation ty types operands memory
-same_outcomes world operation ty types others operands bits memory other same_bits same_memory =
-    types_aside world operation ty others types bits other
+same_outcomes world operation ty types others operands bits memory other alike same_bits same_memory =
+    alike bits other
     ∙ ap₂ (λ (xs : List Bits) (m : Memory). outcome_of world operation ty types xs m) (sym same_bits) (sym same_memory)
 
 -- Steps and measures -------------------------------------------------------------------------------------------------------

@@ -58,6 +58,7 @@ use Rattle.clif_simulation.proofs.OwnEdges.{last_item}
 use Rattle.clif_simulation.proofs.Placing.{at_second, contained, map_at, placed_item}
 use Rattle.clif_simulation.proofs.Stepping.{edge_passes, same_arguments}
 use Rattle.clif_simulation.proofs.Straight.{next_arm}
+use Rattle.clif_simulation.proofs.OperandTypes.{outcomes_alike_so_far}
 use Rattle.clif_simulation.proofs.Targets
 use Rattle.clif_simulation.proofs.TwoParts.{nothing_assigned}
 
@@ -286,7 +287,7 @@ module _ (calls : List AnsweredCall) (f : Body) (ssa : SsaState) (consistent : I
           unfolding outcome
           same_outcome =
               ap (λ (o : Placed). outcome_of world o.instruction.operation o.instruction.controlling (map right_run.function.value_type o.instruction.operands) (map (value_bits right_run c.state) o.instruction.operands) c.state.memory) is
-              ∙ same_outcomes world instruction.operation instruction.controlling _ _ _ _ _ _ same_operands r.same_memory
+              ∙ same_outcomes world instruction.operation instruction.controlling _ _ _ _ _ _ (outcomes_alike_so_far calls f world carries.values_typed growing signature typed B k place instruction results stands) same_operands r.same_memory
 
           left_goes : left_machine.next a ≡ script_goes calls ssa unknowns a (taken_of instruction.edges outcome) (script.carry_out left_run a.state instruction.edges results rest outcome)
           unfolding outcome

@@ -23,6 +23,7 @@ use Rattle.clif_simulation.proofs.Starting.{arguments_count}
 use Rattle.clif_simulation.proofs.Reaching.{reached_entry}
 use Rattle.clif_simulation.proofs.Entry
 use Rattle.clif_simulation.proofs.Opened
+use Rattle.clif_simulation.proofs.OperandTypes.{OutcomesAlike, outcomes_alike_so_far}
 use Rattle.clif_simulation.proofs.Setting
 
 module _ (calls : List AnsweredCall) (signature : SignatureShape) (f : Body) (ssa : SsaState) (consistent : IsConsistent f) (carries : CarriesUnbranched calls f ssa)
@@ -34,6 +35,9 @@ module _ (calls : List AnsweredCall) (signature : SignatureShape) (f : Body) (ss
 
     abbrev right_run : FunctionRun
     right_run = function_run_so_far calls f width world collector
+
+    alike : OutcomesAlike calls f world
+    alike = outcomes_alike_so_far calls f world carries.whole.values_typed (may_grow calls) signature premises.well_typed
 
     abbrev FromStart : ℕ → Name → Type 0
     FromStart block name = SideBySide calls f ssa block name (script_machine left_run) (function_machine right_run)
@@ -76,21 +80,21 @@ module _ (calls : List AnsweredCall) (signature : SignatureShape) (f : Body) (ss
       begun unsealed p q start_alike =
           let opens = Opened.opens-unsealed calls f ssa carries entry is_entry unsealed in
           let starts = Setting.from_any calls f ssa consistent carries entry is_entry premises.given_before
-          (Opened.sealed_now calls f ssa carries entry is_entry) (Opened.joins_now calls f ssa carries entry is_entry) opens width world tracked collector unsealed p q start_alike in
+          (Opened.sealed_now calls f ssa carries entry is_entry) (Opened.joins_now calls f ssa carries entry is_entry) opens width world tracked collector alike unsealed p q start_alike in
           Setting.side_by_side calls f ssa consistent carries entry is_entry premises.given_before
-          (Opened.sealed_now calls f ssa carries entry is_entry) (Opened.joins_now calls f ssa carries entry is_entry) opens width world tracked collector p q starts.0 starts.1
+          (Opened.sealed_now calls f ssa carries entry is_entry) (Opened.joins_now calls f ssa carries entry is_entry) opens width world tracked collector alike p q starts.0 starts.1
 
       entered : (sealed : Bool) → is_yes (sealed_of ssa e) ≡ sealed → FromStart e entry
       entered true is =
           let opens = Opened.opens-sealed calls f ssa carries entry is_entry is in
           let starts = Setting.from_start calls f ssa consistent carries entry is_entry premises.given_before
-          carries.whole.tables.sealed carries.whole.tables.joins opens width world tracked collector as_many is in
+          carries.whole.tables.sealed carries.whole.tables.joins opens width world tracked collector alike as_many is in
           started (Setting.side_by_side calls f ssa consistent carries entry is_entry premises.given_before
-          carries.whole.tables.sealed carries.whole.tables.joins opens width world tracked collector p0 q0 starts.0 starts.1)
+          carries.whole.tables.sealed carries.whole.tables.joins opens width world tracked collector alike p0 q0 starts.0 starts.1)
       entered false is =
           started (begun is p0 q0 (Setting.starts_alike calls f ssa consistent carries entry is_entry premises.given_before
           (Opened.sealed_now calls f ssa carries entry is_entry) (Opened.joins_now calls f ssa carries entry is_entry)
-          (Opened.opens-unsealed calls f ssa carries entry is_entry is) width world tracked collector as_many))
+          (Opened.opens-unsealed calls f ssa carries entry is_entry is) width world tracked collector alike as_many))
 
     pub runs : RunSideBySide calls f ssa left_run right_run
     runs = record {

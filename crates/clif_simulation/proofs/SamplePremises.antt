@@ -17,6 +17,7 @@ use Rattle.clif_meaning.specs.Headline.{script_run}
 use Rattle.clif_meaning.specs.BranchExamples.{block, plain}
 use Rattle.clif_meaning.specs.SampleExamples.{sample_function, sample_script, sample_signature}
 use Rattle.clif_meaning.proofs.FirstPremises as no_memory
+use Rattle.clif_meaning.proofs.EachStep.{IsQuietItem, spares, claims}
 use Rattle.clif_meaning.proofs.FirstRow.{first_of_one, one_of}
 use Rattle.clif_meaning.proofs.SampleWorld
 use Rattle.clif_meaning.proofs.StraightLine.{none_of, nothing_contained}
@@ -196,6 +197,11 @@ good_third = record { filled = refl; no_entry = not_first 1 }
 good_last : Good (block 3)
 good_last = record { filled = refl; no_entry = not_first 2 }
 
+-- no item touches memory
+quiet : EachItem IsQuietItem (program_of sample_script)
+quiet = each_item IsQuietItem
+    (tt, (tt, (tt, (tt, (tt, (tt, (tt, (tt, tt)))))))) (tt, (tt, (tt, (tt, (tt, (tt, tt)))))) (tt, (tt, (tt, (tt, (tt, (tt, tt)))))) (tt, (tt, (tt, (tt, (tt, tt)))))
+
 meets : (world : World) → Premises sample_script sample_signature (pointer_type_of U64) (script_run sample_script sample_function world)
 meets world =
     let run : ScriptRun = script_run sample_script sample_function world in
@@ -211,8 +217,8 @@ meets world =
           (apart _ _ refl, (apart _ _ refl, (tt, (apart _ _ refl, (apart _ _ refl, (tt, tt))))))
           (apart _ _ refl, (apart _ _ refl, (tt, (apart _ _ refl, (apart _ _ refl, (tt, tt))))))
           (apart _ _ refl, (apart _ _ refl, (tt, (apart _ _ refl, (tt, tt)))));
-      spares_spill_slots = no_memory.each_step _ run (no_memory.spares run);
-      claims_true = no_memory.each_step _ run (no_memory.claims run);
+      spares_spill_slots = spares run quiet;
+      claims_true = claims run quiet;
       libc_as_named = each_item (CallsLibraryAsNamed (pointer_type_of U64))
           (tt, (tt, (tt, (tt, (tt, (tt, (tt, (tt, tt)))))))) (tt, (tt, (tt, (tt, (tt, (tt, tt)))))) (tt, (tt, (tt, (tt, (tt, (tt, tt)))))) (tt, (tt, (tt, (tt, (tt, tt)))));
     }

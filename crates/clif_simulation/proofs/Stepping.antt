@@ -55,6 +55,7 @@ use Rattle.clif_simulation.proofs.ItemsAt
 use Rattle.clif_simulation.proofs.Listed.{place_within}
 use Rattle.clif_simulation.proofs.OwnEdges
 use Rattle.clif_simulation.proofs.OwnEdges.{last_item}
+use Rattle.clif_simulation.proofs.OperandTypes.{outcomes_alike}
 use Rattle.clif_simulation.proofs.Targets
 use Rattle.clif_simulation.proofs.Placing.{at_second, map_at, map_length, placed_item}
 use Rattle.clif_simulation.proofs.TwoParts.{nothing_assigned}
@@ -317,7 +318,7 @@ module _ (calls : List AnsweredCall) (f : Body) (ssa : SsaState) (consistent : I
         unfolding outcome
         same_outcome =
             ap (λ (o : Placed). outcome_of world o.instruction.operation o.instruction.controlling (map right_run.function.value_type o.instruction.operands) (map (value_bits right_run q) o.instruction.operands) q.memory) is
-            ∙ same_outcomes world instruction.operation instruction.controlling _ _ _ _ _ _ same_operands r.same_memory
+            ∙ same_outcomes world instruction.operation instruction.controlling _ _ _ _ _ _ (outcomes_alike calls f world carries.values_typed signature typed B k place instruction results stands) same_operands r.same_memory
 
         left_goes : left_machine.next p ≡ script.carry_out left_run p instruction.edges results rest outcome
         unfolding outcome

@@ -9,7 +9,7 @@ use Rattle.clif_meaning.specs.Event.{types_of}
 use Rattle.clif_meaning.specs.Name.{Name}
 use Rattle.clif_meaning.specs.Request.{AnsweredCall, script_of}
 use Rattle.clif_meaning.specs.Ledger.{Ledger, ledger_after, is_filled, or_invalid, type_of}
-use Rattle.clif_meaning.specs.Instruction.{Operation, Compute, Jump, Brif, Return, Edge, Instruction}
+use Rattle.clif_meaning.specs.Instruction.{Operation, Edge, Instruction}
 use Rattle.clif_meaning.specs.Program.{Instruct}
 use Rattle.clif_meaning.specs.Premises.{EachItem, HasGoodTargets, IsGoodTarget, IsItemWellTyped, WellTyped, parameter_types}
 use Rattle.clif_meaning.specs.Typing.{EdgeMatches, EachEdgeMatches, argument_type, call_shape}
@@ -21,32 +21,20 @@ use Rattle.clif_simulation.proofs.Placing.{map_length}
 -- no operation is a call so far
 pub each_edge : {Block Operand : Type 0} (type_of_operand : Operand → «Type») (parameters : Block → List «Type») (operation : Operation) (edges : List (Edge Block Operand))
     → EachEdgeMatches type_of_operand parameters (call_shape operation) edges → AllByRecursion (EdgeMatches type_of_operand parameters [] []) edges
-each_edge type_of_operand parameters (Compute arithmetic) edges matches = matches
-each_edge type_of_operand parameters Jump edges matches = matches
-each_edge type_of_operand parameters Brif edges matches = matches
-each_edge type_of_operand parameters Return edges matches = matches
+each_edge type_of_operand parameters _ edges matches = matches
 
 pub each_matches : {Block Operand : Type 0} (type_of_operand : Operand → «Type») (parameters : Block → List «Type») (operation : Operation) (edges : List (Edge Block Operand))
     → AllByRecursion (EdgeMatches type_of_operand parameters [] []) edges → EachEdgeMatches type_of_operand parameters (call_shape operation) edges
-each_matches type_of_operand parameters (Compute arithmetic) edges match_all = match_all
-each_matches type_of_operand parameters Jump edges match_all = match_all
-each_matches type_of_operand parameters Brif edges match_all = match_all
-each_matches type_of_operand parameters Return edges match_all = match_all
+each_matches type_of_operand parameters _ edges match_all = match_all
 
 -- edges that match so far
 pub each_edge_so_far : (growing : Name → Bool) (name_type : Name → «Type») (parameters : Name → List «Type») (operation : Operation) (edges : List (Edge Name Name))
     → EachEdgeMatchesSoFar growing name_type parameters (call_shape operation) edges → AllByRecursion (EdgeMatchesSoFar growing name_type parameters [] []) edges
-each_edge_so_far growing name_type parameters (Compute arithmetic) edges matches = matches
-each_edge_so_far growing name_type parameters Jump edges matches = matches
-each_edge_so_far growing name_type parameters Brif edges matches = matches
-each_edge_so_far growing name_type parameters Return edges matches = matches
+each_edge_so_far growing name_type parameters _ edges matches = matches
 
 pub each_matches_so_far : (growing : Name → Bool) (name_type : Name → «Type») (parameters : Name → List «Type») (operation : Operation) (edges : List (Edge Name Name))
     → AllByRecursion (EdgeMatchesSoFar growing name_type parameters [] []) edges → EachEdgeMatchesSoFar growing name_type parameters (call_shape operation) edges
-each_matches_so_far growing name_type parameters (Compute arithmetic) edges match_all = match_all
-each_matches_so_far growing name_type parameters Jump edges match_all = match_all
-each_matches_so_far growing name_type parameters Brif edges match_all = match_all
-each_matches_so_far growing name_type parameters Return edges match_all = match_all
+each_matches_so_far growing name_type parameters _ edges match_all = match_all
 
 -- the types of names
 abbrev pub name_types : List AnsweredCall → Name → «Type»

@@ -23,7 +23,7 @@ use Rattle.clif_meaning.specs.Instruction.{Edge}
 use Rattle.clif_meaning.specs.Premises.{EachItem, HasGoodTargets, IsGoodTarget}
 use Rattle.clif_meaning.specs.Program.{Item, Instruct, Use, Assign}
 use Rattle.clif_simulation.specs.Tables.{program_so_far, IsProgramOf}
-use Rattle.clif_simulation.specs.Carries.{AreDeclared, AreTypes, Carries, EdgesEnd, HasEntry, HasItems, Holds, LeadsOwn, NamesEarlier, OwnExist, OwnInserted, OwnNamed, OwnParameters, SoundOnPaths, SparesBlock, SparesEntry, ValuesGiven}
+use Rattle.clif_simulation.specs.Carries.{AreDeclared, AreTypes, Carries, EdgesEnd, HasEntry, HasItems, Holds, LeadsOwn, NamesEarlier, OwnExist, OwnInserted, OwnNamed, OwnParameters, SoundOnPaths, SparesBlock, SparesEntry, ValuesGiven, ValuesTyped}
 
 -- each edge of a branch that leads to a block passes what the caller passed, and then more
 abbrev pub PassesOwnFirst : Own → Body → SsaState → Type 0
@@ -52,6 +52,7 @@ pub record Whole (calls : List AnsweredCall) (f : Body) (s : SsaState) : Type 0 
   pub parameters_first : HasOwnFirst own f
   pub parameters : OwnParameters calls own
   pub values_given : ValuesGiven calls tables
+  pub values_typed : ValuesTyped calls f
   pub entry : HasEntry calls f
   pub describes : Describes own f s [] tables
   pub sound : BlocksSound tables
@@ -114,6 +115,7 @@ whole calls f s consistent carries spares =
       parameters_first = parameters_first carries.own f s (declared_types calls) structured;
       parameters = holds.parameters;
       values_given = paths.values_given;
+      values_typed = holds.values_typed;
       entry = holds.entry;
       describes = paths.describes;
       sound = paths.sound;
