@@ -6,7 +6,7 @@ use Rattle.clif_types.specs.declared.types.«Type».{«Type»}
 use Rattle.clif_instructions.specs.declared.block_call.BlockCall.{BlockCall}
 use Rattle.clif_instructions.specs.declared.inst_list.InsertAt.{InsertAt}
 use Rattle.clif_instructions.specs.declared.instructions.InstructionData.{InstructionData}
-use Rattle.clif_instructions.specs.declared.instructions.InstructionData.TheVariants.{UnaryImm, Unary, Binary, Convert, Ternary, Jump, Brif, MultiAry}
+use Rattle.clif_instructions.specs.declared.instructions.InstructionData.TheVariants.{Jump, Brif}
 use Rattle.clif_ir.specs.Body.{Body, inst_at}
 use Rattle.clif_ir.specs.Changes.{with_inst, inst_node}
 use Rattle.clif_ir.specs.declared.function.InstNode.{InstNode}
@@ -22,24 +22,14 @@ no_test same = let no_way : ⊥ = cc in absurd no_way
 
 -- what is no branch has no edges, and so has what doesn't end its block
 pub none_of_plain : (shape : InstructionData) → is_branch shape ≡ false → destinations shape ≡ []
-none_of_plain (UnaryImm imm) plain = refl
-none_of_plain (Unary opcode arg) plain = refl
-none_of_plain (Binary opcode args) plain = refl
-none_of_plain (Convert opcode arg) plain = refl
-none_of_plain (Ternary args) plain = refl
 none_of_plain (Jump destination) plain = no_test plain
 none_of_plain (Brif arg blocks) plain = no_test plain
-none_of_plain (MultiAry args) plain = refl
+none_of_plain _ plain = refl
 
 pub none_of_inner : (shape : InstructionData) → is_terminator shape ≡ false → destinations shape ≡ []
-none_of_inner (UnaryImm imm) goes_on = refl
-none_of_inner (Unary opcode arg) goes_on = refl
-none_of_inner (Binary opcode args) goes_on = refl
-none_of_inner (Convert opcode arg) goes_on = refl
-none_of_inner (Ternary args) goes_on = refl
 none_of_inner (Jump destination) goes_on = no_test goes_on
 none_of_inner (Brif arg blocks) goes_on = no_test goes_on
-none_of_inner (MultiAry args) goes_on = refl
+none_of_inner _ goes_on = refl
 
 -- the targets of edges that may be made aren't sealed
 pub lead_unsealed : (f : Body) (c : ContextState) (edges : List BlockCall) → All (CanLeadIn f c) edges → (b : ℕ) → Contains (targets edges) b → is_yes (sealed_of c.ssa b) ≡ false

@@ -8,7 +8,7 @@ use Rattle.clif_types.specs.declared.types.«Type».{«Type»}
 use Rattle.clif_instructions.specs.declared.instructions.InstructionData.{InstructionData}
 use Rattle.clif_ir.specs.Body.{inst_at}
 use Rattle.clif_ir.specs.Consistent.{IsConsistent}
-use Rattle.clif_instructions.specs.Instruction.{destinations, is_branch, is_terminator, result_types}
+use Rattle.clif_instructions.specs.Instruction.{destinations, is_branch, is_terminator, operands, result_type_of, result_types}
 use Rattle.clif_instructions.specs.Edges.{targets}
 use Rattle.clif_ssa.specs.Ssa.{SealedStays, SsaState}
 use Rattle.clif_ssa.specs.Structure.{LooksOnce}
@@ -58,7 +58,7 @@ appended-left (Ok inst) old new block shape ty at position ends appends = record
 -- an instruction was appended to the current block, or that was refused
 module _ (old new : FunctionBuilder) (shape : InstructionData) (ty : «Type») (block : ℕ) (r : Result ℕ BuildError)
     (sound : old.failed ≡ false) (current : HasCurrent old) (at : old.position ≡ Some block) (consistent : IsConsistent old.func.now)
-    (edges : All (CanLead old) (destinations shape)) (loans : SameLoans old new) (position : new.position ≡ old.position)
+    (operands_exist : All (λ value. value < length old.func.now.values) (operands shape)) (edges : All (CanLead old) (destinations shape)) (loans : SameLoans old new) (position : new.position ≡ old.position)
     (fails : new.failed ≡ is_err r) (appends : IfOk r (Appends old new block shape ty))
     (declares : IfOk r (λ inst. IsDeclared old.ctx.now.ssa inst (targets (destinations shape)) new.ctx.now.ssa))
     (ssa : is_branch shape ≡ false → new.ctx.now.ssa ≡ old.ctx.now.ssa) (variables : new.ctx.now.variables ≡ old.ctx.now.variables)
@@ -98,7 +98,7 @@ module _ (old new : FunctionBuilder) (shape : InstructionData) (ty : «Type») (
             subst (λ (o : Option ℕ). IfOk r (λ inst. StandsIn signature (after_build calls instruction (numbers_of new inst)) new.func.now new.ctx.now o))
             (sym position)
             (stands_shaped signature calls old.func.now new.func.now old.ctx.now new.ctx.now old.position instruction shape ty r block
-            stands consistent has at (current_exists old current block at) (current_open old current block at) appends edges declares ssa
+            stands consistent has (λ k below. operands_exist k 0 below) at (current_exists old current block at) (current_open old current block at) appends edges declares ssa
             (agrees_after calls instruction stands.ledger has));
         exists = append_exists r old.func.now old.ctx.now new.func.now new.ctx.now block shape ty appends;
         grows = append_grows r old.func.now old.ctx.now new.func.now new.ctx.now block shape ty appends;
@@ -115,14 +115,14 @@ module _ (old new : FunctionBuilder) (shape : InstructionData) (ty : «Type») (
 -- its result is answered
 module _ (old new : FunctionBuilder) (shape : InstructionData) (ty : «Type») (inst value : ℕ)
     (current : HasCurrent old) (built : Builds old new shape ty (Ok inst)) (no_branch : is_branch shape ≡ false)
-    (one : result_types shape ty ≡ ty ∷ []) (goes_on : is_terminator shape ≡ false) (is : value ≡ length old.func.now.values)
+    (one : result_types shape ty ≡ result_type_of shape ty ∷ []) (goes_on : is_terminator shape ≡ false) (is : value ≡ length old.func.now.values)
     (exists : value < length new.func.now.values) where
   numbers : numbers_of new inst ≡ numbers_with old value
   numbers =
       let number : inst ≡ length old.func.now.insts =
       (at_current old (λ block. Appends old new block shape ty inst) current built.appends).number in
       let results : (inst_at new.func.now inst).results ≡ value ∷ [] =
-      current_results old new shape ty inst current built.appends one ∙ ap (λ (v : ℕ). v ∷ []) (sym is) in
+      current_results old new shape ty (result_type_of shape ty) inst current built.appends one ∙ ap (λ (v : ℕ). v ∷ []) (sym is) in
       ap (λ (i : ℕ). i ∷ (inst_at new.func.now inst).results) number ∙ ap (λ (vs : List ℕ). length old.func.now.insts ∷ vs) results
 
   pub builds_value : BuildsValue old new shape ty (Ok value)
@@ -149,7 +149,7 @@ module _ (old new : FunctionBuilder) (shape : InstructionData) (ty : «Type») (
     remembers = built.remembers;
     current = built.current goes_on;
     types = built.types;
-    typed = appended-typed old.func.now old.ctx.now new.func.now new.ctx.now current.0 shape ty inst value
+    typed = appended-typed old.func.now old.ctx.now new.func.now new.ctx.now current.0 shape ty (result_type_of shape ty) inst value
         (at_current old (λ block. Appends old new block shape ty inst) current built.appends) one is;
     fills = fills_none_begun old.ctx.now new.ctx.now current.0 (λ b.
         (at_current old (λ block. Appends old new block shape ty inst) current built.appends).status b

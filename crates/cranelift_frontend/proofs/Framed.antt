@@ -106,14 +106,14 @@ appended-types (Ok inst) f c g d block shape ty appends =
     (ap (λ (h : Body). h.values) appends.function ∙ ap (λ (xs : List ValueNode). xs ++ result_nodes (length (inserted_in f block).insts) 0 (result_types shape ty)) (same-inserted f block))
 
 -- its one result has its type
-pub appended-typed : (f : Body) (c : ContextState) (g : Body) (d : ContextState) (block : ℕ) (shape : InstructionData) (ty : «Type») (inst value : ℕ)
-    → AppendsIn f c g d block shape ty inst → result_types shape ty ≡ ty ∷ [] → value ≡ length f.values → (value_at g value).ty ≡ ty
-appended-typed f c g d block shape ty inst value appends one number =
+pub appended-typed : (f : Body) (c : ContextState) (g : Body) (d : ContextState) (block : ℕ) (shape : InstructionData) (ty result : «Type») (inst value : ℕ)
+    → AppendsIn f c g d block shape ty inst → result_types shape ty ≡ result ∷ [] → value ≡ length f.values → (value_at g value).ty ≡ result
+appended-typed f c g d block shape ty result inst value appends one number =
     ap (λ (xs : List ValueNode). (slice_index_or xs value no_value).ty)
     (ap (λ (h : Body). h.values) appends.function
     ∙ ap (λ (ts : List «Type»). (inserted_in f block).values ++ result_nodes (length (inserted_in f block).insts) 0 ts) one
-    ∙ ap (λ (xs : List ValueNode). xs ++ result_nodes (length (inserted_in f block).insts) 0 (ty ∷ [])) (same-inserted f block))
-    ∙ ap (λ (v : ℕ). (slice_index_or (f.values ++ result_nodes (length (inserted_in f block).insts) 0 (ty ∷ [])) v no_value).ty) number
+    ∙ ap (λ (xs : List ValueNode). xs ++ result_nodes (length (inserted_in f block).insts) 0 (result ∷ [])) (same-inserted f block))
+    ∙ ap (λ (v : ℕ). (slice_index_or (f.values ++ result_nodes (length (inserted_in f block).insts) 0 (result ∷ [])) v no_value).ty) number
     ∙ ap (λ (node : ValueNode). node.ty) (last_value f.values _)
 
 -- WHICH BLOCKS ARE FILLED -------------------------------------------------------------------------------------------------

@@ -171,9 +171,9 @@ appended_node f c g d block shape ty inst appends =
     made ∙ last
 
 -- its result
-pub appended_results : (f : Body) (c : ContextState) (g : Body) (d : ContextState) (block : ℕ) (shape : InstructionData) (ty : «Type») (inst : ℕ)
-    → AppendsIn f c g d block shape ty inst → result_types shape ty ≡ ty ∷ [] → (inst_at g inst).results ≡ length f.values ∷ []
-appended_results f c g d block shape ty inst appends types =
+pub appended_results : (f : Body) (c : ContextState) (g : Body) (d : ContextState) (block : ℕ) (shape : InstructionData) (ty result : «Type») (inst : ℕ)
+    → AppendsIn f c g d block shape ty inst → result_types shape ty ≡ result ∷ [] → (inst_at g inst).results ≡ length f.values ∷ []
+appended_results f c g d block shape ty result inst appends types =
     let at : Body = inserted_in f block in
     let results : range_with_len (length at.values) (length (result_types shape ty)) ≡ length at.values ∷ [] = ap (λ (ts : List «Type»). range_with_len (length at.values) (length ts)) types in
     ap (λ (n : InstNode). n.results) (appended_node f c g d block shape ty inst appends) ∙ results ∙ ap (λ n. n ∷ []) (values-inserted f block)
@@ -185,10 +185,10 @@ appended_no_results f c g d block shape ty inst appends types =
     ap (λ (n : InstNode). n.results) (appended_node f c g d block shape ty inst appends)
     ∙ ap (λ (ts : List «Type»). range_with_len (length (inserted_in f block).values) (length ts)) types
 
-pub current_results : (old new : FunctionBuilder) (shape : InstructionData) (ty : «Type») (inst : ℕ) → HasCurrent old
-    → IfSome old.position (λ block. Appends old new block shape ty inst) → result_types shape ty ≡ ty ∷ [] → (inst_at new.func.now inst).results ≡ length old.func.now.values ∷ []
-current_results old new shape ty inst current appends types =
-    appended_results old.func.now old.ctx.now new.func.now new.ctx.now current.0 shape ty inst (at_current old (λ block. Appends old new block shape ty inst) current appends) types
+pub current_results : (old new : FunctionBuilder) (shape : InstructionData) (ty result : «Type») (inst : ℕ) → HasCurrent old
+    → IfSome old.position (λ block. Appends old new block shape ty inst) → result_types shape ty ≡ result ∷ [] → (inst_at new.func.now inst).results ≡ length old.func.now.values ∷ []
+current_results old new shape ty result inst current appends types =
+    appended_results old.func.now old.ctx.now new.func.now new.ctx.now current.0 shape ty result inst (at_current old (λ block. Appends old new block shape ty inst) current appends) types
 
 -- it is the value that is answered
 pub appends_value : (old new : FunctionBuilder) (shape : InstructionData) (ty : «Type») (inst v : ℕ)

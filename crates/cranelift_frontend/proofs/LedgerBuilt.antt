@@ -18,7 +18,7 @@ use Rattle.clif_instructions.specs.Members.{stands_in}
 use Rattle.clif_instructions.specs.Edges.{targets}
 use Rattle.clif_paths.proofs.Tables.{updated-same}
 use Rattle.clif_meaning.specs.Name.{Name}
-use Rattle.clif_meaning.specs.Instruction.{Arithmetic, Iconst, Unary, Binary, Convert, Select, Compute, Instruction}
+use Rattle.clif_meaning.specs.Instruction.{Instruction, Operation}
 use Rattle.clif_meaning.specs.Request.{AnsweredCall, Build, Request, number_of}
 use Rattle.clif_meaning.specs.Program as program
 use Rattle.clif_meaning.specs.Ledger.{Answered, AValue, AnInstruction, BlockState, Ledger, is_terminator, ledger_with, next_answer, with_begun, with_filled_at, with_predecessor, with_state}
@@ -41,7 +41,7 @@ use Rattle.cranelift_frontend.specs.declared.context.BlockStatus.TheVariants.{Em
 use Rattle.cranelift_frontend.specs.Context.{ContextState, status_of, begun, SetsStatus}
 use Rattle.cranelift_frontend.specs.Builder.{CanLeadIn}
 use Rattle.cranelift_frontend.specs.Construction.{IsDeclared}
-use Rattle.cranelift_frontend.specs.Ledger.{AreTypesOf, IsEnded, IsStructured, LedgerAgrees, NamesEdges, block_name, value_type, ledger_of}
+use Rattle.cranelift_frontend.specs.Ledger.{AnswersAgree, AreTypesOf, IsEnded, IsStructured, LedgerAgrees, NamesEdges, block_name, value_type, ledger_of}
 use Rattle.cranelift_frontend.specs.Order.{IsInOrder}
 use Rattle.cranelift_frontend.proofs.LedgerLists.{get-last, name-of-some}
 use Rattle.cranelift_frontend.proofs.LedgerNames.{name-number, state-twice}
@@ -114,52 +114,62 @@ result-type f g block shape ty function =
     ∙ ap (value_type (with_inst (inserted_in f block) block Back shape (ty ∷ []) no_srcloc)) (sym (inserted-values f block))
     ∙ ap (option_map (λ (n : ValueNode). n.ty)) (get-last (inserted_in f block).values _)
 
--- an instruction that computes a value
-pub agrees-computed : (calls : List AnsweredCall) (ledger : Ledger) (f g : Body) (c d : ContextState) (p : Option ℕ) (block : ℕ) (shape : InstructionData)
-    (arithmetic : Arithmetic) (ty : «Type») (operands : List Name) (inst value : ℕ)
-    → LedgerAgrees calls ledger f c p → p ≡ Some block → IsConsistent f → block < length f.blocks → g ≡ with_inst (inserted_in f block) block Back shape (ty ∷ []) no_srcloc
-    → SetsStatus c d block (begun (status_of c block)) → d.ssa ≡ c.ssa → d.variables ≡ c.variables → inst ≡ length f.insts → value ≡ length f.values
-    → LedgerAgrees (calls ++ record { request = Build (record { operation = Compute arithmetic; controlling = ty; operands = operands; edges = [] }); numbers = inst ∷ value ∷ [] } ∷ [])
-    (ledger_with ledger (Build (record { operation = Compute arithmetic; controlling = ty; operands = operands; edges = [] }))) g d p
-agrees-computed calls ledger f g c d p block shape arithmetic ty operands inst value agrees at consistent exists function sets ssa variables is_inst is_value =
-    let request : Request = Build (record { operation = Compute arithmetic; controlling = ty; operands = operands; edges = [] }) in
-    let call : AnsweredCall = record { request = request; numbers = inst ∷ value ∷ [] } in
+-- an instruction behind which its block goes on
+pub agrees-plain : (calls : List AnsweredCall) (ledger : Ledger) (f g : Body) (c d : ContextState) (p : Option ℕ) (block : ℕ) (shape : InstructionData)
+    (operation : Operation) (controlling : «Type») (types : List «Type») (operands : List Name) (inst : ℕ) (results : List ℕ)
+    → LedgerAgrees calls ledger f c p → p ≡ Some block → IsConsistent f → block < length f.blocks → g ≡ with_inst (inserted_in f block) block Back shape types no_srcloc
+    → SetsStatus c d block (begun (status_of c block)) → d.ssa ≡ c.ssa → d.variables ≡ c.variables → is_terminator operation ≡ false → program.result_types operation controlling ≡ types
+    → ((new : Ledger) → AnswersAgree new g (length calls) (AnInstruction ∷ map AValue types) (inst ∷ results))
+    → LedgerAgrees (calls ++ record { request = Build (record { operation = operation; controlling = controlling; operands = operands; edges = [] }); numbers = inst ∷ results } ∷ [])
+    (ledger_with ledger (Build (record { operation = operation; controlling = controlling; operands = operands; edges = [] }))) g d p
+agrees-plain calls ledger f g c d p block shape operation controlling types operands inst results agrees at consistent exists function sets ssa variables goes_on typed answers =
+    let request : Request = Build (record { operation = operation; controlling = controlling; operands = operands; edges = [] }) in
+    let call : AnsweredCall = record { request = request; numbers = inst ∷ results } in
     let current = name-of-some (block_name ledger) ledger.current block (agrees.current ∙ ap (option_map (block_name ledger)) at) in
     let new : Ledger = ledger_with ledger request in
-    let changed : MadeLedger ledger new current.0 unpristine = begun_by arithmetic current.0 current.1 in
+    let changed : MadeLedger ledger new current.0 unpristine = begun_by (is_terminator operation) goes_on current.0 current.1 in
+    agrees-made calls call ledger new f g c d p block current.0 unpristine (begun (status_of c block)) (AnInstruction ∷ map AValue types) agrees current.2
+    (ap (λ (ts : List «Type»). ledger.answers ++ (AnInstruction ∷ map AValue ts) ∷ []) typed) changed
+    (begun-agrees (status_of c block)) sets
+    (appends-make f g c d block shape types (begun (status_of c block)) (in_order agrees) consistent exists function sets (begun-not-empty (status_of c block)) (λ filled. ap begun filled) ssa variables)
+    (answers new)
+  where
+    begun_by : (ends : Bool) → ends ≡ false → (x : Name) → ledger.current ≡ Some x
+        → MadeLedger ledger (record (if ends then with_filled_at (with_begun ledger) (with_begun ledger).current else with_begun ledger)
+        { answers = ledger.answers ++ (AnInstruction ∷ map AValue (program.result_types operation controlling)) ∷ [] }) x unpristine
+    begun_by true is x at = let no_way : ⊥ = cc in absurd no_way
+    begun_by false is x at =
+        let begins = begun-ledger ledger x at in
+        record { blocks = begins.blocks; layout = begins.layout; current = begins.current; variables = begins.variables }
+
+-- with one result
+pub agrees-value : (calls : List AnsweredCall) (ledger : Ledger) (f g : Body) (c d : ContextState) (p : Option ℕ) (block : ℕ) (shape : InstructionData)
+    (operation : Operation) (controlling ty : «Type») (operands : List Name) (inst value : ℕ)
+    → LedgerAgrees calls ledger f c p → p ≡ Some block → IsConsistent f → block < length f.blocks → g ≡ with_inst (inserted_in f block) block Back shape (ty ∷ []) no_srcloc
+    → SetsStatus c d block (begun (status_of c block)) → d.ssa ≡ c.ssa → d.variables ≡ c.variables → inst ≡ length f.insts → value ≡ length f.values
+    → is_terminator operation ≡ false → program.result_types operation controlling ≡ ty ∷ []
+    → LedgerAgrees (calls ++ record { request = Build (record { operation = operation; controlling = controlling; operands = operands; edges = [] }); numbers = inst ∷ value ∷ [] } ∷ [])
+    (ledger_with ledger (Build (record { operation = operation; controlling = controlling; operands = operands; edges = [] }))) g d p
+agrees-value calls ledger f g c d p block shape operation controlling ty operands inst value agrees at consistent exists function sets ssa variables is_inst is_value goes_on typed =
     let node : InstNode = inst_node (inserted_in f block) block shape (ty ∷ []) no_srcloc in
     let there : slice_get g.insts inst ≡ Some node = ap (slice_get g.insts) is_inst ∙ node-there f g block shape (ty ∷ []) function in
     let results : node.results ≡ value ∷ [] = ap (λ (n : ℕ). n ∷ []) (inserted-values f block ∙ sym is_value) in
-    agrees-made calls call ledger new f g c d p block current.0 unpristine (begun (status_of c block)) (AnInstruction ∷ AValue ty ∷ []) agrees current.2
-    (ap (λ (types : List «Type»). ledger.answers ++ (AnInstruction ∷ map AValue types) ∷ []) (types_of arithmetic)) changed
-    (begun-agrees (status_of c block)) sets
-    (appends-make f g c d block shape (ty ∷ []) (begun (status_of c block)) (in_order agrees) consistent exists function sets (begun-not-empty (status_of c block)) (λ filled. ap begun filled) ssa variables)
-    (answers-two new g (length calls) inst value node ty there results (ap (value_type g) is_value ∙ result-type f g block shape ty function))
-  where
-    types_of : (a : Arithmetic) → program.result_types (Compute a) ty ≡ ty ∷ []
-    types_of (Iconst number) = refl
-    types_of (Unary opcode) = refl
-    types_of (Binary opcode) = refl
-    types_of (Convert opcode) = refl
-    types_of Select = refl
+    agrees-plain calls ledger f g c d p block shape operation controlling (ty ∷ []) operands inst (value ∷ []) agrees at consistent exists function sets ssa variables goes_on typed
+    (λ new. answers-two new g (length calls) inst value node ty there results (ap (value_type g) is_value ∙ result-type f g block shape ty function))
 
-    begun_by : (a : Arithmetic) (x : Name) → ledger.current ≡ Some x
-        → MadeLedger ledger (ledger_with ledger (Build (record { operation = Compute a; controlling = ty; operands = operands; edges = [] }))) x unpristine
-    begun_by (Iconst number) x is =
-        let begins = begun-ledger ledger x is in
-        record { blocks = begins.blocks; layout = begins.layout; current = begins.current; variables = begins.variables }
-    begun_by (Unary opcode) x is =
-        let begins = begun-ledger ledger x is in
-        record { blocks = begins.blocks; layout = begins.layout; current = begins.current; variables = begins.variables }
-    begun_by (Binary opcode) x is =
-        let begins = begun-ledger ledger x is in
-        record { blocks = begins.blocks; layout = begins.layout; current = begins.current; variables = begins.variables }
-    begun_by (Convert opcode) x is =
-        let begins = begun-ledger ledger x is in
-        record { blocks = begins.blocks; layout = begins.layout; current = begins.current; variables = begins.variables }
-    begun_by Select x is =
-        let begins = begun-ledger ledger x is in
-        record { blocks = begins.blocks; layout = begins.layout; current = begins.current; variables = begins.variables }
+-- without results
+pub agrees-effect : (calls : List AnsweredCall) (ledger : Ledger) (f g : Body) (c d : ContextState) (p : Option ℕ) (block : ℕ) (shape : InstructionData)
+    (operation : Operation) (controlling : «Type») (operands : List Name) (inst : ℕ)
+    → LedgerAgrees calls ledger f c p → p ≡ Some block → IsConsistent f → block < length f.blocks → g ≡ with_inst (inserted_in f block) block Back shape [] no_srcloc
+    → SetsStatus c d block (begun (status_of c block)) → d.ssa ≡ c.ssa → d.variables ≡ c.variables → inst ≡ length f.insts
+    → is_terminator operation ≡ false → program.result_types operation controlling ≡ []
+    → LedgerAgrees (calls ++ record { request = Build (record { operation = operation; controlling = controlling; operands = operands; edges = [] }); numbers = inst ∷ [] } ∷ [])
+    (ledger_with ledger (Build (record { operation = operation; controlling = controlling; operands = operands; edges = [] }))) g d p
+agrees-effect calls ledger f g c d p block shape operation controlling operands inst agrees at consistent exists function sets ssa variables is_inst goes_on typed =
+    let node : InstNode = inst_node (inserted_in f block) block shape [] no_srcloc in
+    let there : slice_get g.insts inst ≡ Some node = ap (slice_get g.insts) is_inst ∙ node-there f g block shape [] function in
+    agrees-plain calls ledger f g c d p block shape operation controlling [] operands inst [] agrees at consistent exists function sets ssa variables goes_on typed
+    (λ new. answers-one new g (length calls) AnInstruction inst (node, there) (node, there, refl))
 
 -- the state of a block that gets its terminator
 abbrev pub filled : BlockState → BlockState

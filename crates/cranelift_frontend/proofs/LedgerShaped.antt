@@ -1,6 +1,6 @@
 -- An instruction of any shape is built: the agreement with the ledger is kept.
-use Rattle.std.proofs.Common.{◌≡◌, ◌≢◌, ◌<◌, ℕ, List, [], ◌∷◌, ◌++◌, length, refl, sym, ◌∙◌, ap, subst}
-use Rattle.std.specs.Prelude.{All, map, slice_get, true, false, if◌then◌else◌, Option, Some, IfOk, Result, Ok, Err, ℤ}
+use Rattle.std.proofs.Common.{◌≡◌, ◌≢◌, ◌<◌, ℕ, List, [], ◌∷◌, ◌++◌, length, refl, sym, ◌∙◌, ap, subst, ◌⊎◌, inl, inr}
+use Rattle.std.specs.Prelude.{All, Bool, map, slice_get, true, false, if◌then◌else◌, Option, Some, IfOk, Result, Ok, Err, ℤ}
 use Rattle.std.specs.List.{range_with_len}
 use Rattle.std.proofs.lemmas.Option.{get_or_from_slice_get, same_Some}
 use Rattle.clif_types.specs.declared.types.«Type».{«Type»}
@@ -9,18 +9,27 @@ use Rattle.clif_instructions.specs.declared.block_call.BlockCall.{BlockCall}
 use Rattle.clif_ir.specs.declared.function.InstNode.{InstNode}
 use Rattle.clif_ir.specs.declared.function.ValueNode.{ValueNode}
 use Rattle.clif_instructions.specs.declared.inst_list.InsertAt.TheVariants.{Back}
+use Rattle.clif_types.specs.declared.condcodes.IntCC.{IntCC}
+use Rattle.clif_types.specs.declared.trapcode.TrapCode.{TrapCode}
+use Rattle.clif_types.specs.MemFlags.{MemFlagsShape}
+use Rattle.clif_opcodes.specs.Kinds.{result_type}
+use Rattle.clif_opcodes.specs.Typing.{row_of}
+use Rattle.clif_opcodes.specs.declared.opcodes.Opcode.{Opcode}
 use Rattle.clif_opcodes.specs.declared.opcodes.BinaryOpcode.{BinaryOpcode}
+use Rattle.clif_opcodes.specs.declared.opcodes.CondTrapOpcode.{CondTrapOpcode}
+use Rattle.clif_opcodes.specs.declared.opcodes.FloatConstOpcode.{FloatConstOpcode}
+use Rattle.clif_opcodes.specs.declared.opcodes.FloatConstOpcode.TheVariants.{F16const, F32const, F64const}
 use Rattle.clif_opcodes.specs.declared.opcodes.ConvertOpcode.{ConvertOpcode}
 use Rattle.clif_opcodes.specs.declared.opcodes.UnaryOpcode.{UnaryOpcode}
 use Rattle.clif_instructions.specs.declared.instructions.InstructionData.{InstructionData}
-use Rattle.clif_instructions.specs.declared.instructions.InstructionData.TheVariants.{UnaryImm, Unary, Binary, Convert, Ternary, Jump, Brif, MultiAry}
+use Rattle.clif_instructions.specs.declared.instructions.InstructionData.TheVariants.{UnaryImm, UnaryIeee, Unary, Binary, IntCompare, Concat, Convert, Ternary, Load, Store, Jump, Brif, MultiAry, Trap, CondTrap}
 use Rattle.clif_ir.specs.Body.{Body, inst_at, no_inst, no_value, value_at}
 use Rattle.clif_ir.specs.Changes.{inserted_in, with_inst, inst_node}
 use Rattle.clif_ir.specs.Consistent.{IsConsistent}
-use Rattle.clif_instructions.specs.Instruction.{destinations, is_branch, is_terminator, result_types}
+use Rattle.clif_instructions.specs.Instruction.{destinations, is_branch, is_terminator, result_type_of, result_types}
 use Rattle.clif_instructions.specs.Edges.{targets}
 use Rattle.clif_meaning.specs.Name.{Name}
-use Rattle.clif_meaning.specs.Instruction.{Arithmetic, Edge, Instruction, Operation, Iconst, Compute}
+use Rattle.clif_meaning.specs.Instruction.{Edge, Instruction, Operation, Iconst, Compute}
 use Rattle.clif_meaning.specs.Instruction as operation
 use Rattle.clif_meaning.specs.Program as program
 use Rattle.clif_meaning.specs.Request.{AnsweredCall, Build, number_of}
@@ -33,10 +42,11 @@ use Rattle.cranelift_frontend.specs.declared.builder.FunctionBuilder.{FunctionBu
 use Rattle.cranelift_frontend.specs.Context.{ContextState, SetsStatus, begun, status_of}
 use Rattle.cranelift_frontend.specs.Builder.{AppendsIn, CanLeadIn, HasCurrent}
 use Rattle.cranelift_frontend.specs.Construction.{IsDeclared}
-use Rattle.cranelift_frontend.specs.Ledger.{HasShape, LedgerAgrees, NamesEdge, NamesEdges, NamesValue, ledger_of, made_at}
+use Rattle.cranelift_frontend.specs.Ledger.{HasShape, LedgerAgrees, NamesEdge, NamesEdges, NamesValue, ledger_of}
 use Rattle.cranelift_frontend.proofs.LedgerLists.{map-some}
 use Rattle.cranelift_frontend.proofs.LedgerKept.{concluded, inserted-values, named-value}
-use Rattle.cranelift_frontend.proofs.LedgerBuilt.{agrees-computed, agrees-ended, node-there}
+use Rattle.cranelift_frontend.proofs.LedgerBuilt.{agrees-effect, agrees-ended, agrees-value, node-there}
+use Rattle.cranelift_frontend.proofs.Sorts.{EndsBlock, GivesNone, GivesOne, same_opcode, sort_of}
 
 -- SHAPES ----------------------------------------------------------------------------------------------------------
 
@@ -60,22 +70,18 @@ names-none calls [] made none names = refl
 names-none calls (edge ∷ edges) [] none names = absurd names
 names-none calls (edge ∷ edges) (call ∷ made) none names = let no_way : ⊥ = cc in absurd no_way
 
--- what a shape is that computes a value
-pub record Computes (f : Body) (shape : InstructionData) (ty : «Type») : Type 0 where
-  pub one : result_types shape ty ≡ ty ∷ []
-  pub goes_on : is_terminator shape ≡ false
-  pub typed : made_at f shape ty ≡ ty
-  pub no_edges : destinations shape ≡ []
+-- the program's instruction has results of the same types, and ends its block where the shape does
+pub same_types : (calls : List AnsweredCall) (f : Body) (instruction : Instruction Name Name) (shape : InstructionData) (ty : «Type») → HasShape calls f instruction shape ty
+    → program.result_types instruction.operation instruction.controlling ≡ result_types shape ty
+same_types calls f instruction shape ty has =
+    ap (λ (o : Operation). program.result_types o instruction.controlling) has.operation
+    ∙ ap (λ (o : Opcode). map (result_type instruction.controlling) (row_of o).results) (same_opcode shape)
+    ∙ ap (result_types shape) has.controlling ∙ sym has.typed
 
-pub computes : (f : Body) (shape : InstructionData) (ty : «Type») (arithmetic : Arithmetic) → operation_of shape ≡ Compute arithmetic → Computes f shape ty
-computes f (UnaryImm imm) ty arithmetic is = record { one = refl; goes_on = refl; typed = refl; no_edges = refl }
-computes f (Unary opcode arg) ty arithmetic is = record { one = refl; goes_on = refl; typed = refl; no_edges = refl }
-computes f (Binary opcode args) ty arithmetic is = record { one = refl; goes_on = refl; typed = refl; no_edges = refl }
-computes f (Convert opcode arg) ty arithmetic is = record { one = refl; goes_on = refl; typed = refl; no_edges = refl }
-computes f (Ternary args) ty arithmetic is = record { one = refl; goes_on = refl; typed = refl; no_edges = refl }
-computes f (Jump destination) ty arithmetic is = let no_way : ⊥ = cc in absurd no_way
-computes f (Brif arg blocks) ty arithmetic is = let no_way : ⊥ = cc in absurd no_way
-computes f (MultiAry args) ty arithmetic is = let no_way : ⊥ = cc in absurd no_way
+pub same_end : (calls : List AnsweredCall) (f : Body) (instruction : Instruction Name Name) (shape : InstructionData) (ty : «Type») → HasShape calls f instruction shape ty
+    → meaning.is_terminator instruction.operation ≡ is_terminator shape
+same_end calls f instruction shape ty has =
+    ap meaning.is_terminator has.operation ∙ ap (λ (o : Opcode). (row_of o).ends) (same_opcode shape)
 
 -- THE PARTS OF A BUILDER ------------------------------------------------------------------------------------------
 
@@ -85,71 +91,66 @@ module _ (calls : List AnsweredCall) (f g : Body) (c d : ContextState) (p : Opti
   function_of : (types : List «Type») → result_types shape ty ≡ types → g ≡ with_inst (inserted_in f block) block Back shape types no_srcloc
   function_of types is = appends.function ∙ ap (λ (ts : List «Type»). with_inst (inserted_in f block) block Back shape ts no_srcloc) is
 
-  pub results-of : (types : List «Type») → result_types shape ty ≡ types → (inst_at g inst).results ≡ range_with_len (length (inserted_in f block).values) (length types)
+  results-of : (types : List «Type») → result_types shape ty ≡ types → (inst_at g inst).results ≡ range_with_len (length (inserted_in f block).values) (length types)
   results-of types is =
       ap (λ (n : InstNode). n.results)
       (get_or_from_slice_get g.insts inst (inst_node (inserted_in f block) block shape types no_srcloc) no_inst
       (ap (slice_get g.insts) appends.number ∙ node-there f g block shape types (function_of types is)))
 
-  -- an instruction that computes a value
-  pub agrees-value : (arithmetic : Arithmetic) → operation_of shape ≡ Compute arithmetic → d.ssa ≡ c.ssa
-      → LedgerAgrees (calls ++ built instruction (inst ∷ length f.values ∷ []) ∷ []) (ledger_of (calls ++ built instruction (inst ∷ length f.values ∷ []) ∷ [])) g d p
-  agrees-value arithmetic is ssa =
-      let known : Computes f shape ty = computes f shape ty arithmetic is in
+  sets_status : (ends : Bool) → is_terminator shape ≡ ends → SetsStatus c d block (if ends then Filled else begun (status_of c block))
+  sets_status ends is = subst (λ t. SetsStatus c d block (if t then Filled else begun (status_of c block))) is appends.status
+
+  -- the agreement, where the instruction has these results
+  abbrev Agrees : Instruction Name Name → List ℕ → Type 0
+  Agrees i results = LedgerAgrees (calls ++ built i (inst ∷ results) ∷ []) (ledger_of (calls ++ built i (inst ∷ results) ∷ [])) g d p
+
+  -- the instruction, where it has no edges
+  same-plain : destinations shape ≡ [] → instruction ≡ plain instruction.operation instruction.controlling instruction.operands
+  same-plain none = is-plain instruction instruction.operation instruction.controlling refl refl (names-none calls instruction.edges (destinations shape) none has.edges)
+
+  giving-one : GivesOne shape ty → d.ssa ≡ c.ssa → Agrees instruction (inst_at g inst).results
+  giving-one known ssa =
       let names : List Name = instruction.operands in
-      let same : instruction ≡ plain (Compute arithmetic) ty names =
-      is-plain instruction (Compute arithmetic) ty (has.operation ∙ is) (has.controlling ∙ known.typed) (names-none calls instruction.edges (destinations shape) known.no_edges has.edges) in
-      let sets : SetsStatus c d block (begun (status_of c block)) = subst (λ t. SetsStatus c d block (if t then Filled else begun (status_of c block))) known.goes_on appends.status in
-      subst (λ (i : Instruction Name Name). LedgerAgrees (calls ++ built i (inst ∷ length f.values ∷ []) ∷ []) (ledger_of (calls ++ built i (inst ∷ length f.values ∷ []) ∷ [])) g d p) (sym same)
-      (concluded calls (built (plain (Compute arithmetic) ty names) (inst ∷ length f.values ∷ [])) g d p
-      (agrees-computed calls (ledger_of calls) f g c d p block shape arithmetic ty names inst (length f.values)
-      agrees at consistent exists (function_of (ty ∷ []) known.one) sets ssa variables appends.number refl))
+      let result : «Type» = result_type_of shape ty in
+      let numbered : (inst_at g inst).results ≡ length f.values ∷ [] = results-of (result ∷ []) known.one ∙ ap (λ (n : ℕ). n ∷ []) (inserted-values f block) in
+      subst (Agrees instruction) (sym numbered)
+      (subst (λ (i : Instruction Name Name). Agrees i (length f.values ∷ [])) (sym (same-plain known.no_edges))
+      (concluded calls (built (plain instruction.operation instruction.controlling names) (inst ∷ length f.values ∷ [])) g d p
+      (agrees-value calls (ledger_of calls) f g c d p block shape instruction.operation instruction.controlling result names inst (length f.values)
+      agrees at consistent exists (function_of (result ∷ []) known.one) (sets_status false known.goes_on) ssa variables appends.number refl
+      (same_end calls f instruction shape ty has ∙ known.goes_on) (same_types calls f instruction shape ty has ∙ known.one))))
 
-  pub value-result : (arithmetic : Arithmetic) → operation_of shape ≡ Compute arithmetic → (inst_at g inst).results ≡ length f.values ∷ []
-  value-result arithmetic is =
-      let known : Computes f shape ty = computes f shape ty arithmetic is in
-      results-of (ty ∷ []) known.one ∙ ap (λ (n : ℕ). n ∷ []) (inserted-values f block)
-
-  with_results : (arithmetic : Arithmetic) → operation_of shape ≡ Compute arithmetic → d.ssa ≡ c.ssa
-      → LedgerAgrees (calls ++ built instruction (inst ∷ (inst_at g inst).results) ∷ []) (ledger_of (calls ++ built instruction (inst ∷ (inst_at g inst).results) ∷ [])) g d p
-  with_results arithmetic is ssa =
-      subst (λ (rs : List ℕ). LedgerAgrees (calls ++ built instruction (inst ∷ rs) ∷ []) (ledger_of (calls ++ built instruction (inst ∷ rs) ∷ [])) g d p)
-      (sym (value-result arithmetic is)) (agrees-value arithmetic is ssa)
+  giving-none : GivesNone shape ty → d.ssa ≡ c.ssa → Agrees instruction (inst_at g inst).results
+  giving-none known ssa =
+      let names : List Name = instruction.operands in
+      subst (Agrees instruction) (sym (results-of [] known.none))
+      (subst (λ (i : Instruction Name Name). Agrees i []) (sym (same-plain known.no_edges))
+      (concluded calls (built (plain instruction.operation instruction.controlling names) (inst ∷ [])) g d p
+      (agrees-effect calls (ledger_of calls) f g c d p block shape instruction.operation instruction.controlling names inst
+      agrees at consistent exists (function_of [] known.none) (sets_status false known.goes_on) ssa variables appends.number
+      (same_end calls f instruction shape ty has ∙ known.goes_on) (same_types calls f instruction shape ty has ∙ known.none))))
 
   -- a terminator, with its edges
-  ending : result_types shape ty ≡ [] → is_terminator shape ≡ true → meaning.is_terminator (operation_of shape) ≡ true
-      → program.result_types (operation_of shape) instruction.controlling ≡ []
-      → status_of c block ≢ Filled → All (CanLeadIn f c) (destinations shape) → IsDeclared c.ssa inst (targets (destinations shape)) d.ssa
-      → LedgerAgrees (calls ++ built instruction (inst ∷ (inst_at g inst).results) ∷ []) (ledger_of (calls ++ built instruction (inst ∷ (inst_at g inst).results) ∷ [])) g d p
-  ending none ends program_ends program_none open_in may declared =
-      let sets : SetsStatus c d block Filled = subst (λ t. SetsStatus c d block (if t then Filled else begun (status_of c block))) ends appends.status in
-      subst (λ (rs : List ℕ). LedgerAgrees (calls ++ built instruction (inst ∷ rs) ∷ []) (ledger_of (calls ++ built instruction (inst ∷ rs) ∷ [])) g d p) (sym (results-of [] none))
+  ending : EndsBlock shape ty → status_of c block ≢ Filled → All (CanLeadIn f c) (destinations shape) → IsDeclared c.ssa inst (targets (destinations shape)) d.ssa
+      → Agrees instruction (inst_at g inst).results
+  ending known open_in may declared =
+      subst (Agrees instruction) (sym (results-of [] known.none))
       (concluded calls (built instruction (inst ∷ [])) g d p
-      (agrees-ended calls f g c d p block shape instruction inst agrees at consistent exists open_in (function_of [] none) sets variables appends.number has.edges may declared
-      (ap meaning.is_terminator has.operation ∙ program_ends)
-      (ap (λ (o : Operation). program.result_types o instruction.controlling) has.operation ∙ program_none)))
+      (agrees-ended calls f g c d p block shape instruction inst agrees at consistent exists open_in (function_of [] known.none) (sets_status true known.ends) variables appends.number has.edges may declared
+      (same_end calls f instruction shape ty has ∙ known.ends) (same_types calls f instruction shape ty has ∙ known.none)))
 
 pub shaped-ledger : (calls : List AnsweredCall) (f g : Body) (c d : ContextState) (p : Option ℕ) (block : ℕ) (instruction : Instruction Name Name) (shape : InstructionData) (ty : «Type») (inst : ℕ)
     → LedgerAgrees calls (ledger_of calls) f c p → p ≡ Some block → block < length f.blocks → status_of c block ≢ Filled → IsConsistent f
     → HasShape calls f instruction shape ty → All (CanLeadIn f c) (destinations shape) → AppendsIn f c g d block shape ty inst
     → IsDeclared c.ssa inst (targets (destinations shape)) d.ssa → (is_branch shape ≡ false → d.ssa ≡ c.ssa) → d.variables ≡ c.variables
     → LedgerAgrees (calls ++ built instruction (inst ∷ (inst_at g inst).results) ∷ []) (ledger_of (calls ++ built instruction (inst ∷ (inst_at g inst).results) ∷ [])) g d p
-shaped-ledger calls f g c d p block instruction (UnaryImm imm) ty inst agrees at exists open_in consistent has may appends declared ssa variables =
-    with_results calls f g c d p block instruction (UnaryImm imm) ty inst agrees at exists consistent has appends variables (Iconst imm) refl (ssa refl)
-shaped-ledger calls f g c d p block instruction (Unary opcode arg) ty inst agrees at exists open_in consistent has may appends declared ssa variables =
-    with_results calls f g c d p block instruction (Unary opcode arg) ty inst agrees at exists consistent has appends variables (operation.Unary opcode) refl (ssa refl)
-shaped-ledger calls f g c d p block instruction (Binary opcode args) ty inst agrees at exists open_in consistent has may appends declared ssa variables =
-    with_results calls f g c d p block instruction (Binary opcode args) ty inst agrees at exists consistent has appends variables (operation.Binary opcode) refl (ssa refl)
-shaped-ledger calls f g c d p block instruction (Convert opcode arg) ty inst agrees at exists open_in consistent has may appends declared ssa variables =
-    with_results calls f g c d p block instruction (Convert opcode arg) ty inst agrees at exists consistent has appends variables (operation.Convert opcode) refl (ssa refl)
-shaped-ledger calls f g c d p block instruction (Ternary args) ty inst agrees at exists open_in consistent has may appends declared ssa variables =
-    with_results calls f g c d p block instruction (Ternary args) ty inst agrees at exists consistent has appends variables operation.Select refl (ssa refl)
-shaped-ledger calls f g c d p block instruction (Jump destination) ty inst agrees at exists open_in consistent has may appends declared ssa variables =
-    ending calls f g c d p block instruction (Jump destination) ty inst agrees at exists consistent has appends variables refl refl refl refl open_in may declared
-shaped-ledger calls f g c d p block instruction (Brif arg blocks) ty inst agrees at exists open_in consistent has may appends declared ssa variables =
-    ending calls f g c d p block instruction (Brif arg blocks) ty inst agrees at exists consistent has appends variables refl refl refl refl open_in may declared
-shaped-ledger calls f g c d p block instruction (MultiAry args) ty inst agrees at exists open_in consistent has may appends declared ssa variables =
-    ending calls f g c d p block instruction (MultiAry args) ty inst agrees at exists consistent has appends variables refl refl refl refl open_in may declared
+shaped-ledger calls f g c d p block instruction shape ty inst agrees at exists open_in consistent has may appends declared ssa variables = by (sort_of shape ty)
+  where
+    by : GivesOne shape ty ⊎ (GivesNone shape ty ⊎ EndsBlock shape ty)
+        → LedgerAgrees (calls ++ built instruction (inst ∷ (inst_at g inst).results) ∷ []) (ledger_of (calls ++ built instruction (inst ∷ (inst_at g inst).results) ∷ [])) g d p
+    by (inl known) = giving-one calls f g c d p block instruction shape ty inst agrees at exists consistent has appends variables known (ssa known.no_branch)
+    by (inr (inl known)) = giving-none calls f g c d p block instruction shape ty inst agrees at exists consistent has appends variables known (ssa known.no_branch)
+    by (inr (inr known)) = ending calls f g c d p block instruction shape ty inst agrees at exists consistent has appends variables known open_in may declared
 
 -- where no error is answered
 pub ledger-shaped : {E : Type 0} (calls : List AnsweredCall) (f g : Body) (c d : ContextState) (p : Option ℕ) (block : ℕ) (instruction : Instruction Name Name) (shape : InstructionData) (ty : «Type») (r : Result ℕ E)
@@ -180,7 +181,7 @@ named-type calls f c p agrees name value names =
     ap or_invalid named.1 ∙ sym (ap (λ (n : ValueNode). n.ty) (get_or_from_slice_get f.values value node.0 no_value node.1) ∙ node.2)
 
 pub iconst-shape : (calls : List AnsweredCall) (f : Body) (ty : «Type») (imm : ℤ) → HasShape calls f (plain (Compute (Iconst imm)) ty []) (UnaryImm imm) ty
-iconst-shape calls f ty imm = record { operation = refl; controlling = refl; operands_numbered = refl; edges = tt }
+iconst-shape calls f ty imm = record { operation = refl; controlling = refl; typed = refl; operands_numbered = refl; edges = tt }
 
 pub unary-shape : (calls : List AnsweredCall) (f : Body) (c : ContextState) (p : Option ℕ) → LedgerAgrees calls (ledger_of calls) f c p
     → (opcode : UnaryOpcode) (a : Name) (x : ℕ) → NamesValue calls a x
@@ -188,6 +189,7 @@ pub unary-shape : (calls : List AnsweredCall) (f : Body) (c : ContextState) (p :
 unary-shape calls f c p agrees opcode a x first =
     record {
       operation = refl;
+      typed = refl;
       controlling = named-type calls f c p agrees a x first;
       operands_numbered = ap (λ (o : Option ℕ). o ∷ []) first.number;
       edges = tt;
@@ -199,6 +201,7 @@ pub binary-shape : (calls : List AnsweredCall) (f : Body) (c : ContextState) (p 
 binary-shape calls f c p agrees opcode a b x y first second =
     record {
       operation = refl;
+      typed = refl;
       controlling = named-type calls f c p agrees a x first;
       operands_numbered =
           ap (λ (o : Option ℕ). o ∷ number_of calls b ∷ []) first.number ∙ ap (λ (o : Option ℕ). Some x ∷ o ∷ []) second.number;
@@ -208,7 +211,7 @@ binary-shape calls f c p agrees opcode a b x y first second =
 pub convert-shape : (calls : List AnsweredCall) (f : Body) (opcode : ConvertOpcode) (ty : «Type») (a : Name) (x : ℕ) → NamesValue calls a x
     → HasShape calls f (plain (Compute (operation.Convert opcode)) ty (a ∷ [])) (Convert opcode x) ty
 convert-shape calls f opcode ty a x names =
-    record { operation = refl; controlling = refl; operands_numbered = ap (λ (o : Option ℕ). o ∷ []) names.number; edges = tt }
+    record { operation = refl; controlling = refl; typed = refl; operands_numbered = ap (λ (o : Option ℕ). o ∷ []) names.number; edges = tt }
 
 pub select-shape : (calls : List AnsweredCall) (f : Body) (c : ContextState) (p : Option ℕ) → LedgerAgrees calls (ledger_of calls) f c p
     → (condition a b : Name) (n x y : ℕ) → NamesValue calls condition n → NamesValue calls a x → NamesValue calls b y
@@ -216,6 +219,7 @@ pub select-shape : (calls : List AnsweredCall) (f : Body) (c : ContextState) (p 
 select-shape calls f c p agrees condition a b n x y tested first second =
     record {
       operation = refl;
+      typed = refl;
       controlling = named-type calls f c p agrees a x first;
       operands_numbered =
           ap (λ (o : Option ℕ). o ∷ number_of calls a ∷ number_of calls b ∷ []) tested.number
@@ -224,9 +228,57 @@ select-shape calls f c p agrees condition a b n x y tested first second =
       edges = tt;
     }
 
+-- two operands that are made at the type of the first
+two-operands : (calls : List AnsweredCall) (a b : Name) (x y : ℕ) → NamesValue calls a x → NamesValue calls b y → map (number_of calls) (a ∷ b ∷ []) ≡ map Some (x ∷ y ∷ [])
+two-operands calls a b x y first second =
+    ap (λ (o : Option ℕ). o ∷ number_of calls b ∷ []) first.number ∙ ap (λ (o : Option ℕ). Some x ∷ o ∷ []) second.number
+
+pub float-shape : (calls : List AnsweredCall) (f : Body) (opcode : FloatConstOpcode) (bits : ℕ)
+    → HasShape calls f (plain (Compute (operation.FloatConst opcode bits)) type.Invalid []) (UnaryIeee opcode bits) type.Invalid
+float-shape calls f F16const bits = record { operation = refl; controlling = refl; typed = refl; operands_numbered = refl; edges = tt }
+float-shape calls f F32const bits = record { operation = refl; controlling = refl; typed = refl; operands_numbered = refl; edges = tt }
+float-shape calls f F64const bits = record { operation = refl; controlling = refl; typed = refl; operands_numbered = refl; edges = tt }
+
+pub compare-shape : (calls : List AnsweredCall) (f : Body) (c : ContextState) (p : Option ℕ) → LedgerAgrees calls (ledger_of calls) f c p
+    → (condition : IntCC) (a b : Name) (x y : ℕ) → NamesValue calls a x → NamesValue calls b y
+    → HasShape calls f (plain (Compute (operation.Compare condition)) (or_invalid (type_of (ledger_of calls) a)) (a ∷ b ∷ [])) (IntCompare condition (x ∷ y ∷ [])) (value_at f x).ty
+compare-shape calls f c p agrees condition a b x y first second =
+    record { operation = refl; controlling = named-type calls f c p agrees a x first; typed = refl; operands_numbered = two-operands calls a b x y first second; edges = tt }
+
+pub concat-shape : (calls : List AnsweredCall) (f : Body) (c : ContextState) (p : Option ℕ) → LedgerAgrees calls (ledger_of calls) f c p
+    → (a b : Name) (x y : ℕ) → NamesValue calls a x → NamesValue calls b y
+    → HasShape calls f (plain (Compute operation.Concat) (or_invalid (type_of (ledger_of calls) a)) (a ∷ b ∷ [])) (Concat (x ∷ y ∷ [])) (value_at f x).ty
+concat-shape calls f c p agrees a b x y first second =
+    record { operation = refl; controlling = named-type calls f c p agrees a x first; typed = refl; operands_numbered = two-operands calls a b x y first second; edges = tt }
+
+pub load-shape : (calls : List AnsweredCall) (f : Body) (flags : MemFlagsShape) (ty : «Type») (a : Name) (x : ℕ) (offset : ℤ) → NamesValue calls a x
+    → HasShape calls f (plain (operation.Load flags offset) ty (a ∷ [])) (Load flags x offset) ty
+load-shape calls f flags ty a x offset names =
+    record { operation = refl; controlling = refl; typed = refl; operands_numbered = ap (λ (o : Option ℕ). o ∷ []) names.number; edges = tt }
+
+pub store-shape : (calls : List AnsweredCall) (f : Body) (c : ContextState) (p : Option ℕ) → LedgerAgrees calls (ledger_of calls) f c p
+    → (flags : MemFlagsShape) (a b : Name) (x y : ℕ) (offset : ℤ) → NamesValue calls a x → NamesValue calls b y
+    → HasShape calls f (plain (operation.Store flags offset) (or_invalid (type_of (ledger_of calls) a)) (a ∷ b ∷ [])) (Store flags (x ∷ y ∷ []) offset) type.Invalid
+store-shape calls f c p agrees flags a b x y offset first second =
+    record { operation = refl; controlling = named-type calls f c p agrees a x first; typed = refl; operands_numbered = two-operands calls a b x y first second; edges = tt }
+
+pub trap-shape : (calls : List AnsweredCall) (f : Body) (code : TrapCode) → HasShape calls f (plain (operation.Trap code) type.Invalid []) (Trap code) type.Invalid
+trap-shape calls f code = record { operation = refl; controlling = refl; typed = refl; operands_numbered = refl; edges = tt }
+
+pub cond_trap-shape : (calls : List AnsweredCall) (f : Body) (c : ContextState) (p : Option ℕ) → LedgerAgrees calls (ledger_of calls) f c p
+    → (opcode : CondTrapOpcode) (a : Name) (x : ℕ) (code : TrapCode) → NamesValue calls a x
+    → HasShape calls f (plain (operation.CondTrap opcode code) (or_invalid (type_of (ledger_of calls) a)) (a ∷ [])) (CondTrap opcode x code) type.Invalid
+cond_trap-shape calls f c p agrees opcode a x code names = record {
+  operation = refl;
+  controlling = named-type calls f c p agrees a x names;
+  typed = refl;
+  operands_numbered = ap (λ (o : Option ℕ). o ∷ []) names.number;
+  edges = tt;
+}
+
 pub jump-shape : (calls : List AnsweredCall) (f : Body) (edge : Edge Name Name) (made : BlockCall) → NamesEdge calls edge made
     → HasShape calls f (record { operation = operation.Jump; controlling = type.Invalid; operands = []; edges = edge ∷ [] }) (Jump made) type.Invalid
-jump-shape calls f edge made names = record { operation = refl; controlling = refl; operands_numbered = refl; edges = (names, tt) }
+jump-shape calls f edge made names = record { operation = refl; controlling = refl; typed = refl; operands_numbered = refl; edges = (names, tt) }
 
 pub brif-shape : (calls : List AnsweredCall) (f : Body) (c : ContextState) (p : Option ℕ) → LedgerAgrees calls (ledger_of calls) f c p
     → (condition : Name) (value : ℕ) (taken other : Edge Name Name) (block_then block_else : BlockCall) (blocks : List BlockCall) → blocks ≡ block_then ∷ block_else ∷ []
@@ -236,6 +288,7 @@ pub brif-shape : (calls : List AnsweredCall) (f : Body) (c : ContextState) (p : 
 brif-shape calls f c p agrees condition value taken other block_then block_else blocks same names first second =
     record {
       operation = refl;
+      typed = refl;
       controlling = named-type calls f c p agrees condition value names;
       operands_numbered = ap (λ (o : Option ℕ). o ∷ []) names.number;
       edges = subst (NamesEdges calls (taken ∷ other ∷ [])) (sym same) (first, (second, tt));
@@ -243,4 +296,4 @@ brif-shape calls f c p agrees condition value taken other block_then block_else 
 
 pub return-shape : (calls : List AnsweredCall) (f : Body) (names : List Name) (values : List ℕ) → map (number_of calls) names ≡ map Some values
     → HasShape calls f (plain operation.Return type.Invalid names) (MultiAry values) type.Invalid
-return-shape calls f names values numbered = record { operation = refl; controlling = refl; operands_numbered = numbered; edges = tt }
+return-shape calls f names values numbered = record { operation = refl; controlling = refl; typed = refl; operands_numbered = numbered; edges = tt }

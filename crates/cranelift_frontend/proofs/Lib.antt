@@ -12,6 +12,7 @@ pub mod LedgerBlocks
 pub mod LedgerLeads
 pub mod LedgerBranched
 pub mod LedgerBuilt
+mod Sorts
 pub mod LedgerShaped
 pub mod LedgerVariables
 pub mod LedgerEnds

@@ -10,7 +10,7 @@ use Rattle.clif_instructions.specs.declared.block_call.BlockCall.{BlockCall}
 use Rattle.clif_ir.specs.declared.function.InstNode.{InstNode}
 use Rattle.clif_instructions.specs.declared.inst_list.InsertAt.TheVariants.{Back}
 use Rattle.clif_instructions.specs.declared.instructions.InstructionData.{InstructionData}
-use Rattle.clif_instructions.specs.declared.instructions.InstructionData.TheVariants.{UnaryImm, Unary, Binary, Convert, Ternary, Jump, Brif, MultiAry}
+use Rattle.clif_instructions.specs.declared.instructions.InstructionData.TheVariants.{Jump, Brif}
 use Rattle.clif_ir.specs.Body.{Body, block_at, empty_body, inst_at, no_inst}
 use Rattle.clif_ir.specs.Changes.{inserted_in, inst_node, with_block, with_cold, with_inst, with_layout_after}
 use Rattle.clif_ir.specs.Consistent.{IsConsistent}
@@ -395,14 +395,9 @@ module _ (f g : Body) (c d : ContextState) (block : ℕ) (shape : InstructionDat
 
 -- an instruction that doesn't end its block is no branch
 inner_plain : (shape : InstructionData) → is_terminator shape ≡ false → is_branch shape ≡ false
-inner_plain (UnaryImm imm) goes_on = refl
-inner_plain (Unary opcode arg) goes_on = refl
-inner_plain (Binary opcode args) goes_on = refl
-inner_plain (Convert opcode arg) goes_on = refl
-inner_plain (Ternary args) goes_on = refl
 inner_plain (Jump destination) goes_on = let no_way : ⊥ = cc in absurd no_way
 inner_plain (Brif arg blocks) goes_on = let no_way : ⊥ = cc in absurd no_way
-inner_plain (MultiAry args) goes_on = refl
+inner_plain _ goes_on = refl
 
 -- an instruction is appended
 order-appended : (f g : Body) (c d : ContextState) (block : ℕ) (shape : InstructionData) (ty : «Type») (inst : ℕ) → IsConsistent f → block < length f.blocks → status_of c block ≢ Filled

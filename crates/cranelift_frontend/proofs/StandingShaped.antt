@@ -1,6 +1,6 @@
 -- An instruction of any shape is built, with edges or without: the builder stands for the list with this call at its end.
-use Rattle.std.proofs.Common.{◌≡◌, ◌≢◌, ℕ, zero, suc, ◌<◌, List, [], ◌∷◌, ◌++◌, length, map, refl, sym, ◌∙◌, ap, subst, arith}
-use Rattle.std.specs.Prelude.{slice_get, slice_index_or, All, Contains, Option, Some, true, false, IfOk, Result, Ok, Err, ◌==◌}
+use Rattle.std.proofs.Common.{◌≡◌, ◌≢◌, ℕ, zero, suc, ◌<◌, List, [], ◌∷◌, ◌++◌, length, map, refl, sym, ◌∙◌, ap, subst, arith, ◌⊎◌, inl, inr}
+use Rattle.std.specs.Prelude.{slice_get, slice_index, slice_index_or, All, Contains, Option, Some, true, false, IfOk, Result, Ok, Err, ◌==◌}
 use Rattle.std.proofs.lemmas.Bool.{eq-eqb, eqb-true, or_left, or_right}
 use Rattle.std.proofs.lemmas.List.{append-nil}
 use Rattle.std.proofs.lemmas.Map.Views.{Contains-from_any}
@@ -9,26 +9,24 @@ use Rattle.clif_types.specs.Signature.{SignatureShape}
 use Rattle.clif_instructions.specs.declared.block_call.BlockCall.{BlockCall}
 use Rattle.clif_ir.specs.declared.function.ValueNode.{ValueNode}
 use Rattle.clif_instructions.specs.declared.instructions.InstructionData.{InstructionData}
-use Rattle.clif_instructions.specs.declared.instructions.InstructionData.TheVariants.{UnaryImm, Unary, Binary, Convert, Ternary, Jump, Brif, MultiAry}
-use Rattle.clif_ir.specs.Body.{Body, inst_at, value_at}
-use Rattle.clif_ir.specs.Changes.{inserted_in, with_inst}
+use Rattle.clif_ir.specs.Body.{Body, inst_at}
+use Rattle.clif_ir.specs.Changes.{inserted_in, inst_node, with_inst}
 use Rattle.clif_ir.specs.Consistent.{IsConsistent}
 use Rattle.clif_instructions.specs.declared.inst_list.InsertAt.TheVariants.{Back}
-use Rattle.clif_instructions.specs.Instruction.{destinations, is_branch, operands, result_types}
+use Rattle.clif_instructions.specs.Instruction.{destinations, is_branch, operands, result_type_of, result_types}
 use Rattle.clif_instructions.specs.Members.{stands_in}
 use Rattle.clif_instructions.specs.Edges.{targets}
 use Rattle.clif_ssa.specs.Ssa.{no_srcloc, predecessors_of, record_of, sealed_of, SsaState}
 use Rattle.clif_records.specs.Tables.{is_yes}
 use Rattle.clif_ssa.proofs.Completing.{inserted_same}
 use Rattle.clif_meaning.specs.Name.{Name}
-use Rattle.clif_meaning.specs.Instruction.{Arithmetic, Compute, Iconst, Instruction, Operation}
-use Rattle.clif_meaning.specs.Instruction as operation
+use Rattle.clif_meaning.specs.Instruction.{Instruction}
 use Rattle.clif_meaning.specs.Ledger as ledger
 use Rattle.clif_meaning.specs.Program as program
 use Rattle.clif_meaning.specs.Request.{AnsweredCall, Build}
-use Rattle.clif_meaning.specs.View.{controlling_of, edge_of, first_type, operation_of}
+use Rattle.clif_meaning.specs.View.{controlling_of, edge_of}
 use Rattle.clif_simulation.specs.Carries.{Carries, DeclaredAlong, IsCurrent}
-use Rattle.clif_simulation.proofs.Building.{SameBranch, SameInstruction, carries_branch, carries_result, carries_terminator}
+use Rattle.clif_simulation.proofs.Building.{SameBranch, SameInstruction, carries_branch, carries_result, carries_terminator, made_controlling}
 use Rattle.cranelift_frontend.specs.declared.context.BlockStatus.TheVariants.{Filled}
 use Rattle.cranelift_frontend.specs.Construction.{IsDeclared}
 use Rattle.cranelift_frontend.specs.Context.{ContextState, status_of}
@@ -36,6 +34,8 @@ use Rattle.cranelift_frontend.specs.Builder.{AppendsIn, CanLeadIn}
 use Rattle.cranelift_frontend.specs.Ledger.{HasShape, LedgerAgrees, NamesEdges, ledger_of}
 use Rattle.cranelift_frontend.specs.StandsFor.{StandsIn}
 use Rattle.cranelift_frontend.proofs.LedgerNames.{name-number}
+use Rattle.cranelift_frontend.proofs.LedgerShaped.{same_end, same_types}
+use Rattle.cranelift_frontend.proofs.Sorts.{EndsBlock, GivesNone, GivesOne, sort_of}
 use Rattle.cranelift_frontend.proofs.Growing.{appended_results}
 use Rattle.cranelift_frontend.proofs.Standing.{current_name, current_unfilled}
 use Rattle.cranelift_frontend.proofs.StandingBuilt.{all_named, edges_named, none_named, stands_built}
@@ -80,7 +80,8 @@ abbrev pub built : Instruction Name Name → List ℕ → AnsweredCall
 built instruction numbers = record { request = Build instruction; numbers = numbers }
 
 module _ (declared : SignatureShape) (calls : List AnsweredCall) (f g : Body) (c d : ContextState) (p : Option ℕ) (instruction : Instruction Name Name) (shape : InstructionData)
-    (ty : «Type») (inst block : ℕ) (stands : StandsIn declared calls f c p) (consistent : IsConsistent f) (has : HasShape calls f instruction shape ty) (at : p ≡ Some block)
+    (ty : «Type») (inst block : ℕ) (stands : StandsIn declared calls f c p) (consistent : IsConsistent f) (has : HasShape calls f instruction shape ty)
+    (operands_exist : (k : ℕ) → k < length (operands shape) → slice_index (operands shape) k < length f.values) (at : p ≡ Some block)
     (there : block < length f.blocks) (open_block : status_of c block ≢ Filled) (appends : AppendsIn f c g d block shape ty inst)
     (kept : LedgerAgrees (calls ++ built instruction (inst ∷ (inst_at g inst).results) ∷ []) (ledger_of (calls ++ built instruction (inst ∷ (inst_at g inst).results) ∷ [])) g d p) where
   abbrev numbers : List ℕ
@@ -116,39 +117,38 @@ module _ (declared : SignatureShape) (calls : List AnsweredCall) (f g : Body) (c
       stands_built declared calls f g c d p stands block shape ty inst appends call tt tt kept
       (subst (λ (ts : List «Type»). Carries (calls ++ call ∷ []) (with_inst (inserted_in f block) block Back shape ts no_srcloc) d.ssa) (sym is) carries)
 
-  -- it computes a value
-  stands_computed : (arithmetic : Arithmetic) → operation_of shape ≡ Compute arithmetic → destinations shape ≡ [] → result_types shape ty ≡ ty ∷ [] → instruction.controlling ≡ ty
-      → ((h : Body) (values : List ℕ) → controlling_of h shape values ≡ first_type h values) → d.ssa ≡ c.ssa → StandsIn declared (calls ++ call ∷ []) g d p
-  stands_computed arithmetic computes none one typed by_result same =
-      let results : (inst_at g inst).results ≡ length f.values ∷ [] = appended_results f c g d block shape ty inst appends one in
-      let one_result : program.result_types instruction.operation instruction.controlling ≡ ty ∷ [] =
-      ap (λ (o : Operation). program.result_types o instruction.controlling) (has.operation ∙ computes) ∙ types_of arithmetic instruction.controlling ∙ ap (λ (t : «Type»). t ∷ []) typed in
+  -- the types of the program's results, and the type at which the instruction is made
+  program_types : program.result_types instruction.operation instruction.controlling ≡ result_types shape ty
+  program_types = same_types calls f instruction shape ty has
+
+  controlled_at : (types : List «Type») → result_types shape ty ≡ types
+      → controlling_of (with_inst (inserted_in f block) block Back shape types no_srcloc) shape (inst_node (inserted_in f block) block shape types no_srcloc).results ≡ instruction.controlling
+  controlled_at types is =
+      made_controlling calls f c.ssa stands.carries consistent block here.0 here.1 unfilled there shape instruction no_srcloc numbers types ty (sym is) operands_exist ∙ sym has.controlling
+
+  -- it has one result
+  stands_value : GivesOne shape ty → d.ssa ≡ c.ssa → StandsIn declared (calls ++ call ∷ []) g d p
+  stands_value known same =
+      let result : «Type» = result_type_of shape ty in
+      let results : (inst_at g inst).results ≡ length f.values ∷ [] = appended_results f c g d block shape ty result inst appends known.one in
       let inserted : length f.values ≡ length (inserted_in f block).values = ap (λ (vs : List ValueNode). length vs) (sym (inserted_same f block).values) in
-      let carries = carries_result calls f c.ssa stands.carries consistent block here.0 here.1 unfilled there shape instruction no_srcloc numbers (plainly none)
-      ty one_result typed by_result (ap (λ (rs : List ℕ). slice_get (inst ∷ rs) 1) results ∙ ap (λ (v : ℕ). Some v) inserted) in
-      finished (ty ∷ []) one (subst (Carries (calls ++ call ∷ []) (with_inst (inserted_in f block) block Back shape (ty ∷ []) no_srcloc)) (sym same) carries)
-    where
-      types_of : (a : Arithmetic) (t : «Type») → program.result_types (Compute a) t ≡ t ∷ []
-      types_of (Iconst number) t = refl
-      types_of (operation.Unary opcode) t = refl
-      types_of (operation.Binary opcode) t = refl
-      types_of (operation.Convert opcode) t = refl
-      types_of operation.Select t = refl
+      let carries = carries_result calls f c.ssa stands.carries consistent block here.0 here.1 unfilled there shape instruction no_srcloc numbers (plainly known.no_edges)
+      result (program_types ∙ known.one) (controlled_at (result ∷ []) known.one) (ap (λ (rs : List ℕ). slice_get (inst ∷ rs) 1) results ∙ ap (λ (v : ℕ). Some v) inserted) in
+      finished (result ∷ []) known.one (subst (Carries (calls ++ call ∷ []) (with_inst (inserted_in f block) block Back shape (result ∷ []) no_srcloc)) (sym same) carries)
 
-  -- it ends its block, and goes nowhere
-  stands_ended : destinations shape ≡ [] → result_types shape ty ≡ [] → program.result_types instruction.operation instruction.controlling ≡ []
-      → controlling_of (with_inst (inserted_in f block) block Back shape [] no_srcloc) shape [] ≡ instruction.controlling → d.ssa ≡ c.ssa → StandsIn declared (calls ++ call ∷ []) g d p
-  stands_ended none no_types no_results typed same =
-      let carries = carries_terminator calls f c.ssa stands.carries consistent block here.0 here.1 unfilled there shape instruction no_srcloc numbers (plainly none) no_results typed in
-      finished [] no_types (subst (Carries (calls ++ call ∷ []) (with_inst (inserted_in f block) block Back shape [] no_srcloc)) (sym same) carries)
+  -- it has none, and its block goes on
+  stands_effect : GivesNone shape ty → d.ssa ≡ c.ssa → StandsIn declared (calls ++ call ∷ []) g d p
+  stands_effect known same =
+      let carries = carries_terminator calls f c.ssa stands.carries consistent block here.0 here.1 unfilled there shape instruction no_srcloc numbers (plainly known.no_edges)
+      (program_types ∙ known.none) (controlled_at [] known.none) in
+      finished [] known.none (subst (Carries (calls ++ call ∷ []) (with_inst (inserted_in f block) block Back shape [] no_srcloc)) (sym same) carries)
 
-  -- it is a branch
-  stands_branch : result_types shape ty ≡ [] → program.result_types instruction.operation instruction.controlling ≡ [] → ledger.is_terminator instruction.operation ≡ true
-      → controlling_of (with_inst (inserted_in f block) block Back shape [] no_srcloc) shape [] ≡ instruction.controlling
-      → All (CanLeadIn f c) (destinations shape) → IsDeclared c.ssa inst (targets (destinations shape)) d.ssa → StandsIn declared (calls ++ call ∷ []) g d p
-  stands_branch no_types no_results ends typed edges declares =
-      finished [] no_types
-      (carries_branch calls f c.ssa stands.carries consistent block here.0 here.1 unfilled there shape instruction no_srcloc numbers branch no_results typed declares.told d.ssa ends declares.once
+  -- it ends its block
+  stands_end : EndsBlock shape ty → All (CanLeadIn f c) (destinations shape) → IsDeclared c.ssa inst (targets (destinations shape)) d.ssa → StandsIn declared (calls ++ call ∷ []) g d p
+  stands_end known edges declares =
+      finished [] known.none
+      (carries_branch calls f c.ssa stands.carries consistent block here.0 here.1 unfilled there shape instruction no_srcloc numbers branch (program_types ∙ known.none) (controlled_at [] known.none)
+      declares.told d.ssa (same_end calls f instruction shape ty has ∙ known.ends) declares.once
       exactly (λ x told. let to = (exactly x).0 told in target_unsealed f c (destinations shape) to.0 x edges to.1 to.2)
       (subst (λ (i : ℕ). DeclaredAlong c.ssa i declares.told d.ssa) appends.number declares.along))
     where
@@ -161,44 +161,27 @@ module _ (declared : SignatureShape) (calls : List AnsweredCall) (f g : Body) (c
 -- AN INSTRUCTION OF ANY SHAPE -------------------------------------------------------------------------------------------
 
 pub shaped_stands : (declared : SignatureShape) (calls : List AnsweredCall) (f g : Body) (c d : ContextState) (p : Option ℕ) (instruction : Instruction Name Name) (shape : InstructionData)
-    (ty : «Type») (inst block : ℕ) → StandsIn declared calls f c p → IsConsistent f → HasShape calls f instruction shape ty → p ≡ Some block
+    (ty : «Type») (inst block : ℕ) → StandsIn declared calls f c p → IsConsistent f → HasShape calls f instruction shape ty
+    → ((k : ℕ) → k < length (operands shape) → slice_index (operands shape) k < length f.values) → p ≡ Some block
     → block < length f.blocks → status_of c block ≢ Filled → AppendsIn f c g d block shape ty inst
     → All (CanLeadIn f c) (destinations shape) → IsDeclared c.ssa inst (targets (destinations shape)) d.ssa → (is_branch shape ≡ false → d.ssa ≡ c.ssa)
     → LedgerAgrees (calls ++ built instruction (inst ∷ (inst_at g inst).results) ∷ []) (ledger_of (calls ++ built instruction (inst ∷ (inst_at g inst).results) ∷ [])) g d p
     → StandsIn declared (calls ++ built instruction (inst ∷ (inst_at g inst).results) ∷ []) g d p
-shaped_stands declared calls f g c d p instruction (UnaryImm imm) ty inst block stands consistent has at there open_block appends edges declares same kept =
-    stands_computed declared calls f g c d p instruction (UnaryImm imm) ty inst block stands consistent has at there open_block appends kept
-    (Iconst imm) refl refl refl has.controlling (λ h values. refl) (same refl)
-shaped_stands declared calls f g c d p instruction (Unary opcode arg) ty inst block stands consistent has at there open_block appends edges declares same kept =
-    stands_computed declared calls f g c d p instruction (Unary opcode arg) ty inst block stands consistent has at there open_block appends kept
-    (operation.Unary opcode) refl refl refl has.controlling (λ h values. refl) (same refl)
-shaped_stands declared calls f g c d p instruction (Binary opcode args) ty inst block stands consistent has at there open_block appends edges declares same kept =
-    stands_computed declared calls f g c d p instruction (Binary opcode args) ty inst block stands consistent has at there open_block appends kept
-    (operation.Binary opcode) refl refl refl has.controlling (λ h values. refl) (same refl)
-shaped_stands declared calls f g c d p instruction (Convert opcode arg) ty inst block stands consistent has at there open_block appends edges declares same kept =
-    stands_computed declared calls f g c d p instruction (Convert opcode arg) ty inst block stands consistent has at there open_block appends kept
-    (operation.Convert opcode) refl refl refl has.controlling (λ h values. refl) (same refl)
-shaped_stands declared calls f g c d p instruction (Ternary args) ty inst block stands consistent has at there open_block appends edges declares same kept =
-    stands_computed declared calls f g c d p instruction (Ternary args) ty inst block stands consistent has at there open_block appends kept
-    operation.Select refl refl refl has.controlling (λ h values. refl) (same refl)
-shaped_stands declared calls f g c d p instruction (Jump destination) ty inst block stands consistent has at there open_block appends edges declares same kept =
-    stands_branch declared calls f g c d p instruction (Jump destination) ty inst block stands consistent has at there open_block appends kept
-    refl (ap (λ (o : Operation). program.result_types o instruction.controlling) has.operation) (ap ledger.is_terminator has.operation) (sym has.controlling) edges declares
-shaped_stands declared calls f g c d p instruction (Brif arg blocks) ty inst block stands consistent has at there open_block appends edges declares same kept =
-    stands_branch declared calls f g c d p instruction (Brif arg blocks) ty inst block stands consistent has at there open_block appends kept
-    refl (ap (λ (o : Operation). program.result_types o instruction.controlling) has.operation) (ap ledger.is_terminator has.operation)
-    (ap (λ (vs : List ValueNode). (value_at (record f { values = vs }) arg).ty) (append-nil (inserted_in f block).values ∙ (inserted_same f block).values) ∙ sym has.controlling) edges declares
-shaped_stands declared calls f g c d p instruction (MultiAry args) ty inst block stands consistent has at there open_block appends edges declares same kept =
-    stands_ended declared calls f g c d p instruction (MultiAry args) ty inst block stands consistent has at there open_block appends kept
-    refl refl (ap (λ (o : Operation). program.result_types o instruction.controlling) has.operation) (sym has.controlling) (same refl)
+shaped_stands declared calls f g c d p instruction shape ty inst block stands consistent has exist at there open_block appends edges declares same kept = by (sort_of shape ty)
+  where
+    by : GivesOne shape ty ⊎ (GivesNone shape ty ⊎ EndsBlock shape ty) → StandsIn declared (calls ++ built instruction (inst ∷ (inst_at g inst).results) ∷ []) g d p
+    by (inl known) = stands_value declared calls f g c d p instruction shape ty inst block stands consistent has exist at there open_block appends kept known (same known.no_branch)
+    by (inr (inl known)) = stands_effect declared calls f g c d p instruction shape ty inst block stands consistent has exist at there open_block appends kept known (same known.no_branch)
+    by (inr (inr known)) = stands_end declared calls f g c d p instruction shape ty inst block stands consistent has exist at there open_block appends kept known edges declares
 
 -- where no error is answered
 pub stands_shaped : {E : Type 0} (declared : SignatureShape) (calls : List AnsweredCall) (f g : Body) (c d : ContextState) (p : Option ℕ) (instruction : Instruction Name Name) (shape : InstructionData)
-    (ty : «Type») (r : Result ℕ E) (block : ℕ) → StandsIn declared calls f c p → IsConsistent f → HasShape calls f instruction shape ty → p ≡ Some block
+    (ty : «Type») (r : Result ℕ E) (block : ℕ) → StandsIn declared calls f c p → IsConsistent f → HasShape calls f instruction shape ty
+    → ((k : ℕ) → k < length (operands shape) → slice_index (operands shape) k < length f.values) → p ≡ Some block
     → block < length f.blocks → status_of c block ≢ Filled → IfOk r (λ inst. AppendsIn f c g d block shape ty inst)
     → All (CanLeadIn f c) (destinations shape) → IfOk r (λ inst. IsDeclared c.ssa inst (targets (destinations shape)) d.ssa) → (is_branch shape ≡ false → d.ssa ≡ c.ssa)
     → IfOk r (λ inst. LedgerAgrees (calls ++ built instruction (inst ∷ (inst_at g inst).results) ∷ []) (ledger_of (calls ++ built instruction (inst ∷ (inst_at g inst).results) ∷ [])) g d p)
     → IfOk r (λ inst. StandsIn declared (calls ++ built instruction (inst ∷ (inst_at g inst).results) ∷ []) g d p)
-stands_shaped declared calls f g c d p instruction shape ty (Err e) block stands consistent has at there open_block appends edges declares same kept = tt
-stands_shaped declared calls f g c d p instruction shape ty (Ok inst) block stands consistent has at there open_block appends edges declares same kept =
-    shaped_stands declared calls f g c d p instruction shape ty inst block stands consistent has at there open_block appends edges declares same kept
+stands_shaped declared calls f g c d p instruction shape ty (Err e) block stands consistent has exist at there open_block appends edges declares same kept = tt
+stands_shaped declared calls f g c d p instruction shape ty (Ok inst) block stands consistent has exist at there open_block appends edges declares same kept =
+    shaped_stands declared calls f g c d p instruction shape ty inst block stands consistent has exist at there open_block appends edges declares same kept

@@ -6,7 +6,7 @@ use Rattle.clif_types.specs.declared.error.BuildError.TheVariants.{Full, Failed}
 use Rattle.clif_types.specs.declared.types.«Type».{«Type»}
 use Rattle.clif_types.specs.Signature.{SignatureShape}
 use Rattle.clif_ir.specs.Body.{inst_at, value_at}
-use Rattle.clif_instructions.specs.Instruction.{destinations, is_branch, is_terminator}
+use Rattle.clif_instructions.specs.Instruction.{destinations, is_branch, is_terminator, result_type_of}
 use Rattle.clif_instructions.specs.Edges.{targets}
 use Rattle.clif_instructions.specs.declared.instructions.InstructionData.{InstructionData}
 use Rattle.clif_meaning.specs.Instruction.{Instruction}
@@ -91,5 +91,5 @@ pub record BuildsValue (old new : FunctionBuilder) (shape : InstructionData) (ty
   pub remembers : (v b : ℕ) → OnOk answer (RemembersIn v b old new)
   pub current : OnOk answer (HasCurrent new)
   pub types : OnOk answer (TypesStay old.func.now new.func.now)
-  pub typed : IfOk answer (λ value. (value_at new.func.now value).ty ≡ ty)
+  pub typed : IfOk answer (λ value. (value_at new.func.now value).ty ≡ result_type_of shape ty)
   pub fills : OnOk answer (FillsNone old.ctx.now new.ctx.now)

@@ -2,18 +2,16 @@
 -- layout and variables is what the builder answered and its queries answer. Own.
 use Rattle.std.specs.Prelude.{◌≡◌, ℕ, ◌≤◌, List, [], ◌∷◌, length, map, slice_get, Option, Some, None, option_map, Contains, false, IsTrue, Result, Ok, Err}
 use Rattle.clif_types.specs.declared.types.«Type».{«Type»}
-use Rattle.clif_types.specs.declared.types.«Type».TheVariants.{Invalid}
 use Rattle.clif_instructions.specs.declared.instructions.InstructionData.{InstructionData}
-use Rattle.clif_instructions.specs.declared.instructions.InstructionData.TheVariants.{UnaryImm, Unary, Binary, Convert, Ternary, Jump, Brif, MultiAry}
 use Rattle.clif_instructions.specs.declared.block_call.BlockArg.{BlockArg}
 use Rattle.clif_instructions.specs.declared.block_call.BlockArg.TheVariants as arg
 use Rattle.clif_instructions.specs.declared.block_call.BlockCall.{BlockCall}
-use Rattle.clif_instructions.specs.Instruction.{destinations, operands}
+use Rattle.clif_instructions.specs.Instruction.{destinations, operands, result_types}
 use Rattle.clif_meaning.specs.Instruction.{Argument, CallPayload, CallResult, Edge, Instruction, Known}
-use Rattle.clif_meaning.specs.View.{operation_of}
+use Rattle.clif_meaning.specs.View.{made_at, operation_of}
 use Rattle.clif_ir.specs.declared.function.ValueNode.{ValueNode}
 use Rattle.clif_ir.specs.declared.function.InstNode.{InstNode}
-use Rattle.clif_ir.specs.Body.{Body, block_at, value_at}
+use Rattle.clif_ir.specs.Body.{Body, block_at}
 use Rattle.clif_meaning.specs.Name.{Name, answer_of}
 use Rattle.clif_meaning.specs.Request.{AnsweredCall, script_of, number_of}
 use Rattle.clif_meaning.specs.Ledger.{Answered, ABlock, AVariable, AValue, AnInstruction, BlockState, Ledger, ledger_after, answer_at, has_block, has_value}
@@ -53,18 +51,6 @@ pub record NamesValue (calls : List AnsweredCall) (name : Name) (value : ℕ) : 
   pub number : number_of calls name ≡ Some value
   pub is_value : IsTrue (has_value (ledger_of calls) name)
 
--- the type at which an instruction of this shape is made: the one that is given, where it has a result, and the
--- condition's type of a `brif`
-abbrev pub made_at : Body → InstructionData → «Type» → «Type»
-made_at f (UnaryImm imm) ty = ty
-made_at f (Unary opcode arg) ty = ty
-made_at f (Binary opcode args) ty = ty
-made_at f (Convert opcode arg) ty = ty
-made_at f (Ternary args) ty = ty
-made_at f (Jump destination) ty = Invalid
-made_at f (Brif arg blocks) ty = (value_at f arg).ty
-made_at f (MultiAry args) ty = Invalid
-
 -- names of what an edge passes, in order
 abbrev pub NamesArgument : List AnsweredCall → Argument Name → BlockArg → Type 0
 NamesArgument calls (Known name) (arg.Value value) = NamesValue calls name value
@@ -91,6 +77,9 @@ NamesEdges calls _ _ = ⊥
 pub record HasShape (calls : List AnsweredCall) (f : Body) (instruction : Instruction Name Name) (shape : InstructionData) (ty : «Type») : Type 0 where
   pub operation : instruction.operation ≡ operation_of shape
   pub controlling : instruction.controlling ≡ made_at f shape ty
+  -- its results have the types that they have at that type: the two differ only where an operand tells the type, and the
+  -- results' types follow from the one that is given
+  pub typed : result_types shape ty ≡ result_types shape (made_at f shape ty)
   pub operands_numbered : map (number_of calls) instruction.operands ≡ map Some (operands shape)
   pub edges : NamesEdges calls instruction.edges (destinations shape)
 

@@ -1,6 +1,11 @@
 -- What a ledger and requests say by names, where it agrees with a builder, as this crate's law functions state it. Own.
 use Rattle.std.specs.Prelude.{◌≡◌, ℕ, ◌<◌, ◌==◌, List, length, map, slice_get, Option, Some, true, ℤ}
+use Rattle.clif_types.specs.declared.condcodes.IntCC.{IntCC}
+use Rattle.clif_types.specs.declared.trapcode.TrapCode.{TrapCode}
+use Rattle.clif_types.specs.MemFlags.{MemFlagsShape}
 use Rattle.clif_opcodes.specs.declared.opcodes.BinaryOpcode.{BinaryOpcode}
+use Rattle.clif_opcodes.specs.declared.opcodes.CondTrapOpcode.{CondTrapOpcode}
+use Rattle.clif_opcodes.specs.declared.opcodes.FloatConstOpcode.{FloatConstOpcode}
 use Rattle.clif_opcodes.specs.declared.opcodes.ConvertOpcode.{ConvertOpcode}
 use Rattle.clif_opcodes.specs.declared.opcodes.UnaryOpcode.{UnaryOpcode}
 use Rattle.clif_types.specs.declared.types.«Type».TheVariants.{Invalid}
@@ -36,6 +41,18 @@ pub record AskForTheirShapes (calls : List AnsweredCall) (f : Body) : Type 0 whe
       → AsksForShape calls f (request.convert opcode ty a) (shape.convert opcode x) ty
   pub select : (condition a b : Name) (c x y : ℕ) → NamesValue calls condition c → NamesValue calls a x → NamesValue calls b y
       → AsksForShape calls f (request.select (ledger_of calls) condition a b) (shape.ternary c x y) (value_at f x).ty
+  pub float_const : (opcode : FloatConstOpcode) (bits : ℕ) → AsksForShape calls f (request.float_const opcode bits) (shape.unary_ieee opcode bits) Invalid
+  pub compare : (condition : IntCC) (a b : Name) (x y : ℕ) → NamesValue calls a x → NamesValue calls b y
+      → AsksForShape calls f (request.compare (ledger_of calls) condition a b) (shape.int_compare condition x y) (value_at f x).ty
+  pub concat : (a b : Name) (x y : ℕ) → NamesValue calls a x → NamesValue calls b y
+      → AsksForShape calls f (request.concat (ledger_of calls) a b) (shape.concat x y) (value_at f x).ty
+  pub load : (flags : MemFlagsShape) (ty : «Type») (a : Name) (x : ℕ) (offset : ℤ) → NamesValue calls a x
+      → AsksForShape calls f (request.load flags ty a offset) (shape.load flags x offset) ty
+  pub store : (flags : MemFlagsShape) (a b : Name) (x y : ℕ) (offset : ℤ) → NamesValue calls a x → NamesValue calls b y
+      → AsksForShape calls f (request.store (ledger_of calls) flags a b offset) (shape.store flags x y offset) Invalid
+  pub trap : (code : TrapCode) → AsksForShape calls f (request.trap code) (shape.trap code) Invalid
+  pub cond_trap : (opcode : CondTrapOpcode) (a : Name) (x : ℕ) (code : TrapCode) → NamesValue calls a x
+      → AsksForShape calls f (request.cond_trap (ledger_of calls) opcode a code) (shape.cond_trap opcode x code) Invalid
   pub jump : (edge : Edge Name Name) (block : ℕ) (args : List BlockArg) → NamesEdge calls edge (edge_to block args)
       → AsksForShape calls f (request.jump edge) (shape.jump block args) Invalid
   pub brif : (condition : Name) (c : ℕ) (first second : Edge Name Name) (taken other : BlockCall)

@@ -5,12 +5,17 @@ use Rattle.clif_types.specs.declared.error.BuildError.{BuildError}
 use Rattle.clif_types.specs.declared.types.«Type».{«Type»}
 use Rattle.clif_instructions.specs.declared.block_call.BlockArg.{BlockArg}
 use Rattle.clif_instructions.specs.declared.block_call.BlockCall.{BlockCall}
+use Rattle.clif_types.specs.declared.condcodes.IntCC.{IntCC}
+use Rattle.clif_types.specs.declared.trapcode.TrapCode.{TrapCode}
+use Rattle.clif_types.specs.MemFlags.{MemFlagsShape}
 use Rattle.clif_opcodes.specs.declared.opcodes.BinaryOpcode.{BinaryOpcode}
+use Rattle.clif_opcodes.specs.declared.opcodes.CondTrapOpcode.{CondTrapOpcode}
+use Rattle.clif_opcodes.specs.declared.opcodes.FloatConstOpcode.{FloatConstOpcode}
 use Rattle.clif_opcodes.specs.declared.opcodes.ConvertOpcode.{ConvertOpcode}
 use Rattle.clif_opcodes.specs.declared.opcodes.UnaryOpcode.{UnaryOpcode}
 use Rattle.clif_instructions.specs.declared.instructions.InstructionData.{InstructionData}
-use Rattle.clif_instructions.specs.declared.instructions.InstructionData.TheVariants.{UnaryImm, Unary, Binary, Convert, Ternary, Jump, Brif, MultiAry}
-use Rattle.clif_instructions.specs.Instruction.{destinations, is_branch, is_terminator, result_types}
+use Rattle.clif_instructions.specs.declared.instructions.InstructionData.TheVariants.{UnaryImm, UnaryIeee, Unary, Binary, IntCompare, Concat, Convert, Ternary, Load, Store, Jump, Brif, MultiAry, Trap, CondTrap}
+use Rattle.clif_instructions.specs.Instruction.{destinations, is_branch, is_terminator, result_type_of, result_types}
 
 -- an edge to a block that passes these arguments
 abbrev pub edge_to : ℕ → List BlockArg → BlockCall
@@ -45,11 +50,32 @@ brif_to c block_then then_args block_else else_args =
 abbrev pub multi_ary : List ℕ → InstructionData
 multi_ary values = MultiAry values
 
--- an instruction of this shape has one result, of its controlling type, goes nowhere and ends no block
+abbrev pub unary_ieee : FloatConstOpcode → ℕ → InstructionData
+unary_ieee opcode bits = UnaryIeee opcode bits
+
+abbrev pub int_compare : IntCC → ℕ → ℕ → InstructionData
+int_compare condition x y = IntCompare condition (x ∷ y ∷ [])
+
+abbrev pub concat : ℕ → ℕ → InstructionData
+concat low high = Concat (low ∷ high ∷ [])
+
+abbrev pub load : MemFlagsShape → ℕ → ℤ → InstructionData
+load flags address offset = Load flags address offset
+
+abbrev pub store : MemFlagsShape → ℕ → ℕ → ℤ → InstructionData
+store flags x address offset = Store flags (x ∷ address ∷ []) offset
+
+abbrev pub trap : TrapCode → InstructionData
+trap code = Trap code
+
+abbrev pub cond_trap : CondTrapOpcode → ℕ → TrapCode → InstructionData
+cond_trap opcode c code = CondTrap opcode c code
+
+-- an instruction of this shape has one result, goes nowhere and ends no block
 pub record GivesValue (shape : InstructionData) : Type 0 where
   pub no_branch : is_branch shape ≡ false
   pub no_edges : destinations shape ≡ []
-  pub one_result : (ty : «Type») → result_types shape ty ≡ ty ∷ []
+  pub one_result : (ty : «Type») → result_types shape ty ≡ result_type_of shape ty ∷ []
   pub goes_on : is_terminator shape ≡ false
 
 -- this holds of any builders and any value between which the value was built

@@ -1,15 +1,16 @@
 //! The instructions by name, over anything that makes an instruction of any shape: `builder.ins().iadd(x, y)?`.
 ghost use Rattle.std.specs.Prelude.{◌≡◌, ◌∷◌, [], IsTrue, IfOk, OnErr, Err, All};
-ghost use Rattle.clif_types.specs.Types.{is_int};
+ghost use Rattle.clif_types.specs.Types.{is_int, is_type};
 ghost use Rattle.clif_instructions.specs.Instruction.{operands, destinations};
 ghost use Rattle.clif_opcodes.specs.Kinds.{is_met};
 ghost use Rattle.clif_opcodes.specs.declared.kinds.Demand.{Demand};
-ghost use Rattle.cranelift_frontend.specs.Shapes.{GivesValue, AfterValue, LikeIsValue, binary, brif_to, convert, edge_to, jump, multi_ary, ternary, unary, unary_imm};
+ghost use Rattle.cranelift_frontend.specs.Shapes.{GivesValue, AfterValue, LikeIsValue, binary, brif_to, concat, cond_trap, convert, edge_to, int_compare, jump, load, multi_ary, store, ternary, trap, unary, unary_ieee, unary_imm};
 
 use clif_ir::{
-    BinaryOpcode, BlockArg, BlockCall, ConvertOpcode, InstructionData, UnaryOpcode, ValueList,
+    BinaryOpcode, BlockArg, BlockCall, CondTrapOpcode, ConvertOpcode, FloatConstOpcode,
+    InstructionData, UnaryOpcode, ValueList,
 };
-use clif_types::{Block, BuildError, Inst, Type, Value};
+use clif_types::{Block, BuildError, Inst, IntCC, MemFlagsData, TrapCode, Type, Value};
 use std::alloc::Global;
 
 /// What makes an instruction of any shape at the end of the current block.
@@ -58,7 +59,7 @@ pub trait InstBuilderBase {
         requires edges { All (can_lead self.old) (destinations shape) }
         ensures built { builds self.old self.new shape ctrl_type result };
 
-    /// Appends an instruction that has one result, and returns the result's value.
+    /// Appends an instruction that has one result and goes on behind it, and returns the result's value.
     fn build_value(&mut self, shape: InstructionData, ctrl_type: Type) -> Result<Value, BuildError>
         requires current { can_build self.old }
         requires operands_exist { All (has_value self.old) (operands shape) }
@@ -299,6 +300,148 @@ pub trait InstBuilder: InstBuilderBase {
         self.build_like(InstructionData::Ternary { args }, x)
     }
 
+    /// `f16const bits`: the float with these bits.
+    final fn f16const(&mut self, bits: u16) -> Result<Value, BuildError>
+        requires current { Self.can_build self.old }
+        ensures built { Self.builds_value self.old self.new
+            (unary_ieee FloatConstOpcode.F16const bits) Type.Invalid result }
+    {
+        let bits = u64::from(bits);
+        let opcode = FloatConstOpcode::F16const;
+        self.build_value(InstructionData::UnaryIeee { opcode, bits }, Type::Invalid)
+    }
+
+    /// `f32const bits`: the float with these bits.
+    final fn f32const(&mut self, bits: u32) -> Result<Value, BuildError>
+        requires current { Self.can_build self.old }
+        ensures built { Self.builds_value self.old self.new
+            (unary_ieee FloatConstOpcode.F32const bits) Type.Invalid result }
+    {
+        let bits = u64::from(bits);
+        let opcode = FloatConstOpcode::F32const;
+        self.build_value(InstructionData::UnaryIeee { opcode, bits }, Type::Invalid)
+    }
+
+    /// `f64const bits`: the float with these bits.
+    final fn f64const(&mut self, bits: u64) -> Result<Value, BuildError>
+        requires current { Self.can_build self.old }
+        ensures built { Self.builds_value self.old self.new
+            (unary_ieee FloatConstOpcode.F64const bits) Type.Invalid result }
+    {
+        let opcode = FloatConstOpcode::F64const;
+        self.build_value(InstructionData::UnaryIeee { opcode, bits }, Type::Invalid)
+    }
+
+    /// `sextend.ty x`: a wider integer, with copies of the sign bit of `x` above its bits. That `x` is narrower isn't
+    /// checked here.
+    final fn sextend(&mut self, ty: Type, x: Value) -> Result<Value, BuildError>
+        requires current { Self.can_build self.old }
+        requires integer { IsTrue (is_int ty) }
+        requires x_exists { Self.has_value self.old x }
+        ensures built { Self.builds_value self.old self.new (convert ConvertOpcode.Sextend x) ty result }
+    {
+        self.convert(ConvertOpcode::Sextend, ty, x)
+    }
+
+    /// `icmp cond x, y`: an I8 that is 1 if the condition holds of two integers of one type, and 0 otherwise.
+    final fn icmp(&mut self, cond: IntCC, x: Value, y: Value) -> Result<Value, BuildError>
+        requires current { Self.can_build self.old }
+        requires x_exists { Self.has_value self.old x }
+        requires y_exists { Self.has_value self.old y }
+        ensures built { Self.builds_like self.old self.new (int_compare cond x y) x result }
+    {
+        let args = [x, y];
+        self.build_like(InstructionData::IntCompare { cond, args }, x)
+    }
+
+    /// `iconcat lo, hi`: the integer of twice the width whose low half is `lo` and whose high half is `hi`. `lo` has one
+    /// of the types I8 to I64.
+    final fn iconcat(&mut self, lo: Value, hi: Value) -> Result<Value, BuildError>
+        requires current { Self.can_build self.old }
+        requires lo_exists { Self.has_value self.old lo }
+        requires hi_exists { Self.has_value self.old hi }
+        requires doubled { IsTrue (is_met Demand.ADoubled (Self.type_of self.old lo)) }
+        ensures built { Self.builds_like self.old self.new (concat lo hi) lo result }
+    {
+        let args = [lo, hi];
+        self.build_like(InstructionData::Concat { args }, lo)
+    }
+
+    /// `load.ty flags p+offset`: the value of type `ty` that is in memory at the address `p` plus `offset`, which counts
+    /// modulo the width of `p`. It traps with `heap_oob` if a byte isn't accessible, except if the flags say `notrap`.
+    ///
+    /// Flags that say more than is true (see [`MemFlagsData`]) leave the access without meaning.
+    final fn load(
+        &mut self,
+        ty: Type,
+        flags: MemFlagsData,
+        p: Value,
+        offset: i32,
+    ) -> Result<Value, BuildError>
+        requires current { Self.can_build self.old }
+        requires valid { IsTrue (is_type ty) }
+        requires p_exists { Self.has_value self.old p }
+        ensures built { Self.builds_value self.old self.new (load flags p offset) ty result }
+    {
+        let shape = InstructionData::Load {
+            flags,
+            arg: p,
+            offset,
+        };
+        self.build_value(shape, ty)
+    }
+
+    /// `store flags x, p+offset`: puts `x` into memory at the address `p` plus `offset`. The address and the flags are
+    /// taken as in [`InstBuilder::load`].
+    final fn store(
+        &mut self,
+        flags: MemFlagsData,
+        x: Value,
+        p: Value,
+        offset: i32,
+    ) -> Result<Inst, BuildError>
+        requires current { Self.can_build self.old }
+        requires x_exists { Self.has_value self.old x }
+        requires p_exists { Self.has_value self.old p }
+        ensures built { Self.builds self.old self.new (store flags x p offset) Type.Invalid result }
+    {
+        let args = [x, p];
+        let shape = InstructionData::Store {
+            flags,
+            args,
+            offset,
+        };
+        self.build(shape, Type::Invalid)
+    }
+
+    /// `trap code`: ends the run with this trap. The current block is filled afterwards.
+    final fn trap(&mut self, code: TrapCode) -> Result<Inst, BuildError>
+        requires current { Self.can_build self.old }
+        ensures built { Self.builds self.old self.new (trap code) Type.Invalid result }
+    {
+        self.build(InstructionData::Trap { code }, Type::Invalid)
+    }
+
+    /// `trapz c, code`: ends the run with this trap if the integer `c` is zero. Otherwise the block goes on.
+    final fn trapz(&mut self, c: Value, code: TrapCode) -> Result<Inst, BuildError>
+        requires current { Self.can_build self.old }
+        requires c_exists { Self.has_value self.old c }
+        ensures built { Self.builds self.old self.new
+            (cond_trap CondTrapOpcode.Trapz c code) Type.Invalid result }
+    {
+        self.cond_trap(CondTrapOpcode::Trapz, c, code)
+    }
+
+    /// `trapnz c, code`: ends the run with this trap if the integer `c` isn't zero. Otherwise the block goes on.
+    final fn trapnz(&mut self, c: Value, code: TrapCode) -> Result<Inst, BuildError>
+        requires current { Self.can_build self.old }
+        requires c_exists { Self.has_value self.old c }
+        ensures built { Self.builds self.old self.new
+            (cond_trap CondTrapOpcode.Trapnz c code) Type.Invalid result }
+    {
+        self.cond_trap(CondTrapOpcode::Trapnz, c, code)
+    }
+
     /// `jump block(x, ..)`: goes to `block`, and passes `args` to the parameters that the caller appended to it.
     /// Arguments for variables are added by the builder.
     ///
@@ -392,6 +535,25 @@ pub trait InstBuilder: InstBuilderBase {
     {
         let args = [x, y];
         self.build_like(InstructionData::Binary { opcode, args }, x)
+    }
+
+    /// An instruction that traps under a condition.
+    final fn cond_trap(
+        &mut self,
+        opcode: CondTrapOpcode,
+        c: Value,
+        code: TrapCode,
+    ) -> Result<Inst, BuildError>
+        requires current { Self.can_build self.old }
+        requires c_exists { Self.has_value self.old c }
+        ensures built { Self.builds self.old self.new (cond_trap opcode c code) Type.Invalid result }
+    {
+        let shape = InstructionData::CondTrap {
+            opcode,
+            arg: c,
+            code,
+        };
+        self.build(shape, Type::Invalid)
     }
 
     /// An instruction of one operand, whose result has a type that is given.

@@ -13,8 +13,8 @@ pub mod laws;
 
 pub use builder::FunctionBuilder;
 pub use clif_ir::{
-    BinaryOpcode, BlockArg, BlockArgs, BlockCall, ConvertOpcode, Function, InstructionData,
-    UnaryOpcode, ValueDef, ValueList,
+    BinaryOpcode, BlockArg, BlockArgs, BlockCall, CondTrapOpcode, ConvertOpcode, FloatConstOpcode,
+    Function, InstructionData, UnaryOpcode, ValueDef, ValueList,
 };
 pub use clif_ssa::Variable;
 pub use clif_types::{

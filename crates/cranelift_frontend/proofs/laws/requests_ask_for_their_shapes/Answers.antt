@@ -1,6 +1,6 @@
 use Rattle.std.proofs.Common.{refl}
 use Rattle.cranelift_frontend.specs.Shapes.{edge_to}
-use Rattle.cranelift_frontend.proofs.LedgerShaped.{binary-shape, brif-shape, convert-shape, iconst-shape, jump-shape, return-shape, select-shape, unary-shape}
+use Rattle.cranelift_frontend.proofs.LedgerShaped.{binary-shape, brif-shape, compare-shape, concat-shape, cond_trap-shape, convert-shape, float-shape, iconst-shape, jump-shape, load-shape, return-shape, select-shape, store-shape, trap-shape, unary-shape}
 use Rattle.cranelift_frontend.proofs.laws.requests_ask_for_their_shapes.Goals as goal
 
 pub returns : goal.returns
@@ -10,6 +10,13 @@ returns c = λ calls f d p agrees. record {
   binary = λ opcode a b x y first second. (_, refl, binary-shape calls f d p agrees opcode a b x y first second);
   convert = λ opcode ty a x names. (_, refl, convert-shape calls f opcode ty a x names);
   select = λ condition a b c x y tested first second. (_, refl, select-shape calls f d p agrees condition a b c x y tested first second);
+  float_const = λ opcode bits. (_, refl, float-shape calls f opcode bits);
+  compare = λ condition a b x y first second. (_, refl, compare-shape calls f d p agrees condition a b x y first second);
+  concat = λ a b x y first second. (_, refl, concat-shape calls f d p agrees a b x y first second);
+  load = λ flags ty a x offset names. (_, refl, load-shape calls f flags ty a x offset names);
+  store = λ flags a b x y offset first second. (_, refl, store-shape calls f d p agrees flags a b x y offset first second);
+  trap = λ code. (_, refl, trap-shape calls f code);
+  cond_trap = λ opcode a x code names. (_, refl, cond_trap-shape calls f d p agrees opcode a x code names);
   jump = λ edge block args names. (_, refl, jump-shape calls f edge (edge_to block args) names);
   brif = λ condition value first second taken other names one two.
       (_, refl, brif-shape calls f d p agrees condition value first second taken other _ refl names one two);

@@ -1,5 +1,6 @@
 use Rattle.std.proofs.Common.{◌≡◌, ◌<◌, ℕ, List, [], ◌∷◌, Ok, length, get_or, arith, ap, sym, subst, ◌∙◌}
 use Rattle.cranelift_frontend.specs.declared.builder.FunctionBuilder.{FunctionBuilder}
+use Rattle.clif_instructions.specs.Instruction.{result_type_of}
 use Rattle.cranelift_frontend.specs.Built.{BuildsValue}
 use Rattle.cranelift_frontend.proofs.Built.{builds_value}
 use Rattle.cranelift_frontend.proofs.Growing.{current_results}
@@ -10,7 +11,7 @@ pub bounds-inst_results-0 : goal.bounds-inst_results-0
 bounds-inst_results-0 c =
     let results : c.inst_results.result.now ≡ length c.args.self.now.func.now.values ∷ [] =
     c.inst_results.ensures.exact
-    ∙ current_results c.args.self.now c.build.new.self c.args.shape c.args.ctrl_type c.in_ok-inst.inst c.requires.current c.in_ok-inst.ensures.built.appends (c.requires.value.one_result c.args.ctrl_type) in
+    ∙ current_results c.args.self.now c.build.new.self c.args.shape c.args.ctrl_type (result_type_of c.args.shape c.args.ctrl_type) c.in_ok-inst.inst c.requires.current c.in_ok-inst.ensures.built.appends (c.requires.value.one_result c.args.ctrl_type) in
     let one : length c.inst_results.result.now ≡ 1 = ap (λ (xs : List ℕ). length xs) results in
     omega (arith, one)
 
@@ -19,7 +20,7 @@ returns c =
     let value : ℕ = c.index-inst_results-0.result in
     let results : c.inst_results.result.now ≡ length c.args.self.now.func.now.values ∷ [] =
     c.inst_results.ensures.exact
-    ∙ current_results c.args.self.now c.build.new.self c.args.shape c.args.ctrl_type c.in_ok-inst.inst c.requires.current c.in_ok-inst.ensures.built.appends (c.requires.value.one_result c.args.ctrl_type) in
+    ∙ current_results c.args.self.now c.build.new.self c.args.shape c.args.ctrl_type (result_type_of c.args.shape c.args.ctrl_type) c.in_ok-inst.inst c.requires.current c.in_ok-inst.ensures.built.appends (c.requires.value.one_result c.args.ctrl_type) in
     let is : value ≡ length c.args.self.now.func.now.values =
     c.index-inst_results-0.is ∙ ap (λ (xs : List ℕ). get_or xs 0 value) results in
     let one : length c.inst_results.result.now ≡ 1 = ap (λ (xs : List ℕ). length xs) results in
