@@ -17,7 +17,7 @@ pub struct Name {
 }
 
 /// An edge of a branch: its target, and the values that are passed to the target's parameters, in order.
-#[derive(Debug, Drop)]
+#[derive(Drop)]
 pub struct Edge {
     /// The block, which isn't sealed.
     pub block: Name,
@@ -29,7 +29,7 @@ pub struct Edge {
 ///
 /// Each variant is the instruction of its name. `Store`, `Trapz` and `Trapnz` have no result, and each other one
 /// has one.
-#[derive(Clone, Copy, Debug)]
+#[derive(Clone, Copy)]
 pub enum PlainInstruction {
     /// `iconst.ty imm`, at a type of integers.
     Iconst {
@@ -188,7 +188,7 @@ pub enum PlainInstruction {
 ///
 /// Each variant but `Plain` is the builder's method, or the instruction, of its name, and has its conditions. A
 /// variable is named by its number.
-#[derive(Debug, Drop)]
+#[derive(Drop)]
 pub enum Call {
     /// `create_block()`: answers the block.
     CreateBlock,
