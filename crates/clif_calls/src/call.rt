@@ -1,6 +1,6 @@
 //! The calls of a script, and the names of their answers.
 use clif_records::Variable;
-use clif_types::Type;
+use clif_types::{IntCC, MemFlagsData, TrapCode, Type};
 
 /// An answer of an earlier call: which call, and which of its answers.
 ///
@@ -17,7 +17,7 @@ pub struct Name {
 }
 
 /// An edge of a branch: its target, and the values that are passed to the target's parameters, in order.
-#[derive(Debug, Drop)]
+#[derive(Drop)]
 pub struct Edge {
     /// The block, which isn't sealed.
     pub block: Name,
@@ -27,56 +27,168 @@ pub struct Edge {
 
 /// An instruction that neither branches nor ends its block, with names in place of values.
 ///
-/// Each variant is the instruction of its name, and has one result.
-#[derive(Clone, Copy, Debug)]
+/// Each variant is the instruction of its name. `Store`, `Trapz` and `Trapnz` have no result, and each other one
+/// has one.
+#[derive(Clone, Copy)]
 pub enum PlainInstruction {
     /// `iconst.ty imm`, at a type of integers.
-    Iconst { ty: Type, imm: i64 },
+    Iconst {
+        ty: Type,
+        imm: i64,
+    },
+    /// `f16const bits`.
+    F16const {
+        bits: u16,
+    },
+    /// `f32const bits`.
+    F32const {
+        bits: u32,
+    },
+    /// `f64const bits`.
+    F64const {
+        bits: u64,
+    },
     /// `iadd x, y`.
-    Iadd { x: Name, y: Name },
+    Iadd {
+        x: Name,
+        y: Name,
+    },
     /// `isub x, y`.
-    Isub { x: Name, y: Name },
+    Isub {
+        x: Name,
+        y: Name,
+    },
     /// `imul x, y`.
-    Imul { x: Name, y: Name },
+    Imul {
+        x: Name,
+        y: Name,
+    },
     /// `band x, y`.
-    Band { x: Name, y: Name },
+    Band {
+        x: Name,
+        y: Name,
+    },
     /// `bor x, y`.
-    Bor { x: Name, y: Name },
+    Bor {
+        x: Name,
+        y: Name,
+    },
     /// `bxor x, y`.
-    Bxor { x: Name, y: Name },
+    Bxor {
+        x: Name,
+        y: Name,
+    },
     /// `ishl x, y`.
-    Ishl { x: Name, y: Name },
+    Ishl {
+        x: Name,
+        y: Name,
+    },
     /// `ushr x, y`.
-    Ushr { x: Name, y: Name },
+    Ushr {
+        x: Name,
+        y: Name,
+    },
     /// `sshr x, y`.
-    Sshr { x: Name, y: Name },
+    Sshr {
+        x: Name,
+        y: Name,
+    },
     /// `udiv x, y`.
-    Udiv { x: Name, y: Name },
+    Udiv {
+        x: Name,
+        y: Name,
+    },
     /// `sdiv x, y`.
-    Sdiv { x: Name, y: Name },
+    Sdiv {
+        x: Name,
+        y: Name,
+    },
     /// `urem x, y`.
-    Urem { x: Name, y: Name },
+    Urem {
+        x: Name,
+        y: Name,
+    },
     /// `srem x, y`.
-    Srem { x: Name, y: Name },
+    Srem {
+        x: Name,
+        y: Name,
+    },
     /// `splat.ty x`, at a type of vectors.
-    Splat { ty: Type, x: Name },
+    Splat {
+        ty: Type,
+        x: Name,
+    },
     /// `uextend.ty x`, at a type of integers.
-    Uextend { ty: Type, x: Name },
+    Uextend {
+        ty: Type,
+        x: Name,
+    },
+    /// `sextend.ty x`, at a type of integers.
+    Sextend {
+        ty: Type,
+        x: Name,
+    },
     /// `ireduce.ty x`, at a type of integers.
-    Ireduce { ty: Type, x: Name },
+    Ireduce {
+        ty: Type,
+        x: Name,
+    },
+    /// `iconcat x, y`, with the low half first.
+    Iconcat {
+        x: Name,
+        y: Name,
+    },
+    /// `icmp cond x, y`.
+    Icmp {
+        cond: IntCC,
+        x: Name,
+        y: Name,
+    },
     /// `select c, x, y`.
-    Select { c: Name, x: Name, y: Name },
+    Select {
+        c: Name,
+        x: Name,
+        y: Name,
+    },
     /// `ineg x`.
-    Ineg { x: Name },
+    Ineg {
+        x: Name,
+    },
     /// `bnot x`.
-    Bnot { x: Name },
+    Bnot {
+        x: Name,
+    },
+    /// `load.ty flags p+offset`.
+    Load {
+        ty: Type,
+        flags: MemFlagsData,
+        p: Name,
+        offset: i32,
+    },
+    /// `store flags x, p+offset`.
+    Store {
+        flags: MemFlagsData,
+        x: Name,
+        p: Name,
+        offset: i32,
+    },
+    /// `trapz c, code`, which traps if the operand is zero.
+    Trapz {
+        c: Name,
+        code: TrapCode,
+    },
+    /// `trapnz c, code`, which traps if the operand isn't zero.
+    Trapnz {
+        c: Name,
+        code: TrapCode,
+    },
 }
 
 /// One call on a builder, with names in place of what earlier calls answered.
 ///
 /// Each variant but `Plain` is the builder's method, or the instruction, of its name, and has its conditions. A
 /// variable is named by its number.
-#[derive(Debug, Drop)]
+#[derive(Drop)]
 pub enum Call {
     /// `create_block()`: answers the block.
     CreateBlock,
@@ -151,5 +263,9 @@ pub enum Call {
     /// `return values`, an instruction without results, which fills the block.
     Return {
         values: Vec<Name>,
+    },
+    /// `trap code`, an instruction without operands and results, which fills the block.
+    Trap {
+        code: TrapCode,
     },
 }

@@ -1,10 +1,10 @@
 //! What instructions are, by their formats.
-ghost use Rattle.std.specs.Prelude.{◌≡◌, ◌∷◌, []};
-ghost use Rattle.clif_calls.specs.Plan.{plan_of};
+ghost use Rattle.std.specs.Prelude.{◌≡◌, ◌∷◌, ◌≤◌, ◌^◌, [], IfNone, IfSome};
+ghost use Rattle.clif_calls.specs.Plan.{float_width, plan_of};
 
 use crate::call::{Edge, Name, PlainInstruction};
-use clif_opcodes::{BinaryOpcode, ConvertOpcode, UnaryOpcode};
-use clif_types::Type;
+use clif_opcodes::{BinaryOpcode, CondTrapOpcode, ConvertOpcode, FloatConstOpcode, UnaryOpcode};
+use clif_types::{IntCC, MemFlagsData, TrapCode, Type};
 
 /// An instruction by its format: what it does, and the names of its operands and of its edges, in order.
 #[derive(Clone, Copy)]
@@ -13,6 +13,11 @@ pub enum Plan<'a> {
     UnaryImm {
         ty: Type,
         imm: i64,
+    },
+    /// The bits of a float, which fit the width of its type.
+    UnaryIeee {
+        opcode: FloatConstOpcode,
+        bits: u64,
     },
     /// One operand.
     Unary {
@@ -30,9 +35,41 @@ pub enum Plan<'a> {
         ty: Type,
         arg: Name,
     },
+    /// The low half and the high half of an integer.
+    Concat {
+        args: [Name; 2],
+    },
+    /// Two operands that are compared.
+    IntCompare {
+        cond: IntCC,
+        args: [Name; 2],
+    },
     /// A condition, and two operands of one type.
     Ternary {
         args: [Name; 3],
+    },
+    /// An address, a distance from it, and the type of what is loaded from there.
+    Load {
+        flags: MemFlagsData,
+        ty: Type,
+        arg: Name,
+        offset: i32,
+    },
+    /// What is stored, an address, and a distance from it.
+    Store {
+        flags: MemFlagsData,
+        args: [Name; 2],
+        offset: i32,
+    },
+    /// A reason, for which the function ends.
+    Trap {
+        code: TrapCode,
+    },
+    /// A condition, and the reason for a trap under it.
+    CondTrap {
+        opcode: CondTrapOpcode,
+        arg: Name,
+        code: TrapCode,
     },
     /// An edge.
     Jump {
@@ -57,6 +94,13 @@ impl PlainInstruction {
     {
         match self {
             PlainInstruction::Iconst { ty, imm } => Plan::UnaryImm { ty, imm },
+            PlainInstruction::F16const { bits } => {
+                float(FloatConstOpcode::F16const, u64::from(bits))
+            }
+            PlainInstruction::F32const { bits } => {
+                float(FloatConstOpcode::F32const, u64::from(bits))
+            }
+            PlainInstruction::F64const { bits } => float(FloatConstOpcode::F64const, bits),
             PlainInstruction::Iadd { x, y } => two(BinaryOpcode::Iadd, x, y),
             PlainInstruction::Isub { x, y } => two(BinaryOpcode::Isub, x, y),
             PlainInstruction::Imul { x, y } => two(BinaryOpcode::Imul, x, y),
@@ -72,10 +116,40 @@ impl PlainInstruction {
             PlainInstruction::Srem { x, y } => two(BinaryOpcode::Srem, x, y),
             PlainInstruction::Splat { ty, x } => typed(ConvertOpcode::Splat, ty, x),
             PlainInstruction::Uextend { ty, x } => typed(ConvertOpcode::Uextend, ty, x),
+            PlainInstruction::Sextend { ty, x } => typed(ConvertOpcode::Sextend, ty, x),
             PlainInstruction::Ireduce { ty, x } => typed(ConvertOpcode::Ireduce, ty, x),
+            PlainInstruction::Iconcat { x, y } => Plan::Concat { args: [x, y] },
+            PlainInstruction::Icmp { cond, x, y } => Plan::IntCompare { cond, args: [x, y] },
             PlainInstruction::Select { c, x, y } => Plan::Ternary { args: [c, x, y] },
             PlainInstruction::Ineg { x } => one(UnaryOpcode::Ineg, x),
             PlainInstruction::Bnot { x } => one(UnaryOpcode::Bnot, x),
+            PlainInstruction::Load {
+                ty,
+                flags,
+                p,
+                offset,
+            } => {
+                Plan::Load {
+                    flags,
+                    ty,
+                    arg: p,
+                    offset,
+                }
+            }
+            PlainInstruction::Store {
+                flags,
+                x,
+                p,
+                offset,
+            } => {
+                Plan::Store {
+                    flags,
+                    args: [x, p],
+                    offset,
+                }
+            }
+            PlainInstruction::Trapz { c, code } => trap_if(CondTrapOpcode::Trapz, c, code),
+            PlainInstruction::Trapnz { c, code } => trap_if(CondTrapOpcode::Trapnz, c, code),
         }
     }
 
@@ -96,7 +170,35 @@ impl PlainInstruction {
         match opcode {
             ConvertOpcode::Splat => PlainInstruction::Splat { ty, x },
             ConvertOpcode::Uextend => PlainInstruction::Uextend { ty, x },
+            ConvertOpcode::Sextend => PlainInstruction::Sextend { ty, x },
             ConvertOpcode::Ireduce => PlainInstruction::Ireduce { ty, x },
+        }
+    }
+
+    /// The constant with this opcode whose bits these are. There is none if they don't fit the width of its type.
+    pub fn float_const(opcode: FloatConstOpcode, bits: u64) -> Option<PlainInstruction>
+        ensures some { IfSome result (λ constant. plan_of constant ≡ Plan.UnaryIeee opcode bits) }
+        ensures none { IfNone result (2 ^ float_width opcode ≤ bits) }
+    {
+        let constant = match opcode {
+            FloatConstOpcode::F16const => PlainInstruction::F16const {
+                bits: u16::try_from(bits).ok()?,
+            },
+            FloatConstOpcode::F32const => PlainInstruction::F32const {
+                bits: u32::try_from(bits).ok()?,
+            },
+            FloatConstOpcode::F64const => PlainInstruction::F64const { bits },
+        };
+        Some(constant)
+    }
+
+    /// The instruction with this opcode that traps for this reason, under a condition on its operand.
+    pub fn cond_trap(opcode: CondTrapOpcode, c: Name, code: TrapCode) -> PlainInstruction
+        ensures { plan_of result ≡ Plan.CondTrap opcode c code }
+    {
+        match opcode {
+            CondTrapOpcode::Trapz => PlainInstruction::Trapz { c, code },
+            CondTrapOpcode::Trapnz => PlainInstruction::Trapnz { c, code },
         }
     }
 
@@ -122,6 +224,13 @@ impl PlainInstruction {
     }
 }
 
+// The bits of a float.
+fn float(opcode: FloatConstOpcode, bits: u64) -> Plan<'static>
+    ensures { result ≡ Plan.UnaryIeee opcode bits }
+{
+    Plan::UnaryIeee { opcode, bits }
+}
+
 // One operand.
 fn one(opcode: UnaryOpcode, arg: Name) -> Plan<'static>
     ensures { result ≡ Plan.Unary opcode arg }
@@ -144,4 +253,11 @@ fn two(opcode: BinaryOpcode, x: Name, y: Name) -> Plan<'static>
         opcode,
         args: [x, y],
     }
+}
+
+// A trap under a condition.
+fn trap_if(opcode: CondTrapOpcode, arg: Name, code: TrapCode) -> Plan<'static>
+    ensures { result ≡ Plan.CondTrap opcode arg code }
+{
+    Plan::CondTrap { opcode, arg, code }
 }

@@ -2,3 +2,4 @@ pub mod Left
 pub mod Lines
 pub mod Texts
 pub mod Figures
+pub mod Flags

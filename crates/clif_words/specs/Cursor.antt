@@ -1,6 +1,8 @@
 -- The words that are left of a line. Source: own.
-use Rattle.std.specs.Prelude.{ℕ, List, map, drop}
+use Rattle.std.specs.Prelude.{◌≡◌, ◌++◌, ℕ, List, map, drop}
+use Rattle.clif_types.specs.MemFlags.{MemFlagsShape}
 use Rattle.clif_words.specs.declared.cursor.Cursor.{Cursor}
+use Rattle.clif_words.specs.Spelling.{AreFlags}
 use Rattle.std.specs.Borrow.{Bor}
 
 -- the texts of these words
@@ -10,3 +12,7 @@ texts words = map (λ (word : Bor (List ℕ)). word.now) words
 -- the words that weren't taken, in order
 abbrev pub words_left : Cursor → List (List ℕ)
 words_left cursor = texts (drop cursor.taken cursor.words.now)
+
+-- the words that were taken are these flags
+abbrev pub TakesFlags : (old new : Cursor) → MemFlagsShape → Type 0
+TakesFlags old new flags = (words : List (List ℕ)) × (words_left old ≡ words ++ words_left new) × AreFlags words flags

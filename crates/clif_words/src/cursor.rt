@@ -1,9 +1,9 @@
 //! The words of a line, one after the other.
-ghost use Rattle.std.specs.Prelude.{◌≤◌, length};
+ghost use Rattle.std.specs.Prelude.{◌≡◌, ◌≤◌, None, length};
 
 use crate::error::{Expected, LineError};
 use crate::types::type_named;
-use clif_types::Type;
+use clif_types::{MemFlagsData, Type};
 
 /// The words of a line, of which so many were taken.
 #[derive(Clone, Copy)]
@@ -18,7 +18,7 @@ impl<'w, 'a> Cursor<'w, 'a> {
     ghost use Rattle.std.specs.Prelude.{◌≡◌, ◌≢◌, ◌∷◌, ◌↔◌, [], ℕ, List, IfOk, IfNone, IfSome, OnErr, IsOk, IsTrue, slice_get};
     ghost use Rattle.std.specs.Bool.{OnTrue, OnFalse};
     ghost use Rattle.std.specs.Option.{option_map};
-    ghost use Rattle.clif_words.specs.Cursor.{texts, words_left};
+    ghost use Rattle.clif_words.specs.Cursor.{TakesFlags, texts, words_left};
     ghost use Rattle.clif_words.specs.Spelling.{IsTypeWord};
 
     /// All words of a line, none of them taken.
@@ -74,6 +74,17 @@ impl<'w, 'a> Cursor<'w, 'a> {
         Some(ty)
     }
 
+    /// Takes the flags of a load or a store: `notrap` and `aligned`, in any order, each at most once.
+    pub fn take_flags(&mut self) -> MemFlagsData
+        ensures { TakesFlags self.old self.new result }
+    {
+        if self.skips("notrap") {
+            return flags(true, self.skips("aligned"));
+        }
+        let aligned = self.skips("aligned");
+        flags(self.skips("notrap"), aligned)
+    }
+
     /// Nothing is left.
     pub fn end(&self) -> Result<(), LineError<'a>>
         ensures { IsOk result ↔ (words_left self.now ≡ []) }
@@ -84,4 +95,18 @@ impl<'w, 'a> Cursor<'w, 'a> {
             Err(LineError::wanted(Expected::End))
         }
     }
+}
+
+// These flags.
+fn flags(notrap: bool, aligned: bool) -> MemFlagsData
+    ensures { result ≡ record { notrap = notrap; aligned = aligned; alias_region = None } }
+{
+    let mut flags = MemFlagsData::new();
+    if notrap {
+        flags.set_notrap();
+    }
+    if aligned {
+        flags.set_aligned();
+    }
+    flags
 }

@@ -26,6 +26,18 @@ pub enum Expected {
     Type,
     /// A number of 64 bits.
     Number,
+    /// The bits of an F16, as a number without a sign.
+    F16Bits,
+    /// The bits of an F32, as a number without a sign.
+    F32Bits,
+    /// The bits of an F64, as a number without a sign.
+    F64Bits,
+    /// A condition of a comparison.
+    Condition,
+    /// A reason for a trap.
+    TrapCode,
+    /// A distance from an address.
+    Offset,
     /// The name of a function, as `%sample` or `u0:0`.
     FunctionName,
     /// A convention.
@@ -59,6 +71,12 @@ impl fmt::Display for Expected {
             Expected::Variable => "a variable",
             Expected::Type => "a type",
             Expected::Number => "a number of 64 bits",
+            Expected::F16Bits => "the bits of an f16",
+            Expected::F32Bits => "the bits of an f32",
+            Expected::F64Bits => "the bits of an f64",
+            Expected::Condition => "a condition",
+            Expected::TrapCode => "a trap code",
+            Expected::Offset => "an offset",
             Expected::FunctionName => "the name of a function",
             Expected::CallConv => "a convention",
             Expected::PointerWidth => "16, 32 or 64",

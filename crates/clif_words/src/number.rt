@@ -2,7 +2,7 @@
 ghost use Rattle.std.specs.Prelude.{◌≡◌, ◌<◌, IfSome};
 ghost use Rattle.std.specs.Char.{digit_value};
 ghost use Rattle.std.specs.Str.Parse.{IsNumeral, digits_value};
-ghost use Rattle.clif_words.specs.Spelling.{IsDecimal, IsMagnitude, IsNumber, figures};
+ghost use Rattle.clif_words.specs.Spelling.{IsDecimal, IsMagnitude, IsNumber, IsOffset, figures};
 
 /// The number that decimal digits write, if it is below 2^64.
 pub fn decimal(digits: &str) -> Option<usize>
@@ -53,8 +53,8 @@ fn digits_in(digits: &str, radix: u64) -> Option<u64>
     value
 }
 
-// The number that digits write: in base 16 behind `0x`, else in base 10.
-fn magnitude(word: &str) -> Option<u64>
+/// A number without a sign, below 2^64: digits in base 10, or in base 16 after `0x`.
+pub fn magnitude(word: &str) -> Option<u64>
     ensures { IfSome result (IsMagnitude word.now) }
 {
     match word.strip_prefix("0x") {
@@ -76,4 +76,11 @@ pub fn number(word: &str) -> Option<i64>
         return None;
     }
     Some(magnitude.wrapping_neg().cast_signed())
+}
+
+/// A distance from an address, within 32 bits: digits in base 10, and `+` or `-` before them or neither.
+pub fn offset(word: &str) -> Option<i32>
+    ensures { IfSome result (IsOffset word.now) }
+{
+    word.parse().ok()
 }

@@ -1,11 +1,12 @@
-//! Types and conventions as words.
+//! Types, conventions, conditions and reasons for traps as words.
 ghost use Rattle.std.specs.Prelude.{◌≡◌, IfSome};
-ghost use Rattle.clif_types.specs.Texts.{call_conv_text, lane_text};
+ghost use Rattle.clif_types.specs.Texts.{call_conv_text, int_cc_text, lane_text};
 ghost use Rattle.clif_types.specs.Types.{lanes_of};
 ghost use Rattle.std.specs.Fmt.{decimal};
-ghost use Rattle.clif_words.specs.Spelling.{IsTypeWord, pointer_text};
+ghost use Rattle.clif_words.specs.Spelling.{IsTrapCode, IsTypeWord, pointer_text};
 
-use clif_types::{CallConv, LaneCount, LaneType, PointerWidth, Type};
+use crate::number::short_decimal;
+use clif_types::{CallConv, IntCC, LaneCount, LaneType, PointerWidth, TrapCode, Type};
 
 fn lane_named(word: &str) -> Option<LaneType>
     ensures { IfSome result (λ lane. word.now ≡ lane_text lane) }
@@ -71,4 +72,43 @@ pub fn pointer_width_named(word: &str) -> Option<PointerWidth>
         "64" => Some(PointerWidth::U64),
         _ => None,
     }
+}
+
+/// The condition of this name.
+pub fn condition_named(word: &str) -> Option<IntCC>
+    ensures { IfSome result (λ cond. word.now ≡ int_cc_text cond) }
+{
+    match word {
+        "eq" => Some(IntCC::Equal),
+        "ne" => Some(IntCC::NotEqual),
+        "slt" => Some(IntCC::SignedLessThan),
+        "sge" => Some(IntCC::SignedGreaterThanOrEqual),
+        "sgt" => Some(IntCC::SignedGreaterThan),
+        "sle" => Some(IntCC::SignedLessThanOrEqual),
+        "ult" => Some(IntCC::UnsignedLessThan),
+        "uge" => Some(IntCC::UnsignedGreaterThanOrEqual),
+        "ugt" => Some(IntCC::UnsignedGreaterThan),
+        "ule" => Some(IntCC::UnsignedLessThanOrEqual),
+        _ => None,
+    }
+}
+
+/// The reason for a trap of this name.
+pub fn trap_code_named(word: &str) -> Option<TrapCode>
+    ensures { IfSome result (IsTrapCode word.now) }
+{
+    match word {
+        "int_ovf" => Some(TrapCode::IntegerOverflow),
+        "int_divz" => Some(TrapCode::DivisionByZero),
+        "heap_oob" => Some(TrapCode::HeapOutOfBounds),
+        _ => user_trap_code(word),
+    }
+}
+
+// The reason of the program's own, as `user7`.
+fn user_trap_code(word: &str) -> Option<TrapCode>
+    ensures { IfSome result (IsTrapCode word.now) }
+{
+    let number = short_decimal(word.strip_prefix("user")?)?;
+    Some(TrapCode::User(u8::try_from(number).ok()?))
 }

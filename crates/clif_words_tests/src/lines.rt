@@ -54,11 +54,59 @@ fn taking(rt: HostRuntime) -> Result<(), Fail> {
     Ok(())
 }
 
+fn has_flags(
+    rt: &impl Abort,
+    alloc: Global,
+    line: &str,
+    (notrap, aligned): (bool, bool),
+    next: &str,
+) -> Result<(), Fail> {
+    let words = words_of(alloc, line)?;
+    let mut cursor = Cursor::new(words.as_slice());
+    let flags = cursor.take_flags();
+    assert!(rt; flags.notrap() == notrap);
+    assert!(rt; flags.aligned() == aligned);
+    assert!(rt; flags.alias_region() == None);
+    assert!(rt; cursor.skips(next));
+    Ok(())
+}
+
+/// Flags are taken in any order, each once; no other word is one.
+#[test]
+fn flags(rt: HostRuntime) -> Result<(), Fail> {
+    let alloc = rt.alloc();
+    has_flags(&rt, alloc, "v0 4", (false, false), "v0")?;
+    has_flags(&rt, alloc, "notrap v0", (true, false), "v0")?;
+    has_flags(&rt, alloc, "aligned v0", (false, true), "v0")?;
+    has_flags(&rt, alloc, "notrap aligned v0", (true, true), "v0")?;
+    has_flags(&rt, alloc, "aligned notrap v0", (true, true), "v0")?;
+    has_flags(&rt, alloc, "aligned aligned v0", (false, true), "aligned")?;
+    has_flags(&rt, alloc, "notrap region0 v0", (true, false), "region0")
+}
+
 /// A refused line is told with its number and with what should have stood there.
 #[test]
 fn refusals(rt: HostRuntime) -> Result<(), Fail> {
     let error = LineError::wanted(Expected::Block).at(12);
     let text = format!(in rt.alloc(); "{error}")?;
     assert!(rt; text.as_str() == "script error at line 12: expected a block");
+    Ok(())
+}
+
+/// What should stand somewhere, as it is told.
+#[test]
+fn expectations(rt: HostRuntime) -> Result<(), Fail> {
+    let rows = [
+        (Expected::F16Bits, "the bits of an f16"),
+        (Expected::F32Bits, "the bits of an f32"),
+        (Expected::F64Bits, "the bits of an f64"),
+        (Expected::Condition, "a condition"),
+        (Expected::TrapCode, "a trap code"),
+        (Expected::Offset, "an offset"),
+    ];
+    for (expected, text) in rows.iter() {
+        let told = format!(in rt.alloc(); "{expected}")?;
+        assert!(rt; told.as_str() == *text);
+    }
     Ok(())
 }

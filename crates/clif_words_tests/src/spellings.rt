@@ -1,10 +1,12 @@
-//! Numbers, types, conventions and widths of pointers as words.
+//! Numbers, types, conventions, widths of pointers, conditions and reasons for traps as words.
 #![tactic(auto)]
 
 use clif_types::types::Type;
-use clif_types::{CallConv, PointerWidth, types};
-use clif_words::number::{decimal, number, short_decimal};
-use clif_words::types::{call_conv_named, pointer_width_named, type_named};
+use clif_types::{CallConv, IntCC, PointerWidth, TrapCode, types};
+use clif_words::number::{decimal, magnitude, number, offset, short_decimal};
+use clif_words::types::{
+    call_conv_named, condition_named, pointer_width_named, trap_code_named, type_named,
+};
 use std::process::Abort;
 
 fn is_number(rt: &impl Abort, word: &str, expected: Option<i64>) {
@@ -32,6 +34,55 @@ fn numbers(rt: HostRuntime) {
     ];
     for (word, expected) in rows.iter() {
         is_number(&rt, word, *expected);
+    }
+}
+
+fn is_magnitude(rt: &impl Abort, word: &str, expected: Option<u64>) {
+    assert!(rt; magnitude(word) == expected);
+}
+
+/// Numbers without a sign, in base 10 or 16.
+#[test]
+fn magnitudes(rt: HostRuntime) {
+    let rows = [
+        ("0", Some(0)),
+        ("0x3f80_0000", Some(0x3f80_0000)),
+        ("1065353216", Some(1_065_353_216)),
+        ("18446744073709551615", Some(u64::MAX)),
+        ("18446744073709551616", None),
+        ("-1", None),
+        ("+1", None),
+        ("1.0", None),
+        ("", None),
+    ];
+    for (word, expected) in rows.iter() {
+        is_magnitude(&rt, word, *expected);
+    }
+}
+
+fn is_offset(rt: &impl Abort, word: &str, expected: Option<i32>) {
+    assert!(rt; offset(word) == expected);
+}
+
+/// Offsets of 32 bits, with a sign or without.
+#[test]
+fn offsets(rt: HostRuntime) {
+    let rows = [
+        ("0", Some(0)),
+        ("4", Some(4)),
+        ("+4", Some(4)),
+        ("-4", Some(-4)),
+        ("2147483647", Some(i32::MAX)),
+        ("-2147483648", Some(i32::MIN)),
+        ("2147483648", None),
+        ("-2147483649", None),
+        ("0x4", None),
+        ("-", None),
+        ("+-4", None),
+        ("", None),
+    ];
+    for (word, expected) in rows.iter() {
+        is_offset(&rt, word, *expected);
     }
 }
 
@@ -93,4 +144,44 @@ fn targets(rt: HostRuntime) {
     assert!(rt; pointer_width_named("32") == Some(PointerWidth::U32));
     assert!(rt; pointer_width_named("64") == Some(PointerWidth::U64));
     assert!(rt; pointer_width_named("128") == None);
+}
+
+/// The ten conditions.
+#[test]
+fn conditions(rt: HostRuntime) {
+    assert!(rt; condition_named("eq") == Some(IntCC::Equal));
+    assert!(rt; condition_named("ne") == Some(IntCC::NotEqual));
+    assert!(rt; condition_named("slt") == Some(IntCC::SignedLessThan));
+    assert!(rt; condition_named("sge") == Some(IntCC::SignedGreaterThanOrEqual));
+    assert!(rt; condition_named("sgt") == Some(IntCC::SignedGreaterThan));
+    assert!(rt; condition_named("sle") == Some(IntCC::SignedLessThanOrEqual));
+    assert!(rt; condition_named("ult") == Some(IntCC::UnsignedLessThan));
+    assert!(rt; condition_named("uge") == Some(IntCC::UnsignedGreaterThanOrEqual));
+    assert!(rt; condition_named("ugt") == Some(IntCC::UnsignedGreaterThan));
+    assert!(rt; condition_named("ule") == Some(IntCC::UnsignedLessThanOrEqual));
+    assert!(rt; condition_named("lt") == None);
+}
+
+fn is_trap_code(rt: &impl Abort, word: &str, expected: Option<TrapCode>) {
+    assert!(rt; trap_code_named(word) == expected);
+}
+
+/// Reasons for traps: those of the instructions, and 256 of a program's own.
+#[test]
+fn trap_codes(rt: HostRuntime) {
+    let rows = [
+        ("int_ovf", Some(TrapCode::IntegerOverflow)),
+        ("int_divz", Some(TrapCode::DivisionByZero)),
+        ("heap_oob", Some(TrapCode::HeapOutOfBounds)),
+        ("user0", Some(TrapCode::User(0))),
+        ("user7", Some(TrapCode::User(7))),
+        ("user255", Some(TrapCode::User(255))),
+        ("user256", None),
+        ("user", None),
+        ("user+7", None),
+        ("stk_ovf", None),
+    ];
+    for (word, expected) in rows.iter() {
+        is_trap_code(&rt, word, *expected);
+    }
 }
