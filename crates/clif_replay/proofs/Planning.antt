@@ -1,6 +1,6 @@
 -- What an instruction of a plan is, by numbers, and when it may be made.
 use Rattle.std.proofs.Common.{◌≡◌, ℕ, zero, suc, ◌<◌, List, [], ◌∷◌, length, refl, ap, arith, sym, ◌∙◌, subst}
-use Rattle.std.specs.Prelude.{map, Option, Some, None, is_some, Bool, true, false, ◌&&◌, Ok, slice_index}
+use Rattle.std.specs.Prelude.{ℤ, drop, map, Option, Some, None, is_some, Bool, true, false, ◌&&◌, Ok, slice_index}
 use Rattle.std.specs.List.{All, list_all}
 use Rattle.std.specs.Borrow.{Bor}
 use Rattle.std.proofs.lemmas.Bool.{and_from, and_parts}
@@ -10,7 +10,13 @@ use Rattle.clif_types.specs.Signature.{SignatureShape}
 use Rattle.clif_ir.specs.Body.{value_at}
 use Rattle.clif_instructions.specs.Instruction.{destinations, operands}
 use Rattle.clif_instructions.specs.declared.block_call.BlockCall.{BlockCall}
+use Rattle.clif_types.specs.declared.condcodes.IntCC.{IntCC}
+use Rattle.clif_types.specs.declared.trapcode.TrapCode.{TrapCode}
+use Rattle.clif_types.specs.MemFlags.{MemFlagsShape}
 use Rattle.clif_opcodes.specs.declared.opcodes.BinaryOpcode.{BinaryOpcode}
+use Rattle.clif_opcodes.specs.declared.opcodes.CondTrapOpcode.{CondTrapOpcode}
+use Rattle.clif_opcodes.specs.declared.opcodes.FloatConstOpcode.{FloatConstOpcode}
+use Rattle.clif_opcodes.specs.declared.opcodes.FloatConstOpcode.TheVariants.{F16const, F32const, F64const}
 use Rattle.clif_opcodes.specs.declared.opcodes.ConvertOpcode.{ConvertOpcode}
 use Rattle.clif_opcodes.specs.declared.opcodes.UnaryOpcode.{UnaryOpcode}
 use Rattle.clif_instructions.specs.declared.instructions.InstructionData.{InstructionData}
@@ -30,7 +36,7 @@ use Rattle.clif_replay.specs.declared.script.Answer.{Answer}
 use Rattle.clif_replay.specs.declared.make_instructions.Planned.{Planned}
 use Rattle.clif_replay.specs.Makes.{AreFound, Finds, IsPlanned, ValuesExist, can_make, has_names, type_in}
 use Rattle.clif_replay.specs.Ready.{IsReady, all_values, is_open, may_lead, value_of}
-use Rattle.clif_replay.specs.Requests.{controlling_in, edge_of, name_of, operation_in, request_in}
+use Rattle.clif_replay.specs.Requests.{controlling_in, edge_of, first_type, name_of, operation_in, request_in}
 use Rattle.clif_replay.proofs.Conditions.{all-exist, all-found, all-numbered, found-exists, found-leads, found-names, lead-same, open-same, value-type-same, values-same}
 use Rattle.clif_replay.proofs.Making.{found-one}
 use Rattle.clif_replay.proofs.ReadyLaws.{value-missing}
@@ -57,18 +63,20 @@ type-same calls b answers ready name = by (value_of b.func.now answers name) ref
     by None at = no-type (type_of (ledger_of calls) (name_of name)) (value-missing calls b answers ready name at) ∙ ap (type_in b.func.now) (sym at)
     by (Some value) at = ap or_invalid (value-type-same calls b answers ready name value at) ∙ ap (type_in b.func.now) (sym at)
 
+first-same : (first second : Name → «Type») → ((name : Name) → first name ≡ second name) → (names : List Name) → first_type first names ≡ first_type second names
+first-same first second same [] = refl
+first-same first second same (name ∷ names) = same name
+
 controlling-same : (first second : Name → «Type») → ((name : Name) → first name ≡ second name) → (p : Plan) → controlling_in first p ≡ controlling_in second p
-controlling-same first second same (plan.UnaryImm ty imm) = refl
 controlling-same first second same (plan.Unary opcode arg) = same arg
-controlling-same first second same (plan.Binary opcode []) = refl
-controlling-same first second same (plan.Binary opcode (x ∷ args)) = same x
-controlling-same first second same (plan.Convert opcode ty arg) = refl
-controlling-same first second same (plan.Ternary []) = refl
-controlling-same first second same (plan.Ternary (c ∷ [])) = refl
-controlling-same first second same (plan.Ternary (c ∷ x ∷ args)) = same x
-controlling-same first second same (plan.Jump destination) = refl
+controlling-same first second same (plan.Binary opcode args) = first-same first second same args
+controlling-same first second same (plan.Concat args) = first-same first second same args
+controlling-same first second same (plan.IntCompare cond args) = first-same first second same args
+controlling-same first second same (plan.Ternary args) = first-same first second same (drop 1 args)
+controlling-same first second same (plan.Store flags args offset) = first-same first second same args
+controlling-same first second same (plan.CondTrap opcode arg code) = same arg
 controlling-same first second same (plan.Brif condition block_then block_else) = same condition
-controlling-same first second same (plan.MultiAry args) = refl
+controlling-same first second same _ = refl
 
 -- an instruction is allowed where it may be made
 pub plan-same : {declared : SignatureShape} (calls : List AnsweredCall) (b : FunctionBuilder) (answers : List Answer) → IsReady declared calls b answers
@@ -106,6 +114,7 @@ instruction-named calls b answers ready p s ty planned = record {
   operation = planned.operation;
   controlling = controlling-same (λ name. or_invalid (type_of (ledger_of calls) (name_of name))) (λ name. type_in b.func.now (value_of b.func.now answers name)) (type-same calls b answers ready) p
       ∙ planned.controlling;
+  typed = planned.typed;
   operands_numbered = all-numbered calls b answers ready (operands_in p) (operands s) planned.operands;
   edges = edges-named calls b answers ready (edges_in p) (destinations s) planned.edges;
 }
@@ -129,46 +138,82 @@ destinations-lead calls b answers ready p s ty planned = edges-lead calls b answ
 
 -- FORMATS -------------------------------------------------------------------------------------------------------------
 
-pub planned-unary : (b : FunctionBuilder) (answers : List Answer) (code : UnaryOpcode) (name : Name) (x : ℕ) → value_of b.func.now answers name ≡ Some x
+-- the type of the first of these names is that of the first of the values that they lead to
+first-found : (b : FunctionBuilder) (answers : List Answer) (names : List Name) (x : ℕ) (xs : List ℕ) → map (value_of b.func.now answers) names ≡ map Some (x ∷ xs)
+    → first_type (λ name. type_in b.func.now (value_of b.func.now answers name)) names ≡ (value_at b.func.now x).ty
+first-found b answers [] x xs found = let no_way : ⊥ = cc in absurd no_way
+first-found b answers (name ∷ names) x xs found = let here : value_of b.func.now answers name ≡ Some x = cc in ap (type_in b.func.now) here
+
+second-found : (b : FunctionBuilder) (answers : List Answer) (names : List Name) (w x : ℕ) (xs : List ℕ) → map (value_of b.func.now answers) names ≡ map Some (w ∷ x ∷ xs)
+    → first_type (λ name. type_in b.func.now (value_of b.func.now answers name)) (drop 1 names) ≡ (value_at b.func.now x).ty
+second-found b answers [] w x xs found = let no_way : ⊥ = cc in absurd no_way
+second-found b answers (name ∷ names) w x xs found =
+    let rest : map (value_of b.func.now answers) names ≡ map Some (x ∷ xs) = cc in first-found b answers names x xs rest
+
+-- the first of the values that names lead to exists, and so does the second
+pub first-exists : (b : FunctionBuilder) (answers : List Answer) (names : List Name) (x : ℕ) (xs : List ℕ) → ValuesExist b answers
+    → map (value_of b.func.now answers) names ≡ map Some (x ∷ xs) → x < length b.func.now.values
+first-exists b answers [] x xs exist found = let no_way : ⊥ = cc in absurd no_way
+first-exists b answers (name ∷ names) x xs exist found = let here : value_of b.func.now answers name ≡ Some x = cc in exist name x here
+
+pub second-exists : (b : FunctionBuilder) (answers : List Answer) (names : List Name) (w x : ℕ) (xs : List ℕ) → ValuesExist b answers
+    → map (value_of b.func.now answers) names ≡ map Some (w ∷ x ∷ xs) → x < length b.func.now.values
+second-exists b answers [] w x xs exist found = let no_way : ⊥ = cc in absurd no_way
+second-exists b answers (name ∷ names) w x xs exist found =
+    let rest : map (value_of b.func.now answers) names ≡ map Some (x ∷ xs) = cc in first-exists b answers names x xs exist rest
+
+pub planned-unary : (b : FunctionBuilder) (answers : List Answer) (code : UnaryOpcode) (name : Name) (x : ℕ) → map (value_of b.func.now answers) (name ∷ []) ≡ map Some (x ∷ [])
     → IsPlanned b answers (plan.Unary code name) (shape.Unary code x) (value_at b.func.now x).ty
 planned-unary b answers code name x found =
-    record { operation = refl; controlling = ap (type_in b.func.now) found; operands = ap (λ (o : Option ℕ). o ∷ []) found; edges = tt }
+    record { operation = refl; controlling = first-found b answers (name ∷ []) x [] found; typed = refl; operands = found; edges = tt }
 
-pub planned-binary : (b : FunctionBuilder) (answers : List Answer) (code : BinaryOpcode) (args : List Name) (x y : ℕ) (ty : «Type»)
-    → map (value_of b.func.now answers) args ≡ map Some (x ∷ y ∷ []) → ty ≡ (value_at b.func.now x).ty
-    → IsPlanned b answers (plan.Binary code args) (shape.Binary code (x ∷ y ∷ [])) ty
-planned-binary b answers code args x y ty found typed = record {
-  operation = refl;
-  controlling = by args found ∙ sym typed;
-  operands = found;
-  edges = tt;
-}
-  where
-    by : (names : List Name) → map (value_of b.func.now answers) names ≡ map Some (x ∷ y ∷ [])
-        → controlling_in (λ name. type_in b.func.now (value_of b.func.now answers name)) (plan.Binary code names) ≡ (value_at b.func.now x).ty
-    by [] found = let no_way : ⊥ = cc in absurd no_way
-    by (name ∷ names) found = let here : value_of b.func.now answers name ≡ Some x = cc in ap (type_in b.func.now) here
+pub planned-binary : (b : FunctionBuilder) (answers : List Answer) (code : BinaryOpcode) (args : List Name) (x y : ℕ)
+    → map (value_of b.func.now answers) args ≡ map Some (x ∷ y ∷ [])
+    → IsPlanned b answers (plan.Binary code args) (shape.Binary code (x ∷ y ∷ [])) (value_at b.func.now x).ty
+planned-binary b answers code args x y found =
+    record { operation = refl; controlling = first-found b answers args x (y ∷ []) found; typed = refl; operands = found; edges = tt }
 
-pub planned-convert : (b : FunctionBuilder) (answers : List Answer) (code : ConvertOpcode) (ty : «Type») (name : Name) (x : ℕ) → value_of b.func.now answers name ≡ Some x
-    → IsPlanned b answers (plan.Convert code ty name) (shape.Convert code x) ty
-planned-convert b answers code ty name x found =
-    record { operation = refl; controlling = refl; operands = ap (λ (o : Option ℕ). o ∷ []) found; edges = tt }
+pub planned-compare : (b : FunctionBuilder) (answers : List Answer) (cond : IntCC) (args : List Name) (x y : ℕ)
+    → map (value_of b.func.now answers) args ≡ map Some (x ∷ y ∷ [])
+    → IsPlanned b answers (plan.IntCompare cond args) (shape.IntCompare cond (x ∷ y ∷ [])) (value_at b.func.now x).ty
+planned-compare b answers cond args x y found =
+    record { operation = refl; controlling = first-found b answers args x (y ∷ []) found; typed = refl; operands = found; edges = tt }
 
-pub planned-ternary : (b : FunctionBuilder) (answers : List Answer) (args : List Name) (test x y : ℕ) (ty : «Type»)
-    → map (value_of b.func.now answers) args ≡ map Some (test ∷ x ∷ y ∷ []) → ty ≡ (value_at b.func.now x).ty
-    → IsPlanned b answers (plan.Ternary args) (shape.Ternary (test ∷ x ∷ y ∷ [])) ty
-planned-ternary b answers args test x y ty found typed = record {
-  operation = refl;
-  controlling = by args found ∙ sym typed;
-  operands = found;
-  edges = tt;
-}
-  where
-    by : (names : List Name) → map (value_of b.func.now answers) names ≡ map Some (test ∷ x ∷ y ∷ [])
-        → controlling_in (λ name. type_in b.func.now (value_of b.func.now answers name)) (plan.Ternary names) ≡ (value_at b.func.now x).ty
-    by [] found = let no_way : ⊥ = cc in absurd no_way
-    by (first ∷ []) found = let no_way : ⊥ = cc in absurd no_way
-    by (first ∷ name ∷ names) found = let here : value_of b.func.now answers name ≡ Some x = cc in ap (type_in b.func.now) here
+pub planned-concat : (b : FunctionBuilder) (answers : List Answer) (args : List Name) (x y : ℕ)
+    → map (value_of b.func.now answers) args ≡ map Some (x ∷ y ∷ [])
+    → IsPlanned b answers (plan.Concat args) (shape.Concat (x ∷ y ∷ [])) (value_at b.func.now x).ty
+planned-concat b answers args x y found =
+    record { operation = refl; controlling = first-found b answers args x (y ∷ []) found; typed = refl; operands = found; edges = tt }
+
+pub planned-ternary : (b : FunctionBuilder) (answers : List Answer) (args : List Name) (test x y : ℕ)
+    → map (value_of b.func.now answers) args ≡ map Some (test ∷ x ∷ y ∷ [])
+    → IsPlanned b answers (plan.Ternary args) (shape.Ternary (test ∷ x ∷ y ∷ [])) (value_at b.func.now x).ty
+planned-ternary b answers args test x y found =
+    record { operation = refl; controlling = second-found b answers args test x (y ∷ []) found; typed = refl; operands = found; edges = tt }
+
+pub planned-convert : (b : FunctionBuilder) (answers : List Answer) (code : ConvertOpcode) (ty : «Type») (name : Name) (x : ℕ)
+    → map (value_of b.func.now answers) (name ∷ []) ≡ map Some (x ∷ []) → IsPlanned b answers (plan.Convert code ty name) (shape.Convert code x) ty
+planned-convert b answers code ty name x found = record { operation = refl; controlling = refl; typed = refl; operands = found; edges = tt }
+
+pub planned-load : (b : FunctionBuilder) (answers : List Answer) (flags : MemFlagsShape) (ty : «Type») (name : Name) (offset : ℤ) (x : ℕ)
+    → map (value_of b.func.now answers) (name ∷ []) ≡ map Some (x ∷ []) → IsPlanned b answers (plan.Load flags ty name offset) (shape.Load flags x offset) ty
+planned-load b answers flags ty name offset x found = record { operation = refl; controlling = refl; typed = refl; operands = found; edges = tt }
+
+pub planned-store : (b : FunctionBuilder) (answers : List Answer) (flags : MemFlagsShape) (args : List Name) (offset : ℤ) (x y : ℕ)
+    → map (value_of b.func.now answers) args ≡ map Some (x ∷ y ∷ []) → IsPlanned b answers (plan.Store flags args offset) (shape.Store flags (x ∷ y ∷ []) offset) Invalid
+planned-store b answers flags args offset x y found =
+    record { operation = refl; controlling = first-found b answers args x (y ∷ []) found; typed = refl; operands = found; edges = tt }
+
+pub planned-cond_trap : (b : FunctionBuilder) (answers : List Answer) (code : CondTrapOpcode) (name : Name) (reason : TrapCode) (x : ℕ)
+    → map (value_of b.func.now answers) (name ∷ []) ≡ map Some (x ∷ []) → IsPlanned b answers (plan.CondTrap code name reason) (shape.CondTrap code x reason) Invalid
+planned-cond_trap b answers code name reason x found =
+    record { operation = refl; controlling = first-found b answers (name ∷ []) x [] found; typed = refl; operands = found; edges = tt }
+
+pub planned-float : (b : FunctionBuilder) (answers : List Answer) (code : FloatConstOpcode) (bits : ℕ)
+    → IsPlanned b answers (plan.UnaryIeee code bits) (shape.UnaryIeee code bits) Invalid
+planned-float b answers F16const bits = record { operation = refl; controlling = refl; typed = refl; operands = refl; edges = tt }
+planned-float b answers F32const bits = record { operation = refl; controlling = refl; typed = refl; operands = refl; edges = tt }
+planned-float b answers F64const bits = record { operation = refl; controlling = refl; typed = refl; operands = refl; edges = tt }
 
 -- what names lead to is there
 edges-there : (b : FunctionBuilder) (answers : List Answer) (edges : List Edge) (made : List BlockCall) → AreFound b answers edges made → list_all (may_lead b answers) edges ≡ true
@@ -185,7 +230,7 @@ planned-named b answers p s ty planned =
 
 pub planned-returns : (b : FunctionBuilder) (answers : List Answer) (args : Bor (List Name)) (values : List ℕ) → map (value_of b.func.now answers) args.now ≡ map Some values
     → IsPlanned b answers (plan.MultiAry args) (shape.MultiAry values) Invalid
-planned-returns b answers args values found = record { operation = refl; controlling = refl; operands = found; edges = tt }
+planned-returns b answers args values found = record { operation = refl; controlling = refl; typed = refl; operands = found; edges = tt }
 
 -- the instruction was found
 pub planned-found : (b : FunctionBuilder) (answers : List Answer) (given p : Plan) (made : Planned) (s : InstructionData) (ty : «Type») → given ≡ p → made ≡ record { shape = s; ty = ty } → IsPlanned b answers p s ty
@@ -194,16 +239,3 @@ planned-found b answers given p made s ty is same planned =
     let here : IsPlanned b answers given made.shape made.ty =
     subst (λ (x : Planned). IsPlanned b answers given x.shape x.ty) (sym same) (subst (λ (q : Plan). IsPlanned b answers q s ty) (sym is) planned) in
     found-one made here (planned-named b answers given made.shape made.ty here)
-
--- the first of two values exists
-pub first-exists : (b : FunctionBuilder) (answers : List Answer) (names : List Name) (x y : ℕ) → ValuesExist b answers → map (value_of b.func.now answers) names ≡ map Some (x ∷ y ∷ []) → x < length b.func.now.values
-first-exists b answers [] x y exist found = let no_way : ⊥ = cc in absurd no_way
-first-exists b answers (name ∷ names) x y exist found = let here : value_of b.func.now answers name ≡ Some x = cc in exist name x here
-
--- the second of three values exists
-pub second-exists : (b : FunctionBuilder) (answers : List Answer) (names : List Name) (test x y : ℕ) → ValuesExist b answers
-    → map (value_of b.func.now answers) names ≡ map Some (test ∷ x ∷ y ∷ []) → x < length b.func.now.values
-second-exists b answers [] test x y exist found = let no_way : ⊥ = cc in absurd no_way
-second-exists b answers (first ∷ []) test x y exist found = let no_way : ⊥ = cc in absurd no_way
-second-exists b answers (first ∷ name ∷ names) test x y exist found =
-    let here : value_of b.func.now answers name ≡ Some x = cc in exist name x here

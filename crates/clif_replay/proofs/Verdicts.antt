@@ -29,22 +29,7 @@ use Rattle.clif_replay.proofs.ReadyLaws.{ledger-more}
 -- no call of a list is `finalize`
 no-refusal : (declared : SignatureShape) (ledger : Ledger) (c : Call) → refusal_of ledger (request_of declared ledger c) ≡ None
 no-refusal declared ledger call.CreateBlock = refl
-no-refusal declared ledger (call.SwitchToBlock block) = refl
-no-refusal declared ledger (call.SealBlock block) = refl
-no-refusal declared ledger call.SealAllBlocks = refl
-no-refusal declared ledger (call.InsertBlockAfter block after) = refl
-no-refusal declared ledger (call.SetColdBlock block) = refl
-no-refusal declared ledger call.EnsureInsertedBlock = refl
-no-refusal declared ledger (call.AppendBlockParam block ty) = refl
-no-refusal declared ledger (call.AppendBlockParamsForFunctionParams block) = refl
-no-refusal declared ledger (call.AppendBlockParamsForFunctionReturns block) = refl
-no-refusal declared ledger (call.DeclareVar ty) = refl
-no-refusal declared ledger (call.DefVar variable value) = refl
-no-refusal declared ledger (call.UseVar variable) = refl
-no-refusal declared ledger (call.Plain instruction) = refl
-no-refusal declared ledger (call.Jump destination) = refl
-no-refusal declared ledger (call.Brif condition block_then block_else) = refl
-no-refusal declared ledger (call.Return values) = refl
+no-refusal declared ledger _ = refl
 
 -- the requests of a list with one more call
 requests-push : (declared : SignatureShape) (ledger : Ledger) (calls : List Call) (c : Call)

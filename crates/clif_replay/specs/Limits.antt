@@ -25,6 +25,7 @@ MeetsFullTable (call.Plain instruction) f c = IsFull f
 MeetsFullTable (call.Jump destination) f c = IsFull f
 MeetsFullTable (call.Brif condition block_then block_else) f c = IsFull f
 MeetsFullTable (call.Return values) f c = IsFull f
+MeetsFullTable (call.Trap code) f c = IsFull f
 MeetsFullTable (call.UseVar variable) f c = ConstructsUntilFull f
 MeetsFullTable (call.SealBlock block) f c = ConstructsUntilFull f
 MeetsFullTable call.SealAllBlocks f c = ConstructsUntilFull f

@@ -5,22 +5,23 @@ use Rattle.clif_types.specs.Signature.{SignatureShape}
 use Rattle.clif_types.specs.declared.types.«Type».{«Type»}
 use Rattle.clif_types.specs.declared.types.«Type».TheVariants.{Invalid}
 use Rattle.clif_ir.specs.Body.{Body, value_at}
-use Rattle.clif_instructions.specs.Instruction.{destinations, operands}
+use Rattle.clif_instructions.specs.Instruction.{destinations, operands, result_types}
 use Rattle.clif_instructions.specs.declared.block_call.BlockCall.{BlockCall}
 use Rattle.clif_instructions.specs.declared.instructions.InstructionData.{InstructionData}
 use Rattle.clif_meaning.specs.Acceptance.{allows, can_operate}
 use Rattle.clif_meaning.specs.Ledger.{Ledger}
 use Rattle.clif_meaning.specs.Request.{AnsweredCall, Request}
-use Rattle.clif_meaning.specs.View.{operation_of}
+use Rattle.clif_meaning.specs.View.{made_at, operation_of}
 use Rattle.clif_ssa.specs.Limits.{IsFull}
 use Rattle.cranelift_frontend.specs.declared.builder.FunctionBuilder.{FunctionBuilder}
 use Rattle.cranelift_frontend.specs.Builder.{SameLoans}
-use Rattle.cranelift_frontend.specs.Ledger.{ledger_of, made_at}
+use Rattle.cranelift_frontend.specs.Ledger.{ledger_of}
 use Rattle.clif_calls.specs.Plan.{edges_in, operands_in}
 use Rattle.clif_calls.specs.declared.call.Call.{Call}
 use Rattle.clif_calls.specs.declared.call.Edge.{Edge}
 use Rattle.clif_calls.specs.declared.call.Name.{Name}
 use Rattle.clif_calls.specs.declared.plan.Plan.{Plan}
+use Rattle.clif_replay.specs.declared.make_instructions.Planned.{Planned}
 use Rattle.clif_replay.specs.declared.script.Answer.{Answer}
 use Rattle.clif_replay.specs.declared.script.CallError.{CallError}
 use Rattle.clif_replay.specs.declared.script.CallError.TheVariants as error
@@ -79,12 +80,17 @@ AreFound b answers _ _ = ⊥
 pub record IsPlanned (b : FunctionBuilder) (answers : List Answer) (plan : Plan) (shape : InstructionData) (ty : «Type») : Type 0 where
   pub operation : operation_in plan ≡ operation_of shape
   pub controlling : controlling_in (λ name. type_in b.func.now (value_of b.func.now answers name)) plan ≡ made_at b.func.now shape ty
+  pub typed : result_types shape ty ≡ result_types shape (made_at b.func.now shape ty)
   pub operands : map (value_of b.func.now answers) (operands_in plan) ≡ map Some (operands shape)
   pub edges : AreFound b answers (edges_in plan) (destinations shape)
 
 -- its names lead to values, and its edges may be made
 abbrev pub has_names : FunctionBuilder → List Answer → Plan → Bool
 has_names b answers plan = all_values b.func.now answers (operands_in plan) && list_all (may_lead b answers) (edges_in plan)
+
+-- the instruction of a plan is found, where what it names is there
+abbrev pub FindsPlan : FunctionBuilder → List Answer → Plan → Result Planned CallError → Type 0
+FindsPlan b answers plan result = Finds (λ (p : Planned). IsPlanned b answers plan p.shape p.ty) (has_names b answers plan) result
 
 -- it may be made
 abbrev pub can_make : FunctionBuilder → List Answer → Plan → Bool

@@ -177,19 +177,4 @@ pub record IsFound (b : FunctionBuilder) (answers : List Answer) (edge : Edge) (
 -- the types of the variables after a call that succeeded
 abbrev pub types_after : Call → List «Type» → List «Type»
 types_after (call.DeclareVar ty) types = types ++ ty ∷ []
-types_after call.CreateBlock types = types
-types_after (call.SwitchToBlock block) types = types
-types_after (call.SealBlock block) types = types
-types_after call.SealAllBlocks types = types
-types_after (call.InsertBlockAfter block after) types = types
-types_after (call.SetColdBlock block) types = types
-types_after call.EnsureInsertedBlock types = types
-types_after (call.AppendBlockParam block ty) types = types
-types_after (call.AppendBlockParamsForFunctionParams block) types = types
-types_after (call.AppendBlockParamsForFunctionReturns block) types = types
-types_after (call.DefVar variable value) types = types
-types_after (call.UseVar variable) types = types
-types_after (call.Plain instruction) types = types
-types_after (call.Jump destination) types = types
-types_after (call.Brif condition block_then block_else) types = types
-types_after (call.Return values) types = types
+types_after _ types = types

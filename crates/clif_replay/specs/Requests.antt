@@ -3,10 +3,10 @@ use Rattle.std.specs.Prelude.{◌≡◌, ℕ, List, [], ◌∷◌, ◌++◌, map
 use Rattle.clif_ir.specs.Body.{Body}
 use Rattle.clif_meaning.specs.Event.{types_of}
 use Rattle.clif_meaning.specs.Name.{Name}
-use Rattle.clif_meaning.specs.Instruction.{Binary, Brif, Compute, Convert, Edge, Iconst, Jump, Known, Operation, Return, Select, Unary}
+use Rattle.clif_meaning.specs.Instruction.{Binary, Brif, Compare, Compute, Concat, CondTrap, Convert, Edge, FloatConst, Iconst, Jump, Known, Load, Operation, Return, Select, Store, Trap, Unary}
 use Rattle.clif_meaning.specs.Request.{Request, CreateBlock, SwitchToBlock, SealBlock, SealAllBlocks, InsertBlockAfter, SetColdBlock, EnsureInsertedBlock, AppendBlockParams, AppendFunctionParams, DeclareVar, DefVar, UseVar, Build, Finalize, Script, AnsweredCall, script_of}
 use Rattle.clif_meaning.specs.Ledger.{Ledger, empty_ledger, ledger_after, ledger_with, or_invalid, type_of}
-use Rattle.clif_meaning.specs.Acceptance.{Verdict, Accepted, Misuse, Refused, jump, brif, return_, allows, verdict_from, verdict_on}
+use Rattle.clif_meaning.specs.Acceptance.{Verdict, Accepted, Misuse, Refused, jump, brif, return_, trap, allows, verdict_from, verdict_on}
 use Rattle.clif_types.specs.declared.types.«Type».{«Type»}
 use Rattle.clif_types.specs.declared.types.«Type».TheVariants.{Invalid}
 use Rattle.clif_types.specs.Signature.{SignatureShape}
@@ -35,10 +35,17 @@ edge_of destination = record { target = name_of destination.block; arguments = m
 -- what an instruction of a plan does
 abbrev pub operation_in : Plan → Operation
 operation_in (plan.UnaryImm ty imm) = Compute (Iconst imm)
+operation_in (plan.UnaryIeee opcode bits) = Compute (FloatConst opcode bits)
 operation_in (plan.Unary opcode arg) = Compute (Unary opcode)
 operation_in (plan.Binary opcode args) = Compute (Binary opcode)
 operation_in (plan.Convert opcode ty arg) = Compute (Convert opcode)
+operation_in (plan.Concat args) = Compute Concat
+operation_in (plan.IntCompare cond args) = Compute (Compare cond)
 operation_in (plan.Ternary args) = Compute Select
+operation_in (plan.Load flags ty arg offset) = Load flags offset
+operation_in (plan.Store flags args offset) = Store flags offset
+operation_in (plan.Trap code) = Trap code
+operation_in (plan.CondTrap opcode arg code) = CondTrap opcode code
 operation_in (plan.Jump destination) = Jump
 operation_in (plan.Brif condition block_then block_else) = Brif
 operation_in (plan.MultiAry args) = Return
@@ -54,10 +61,14 @@ controlling_in typed (plan.UnaryImm ty imm) = ty
 controlling_in typed (plan.Unary opcode arg) = typed arg
 controlling_in typed (plan.Binary opcode args) = first_type typed args
 controlling_in typed (plan.Convert opcode ty arg) = ty
+controlling_in typed (plan.Concat args) = first_type typed args
+controlling_in typed (plan.IntCompare cond args) = first_type typed args
 controlling_in typed (plan.Ternary args) = first_type typed (drop 1 args)
-controlling_in typed (plan.Jump destination) = Invalid
+controlling_in typed (plan.Load flags ty arg offset) = ty
+controlling_in typed (plan.Store flags args offset) = first_type typed args
+controlling_in typed (plan.CondTrap opcode arg code) = typed arg
 controlling_in typed (plan.Brif condition block_then block_else) = typed condition
-controlling_in typed (plan.MultiAry args) = Invalid
+controlling_in typed _ = Invalid
 
 -- the request of an instruction, which is made at types that the ledger tells
 abbrev pub request_in : Ledger → Plan → Request
@@ -84,6 +95,7 @@ request_of signature ledger (call.Plain instruction) = request_in ledger (plan_o
 request_of signature ledger (call.Jump destination) = jump (edge_of destination)
 request_of signature ledger (call.Brif condition block_then block_else) = brif ledger (name_of condition) (edge_of block_then) (edge_of block_else)
 request_of signature ledger (call.Return values) = return_ (map name_of values.items)
+request_of signature ledger (call.Trap code) = trap code
 
 -- the requests of calls, each at the ledger of the ones before it
 abbrev pub requests_from : SignatureShape → Ledger → List Call → Script

@@ -72,6 +72,7 @@ pub(crate) fn make_call(
             let args = values.as_slice();
             make_instruction(builder, answers, &Plan::MultiAry { args })
         }
+        Call::Trap { code } => make_instruction(builder, answers, &Plan::Trap { code: *code }),
     }
 }
 

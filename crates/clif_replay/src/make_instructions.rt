@@ -5,17 +5,19 @@ ghost use Rattle.clif_instructions.specs.Instruction.{destinations, operands};
 ghost use Rattle.clif_meaning.specs.Acceptance.{can_operate};
 ghost use Rattle.cranelift_frontend.specs.Builder.{CanLead, HasCurrent};
 ghost use Rattle.cranelift_frontend.specs.Built.{Builds};
-ghost use Rattle.clif_replay.specs.Makes.{Finds, IsPlanned, MakesPlan, ValuesExist, can_make, has_names};
+ghost use Rattle.clif_replay.specs.Makes.{Finds, FindsPlan, IsPlanned, MakesPlan, ValuesExist, can_make};
 ghost use Rattle.clif_replay.specs.Ready.{AnswersExist, IsSound};
 ghost use Rattle.clif_replay.specs.Requests.{operation_in};
 
 use crate::make::has_current;
-use crate::names::{edge_named, three_values, two_edges, two_values, value_named, values_named};
+use crate::names::{edge_named, one_value, three_values, two_edges, two_values, values_named};
 use crate::script::{Answer, CallError};
-use clif_calls::Plan;
+use clif_calls::{Edge, Name, Plan};
 use clif_ir::{Function, InstructionData};
-use clif_opcodes::{BinaryOpcode, ConvertOpcode, Opcode, UnaryOpcode};
-use clif_types::{BuildError, Inst, Type, Value};
+use clif_opcodes::{
+    BinaryOpcode, CondTrapOpcode, ConvertOpcode, Demand, FloatConstOpcode, Opcode, UnaryOpcode,
+};
+use clif_types::{BuildError, Inst, IntCC, MemFlagsData, TrapCode, Type, Value};
 use cranelift_frontend::{FunctionBuilder, InstBuilderBase};
 
 // An instruction, before it is made: its shape and its controlling type.
@@ -81,12 +83,9 @@ fn can_operate(plan: &Plan<'_>, ty: Type) -> bool
     match plan {
         Plan::UnaryImm { .. } => ty.is_int(),
         Plan::Convert { opcode, .. } => Opcode::Convert(*opcode).typing().demand.is_met(ty),
-        Plan::Unary { .. }
-        | Plan::Binary { .. }
-        | Plan::Ternary { .. }
-        | Plan::Jump { .. }
-        | Plan::Brif { .. }
-        | Plan::MultiAry { .. } => true,
+        Plan::Concat { .. } => Demand::ADoubled.is_met(ty),
+        Plan::Load { .. } => ty.is_valid(),
+        _ => true,
     }
 }
 
@@ -98,106 +97,266 @@ fn shaped(
 ) -> Result<Planned, CallError>
     requires answers { AnswersExist builder.now.func.now answers.now }
     requires values { ValuesExist builder.now answers.now }
-    ensures { Finds (λ p. IsPlanned builder.now answers.now plan.now p.shape p.ty)
-        (has_names builder.now answers.now plan.now) result }
+    ensures { FindsPlan builder.now answers.now plan.now result }
 {
-    let func = builder.func();
     match plan {
         Plan::UnaryImm { ty, imm } => {
             let shape = InstructionData::UnaryImm { imm: *imm };
             Ok(Planned { shape, ty: *ty })
         }
-        Plan::Unary { opcode, arg } => {
-            let Some(x) = value_named(func, answers, *arg) else {
-                return Err(CallError::Misuse);
-            };
-            Ok(unary(func, *opcode, x))
-        }
-        Plan::Binary { opcode, args } => {
-            let (x, y) = two_values(func, answers, args)?;
-            Ok(binary(func, *opcode, x, y))
-        }
-        Plan::Convert { opcode, ty, arg } => {
-            let x = value_named(func, answers, *arg).ok_or(CallError::Misuse)?;
-            Ok(converted(*opcode, *ty, x))
-        }
-        Plan::Ternary { args } => {
-            let (test, x, y) = three_values(func, answers, args)?;
-            Ok(ternary(func, test, x, y))
-        }
-        Plan::Jump { destination } => {
-            let destination = edge_named(builder, answers, destination)?;
-            Ok(untyped(InstructionData::Jump { destination }))
-        }
+        Plan::UnaryIeee { opcode, bits } => Ok(float(*opcode, *bits)),
+        Plan::Unary { opcode, arg } => unary(builder, answers, *opcode, *arg),
+        Plan::Binary { opcode, args } => binary(builder, answers, *opcode, args),
+        Plan::Convert { opcode, ty, arg } => convert(builder, answers, *opcode, *ty, *arg),
+        Plan::Concat { args } => concat(builder, answers, args),
+        Plan::IntCompare { cond, args } => compare(builder, answers, *cond, args),
+        Plan::Ternary { args } => ternary(builder, answers, args),
+        Plan::Load {
+            flags,
+            ty,
+            arg,
+            offset,
+        } => load(builder, answers, flags, *ty, *arg, *offset),
+        Plan::Store {
+            flags,
+            args,
+            offset,
+        } => store(builder, answers, flags, args, *offset),
+        Plan::CondTrap { opcode, arg, code } => cond_trap(builder, answers, *opcode, *arg, *code),
+        Plan::Jump { destination } => jump(builder, answers, destination),
         Plan::Brif {
             condition,
             block_then,
             block_else,
-        } => {
-            let arg = value_named(func, answers, *condition).ok_or(CallError::Misuse)?;
-            let blocks = two_edges(builder, answers, block_then, block_else)?;
-            Ok(untyped(InstructionData::Brif { arg, blocks }))
-        }
-        Plan::MultiAry { args } => {
-            let args = values_named(func, answers, args)?;
-            Ok(untyped(InstructionData::MultiAry { args }))
-        }
+        } => brif(builder, answers, *condition, block_then, block_else),
+        Plan::MultiAry { args } => multi_ary(builder, answers, args),
+        Plan::Trap { code } => Ok(untyped(InstructionData::Trap { code: *code })),
     }
 }
 
-// An instruction of one value, which is made at its type.
-fn unary(func: &Function, opcode: UnaryOpcode, x: Value) -> Planned
+// An operation on one value, which is made at its type.
+fn unary(
+    builder: &FunctionBuilder<'_>,
+    answers: &[Answer],
+    opcode: UnaryOpcode,
+    arg: Name,
+) -> Result<Planned, CallError>
+    requires answers { AnswersExist builder.now.func.now answers.now }
+    requires values { ValuesExist builder.now answers.now }
+    ensures { FindsPlan builder.now answers.now (Plan.Unary opcode arg) result }
+{
+    let func = builder.func();
+    let arg = one_value(func, answers, arg)?;
+    Ok(like(func, InstructionData::Unary { opcode, arg }, arg))
+}
+
+// An operation on two values, which is made at the type of the first.
+fn binary(
+    builder: &FunctionBuilder<'_>,
+    answers: &[Answer],
+    opcode: BinaryOpcode,
+    args: &[Name; 2],
+) -> Result<Planned, CallError>
+    requires answers { AnswersExist builder.now.func.now answers.now }
+    requires values { ValuesExist builder.now answers.now }
+    ensures { FindsPlan builder.now answers.now (Plan.Binary opcode args.now) result }
+{
+    let func = builder.func();
+    let (x, y) = two_values(func, answers, args)?;
+    let args = [x, y];
+    Ok(like(func, InstructionData::Binary { opcode, args }, x))
+}
+
+// A comparison of two values, which is made at the type of the first.
+fn compare(
+    builder: &FunctionBuilder<'_>,
+    answers: &[Answer],
+    cond: IntCC,
+    args: &[Name; 2],
+) -> Result<Planned, CallError>
+    requires answers { AnswersExist builder.now.func.now answers.now }
+    requires values { ValuesExist builder.now answers.now }
+    ensures { FindsPlan builder.now answers.now (Plan.IntCompare cond args.now) result }
+{
+    let func = builder.func();
+    let (x, y) = two_values(func, answers, args)?;
+    let args = [x, y];
+    Ok(like(func, InstructionData::IntCompare { cond, args }, x))
+}
+
+// Two halves, put together at the type of the first.
+fn concat(
+    builder: &FunctionBuilder<'_>,
+    answers: &[Answer],
+    args: &[Name; 2],
+) -> Result<Planned, CallError>
+    requires answers { AnswersExist builder.now.func.now answers.now }
+    requires values { ValuesExist builder.now answers.now }
+    ensures { FindsPlan builder.now answers.now (Plan.Concat args.now) result }
+{
+    let func = builder.func();
+    let (x, y) = two_values(func, answers, args)?;
+    let args = [x, y];
+    Ok(like(func, InstructionData::Concat { args }, x))
+}
+
+// A conversion of one value, which is made at a type that is given.
+fn convert(
+    builder: &FunctionBuilder<'_>,
+    answers: &[Answer],
+    opcode: ConvertOpcode,
+    ty: Type,
+    arg: Name,
+) -> Result<Planned, CallError>
+    requires answers { AnswersExist builder.now.func.now answers.now }
+    requires values { ValuesExist builder.now answers.now }
+    ensures { FindsPlan builder.now answers.now (Plan.Convert opcode ty arg) result }
+{
+    let arg = one_value(builder.func(), answers, arg)?;
+    Ok(given(InstructionData::Convert { opcode, arg }, ty))
+}
+
+// A choice between two values, which is made at the type of the second operand.
+fn ternary(
+    builder: &FunctionBuilder<'_>,
+    answers: &[Answer],
+    args: &[Name; 3],
+) -> Result<Planned, CallError>
+    requires answers { AnswersExist builder.now.func.now answers.now }
+    requires values { ValuesExist builder.now answers.now }
+    ensures { FindsPlan builder.now answers.now (Plan.Ternary args.now) result }
+{
+    let func = builder.func();
+    let (test, x, y) = three_values(func, answers, args)?;
+    let args = [test, x, y];
+    Ok(like(func, InstructionData::Ternary { args }, x))
+}
+
+// A load from an address, which is made at a type that is given.
+fn load(
+    builder: &FunctionBuilder<'_>,
+    answers: &[Answer],
+    flags: &MemFlagsData,
+    ty: Type,
+    arg: Name,
+    offset: i32,
+) -> Result<Planned, CallError>
+    requires answers { AnswersExist builder.now.func.now answers.now }
+    requires values { ValuesExist builder.now answers.now }
+    ensures { FindsPlan builder.now answers.now (Plan.Load flags.now ty arg offset) result }
+{
+    let arg = one_value(builder.func(), answers, arg)?;
+    let flags = *flags;
+    Ok(given(InstructionData::Load { flags, arg, offset }, ty))
+}
+
+// A store of a value at an address.
+fn store(
+    builder: &FunctionBuilder<'_>,
+    answers: &[Answer],
+    flags: &MemFlagsData,
+    args: &[Name; 2],
+    offset: i32,
+) -> Result<Planned, CallError>
+    requires answers { AnswersExist builder.now.func.now answers.now }
+    requires values { ValuesExist builder.now answers.now }
+    ensures { FindsPlan builder.now answers.now (Plan.Store flags.now args.now offset) result }
+{
+    let (x, address) = two_values(builder.func(), answers, args)?;
+    let flags = *flags;
+    let args = [x, address];
+    Ok(untyped(InstructionData::Store {
+        flags,
+        args,
+        offset,
+    }))
+}
+
+// A trap under a condition.
+fn cond_trap(
+    builder: &FunctionBuilder<'_>,
+    answers: &[Answer],
+    opcode: CondTrapOpcode,
+    arg: Name,
+    code: TrapCode,
+) -> Result<Planned, CallError>
+    requires answers { AnswersExist builder.now.func.now answers.now }
+    requires values { ValuesExist builder.now answers.now }
+    ensures { FindsPlan builder.now answers.now (Plan.CondTrap opcode arg code) result }
+{
+    let arg = one_value(builder.func(), answers, arg)?;
+    Ok(untyped(InstructionData::CondTrap { opcode, arg, code }))
+}
+
+// A jump along an edge.
+fn jump(
+    builder: &FunctionBuilder<'_>,
+    answers: &[Answer],
+    destination: &Edge,
+) -> Result<Planned, CallError>
+    requires answers { AnswersExist builder.now.func.now answers.now }
+    requires values { ValuesExist builder.now answers.now }
+    ensures { FindsPlan builder.now answers.now (Plan.Jump destination.entry) result }
+{
+    let destination = edge_named(builder, answers, destination)?;
+    Ok(untyped(InstructionData::Jump { destination }))
+}
+
+// A branch along one of two edges.
+fn brif(
+    builder: &FunctionBuilder<'_>,
+    answers: &[Answer],
+    condition: Name,
+    block_then: &Edge,
+    block_else: &Edge,
+) -> Result<Planned, CallError>
+    requires answers { AnswersExist builder.now.func.now answers.now }
+    requires values { ValuesExist builder.now answers.now }
+    ensures { FindsPlan builder.now answers.now (Plan.Brif condition block_then.entry block_else.entry) result }
+{
+    let arg = one_value(builder.func(), answers, condition)?;
+    let blocks = two_edges(builder, answers, block_then, block_else)?;
+    Ok(untyped(InstructionData::Brif { arg, blocks }))
+}
+
+// The end of the function, with these values.
+fn multi_ary(
+    builder: &FunctionBuilder<'_>,
+    answers: &[Answer],
+    args: &[Name],
+) -> Result<Planned, CallError>
+    requires answers { AnswersExist builder.now.func.now answers.now }
+    requires values { ValuesExist builder.now answers.now }
+    ensures { FindsPlan builder.now answers.now (Plan.MultiAry args.entry) result }
+{
+    let args = values_named(builder.func(), answers, args)?;
+    Ok(untyped(InstructionData::MultiAry { args }))
+}
+
+// An instruction that is made at the type of one of its operands.
+fn like(func: &Function, shape: InstructionData, x: Value) -> Planned
     requires { x < length func.now.values }
-    ensures { result ≡
-        record { shape = InstructionData.Unary opcode x; ty = (value_at func.now x).ty } }
+    ensures { result ≡ record { shape = shape; ty = (value_at func.now x).ty } }
 {
-    Planned {
-        shape: InstructionData::Unary { opcode, arg: x },
-        ty: func.value_type(x),
-    }
-}
-
-// An instruction of two values, which is made at the type of the first.
-fn binary(func: &Function, opcode: BinaryOpcode, x: Value, y: Value) -> Planned
-    requires { x < length func.now.values }
-    ensures { result ≡ record {
-      shape = InstructionData.Binary opcode (x ∷ y ∷ []);
-      ty = (value_at func.now x).ty;
-    } }
-{
-    Planned {
-        shape: InstructionData::Binary {
-            opcode,
-            args: [x, y],
-        },
-        ty: func.value_type(x),
-    }
-}
-
-// An instruction of one value, which is made at a type that is given.
-fn converted(opcode: ConvertOpcode, ty: Type, x: Value) -> Planned
-    ensures { result ≡ record { shape = InstructionData.Convert opcode x; ty = ty } }
-{
-    let shape = InstructionData::Convert { opcode, arg: x };
+    let ty = func.value_type(x);
     Planned { shape, ty }
 }
 
-// An instruction of three values, which is made at the type of the second.
-fn ternary(func: &Function, test: Value, x: Value, y: Value) -> Planned
-    requires { x < length func.now.values }
-    ensures { result ≡ record {
-      shape = InstructionData.Ternary (test ∷ x ∷ y ∷ []);
-      ty = (value_at func.now x).ty;
-    } }
+// An instruction that is made at a type that is given.
+fn given(shape: InstructionData, ty: Type) -> Planned
+    ensures { result ≡ record { shape = shape; ty = ty } }
 {
-    let args = [test, x, y];
-    Planned {
-        shape: InstructionData::Ternary { args },
-        ty: func.value_type(x),
-    }
+    Planned { shape, ty }
 }
 
-// An instruction that has no result, so no controlling type is given.
+// The bits of a float, of a type that the opcode tells.
+fn float(opcode: FloatConstOpcode, bits: u64) -> Planned
+    ensures { result ≡ record { shape = InstructionData.UnaryIeee opcode bits; ty = Type.Invalid } }
+{
+    untyped(InstructionData::UnaryIeee { opcode, bits })
+}
+
+// An instruction of which no type is given: it has no results, or its opcode tells their type.
 fn untyped(shape: InstructionData) -> Planned
     ensures { result ≡ record { shape = shape; ty = Type.Invalid } }
 {

@@ -118,6 +118,18 @@ pub(crate) fn edge_named(
     Ok(BlockCall { block, args })
 }
 
+// The one value that a name leads to.
+pub(crate) fn one_value(func: &Function, answers: &[Answer], name: Name) -> Result<Value, CallError>
+    requires { AnswersExist func.now answers.now }
+    ensures { Finds (λ x. map (value_of func.now answers.now) (name ∷ []) ≡ map Some (x ∷ []))
+        (all_values func.now answers.now (name ∷ [])) result }
+{
+    let Some(x) = value_named(func, answers, name) else {
+        return Err(CallError::Misuse);
+    };
+    Ok(x)
+}
+
 // The two values that names lead to.
 pub(crate) fn two_values(
     func: &Function,

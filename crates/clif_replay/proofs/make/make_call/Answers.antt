@@ -66,3 +66,6 @@ returns-in-Return c =
     subst (λ (x : Call). MakesCall x c.args.builder.now new c.args.answers.now c.make_instruction-in-Return.result) (sym c.in-Return.is)
     (subst (λ (names : List Name). Makes (λ declared ledger. return_ (map name_of names)) (IsFull c.args.builder.now.func.now) c.args.builder.now.ctx.now.variables c.args.builder.now new c.args.answers.now c.make_instruction-in-Return.result)
     c.as_slice-args.ensures.value c.make_instruction-in-Return.ensures)
+
+pub returns-in-Trap : goal.returns-in-Trap
+returns-in-Trap c = subst (λ (x : Call). MakesCall x c.args.builder.now c.make_instruction-in-Trap.new.builder c.args.answers.now c.make_instruction-in-Trap.result) (sym c.in-Trap.is) c.make_instruction-in-Trap.ensures
