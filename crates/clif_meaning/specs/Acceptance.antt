@@ -33,13 +33,18 @@ abbrev pub can_leave : Ledger → Option Name → Bool
 can_leave ledger None = true
 can_leave ledger (Some block) = is_unreachable ledger block || is_pristine ledger block || is_filled ledger block
 
+-- the zero of the type can be made so far: it is no pooled constant, as those of F128 and of vectors of integers are
+abbrev pub has_zero : «Type» → Bool
+has_zero (type.Lane lane.F128) = false
+has_zero (type.Lane l) = true
+has_zero (type.Vector lane.F16 count) = true
+has_zero (type.Vector lane.F32 count) = true
+has_zero (type.Vector lane.F64 count) = true
+has_zero _ = false
+
 -- the types of which a variable may be so far
 abbrev pub is_variable_type : «Type» → Bool
-is_variable_type (type.Lane lane.I8) = true
-is_variable_type (type.Lane lane.I16) = true
-is_variable_type (type.Lane lane.I32) = true
-is_variable_type (type.Lane lane.I64) = true
-is_variable_type _ = false
+is_variable_type ty = is_type ty && has_zero ty
 
 -- a value of the variable's type
 abbrev pub can_assign : Option «Type» → Option «Type» → Bool

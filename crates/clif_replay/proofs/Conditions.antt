@@ -214,17 +214,7 @@ function-params-some calls b answers ready name block types found =
 
 -- `declare_var`
 pub declare-same : (ty : «Type») → is_variable_type ty ≡ is_declarable ty
-declare-same type.Invalid = refl
-declare-same (type.Lane lane.I8) = refl
-declare-same (type.Lane lane.I16) = refl
-declare-same (type.Lane lane.I32) = refl
-declare-same (type.Lane lane.I64) = refl
-declare-same (type.Lane lane.I128) = refl
-declare-same (type.Lane lane.F16) = refl
-declare-same (type.Lane lane.F32) = refl
-declare-same (type.Lane lane.F64) = refl
-declare-same (type.Lane lane.F128) = refl
-declare-same (type.Vector l n) = refl
+declare-same ty = refl
 
 -- `def_var`
 no-value-assigned : (ty : Option «Type») → can_assign ty None ≡ false

@@ -1,5 +1,6 @@
 //! The calls of a script, each made on a builder if its condition holds.
 ghost use Rattle.std.specs.Prelude.{◌≡◌, ◌<◌, length, slice_get, IsTrue, ◌↔◌};
+ghost use Rattle.clif_meaning.specs.Acceptance.{has_zero};
 ghost use Rattle.cranelift_frontend.specs.Builder.{is_declarable};
 ghost use Rattle.clif_replay.specs.Makes.{MakesCall};
 ghost use Rattle.clif_replay.specs.Ready.{IsSound, is_open, can_define, can_use};
@@ -96,9 +97,18 @@ fn declare_var(
 fn is_declarable(ty: Type) -> bool
     ensures { result ≡ is_declarable ty }
 {
+    ty.is_valid() && has_zero(ty)
+}
+
+// Whether the zero of this type can be made so far.
+fn has_zero(ty: Type) -> bool
+    ensures { result ≡ has_zero ty }
+{
     match ty {
-        Type::Lane(LaneType::I8 | LaneType::I16 | LaneType::I32 | LaneType::I64) => true,
-        Type::Lane(_) | Type::Vector(..) | Type::Invalid => false,
+        Type::Lane(LaneType::F128) => false,
+        Type::Lane(_) => true,
+        Type::Vector(LaneType::F16 | LaneType::F32 | LaneType::F64, _) => true,
+        Type::Vector(..) | Type::Invalid => false,
     }
 }
 

@@ -1,12 +1,12 @@
 -- The instructions of zeros, one by one.
 use Rattle.std.proofs.Common.{◌≡◌, ℕ, zero, suc, ◌+◌, ◌-◌, ◌^◌, ◌<◌, List, [], ◌∷◌, ◌++◌, map, length, ◌⊎◌, inl, inr, refl, ap, arith, sym, ◌∙◌, subst}
-use Rattle.std.specs.Prelude.{Some, slice_get, slice_index}
+use Rattle.std.specs.Prelude.{Some, ◌*◌, pos, slice_get, slice_index}
 use Rattle.std.specs.List.{AllByRecursion, range_with_len}
-use Rattle.std.proofs.Math.Nat.{zero-mod}
+use Rattle.std.proofs.Math.Nat.{mul-zero, zero-mod}
 use Rattle.std.proofs.lemmas.Bool.{cases_eq}
 use Rattle.std.proofs.lemmas.List.FromFn.{length-range_with_len}
 use Rattle.clif_types.specs.declared.types.«Type».{«Type»}
-use Rattle.clif_types.specs.Types.{bits_of}
+use Rattle.clif_types.specs.Types.{bits_of, lane_count_of, lane_type_of}
 use Rattle.clif_ir.specs.Body.{Body, alias_of_origin, inst_at, resolved, value_at}
 use Rattle.clif_ir.specs.Consistent.{IsConsistent}
 use Rattle.clif_instructions.specs.Instruction.{destinations, operands}
@@ -17,10 +17,15 @@ use Rattle.clif_paths.specs.State.{unborn, zero_of}
 use Rattle.clif_paths.specs.Blocks.{Blocks, front}
 use Rattle.clif_ssa.specs.Sound.{IsZero}
 use Rattle.clif_ssa.specs.Structure.{IsNeededZero}
-use Rattle.clif_ssa.specs.Zeros.{ZeroAt, ZeroStep, HasZero, IsStep, insts_of_zero, insts_of_zeros, steps_before, zero_row, zero_steps}
+use Rattle.clif_ssa.specs.Zeros.{row_of_kind, kind_of_zero, ZeroAt, ZeroStep, HasZero, IsStep, insts_of_zero, insts_of_zeros, steps_before, zero_row, zero_steps}
 use Rattle.clif_ssa.proofs.ZeroTable.{IsPlainStep, first_alone, none_some, plain_step, same_some, step_count, step_there}
 use Rattle.clif_meaning.specs.Memory.{Memory}
-use Rattle.clif_meaning.specs.Outcome.{Gives, outcome_of}
+use Rattle.clif_meaning.specs.Outcome.{Gives, float_type, low_bits_at, outcome_of, repeated}
+use Rattle.clif_instructions.specs.declared.instructions.InstructionData.TheVariants.{UnaryImm, UnaryIeee, Convert}
+use Rattle.clif_opcodes.specs.declared.opcodes.ConvertOpcode.TheVariants.{Splat, Uextend}
+use Rattle.clif_opcodes.specs.declared.opcodes.FloatConstOpcode.{FloatConstOpcode}
+use Rattle.clif_ssa.specs.declared.zeros.ZeroKind.{ZeroKind}
+use Rattle.clif_ssa.specs.declared.zeros.ZeroKind.TheVariants as made
 use Rattle.clif_meaning.specs.View.{operation_of}
 use Rattle.clif_meaning.specs.World.{World}
 use Rattle.std.proofs.lemmas.Option.{get_or_from_slice_get}
@@ -39,9 +44,35 @@ GivesZero shape =
 abbrev StepGivesZero : ZeroStep → Type 0
 StepGivesZero step = (value : ℕ) → GivesZero (step.shape value)
 
+repeated_zero : (count width : ℕ) → repeated count width 0 ≡ 0
+repeated_zero zero width = refl
+repeated_zero (suc count) width = ap (λ n. 2 ^ width * n) (repeated_zero count width) ∙ mul-zero (2 ^ width)
+
+low_zero : (ty : «Type») (number : ℕ) → number ≡ 0 → low_bits_at ty number ≡ 0
+low_zero ty number none = ap (low_bits_at ty) none ∙ zero-mod (2 ^ bits_of ty)
+
+number_gives_zero : (value : ℕ) → GivesZero (UnaryImm (pos 0))
+number_gives_zero value world ty types memory = ap (λ bits. Gives (bits ∷ []) memory) (zero-mod (2 ^ bits_of ty))
+
+float_gives_zero : (opcode : FloatConstOpcode) → GivesZero (UnaryIeee opcode 0)
+float_gives_zero opcode world ty types memory = ap (λ bits. Gives (bits ∷ []) memory) (zero-mod (2 ^ bits_of (float_type opcode)))
+
+extended_gives_zero : (value : ℕ) → GivesZero (Convert Uextend value)
+extended_gives_zero value world ty types memory = ap (λ bits. Gives (bits ∷ []) memory) (zero-mod (2 ^ bits_of ty))
+
+splat_gives_zero : (value : ℕ) → GivesZero (Convert Splat value)
+splat_gives_zero value world ty types memory =
+    ap (λ bits. Gives (bits ∷ []) memory) (low_zero ty (repeated (lane_count_of ty) (bits_of (lane_type_of ty)) 0) (repeated_zero (lane_count_of ty) (bits_of (lane_type_of ty))))
+
+kind_gives_zero : (kind : ZeroKind) (ty : «Type») → AllByRecursion StepGivesZero ((row_of_kind kind).before ++ record { shape = (row_of_kind kind).last; ty = ty } ∷ [])
+kind_gives_zero made.Number ty = (number_gives_zero, tt)
+kind_gives_zero made.Extended ty = (number_gives_zero, (extended_gives_zero, tt))
+kind_gives_zero (made.Float opcode) ty = ((λ value. float_gives_zero opcode), tt)
+kind_gives_zero (made.Splatted opcode) ty = ((λ value. float_gives_zero opcode), (splat_gives_zero, tt))
+
 steps_give_zero : (ty : «Type») → AllByRecursion StepGivesZero (zero_steps ty)
 unfolding zero_row
-steps_give_zero ty = ((λ value world controlling types memory. ap (λ bits. Gives (bits ∷ []) memory) (zero-mod (2 ^ bits_of controlling))), tt)
+steps_give_zero ty = kind_gives_zero (kind_of_zero ty) ty
 
 all_get : {X : Type 0} (P : X → Type 0) (xs : List X) (k : ℕ) (x : X) → AllByRecursion P xs → slice_get xs k ≡ Some x → P x
 all_get P [] k x all is = absurd (none_some is)

@@ -8,8 +8,16 @@ use Rattle.clif_types.specs.declared.types.«Type».{«Type»}
 use Rattle.clif_ir.specs.Body.{Body, inst_at}
 use Rattle.clif_instructions.specs.Instruction.{destinations, is_terminator, operands, result_types, with_argument}
 use Rattle.clif_ir.specs.declared.function.InstNode.{InstNode}
-use Rattle.clif_instructions.specs.declared.instructions.InstructionData.TheVariants.{UnaryImm}
-use Rattle.clif_ssa.specs.Zeros.{ZeroAt, ZeroStep, HasZero, IsStep, steps_before, value_of_zero, zero_row, zero_steps}
+use Rattle.clif_instructions.specs.declared.instructions.InstructionData.TheVariants.{UnaryImm, UnaryIeee, Convert}
+use Rattle.clif_types.specs.declared.types.LaneType.TheVariants as lane
+use Rattle.clif_types.specs.declared.types.«Type».TheVariants as type
+use Rattle.clif_opcodes.specs.declared.opcodes.ConvertOpcode.{ConvertOpcode}
+use Rattle.clif_opcodes.specs.declared.opcodes.ConvertOpcode.TheVariants.{Splat, Uextend}
+use Rattle.clif_opcodes.specs.declared.opcodes.FloatConstOpcode.{FloatConstOpcode}
+use Rattle.clif_opcodes.specs.declared.opcodes.FloatConstOpcode.TheVariants.{F16const, F32const, F64const}
+use Rattle.clif_ssa.specs.declared.zeros.ZeroKind.{ZeroKind}
+use Rattle.clif_ssa.specs.declared.zeros.ZeroKind.TheVariants as made
+use Rattle.clif_ssa.specs.Zeros.{ZeroAt, ZeroStep, HasZero, IsStep, float_type, kind_of_zero, row_of_kind, steps_before, value_of_zero, zero_row, zero_steps}
 
 pub none_some : {X : Type 0} {x : X} → ◌≡◌ {A = Option X} None (Some x) → ⊥
 none_some same = cc
@@ -36,14 +44,68 @@ plain_constant ty = record {
   operands_before = λ value. All-nil _;
 }
 
+-- the bits of a float, at its type
+plain_float : (opcode : FloatConstOpcode) → IsPlainStep (record { shape = λ value. UnaryIeee opcode 0; ty = float_type opcode })
+plain_float opcode = record {
+  no_edges = λ value. refl;
+  unchanged = λ b v value. refl;
+  goes_on = λ value. goes_on opcode;
+  one_result = λ value. one opcode;
+  operands_before = λ value. All-nil _;
+}
+  where
+    goes_on : (o : FloatConstOpcode) → is_terminator (UnaryIeee o 0) ≡ false
+    goes_on F16const = refl
+    goes_on F32const = refl
+    goes_on F64const = refl
+
+    one : (o : FloatConstOpcode) → result_types (UnaryIeee o 0) (float_type o) ≡ float_type o ∷ []
+    one F16const = refl
+    one F32const = refl
+    one F64const = refl
+
+-- the value before, at another type
+plain_converted : (opcode : ConvertOpcode) (ty : «Type») → IsPlainStep (record { shape = λ value. Convert opcode value; ty = ty })
+plain_converted opcode ty = record {
+  no_edges = λ value. refl;
+  unchanged = λ b v value. refl;
+  goes_on = λ value. refl;
+  one_result = λ value. refl;
+  operands_before = λ value. itself value;
+}
+  where
+    itself : (value : ℕ) → All (λ operand. operand ≡ value) (value ∷ [])
+    itself value zero d inside = refl
+    itself value (suc k) d inside = absurd (omega (arith, inside))
+
+-- a float that is its own type's zero
+float_at : (ty : «Type») (opcode : FloatConstOpcode) → float_type opcode ≡ ty → IsPlainStep (record { shape = λ value. UnaryIeee opcode 0; ty = ty })
+float_at ty opcode is = subst (λ t. IsPlainStep (record { shape = λ value. UnaryIeee opcode 0; ty = t })) is (plain_float opcode)
+
 plain_steps : (ty : «Type») → AllByRecursion IsPlainStep (zero_steps ty)
 unfolding zero_row
+plain_steps (type.Lane lane.I128) = (plain_constant (type.Lane lane.I64), (plain_converted Uextend (type.Lane lane.I128), tt))
+plain_steps (type.Lane lane.F16) = (float_at (type.Lane lane.F16) F16const refl, tt)
+plain_steps (type.Lane lane.F32) = (float_at (type.Lane lane.F32) F32const refl, tt)
+plain_steps (type.Lane lane.F64) = (float_at (type.Lane lane.F64) F64const refl, tt)
+plain_steps (type.Vector lane.F16 count) = (plain_float F16const, (plain_converted Splat (type.Vector lane.F16 count), tt))
+plain_steps (type.Vector lane.F32 count) = (plain_float F32const, (plain_converted Splat (type.Vector lane.F32 count), tt))
+plain_steps (type.Vector lane.F64 count) = (plain_float F64const, (plain_converted Splat (type.Vector lane.F64 count), tt))
 plain_steps ty = (plain_constant ty, tt)
 
 -- the first step has no operands
 pub first_alone : (ty : «Type») (step : ZeroStep) (value : ℕ) → slice_get (zero_steps ty) 0 ≡ Some step → operands (step.shape value) ≡ []
 unfolding zero_row
-first_alone ty step value is = ap (λ (s : ZeroStep). operands (s.shape value)) (sym (same_some is))
+first_alone ty step value is = by (kind_of_zero ty) refl
+  where
+    by : (kind : ZeroKind) → kind_of_zero ty ≡ kind → operands (step.shape value) ≡ []
+    by kind same = alone kind (sym (ap (λ k. slice_get ((row_of_kind k).before ++ record { shape = (row_of_kind k).last; ty = ty } ∷ []) 0) same) ∙ is)
+      where
+        alone : (kind : ZeroKind) → slice_get ((row_of_kind kind).before ++ record { shape = (row_of_kind kind).last; ty = ty } ∷ []) 0 ≡ Some step → operands (step.shape value) ≡ []
+        alone made.Number first = ap (λ (s : ZeroStep). operands (s.shape value)) (sym (same_some first))
+        alone made.Extended first = ap (λ (s : ZeroStep). operands (s.shape value)) (sym (same_some first))
+        alone (made.Float opcode) first = ap (λ (s : ZeroStep). operands (s.shape value)) (sym (same_some first))
+        alone (made.Splatted opcode) first = ap (λ (s : ZeroStep). operands (s.shape value)) (sym (same_some first))
 
 all_get : {X : Type 0} (P : X → Type 0) (xs : List X) (k : ℕ) (x : X) → AllByRecursion P xs → slice_get xs k ≡ Some x → P x
 all_get P [] k x all is = absurd (none_some is)

@@ -1,11 +1,18 @@
 -- Zeros, which stand for variables where nothing assigns them: by type, the instructions of one, and where it stands.
 -- Source: own, after Braun et al. 2013 (an undefined variable), and the zeros that cranelift's SSA builder makes.
-use Rattle.std.specs.Prelude.{◌≡◌, ℕ, ◌+◌, ◌-◌, ◌<◌, List, [], ◌∷◌, ◌++◌, length, MatchOption, Option, Some, None, slice_get, pos}
+use Rattle.std.specs.Prelude.{◌≡◌, ℕ, zero, suc, ◌+◌, ◌-◌, ◌<◌, List, [], ◌∷◌, ◌++◌, length, MatchOption, Option, Some, None, slice_get, pos}
 use Rattle.std.specs.List.{range_with_len}
+use Rattle.clif_types.specs.declared.types.LaneType.TheVariants as lane
 use Rattle.clif_types.specs.declared.types.«Type».{«Type»}
+use Rattle.clif_types.specs.declared.types.«Type».TheVariants as type
 use Rattle.clif_ir.specs.Body.{Body, inst_at}
 use Rattle.clif_instructions.specs.declared.instructions.InstructionData.{InstructionData}
-use Rattle.clif_instructions.specs.declared.instructions.InstructionData.TheVariants.{UnaryImm}
+use Rattle.clif_instructions.specs.declared.instructions.InstructionData.TheVariants.{UnaryImm, UnaryIeee, Convert}
+use Rattle.clif_opcodes.specs.declared.opcodes.ConvertOpcode.TheVariants.{Splat, Uextend}
+use Rattle.clif_opcodes.specs.declared.opcodes.FloatConstOpcode.{FloatConstOpcode}
+use Rattle.clif_opcodes.specs.declared.opcodes.FloatConstOpcode.TheVariants.{F16const, F32const, F64const}
+use Rattle.clif_ssa.specs.declared.zeros.ZeroKind.{ZeroKind}
+use Rattle.clif_ssa.specs.declared.zeros.ZeroKind.TheVariants as made
 
 -- an instruction of a zero: its shape, by the result of the one before, and the type of its own result
 pub record ZeroStep : Type 0 where
@@ -17,9 +24,34 @@ pub record ZeroRow : Type 0 where
   pub before : List ZeroStep
   pub last : ℕ → InstructionData
 
--- THE TABLE: the zero of each type
+-- how the zero of a type is made
+abbrev pub kind_of_zero : «Type» → ZeroKind
+kind_of_zero (type.Lane lane.I128) = made.Extended
+kind_of_zero (type.Lane lane.F16) = made.Float F16const
+kind_of_zero (type.Lane lane.F32) = made.Float F32const
+kind_of_zero (type.Lane lane.F64) = made.Float F64const
+kind_of_zero (type.Vector lane.F16 count) = made.Splatted F16const
+kind_of_zero (type.Vector lane.F32 count) = made.Splatted F32const
+kind_of_zero (type.Vector lane.F64 count) = made.Splatted F64const
+kind_of_zero _ = made.Number
+
+-- the type of a float constant
+abbrev pub float_type : FloatConstOpcode → «Type»
+float_type F16const = type.Lane lane.F16
+float_type F32const = type.Lane lane.F32
+float_type F64const = type.Lane lane.F64
+
+-- THE TABLE: the instructions of each kind of zero. The zeros of F128 and of vectors of integers, which are pooled
+-- constants, aren't made so far.
+abbrev pub row_of_kind : ZeroKind → ZeroRow
+row_of_kind made.Number = record { before = []; last = λ value. UnaryImm (pos 0) }
+row_of_kind made.Extended = record { before = record { shape = λ value. UnaryImm (pos 0); ty = type.Lane lane.I64 } ∷ []; last = λ value. Convert Uextend value }
+row_of_kind (made.Float opcode) = record { before = []; last = λ value. UnaryIeee opcode 0 }
+row_of_kind (made.Splatted opcode) = record { before = record { shape = λ value. UnaryIeee opcode 0; ty = float_type opcode } ∷ []; last = λ value. Convert Splat value }
+
+-- the zero of each type
 unfoldable pub zero_row : «Type» → ZeroRow
-zero_row ty = record { before = []; last = λ value. UnaryImm (pos 0) }
+zero_row ty = row_of_kind (kind_of_zero ty)
 
 -- how many steps come before the one whose result is the zero
 abbrev pub steps_before : «Type» → ℕ
@@ -33,6 +65,16 @@ zero_steps ty = (zero_row ty).before ++ record { shape = (zero_row ty).last; ty 
 abbrev pub IsStepAt : «Type» → ℕ → ℕ → Option (InstructionData × «Type») → Type 0
 IsStepAt ty place before result =
     MatchOption (slice_get (zero_steps ty) place) (result ≡ None) (λ (step : ZeroStep). result ≡ Some (step.shape before, step.ty))
+
+-- the step at a place of a zero that has one step, or two
+abbrev pub only_step : ℕ → InstructionData → «Type» → Option (InstructionData × «Type»)
+only_step zero shape ty = Some (shape, ty)
+only_step (suc place) shape ty = None
+
+abbrev pub first_or_last_step : ℕ → InstructionData → «Type» → InstructionData → «Type» → Option (InstructionData × «Type»)
+first_or_last_step zero first first_type last ty = Some (first, first_type)
+first_or_last_step (suc zero) first first_type last ty = Some (last, ty)
+first_or_last_step (suc (suc place)) first first_type last ty = None
 
 -- WHERE ZEROS STAND -----------------------------------------------------------------------------------------------
 

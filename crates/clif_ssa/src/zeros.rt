@@ -7,12 +7,14 @@ ghost use Rattle.clif_ssa.specs.Constructs.{OnlyConstructs, TellsZeros};
 ghost use Rattle.clif_ssa.specs.Limits.{IsFull};
 ghost use Rattle.clif_ssa.specs.Ssa.{with_steps, with_zero, zero_value, zeroed_in, HasMore};
 ghost use Rattle.clif_ssa.specs.Ssa.{HasSomeSteps, MayHaveSomeSteps};
-ghost use Rattle.clif_ssa.specs.Zeros.{zero_steps, IsStepAt};
+ghost use Rattle.clif_ssa.specs.Zeros.{float_type, kind_of_zero, zero_steps, IsStepAt, only_step, first_or_last_step};
 
 use clif_instructions::inst_list::InsertAt;
 use clif_ir::{Function, InstructionData};
+use clif_opcodes::{ConvertOpcode, FloatConstOpcode};
 use clif_records::SideEffects;
-use clif_types::{Block, BuildError, EntityRef, SourceLoc, Type, Value};
+use clif_types::types::{F16, F32, F64, I64};
+use clif_types::{Block, BuildError, EntityRef, LaneType, SourceLoc, Type, Value};
 
 // Makes a parameter to which nothing comes a name of a new zero, and tells of the zero. What is no
 // parameter stays.
@@ -118,13 +120,101 @@ fn latest_value(func: &Function) -> Value
     Value::new(func.value_count().saturating_sub(1))
 }
 
-// THE TABLE: the instruction of a type's zero at a place among its steps, if it has so many, and the
-// type of its result. `before` is the result of the step before it.
-fn zero_step(ty: Type, place: usize, _before: Value) -> Option<(InstructionData, Type)>
-    ensures { IsStepAt ty place _before result }
+/// How the zero of a type is made.
+#[derive(Clone, Copy)]
+pub enum ZeroKind {
+    /// By a constant of an integer type.
+    Number,
+    /// By a constant of 64 bits that is extended.
+    Extended,
+    /// By a constant of a float.
+    Float(FloatConstOpcode),
+    /// By a constant of a float in every lane.
+    Splatted(FloatConstOpcode),
+}
+
+// How the zero of this type is made.
+fn kind_of_zero(ty: Type) -> ZeroKind
+    ensures { result ≡ kind_of_zero ty }
+{
+    match ty {
+        Type::Lane(LaneType::I128) => ZeroKind::Extended,
+        Type::Lane(LaneType::F16) => ZeroKind::Float(FloatConstOpcode::F16const),
+        Type::Lane(LaneType::F32) => ZeroKind::Float(FloatConstOpcode::F32const),
+        Type::Lane(LaneType::F64) => ZeroKind::Float(FloatConstOpcode::F64const),
+        Type::Vector(LaneType::F16, _) => ZeroKind::Splatted(FloatConstOpcode::F16const),
+        Type::Vector(LaneType::F32, _) => ZeroKind::Splatted(FloatConstOpcode::F32const),
+        Type::Vector(LaneType::F64, _) => ZeroKind::Splatted(FloatConstOpcode::F64const),
+        _ => ZeroKind::Number,
+    }
+}
+
+// The type of a float constant.
+fn float_type(opcode: FloatConstOpcode) -> Type
+    ensures { result ≡ float_type opcode }
+{
+    match opcode {
+        FloatConstOpcode::F16const => F16,
+        FloatConstOpcode::F32const => F32,
+        FloatConstOpcode::F64const => F64,
+    }
+}
+
+// The instruction of a type's zero at a place among its steps, if it has so many, and the type of its result. `before`
+// is the result of the step before it.
+fn zero_step(ty: Type, place: usize, before: Value) -> Option<(InstructionData, Type)>
+    ensures { IsStepAt ty place before result }
+{
+    match kind_of_zero(ty) {
+        ZeroKind::Number => only(place, InstructionData::UnaryImm { imm: 0 }, ty),
+        ZeroKind::Extended => {
+            let opcode = ConvertOpcode::Uextend;
+            let last = InstructionData::Convert {
+                opcode,
+                arg: before,
+            };
+            let first = InstructionData::UnaryImm { imm: 0 };
+            first_or_last(place, first, I64, last, ty)
+        }
+        ZeroKind::Float(opcode) => only(place, InstructionData::UnaryIeee { opcode, bits: 0 }, ty),
+        ZeroKind::Splatted(float) => {
+            let first = InstructionData::UnaryIeee {
+                opcode: float,
+                bits: 0,
+            };
+            let opcode = ConvertOpcode::Splat;
+            let last = InstructionData::Convert {
+                opcode,
+                arg: before,
+            };
+            first_or_last(place, first, float_type(float), last, ty)
+        }
+    }
+}
+
+// The step of a zero that has one.
+fn only(place: usize, shape: InstructionData, ty: Type) -> Option<(InstructionData, Type)>
+    ensures { result ≡ only_step place shape ty }
 {
     match place {
-        0 => Some((InstructionData::UnaryImm { imm: 0 }, ty)),
+        0 => Some((shape, ty)),
+        _ => None,
+    }
+}
+
+// The step at a place of a zero that has two.
+fn first_or_last(
+    place: usize,
+    first: InstructionData,
+    first_type: Type,
+    last: InstructionData,
+    ty: Type,
+) -> Option<(InstructionData, Type)>
+    ensures { result ≡ first_or_last_step place first first_type last ty }
+{
+    match place {
+        0 => Some((first, first_type)),
+        1 => Some((last, ty)),
         _ => None,
     }
 }

@@ -2,9 +2,8 @@
 use Rattle.std.specs.Prelude.{◌≡◌, ◌≢◌, ◌<◌, ◌+◌, length, slice_get, ℕ, List, [], ◌∷◌, Bool, true, false, not, ◌&&◌, ◌||◌, ◌==◌, Option, Some, None, IfSome, if◌then◌else◌, zero, suc, Result, Ok, Err}
 use Rattle.cranelift_frontend.specs.declared.error.FinalizeError.{FinalizeError}
 use Rattle.cranelift_frontend.specs.declared.error.FinalizeError.TheVariants.{Unsealed, Unfilled, Failed}
-use Rattle.clif_types.specs.declared.types.LaneType.TheVariants.{I8, I16, I32, I64}
 use Rattle.clif_types.specs.declared.types.«Type».{«Type»}
-use Rattle.clif_types.specs.declared.types.«Type».TheVariants.{Lane}
+use Rattle.clif_meaning.specs.Acceptance.{is_variable_type}
 use Rattle.clif_ir.specs.Body.{Body}
 use Rattle.clif_ir.specs.Consistent.{EdgeExists}
 use Rattle.clif_instructions.specs.declared.block_call.BlockCall.{BlockCall}
@@ -57,11 +56,7 @@ is_free b = is_free_at b.position b.func.now b.ctx.now
 
 -- the types that a variable may have so far
 abbrev pub is_declarable : «Type» → Bool
-is_declarable (Lane I8) = true
-is_declarable (Lane I16) = true
-is_declarable (Lane I32) = true
-is_declarable (Lane I64) = true
-is_declarable ty = false
+is_declarable ty = is_variable_type ty
 
 abbrev pub is_empty_status : BlockStatus → Bool
 is_empty_status Empty = true
