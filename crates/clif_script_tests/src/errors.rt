@@ -57,7 +57,44 @@ fn of_calls(rt: HostRuntime) -> Result<(), Fail> {
     faults(&rt, rt.alloc(), &CALLS)
 }
 
-const NAMES: [(&str, &str); 8] = [
+const INSTRUCTIONS: [(&str, &str); 29] = [
+    ("f16const", "expected the bits of an f16"),
+    ("f16const 65536", "expected the bits of an f16"),
+    ("f32const 4294967296", "expected the bits of an f32"),
+    ("f32const -1", "expected the bits of an f32"),
+    ("f64const 1.0", "expected the bits of an f64"),
+    ("f32const.f32 0", "unknown call: f32const.f32"),
+    ("icmp", "expected a condition"),
+    ("icmp lt $0.0 $0.0", "expected a condition"),
+    ("icmp eq $0.0", "expected a value"),
+    ("iconcat $0.0", "expected a value"),
+    ("sextend $0.0", "expected a type"),
+    ("sextend.i7 $0.0", "expected a type"),
+    ("load $0.0", "expected a type"),
+    ("load.i32", "expected a value"),
+    ("load.i32 notrap", "expected a value"),
+    ("load.i32 notrap notrap $0.0", "unknown name: notrap"),
+    ("load.i32 region0 $0.0", "unknown name: region0"),
+    ("load.i32 $0.0 x", "expected an offset"),
+    ("load.i32 $0.0 0x4", "expected an offset"),
+    ("load.i32 $0.0 2147483648", "expected an offset"),
+    ("load.i32 $0.0 4 4", "expected the end of the line"),
+    ("store $0.0", "expected a value"),
+    ("store $0.0 $0.0 -", "expected an offset"),
+    ("trapz $0.0", "expected a trap code"),
+    ("trapz user7", "unknown name: user7"),
+    ("trapnz $0.0 user256", "expected a trap code"),
+    ("trap", "expected a trap code"),
+    ("trap stk_ovf", "expected a trap code"),
+    ("trap user7 $0.0", "expected the end of the line"),
+];
+
+#[test]
+fn of_instructions(rt: HostRuntime) -> Result<(), Fail> {
+    faults(&rt, rt.alloc(), &INSTRUCTIONS)
+}
+
+const NAMES: [(&str, &str); 11] = [
     ("1 = create_block", "expected a name"),
     (".a = create_block", "expected a name"),
     ("@a = create_block", "expected a name"),
@@ -66,6 +103,9 @@ const NAMES: [(&str, &str); 8] = [
     ("@a, b, c = iconst.i8 1", "expected at most 1 name"),
     ("a = seal_block b", "expected no names"),
     ("@a, b = return", "expected no names"),
+    ("@a, b = trap user1", "expected no names"),
+    ("@a, b = trapz $0.0 user1", "expected no names"),
+    ("b = store $0.0 $0.0", "expected no names"),
 ];
 
 #[test]
@@ -104,7 +144,7 @@ fn of_header_lines(rt: HostRuntime) -> Result<(), Fail> {
 
 const CALLS_TO_COME: [(&str, &str); 3] = [
     ("switch x b 1:c", "not supported yet: switch"),
-    ("x = load.i32 notrap p", "not supported yet: load"),
+    ("x = stack_load.i32 s", "not supported yet: stack_load"),
     ("call f (x)", "not supported yet: call"),
 ];
 

@@ -106,6 +106,59 @@ return
     is_written(&rt, rt.alloc(), script, written)
 }
 
+// Each instruction that has its own format, or operands that aren't values.
+#[test]
+fn written_instructions(rt: HostRuntime) -> Result<(), Fail> {
+    let script = "\
+f16const 0x3c00
+f16const 65_535
+f32const 1065353216
+f64const 0x3ff0_0000_0000_0000
+f64const 18446744073709551615
+sextend.i64 $1.0
+iconcat $1.0 $2.0
+icmp slt $1.0, $2.0
+icmp uge $1.0, $2.0
+load.i32 $1.0
+load.i8x16 aligned, notrap, $1.0, +4
+load.f64 notrap $1.0 -4
+store $1.0 $2.0
+store aligned $1.0, $2.0, -2147483648
+store notrap $1.0 $2.0 0
+trapz $1.0 user7
+trapnz $1.0, int_divz
+trap heap_oob
+trap user255
+trap int_ovf";
+    let written = "\
+function u0:0 () fast
+pointer 64
+conv system_v
+f16const 15360
+f16const 65535
+f32const 1065353216
+f64const 4607182418800017408
+f64const 18446744073709551615
+sextend.i64 $1.0
+iconcat $1.0 $2.0
+icmp slt $1.0 $2.0
+icmp uge $1.0 $2.0
+load.i32 $1.0
+load.i8x16 notrap aligned $1.0 4
+load.f64 notrap $1.0 -4
+store $1.0 $2.0
+store aligned $1.0 $2.0 -2147483648
+store notrap $1.0 $2.0
+trapz $1.0 user7
+trapnz $1.0 int_divz
+trap heap_oob
+trap user255
+trap int_ovf
+";
+    is_written(&rt, rt.alloc(), script, written)?;
+    is_written(&rt, rt.alloc(), written, written)
+}
+
 // Names lead to the latest answer of that name, also of a variable, and `$P.K` to any answer.
 #[test]
 fn names(rt: HostRuntime) -> Result<(), Fail> {

@@ -4,3 +4,4 @@ mod Scopes
 mod Giving
 mod Counting
 mod Headers
+mod Offsets

@@ -16,6 +16,7 @@ is_instruction (call.Plain instruction) = true
 is_instruction (call.Jump edge) = true
 is_instruction (call.Brif condition first second) = true
 is_instruction (call.Return values) = true
+is_instruction (call.Trap code) = true
 is_instruction _ = false
 
 -- how many variables the calls declare

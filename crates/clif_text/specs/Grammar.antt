@@ -1,7 +1,8 @@
 -- Which words stand for which call. Source: own; docs/SCRIPTS.md describes the same format.
-use Rattle.std.specs.Prelude.{◌≡◌, ℕ, ◌⊎◌, ◌++◌, List, [], ◌∷◌, Option, Some, None, codes}
-use Rattle.clif_opcodes.specs.Names.{binary_name, convert_name, unary_name}
-use Rattle.clif_words.specs.Spelling.{IsDecimal, IsNumber, IsTypeWord}
+use Rattle.std.specs.Prelude.{◌≡◌, ℕ, ℤ, pos, ◌⊎◌, ◌++◌, List, [], ◌∷◌, Option, Some, None, codes}
+use Rattle.clif_types.specs.Texts.{int_cc_text}
+use Rattle.clif_opcodes.specs.Names.{binary_name, cond_trap_name, convert_name, float_const_name, unary_name}
+use Rattle.clif_words.specs.Spelling.{AreFlags, IsDecimal, IsMagnitude, IsNumber, IsOffset, IsTrapCode, IsTypeWord}
 use Rattle.clif_calls.specs.declared.call.Name.{Name}
 use Rattle.clif_calls.specs.declared.call.Edge.{Edge}
 use Rattle.clif_calls.specs.declared.call.Call.{Call}
@@ -50,14 +51,28 @@ IsEdge names words edge = (block : List ℕ) × (passed : List (List ℕ)) × (w
 abbrev pub IsLastEdge : Names → List (List ℕ) → Edge → Type 0
 IsLastEdge names words edge = (block : List ℕ) × (passed : List (List ℕ)) × (words ≡ block ∷ passed) × IsAnswer names block edge.block × AreLast names passed edge.args.items
 
+-- an offset that ends a line: it may be left out where it is 0
+abbrev pub IsLastOffset : List (List ℕ) → ℤ → Type 0
+IsLastOffset words offset = ((words ≡ []) × (offset ≡ pos 0)) ⊎ ((word : List ℕ) × (words ≡ word ∷ []) × IsOffset word offset)
+
 -- The words stand for an instruction of this plan, which neither branches nor ends its block.
 abbrev pub IsPlain : Names → List (List ℕ) → Plan → Type 0
 IsPlain names words (plan.UnaryImm ty imm) = (t n : List ℕ) × (words ≡ (codes "iconst." ++ t) ∷ n ∷ []) × IsTypeWord t ty × IsNumber n imm
+IsPlain names words (plan.UnaryIeee opcode bits) = (n : List ℕ) × (words ≡ float_const_name opcode ∷ n ∷ []) × IsMagnitude n bits
 IsPlain names words (plan.Unary opcode arg) = (operand : List ℕ) × (words ≡ unary_name opcode ∷ operand ∷ []) × IsAnswer names operand arg
 IsPlain names words (plan.Binary opcode args) = (operands : List (List ℕ)) × (words ≡ binary_name opcode ∷ operands) × AreAnswers names operands args
 IsPlain names words (plan.Convert opcode ty arg) =
     (t operand : List ℕ) × (words ≡ (convert_name opcode ++ (codes "." ++ t)) ∷ operand ∷ []) × IsTypeWord t ty × IsAnswer names operand arg
+IsPlain names words (plan.Concat args) = (operands : List (List ℕ)) × (words ≡ codes "iconcat" ∷ operands) × AreAnswers names operands args
+IsPlain names words (plan.IntCompare cond args) =
+    (operands : List (List ℕ)) × (words ≡ codes "icmp" ∷ int_cc_text cond ∷ operands) × AreAnswers names operands args
 IsPlain names words (plan.Ternary args) = (operands : List (List ℕ)) × (words ≡ codes "select" ∷ operands) × AreAnswers names operands args
+IsPlain names words (plan.Load flags ty arg offset) =
+    (t p : List ℕ) × (f o : List (List ℕ)) × (words ≡ (codes "load." ++ t) ∷ (f ++ p ∷ o)) × IsTypeWord t ty × AreFlags f flags × IsAnswer names p arg × IsLastOffset o offset
+IsPlain names words (plan.Store flags args offset) =
+    (f operands o : List (List ℕ)) × (words ≡ codes "store" ∷ (f ++ (operands ++ o))) × AreFlags f flags × AreAnswers names operands args × IsLastOffset o offset
+IsPlain names words (plan.CondTrap opcode arg code) =
+    (c reason : List ℕ) × (words ≡ cond_trap_name opcode ∷ c ∷ reason ∷ []) × IsAnswer names c arg × IsTrapCode reason code
 IsPlain names words _ = ⊥
 
 -- The words stand for the call: its name, and then what it takes, in order.
@@ -79,3 +94,4 @@ IsCall names words (call.Plain instruction) = IsPlain names words (plan_of instr
 IsCall names words (call.Jump edge) = (e : List (List ℕ)) × (words ≡ codes "jump" ∷ e) × IsLastEdge names e edge
 IsCall names words (call.Brif condition first second) = (a : List ℕ) × (e f : List (List ℕ)) × (words ≡ codes "brif" ∷ a ∷ (e ++ f)) × IsAnswer names a condition × IsEdge names e first × IsLastEdge names f second
 IsCall names words (call.Return values) = (v : List (List ℕ)) × (words ≡ codes "return" ∷ v) × AreLast names v values.items
+IsCall names words (call.Trap code) = (reason : List ℕ) × (words ≡ codes "trap" ∷ reason ∷ []) × IsTrapCode reason code

@@ -1,8 +1,8 @@
 -- The text of a call, as a line of a script that gives no names. Source: own; docs/SCRIPTS.md describes the format.
-use Rattle.std.specs.Prelude.{ℕ, List, [], ◌∷◌, ◌++◌, codes, flat_map}
+use Rattle.std.specs.Prelude.{ℕ, ℤ, List, [], ◌∷◌, ◌++◌, ◌==◌, codes, flat_map, nat_abs, if◌then◌else◌}
 use Rattle.std.specs.Fmt.{decimal, signed_decimal}
-use Rattle.clif_opcodes.specs.Names.{binary_name, convert_name, unary_name}
-use Rattle.clif_types.specs.Texts.{type_text, call_conv_text, signature_text, user_func_name_text}
+use Rattle.clif_opcodes.specs.Names.{binary_name, cond_trap_name, convert_name, float_const_name, unary_name}
+use Rattle.clif_types.specs.Texts.{type_text, call_conv_text, int_cc_text, mem_flags_text, signature_text, trap_code_text, user_func_name_text}
 use Rattle.clif_types.specs.Signature.{SignatureShape}
 use Rattle.clif_types.specs.declared.extname.UserFuncName.{UserFuncName}
 use Rattle.clif_types.specs.declared.target.TargetFrontendConfig.{TargetFrontendConfig}
@@ -31,13 +31,24 @@ edge_text edge = answer_text edge.block ++ (codes "(" ++ (answers_text edge.args
 abbrev pub variable_text : ℕ → List ℕ
 variable_text number = codes "var" ++ decimal number
 
+-- ` -4`, and nothing for 0
+abbrev pub offset_text : ℤ → List ℕ
+offset_text offset = if nat_abs offset == 0 then [] else codes " " ++ signed_decimal offset
+
 -- an instruction of this plan: its name, and what it takes
 abbrev pub plan_text : Plan → List ℕ
 plan_text (plan.UnaryImm ty imm) = codes "iconst." ++ (type_text ty ++ (codes " " ++ signed_decimal imm))
+plan_text (plan.UnaryIeee opcode bits) = float_const_name opcode ++ (codes " " ++ decimal bits)
 plan_text (plan.Unary opcode arg) = unary_name opcode ++ (codes " " ++ answer_text arg)
 plan_text (plan.Binary opcode args) = binary_name opcode ++ answers_text args
 plan_text (plan.Convert opcode ty arg) = convert_name opcode ++ (codes "." ++ (type_text ty ++ (codes " " ++ answer_text arg)))
+plan_text (plan.Concat args) = codes "iconcat" ++ answers_text args
+plan_text (plan.IntCompare cond args) = codes "icmp " ++ (int_cc_text cond ++ answers_text args)
 plan_text (plan.Ternary args) = codes "select" ++ answers_text args
+plan_text (plan.Load flags ty arg offset) = codes "load." ++ (type_text ty ++ (mem_flags_text flags ++ (codes " " ++ (answer_text arg ++ offset_text offset))))
+plan_text (plan.Store flags args offset) = codes "store" ++ (mem_flags_text flags ++ (answers_text args ++ offset_text offset))
+plan_text (plan.Trap code) = codes "trap " ++ trap_code_text code
+plan_text (plan.CondTrap opcode arg code) = cond_trap_name opcode ++ (codes " " ++ (answer_text arg ++ (codes " " ++ trap_code_text code)))
 plan_text (plan.Jump destination) = codes "jump " ++ edge_text destination.now
 plan_text (plan.Brif condition first second) = codes "brif " ++ (answer_text condition ++ (codes " " ++ (edge_text first.now ++ (codes " " ++ edge_text second.now))))
 plan_text (plan.MultiAry args) = codes "return" ++ answers_text args.now
@@ -60,6 +71,7 @@ call_text (call.Plain instruction) = plan_text (plan_of instruction)
 call_text (call.Jump edge) = codes "jump " ++ edge_text edge
 call_text (call.Brif condition first second) = codes "brif " ++ (answer_text condition ++ (codes " " ++ (edge_text first ++ (codes " " ++ edge_text second))))
 call_text (call.Return values) = codes "return" ++ answers_text values.items
+call_text (call.Trap code) = codes "trap " ++ trap_code_text code
 
 -- the header lines
 abbrev pub header_text : UserFuncName → SignatureShape → TargetFrontendConfig → List ℕ

@@ -1,15 +1,15 @@
 //! What follows the name of a call.
-ghost use Rattle.std.specs.Prelude.{◌≡◌, ◌++◌, ℕ, List, IfSome, codes};
+ghost use Rattle.std.specs.Prelude.{◌≡◌, ◌++◌, ◌∷◌, [], ℕ, List, IfSome, codes};
 ghost use Rattle.clif_words.specs.Spelling.{IsDecimal};
 
 use crate::scope::{Scope, is_name};
 use clif_calls::{Edge, Name};
 use clif_records::Variable;
-use clif_types::Type;
+use clif_types::{IntCC, MemFlagsData, TrapCode, Type};
 use clif_words::cursor::Cursor;
 use clif_words::error::{Expected, Fault, LineError};
-use clif_words::number::{decimal, number};
-use clif_words::types::type_named;
+use clif_words::number::{decimal, magnitude, number, offset};
+use clif_words::types::{condition_named, trap_code_named, type_named};
 use std::alloc::Global;
 
 /// The words that are left, and what names in them stand for.
@@ -23,11 +23,12 @@ pub(crate) struct Args<'w, 'a> {
 const MOST_VARIABLES: usize = 0xffff_ffff;
 
 impl<'w, 'a> Args<'w, 'a> {
-    ghost use Rattle.std.specs.Prelude.{◌∷◌, [], IfOk, OnOk};
-    ghost use Rattle.clif_words.specs.Cursor.{texts, words_left};
-    ghost use Rattle.clif_text.specs.Scope.{names_of};
-    ghost use Rattle.clif_text.specs.Grammar.{AreAnswers, AreLast, IsAnswer, IsEdge, IsLastEdge, IsVariable};
-    ghost use Rattle.clif_words.specs.Spelling.{IsNumber, IsTypeWord};
+    ghost use Rattle.std.specs.Prelude.{IfOk, OnOk};
+    ghost use Rattle.clif_types.specs.Texts.{int_cc_text};
+    ghost use Rattle.clif_words.specs.Cursor.{TakesFlags, texts, words_left};
+    ghost use Rattle.clif_words.specs.Spelling.{IsMagnitude, IsNumber, IsTrapCode, IsTypeWord};
+    ghost use Rattle.clif_text.specs.Grammar.{AreAnswers, AreLast, IsEdge, IsLastEdge, IsLastOffset, IsVariable};
+    ghost use Rattle.clif_text.specs.Reading.{TakesAnswer, TakesAnswers, TakesWord, TakesWords, names_in};
 
     pub(crate) fn new(words: &'w [&'a str], scope: &'w Scope<'a>) -> Args<'w, 'a>
         ensures words { words_left result.words ≡ texts words.now }
@@ -42,7 +43,8 @@ impl<'w, 'a> Args<'w, 'a> {
     /// The name of a call.
     pub(crate) fn head(&mut self) -> Result<&'a str, LineError<'a>>
         ensures scope { self.new.scope ≡ self.old.scope }
-        ensures ok { IfOk result (λ head. words_left self.old.words ≡ head.now ∷ words_left self.new.words) }
+        ensures ok { IfOk result (λ head. words_left self.old.words ≡
+            head.now ∷ words_left self.new.words) }
     {
         self.words.take(Expected::Call)
     }
@@ -50,7 +52,7 @@ impl<'w, 'a> Args<'w, 'a> {
     // What a name stands for.
     fn answer(&mut self, expected: Expected) -> Result<Name, LineError<'a>>
         ensures scope { self.new.scope ≡ self.old.scope }
-        ensures ok { IfOk result (λ name. (word : List ℕ) × (words_left self.old.words ≡ word ∷ words_left self.new.words) × IsAnswer (names_of self.old.scope.now) word name) }
+        ensures ok { IfOk result (TakesAnswer self.old self.new) }
     {
         let word = self.words.take(expected)?;
         match self.scope.answer(word) {
@@ -62,7 +64,7 @@ impl<'w, 'a> Args<'w, 'a> {
     /// A block.
     pub(crate) fn block(&mut self) -> Result<Name, LineError<'a>>
         ensures scope { self.new.scope ≡ self.old.scope }
-        ensures ok { IfOk result (λ name. (word : List ℕ) × (words_left self.old.words ≡ word ∷ words_left self.new.words) × IsAnswer (names_of self.old.scope.now) word name) }
+        ensures ok { IfOk result (TakesAnswer self.old self.new) }
     {
         self.answer(Expected::Block)
     }
@@ -70,7 +72,7 @@ impl<'w, 'a> Args<'w, 'a> {
     /// A value.
     pub(crate) fn value(&mut self) -> Result<Name, LineError<'a>>
         ensures scope { self.new.scope ≡ self.old.scope }
-        ensures ok { IfOk result (λ name. (word : List ℕ) × (words_left self.old.words ≡ word ∷ words_left self.new.words) × IsAnswer (names_of self.old.scope.now) word name) }
+        ensures ok { IfOk result (TakesAnswer self.old self.new) }
     {
         self.answer(Expected::Value)
     }
@@ -79,7 +81,7 @@ impl<'w, 'a> Args<'w, 'a> {
     /// was given.
     pub(crate) fn variable(&mut self) -> Result<Variable, LineError<'a>>
         ensures scope { self.new.scope ≡ self.old.scope }
-        ensures ok { IfOk result (λ variable. (word : List ℕ) × (words_left self.old.words ≡ word ∷ words_left self.new.words) × IsVariable (names_of self.old.scope.now) word variable) }
+        ensures ok { IfOk result (TakesWord self.old self.new (IsVariable (names_in self.old))) }
     {
         let word = self.words.take(Expected::Variable)?;
         let index = match self.scope.answer(word) {
@@ -99,7 +101,7 @@ impl<'w, 'a> Args<'w, 'a> {
     /// A type.
     pub(crate) fn ty(&mut self) -> Result<Type, LineError<'a>>
         ensures scope { self.new.scope ≡ self.old.scope }
-        ensures ok { IfOk result (λ ty. (word : List ℕ) × (words_left self.old.words ≡ word ∷ words_left self.new.words) × IsTypeWord word ty) }
+        ensures ok { IfOk result (TakesWord self.old self.new IsTypeWord) }
     {
         let word = self.words.take(Expected::Type)?;
         type_named(word).ok_or(LineError::wanted(Expected::Type))
@@ -108,17 +110,80 @@ impl<'w, 'a> Args<'w, 'a> {
     /// A number.
     pub(crate) fn number(&mut self) -> Result<i64, LineError<'a>>
         ensures scope { self.new.scope ≡ self.old.scope }
-        ensures ok { IfOk result (λ number. (word : List ℕ) × (words_left self.old.words ≡ word ∷ words_left self.new.words) × IsNumber word number) }
+        ensures ok { IfOk result (TakesWord self.old self.new IsNumber) }
     {
         let word = self.words.take(Expected::Number)?;
         number(word).ok_or(LineError::wanted(Expected::Number))
+    }
+
+    /// Two values.
+    pub(crate) fn two_values(&mut self) -> Result<(Name, Name), LineError<'a>>
+        ensures scope { self.new.scope ≡ self.old.scope }
+        ensures ok { IfOk result (λ two. TakesAnswers self.old self.new (two.0 ∷ two.1 ∷ [])) }
+    {
+        let first = self.value()?;
+        let second = self.value()?;
+        Ok((first, second))
+    }
+
+    /// A number without a sign, which the line should have as `expected`.
+    pub(crate) fn magnitude(&mut self, expected: Expected) -> Result<u64, LineError<'a>>
+        ensures scope { self.new.scope ≡ self.old.scope }
+        ensures ok { IfOk result (TakesWord self.old self.new IsMagnitude) }
+    {
+        let word = self.words.take(expected)?;
+        magnitude(word).ok_or(LineError::wanted(expected))
+    }
+
+    /// A condition.
+    pub(crate) fn condition(&mut self) -> Result<IntCC, LineError<'a>>
+        ensures scope { self.new.scope ≡ self.old.scope }
+        ensures ok { IfOk result (TakesWord self.old self.new (λ word cond. word ≡
+            int_cc_text cond)) }
+    {
+        let word = self.words.take(Expected::Condition)?;
+        condition_named(word).ok_or(LineError::wanted(Expected::Condition))
+    }
+
+    /// A reason for a trap.
+    pub(crate) fn trap_code(&mut self) -> Result<TrapCode, LineError<'a>>
+        ensures scope { self.new.scope ≡ self.old.scope }
+        ensures ok { IfOk result (TakesWord self.old self.new IsTrapCode) }
+    {
+        let word = self.words.take(Expected::TrapCode)?;
+        trap_code_named(word).ok_or(LineError::wanted(Expected::TrapCode))
+    }
+
+    /// The flags of a load or a store.
+    pub(crate) fn flags(&mut self) -> MemFlagsData
+        ensures scope { self.new.scope ≡ self.old.scope }
+        ensures flags { TakesFlags self.old.words self.new.words result }
+    {
+        self.words.take_flags()
+    }
+
+    /// An offset that ends the line; it may be left out where it is 0.
+    pub(crate) fn last_offset(&mut self) -> Result<i32, LineError<'a>>
+        ensures scope { self.new.scope ≡ self.old.scope }
+        ensures ok { IfOk result (TakesWords self.old self.new IsLastOffset) }
+    {
+        if self.words.is_empty() {
+            return Ok(0);
+        }
+        let word = self.words.take(Expected::Offset)?;
+        match offset(word) {
+            Some(number) => Ok(number),
+            None => Err(LineError::wanted(Expected::Offset)),
+        }
     }
 
     // Values up to `)`.
     #[tactic(auto, using(crate::proofs::Taking::taking_rules))]
     fn values_to_close(&mut self, alloc: Global) -> Result<Vec<Name>, LineError<'a>>
         ensures scope { self.new.scope ≡ self.old.scope }
-        ensures ok { IfOk result (λ values. (words : List (List ℕ)) × (words_left self.old.words ≡ words ++ codes ")" ∷ words_left self.new.words) × AreAnswers (names_of self.old.scope.now) words values.items) }
+        ensures ok { IfOk result (λ values. (words : List (List ℕ)) × (words_left self.old.words ≡
+            words ++ codes ")" ∷ words_left self.new.words) × AreAnswers (names_in self.old) words
+            values.items) }
     {
         let mut values = Vec::new(alloc);
         while !self.words.skips(")") {
@@ -131,7 +196,8 @@ impl<'w, 'a> Args<'w, 'a> {
     #[tactic(auto, using(crate::proofs::Taking::taking_rules))]
     fn values_to_end(&mut self, alloc: Global) -> Result<Vec<Name>, LineError<'a>>
         ensures scope { self.new.scope ≡ self.old.scope }
-        ensures ok { IfOk result (λ values. (words_left self.new.words ≡ []) × AreAnswers (names_of self.old.scope.now) (words_left self.old.words) values.items) }
+        ensures ok { IfOk result (λ values. (words_left self.new.words ≡ []) ×
+            AreAnswers (names_in self.old) (words_left self.old.words) values.items) }
     {
         let mut values = Vec::new(alloc);
         while !self.words.is_empty() {
@@ -143,7 +209,8 @@ impl<'w, 'a> Args<'w, 'a> {
     /// Values that end the line, in parentheses or not.
     pub(crate) fn last_values(&mut self, alloc: Global) -> Result<Vec<Name>, LineError<'a>>
         ensures scope { self.new.scope ≡ self.old.scope }
-        ensures ok { IfOk result (λ values. (words : List (List ℕ)) × (words_left self.old.words ≡ words ++ words_left self.new.words) × AreLast (names_of self.old.scope.now) words values.items) }
+        ensures ok { IfOk result (λ values. TakesWords self.old self.new
+            (AreLast (names_in self.old)) values.items) }
     {
         if self.words.skips("(") {
             self.values_to_close(alloc)
@@ -155,7 +222,7 @@ impl<'w, 'a> Args<'w, 'a> {
     /// An edge: a block, and the values that it passes in parentheses.
     pub(crate) fn edge(&mut self, alloc: Global) -> Result<Edge, LineError<'a>>
         ensures scope { self.new.scope ≡ self.old.scope }
-        ensures ok { IfOk result (λ edge. (words : List (List ℕ)) × (words_left self.old.words ≡ words ++ words_left self.new.words) × IsEdge (names_of self.old.scope.now) words edge) }
+        ensures ok { IfOk result (TakesWords self.old self.new (IsEdge (names_in self.old))) }
     {
         let block = self.block()?;
         let args = if self.words.skips("(") {
@@ -169,7 +236,7 @@ impl<'w, 'a> Args<'w, 'a> {
     /// An edge that ends the line: the parentheses may be left out.
     pub(crate) fn last_edge(&mut self, alloc: Global) -> Result<Edge, LineError<'a>>
         ensures scope { self.new.scope ≡ self.old.scope }
-        ensures ok { IfOk result (λ edge. (words : List (List ℕ)) × (words_left self.old.words ≡ words ++ words_left self.new.words) × IsLastEdge (names_of self.old.scope.now) words edge) }
+        ensures ok { IfOk result (TakesWords self.old self.new (IsLastEdge (names_in self.old))) }
     {
         let block = self.block()?;
         let args = self.last_values(alloc)?;
@@ -195,7 +262,8 @@ fn unknown(word: &str, expected: Expected) -> LineError<'_> {
 
 // The number in `varN`.
 fn numbered_variable(word: &str) -> Option<usize>
-    ensures { IfSome result (λ number. (digits : List ℕ) × (word.now ≡ codes "var" ++ digits) × IsDecimal digits number) }
+    ensures { IfSome result (λ number. (digits : List ℕ) × (word.now ≡ codes "var" ++ digits) ×
+        IsDecimal digits number) }
 {
     decimal(word.strip_prefix("var")?)
 }

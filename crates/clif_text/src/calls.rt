@@ -1,6 +1,5 @@
 //! The calls that are understood: one arm each.
 ghost use Rattle.std.specs.Prelude.{◌≡◌, ◌++◌, IfOk, IfSome, codes};
-ghost use Rattle.clif_opcodes.specs.Names.{binary_name, convert_name, unary_name};
 ghost use Rattle.clif_words.specs.Cursor.{texts};
 ghost use Rattle.clif_text.specs.Given.{is_instruction};
 ghost use Rattle.clif_text.specs.Grammar.{IsCall};
@@ -8,15 +7,20 @@ ghost use Rattle.clif_text.specs.Reading.{ReadsCall};
 ghost use Rattle.clif_text.specs.Scope.{names_of};
 
 use crate::args::Args;
+use crate::instructions::{
+    binary_named, cond_trap_named, convert_named, float_const_named, read_binary_call,
+    read_cond_trap_call, read_convert_call, read_float_const_call, read_icmp_call,
+    read_iconcat_call, read_load_call, read_select_call, read_store_call, read_unary_call,
+    unary_named,
+};
 use crate::scope::Scope;
 use clif_calls::{Call, PlainInstruction};
-use clif_opcodes::{BinaryOpcode, ConvertOpcode, UnaryOpcode};
 use clif_words::error::{Expected, Fault, LineError};
 use clif_words::types::type_named;
 use std::alloc::Global;
 
 // The calls of the format that aren't understood so far, without the type that may follow their name.
-const NOT_SUPPORTED: [&str; 49] = [
+const NOT_SUPPORTED: [&str; 38] = [
     "declare_var_needs_stack_map",
     "declare_value_needs_stack_map",
     "try_use_var",
@@ -44,28 +48,17 @@ const NOT_SUPPORTED: [&str; 49] = [
     "iadd_imm_s",
     "icmp_imm_s",
     "cursor",
-    "f16const",
-    "f32const",
-    "f64const",
     "f128const",
     "vconst",
-    "sextend",
     "isplit",
-    "iconcat",
-    "icmp",
-    "load",
-    "store",
     "stack_addr",
     "stack_load",
     "stack_store",
     "call",
     "call_indirect",
-    "trapz",
-    "trapnz",
     "br_table",
     "try_call",
     "try_call_indirect",
-    "trap",
 ];
 
 // The call of this name, with what follows it; not all of that may be taken.
@@ -96,124 +89,46 @@ fn read_call<'a>(
         "return" => Ok(Call::Return {
             values: args.last_values(alloc)?,
         }),
+        "trap" => Ok(Call::Trap {
+            code: args.trap_code()?,
+        }),
         _ => read_instruction(head, args),
     }
 }
 
-// The same for an instruction of values.
+// The same for an instruction of a format that has several.
 fn read_instruction<'a>(head: &'a str, args: &mut Args<'_, 'a>) -> Result<Call, LineError<'a>>
     ensures { IfOk result (ReadsCall args.old args.new head.now) }
 {
     if let Some(opcode) = unary_named(head) {
         return read_unary_call(head, opcode, args);
     }
-    if head == "select" {
-        return read_select_call(head, args);
+    if let Some(opcode) = float_const_named(head) {
+        return read_float_const_call(head, opcode, args);
+    }
+    if let Some(opcode) = cond_trap_named(head) {
+        return read_cond_trap_call(head, opcode, args);
     }
     match binary_named(head) {
         Some(opcode) => read_binary_call(head, opcode, args),
-        None => read_block_call(head, args),
+        None => read_single_instruction(head, args),
     }
 }
 
-// The operation of this name, of one value: one row per instruction.
-fn unary_named(name: &str) -> Option<UnaryOpcode>
-    ensures { IfSome result (λ opcode. name.now ≡ unary_name opcode) }
-{
-    match name {
-        "ineg" => Some(UnaryOpcode::Ineg),
-        "bnot" => Some(UnaryOpcode::Bnot),
-        _ => None,
-    }
-}
-
-// The operation of this name, of two values: one row per instruction.
-fn binary_named(name: &str) -> Option<BinaryOpcode>
-    ensures { IfSome result (λ opcode. name.now ≡ binary_name opcode) }
-{
-    match name {
-        "iadd" => Some(BinaryOpcode::Iadd),
-        "isub" => Some(BinaryOpcode::Isub),
-        "imul" => Some(BinaryOpcode::Imul),
-        "band" => Some(BinaryOpcode::Band),
-        "bor" => Some(BinaryOpcode::Bor),
-        "bxor" => Some(BinaryOpcode::Bxor),
-        "ishl" => Some(BinaryOpcode::Ishl),
-        "ushr" => Some(BinaryOpcode::Ushr),
-        "sshr" => Some(BinaryOpcode::Sshr),
-        "udiv" => Some(BinaryOpcode::Udiv),
-        "sdiv" => Some(BinaryOpcode::Sdiv),
-        "urem" => Some(BinaryOpcode::Urem),
-        "srem" => Some(BinaryOpcode::Srem),
-        _ => None,
-    }
-}
-
-// The same for an instruction of one value.
-fn read_unary_call<'a>(
+// The same for the one instruction of its format.
+fn read_single_instruction<'a>(
     head: &'a str,
-    opcode: UnaryOpcode,
     args: &mut Args<'_, 'a>,
 ) -> Result<Call, LineError<'a>>
-    requires { head.now ≡ unary_name opcode }
     ensures { IfOk result (ReadsCall args.old args.new head.now) }
 {
-    let x = args.value()?;
-    Ok(Call::Plain(PlainInstruction::unary(opcode, x)))
-}
-
-// The same for an instruction of two values.
-fn read_binary_call<'a>(
-    head: &'a str,
-    opcode: BinaryOpcode,
-    args: &mut Args<'_, 'a>,
-) -> Result<Call, LineError<'a>>
-    requires { head.now ≡ binary_name opcode }
-    ensures { IfOk result (ReadsCall args.old args.new head.now) }
-{
-    let x = args.value()?;
-    let y = args.value()?;
-    Ok(Call::Plain(PlainInstruction::binary(opcode, x, y)))
-}
-
-// The same for `select`.
-fn read_select_call<'a>(head: &'a str, args: &mut Args<'_, 'a>) -> Result<Call, LineError<'a>>
-    requires { head.now ≡ codes "select" }
-    ensures { IfOk result (ReadsCall args.old args.new head.now) }
-{
-    let c = args.value()?;
-    let x = args.value()?;
-    let y = args.value()?;
-    Ok(Call::Plain(PlainInstruction::Select { c, x, y }))
-}
-
-// The conversion of this name: one row per instruction.
-fn convert_named(name: &str) -> Option<ConvertOpcode>
-    ensures { IfSome result (λ opcode. name.now ≡ convert_name opcode) }
-{
-    match name {
-        "splat" => Some(ConvertOpcode::Splat),
-        "uextend" => Some(ConvertOpcode::Uextend),
-        "ireduce" => Some(ConvertOpcode::Ireduce),
-        _ => None,
+    match head {
+        "iconcat" => read_iconcat_call(head, args),
+        "icmp" => read_icmp_call(head, args),
+        "select" => read_select_call(head, args),
+        "store" => read_store_call(head, args),
+        _ => read_block_call(head, args),
     }
-}
-
-// The same for an instruction of one value, whose name is followed by its result type.
-fn read_convert_call<'a>(
-    head: &'a str,
-    opcode: ConvertOpcode,
-    suffix: &'a str,
-    args: &mut Args<'_, 'a>,
-) -> Result<Call, LineError<'a>>
-    requires { head.now ≡ convert_name opcode ++ (codes "." ++ suffix.now) }
-    ensures { IfOk result (ReadsCall args.old args.new head.now) }
-{
-    let Some(ty) = type_named(suffix) else {
-        return Err(LineError::wanted(Expected::Type));
-    };
-    let x = args.value()?;
-    Ok(Call::Plain(PlainInstruction::convert(opcode, ty, x)))
 }
 
 // The same for a call that makes, marks or places blocks.
@@ -277,6 +192,7 @@ fn read_typed_call<'a>(head: &'a str, args: &mut Args<'_, 'a>) -> Result<Call, L
             let imm = args.number()?;
             Ok(Call::Plain(PlainInstruction::Iconst { ty, imm }))
         }
+        "load" => read_load_call(head, suffix, args),
         _ => match convert_named(name) {
             Some(opcode) => read_convert_call(head, opcode, suffix, args),
             None => Err(not_understood(head, name)),
@@ -293,7 +209,7 @@ fn name_and_type(head: &str) -> Option<(&str, &str)>
 
 // No call is read that has this name, in front of the type that may follow.
 fn not_understood<'a>(head: &'a str, name: &'a str) -> LineError<'a> {
-    if name == "iconst" || convert_named(name).is_some() {
+    if matches!(name, "iconst" | "load") || convert_named(name).is_some() {
         LineError::wanted(Expected::Type)
     } else if NOT_SUPPORTED.contains(&name) {
         LineError::Fault(Fault::NotSupported(name))
@@ -345,8 +261,16 @@ pub(crate) fn answers_of(call: &Call) -> Answers
         | Call::SetColdBlock { .. }
         | Call::EnsureInsertedBlock
         | Call::DefVar { .. } => (false, 0),
+        Call::Plain(
+            PlainInstruction::Store { .. }
+            | PlainInstruction::Trapz { .. }
+            | PlainInstruction::Trapnz { .. },
+        )
+        | Call::Jump { .. }
+        | Call::Brif { .. }
+        | Call::Return { .. }
+        | Call::Trap { .. } => (true, 0),
         Call::Plain(_) => (true, 1),
-        Call::Jump { .. } | Call::Brif { .. } | Call::Return { .. } => (true, 0),
     };
     Answers { instruction, names }
 }

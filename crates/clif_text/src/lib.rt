@@ -4,6 +4,7 @@
 mod args;
 mod calls;
 mod header;
+mod instructions;
 mod reader;
 mod scope;
 mod writer;

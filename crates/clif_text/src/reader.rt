@@ -16,7 +16,7 @@ use clif_words::words::words_of;
 use std::alloc::{AllocError, Global};
 
 /// What a text says.
-#[derive(Debug, Drop)]
+#[derive(Drop)]
 pub struct Script {
     /// The function's name.
     pub name: UserFuncName,

@@ -1,6 +1,6 @@
 //! Scripts as text, written.
 ghost use Rattle.std.specs.Prelude.{◌≡◌, ◌++◌, Some, IfOk, string_bytes};
-ghost use Rattle.clif_text.specs.Texts.{answer_text, answers_text, edge_text, plan_text, call_text, calls_text, header_text};
+ghost use Rattle.clif_text.specs.Texts.{answer_text, answers_text, edge_text, offset_text, plan_text, call_text, calls_text, header_text};
 ghost use Rattle.clif_text.specs.Operands.{operands_text};
 
 use clif_calls::{Call, Edge, Name, Plan};
@@ -52,22 +52,62 @@ impl fmt::Display for EdgeText<'_> {
     }
 }
 
-// An instruction of this plan: its name, and what it takes.
+// An offset behind a space, and nothing where it is 0.
 #[derive(Clone, Copy)]
-struct PlanText<'a>(Plan<'a>);
+struct OffsetText(i32);
 
-impl fmt::Display for PlanText<'_> {
-    ghost output = { λ text. Some (plan_text text.0) };
+impl fmt::Display for OffsetText {
+    ghost output = { λ text. Some (offset_text text.0) };
 
     fn fmt<W: fmt::Write>(&self, f: &mut fmt::Formatter<W>) -> fmt::Result {
-        match &self.0 {
+        let offset = self.0;
+        if offset == 0 {
+            return Ok(());
+        }
+        write!(f, " {offset}")
+    }
+}
+
+// An instruction of this plan: its name, and what it takes.
+#[derive(Clone, Copy)]
+struct PlanText<'p, 'a>(&'p Plan<'a>);
+
+impl fmt::Display for PlanText<'_, '_> {
+    ghost output = { λ text. Some (plan_text text.0.now) };
+
+    fn fmt<W: fmt::Write>(&self, f: &mut fmt::Formatter<W>) -> fmt::Result {
+        match self.0 {
             Plan::UnaryImm { ty, imm } => write!(f, "iconst.{ty} {imm}"),
+            Plan::UnaryIeee { opcode, bits } => write!(f, "{} {bits}", opcode.name()),
             Plan::Unary { opcode, arg } => write!(f, "{} {}", opcode.name(), AnswerText(*arg)),
             Plan::Binary { opcode, args } => write!(f, "{}{}", opcode.name(), AnswersText(args)),
             Plan::Convert { opcode, ty, arg } => {
                 write!(f, "{}.{ty} {}", opcode.name(), AnswerText(*arg))
             }
+            Plan::Concat { args } => write!(f, "iconcat{}", AnswersText(args)),
+            Plan::IntCompare { cond, args } => write!(f, "icmp {cond}{}", AnswersText(args)),
             Plan::Ternary { args } => write!(f, "select{}", AnswersText(args)),
+            Plan::Load {
+                flags,
+                ty,
+                arg,
+                offset,
+            } => {
+                let (p, offset) = (AnswerText(*arg), OffsetText(*offset));
+                write!(f, "load.{ty}{flags} {p}{offset}")
+            }
+            Plan::Store {
+                flags,
+                args,
+                offset,
+            } => {
+                let (args, offset) = (AnswersText(args), OffsetText(*offset));
+                write!(f, "store{flags}{args}{offset}")
+            }
+            Plan::Trap { code } => write!(f, "trap {code}"),
+            Plan::CondTrap { opcode, arg, code } => {
+                write!(f, "{} {} {code}", opcode.name(), AnswerText(*arg))
+            }
             Plan::Jump { destination } => write!(f, "jump {}", EdgeText(destination)),
             Plan::Brif {
                 condition,
@@ -108,7 +148,7 @@ impl fmt::Display for Operands<'_> {
             Operands::Type(ty) => write!(f, " {ty}"),
             Operands::Definition(variable, x) => write!(f, " {variable} {}", AnswerText(*x)),
             Operands::Variable(variable) => write!(f, " {variable}"),
-            Operands::Instruction(plan) => write!(f, "{}", PlanText(*plan)),
+            Operands::Instruction(plan) => write!(f, "{}", PlanText(plan)),
         }
     }
 }
@@ -161,11 +201,13 @@ fn parts(call: &Call) -> (&'static str, Operands<'_>)
             let args = values.as_slice();
             ("", Operands::Instruction(Plan::MultiAry { args }))
         }
+        Call::Trap { code } => ("", Operands::Instruction(Plan::Trap { code: *code })),
     }
 }
 
 /// A call as a line of a script, without the line's end. It is printed with `$P.K` for each answer and `varN`
-/// for each variable, so it needs no names.
+/// for each variable, so it needs no names. The region of a load or a store is written as it is printed, though no
+/// script can name it.
 #[derive(Clone, Copy)]
 pub struct CallText<'a>(pub &'a Call);
 

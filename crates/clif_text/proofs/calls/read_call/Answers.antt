@@ -34,3 +34,8 @@ returns-in_ok-last_edge-in-brif c =
       condition.1 ∙ ap (λ rest. condition.0 ∷ rest) (first.1 ∙ (ap (λ rest. first.0 ++ rest) second.1 ∙ sym (append_assoc first.0 second.0 _))),
       (condition.0, first.0, second.0, ap (λ (head : List ℕ). head ∷ condition.0 ∷ (first.0 ++ second.0)) c.in-brif.is, condition.2, one, two),
     )
+
+pub returns-in_ok-trap_code-in-trap : goal.returns-in_ok-trap_code-in-trap
+returns-in_ok-trap_code-in-trap c =
+    let reason = c.in_ok-trap_code-in-trap.ensures.ok in
+    (reason.0 ∷ [], reason.1, (reason.0, ap (λ (head : List ℕ). head ∷ reason.0 ∷ []) c.in-trap.is, reason.2))

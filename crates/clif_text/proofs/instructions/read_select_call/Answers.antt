@@ -1,15 +1,13 @@
 -- The words are the name and a word for each value.
 use Rattle.std.proofs.Common.{List, ℕ, ◌∷◌, [], ap, subst, ◌∙◌}
-use Rattle.clif_text.specs.Grammar.{IsAnswer}
+use Rattle.clif_text.specs.Grammar.{AreAnswers}
 use Rattle.clif_text.specs.Scope.{names_of}
-use Rattle.clif_text.proofs.calls.read_select_call.Goals as goal
+use Rattle.clif_text.proofs.instructions.read_select_call.Goals as goal
 
 pub returns : goal.returns
 returns c =
     let one = c.in_ok-c.ensures.ok in
     let two = c.in_ok-x.ensures.ok in
-    let three = c.in_ok-y.ensures.ok in
-    let second = subst (λ scope. IsAnswer (names_of scope.now) two.0 c.in_ok-x.x) c.in_ok-c.ensures.scope two.2 in
-    let third = subst (λ scope. IsAnswer (names_of scope.now) three.0 c.in_ok-y.y) (c.in_ok-x.ensures.scope ∙ c.in_ok-c.ensures.scope) three.2 in
-    let words = one.0 ∷ two.0 ∷ three.0 ∷ [] in
-    (words, one.1 ∙ ap (λ rest. one.0 ∷ rest) (two.1 ∙ ap (λ rest. two.0 ∷ rest) three.1), (words, ap (λ (head : List ℕ). head ∷ words) c.requires, (one.2, (second, (third, tt)))))
+    let stand = subst (λ scope. AreAnswers (names_of scope.now) two.0 (c.in_ok-x.x ∷ c.in_ok-x.y ∷ [])) c.in_ok-c.ensures.scope two.2 in
+    let words = one.0 ∷ two.0 in
+    (words, one.1 ∙ ap (λ rest. one.0 ∷ rest) two.1, (words, ap (λ (head : List ℕ). head ∷ words) c.requires, (one.2, stand)))
