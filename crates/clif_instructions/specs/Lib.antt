@@ -2,3 +2,4 @@ pub mod Members
 pub mod Edges
 pub mod Instruction
 pub mod Immediates
+pub mod Kept

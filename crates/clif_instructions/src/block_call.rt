@@ -1,12 +1,13 @@
 //! Edges: the target of a branch, and what it passes to the target's parameters.
 ghost use Rattle.std.specs.Prelude.{◌≡◌, ◌≤◌, ◌-◌, [], ◌∷◌, ◌++◌, length, take, Some, OnOk, OnErr, IfOk};
 ghost use Rattle.clif_instructions.specs.Edges.{appended_to, with_argument_to, taken_from, taken_back, argument_text};
+ghost use Rattle.clif_instructions.specs.Kept.{args_of};
 
 use clif_types::{Block, BuildError, Value};
 use smallvec::SmallVec;
 use std::alloc::Global;
-use std::fmt;
 use std::marker::Model;
+use std::{fmt, slice};
 
 /// What an edge passes to a parameter of its target.
 #[derive(Clone, Copy, Debug, PartialEq, Eq, Hash)]
@@ -37,19 +38,32 @@ impl Default for BlockArg {
     }
 }
 
-/// What an edge passes, in order: most of the time few, and up to four take no memory of their own.
-#[derive(Debug, Drop)]
+/// What an edge passes, in order: most of the time at most one argument, which takes no memory of its own.
+#[derive(Drop)]
 pub struct BlockArgs {
-    args: SmallVec<BlockArg, 4>,
+    alloc: Global,
+    args: Args,
 }
+
+// The arguments of an edge.
+#[derive(Drop)]
+enum Args {
+    None,
+    One(BlockArg),
+    // Two or more, or fewer that are left of these.
+    More(Box<SmallVec<BlockArg, 3>>),
+}
+
+const _: () = prove!(size_of::<BlockArgs>() == 16);
 
 impl Model for BlockArgs {
     ghost use Rattle.std.specs.Prelude.{List};
     ghost use Rattle.clif_instructions.specs.declared.block_call.BlockArg.{BlockArg};
+    ghost use Rattle.clif_instructions.specs.Kept.{args_of};
 
     ghost Value = { List BlockArg };
 
-    ghost view = { λ l. l.args.items };
+    ghost view = { λ l. args_of l.args };
 }
 
 impl BlockArgs {
@@ -58,7 +72,8 @@ impl BlockArgs {
         ensures { result ≡ [] }
     {
         BlockArgs {
-            args: SmallVec::new(alloc),
+            alloc,
+            args: Args::None,
         }
     }
 
@@ -67,15 +82,23 @@ impl BlockArgs {
         ensures ok { IfOk result (λ l. l ≡ args.now) }
         ensures only_memory { OnErr result (result ≡ Err BuildError.Memory) }
     {
-        let args = SmallVec::from_slice(alloc, args)?;
-        Ok(BlockArgs { args })
+        let args = match args {
+            [] => Args::None,
+            [arg] => Args::One(*arg),
+            _ => more_args(alloc, args)?,
+        };
+        Ok(BlockArgs { alloc, args })
     }
 
     /// The arguments, in order.
     pub fn as_slice(&self) -> &[BlockArg]
         ensures { result.now ≡ self.now }
     {
-        self.args.as_slice()
+        match &self.args {
+            Args::None => &[],
+            Args::One(arg) => slice::from_ref(arg),
+            Args::More(more) => more.as_slice(),
+        }
     }
 
     /// Puts an argument at the end. The only error is `Memory`, and the list is then as it was.
@@ -84,7 +107,11 @@ impl BlockArgs {
         ensures err { OnErr result (self.new ≡ self.old) }
         ensures only_memory { OnErr result (result ≡ Err BuildError.Memory) }
     {
-        self.args.push(arg)?;
+        match &mut self.args {
+            Args::None => self.args = Args::One(arg),
+            Args::One(first) => self.args = more_args(self.alloc, &[*first, arg])?,
+            Args::More(more) => more.push(arg)?,
+        }
         Ok(())
     }
 
@@ -92,18 +119,34 @@ impl BlockArgs {
     pub fn pop(&mut self)
         ensures { self.new ≡ take (length self.old - 1) self.old }
     {
-        let _ = self.args.pop();
+        match &mut self.args {
+            Args::None | Args::One(_) => self.args = Args::None,
+            Args::More(more) => {
+                let _ = more.pop();
+            }
+        }
     }
 }
 
+// Arguments that lie in memory of their own. The only error is `Memory`.
+fn more_args(alloc: Global, args: &[BlockArg]) -> Result<Args, BuildError>
+    ensures ok { IfOk result (λ more. args_of more ≡ args.now) }
+    ensures only_memory { OnErr result (result ≡ Err BuildError.Memory) }
+{
+    let more = SmallVec::from_slice(alloc, args)?;
+    Ok(Args::More(Box::new(alloc, more)?))
+}
+
 /// An edge: a block, and what is passed to its parameters, in order.
-#[derive(Debug, Drop)]
+#[derive(Drop)]
 pub struct BlockCall {
     /// The target.
     pub block: Block,
     /// What the target's parameters get.
     pub args: BlockArgs,
 }
+
+const _: () = prove!(size_of::<BlockCall>() == 24);
 
 impl BlockCall {
     /// An edge to `block` that passes these arguments. The only error is `Memory`.

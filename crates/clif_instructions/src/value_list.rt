@@ -1,24 +1,40 @@
 //! Short lists of values.
 ghost use Rattle.std.specs.Prelude.{◌≡◌, [], ◌∷◌, ◌++◌, length, OnOk, OnErr, ◌<◌, IfOk};
 ghost use Rattle.clif_instructions.specs.Members.{Stands, place_of, without};
+ghost use Rattle.clif_instructions.specs.Kept.{values_of};
 
 use clif_types::{BuildError, Value};
 use smallvec::SmallVec;
 use std::alloc::Global;
 use std::marker::Model;
+use std::slice;
 
-/// A list of values, most of the time a short one: up to four take no memory of their own.
-#[derive(Debug, Drop)]
+/// A list of values, most of the time a short one: up to two take no memory of their own.
+#[derive(Drop)]
 pub struct ValueList {
-    values: SmallVec<Value, 4>,
+    alloc: Global,
+    values: Values,
 }
+
+// The values of a list.
+#[derive(Drop)]
+enum Values {
+    None,
+    One(Value),
+    Two([Value; 2]),
+    // Three or more, or fewer that are left of these.
+    More(Box<SmallVec<Value, 6>>),
+}
+
+const _: () = prove!(size_of::<ValueList>() == 16);
 
 impl Model for ValueList {
     ghost use Rattle.std.specs.Prelude.{ℕ, List};
+    ghost use Rattle.clif_instructions.specs.Kept.{values_of};
 
     ghost Value = { List ℕ };
 
-    ghost view = { λ l. l.values.items };
+    ghost view = { λ l. values_of l.values };
 }
 
 impl ValueList {
@@ -27,7 +43,8 @@ impl ValueList {
         ensures { result ≡ [] }
     {
         ValueList {
-            values: SmallVec::new(alloc),
+            alloc,
+            values: Values::None,
         }
     }
 
@@ -36,15 +53,25 @@ impl ValueList {
         ensures ok { IfOk result (λ l. l ≡ values.now) }
         ensures only_memory { OnErr result (result ≡ Err BuildError.Memory) }
     {
-        let values = SmallVec::from_slice(alloc, values)?;
-        Ok(ValueList { values })
+        let values = match values {
+            [] => Values::None,
+            [value] => Values::One(*value),
+            [first, second] => Values::Two([*first, *second]),
+            _ => more_values(alloc, values)?,
+        };
+        Ok(ValueList { alloc, values })
     }
 
     /// The values, in order.
     pub fn as_slice(&self) -> &[Value]
         ensures { result.now ≡ self.now }
     {
-        self.values.as_slice()
+        match &self.values {
+            Values::None => &[],
+            Values::One(value) => slice::from_ref(value),
+            Values::Two(pair) => pair,
+            Values::More(more) => more.as_slice(),
+        }
     }
 
     /// Puts a value at the end. The only error is `Memory`, and the list is then as it was.
@@ -53,23 +80,25 @@ impl ValueList {
         ensures err { OnErr result (self.new ≡ self.old) }
         ensures only_memory { OnErr result (result ≡ Err BuildError.Memory) }
     {
-        self.values.push(value)?;
+        match &mut self.values {
+            Values::None => self.values = Values::One(value),
+            Values::One(first) => self.values = Values::Two([*first, value]),
+            Values::Two(pair) => {
+                let [first, second] = *pair;
+                self.values = more_values(self.alloc, &[first, second, value])?;
+            }
+            Values::More(more) => more.push(value)?,
+        }
         Ok(())
     }
 
     /// The place of the first `value`, which stands in the list.
-    #[tactic(auto, using(crate::proofs::Members::place_rules))]
     pub fn place_of(&self, value: Value) -> usize
         requires { Stands value self.now }
         ensures exact { result ≡ place_of value self.now }
         ensures inside { result < length self.now }
     {
-        for (place, other) in self.values.as_slice().iter().enumerate() {
-            if *other == value {
-                return place;
-            }
-        }
-        unreachable!()
+        place_in(self.as_slice(), value)
     }
 
     /// Takes the first `value` away, which stands in the list; those behind it move up.
@@ -78,7 +107,40 @@ impl ValueList {
         requires { Stands value self.old }
         ensures { self.new ≡ without value self.old }
     {
-        let place = self.place_of(value);
-        let _ = self.values.remove(place);
+        match &mut self.values {
+            Values::None | Values::One(_) => self.values = Values::None,
+            Values::Two(pair) => {
+                let [first, second] = *pair;
+                self.values = Values::One(if first == value { second } else { first });
+            }
+            Values::More(more) => {
+                let place = place_in(more.as_slice(), value);
+                let _ = more.remove(place);
+            }
+        }
     }
+}
+
+// Values that lie in memory of their own. The only error is `Memory`.
+fn more_values(alloc: Global, values: &[Value]) -> Result<Values, BuildError>
+    ensures ok { IfOk result (λ more. values_of more ≡ values.now) }
+    ensures only_memory { OnErr result (result ≡ Err BuildError.Memory) }
+{
+    let more = SmallVec::from_slice(alloc, values)?;
+    Ok(Values::More(Box::new(alloc, more)?))
+}
+
+// The place of the first `value`, which is one of these.
+#[tactic(auto, using(crate::proofs::Members::place_rules))]
+fn place_in(values: &[Value], value: Value) -> usize
+    requires { Stands value values.now }
+    ensures exact { result ≡ place_of value values.now }
+    ensures inside { result < length values.now }
+{
+    for (place, other) in values.iter().enumerate() {
+        if *other == value {
+            return place;
+        }
+    }
+    unreachable!()
 }

@@ -40,6 +40,8 @@ pub struct ValueNode {
     pub origin: ValueOrigin,
 }
 
+const _: () = prove!(size_of::<ValueNode>() == 16);
+
 /// An instruction with its results, its block and its source place.
 #[derive(Drop)]
 pub struct InstNode {
@@ -49,6 +51,8 @@ pub struct InstNode {
     pub srcloc: SourceLoc,
 }
 
+const _: () = prove!(size_of::<InstNode>() == 80);
+
 /// A block: its parameters and its instructions, in order, and whether it is seldom reached.
 #[derive(Drop)]
 pub struct BlockNode {
@@ -56,6 +60,8 @@ pub struct BlockNode {
     pub insts: InstList,
     pub is_cold: bool,
 }
+
+const _: () = prove!(size_of::<BlockNode>() == 40);
 
 /// Where a block stands: how many of its instructions were put behind so many and not at its back, the
 /// block after it in the layout, and whether it is in the layout.
