@@ -14,8 +14,8 @@ use Rattle.clif_instructions.specs.declared.block_call.BlockCall.{BlockCall}
 use Rattle.clif_instructions.specs.declared.instructions.InstructionData.{InstructionData}
 use Rattle.clif_meaning.specs.Acceptance as request
 use Rattle.clif_meaning.specs.Instruction.{Edge, Instruction}
-use Rattle.cranelift_frontend.specs.Shapes.{edge_to, multi_ary, unary_imm}
-use Rattle.cranelift_frontend.specs.Shapes as shape
+use Rattle.clif_inst_builder.specs.Shapes.{edge_to, multi_ary, unary_imm}
+use Rattle.clif_inst_builder.specs.Shapes as shape
 use Rattle.clif_types.specs.declared.types.«Type».{«Type»}
 use Rattle.clif_ir.specs.Body.{Body, value_at}
 use Rattle.clif_instructions.specs.Members.{stands_in}

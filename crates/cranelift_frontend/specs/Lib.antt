@@ -6,7 +6,6 @@ pub mod Order
 pub mod Ledger
 pub mod Growth
 pub mod StandsFor
-pub mod Shapes
 pub mod Built
 pub mod Calls
 pub mod Laws

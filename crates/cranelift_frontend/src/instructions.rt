@@ -13,7 +13,7 @@ ghost use Rattle.cranelift_frontend.specs.Construction.{IsDeclared};
 use crate::builder::FunctionBuilder;
 use crate::context::{BlockStatus, FunctionBuilderContext};
 use crate::frontend::begin_block;
-use crate::inst_builder::InstBuilderBase;
+use clif_inst_builder::InstBuilderBase;
 use clif_instructions::inst_list::InsertAt;
 use clif_ir::{Function, InstructionData};
 use clif_types::{Block, BuildError, Inst, SourceLoc, Type, Value};

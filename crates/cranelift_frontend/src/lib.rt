@@ -7,11 +7,11 @@ pub mod context;
 pub mod error;
 pub mod finalize;
 pub mod frontend;
-pub mod inst_builder;
 pub mod instructions;
 pub mod laws;
 
 pub use builder::FunctionBuilder;
+pub use clif_inst_builder::{InstBuilder, InstBuilderBase};
 pub use clif_ir::{
     BinaryOpcode, BlockArg, BlockArgs, BlockCall, CondTrapOpcode, ConvertOpcode, FloatConstOpcode,
     Function, InstructionData, UnaryOpcode, ValueDef, ValueList,
@@ -27,7 +27,6 @@ pub use clif_types::{
 };
 pub use context::FunctionBuilderContext;
 pub use error::FinalizeError;
-pub use inst_builder::{InstBuilder, InstBuilderBase};
 pub use instructions::FuncInstBuilder;
 
 /// The version of the crate whose behaviour this one has.

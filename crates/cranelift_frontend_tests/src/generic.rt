@@ -2,7 +2,7 @@
 #![tactic(auto)]
 
 ghost use Rattle.std.specs.Prelude.{IfOk, Ok};
-ghost use Rattle.cranelift_frontend.specs.Shapes.{binary};
+ghost use Rattle.clif_inst_builder.specs.Shapes.{binary};
 
 use cranelift_frontend::{BinaryOpcode, BuildError, InstBuilder, Value};
 

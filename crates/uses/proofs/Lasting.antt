@@ -18,7 +18,7 @@ use Rattle.cranelift_frontend.specs.Construction.{SealsAtMost}
 use Rattle.cranelift_frontend.specs.Context.{ContextState, FillsNone, status_of}
 use Rattle.cranelift_frontend.specs.Growth.{Grows, TypesStay}
 use Rattle.cranelift_frontend.specs.Order.{IsUntouched}
-use Rattle.cranelift_frontend.specs.Shapes.{edge_to}
+use Rattle.clif_inst_builder.specs.Shapes.{edge_to}
 
 -- CALLS -----------------------------------------------------------------------------------------------------------------
 

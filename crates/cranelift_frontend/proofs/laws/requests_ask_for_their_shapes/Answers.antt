@@ -1,5 +1,5 @@
 use Rattle.std.proofs.Common.{refl}
-use Rattle.cranelift_frontend.specs.Shapes.{edge_to}
+use Rattle.clif_inst_builder.specs.Shapes.{edge_to}
 use Rattle.cranelift_frontend.proofs.LedgerShaped.{binary-shape, brif-shape, compare-shape, concat-shape, cond_trap-shape, convert-shape, float-shape, iconst-shape, jump-shape, load-shape, return-shape, select-shape, store-shape, trap-shape, unary-shape}
 use Rattle.cranelift_frontend.proofs.laws.requests_ask_for_their_shapes.Goals as goal
 

@@ -4,12 +4,12 @@ ghost use Rattle.clif_types.specs.Types.{is_int, is_type};
 ghost use Rattle.clif_instructions.specs.Instruction.{operands, destinations};
 ghost use Rattle.clif_opcodes.specs.Kinds.{is_met};
 ghost use Rattle.clif_opcodes.specs.declared.kinds.Demand.{Demand};
-ghost use Rattle.cranelift_frontend.specs.Shapes.{GivesValue, AfterValue, LikeIsValue, binary, brif_to, concat, cond_trap, convert, edge_to, int_compare, jump, load, multi_ary, store, ternary, trap, unary, unary_ieee, unary_imm};
+ghost use Rattle.clif_inst_builder.specs.Shapes.{GivesValue, AfterValue, LikeIsValue, binary, brif_to, concat, cond_trap, convert, edge_to, int_compare, jump, load, multi_ary, store, ternary, trap, unary, unary_ieee, unary_imm};
 
-use clif_ir::{
-    BinaryOpcode, BlockArg, BlockCall, CondTrapOpcode, ConvertOpcode, FloatConstOpcode,
-    InstructionData, UnaryOpcode, ValueList,
-};
+use clif_instructions::block_call::{BlockArg, BlockCall};
+use clif_instructions::instructions::InstructionData;
+use clif_instructions::value_list::ValueList;
+use clif_opcodes::{BinaryOpcode, CondTrapOpcode, ConvertOpcode, FloatConstOpcode, UnaryOpcode};
 use clif_types::{Block, BuildError, Inst, IntCC, MemFlagsData, TrapCode, Type, Value};
 use std::alloc::Global;
 
