@@ -46,7 +46,7 @@ StepGivesZero step = (value : ℕ) → GivesZero (step.shape value)
 
 repeated_zero : (count width : ℕ) → repeated count width 0 ≡ 0
 repeated_zero zero width = refl
-repeated_zero (suc count) width = ap (λ n. 2 ^ width * n) (repeated_zero count width) ∙ mul-zero (2 ^ width)
+repeated_zero (suc count) width = ap (λ n. 0 + 2 ^ width * n) (repeated_zero count width) ∙ ap (λ n. 0 + n) (mul-zero (2 ^ width))
 
 low_zero : (ty : «Type») (number : ℕ) → number ≡ 0 → low_bits_at ty number ≡ 0
 low_zero ty number none = ap (low_bits_at ty) none ∙ zero-mod (2 ^ bits_of ty)
