@@ -5,14 +5,14 @@ use Rattle.std.specs.List.{AllByRecursion}
 use Rattle.clif_types.specs.declared.types.«Type».{«Type»}
 use Rattle.clif_meaning.specs.Access.{touched_ranges, claims_of}
 use Rattle.clif_meaning.specs.Bits.{Bits}
-use Rattle.clif_meaning.specs.Event.{Answer, CallShape, Results, Exception}
+use Rattle.clif_meaning.specs.Event.{Answer, Results, Exception}
 use Rattle.clif_meaning.specs.Instruction.{Edge, Operation, Load, Store}
 use Rattle.clif_meaning.specs.Machine.{Control, At, HasReturned, HasTrapped, IsStuck, state_after}
 use Rattle.clif_meaning.specs.Name.{Name}
 use Rattle.clif_meaning.specs.Outcome.{Outcome, Gives, Goes, Returns, Traps, Calls, NoStep, outcome_of}
 use Rattle.clif_meaning.specs.Premises.{EachItem, InEachStep, OfNextItem, SparesSpillSlots, ClaimsAreTrue}
 use Rattle.clif_meaning.specs.Program.{Item, Instruct, Use, Assign}
-use Rattle.clif_meaning.specs.ScriptMachine.{ScriptRun, ScriptState, answer_call, call_outside, carry_out, follow_edge, script_machine, script_step, start_at, step_at, take_answer}
+use Rattle.clif_meaning.specs.ScriptMachine.{ScriptRun, ScriptState, call_outside, carry_out, follow_edge, script_machine, start_at, step_at, take_answer}
 use Rattle.clif_meaning.specs.World.{World}
 
 -- it holds of each item that is left

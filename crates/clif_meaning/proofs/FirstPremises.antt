@@ -1,17 +1,13 @@
 -- The row `first` meets the premises in every world, and its function means what its script means.
 use Rattle.std.proofs.Common.{◌≡◌, ◌<◌, ◌≤◌, ℕ, zero, suc, List, [], ◌∷◌, refl, sym, ◌∙◌, arith, ◌⊎◌, inl, inr, subst}
-use Rattle.std.specs.List.{AllByRecursion}
 use Rattle.clif_types.specs.declared.types.«Type».{«Type»}
 use Rattle.clif_types.specs.declared.target.PointerWidth.TheVariants.{U64}
 use Rattle.clif_types.specs.Target.{pointer_type_of}
-use Rattle.clif_meaning.specs.Access.{touched_ranges, claims_of}
-use Rattle.clif_meaning.specs.Instruction.{Operation, Compute, Jump, Brif, Return}
 use Rattle.clif_meaning.specs.Event.{CallShape, Event}
 use Rattle.clif_meaning.specs.World.{World, PlacesSlots}
-use Rattle.clif_meaning.specs.Machine.{Control, At, HasReturned, HasTrapped, IsStuck, state_after, IsEnd, EndStays}
+use Rattle.clif_meaning.specs.Machine.{IsEnd, EndStays}
 use Rattle.clif_meaning.specs.SameMeaning.{Behaviour, ShowsAllOf, SameMeaning}
 use Rattle.clif_meaning.specs.Program.{program_of}
-use Rattle.clif_meaning.specs.ScriptMachine.{ScriptRun, ScriptState, script_machine}
 use Rattle.clif_meaning.specs.Premises.{Premises, EachItem}
 use Rattle.clif_meaning.specs.Headline.{script_run, function_run, script_behaviour, function_behaviour, IsWorldOf, MeansTheSame}
 use Rattle.clif_meaning.specs.FunctionView.{FunctionView}

@@ -18,7 +18,7 @@ use Rattle.clif_meaning.specs.Bits.{Bits, HasWidth, IsValue, AreValues, value_by
 use Rattle.clif_meaning.specs.Instruction.{Iconst, FloatConst, Unary, Binary, Compare, Concat, Convert, Select, Operation, Compute, Load, Store, Trap, CondTrap, Jump, Brif, Return}
 use Rattle.clif_meaning.specs.Memory.{Memory, Range, address_in, bytes_in, written}
 use Rattle.clif_meaning.specs.Access.{Accessible, Aligned, Holds, access_claims, claims_if, claims_of}
-use Rattle.clif_meaning.specs.Outcome.{Outcome, Gives, NoStep, Traps, access_outcome, accessed, are_accessible, compares, converted_number, low_bits_at, operand_type, traps_on, unary_number, binary_fault, binary_number, outcome_of, outcome_of_computed, unless_fault}
+use Rattle.clif_meaning.specs.Outcome.{Outcome, Gives, NoStep, Traps, access_outcome, accessed, are_accessible, compares, converted_number, low_bits_at, traps_on, unary_number, binary_fault, binary_number, outcome_of, outcome_of_computed, unless_fault}
 use Rattle.clif_meaning.specs.Laws.{FitsTypes, OutcomesFit}
 use Rattle.clif_meaning.specs.Program.{result_types}
 use Rattle.clif_meaning.specs.World.{World}

@@ -12,9 +12,9 @@ use Rattle.clif_meaning.specs.World.{World}
 use Rattle.clif_meaning.specs.Machine.{Machine, Observation, IsEnd, observed}
 use Rattle.clif_meaning.specs.SameMeaning.{SameMeaning}
 use Rattle.clif_meaning.specs.ScriptMachine as script
-use Rattle.clif_meaning.specs.ScriptMachine.{ScriptRun, ScriptState, script_machine}
+use Rattle.clif_meaning.specs.ScriptMachine.{ScriptState, script_machine}
 use Rattle.clif_meaning.specs.FunctionMachine as function_machine_of
-use Rattle.clif_meaning.specs.FunctionMachine.{FunctionRun, FunctionState, ByMaps, function_machine}
+use Rattle.clif_meaning.specs.FunctionMachine.{FunctionState, ByMaps, function_machine}
 use Rattle.clif_meaning.specs.View.{view_of}
 use Rattle.clif_meaning.specs.Premises.{Premises}
 use Rattle.clif_meaning.specs.Headline.{script_run, function_run, script_behaviour, function_behaviour, IsWorldOf, MeansTheSame}

@@ -17,7 +17,6 @@ use Rattle.clif_ir.specs.declared.function.BlockNode.{BlockNode}
 use Rattle.clif_instructions.specs.Instruction.{operands, destinations}
 use Rattle.clif_instructions.specs.Instruction as shapes
 use Rattle.clif_opcodes.specs.Kinds.{result_type}
-use Rattle.clif_opcodes.specs.declared.kinds.ResultKind.{ResultKind}
 use Rattle.clif_instructions.specs.Edges.{targets}
 use Rattle.clif_ir.specs.Body.{Body, no_value, inst_at}
 use Rattle.clif_ir.specs.Consistent.{IsConsistent}

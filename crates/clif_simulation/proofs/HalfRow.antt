@@ -18,9 +18,9 @@ use Rattle.clif_meaning.specs.Program.{Item}
 use Rattle.clif_meaning.specs.World.{World}
 use Rattle.clif_meaning.specs.Machine.{Machine, Control, At, IsStuck, Observation, state_after}
 use Rattle.clif_meaning.specs.ScriptMachine as script
-use Rattle.clif_meaning.specs.ScriptMachine.{ScriptRun, ScriptState, script_machine}
+use Rattle.clif_meaning.specs.ScriptMachine.{ScriptState, script_machine}
 use Rattle.clif_meaning.specs.FunctionMachine as function_machine_of
-use Rattle.clif_meaning.specs.FunctionMachine.{same_value, Collector, ByMaps, FunctionRun, FunctionState, function_machine}
+use Rattle.clif_meaning.specs.FunctionMachine.{same_value, Collector, ByMaps, FunctionState, function_machine}
 use Rattle.clif_meaning.specs.FunctionView.{Placed}
 use Rattle.clif_meaning.specs.View.{view_of, block_of}
 use Rattle.clif_meaning.specs.Path.{Place}

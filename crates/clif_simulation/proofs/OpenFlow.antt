@@ -5,7 +5,7 @@ use Rattle.std.proofs.lemmas.Bool.Decides.{nat_tests}
 use Rattle.clif_ir.specs.Body.{Body}
 use Rattle.clif_ir.specs.Consistent.{IsConsistent}
 use Rattle.clif_paths.specs.Places as paths
-use Rattle.clif_paths.specs.Places.{start, inside, same_place, Arm, Edges, Path, Follows, Visits, VisitsBefore, end_of, StrictlyBefore, Dominates}
+use Rattle.clif_paths.specs.Places.{start, inside, same_place, Arm, Edges, Path, Follows, Visits, VisitsBefore, end_of, StrictlyBefore}
 use Rattle.clif_paths.specs.Denotation as paths_denotation
 use Rattle.clif_paths.specs.Blocks.{state_of}
 use Rattle.clif_paths.specs.Sound.{Allowed, Holds, SoundUnder}

@@ -25,9 +25,9 @@ use Rattle.clif_meaning.specs.World.{World}
 use Rattle.clif_meaning.specs.Store.{assigned}
 use Rattle.clif_meaning.specs.Machine.{Machine, Control, At, HasReturned, HasTrapped, IsStuck, Observation, state_after}
 use Rattle.clif_meaning.specs.ScriptMachine as script
-use Rattle.clif_meaning.specs.ScriptMachine.{ScriptRun, ScriptState, script_machine}
+use Rattle.clif_meaning.specs.ScriptMachine.{ScriptRun, ScriptState}
 use Rattle.clif_meaning.specs.FunctionMachine as function_machine_of
-use Rattle.clif_meaning.specs.FunctionMachine.{Collector, FunctionRun, FunctionState, function_machine, same_value}
+use Rattle.clif_meaning.specs.FunctionMachine.{Collector, FunctionRun, FunctionState, same_value}
 use Rattle.clif_meaning.specs.FunctionView.{Placed}
 use Rattle.clif_meaning.specs.View.{items_of, view_of}
 use Rattle.clif_meaning.specs.Path.{Place}

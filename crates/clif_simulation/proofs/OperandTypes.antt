@@ -16,7 +16,7 @@ use Rattle.clif_opcodes.specs.declared.opcodes.ConvertOpcode.TheVariants.{Splat,
 use Rattle.clif_opcodes.specs.declared.opcodes.BinaryOpcode.{BinaryOpcode}
 use Rattle.clif_opcodes.specs.declared.opcodes.BinaryOpcode.TheVariants as binary
 use Rattle.clif_opcodes.specs.declared.opcodes.FloatConstOpcode.TheVariants.{F16const, F32const, F64const}
-use Rattle.clif_opcodes.specs.Kinds.{IsOfKind, is_address, is_met}
+use Rattle.clif_opcodes.specs.Kinds.{is_address, is_met}
 use Rattle.clif_opcodes.specs.Typing.{AreOfKinds, binary_second, convert_demand, convert_operand}
 use Rattle.clif_ir.specs.Body.{Body}
 use Rattle.clif_meaning.specs.Bits.{Bits}

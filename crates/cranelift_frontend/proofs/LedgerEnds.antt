@@ -7,7 +7,7 @@ use Rattle.clif_types.specs.declared.extname.UserFuncName.{UserFuncName}
 use Rattle.clif_ir.specs.Body.{Body, empty_body}
 use Rattle.clif_meaning.specs.Request.{AnsweredCall, number_of, Finalize}
 use Rattle.clif_meaning.specs.Ledger.{BlockState, empty_ledger}
-use Rattle.clif_meaning.specs.Acceptance.{Refusal, refusal_of, is_unfinished, unfinished}
+use Rattle.clif_meaning.specs.Acceptance.{refusal_of, is_unfinished, unfinished}
 use Rattle.clif_meaning.specs.Acceptance as refusal
 use Rattle.clif_records.specs.Tables.{is_yes}
 use Rattle.clif_ssa.specs.Ssa.{sealed_of}

@@ -1,4 +1,4 @@
-use Rattle.std.proofs.Common.{◌≡◌, ℕ, zero, suc, [], ◌∷◌, refl, sym, ◌∙◌, subst, ap}
+use Rattle.std.proofs.Common.{◌≡◌, ℕ, zero, suc, refl, sym, ◌∙◌, subst, ap}
 use Rattle.std.specs.Prelude.{pos}
 use Rattle.clif_types.specs.declared.types.LaneType.TheVariants as lane
 use Rattle.clif_types.specs.declared.types.«Type».{«Type»}
@@ -8,7 +8,7 @@ use Rattle.clif_opcodes.specs.declared.opcodes.FloatConstOpcode.{FloatConstOpcod
 use Rattle.clif_instructions.specs.declared.instructions.InstructionData.TheVariants.{UnaryImm, UnaryIeee, Convert}
 use Rattle.clif_ssa.specs.declared.zeros.ZeroKind.{ZeroKind}
 use Rattle.clif_ssa.specs.declared.zeros.ZeroKind.TheVariants as made
-use Rattle.clif_ssa.specs.Zeros.{IsStepAt, first_or_last_step, float_type, kind_of_zero, only_step, row_of_kind, zero_row}
+use Rattle.clif_ssa.specs.Zeros.{IsStepAt, first_or_last_step, float_type, kind_of_zero, only_step, zero_row}
 use Rattle.clif_ssa.proofs.zeros.zero_step.Goals as goal
 
 number : (ty : «Type») (place before : ℕ) → kind_of_zero ty ≡ made.Number → IsStepAt ty place before (only_step place (UnaryImm (pos 0)) ty)
