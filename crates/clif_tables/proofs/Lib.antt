@@ -1,0 +1,4 @@
+pub mod Texts
+mod Partly
+mod Positions
+mod Pooling

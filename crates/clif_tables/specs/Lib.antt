@@ -1,0 +1,5 @@
+pub mod Constants
+pub mod Lends
+pub mod Lists
+pub mod Makes
+pub mod Targets
