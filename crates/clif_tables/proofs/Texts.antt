@@ -1,9 +1,8 @@
 -- The text of bytes that are written from last to first.
-use Rattle.std.proofs.Common.{◌≡◌, ℕ, ◌+◌, ◌-◌, ◌<◌, List, [], ◌∷◌, ◌++◌, length, take, reverse, get_or, ap, sym, subst, arith, ◌∙◌}
+use Rattle.std.proofs.Common.{◌≡◌, ℕ, ◌+◌, ◌-◌, ◌<◌, List, [], ◌∷◌, ◌++◌, length, take, reverse, get_or, ap, sym, subst, ◌∙◌}
 use Rattle.std.specs.List.{flat_map}
 use Rattle.std.proofs.lemmas.Grind.{flat_map-append}
 use Rattle.std.proofs.lemmas.List.{length-reverse, take_more, get_or-reverse}
-use Rattle.std.proofs.lemmas.List.Concat.{flat_map-cons}
 use mathlib.Core.List.{append-nil}
 
 pub one_byte_more : (f : ℕ → List ℕ) (xs : List ℕ) (k : ℕ) → k < length xs

@@ -11,6 +11,7 @@ pub mod exception_table;
 pub mod jump_table;
 pub mod primary_map;
 pub mod tables;
+pub mod write;
 
 pub use constants::ConstantData;
 pub use exception_table::{

@@ -41,15 +41,15 @@ impl Model for Tables {
     ghost Value = { TableLists };
 
     ghost view = { λ t. record {
-        stack_slots = t.stack_slots;
-        dynamic_stack_slots = t.dynamic_stack_slots;
-        global_values = t.global_values;
-        alias_regions = t.alias_regions;
-        signatures = t.signatures;
-        functions = t.functions;
-        constants = t.constants;
-        jump_tables = t.jump_tables;
-        exception_tables = t.exception_tables;
+      stack_slots = t.stack_slots;
+      dynamic_stack_slots = t.dynamic_stack_slots;
+      global_values = t.global_values;
+      alias_regions = t.alias_regions;
+      signatures = t.signatures;
+      functions = t.functions;
+      constants = t.constants;
+      jump_tables = t.jump_tables;
+      exception_tables = t.exception_tables;
     } };
 }
 
@@ -197,5 +197,132 @@ impl Tables {
         self.exception_tables
             .entry_mut(table)
             .change_target(from, to);
+    }
+
+    /// The regions of memory.
+    pub fn alias_regions(&self) -> &AliasRegionSet
+        ensures { result.now ≡ self.now.alias_regions }
+    {
+        &self.alias_regions
+    }
+
+    /// A stack slot, if there is one of this number.
+    pub fn stack_slot(&self, slot: StackSlot) -> Option<&StackSlotData>
+        ensures { option_copied result ≡ slice_get self.now.stack_slots slot }
+    {
+        self.stack_slots.get(slot)
+    }
+
+    /// A stack slot whose size is known only when the program runs, if there is one of this number.
+    pub fn dynamic_stack_slot(&self, slot: DynamicStackSlot) -> Option<&DynamicStackSlotData>
+        ensures { option_copied result ≡ slice_get self.now.dynamic_stack_slots slot }
+    {
+        self.dynamic_stack_slots.get(slot)
+    }
+
+    /// A global value, if there is one of this number.
+    pub fn global_value(&self, value: GlobalValue) -> Option<&GlobalValueData>
+        ensures { option_copied result ≡ slice_get self.now.global_values value }
+    {
+        self.global_values.get(value)
+    }
+
+    /// An imported signature, if there is one of this number.
+    pub fn signature(&self, signature: SigRef) -> Option<&Signature>
+        ensures { option_copied result ≡ slice_get self.now.signatures signature }
+    {
+        self.signatures.get(signature)
+    }
+
+    /// An imported function, if there is one of this number.
+    pub fn function(&self, function: FuncRef) -> Option<&ExtFuncData>
+        ensures { option_copied result ≡ slice_get self.now.functions function }
+    {
+        self.functions.get(function)
+    }
+
+    /// The bytes of a constant, if there is one of this number.
+    pub fn constant(&self, constant: Constant) -> Option<&ConstantData>
+        ensures { option_copied result ≡ slice_get self.now.constants constant }
+    {
+        self.constants.get(constant)
+    }
+
+    /// A jump table, if there is one of this number.
+    pub fn jump_table(&self, table: JumpTable) -> Option<&JumpTableData>
+        ensures { option_copied result ≡ slice_get self.now.jump_tables table }
+    {
+        self.jump_tables.get(table)
+    }
+
+    /// An exception table, if there is one of this number.
+    pub fn exception_table(&self, table: ExceptionTable) -> Option<&ExceptionTargets>
+        ensures { option_copied result ≡ slice_get self.now.exception_tables table }
+    {
+        self.exception_tables.get(table)
+    }
+
+    /// How many stack slots there are.
+    pub fn stack_slot_count(&self) -> usize
+        ensures exact { result ≡ length self.now.stack_slots }
+        ensures fits { result < 2 ^ 32 }
+    {
+        self.stack_slots.len()
+    }
+
+    /// How many dynamic stack slots there are.
+    pub fn dynamic_stack_slot_count(&self) -> usize
+        ensures exact { result ≡ length self.now.dynamic_stack_slots }
+        ensures fits { result < 2 ^ 32 }
+    {
+        self.dynamic_stack_slots.len()
+    }
+
+    /// How many global values there are.
+    pub fn global_value_count(&self) -> usize
+        ensures exact { result ≡ length self.now.global_values }
+        ensures fits { result < 2 ^ 32 }
+    {
+        self.global_values.len()
+    }
+
+    /// How many imported signatures there are.
+    pub fn signature_count(&self) -> usize
+        ensures exact { result ≡ length self.now.signatures }
+        ensures fits { result < 2 ^ 32 }
+    {
+        self.signatures.len()
+    }
+
+    /// How many imported functions there are.
+    pub fn function_count(&self) -> usize
+        ensures exact { result ≡ length self.now.functions }
+        ensures fits { result < 2 ^ 32 }
+    {
+        self.functions.len()
+    }
+
+    /// How many constants there are.
+    pub fn constant_count(&self) -> usize
+        ensures exact { result ≡ length self.now.constants }
+        ensures fits { result < 2 ^ 32 }
+    {
+        self.constants.len()
+    }
+
+    /// How many jump tables there are.
+    pub fn jump_table_count(&self) -> usize
+        ensures exact { result ≡ length self.now.jump_tables }
+        ensures fits { result < 2 ^ 32 }
+    {
+        self.jump_tables.len()
+    }
+
+    /// How many exception tables there are.
+    pub fn exception_table_count(&self) -> usize
+        ensures exact { result ≡ length self.now.exception_tables }
+        ensures fits { result < 2 ^ 32 }
+    {
+        self.exception_tables.len()
     }
 }
