@@ -1,0 +1,5 @@
+pub mod Texts
+mod LineByLine
+mod Partly
+mod Positions
+mod Pooling

@@ -1,0 +1,6 @@
+pub mod Constants
+pub mod Lends
+pub mod Lists
+pub mod Makes
+pub mod Preamble
+pub mod Targets

@@ -1,0 +1,43 @@
+-- The edges of jump tables and exception tables. Source: own, after the crate's documentation of both.
+use Rattle.std.specs.Prelude.{ℕ, ◌==◌, List, [], ◌∷◌, map, flat_map, if◌then◌else◌}
+use Rattle.clif_instructions.specs.declared.block_call.BlockCall.{BlockCall}
+use Rattle.clif_tables.specs.declared.exception_table.ExceptionItem.{ExceptionItem}
+use Rattle.clif_tables.specs.declared.exception_table.ExceptionItem.TheVariants as kept
+use Rattle.clif_tables.specs.declared.exception_table.ExceptionTableItem.{ExceptionTableItem}
+use Rattle.clif_tables.specs.declared.exception_table.ExceptionTableItem.TheVariants as given
+use Rattle.clif_tables.specs.declared.exception_table.ExceptionTableData.{ExceptionTableData}
+
+-- an edge that goes to the second block, if it went to the first; what it passes stays
+abbrev pub redirected : ℕ → ℕ → BlockCall → BlockCall
+redirected from to edge = if edge.block == from then record edge { block = to } else edge
+
+-- edges, of which each that went to the first block goes to the second
+abbrev pub with_target_changed : ℕ → ℕ → List BlockCall → List BlockCall
+with_target_changed from to edges = map (redirected from to) edges
+
+-- an exception table as it is kept: the signature of its calls, its edges, the normal one first, and its items, of which each
+-- tag and each default has the next edge
+pub record ExceptionShape : Type 0 where
+  pub sig : ℕ
+  pub edges : List BlockCall
+  pub items : List ExceptionItem
+
+-- the edge of an item, if it has one
+abbrev pub item_edges : ExceptionTableItem → List BlockCall
+item_edges (given.Tag tag edge) = edge ∷ []
+item_edges (given.Default edge) = edge ∷ []
+item_edges (given.Context value) = []
+
+-- an item without its edge
+abbrev pub kept_item : ExceptionTableItem → ExceptionItem
+kept_item (given.Tag tag edge) = kept.Tag tag
+kept_item (given.Default edge) = kept.Default
+kept_item (given.Context value) = kept.Context value
+
+-- the edges of a table as they are printed: the normal one, and those of the items
+abbrev pub exception_edges : ExceptionTableData → List BlockCall
+exception_edges table = table.normal ∷ flat_map item_edges table.items.items
+
+-- how a table is kept
+abbrev pub exception_shape : ExceptionTableData → ExceptionShape
+exception_shape table = record { sig = table.sig; edges = exception_edges table; items = map kept_item table.items.items }

@@ -1,0 +1,328 @@
+//! The tables together.
+ghost use Rattle.std.specs.Prelude.{◌≡◌, ◌<◌, ◌^◌, length, slice_get, option_copied, OnOk, OnErr};
+ghost use Rattle.std.specs.Borrow.{sem};
+ghost use Rattle.clif_tables.specs.Makes.{Makes, Pools};
+ghost use Rattle.clif_tables.specs.Lends.{lends_regions};
+ghost use Rattle.clif_tables.specs.Lists.{no_entries, with_stack_slot, with_dynamic_stack_slot, with_global_value, with_signature, with_function, with_constant, with_jump_table, with_exception_table, with_jump_argument, with_exception_argument, with_jump_target, with_exception_target};
+
+use crate::constants::{ConstantData, ConstantPool};
+use crate::exception_table::{ExceptionTableData, ExceptionTargets};
+use crate::jump_table::JumpTableData;
+use crate::primary_map::PrimaryMap;
+use clif_types::{
+    AliasRegionSet, Block, BuildError, Constant, DynamicStackSlot, DynamicStackSlotData,
+    ExceptionTable, ExtFuncData, FuncRef, GlobalValue, GlobalValueData, JumpTable, SigRef,
+    Signature, StackSlot, StackSlotData, Value,
+};
+use std::alloc::Global;
+use std::marker::Model;
+
+/// The tables of a function beside those of its values, instructions and blocks.
+///
+/// A call that makes an entry gives it the next number of its table. Its errors are `Memory`, and `Full`
+/// exactly where the table holds 2^32 - 1 entries; the tables are then as they were.
+#[derive(Drop)]
+pub struct Tables {
+    alloc: Global,
+    pub(crate) stack_slots: PrimaryMap<StackSlot, StackSlotData>,
+    pub(crate) dynamic_stack_slots: PrimaryMap<DynamicStackSlot, DynamicStackSlotData>,
+    pub(crate) global_values: PrimaryMap<GlobalValue, GlobalValueData>,
+    pub(crate) alias_regions: AliasRegionSet,
+    pub(crate) signatures: PrimaryMap<SigRef, Signature>,
+    pub(crate) functions: PrimaryMap<FuncRef, ExtFuncData>,
+    pub(crate) constants: ConstantPool,
+    jump_tables: PrimaryMap<JumpTable, JumpTableData>,
+    exception_tables: PrimaryMap<ExceptionTable, ExceptionTargets>,
+}
+
+impl Model for Tables {
+    ghost use Rattle.clif_tables.specs.Lists.{TableLists};
+
+    ghost Value = { TableLists };
+
+    ghost view = { λ t. record {
+      stack_slots = t.stack_slots;
+      dynamic_stack_slots = t.dynamic_stack_slots;
+      global_values = t.global_values;
+      alias_regions = t.alias_regions;
+      signatures = t.signatures;
+      functions = t.functions;
+      constants = t.constants;
+      jump_tables = t.jump_tables;
+      exception_tables = t.exception_tables;
+    } };
+}
+
+impl Tables {
+    /// Tables without entries.
+    pub fn new(alloc: Global) -> Tables
+        ensures { result ≡ no_entries }
+    {
+        Tables {
+            alloc,
+            stack_slots: PrimaryMap::new(alloc),
+            dynamic_stack_slots: PrimaryMap::new(alloc),
+            global_values: PrimaryMap::new(alloc),
+            alias_regions: AliasRegionSet::new(alloc),
+            signatures: PrimaryMap::new(alloc),
+            functions: PrimaryMap::new(alloc),
+            constants: ConstantPool::new(alloc),
+            jump_tables: PrimaryMap::new(alloc),
+            exception_tables: PrimaryMap::new(alloc),
+        }
+    }
+
+    /// Makes a stack slot.
+    pub fn create_sized_stack_slot(&mut self, slot: StackSlotData) -> Result<StackSlot, BuildError>
+        ensures { Makes (length self.old.stack_slots) self.old self.new (with_stack_slot self.old slot) result }
+    {
+        self.stack_slots.push(slot)
+    }
+
+    /// Makes a stack slot whose size is known only when the program runs.
+    pub fn create_dynamic_stack_slot(
+        &mut self,
+        slot: DynamicStackSlotData,
+    ) -> Result<DynamicStackSlot, BuildError>
+        ensures { Makes (length self.old.dynamic_stack_slots) self.old self.new
+            (with_dynamic_stack_slot self.old slot) result }
+    {
+        self.dynamic_stack_slots.push(slot)
+    }
+
+    /// Makes a global value.
+    pub fn create_global_value(&mut self, value: GlobalValueData) -> Result<GlobalValue, BuildError>
+        ensures { Makes (length self.old.global_values) self.old self.new (with_global_value self.old value) result }
+    {
+        self.global_values.push(value)
+    }
+
+    /// Imports a signature, as a new one also where there is an equal one.
+    pub fn import_signature(&mut self, signature: Signature) -> Result<SigRef, BuildError>
+        ensures { Makes (length self.old.signatures) self.old self.new (with_signature self.old signature) result }
+    {
+        self.signatures.push(signature)
+    }
+
+    /// Imports a function, as a new one also where there is an equal one.
+    pub fn import_function(&mut self, function: ExtFuncData) -> Result<FuncRef, BuildError>
+        ensures { Makes (length self.old.functions) self.old self.new (with_function self.old function) result }
+    {
+        self.functions.push(function)
+    }
+
+    /// The constant of these bytes, the lowest first. It is made if there is none: equal bytes are one
+    /// constant.
+    pub fn pool_constant(&mut self, bytes: &[u8]) -> Result<Constant, BuildError>
+        ensures { Pools bytes.now self.old.constants self.old self.new (with_constant self.old bytes.now) result }
+    {
+        self.constants.insert(bytes)
+    }
+
+    /// Makes a jump table.
+    pub fn create_jump_table(&mut self, table: JumpTableData) -> Result<JumpTable, BuildError>
+        ensures { Makes (length self.old.jump_tables) self.old self.new (with_jump_table self.old table) result }
+    {
+        self.jump_tables.push(table)
+    }
+
+    /// Makes an exception table.
+    pub fn create_exception_table(
+        &mut self,
+        table: ExceptionTableData,
+    ) -> Result<ExceptionTable, BuildError>
+        ensures { Makes (length self.old.exception_tables) self.old self.new (with_exception_table self.old table) result }
+    {
+        self.exception_tables.check_room()?;
+        let targets = ExceptionTargets::new(self.alloc, table)?;
+        self.exception_tables.push(targets)
+    }
+
+    /// The regions, to which more may be added.
+    pub fn alias_regions_mut(&mut self) -> &mut AliasRegionSet
+        ensures* writes_back { sem 𝓛 (lends_regions self.entry result) }
+        ensures value { result.now ≡ self.old.alias_regions }
+    {
+        &mut self.alias_regions
+    }
+
+    /// Puts a value at the end of what each edge of a jump table passes that goes to `block`. The only error
+    /// is `Memory`, and the tables are then as they were.
+    pub fn append_jump_table_argument(
+        &mut self,
+        table: JumpTable,
+        block: Block,
+        value: Value,
+    ) -> Result<(), BuildError>
+        requires { table < length self.old.jump_tables }
+        ensures ok { OnOk result (self.new ≡ with_jump_argument self.old table block value) }
+        ensures err { OnErr result (self.new ≡ self.old) }
+        ensures only_memory { OnErr result (result ≡ Err BuildError.Memory) }
+    {
+        self.jump_tables
+            .entry_mut(table)
+            .append_argument(block, value)
+    }
+
+    /// The same of an exception table.
+    pub fn append_exception_table_argument(
+        &mut self,
+        table: ExceptionTable,
+        block: Block,
+        value: Value,
+    ) -> Result<(), BuildError>
+        requires { table < length self.old.exception_tables }
+        ensures ok { OnOk result (self.new ≡ with_exception_argument self.old table block value) }
+        ensures err { OnErr result (self.new ≡ self.old) }
+        ensures only_memory { OnErr result (result ≡ Err BuildError.Memory) }
+    {
+        self.exception_tables
+            .entry_mut(table)
+            .append_argument(block, value)
+    }
+
+    /// Makes each edge of a jump table that goes to `from` go to `to`. What it passes stays.
+    pub fn change_jump_table_target(&mut self, table: JumpTable, from: Block, to: Block)
+        requires { table < length self.old.jump_tables }
+        ensures { self.new ≡ with_jump_target self.old table from to }
+    {
+        self.jump_tables.entry_mut(table).change_target(from, to);
+    }
+
+    /// The same of an exception table.
+    pub fn change_exception_table_target(&mut self, table: ExceptionTable, from: Block, to: Block)
+        requires { table < length self.old.exception_tables }
+        ensures { self.new ≡ with_exception_target self.old table from to }
+    {
+        self.exception_tables
+            .entry_mut(table)
+            .change_target(from, to);
+    }
+
+    /// The regions of memory.
+    pub fn alias_regions(&self) -> &AliasRegionSet
+        ensures { result.now ≡ self.now.alias_regions }
+    {
+        &self.alias_regions
+    }
+
+    /// A stack slot, if there is one of this number.
+    pub fn stack_slot(&self, slot: StackSlot) -> Option<&StackSlotData>
+        ensures { option_copied result ≡ slice_get self.now.stack_slots slot }
+    {
+        self.stack_slots.get(slot)
+    }
+
+    /// A stack slot whose size is known only when the program runs, if there is one of this number.
+    pub fn dynamic_stack_slot(&self, slot: DynamicStackSlot) -> Option<&DynamicStackSlotData>
+        ensures { option_copied result ≡ slice_get self.now.dynamic_stack_slots slot }
+    {
+        self.dynamic_stack_slots.get(slot)
+    }
+
+    /// A global value, if there is one of this number.
+    pub fn global_value(&self, value: GlobalValue) -> Option<&GlobalValueData>
+        ensures { option_copied result ≡ slice_get self.now.global_values value }
+    {
+        self.global_values.get(value)
+    }
+
+    /// An imported signature, if there is one of this number.
+    pub fn signature(&self, signature: SigRef) -> Option<&Signature>
+        ensures { option_copied result ≡ slice_get self.now.signatures signature }
+    {
+        self.signatures.get(signature)
+    }
+
+    /// An imported function, if there is one of this number.
+    pub fn function(&self, function: FuncRef) -> Option<&ExtFuncData>
+        ensures { option_copied result ≡ slice_get self.now.functions function }
+    {
+        self.functions.get(function)
+    }
+
+    /// The bytes of a constant, if there is one of this number.
+    pub fn constant(&self, constant: Constant) -> Option<&ConstantData>
+        ensures { option_copied result ≡ slice_get self.now.constants constant }
+    {
+        self.constants.get(constant)
+    }
+
+    /// A jump table, if there is one of this number.
+    pub fn jump_table(&self, table: JumpTable) -> Option<&JumpTableData>
+        ensures { option_copied result ≡ slice_get self.now.jump_tables table }
+    {
+        self.jump_tables.get(table)
+    }
+
+    /// An exception table, if there is one of this number.
+    pub fn exception_table(&self, table: ExceptionTable) -> Option<&ExceptionTargets>
+        ensures { option_copied result ≡ slice_get self.now.exception_tables table }
+    {
+        self.exception_tables.get(table)
+    }
+
+    /// How many stack slots there are.
+    pub fn stack_slot_count(&self) -> usize
+        ensures exact { result ≡ length self.now.stack_slots }
+        ensures fits { result < 2 ^ 32 }
+    {
+        self.stack_slots.len()
+    }
+
+    /// How many dynamic stack slots there are.
+    pub fn dynamic_stack_slot_count(&self) -> usize
+        ensures exact { result ≡ length self.now.dynamic_stack_slots }
+        ensures fits { result < 2 ^ 32 }
+    {
+        self.dynamic_stack_slots.len()
+    }
+
+    /// How many global values there are.
+    pub fn global_value_count(&self) -> usize
+        ensures exact { result ≡ length self.now.global_values }
+        ensures fits { result < 2 ^ 32 }
+    {
+        self.global_values.len()
+    }
+
+    /// How many imported signatures there are.
+    pub fn signature_count(&self) -> usize
+        ensures exact { result ≡ length self.now.signatures }
+        ensures fits { result < 2 ^ 32 }
+    {
+        self.signatures.len()
+    }
+
+    /// How many imported functions there are.
+    pub fn function_count(&self) -> usize
+        ensures exact { result ≡ length self.now.functions }
+        ensures fits { result < 2 ^ 32 }
+    {
+        self.functions.len()
+    }
+
+    /// How many constants there are.
+    pub fn constant_count(&self) -> usize
+        ensures exact { result ≡ length self.now.constants }
+        ensures fits { result < 2 ^ 32 }
+    {
+        self.constants.len()
+    }
+
+    /// How many jump tables there are.
+    pub fn jump_table_count(&self) -> usize
+        ensures exact { result ≡ length self.now.jump_tables }
+        ensures fits { result < 2 ^ 32 }
+    {
+        self.jump_tables.len()
+    }
+
+    /// How many exception tables there are.
+    pub fn exception_table_count(&self) -> usize
+        ensures exact { result ≡ length self.now.exception_tables }
+        ensures fits { result < 2 ^ 32 }
+    {
+        self.exception_tables.len()
+    }
+}
