@@ -2,8 +2,9 @@
 #![tactic(auto)]
 
 use crate::facts::Fact::Successors;
+use crate::instructions::Plain::Trap;
 use crate::steps::Step::{
-    Alias, Append, Binary, Brif, Create, Iconst, Is, Jump, LayOut, Param, ReturnOne,
+    Alias, Append, Binary, Brif, Create, Iconst, Is, Jump, LayOut, Param, Put, ReturnOne,
 };
 use crate::steps::{makes, makes_of, runs};
 use crate::support::typed;
@@ -11,7 +12,8 @@ use clif_instructions::block_call::{BlockArg, BlockArgs, BlockCall};
 use clif_instructions::inst_list::InsertAt::Back;
 use clif_instructions::instructions::InstructionData;
 use clif_opcodes::BinaryOpcode::{Iadd, Isub};
-use clif_types::types::I32;
+use clif_types::TrapCode::User;
+use clif_types::types::{I32, INVALID};
 use clif_types::{Block, CallConv, Value};
 use std::process::Abort;
 use std::test::Fail;
@@ -152,7 +154,7 @@ fn destinations(rt: HostRuntime) -> Result<(), Fail> {
     Ok(())
 }
 
-// The targets in printed order: none of a block that is empty or ends in no branch, and one twice where both edges go
+// The targets in printed order: none of a block that is empty, traps or ends in no branch, and one twice where both edges go
 // to it.
 #[test]
 fn successors(rt: HostRuntime) -> Result<(), Fail> {
@@ -171,6 +173,8 @@ fn successors(rt: HostRuntime) -> Result<(), Fail> {
         Is(Successors(2, Some(1), Some(1))),
         Is(Successors(3, None, None)),
         Create,
+        Is(Successors(4, None, None)),
+        Put(4, INVALID, Trap(User(1))),
         Is(Successors(4, None, None)),
     ];
     runs(&rt, rt.alloc(), &steps)

@@ -8,6 +8,10 @@ mod edges;
 #[cfg(test)]
 mod facts;
 #[cfg(test)]
+mod forms;
+#[cfg(test)]
+mod instructions;
+#[cfg(test)]
 mod lists;
 #[cfg(test)]
 mod numbers;

@@ -1,12 +1,18 @@
 //! Lists of values and of instructions.
 #![tactic(auto)]
 
+use crate::instructions::Plain::{Concat, CondTrap, Float, Icmp, Load, Store, Trap};
+use crate::instructions::{Plain, shape_of};
 use crate::support::{i, is_place_of, v};
 use clif_instructions::inst_list::{InsertAt, InstList};
 use clif_instructions::instructions::InstructionData;
 use clif_instructions::value_list::ValueList;
-use clif_opcodes::BinaryOpcode;
-use clif_types::Value;
+use clif_opcodes::CondTrapOpcode::{Trapnz, Trapz};
+use clif_opcodes::FloatConstOpcode::{F16const, F32const, F64const};
+use clif_opcodes::ResultKind::{Controlling, Double, Exactly};
+use clif_opcodes::{BinaryOpcode, ResultKind};
+use clif_types::types::{F16, F32, F64, I8};
+use clif_types::{EntityRef, IntCC, MemFlagsData, TrapCode, Value};
 use std::process::Abort;
 use std::test::Fail;
 
@@ -74,11 +80,25 @@ fn instructions_behind_others(rt: HostRuntime) -> Result<(), Fail> {
     Ok(())
 }
 
-// Asserts the arguments of an instruction that has a result, or else ends a block.
-fn is_of(rt: &impl Abort, shape: &InstructionData, args: &[Value], has_result: bool) {
-    assert!(rt; shape.arguments() == args);
-    assert!(rt; shape.has_result() == has_result);
-    assert!(rt; shape.is_terminator() != has_result);
+// Asserts the name of an instruction without edges, its operands, the kinds of its results, and whether it ends its
+// block.
+fn is_of(
+    rt: &impl Abort,
+    shape: &InstructionData,
+    name: &str,
+    args: &[u32],
+    results: &[ResultKind],
+    ends: bool,
+) {
+    assert!(rt; shape.opcode().name() == name);
+    assert!(rt; shape.arguments().len() == args.len());
+    for (value, number) in shape.arguments().iter().zip(args.iter()) {
+        assert!(rt; value.as_u32() == *number);
+    }
+    assert!(rt; shape.result_kinds() == results);
+    assert!(rt; shape.has_result() == !results.is_empty());
+    assert!(rt; shape.is_terminator() == ends);
+    assert!(rt; !shape.is_branch() && shape.branch_destination().is_empty());
 }
 
 #[test]
@@ -86,11 +106,47 @@ fn shapes(rt: HostRuntime) -> Result<(), Fail> {
     let args = [v(&rt, 1), v(&rt, 2)];
     let opcode = BinaryOpcode::Iadd;
     let sum = InstructionData::Binary { opcode, args };
-    assert!(rt; sum.opcode().name() == "iadd");
-    is_of(&rt, &sum, &args, true);
+    is_of(&rt, &sum, "iadd", &[1, 2], &[Controlling], false);
     let returned = InstructionData::MultiAry {
         args: ValueList::from_slice(rt.alloc(), &args)?,
     };
-    is_of(&rt, &returned, &args, false);
+    is_of(&rt, &returned, "return", &[1, 2], &[], true);
+    Ok(())
+}
+
+// An instruction, its name, its operands, the kinds of its results, and whether it ends its block.
+type Row = (
+    Plain,
+    &'static str,
+    &'static [u32],
+    &'static [ResultKind],
+    bool,
+);
+
+#[test]
+fn plain_shapes(rt: HostRuntime) -> Result<(), Fail> {
+    let flags = MemFlagsData::new();
+    let code = TrapCode::User(1);
+    let rows: [Row; 10] = [
+        (Float(F16const, 1), "f16const", &[], &[Exactly(F16)], false),
+        (Float(F32const, 1), "f32const", &[], &[Exactly(F32)], false),
+        (Float(F64const, 1), "f64const", &[], &[Exactly(F64)], false),
+        (
+            Icmp(IntCC::Equal, 1, 2),
+            "icmp",
+            &[1, 2],
+            &[Exactly(I8)],
+            false,
+        ),
+        (Concat(1, 2), "iconcat", &[1, 2], &[Double], false),
+        (Load(flags, 1, 4), "load", &[1], &[Controlling], false),
+        (Store(flags, 1, 2, 4), "store", &[1, 2], &[], false),
+        (Trap(code), "trap", &[], &[], true),
+        (CondTrap(Trapz, 1, code), "trapz", &[1], &[], false),
+        (CondTrap(Trapnz, 1, code), "trapnz", &[1], &[], false),
+    ];
+    for (plain, name, args, results, ends) in rows {
+        is_of(&rt, &shape_of(&rt, plain), name, args, results, ends);
+    }
     Ok(())
 }

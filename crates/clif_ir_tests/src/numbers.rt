@@ -3,8 +3,9 @@
 
 use crate::steps::Step::{Create, Iconst, LayOut, ReturnTwo};
 use crate::steps::makes;
-use clif_instructions::immediates::{Imm64, signed_at};
+use clif_instructions::immediates::{FloatBits, Imm64, Offset32, signed_at};
 use clif_instructions::inst_list::InsertAt::Back;
+use clif_opcodes::FloatConstOpcode;
 use clif_types::{Type, types};
 use std::alloc::Global;
 use std::process::Abort;
@@ -73,4 +74,51 @@ fn in_instructions(rt: HostRuntime) -> Result<(), Fail> {
     let text =
         "function %sample() system_v {\nblock0:\n    v0 = iconst.i16 0xffff_ffff_ffff_d8f0\n    v1 = iconst.i8 16\n    return v0, v1  ; v0 = 0xffff_ffff_ffff_d8f0, v1 = 16\n}\n";
     makes(&rt, rt.alloc(), &steps, text)
+}
+
+/// An offset, and its text behind an address.
+const OFFSETS: [(i32, &str); 9] = [
+    (0, ""),
+    (1, "+1"),
+    (-1, "-1"),
+    (9999, "+9999"),
+    (-9999, "-9999"),
+    (10000, "+0x2710"),
+    (-10000, "-0x2710"),
+    (i32::MAX, "+0x7fff_ffff"),
+    (i32::MIN, "-0x8000_0000"),
+];
+
+#[test]
+fn offsets(rt: HostRuntime) -> Result<(), Fail> {
+    for (offset, text) in OFFSETS.iter() {
+        let shown = Offset32(*offset);
+        let found = format!(in rt.alloc(); "{shown}")?;
+        assert!(rt; found.as_str() == *text);
+    }
+    Ok(())
+}
+
+/// A float constant, its bits, and the text of them.
+const FLOATS: [(FloatConstOpcode, u64, &str); 7] = [
+    (FloatConstOpcode::F16const, 0, "0.0"),
+    (FloatConstOpcode::F16const, 0x8000, "0x8000"),
+    (FloatConstOpcode::F32const, 0, "0.0"),
+    (FloatConstOpcode::F32const, 1, "0x00000001"),
+    (FloatConstOpcode::F64const, 0, "0.0"),
+    (FloatConstOpcode::F64const, 1, "0x0000000000000001"),
+    (FloatConstOpcode::F64const, u64::MAX, "0xffffffffffffffff"),
+];
+
+#[test]
+fn floats(rt: HostRuntime) -> Result<(), Fail> {
+    for (opcode, bits, text) in FLOATS.iter() {
+        let shown = FloatBits {
+            opcode: *opcode,
+            bits: *bits,
+        };
+        let found = format!(in rt.alloc(); "{shown}")?;
+        assert!(rt; found.as_str() == *text);
+    }
+    Ok(())
 }

@@ -2,6 +2,7 @@
 #![tactic(auto)]
 
 use crate::facts::{Fact, holds};
+use crate::instructions::{Plain, shape_of};
 use crate::support::{
     PLACE, b, block_of, has_edges, has_operands, inst_of, is_param, is_place_of, prints, sample, v,
     value_of,
@@ -42,6 +43,8 @@ pub enum Step {
     Convert(ConvertOpcode, u32, Type, u32),
     /// Puts a choice between two values at the end of a block: the condition, and then the values.
     Select(u32, Type, u32, u32, u32),
+    /// Puts an instruction without edges at the end of a block, with its controlling type.
+    Put(u32, Type, Plain),
     /// Puts a jump at the end of a block.
     Jump(u32, u32),
     /// Puts a branch by a value at the end of a block: the block that it goes to where the value isn't zero, and
@@ -222,6 +225,9 @@ fn make(rt: &impl Abort, func: &mut Function, step: Step) -> Result<(), Fail> {
                 InstructionData::Ternary { args },
                 ty,
             )
+        }
+        Step::Put(block, ty, plain) => {
+            insert(rt, func, block, InsertAt::Back, shape_of(rt, plain), ty)
         }
         Step::Jump(block, target) => jump(rt, func, block, target),
         Step::Brif(block, x, taken, other) => brif(rt, func, block, x, [taken, other]),

@@ -164,6 +164,154 @@ block4:
 }
 ";
 
+pub const SUM_OF_BYTES: &str = "\
+# Adds up the bytes from `start` up to `end`.
+function %sum_of_bytes (i64, i64) -> i32 system_v
+at = declare_var i64
+total = declare_var i32
+entry = create_block
+test = create_block
+body = create_block
+exit = create_block
+start, end = append_block_params_for_function_params entry
+
+switch_to_block entry
+seal_block entry
+def_var at start
+jump test
+
+switch_to_block test
+here = use_var at
+more = icmp ult here end
+brif more body exit
+
+switch_to_block body
+seal_block body
+byte = load.i8 notrap here
+wide = uextend.i32 byte
+before = use_var total
+after = iadd before wide
+def_var total after
+one = iconst.i64 1
+next = iadd here one
+def_var at next
+jump test
+seal_block test
+
+switch_to_block exit
+seal_block exit
+result = use_var total
+return result
+";
+
+pub const SUM_OF_BYTES_TEXT: &str = "\
+function %sum_of_bytes(i64, i64) -> i32 system_v {
+block0(v0: i64, v1: i64):
+    v11 = iconst.i32 0
+    v10 -> v11
+    jump block1(v0, v11)  ; v11 = 0
+
+block1(v2: i64, v6: i32):
+    v3 = icmp ult v2, v1
+    brif v3, block2, block3
+
+block2:
+    v4 = load.i8 notrap v2
+    v5 = uextend.i32 v4
+    v7 = iadd.i32 v6, v5
+    v8 = iconst.i64 1
+    v9 = iadd.i64 v2, v8  ; v8 = 1
+    jump block1(v9, v7)
+
+block3:
+    return v6
+}
+";
+
+pub const CHECKED_ELEMENT: &str = "\
+# Element `index` of eight numbers at `array`. A null pointer traps, and so does an index past the last element.
+function %checked_element (i64, i32) -> i32 system_v
+entry = create_block
+inside = create_block
+outside = create_block
+array, index = append_block_params_for_function_params entry
+
+switch_to_block entry
+seal_block entry
+trapz array user1
+eight = iconst.i32 8
+is_inside = icmp ult index eight
+brif is_inside inside outside
+
+switch_to_block inside
+seal_block inside
+four = iconst.i32 4
+bytes = imul index four
+distance = uextend.i64 bytes
+place = iadd array distance
+element = load.i32 notrap aligned place
+return element
+
+switch_to_block outside
+seal_block outside
+trap user2
+";
+
+pub const CHECKED_ELEMENT_TEXT: &str = "\
+function %checked_element(i64, i32) -> i32 system_v {
+block0(v0: i64, v1: i32):
+    trapz v0, user1
+    v2 = iconst.i32 8
+    v3 = icmp ult v1, v2  ; v2 = 8
+    brif v3, block1, block2
+
+block1:
+    v4 = iconst.i32 4
+    v5 = imul.i32 v1, v4  ; v4 = 4
+    v6 = uextend.i64 v5
+    v7 = iadd.i64 v0, v6
+    v8 = load.i32 notrap aligned v7
+    return v8
+
+block2:
+    trap user2
+}
+";
+
+pub const FORMS: &str = "\
+function %forms (i64) -> f32 system_v
+b = create_block
+p = append_block_param b i64
+switch_to_block b
+half = f16const 0x3c00
+single = f32const 0
+double = f64const 1
+byte = load.i8 aligned p +4
+wide = sextend.i32 byte
+both = iconcat wide wide
+is_less = icmp slt both p
+store notrap is_less p -8
+trapnz byte int_ovf
+return single
+seal_block b
+";
+
+pub const FORMS_TEXT: &str = "\
+function %forms(i64) -> f32 system_v {
+block0(v0: i64):
+    v1 = f16const 0x3c00
+    v2 = f32const 0.0
+    v3 = f64const 0x0000000000000001
+    v4 = load.i8 aligned v0+4
+    v5 = sextend.i32 v4
+    v6 = iconcat v5, v5
+    v7 = icmp slt v6, v0
+    store notrap v7, v0-8
+    trapnz v4, int_ovf
+    return v2  ; v2 = 0.0
+}
+";
+
 pub const MISUSE: &str = "\
 # No branch may lead to a block that is sealed.
 block0 = create_block

@@ -1,16 +1,11 @@
 //! Tests of `clif_script` and `clif_text`, of what no clause says: texts, statuses and errors, what each script of a list
-//! answers, that calls succeed, and what scripts and the functions that are built of them answer when they run. The values
-//! are those of the printer's rules and of the builder's documented conditions.
+//! answers, and that calls succeed. The values are those of the printer's rules and of the builder's documented conditions.
 #![tactic(auto)]
 
-#[cfg(test)]
-mod agreement;
 #[cfg(test)]
 mod data;
 #[cfg(test)]
 mod errors;
-#[cfg(test)]
-mod interpreters;
 #[cfg(test)]
 mod parameters;
 #[cfg(test)]

@@ -5,7 +5,7 @@ use crate::steps::Step::{
     Brif, Create, Declare, Def, Iadd, Iconst, Isub, Jump, JumpWith, Return, ReturnNone, Seal,
     Switch, Use,
 };
-use crate::steps::{F32, I32, I64, Step, all_refuse};
+use crate::steps::{F32, F128, I32, I64, Step, all_refuse};
 use clif_script::ReplayError;
 use clif_script::ReplayError::{Misuse, Refused};
 use std::test::Fail;
@@ -31,7 +31,7 @@ const VARIABLES: [(&[Step], ReplayError); 7] = [
     ),
     (&[Declare(I32), Create, Switch(1, 0), Use(1)], Misuse(3)),
     // types that don't fit
-    (&[Declare(F32)], Misuse(0)),
+    (&[Declare(F128)], Misuse(0)),
     (&[Create, Switch(0, 0), Iconst(F32)], Misuse(2)),
     (
         &[

@@ -21,6 +21,8 @@ pub const I64: Type = Type::Lane(LaneType::I64);
 
 pub const F32: Type = Type::Lane(LaneType::F32);
 
+pub const F128: Type = Type::Lane(LaneType::F128);
+
 /// A call, where (place, answer) is a name; each constant is 1.
 #[derive(Clone, Copy)]
 pub enum Step {

@@ -8,9 +8,12 @@ use std::alloc::Global;
 use std::process::Abort;
 use std::test::Fail;
 
-const EXAMPLES: [(&str, &str); 4] = [
+const EXAMPLES: [(&str, &str); 7] = [
     (data::DIAMOND, data::DIAMOND_TEXT),
     (data::NESTED_LOOPS, data::NESTED_LOOPS_TEXT),
+    (data::SUM_OF_BYTES, data::SUM_OF_BYTES_TEXT),
+    (data::CHECKED_ELEMENT, data::CHECKED_ELEMENT_TEXT),
+    (data::FORMS, data::FORMS_TEXT),
     (data::PLACED, data::PLACED_TEXT),
     ("\n# nothing is called\n \t\r\n,", data::EMPTY_TEXT),
 ];
@@ -236,7 +239,7 @@ block0:
     Ok(())
 }
 
-const MISUSES: [(&str, &str); 8] = [
+const MISUSES: [(&str, &str); 13] = [
     (data::MISUSE, data::MISUSE_TEXT),
     // an answer that isn't there, and one of another kind
     (
@@ -259,9 +262,32 @@ const MISUSES: [(&str, &str); 8] = [
         "b = create_block\nx, y = append_block_params_for_function_returns b\nswitch_to_block b\nreturn y\nfunction %f () -> i8 fast",
         "misuse at call 3\nline 4: return y\n",
     ),
+    // types whose zeros can't be made
     (
-        "declare_var f32",
-        "misuse at call 0\nline 1: declare_var f32\n",
+        "declare_var f128",
+        "misuse at call 0\nline 1: declare_var f128\n",
+    ),
+    (
+        "declare_var i8x16",
+        "misuse at call 0\nline 1: declare_var i8x16\n",
+    ),
+    // no integer of twice the width, and a type that is no integer
+    (
+        "b = create_block\nx = append_block_param b i128\nswitch_to_block b\niconcat x x",
+        "misuse at call 3\nline 4: iconcat x x\n",
+    ),
+    (
+        "b = create_block\nx = append_block_param b i8\nswitch_to_block b\nsextend.f32 x",
+        "misuse at call 3\nline 4: sextend.f32 x\n",
+    ),
+    // a result that a store hasn't, and a block that a trap filled
+    (
+        "b = create_block\nx = append_block_param b i64\nswitch_to_block b\nstore x x\ntrapz $3.1 user1",
+        "misuse at call 4\nline 5: trapz $3.1 user1\n",
+    ),
+    (
+        "b = create_block\nswitch_to_block b\ntrap user1\ntrap user1",
+        "misuse at call 3\nline 4: trap user1\n",
     ),
     // a block that isn't finished
     (

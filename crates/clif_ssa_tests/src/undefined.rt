@@ -7,7 +7,7 @@ use super::steps::Step::{
     SealAll, Use,
 };
 use super::steps::makes;
-use clif_types::types::{I8, I32, I64};
+use clif_types::types::{F16X2, F32X4, F64, I8, I32, I64, I128};
 use std::test::Fail;
 
 /// Variables of several types: a zero of each type is put, before those that are there.
@@ -29,6 +29,28 @@ fn undef(rt: HostRuntime) -> Result<(), Fail> {
     ];
     let text =
         "function u0:0() fast {\nblock0:\n    v5 = iconst.i8 0\n    v4 -> v5\n    v3 = iconst.i64 0\n    v2 -> v3\n    v1 = iconst.i32 0\n    v0 -> v1\n}\n";
+    makes(&rt, rt.alloc(), &steps, text)
+}
+
+/// Zeros of two instructions, and of floats: a block is told once for each zero.
+#[test]
+fn undef_wide_and_floats(rt: HostRuntime) -> Result<(), Fail> {
+    let steps = [
+        Declare,
+        Seal(0, 0),
+        Ask(0, 0, I128),
+        Is(Told(1)),
+        Is(ToldAt(0, 0)),
+        Ask(0, 1, F32X4),
+        Is(Told(1)),
+        Ask(0, 2, F64),
+        Is(Told(1)),
+        Ask(0, 3, F16X2),
+        Is(Told(1)),
+        Is(Params(0, 0)),
+    ];
+    let text =
+        "function u0:0() fast {\nblock0:\n    v9 = f16const 0.0\n    v10 = splat.f16x2 v9  ; v9 = 0.0\n    v8 -> v10\n    v7 = f64const 0.0\n    v6 -> v7\n    v4 = f32const 0.0\n    v5 = splat.f32x4 v4  ; v4 = 0.0\n    v3 -> v5\n    v1 = iconst.i64 0\n    v2 = uextend.i128 v1  ; v1 = 0\n    v0 -> v2\n}\n";
     makes(&rt, rt.alloc(), &steps, text)
 }
 

@@ -1,19 +1,23 @@
 //! Functions that are built call by call.
 #![tactic(auto)]
 
+use crate::forms::Effect::{Store, Trap, Trapnz, Trapz};
+use crate::forms::Form::{F16const, F32const, F64const, Icmp, Iconcat, Load};
 use crate::steps::Ending::{Return, ReturnNone};
-use crate::steps::Operand::{Binary, ByDouble, Constant, Convert, Param, Read, Select, Unary};
+use crate::steps::Operand::{
+    Binary, ByDouble, Constant, Convert, Form, Param, Read, Select, Unary,
+};
 use crate::steps::State::{Filled, Pristine, Sealed};
 use crate::steps::Step::{
-    Create, Current, Define, End, Enter, Is, Make, Seal, SealAll, Shaped, Unreachable,
+    Create, Current, Define, End, Enter, Is, Make, Seal, SealAll, Shaped, Take, Unreachable,
 };
 use crate::steps::{builds, built};
 use cranelift_frontend::BinaryOpcode::{
     Band, Bor, Bxor, Iadd, Imul, Ishl, Isub, Sdiv, Srem, Sshr, Udiv, Urem, Ushr,
 };
-use cranelift_frontend::ConvertOpcode::{Ireduce, Splat, Uextend};
+use cranelift_frontend::ConvertOpcode::{Ireduce, Sextend, Splat, Uextend};
 use cranelift_frontend::UnaryOpcode::{Bnot, Ineg};
-use cranelift_frontend::{Block, FinalizeError};
+use cranelift_frontend::{Block, FinalizeError, IntCC, MemFlagsData, TrapCode};
 use std::test::Fail;
 
 /// The calls of the first example of README.md, in their order, and its text there.
@@ -141,4 +145,77 @@ fn conversions_and_choices(rt: HostRuntime) -> Result<(), Fail> {
     let text =
         "function %chosen() -> i32 system_v {\nblock0(v0: i32):\n    v1 = iconst.i32 5\n    v2 = uextend.i64 v0\n    v3 = ireduce.i16 v2\n    v4 = splat.i32x4 v0\n    v5 = select v3, v0, v1  ; v1 = 5\n    return v5\n}\n";
     builds(&rt, rt.alloc(), "chosen", 0, &steps, text)
+}
+
+/// Float constants by their methods.
+#[test]
+fn float_constants(rt: HostRuntime) -> Result<(), Fail> {
+    let steps = [
+        Create,
+        Enter(0),
+        Make(Form(F16const(0x3c00))),
+        Make(Form(F32const(0))),
+        Make(Form(F64const(0x8000_0000_0000_0000))),
+        End(Return(1)),
+        Seal(0),
+    ];
+    let text =
+        "function %floats() -> i32 system_v {\nblock0:\n    v0 = f16const 0x3c00\n    v1 = f32const 0.0\n    v2 = f64const 0x8000000000000000\n    return v1  ; v1 = 0.0\n}\n";
+    builds(&rt, rt.alloc(), "floats", 0, &steps, text)
+}
+
+/// A wider number, a comparison and two halves by their methods.
+#[test]
+fn comparisons_and_halves(rt: HostRuntime) -> Result<(), Fail> {
+    let steps = [
+        Create,
+        Enter(0),
+        Make(Param(0)),
+        Make(Param(0)),
+        Make(Convert(Sextend, 0)),
+        Make(Form(Icmp(IntCC::SignedLessThan, 0, 1))),
+        Make(Form(Iconcat(0, 1))),
+        End(Return(3)),
+        Seal(0),
+    ];
+    let text =
+        "function %compared() -> i32 system_v {\nblock0(v0: i32, v1: i32):\n    v2 = sextend.i64 v0\n    v3 = icmp slt v0, v1\n    v4 = iconcat v0, v1\n    return v3\n}\n";
+    builds(&rt, rt.alloc(), "compared", 0, &steps, text)
+}
+
+/// A load and a store by their methods. A block goes on behind a store.
+#[test]
+fn memory(rt: HostRuntime) -> Result<(), Fail> {
+    let steps = [
+        Create,
+        Enter(0),
+        Make(Param(0)),
+        Make(Form(Load(MemFlagsData::trusted(), 0, 4))),
+        Take(Store(MemFlagsData::new(), 1, 0, -8)),
+        Is(Filled, 0, false),
+        End(Return(1)),
+        Seal(0),
+    ];
+    let text =
+        "function %memory() -> i32 system_v {\nblock0(v0: i32):\n    v1 = load.i32 notrap aligned v0+4\n    store v1, v0-8\n    return v1\n}\n";
+    builds(&rt, rt.alloc(), "memory", 0, &steps, text)
+}
+
+/// Traps by their methods. A block goes on behind a trap under a condition, and ends with any other one.
+#[test]
+fn traps(rt: HostRuntime) -> Result<(), Fail> {
+    let steps = [
+        Create,
+        Enter(0),
+        Make(Param(0)),
+        Take(Trapz(0, TrapCode::DivisionByZero)),
+        Take(Trapnz(0, TrapCode::User(7))),
+        Is(Filled, 0, false),
+        Take(Trap(TrapCode::HeapOutOfBounds)),
+        Is(Filled, 0, true),
+        Seal(0),
+    ];
+    let text =
+        "function %traps() -> i32 system_v {\nblock0(v0: i32):\n    trapz v0, int_divz\n    trapnz v0, user7\n    trap heap_oob\n}\n";
+    builds(&rt, rt.alloc(), "traps", 0, &steps, text)
 }

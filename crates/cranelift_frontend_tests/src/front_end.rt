@@ -19,8 +19,8 @@ fn asserts_block(rt: &impl Abort, builder: &FunctionBuilder<'_>, block: Block)
     assert!(rt; block.index() < builder.func().block_count());
 }
 
-// Asserts that there is a current block, which isn't filled.
-fn asserts_current(rt: &impl Abort, builder: &FunctionBuilder<'_>)
+/// Asserts that there is a current block, which isn't filled.
+pub fn asserts_current(rt: &impl Abort, builder: &FunctionBuilder<'_>)
     ensures { HasCurrent builder.now }
 {
     let block = builder.current_block().expect(rt, "a current block");
@@ -28,8 +28,8 @@ fn asserts_current(rt: &impl Abort, builder: &FunctionBuilder<'_>)
     assert!(rt; !builder.is_filled(block));
 }
 
-// Asserts that a value exists.
-fn asserts_value(rt: &impl Abort, builder: &FunctionBuilder<'_>, value: Value)
+/// Asserts that a value exists.
+pub fn asserts_value(rt: &impl Abort, builder: &FunctionBuilder<'_>, value: Value)
     ensures { value < length builder.now.func.now.values }
 {
     assert!(rt; value.index() < builder.func().value_count());
@@ -277,6 +277,7 @@ pub fn convert(
     asserts_value(rt, builder, x);
     let made = match opcode {
         ConvertOpcode::Uextend => builder.ins().uextend(I64, x),
+        ConvertOpcode::Sextend => builder.ins().sextend(I64, x),
         ConvertOpcode::Ireduce => builder.ins().ireduce(I16, x),
         ConvertOpcode::Splat => builder.ins().splat(I32X4, x),
     };

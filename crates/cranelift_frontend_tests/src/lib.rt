@@ -7,6 +7,8 @@ mod branches;
 #[cfg(test)]
 mod by_calls;
 #[cfg(test)]
+mod forms;
+#[cfg(test)]
 mod front_end;
 #[cfg(test)]
 mod generic;
@@ -16,3 +18,5 @@ mod parameters;
 mod refusals;
 #[cfg(test)]
 mod steps;
+#[cfg(test)]
+mod undefined;

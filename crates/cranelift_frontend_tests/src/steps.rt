@@ -7,7 +7,8 @@
 ghost use Rattle.std.specs.Prelude.{◌≡◌, slice_get, IfOk, Some};
 ghost use Rattle.clif_ir.specs.Body.{empty_body};
 
-use crate::front_end;
+use crate::forms::{Effect, Form};
+use crate::{forms, front_end};
 use clif_types::types::I32;
 use cranelift_frontend::{
     AbiParam, BinaryOpcode, Block, CallConv, ConvertOpcode, FinalizeError, Function,
@@ -19,8 +20,8 @@ use std::fmt::Write;
 use std::process::Abort;
 use std::test::Fail;
 
-// The target of each function.
-const CONFIG: TargetFrontendConfig = TargetFrontendConfig {
+/// The target of each function.
+pub const CONFIG: TargetFrontendConfig = TargetFrontendConfig {
     default_call_conv: CallConv::SystemV,
     pointer_width: PointerWidth::U64,
     page_size_align_log2: 12,
@@ -42,6 +43,8 @@ pub enum Step {
     /// Assigns a value to the variable.
     Define(usize),
     Make(Operand),
+    /// Makes an instruction that gives no value.
+    Take(Effect),
     /// Makes a constant by its shape.
     Shaped(i64),
     End(Ending),
@@ -71,6 +74,7 @@ pub enum Operand {
     Convert(ConvertOpcode, usize),
     /// The condition, and then what is chosen from.
     Select(usize, usize, usize),
+    Form(Form),
     /// What a generic caller makes of a value.
     ByDouble(usize),
 }
@@ -100,7 +104,8 @@ fn block(number: u8) -> Block {
     Block::from_u32(u32::from(number))
 }
 
-fn named(rt: &impl Abort, values: &[Value], place: usize) -> Value {
+/// The value at a place among the answers.
+pub fn named(rt: &impl Abort, values: &[Value], place: usize) -> Value {
     *values.get(place).expect(rt, "an answer")
 }
 
@@ -141,6 +146,7 @@ fn make(
             let (x, y) = (named(rt, values, x), named(rt, values, y));
             front_end::select(rt, builder, named(rt, values, c), x, y)
         }
+        Operand::Form(form) => forms::make(rt, builder, values, form),
         Operand::ByDouble(x) => front_end::by_double(rt, builder, named(rt, values, x)),
     }
 }
@@ -175,6 +181,7 @@ fn take(
 {
     match step {
         Step::Make(operand) => return Some(make(rt, builder, variable, values, operand)),
+        Step::Take(effect) => forms::take(rt, builder, values, effect),
         Step::End(ending) => end(rt, builder, values, ending),
         Step::Create => front_end::create(rt, builder),
         Step::Enter(number) => front_end::enter(rt, builder, block(number)),
@@ -224,8 +231,8 @@ fn take_all(
     Ok(())
 }
 
-// The function `name`, which takes so many parameters of type I32 and returns an I32.
-fn function(alloc: Global, name: &str, params: usize) -> Result<Function, AllocError>
+/// The function `name`, which takes so many parameters of type I32 and returns an I32.
+pub fn function(alloc: Global, name: &str, params: usize) -> Result<Function, AllocError>
     ensures { IfOk result (λ func. func ≡ empty_body func.name func.signature) }
 {
     let name = UserFuncName::testcase(String::from_str(alloc, name)?);

@@ -1,9 +1,13 @@
 //! The interpreter of scripts. It has variables and names of answers, and no aliases, slots or parameters of its own.
 #![tactic(auto)]
 
-use crate::interpreters::{End, STEPS, binary, constant, convert, unary};
+use crate::interpreters::memory::{Access, Fault, Memory};
+use crate::interpreters::{
+    End, Ending, STEPS, binary, compares, concat, constant, convert, end_by, traps, unary,
+};
+use clif_opcodes::FloatConstOpcode;
 use clif_script::{Call, Edge, Name, Plan};
-use clif_types::{AbiParam, EntityRef, Signature, TrapCode, Type, types};
+use clif_types::{AbiParam, EntityRef, MemFlagsData, Signature, Type, types};
 use std::alloc::{AllocError, Global};
 use std::slice;
 
@@ -25,10 +29,10 @@ enum Did<'a> {
     WentOn,
     Left(&'a Edge),
     Ended(Vec<u128>),
-    Trapped(TrapCode),
+    Faulted(Fault),
 }
 
-/// A run of a script: what variables and names hold, newest last. What isn't listed is zero.
+/// A run of a script: memory, and what variables and names hold, newest last. What isn't listed is zero.
 #[derive(Drop)]
 struct State<'a> {
     alloc: Global,
@@ -36,6 +40,29 @@ struct State<'a> {
     signature: &'a Signature,
     variables: Vec<Typed>,
     names: Vec<(Name, Typed)>,
+    memory: Memory,
+}
+
+fn of_type(ty: Type, bits: u128) -> Typed {
+    Typed { ty, bits }
+}
+
+fn float_type(opcode: FloatConstOpcode) -> Type {
+    match opcode {
+        FloatConstOpcode::F16const => types::F16,
+        FloatConstOpcode::F32const => types::F32,
+        FloatConstOpcode::F64const => types::F64,
+    }
+}
+
+/// The integer of twice the width.
+fn doubled(ty: Type) -> Type {
+    match ty.bits() {
+        8 => types::I16,
+        16 => types::I32,
+        32 => types::I64,
+        _ => types::I128,
+    }
 }
 
 impl<'a> State<'a> {
@@ -49,34 +76,100 @@ impl<'a> State<'a> {
         Ok(())
     }
 
-    /// What an instruction computes that neither branches nor ends a block.
-    fn computed(&self, plan: &Plan<'_>) -> Result<Typed, TrapCode> {
+    /// An access of this type, at the address that a name and an offset make.
+    fn access(&self, ty: Type, flags: MemFlagsData, p: Name, offset: i32) -> Access {
+        let Typed {
+            ty: address_type,
+            bits: address,
+        } = self.name(p);
+        Access {
+            ty,
+            address_type,
+            address,
+            offset,
+            flags,
+        }
+    }
+
+    /// What an instruction computes that has a result.
+    fn computed(&self, plan: &Plan<'_>) -> Result<Typed, Fault> {
         let value = match plan {
-            Plan::UnaryImm { ty, imm } => Typed {
-                ty: *ty,
-                bits: constant(*ty, *imm),
-            },
+            Plan::UnaryImm { ty, imm } => of_type(*ty, constant(*ty, *imm)),
+            Plan::UnaryIeee { opcode, bits } => of_type(float_type(*opcode), u128::from(*bits)),
             Plan::Unary { opcode, arg } => {
                 let Typed { ty, bits } = self.name(*arg);
-                let bits = unary(*opcode, ty, bits);
-                Typed { ty, bits }
+                of_type(ty, unary(*opcode, ty, bits))
             }
             Plan::Binary { opcode, args } => {
                 let Typed { ty, bits } = self.name(args[0]);
-                let bits = binary(*opcode, ty, bits, self.name(args[1]).bits)?;
-                Typed { ty, bits }
+                let made = binary(*opcode, ty, bits, self.name(args[1]).bits);
+                of_type(ty, made.map_err(|code| Fault::Trapped(code))?)
             }
-            Plan::Convert { opcode, ty, arg } => Typed {
-                ty: *ty,
-                bits: convert(*opcode, *ty, self.name(*arg).bits),
-            },
+            Plan::IntCompare { cond, args } => {
+                let Typed { ty, bits } = self.name(args[0]);
+                let holds = compares(*cond, ty, bits, self.name(args[1]).bits);
+                of_type(types::I8, u128::from(holds))
+            }
+            Plan::Concat { args } => {
+                let Typed { ty, bits } = self.name(args[0]);
+                of_type(doubled(ty), concat(ty, bits, self.name(args[1]).bits))
+            }
+            Plan::Convert { opcode, ty, arg } => {
+                let Typed { ty: from, bits } = self.name(*arg);
+                of_type(*ty, convert(*opcode, *ty, from, bits))
+            }
             Plan::Ternary { args } => {
                 let [c, x, y] = args;
                 self.name(if self.name(*c).bits != 0 { *x } else { *y })
             }
-            Plan::Jump { .. } | Plan::Brif { .. } | Plan::MultiAry { .. } => NOTHING,
+            Plan::Load {
+                flags,
+                ty,
+                arg,
+                offset,
+            } => {
+                let access = self.access(*ty, *flags, *arg, *offset);
+                of_type(*ty, self.memory.load(&access)?)
+            }
+            _ => NOTHING,
         };
         Ok(value)
+    }
+
+    fn store(&mut self, flags: MemFlagsData, args: [Name; 2], offset: i32) -> Result<(), Fault> {
+        let [x, p] = args;
+        let Typed { ty, bits } = self.name(x);
+        let access = self.access(ty, flags, p, offset);
+        self.memory.store(&access, bits)
+    }
+
+    /// What an instruction does that neither branches nor ends a block; its results are answers from 1 on.
+    fn plain(&mut self, place: usize, plan: &Plan<'_>) -> Result<Did<'a>, AllocError> {
+        let done = match plan {
+            Plan::Store {
+                flags,
+                args,
+                offset,
+            } => self.store(*flags, *args, *offset),
+            Plan::CondTrap { opcode, arg, code } => {
+                if traps(*opcode, self.name(*arg).bits) {
+                    Err(Fault::Trapped(*code))
+                } else {
+                    Ok(())
+                }
+            }
+            _ => match self.computed(plan) {
+                Ok(value) => {
+                    self.give(Name { place, answer: 1 }, value)?;
+                    Ok(())
+                }
+                Err(fault) => Err(fault),
+            },
+        };
+        match done {
+            Ok(()) => Ok(Did::WentOn),
+            Err(fault) => Ok(Did::Faulted(fault)),
+        }
     }
 
     fn assign(&mut self, variable: usize, value: Typed) {
@@ -129,19 +222,16 @@ impl<'a> State<'a> {
         Ok(())
     }
 
-    /// What a call of the block does; its results are answers from 1 on.
+    /// What a call of the block does.
     fn step(&mut self, place: usize, call: &'a Call) -> Result<Did<'a>, AllocError> {
-        let result = Name { place, answer: 1 };
         match call {
             Call::UseVar { variable } => {
                 let held = self.variables.get(variable.index()).copied();
                 self.give(Name { place, answer: 0 }, held.unwrap_or(NOTHING))?;
             }
             Call::DefVar { variable, value } => self.assign(variable.index(), self.name(*value)),
-            Call::Plain(instruction) => match self.computed(&instruction.plan()) {
-                Ok(value) => self.give(result, value)?,
-                Err(code) => return Ok(Did::Trapped(code)),
-            },
+            Call::Plain(instruction) => return self.plain(place, &instruction.plan()),
+            Call::Trap { code } => return Ok(Did::Faulted(Fault::Trapped(*code))),
             Call::Jump { destination } => return Ok(Did::Left(destination)),
             Call::Brif {
                 condition,
@@ -177,7 +267,8 @@ fn is_of_block(call: &Call) -> bool {
         | Call::Plain(_)
         | Call::Jump { .. }
         | Call::Brif { .. }
-        | Call::Return { .. } => true,
+        | Call::Return { .. }
+        | Call::Trap { .. } => true,
         _ => false,
     }
 }
@@ -208,44 +299,58 @@ fn next_place(calls: &[Call], block: Name, from: usize) -> Option<usize> {
     None
 }
 
-/// Runs the calls of the entry, with these arguments, and of the blocks that control goes to.
+impl<'a> State<'a> {
+    /// Runs the calls of a block, and of the blocks that control goes to.
+    fn steps(&mut self, entry: Name) -> Result<End, AllocError> {
+        let mut block = entry;
+        let mut from = 0;
+        for _ in 0..STEPS {
+            let Some(place) = next_place(self.calls, block, from) else {
+                return Ok(End::Stuck);
+            };
+            from = place.saturating_add(1);
+            let Some(call) = self.calls.get(place) else {
+                return Ok(End::Stuck);
+            };
+            match self.step(place, call)? {
+                Did::WentOn => {}
+                Did::Left(edge) => {
+                    let bits = self.all_bits(edge.args.as_slice())?;
+                    self.enter(edge.block, bits.as_slice())?;
+                    block = edge.block;
+                    from = 0;
+                }
+                Did::Ended(bits) => return Ok(End::Returned(bits)),
+                Did::Faulted(fault) => return Ok(end_by(fault)),
+            }
+        }
+        Ok(End::Running)
+    }
+}
+
+/// Runs a script from its entry on, with these arguments and this memory.
 pub fn run(
     alloc: Global,
     calls: &[Call],
     signature: &Signature,
     args: &[u128],
-) -> Result<End, AllocError> {
-    let Some(mut block) = entry(calls) else {
-        return Ok(End::Stuck);
-    };
+    memory: Memory,
+) -> Result<Ending, AllocError> {
     let mut state = State {
         alloc,
         calls,
         signature,
         variables: variables(alloc, calls)?,
         names: Vec::new(alloc),
+        memory,
     };
-    state.enter(block, args)?;
-    let mut from = 0;
-    for _ in 0..STEPS {
-        let Some(place) = next_place(calls, block, from) else {
-            return Ok(End::Stuck);
-        };
-        from = place.saturating_add(1);
-        let Some(call) = calls.get(place) else {
-            return Ok(End::Stuck);
-        };
-        match state.step(place, call)? {
-            Did::WentOn => {}
-            Did::Left(edge) => {
-                let bits = state.all_bits(edge.args.as_slice())?;
-                state.enter(edge.block, bits.as_slice())?;
-                block = edge.block;
-                from = 0;
-            }
-            Did::Ended(bits) => return Ok(End::Returned(bits)),
-            Did::Trapped(code) => return Ok(End::Trapped(code)),
-        }
+    let mut end = End::Stuck;
+    if let Some(entry) = entry(calls) {
+        state.enter(entry, args)?;
+        end = state.steps(entry)?;
     }
-    Ok(End::Running)
+    Ok(Ending {
+        end,
+        memory: state.memory,
+    })
 }

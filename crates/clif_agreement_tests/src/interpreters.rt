@@ -1,14 +1,16 @@
 //! Two plain interpreters: one of scripts, written from the script machine, one of functions, written from the function
-//! machine. They share the arithmetic below and nothing else, and no contract names them.
+//! machine. They share memory and the arithmetic below and nothing else, and no contract names them.
 #![tactic(auto)]
 
 ghost use Rattle.std.specs.Prelude.{◌<◌, IfOk};
 
 pub mod function;
+pub mod memory;
 pub mod script;
 
-use clif_opcodes::{BinaryOpcode, ConvertOpcode, UnaryOpcode};
-use clif_types::{TrapCode, Type};
+use crate::interpreters::memory::{Fault, Memory};
+use clif_opcodes::{BinaryOpcode, CondTrapOpcode, ConvertOpcode, UnaryOpcode};
+use clif_types::{IntCC, TrapCode, Type};
 
 /// How a run ended.
 #[derive(PartialEq, Eq, Drop)]
@@ -23,11 +25,26 @@ pub enum End {
     Running,
 }
 
+/// How a run ended, and what is in memory then.
+#[derive(PartialEq, Eq, Drop)]
+pub struct Ending {
+    pub end: End,
+    pub memory: Memory,
+}
+
+/// The end of a run that an instruction without an outcome makes.
+pub fn end_by(fault: Fault) -> End {
+    match fault {
+        Fault::Trapped(code) => End::Trapped(code),
+        Fault::Stuck => End::Stuck,
+    }
+}
+
 /// How many steps a run has at most.
 pub const STEPS: u32 = 1000;
 
 /// The greatest value of a type's width.
-fn greatest(ty: Type) -> u128 {
+pub fn greatest(ty: Type) -> u128 {
     let width = ty.bits();
     if width >= 128 {
         u128::MAX
@@ -64,10 +81,12 @@ fn splat(ty: Type, x: u128) -> u128 {
     bits
 }
 
-/// A value of a type from the bits of one operand.
-pub fn convert(opcode: ConvertOpcode, ty: Type, x: u128) -> u128 {
+/// A value of a type from the bits of one operand, and the type of that.
+pub fn convert(opcode: ConvertOpcode, ty: Type, from: Type, x: u128) -> u128 {
     let bits = match opcode {
         ConvertOpcode::Uextend | ConvertOpcode::Ireduce => x,
+        ConvertOpcode::Sextend if is_negative(from, x) => x | !greatest(from),
+        ConvertOpcode::Sextend => x,
         ConvertOpcode::Splat => splat(ty, x),
     };
     bits & greatest(ty)
@@ -158,4 +177,35 @@ pub fn binary(opcode: BinaryOpcode, ty: Type, x: u128, y: u128) -> Result<u128, 
         BinaryOpcode::Srem => divided_signed(ty, x, y)?.1,
     };
     Ok(bits & greatest(ty))
+}
+
+/// The integer of two halves of a type.
+pub fn concat(ty: Type, low: u128, high: u128) -> u128 {
+    low | high.wrapping_shl(ty.bits())
+}
+
+/// Whether a condition holds of two numbers of a type. With their signs turned, signed numbers are in the order of
+/// unsigned ones.
+pub fn compares(cond: IntCC, ty: Type, x: u128, y: u128) -> bool {
+    let sign = greatest(ty) ^ (greatest(ty) >> 1);
+    match cond {
+        IntCC::Equal => x == y,
+        IntCC::NotEqual => x != y,
+        IntCC::SignedLessThan => x ^ sign < y ^ sign,
+        IntCC::SignedGreaterThanOrEqual => x ^ sign >= y ^ sign,
+        IntCC::SignedGreaterThan => x ^ sign > y ^ sign,
+        IntCC::SignedLessThanOrEqual => x ^ sign <= y ^ sign,
+        IntCC::UnsignedLessThan => x < y,
+        IntCC::UnsignedGreaterThanOrEqual => x >= y,
+        IntCC::UnsignedGreaterThan => x > y,
+        IntCC::UnsignedLessThanOrEqual => x <= y,
+    }
+}
+
+/// Whether a trap under a condition comes.
+pub fn traps(opcode: CondTrapOpcode, c: u128) -> bool {
+    match opcode {
+        CondTrapOpcode::Trapz => c == 0,
+        CondTrapOpcode::Trapnz => c != 0,
+    }
 }

@@ -1,0 +1,104 @@
+//! Runs of scripts and of the functions that are built of them.
+#![tactic(auto)]
+
+ghost use Rattle.std.specs.Prelude.{◌≡◌};
+ghost use Rattle.cranelift_frontend.specs.Context.{empty_context};
+
+use crate::interpreters::memory::{Memory, SIZE};
+use crate::interpreters::{End, Ending, function, script};
+use clif_ir::Function;
+use clif_script::replay;
+use clif_text::{Script, read};
+use cranelift_frontend::FunctionBuilderContext;
+use std::alloc::Global;
+use std::process::Abort;
+use std::test::Fail;
+
+/// Memory whose accessible bytes are all zero.
+pub const ZEROS: Memory = Memory {
+    start: 4096,
+    bytes: [0; SIZE],
+};
+
+/// A text that is a script.
+pub fn script_of(alloc: Global, text: &str) -> Result<Script, Fail> {
+    match read(alloc, text) {
+        Ok(script) => Ok(script),
+        Err(_) => Err("no script")?,
+    }
+}
+
+// The function that a script builds.
+fn built(alloc: Global, text: &Script, ctx: &mut FunctionBuilderContext) -> Result<Function, Fail>
+    requires { ctx.old ≡ empty_context }
+    ensures { ctx.new ≡ empty_context }
+{
+    let name = text.name.clone()?;
+    let signature = text.signature.clone()?;
+    let calls = text.calls.as_slice();
+    Ok(replay(alloc, calls, name, signature, ctx, text.config)?)
+}
+
+// A script and its function end so where they get these arguments and this memory.
+fn both_end(
+    rt: &impl Abort,
+    alloc: Global,
+    text: &Script,
+    func: &Function,
+    args: &[u128],
+    memory: Memory,
+    ending: &Ending,
+) -> Result<(), Fail> {
+    let calls = text.calls.as_slice();
+    assert!(rt; script::run(alloc, calls, &text.signature, args, memory)? == *ending);
+    assert!(rt; function::run(alloc, func, args, memory)? == *ending);
+    Ok(())
+}
+
+/// A script and its function return this number for each of these lists of arguments, and leave memory.
+pub fn answers(
+    rt: &impl Abort,
+    alloc: Global,
+    text: &Script,
+    rows: &[&[u128]],
+    number: u128,
+) -> Result<(), Fail> {
+    let mut ctx = FunctionBuilderContext::new(alloc);
+    let func = built(alloc, text, &mut ctx)?;
+    let ending = Ending {
+        end: End::Returned(vec![in alloc; number]?),
+        memory: ZEROS,
+    };
+    for args in rows {
+        both_end(rt, alloc, text, &func, args, ZEROS, &ending)?;
+    }
+    Ok(())
+}
+
+/// The same of a script's text.
+pub fn text_answers(
+    rt: &impl Abort,
+    alloc: Global,
+    text: &str,
+    rows: &[&[u128]],
+    number: u128,
+) -> Result<(), Fail> {
+    answers(rt, alloc, &script_of(alloc, text)?, rows, number)
+}
+
+/// A script's text and its function, which get these arguments and this memory, end so, with this in memory then.
+pub fn text_ends(
+    rt: &impl Abort,
+    alloc: Global,
+    text: &str,
+    args: &[u128],
+    before: Memory,
+    end: End,
+    after: Memory,
+) -> Result<(), Fail> {
+    let text = script_of(alloc, text)?;
+    let mut ctx = FunctionBuilderContext::new(alloc);
+    let func = built(alloc, &text, &mut ctx)?;
+    let ending = Ending { end, memory: after };
+    both_end(rt, alloc, &text, &func, args, before, &ending)
+}
