@@ -1,0 +1,2 @@
+pub mod MemoryExamples
+pub mod Locality
