@@ -1,0 +1,4 @@
+pub mod MemoryRows
+pub mod Local
+pub mod Widths
+pub mod Order

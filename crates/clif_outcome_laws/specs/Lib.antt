@@ -1,0 +1,4 @@
+pub mod MemoryExamples
+pub mod Locality
+pub mod Integers
+pub mod Orders

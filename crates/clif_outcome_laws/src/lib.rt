@@ -1,0 +1,33 @@
+//! Laws of what instructions mean: the table of outcomes against memory. The functions here have empty bodies, and their
+//! contracts are the laws of the definitions.
+#![tactic(auto)]
+
+ghost use Rattle.clif_outcome_laws.specs.Integers.{ConversionsKeepNumbers, HalvesAreParts};
+ghost use Rattle.clif_outcome_laws.specs.Locality.{OutcomesAreLocal};
+ghost use Rattle.clif_outcome_laws.specs.MemoryExamples.{MemoryExamples};
+ghost use Rattle.clif_outcome_laws.specs.Orders.{SignedOrderIsMathematical};
+
+/// Loads, stores and traps, worked out.
+pub fn memory_examples()
+    ensures { MemoryExamples }
+{}
+
+/// An instruction depends on the bytes that it may touch alone, and changes those alone.
+pub fn outcomes_are_local()
+    ensures { OutcomesAreLocal }
+{}
+
+/// `iconcat` puts its operands side by side, the first one low.
+pub fn halves_are_parts()
+    ensures { HalvesAreParts }
+{}
+
+/// `sextend` keeps the signed number, `uextend` the unsigned one, and `ireduce` takes the low bits.
+pub fn conversions_keep_numbers()
+    ensures { ConversionsKeepNumbers }
+{}
+
+/// The conditions of `icmp` are the orders of the signed and of the unsigned numbers.
+pub fn signed_order_is_mathematical()
+    ensures { SignedOrderIsMathematical }
+{}
