@@ -26,7 +26,7 @@ use Rattle.cranelift_frontend.specs.declared.error.FinalizeError.{FinalizeError}
 use Rattle.cranelift_frontend.specs.declared.error.FinalizeError.TheVariants as error
 use Rattle.cranelift_frontend.specs.declared.builder.FunctionBuilder.{FunctionBuilder}
 use Rattle.cranelift_frontend.specs.Context.{ContextState, status_of}
-pub use Rattle.cranelift_frontend.specs.Order.{AloneUnlessBegun, IsEnded, IsStructured}
+pub use Rattle.cranelift_frontend.specs.Order.{AloneUnlessBegun, AreTypesOf, IsBegun, IsEnded, IsStructured}
 use Rattle.cranelift_frontend.specs.Builder.{is_empty_status, is_filled_status}
 
 -- the ledger of answered calls

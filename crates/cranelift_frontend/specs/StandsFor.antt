@@ -5,6 +5,8 @@ use Rattle.clif_types.specs.Signature.{SignatureShape}
 use Rattle.clif_ir.specs.Body.{Body}
 use Rattle.clif_meaning.specs.Request.{AnsweredCall}
 use Rattle.clif_simulation.specs.Carries.{Carries}
+pub use Rattle.clif_simulation.specs.Carries.{NothingLeads}
+pub use Rattle.clif_simulation.specs.Structure.{LeavesNoParameter}
 use Rattle.clif_simulation.specs.Structure.{HasCallersAlone}
 use Rattle.cranelift_frontend.specs.declared.context.BlockStatus.TheVariants.{Empty}
 use Rattle.cranelift_frontend.specs.declared.builder.FunctionBuilder.{FunctionBuilder}
