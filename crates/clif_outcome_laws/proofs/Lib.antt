@@ -2,3 +2,4 @@ pub mod MemoryRows
 pub mod Local
 pub mod Widths
 pub mod Order
+pub mod Division

@@ -2,3 +2,4 @@ pub mod MemoryExamples
 pub mod Locality
 pub mod Integers
 pub mod Orders
+pub mod Divisions

@@ -2,6 +2,7 @@
 //! contracts are the laws of the definitions.
 #![tactic(auto)]
 
+ghost use Rattle.clif_outcome_laws.specs.Divisions.{SignedDivisionIsMathematical};
 ghost use Rattle.clif_outcome_laws.specs.Integers.{ConversionsKeepNumbers, HalvesAreParts};
 ghost use Rattle.clif_outcome_laws.specs.Locality.{OutcomesAreLocal};
 ghost use Rattle.clif_outcome_laws.specs.MemoryExamples.{MemoryExamples};
@@ -30,4 +31,9 @@ pub fn conversions_keep_numbers()
 /// The conditions of `icmp` are the orders of the signed and of the unsigned numbers.
 pub fn signed_order_is_mathematical()
     ensures { SignedOrderIsMathematical }
+{}
+
+/// Quotients and remainders are those of the signed and of the unsigned numbers, rounded toward zero.
+pub fn signed_division_is_mathematical()
+    ensures { SignedDivisionIsMathematical }
 {}

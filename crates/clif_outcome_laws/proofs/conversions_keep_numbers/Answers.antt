@@ -1,6 +1,6 @@
-use Rattle.std.proofs.Common.{refl, ◌∙◌}
+use Rattle.std.proofs.Common.{refl}
 use Rattle.std.proofs.Math.Nat.{mod-lt, mod-eq_of_lt}
-use Rattle.std.proofs.lemmas.Nat.{pow_pos, pow_below}
+use Rattle.std.proofs.lemmas.Nat.{pow_pos}
 use Rattle.clif_types.specs.Types.{bits_of}
 use Rattle.clif_outcome_laws.proofs.Widths
 use Rattle.clif_outcome_laws.proofs.conversions_keep_numbers.Goals as goal
