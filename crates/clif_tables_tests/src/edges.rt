@@ -1,0 +1,184 @@
+//! The edges of jump tables and exception tables, in the order in which they are printed.
+#![tactic(auto)]
+
+use clif_instructions::block_call::{BlockArg, BlockCall};
+use clif_tables::{
+    ExceptionItem, ExceptionTableData, ExceptionTableItem, ExceptionTargets, JumpTableData, Tables,
+};
+use clif_types::{Block, BuildError, EntityRef, ExceptionTable, JumpTable, SigRef, Value};
+use std::alloc::Global;
+use std::fmt::Write;
+use std::process::Abort;
+use std::test::Fail;
+
+fn block(rt: &impl Abort, number: u32) -> Block {
+    assert!(rt; number < 1000);
+    Block::from_u32(number)
+}
+
+fn value(rt: &impl Abort, number: u32) -> Value {
+    assert!(rt; number < 1000);
+    Value::from_u32(number)
+}
+
+// An edge to a block that passes nothing.
+fn plain(rt: &impl Abort, alloc: Global, number: u32) -> Result<BlockCall, BuildError> {
+    BlockCall::new(alloc, block(rt, number), &[])
+}
+
+// An edge to a block that passes this.
+fn passing(
+    rt: &impl Abort,
+    alloc: Global,
+    number: u32,
+    arg: BlockArg,
+) -> Result<BlockCall, BuildError> {
+    BlockCall::new(alloc, block(rt, number), &[arg])
+}
+
+// Puts the target of an edge and what it passes at the end of a text.
+fn push_edge(text: &mut String, edge: &BlockCall) -> Result<(), Fail> {
+    let block = edge.block;
+    write!(text, "{block}")?;
+    for arg in edge.args.as_slice() {
+        write!(text, " {arg}")?;
+    }
+    text.push(';')?;
+    Ok(())
+}
+
+// Asserts edges, each by its target and what it passes.
+fn are_edges(
+    rt: &impl Abort,
+    alloc: Global,
+    edges: &[BlockCall],
+    expected: &str,
+) -> Result<(), Fail> {
+    let mut text = String::new(alloc);
+    for edge in edges {
+        push_edge(&mut text, edge)?;
+    }
+    assert!(rt; text.as_str() == expected);
+    Ok(())
+}
+
+// A jump table with default block3(v1) and the entries block1, block3 and block2.
+fn jump_table(rt: &impl Abort, alloc: Global, tables: &mut Tables) -> Result<JumpTable, Fail> {
+    let mut entries = Vec::new(alloc);
+    entries.push(plain(rt, alloc, 1)?)?;
+    entries.push(plain(rt, alloc, 3)?)?;
+    entries.push(plain(rt, alloc, 2)?)?;
+    let default = passing(rt, alloc, 3, BlockArg::Value(value(rt, 1)))?;
+    Ok(tables.create_jump_table(JumpTableData::new(default, entries)?)?)
+}
+
+// Asserts the edges of a jump table, the default first.
+fn has_jump_edges(
+    rt: &impl Abort,
+    alloc: Global,
+    tables: &Tables,
+    expected: &str,
+) -> Result<(), Fail> {
+    let table = tables.jump_table(JumpTable::from_u32(0));
+    are_edges(
+        rt,
+        alloc,
+        table.expect(rt, "a table").all_branches(),
+        expected,
+    )
+}
+
+// Asserts the parts of the jump table above.
+fn has_jump_parts(rt: &impl Abort, alloc: Global, table: &JumpTableData) -> Result<(), Fail> {
+    assert!(rt; table.default_block().block == block(rt, 3));
+    are_edges(rt, alloc, table.as_slice(), "block1;block3;block2;")
+}
+
+// A value is passed by both edges to block3, which then go to block5 and pass what they passed.
+fn changes_jump_table(rt: &impl Abort, alloc: Global, tables: &mut Tables) -> Result<(), Fail> {
+    let number = jump_table(rt, alloc, tables)?;
+    has_jump_parts(rt, alloc, tables.jump_table(number).expect(rt, "a table"))?;
+    has_jump_edges(rt, alloc, tables, "block3 v1;block1;block3;block2;")?;
+    assert!(rt; number.index() < tables.jump_table_count());
+    tables.append_jump_table_argument(number, block(rt, 3), value(rt, 9))?;
+    has_jump_edges(rt, alloc, tables, "block3 v1 v9;block1;block3 v9;block2;")?;
+    assert!(rt; number.index() < tables.jump_table_count());
+    tables.change_jump_table_target(number, block(rt, 3), block(rt, 5));
+    has_jump_edges(rt, alloc, tables, "block5 v1 v9;block1;block5 v9;block2;")
+}
+
+#[test]
+fn jump_tables(rt: HostRuntime) -> Result<(), Fail> {
+    let mut tables = Tables::new(rt.alloc());
+    changes_jump_table(&rt, rt.alloc(), &mut tables)
+}
+
+// The table `sig0, block3(ret0), [ tag1: block2(exn0), default: block4, context v5 ]`.
+fn exception_table(
+    rt: &impl Abort,
+    alloc: Global,
+    tables: &mut Tables,
+) -> Result<ExceptionTable, Fail> {
+    let tagged = passing(rt, alloc, 2, BlockArg::TryCallExn(0))?;
+    let mut items = Vec::new(alloc);
+    items.push(ExceptionTableItem::Tag(1, tagged))?;
+    items.push(ExceptionTableItem::Default(plain(rt, alloc, 4)?))?;
+    items.push(ExceptionTableItem::Context(value(rt, 5)))?;
+    let normal = passing(rt, alloc, 3, BlockArg::TryCallRet(0))?;
+    let sig = SigRef::from_u32(0);
+    Ok(tables.create_exception_table(ExceptionTableData { sig, normal, items })?)
+}
+
+// Asserts the edges of an exception table, the normal one first.
+fn has_exception_edges(
+    rt: &impl Abort,
+    alloc: Global,
+    tables: &Tables,
+    expected: &str,
+) -> Result<(), Fail> {
+    let table = tables.exception_table(ExceptionTable::from_u32(0));
+    are_edges(
+        rt,
+        alloc,
+        table.expect(rt, "a table").all_branches(),
+        expected,
+    )
+}
+
+// Asserts the parts of the exception table above.
+fn has_exception_parts(rt: &impl Abort, table: &ExceptionTargets) {
+    assert!(rt; table.signature() == SigRef::from_u32(0));
+    assert!(rt; table.normal_return().block == block(rt, 3));
+    match table.items() {
+        [
+            ExceptionItem::Tag(tag),
+            ExceptionItem::Default,
+            ExceptionItem::Context(context),
+        ] => {
+            assert!(rt; *tag == 1 && *context == value(rt, 5));
+        }
+        _ => assert!(rt; false),
+    }
+}
+
+fn changes_exception_table(
+    rt: &impl Abort,
+    alloc: Global,
+    tables: &mut Tables,
+) -> Result<(), Fail> {
+    let number = exception_table(rt, alloc, tables)?;
+    has_exception_parts(rt, tables.exception_table(number).expect(rt, "a table"));
+    has_exception_edges(rt, alloc, tables, "block3 ret0;block2 exn0;block4;")?;
+    assert!(rt; number.index() < tables.exception_table_count());
+    tables.change_exception_table_target(number, block(rt, 2), block(rt, 4));
+    has_exception_edges(rt, alloc, tables, "block3 ret0;block4 exn0;block4;")?;
+    assert!(rt; number.index() < tables.exception_table_count());
+    tables.append_exception_table_argument(number, block(rt, 4), value(rt, 7))?;
+    has_exception_edges(rt, alloc, tables, "block3 ret0;block4 exn0 v7;block4 v7;")
+}
+
+#[test]
+fn exception_tables(rt: HostRuntime) -> Result<(), Fail> {
+    let mut tables = Tables::new(rt.alloc());
+    changes_exception_table(&rt, rt.alloc(), &mut tables)
+}

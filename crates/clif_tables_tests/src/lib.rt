@@ -1,0 +1,11 @@
+//! Tests of `clif_tables`: printed lines, as the printer's rules give them, and each public call on its plain path.
+#![tactic(auto)]
+
+#[cfg(test)]
+mod edges;
+#[cfg(test)]
+mod lines;
+#[cfg(test)]
+mod numbers;
+#[cfg(test)]
+mod steps;
