@@ -3,7 +3,7 @@ use Rattle.std.proofs.Common.{◌≡◌, ◌≢◌, ℕ, ◌<◌, ◌≤◌, fal
 use Rattle.std.specs.Prelude.{true, slice_index_or, slice_get, Some, Ok}
 use Rattle.std.proofs.lemmas.Option.{slice_get_within}
 use Rattle.clif_types.specs.declared.types.«Type».{«Type»}
-use Rattle.clif_instructions.specs.Instruction.{is_terminator}
+use Rattle.clif_instructions.specs.Instruction.{is_terminator, result_type_of}
 use Rattle.clif_instructions.specs.declared.instructions.InstructionData.{InstructionData}
 use Rattle.clif_ir.specs.Body.{value_at}
 use Rattle.clif_records.specs.Tables.{is_yes}
@@ -194,15 +194,16 @@ pub left_ended : {lent built back : FunctionBuilder} {shape : InstructionData} {
     → Builds lent built shape ty (Ok inst) → is_terminator shape ≡ true → back ≡ built → IsLeft back
 left_ended ends last came = subst IsLeft (sym came) (ends.left last)
 
--- a variable has the type of what was made at the type of its own value
+-- a variable has the type of what was made at the type of its own value, with a result of that type
 pub typed_alike : {read lent built back : FunctionBuilder} {shape : InstructionData} {variables : List «Type»} {made : ℕ} (variable value : ℕ)
     → slice_get variables variable ≡ Some (value_at read.func.now value).ty → read.ctx.now.variables ≡ variables → value < length read.func.now.values
     → Carries read lent → BuildsValue lent built shape (value_at lent.func.now value).ty (Ok made) → back ≡ built
+    → result_type_of shape (value_at lent.func.now value).ty ≡ (value_at lent.func.now value).ty
     → slice_get back.ctx.now.variables variable ≡ Some (value_at back.func.now made).ty
-typed_alike {read} {lent} {built} {back} {shape} {variables} {made} variable value typed unchanged here kept built_is came =
+typed_alike {read} {lent} {built} {back} {shape} {variables} {made} variable value typed unchanged here kept built_is came alike =
     subst (λ (b : FunctionBuilder). slice_get b.ctx.now.variables variable ≡ Some (value_at b.func.now made).ty) (sym came)
     (ap (λ (types : List «Type»). slice_get types variable) (built_is.variables ∙ kept.variables ∙ unchanged) ∙ typed
-    ∙ ap (λ (ty : «Type»). Some ty) (sym (built_is.typed ∙ kept.types value here)))
+    ∙ ap (λ (ty : «Type»). Some ty) (sym (built_is.typed ∙ alike ∙ kept.types value here)))
 
 -- a variable that has a type is declared
 pub declared : {now : List «Type»} (variables : List «Type») (variable : ℕ) (ty : «Type») → slice_get variables variable ≡ Some ty → now ≡ variables → variable < length now

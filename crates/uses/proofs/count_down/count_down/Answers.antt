@@ -143,7 +143,7 @@ def_var-requires-3-clause-same_type c =
     let count = c.in_ok-count.ensures in
     typed_alike c.in_ok-sum.sum c.in_ok-before.before before.typed before.variables before.exists
     (carries_kept (lent_on (called count.call count.grows count.seals count.variables) c.ins-4.ensures.builder))
-    c.in_ok-after.ensures.built (c.builder-26-1.given.1 (sym c.ins-4.ensures.same))
+    c.in_ok-after.ensures.built (c.builder-26-1.given.1 (sym c.ins-4.ensures.same)) refl
 
 pub def_var-requires-4-clause-same_type : goal.def_var-requires-4-clause-same_type
 def_var-requires-4-clause-same_type c =
@@ -153,7 +153,7 @@ def_var-requires-4-clause-same_type c =
     let one : Keeps c.def_var-3.new.self c.builder-29-1.given.0 = valued c.ins-5.ensures.builder c.in_ok-one.ensures.built (c.builder-29-1.given.1 (sym c.ins-5.ensures.same)) in
     typed_alike c.in_ok-n.n c.in_ok-count.count count.typed count.variables count.exists
     (carries_kept (lent_on (and_then after (and_then (assigned sum.call sum.grows sum.sealed sum.variables) one)) c.ins-6.ensures.builder))
-    c.in_ok-less.ensures.built (c.builder-31-1.given.1 (sym c.ins-6.ensures.same))
+    c.in_ok-less.ensures.built (c.builder-31-1.given.1 (sym c.ins-6.ensures.same)) refl
 
 body_kept : (c : After-ins-7) → Keeps c.switch_to_block-3.new.self c.ins-7.result.now
 body_kept c =

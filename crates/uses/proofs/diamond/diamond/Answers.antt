@@ -164,7 +164,7 @@ def_var-requires-clause-same_type c =
     let b = c.in_ok-b.ensures in
     let same_a : (value_at c.append_block_param-3.new.self.func.now c.in_ok-a.a).ty ≡ Lane I32 = b.call.types c.in_ok-a.a a.exists ∙ a.typed in
     typed_alike c.in_ok-x.x c.in_ok-a.a (typed then_arm ∙ ap (λ (ty : «Type»). Some ty) (sym same_a)) refl (omega (arith, a.exists, b.grows.0))
-    (to_then then_arm) c.in_ok-difference.ensures.built (c.builder-16-1.given.1 (sym c.ins-2.ensures.same))
+    (to_then then_arm) c.in_ok-difference.ensures.built (c.builder-16-1.given.1 (sym c.ins-2.ensures.same)) refl
 
 pub jump-requires-clause-leads : goal.jump-requires-clause-leads
 jump-requires-clause-leads c =
@@ -227,7 +227,7 @@ def_var-requires-2-clause-same_type c =
     let at = goal.at.def_var-requires-2-clause-same_type c in
     let b = c.in_ok-b.ensures in
     typed_alike c.in_ok-x.x c.in_ok-b.b (typed at.After-ins-2 ∙ ap (λ (ty : «Type»). Some ty) (sym b.typed)) refl b.exists
-    (carries_then (to_then at.After-ins-2) (to_else at.After-ins-4)) c.in_ok-opposite.ensures.built (c.builder-23-1.given.1 (sym c.ins-4.ensures.same))
+    (carries_then (to_then at.After-ins-2) (to_else at.After-ins-4)) c.in_ok-opposite.ensures.built (c.builder-23-1.given.1 (sym c.ins-4.ensures.same)) refl
 
 pub jump-requires-2-clause-leads : goal.jump-requires-2-clause-leads
 jump-requires-2-clause-leads c =
