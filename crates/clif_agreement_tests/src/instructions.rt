@@ -212,6 +212,39 @@ fn halves(rt: HostRuntime) -> Result<(), Fail> {
     text_answers(&rt, alloc, WIDE_HALVES, &[&[1, 1]], 0x1_0000_0000_0000_0001)
 }
 
+const SPLIT: &str = "\
+function %split (i16) -> i8, i8 system_v
+block0 = create_block
+x = append_block_params_for_function_params block0
+switch_to_block block0
+low, high = isplit x
+return low high
+seal_block block0
+";
+
+const WIDE_SPLIT: &str = "\
+function %split (i64, i64) -> i64, i64, i32, i32 system_v
+block0 = create_block
+a, b = append_block_params_for_function_params block0
+switch_to_block block0
+x = iconcat a b
+@both, low, high = isplit x
+first, second = isplit high
+return low high first second
+seal_block block0
+";
+
+/// The halves of a number, the low one first: 4660 has 52 and 18, and of 128 bits each half has 64.
+#[test]
+fn parts(rt: HostRuntime) -> Result<(), Fail> {
+    let alloc = rt.alloc();
+    let end = End::Returned(vec![in alloc; 52, 18]?);
+    text_ends(&rt, alloc, SPLIT, &[4660], ZEROS, end, ZEROS)?;
+    let args = [1, 0x0000_0002_0000_0003];
+    let end = End::Returned(vec![in alloc; 1, 0x0000_0002_0000_0003, 3, 2]?);
+    text_ends(&rt, alloc, WIDE_SPLIT, &args, ZEROS, end, ZEROS)
+}
+
 const SIGNED: &str = "\
 function %signed (i8) -> i128 system_v
 block0 = create_block

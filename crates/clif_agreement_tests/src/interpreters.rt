@@ -184,6 +184,13 @@ pub fn concat(ty: Type, low: u128, high: u128) -> u128 {
     low | high.wrapping_shl(ty.bits())
 }
 
+/// The low half and the high half of an integer of a type.
+pub fn split(ty: Type, x: u128) -> (u128, u128) {
+    let half = ty.bits() / 2;
+    let high = x.wrapping_shr(half);
+    (x ^ high.wrapping_shl(half), high)
+}
+
 /// Whether a condition holds of two numbers of a type. With their signs turned, signed numbers are in the order of
 /// unsigned ones.
 pub fn compares(cond: IntCC, ty: Type, x: u128, y: u128) -> bool {

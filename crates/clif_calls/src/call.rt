@@ -138,6 +138,10 @@ pub enum PlainInstruction {
         x: Name,
         y: Name,
     },
+    /// `isplit x`, which answers the low half and then the high half.
+    Isplit {
+        x: Name,
+    },
     /// `icmp cond x, y`.
     Icmp {
         cond: IntCC,

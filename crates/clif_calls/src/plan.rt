@@ -39,6 +39,10 @@ pub enum Plan<'a> {
     Concat {
         args: [Name; 2],
     },
+    /// An integer, which is split into its halves.
+    Split {
+        arg: Name,
+    },
     /// Two operands that are compared.
     IntCompare {
         cond: IntCC,
@@ -119,6 +123,7 @@ impl PlainInstruction {
             PlainInstruction::Sextend { ty, x } => typed(ConvertOpcode::Sextend, ty, x),
             PlainInstruction::Ireduce { ty, x } => typed(ConvertOpcode::Ireduce, ty, x),
             PlainInstruction::Iconcat { x, y } => Plan::Concat { args: [x, y] },
+            PlainInstruction::Isplit { x } => Plan::Split { arg: x },
             PlainInstruction::Icmp { cond, x, y } => Plan::IntCompare { cond, args: [x, y] },
             PlainInstruction::Select { c, x, y } => Plan::Ternary { args: [c, x, y] },
             PlainInstruction::Ineg { x } => one(UnaryOpcode::Ineg, x),

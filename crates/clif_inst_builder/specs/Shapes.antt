@@ -14,8 +14,8 @@ use Rattle.clif_opcodes.specs.declared.opcodes.FloatConstOpcode.{FloatConstOpcod
 use Rattle.clif_opcodes.specs.declared.opcodes.ConvertOpcode.{ConvertOpcode}
 use Rattle.clif_opcodes.specs.declared.opcodes.UnaryOpcode.{UnaryOpcode}
 use Rattle.clif_instructions.specs.declared.instructions.InstructionData.{InstructionData}
-use Rattle.clif_instructions.specs.declared.instructions.InstructionData.TheVariants.{UnaryImm, UnaryIeee, Unary, Binary, IntCompare, Concat, Convert, Ternary, Load, Store, Jump, Brif, MultiAry, Trap, CondTrap}
-use Rattle.clif_instructions.specs.Instruction.{destinations, is_branch, is_terminator, result_type_of, result_types}
+use Rattle.clif_instructions.specs.declared.instructions.InstructionData.TheVariants.{UnaryImm, UnaryIeee, Unary, Binary, IntCompare, Concat, Split, Convert, Ternary, Load, Store, Jump, Brif, MultiAry, Trap, CondTrap}
+use Rattle.clif_instructions.specs.Instruction.{destinations, is_branch, is_terminator, result_count, result_type_of, result_types}
 
 -- an edge to a block that passes these arguments
 abbrev pub edge_to : ℕ → List BlockArg → BlockCall
@@ -59,6 +59,9 @@ int_compare condition x y = IntCompare condition (x ∷ y ∷ [])
 abbrev pub concat : ℕ → ℕ → InstructionData
 concat low high = Concat (low ∷ high ∷ [])
 
+abbrev pub split : ℕ → InstructionData
+split x = Split x
+
 abbrev pub load : MemFlagsShape → ℕ → ℤ → InstructionData
 load flags address offset = Load flags address offset
 
@@ -76,6 +79,13 @@ pub record GivesValue (shape : InstructionData) : Type 0 where
   pub no_branch : is_branch shape ≡ false
   pub no_edges : destinations shape ≡ []
   pub one_result : (ty : «Type») → result_types shape ty ≡ result_type_of shape ty ∷ []
+  pub goes_on : is_terminator shape ≡ false
+
+-- an instruction of this shape has two results, goes nowhere and ends no block
+pub record GivesPair (shape : InstructionData) : Type 0 where
+  pub no_branch : is_branch shape ≡ false
+  pub no_edges : destinations shape ≡ []
+  pub two_results : result_count shape ≡ 2
   pub goes_on : is_terminator shape ≡ false
 
 -- this holds of any builders and any value between which the value was built

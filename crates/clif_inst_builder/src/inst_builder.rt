@@ -4,7 +4,7 @@ ghost use Rattle.clif_types.specs.Types.{is_int, is_type};
 ghost use Rattle.clif_instructions.specs.Instruction.{operands, destinations};
 ghost use Rattle.clif_opcodes.specs.Kinds.{is_met};
 ghost use Rattle.clif_opcodes.specs.declared.kinds.Demand.{Demand};
-ghost use Rattle.clif_inst_builder.specs.Shapes.{GivesValue, AfterValue, LikeIsValue, binary, brif_to, concat, cond_trap, convert, edge_to, int_compare, jump, load, multi_ary, store, ternary, trap, unary, unary_ieee, unary_imm};
+ghost use Rattle.clif_inst_builder.specs.Shapes.{GivesPair, GivesValue, AfterValue, LikeIsValue, binary, brif_to, concat, cond_trap, convert, edge_to, int_compare, jump, load, multi_ary, split, store, ternary, trap, unary, unary_ieee, unary_imm};
 
 use clif_instructions::block_call::{BlockArg, BlockCall};
 use clif_instructions::instructions::InstructionData;
@@ -42,6 +42,9 @@ pub trait InstBuilderBase {
     // what `build_like` makes of it
     ghost builds_like: { Self → Self → InstructionData → ℕ → Result ℕ BuildError → Type 0 };
 
+    // what `build_pair` makes of it
+    ghost builds_pair: { Self → Self → InstructionData → ℕ → Result (ℕ × ℕ) BuildError → Type 0 };
+
     /// The type of a value.
     fn value_type(&self, value: Value) -> Type
         requires exists { has_value self.now value }
@@ -74,6 +77,19 @@ pub trait InstBuilderBase {
         requires like_exists { has_value self.old like }
         ensures built { builds_like self.old self.new shape like result };
 
+    /// Appends an instruction that has two results and goes on behind it, with the type of `like` as the controlling
+    /// type, and returns the values of the results in order.
+    fn build_pair(
+        &mut self,
+        shape: InstructionData,
+        like: Value,
+    ) -> Result<(Value, Value), BuildError>
+        requires current { can_build self.old }
+        requires operands_exist { All (has_value self.old) (operands shape) }
+        requires pair { GivesPair shape }
+        requires like_exists { has_value self.old like }
+        ensures built { builds_pair self.old self.new shape like result };
+
     /// Fails, since memory was refused for what an instruction was to hold.
     fn refuse(&mut self) -> BuildError
         ensures refused { (shape : InstructionData) (ty : «Type») →
@@ -93,7 +109,8 @@ pub trait InstBuilderBase {
 /// The instructions, by name: `builder.ins().iadd(x, y)?`.
 ///
 /// Each is appended to the current block, which must not have its terminator; the values and blocks that it names
-/// exist. The method of an instruction with a result returns its value, and any other one the instruction's number.
+/// exist. The method of an instruction with a result returns its value, that of one with two results their values in
+/// order, and any other one the instruction's number.
 /// Operands aren't checked for their types here. The only errors are those of [`BuildError`]: memory was refused, a
 /// table is full, or the builder had failed before. After an error the builder has failed, and the function may
 /// still contain the instruction.
@@ -365,6 +382,17 @@ pub trait InstBuilder: InstBuilderBase {
     {
         let args = [lo, hi];
         self.build_like(InstructionData::Concat { args }, lo)
+    }
+
+    /// `isplit x`: the low half of an integer and its high half, each of half its width. `x` has one of the types I16 to
+    /// I128.
+    final fn isplit(&mut self, x: Value) -> Result<(Value, Value), BuildError>
+        requires current { Self.can_build self.old }
+        requires x_exists { Self.has_value self.old x }
+        requires halved { IsTrue (is_met Demand.AHalved (Self.type_of self.old x)) }
+        ensures built { Self.builds_pair self.old self.new (split x) x result }
+    {
+        self.build_pair(InstructionData::Split { arg: x }, x)
     }
 
     /// `load.ty flags p+offset`: the value of type `ty` that is in memory at the address `p` plus `offset`, which counts

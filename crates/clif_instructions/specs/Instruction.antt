@@ -1,6 +1,6 @@
 -- The table of instructions: operands, results, and which ones end a block.
 -- Source: own, after the crate's instruction set.
-use Rattle.std.specs.Prelude.{ℕ, Bool, true, false, List, [], ◌∷◌, map, is_some, slice_get, slice_index_or}
+use Rattle.std.specs.Prelude.{ℕ, Bool, true, false, List, [], ◌∷◌, length, map, is_some, slice_get, slice_index_or}
 use Rattle.clif_types.specs.declared.types.«Type».{«Type»}
 use Rattle.clif_types.specs.declared.types.«Type».TheVariants.{Invalid}
 use Rattle.clif_opcodes.specs.declared.opcodes.Opcode.{Opcode}
@@ -10,7 +10,7 @@ use Rattle.clif_opcodes.specs.Typing.{Row, row_of}
 use Rattle.clif_instructions.specs.declared.block_call.BlockCall.{BlockCall}
 use Rattle.clif_instructions.specs.Edges.{appended_to, with_argument_to}
 use Rattle.clif_instructions.specs.declared.instructions.InstructionData.{InstructionData}
-use Rattle.clif_instructions.specs.declared.instructions.InstructionData.TheVariants.{UnaryImm, UnaryIeee, Unary, Binary, IntCompare, Concat, Convert, Ternary, Load, Store, Jump, Brif, MultiAry, Trap, CondTrap}
+use Rattle.clif_instructions.specs.declared.instructions.InstructionData.TheVariants.{UnaryImm, UnaryIeee, Unary, Binary, IntCompare, Concat, Split, Convert, Ternary, Load, Store, Jump, Brif, MultiAry, Trap, CondTrap}
 
 -- the operands, as they are printed
 abbrev pub operands : InstructionData → List ℕ
@@ -20,6 +20,7 @@ operands (Unary opcode arg) = arg ∷ []
 operands (Binary opcode args) = args
 operands (IntCompare cond args) = args
 operands (Concat args) = args
+operands (Split arg) = arg ∷ []
 operands (Convert opcode arg) = arg ∷ []
 operands (Ternary args) = args
 operands (Load flags arg offset) = arg ∷ []
@@ -56,6 +57,7 @@ opcode_of (Unary name arg) = opcode.Unary name
 opcode_of (Binary name args) = opcode.Binary name
 opcode_of (IntCompare cond args) = opcode.Icmp
 opcode_of (Concat args) = opcode.Iconcat
+opcode_of (Split arg) = opcode.Isplit
 opcode_of (Convert name arg) = opcode.Convert name
 opcode_of (Ternary args) = opcode.Select
 opcode_of (Load flags arg offset) = opcode.Load
@@ -77,6 +79,10 @@ is_terminator shape = (typing_of shape).ends
 -- whether the instruction has a result
 abbrev pub has_result : InstructionData → Bool
 has_result shape = is_some (slice_get (typing_of shape).results 0)
+
+-- how many results it has
+abbrev pub result_count : InstructionData → ℕ
+result_count shape = length (typing_of shape).results
 
 -- the types of the results, in order
 abbrev pub result_types : InstructionData → «Type» → List «Type»

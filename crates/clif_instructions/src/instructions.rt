@@ -46,6 +46,10 @@ pub enum InstructionData {
     Concat {
         args: [Value; 2],
     },
+    /// `isplit x`: the low half of an integer and its high half, each of half its width.
+    Split {
+        arg: Value,
+    },
     /// `uextend.T x` and the like: the result has a type that is given.
     Convert {
         opcode: ConvertOpcode,
@@ -107,6 +111,7 @@ impl InstructionData {
             InstructionData::Binary { args, .. } => args,
             InstructionData::IntCompare { args, .. } => args,
             InstructionData::Concat { args } => args,
+            InstructionData::Split { arg } => slice::from_ref(arg),
             InstructionData::Convert { arg, .. } => slice::from_ref(arg),
             InstructionData::Ternary { args } => args,
             InstructionData::Load { arg, .. } => slice::from_ref(arg),
@@ -153,6 +158,7 @@ impl InstructionData {
             InstructionData::Binary { opcode, .. } => Opcode::Binary(*opcode),
             InstructionData::IntCompare { .. } => Opcode::Icmp,
             InstructionData::Concat { .. } => Opcode::Iconcat,
+            InstructionData::Split { .. } => Opcode::Isplit,
             InstructionData::Convert { opcode, .. } => Opcode::Convert(*opcode),
             InstructionData::Ternary { .. } => Opcode::Select,
             InstructionData::Load { .. } => Opcode::Load,
@@ -173,6 +179,7 @@ impl InstructionData {
             InstructionData::UnaryIeee { opcode, .. } => float_kinds(*opcode),
             InstructionData::IntCompare { .. } => &[ResultKind::Exactly(I8)],
             InstructionData::Concat { .. } => &[ResultKind::Double],
+            InstructionData::Split { .. } => &[ResultKind::Half, ResultKind::Half],
             InstructionData::UnaryImm { .. }
             | InstructionData::Unary { .. }
             | InstructionData::Binary { .. }

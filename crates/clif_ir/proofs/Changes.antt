@@ -1,14 +1,15 @@
 -- Laws of the words that say what a call makes of a function.
-use Rattle.std.proofs.Common.{◌≡◌, ℕ, zero, suc, ◌+◌, ◌<◌, List, [], ◌∷◌, ◌++◌, length, map, take, get_or, ap, arith, sym, ◌∙◌, append_assoc}
+use Rattle.std.proofs.Common.{◌≡◌, ℕ, zero, suc, ◌+◌, ◌-◌, ◌^◌, ◌<◌, ◌≤◌, ◌⊎◌, inl, inr, List, [], ◌∷◌, ◌++◌, length, map, take, get_or, ap, arith, sym, ◌∙◌, append_assoc}
 use Rattle.std.specs.List.{range_with_len}
 use Rattle.std.proofs.lemmas.List.{take_more, take-map, get_or-map}
 use Rattle.std.proofs.lemmas.Grind.{common_steps}
 use Rattle.clif_types.specs.declared.types.«Type».{«Type»}
 use Rattle.clif_opcodes.specs.declared.kinds.ResultKind.{ResultKind}
 use Rattle.clif_opcodes.specs.Kinds.{result_type}
+use Rattle.clif_ir.specs.Body.{Body}
 use Rattle.clif_ir.specs.declared.function.ValueOrigin.TheVariants.{Result}
 use Rattle.clif_ir.specs.declared.function.ValueNode.{ValueNode}
-use Rattle.clif_ir.specs.Changes.{result_nodes}
+use Rattle.clif_ir.specs.Changes.{HasNoRoom, result_nodes}
 
 pub range_with_len_more : (first count : ℕ) → range_with_len first (count + 1) ≡ range_with_len first count ++ (first + count) ∷ []
 range_with_len_more first zero = let same : first ≡ first + 0 = omega arith in ap (λ n. n ∷ []) same
@@ -17,6 +18,12 @@ range_with_len_more first (suc count) =
     let more : suc count + 1 ≡ suc (count + 1) = omega arith in
     ap (λ n. range_with_len first n) more
     ∙ ap (λ xs. first ∷ xs) (range_with_len_more (first + 1) count ∙ ap (λ n. range_with_len (first + 1) count ++ n ∷ []) same)
+
+-- with one result or none, there is no room exactly where a table holds 2^32 - 1 entries
+pub no_room_few : (f : Body) (count : ℕ) → length f.values < 2 ^ 32 → count ≤ 1 → HasNoRoom f count → (length f.insts ≡ 2 ^ 32 - 1) ⊎ (length f.values ≡ 2 ^ 32 - 1)
+no_room_few f count fits few (inl insts) = inl insts
+no_room_few f count fits few (inr (inl values)) = inr values
+no_room_few f count fits few (inr (inr past)) = inr (omega (arith, fits, few, past))
 
 -- the node of one result
 abbrev pub result_node : ℕ → ℕ → «Type» → ValueNode

@@ -43,4 +43,5 @@ with_block_consistent f known room =
       layout_once = known.layout_once;
       aliases_end = known.aliases_end;
       edges_without_results = known.edges_without_results;
+      signatures_exist = known.signatures_exist;
     }

@@ -86,6 +86,7 @@ with_branch_argument_consistent f i b v known exists inside =
       layout_exists = known.layout_exists;
       layout_once = known.layout_once;
       aliases_end = known.aliases_end;
+      signatures_exist = known.signatures_exist;
       edges_without_results = λ j.
           at_set (λ (m : InstNode). destinations m.shape ≢ [] → m.results ≡ []) f.insts i node j no_inst exists
           (λ _ branch. known.edges_without_results i (λ none. branch (destinations-with_argument b v shape ∙ ap (with_argument_to b v) none)))

@@ -50,6 +50,7 @@ with_cold_consistent f b known exists =
       layout_once = known.layout_once;
       aliases_end = known.aliases_end;
       edges_without_results = known.edges_without_results;
+      signatures_exist = known.signatures_exist;
     }
 
 pub with_cold_placed : (f : Body) (b : ℕ) (slots : List ℕ) (places : List BlockPlace) → b < length f.blocks → IsPlaced f slots places → IsPlaced (with_cold f b) slots places

@@ -1,5 +1,5 @@
 -- A new instruction keeps a function consistent.
-use Rattle.std.proofs.Common.{◌≡◌, ℕ, zero, suc, ◌+◌, ◌-◌, ◌^◌, ◌<◌, ◌≤◌, List, [], ◌∷◌, ◌++◌, length, get_or, refl, ap, arith, sym, ◌∙◌, subst}
+use Rattle.std.proofs.Common.{◌≡◌, ℕ, zero, suc, ◌+◌, ◌-◌, ◌^◌, ◌<◌, List, [], ◌∷◌, ◌++◌, length, get_or, refl, ap, arith, sym, ◌∙◌, subst}
 use Rattle.std.specs.Prelude.{slice_index, EachIndex, None, All, ◌≢◌}
 use Rattle.std.specs.List.{range_with_len}
 use Rattle.std.proofs.Math.ListN.{get_or-append}
@@ -13,9 +13,8 @@ use Rattle.clif_ir.specs.declared.function.ValueNode.{ValueNode}
 use Rattle.clif_ir.specs.declared.function.ValueOrigin.TheVariants.{Result, Param}
 use Rattle.clif_instructions.specs.declared.inst_list.InsertAt.{InsertAt}
 use Rattle.clif_instructions.specs.declared.instructions.InstructionData.{InstructionData}
-use Rattle.clif_instructions.specs.declared.instructions.InstructionData.TheVariants.{UnaryIeee, Jump, Brif}
-use Rattle.clif_opcodes.specs.declared.opcodes.FloatConstOpcode.TheVariants.{F16const, F32const, F64const}
-use Rattle.clif_instructions.specs.Instruction.{operands, destinations, result_types}
+use Rattle.clif_instructions.specs.declared.instructions.InstructionData.TheVariants.{Jump, Brif}
+use Rattle.clif_instructions.specs.Instruction.{operands, destinations, result_count, result_types}
 use Rattle.clif_ir.specs.Body.{Body, value_at, inst_at, block_at, empty_block, no_value, no_inst, alias_of_origin, resolved}
 use Rattle.clif_instructions.specs.Members.{IsPlaceOf, put_at, Stands, Once}
 use Rattle.clif_ir.specs.Changes.{with_inst, inst_node, result_nodes}
@@ -25,12 +24,9 @@ use Rattle.clif_ir.proofs.Keeps.{larger_edges, leads_inside, larger_origin}
 use Rattle.clif_ir.proofs.Inserting.{put_at-each, put_at-Stands, put_at-stands, put_at-Once}
 use Rattle.clif_ir.proofs.Aliases.{ways_end-append, follow_end}
 
--- no instruction has more than one result so far
-pub length-result_types-le : (shape : InstructionData) (ty : «Type») → length (result_types shape ty) ≤ 1
-length-result_types-le (UnaryIeee F16const bits) ty = omega arith
-length-result_types-le (UnaryIeee F32const bits) ty = omega arith
-length-result_types-le (UnaryIeee F64const bits) ty = omega arith
-length-result_types-le _ ty = omega arith
+-- an instruction has as many results as its row of the typing table says
+pub length-result_types : (shape : InstructionData) (ty : «Type») → length (result_types shape ty) ≡ result_count shape
+length-result_types shape ty = grind (arith, common_steps)
 
 -- an instruction with edges has no results
 pub branch-result_types : (shape : InstructionData) (ty : «Type») → destinations shape ≢ [] → result_types shape ty ≡ []
@@ -153,6 +149,7 @@ with_inst_consistent f b at shape types loc known exists fits operands_exist edg
       layout_once = known.layout_once;
       aliases_end = ways_end-append f.values nodes (leads_inside f known) (alias_count-result_nodes i0 0 types)
           (λ v behind. ap (λ (m : ValueNode). alias_of_origin m.origin) (get_or-append_right f.values nodes v no_value behind) ∙ alias_of-result_nodes i0 0 types (v - n)) known.aliases_end;
+      signatures_exist = known.signatures_exist;
       edges_without_results = λ i.
           at_push (λ m. destinations m.shape ≢ [] → m.results ≡ []) f.insts node i no_inst
           (λ _. known.edges_without_results i)

@@ -4,6 +4,7 @@ use Rattle.clif_types.specs.declared.types.«Type».TheVariants.{Invalid}
 use Rattle.clif_types.specs.Signature.{SignatureShape}
 use Rattle.clif_types.specs.declared.extname.UserFuncName.{UserFuncName}
 use Rattle.clif_instructions.specs.declared.instructions.InstructionData.TheVariants.{MultiAry}
+use Rattle.clif_tables.specs.Lists.{TableLists, no_entries}
 use Rattle.clif_ir.specs.declared.function.ValueOrigin.{ValueOrigin}
 use Rattle.clif_ir.specs.declared.function.ValueOrigin.TheVariants.{Result, Param, Alias}
 use Rattle.clif_ir.specs.declared.function.ValueNode.{ValueNode}
@@ -21,11 +22,13 @@ pub record Body : Type 0 where
   pub blocks : List BlockNode
   -- the blocks of the layout, in order
   pub layout : List ℕ
+  -- stack slots, signatures, functions, constants and so on
+  pub tables : TableLists
 
 -- the function that has nothing but a name and a signature
 abbrev pub empty_body : UserFuncName → SignatureShape → Body
 empty_body name signature =
-    record { name = name; signature = signature; values = []; insts = []; blocks = []; layout = [] }
+    record { name = name; signature = signature; values = []; insts = []; blocks = []; layout = []; tables = no_entries }
 
 -- a block as it is made
 abbrev pub empty_block : BlockNode

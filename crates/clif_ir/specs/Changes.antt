@@ -1,8 +1,9 @@
 -- What each call that changes a function makes of it. Source: own.
-use Rattle.std.specs.Prelude.{ℕ, List, [], ◌∷◌, ◌++◌, ◌+◌, ◌==◌, length, slice_set, if◌then◌else◌, true}
+use Rattle.std.specs.Prelude.{◌≡◌, ◌-◌, ◌^◌, ◌<◌, ◌⊎◌, ℕ, List, [], ◌∷◌, ◌++◌, ◌+◌, ◌==◌, length, slice_set, if◌then◌else◌, true}
 use Rattle.std.specs.List.{range_with_len}
 use Rattle.clif_types.specs.declared.types.«Type».{«Type»}
 use Rattle.clif_instructions.specs.declared.instructions.InstructionData.{InstructionData}
+use Rattle.clif_tables.specs.Lists.{TableLists}
 use Rattle.clif_ir.specs.declared.function.ValueOrigin.{ValueOrigin}
 use Rattle.clif_ir.specs.declared.function.ValueOrigin.TheVariants.{Result, Param, Alias}
 use Rattle.clif_ir.specs.declared.function.ValueNode.{ValueNode}
@@ -50,6 +51,11 @@ abbrev pub result_nodes : ℕ → ℕ → List «Type» → List ValueNode
 result_nodes i k [] = []
 result_nodes i k (ty ∷ types) = record { ty = ty; origin = Result i k } ∷ result_nodes i (k + 1) types
 
+-- There is no room for an instruction with so many results: the table of instructions holds 2^32 - 1 entries, or that of
+-- values does, or it has fewer numbers left than there are results.
+abbrev pub HasNoRoom : Body → ℕ → Type 0
+HasNoRoom f count = (length f.insts ≡ 2 ^ 32 - 1) ⊎ ((length f.values ≡ 2 ^ 32 - 1) ⊎ (2 ^ 32 - 1 < length f.values + count))
+
 -- the node of a new instruction whose results have these types
 abbrev pub inst_node : Body → ℕ → InstructionData → List «Type» → ℕ → InstNode
 inst_node f b shape types loc =
@@ -83,3 +89,7 @@ with_alias f v original =
       values = slice_set f.values v (record (value_at f v) { origin = Alias (resolved f original) });
       blocks = slice_set f.blocks b (record (block_at f b) { params = without v (block_at f b).params });
     }
+
+-- with these tables
+abbrev pub with_tables : Body → TableLists → Body
+with_tables f tables = record f { tables = tables }

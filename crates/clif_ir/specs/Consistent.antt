@@ -1,6 +1,7 @@
 -- What every function keeps.
 -- Source: own, after the crate's documentation of its data flow graph and its layout.
 use Rattle.std.specs.Prelude.{◌≡◌, ◌≢◌, ℕ, ◌<◌, ◌^◌, List, [], length, slice_index, None, is_some, count_by, All}
+use Rattle.clif_tables.specs.Entries.{SignaturesExist}
 use Rattle.clif_ir.specs.declared.function.ValueOrigin.{ValueOrigin}
 use Rattle.clif_ir.specs.declared.function.ValueOrigin.TheVariants.{Result, Param, Alias}
 use Rattle.clif_ir.specs.declared.function.ValueNode.{ValueNode}
@@ -61,5 +62,7 @@ pub record IsConsistent (f : Body) : Type 0 where
   pub layout_once : Once f.layout
   -- along aliases one reaches a value that is none, in no more steps than there are aliases
   pub aliases_end : (v : ℕ) → v < length f.values → alias_of f.values (follow (alias_count f.values) f.values v) ≡ None
+  -- what tables name exists
+  pub signatures_exist : SignaturesExist f.tables
   -- an instruction with edges has no results
   pub edges_without_results : (i : ℕ) → destinations (inst_at f i).shape ≢ [] → (inst_at f i).results ≡ []

@@ -1,5 +1,6 @@
 pub mod Body
 pub mod Changes
+pub mod Entries
 pub mod Consistent
 pub mod Whole
 pub mod Reading

@@ -29,6 +29,7 @@ body_of f =
       insts = f.insts.items;
       blocks = f.blocks.items;
       layout = chain (length f.block_places.items) f.block_places.items f.first_block;
+      tables = f.tables;
     }
 
 -- the places as block `b` is put behind block `after`

@@ -2,15 +2,15 @@
 //!
 //! Each call first makes room and then changes, so that after an error the function is as it was. The
 //! errors are `Memory`, where memory was refused, and `Full`, which comes exactly where a table that
-//! the call grows holds 2^32 - 1 entries already.
+//! the call grows holds 2^32 - 1 entries already, or has fewer numbers left than the call gives.
 ghost use Rattle.std.specs.Prelude.{◌≡◌, ◌≢◌, [], ◌∷◌, ◌++◌, length, ◌+◌, ◌-◌, ◌^◌, ◌≤◌, ◌<◌, ◌⊎◌, ℕ, true, slice_index, slice_index_or, slice_set, map, EachIndex, vec_len, vec_capacity, All, IfOk, OnOk, OnErr};
 ghost use Rattle.clif_opcodes.specs.Kinds.{result_type};
 ghost use Rattle.clif_ir.specs.Body.{Body, value_at, block_at, empty_block, resolved};
 ghost use Rattle.clif_instructions.specs.Members.{Stands, IsPlaceOf, put_at};
 ghost use Rattle.clif_ir.specs.Consistent.{EdgeExists};
-ghost use Rattle.clif_instructions.specs.Instruction.{operands, destinations, has_result, result_types};
+ghost use Rattle.clif_instructions.specs.Instruction.{operands, destinations, has_result, result_count, result_types};
 ghost use Rattle.clif_ir.specs.Whole.{lowered, moved_count, next_slot, placed_at};
-ghost use Rattle.clif_ir.specs.Changes.{with_block, with_param, with_inst, with_branch_argument, with_alias, home_of, result_nodes};
+ghost use Rattle.clif_ir.specs.Changes.{HasNoRoom, with_block, with_param, with_inst, with_branch_argument, with_alias, home_of, result_nodes};
 ghost use Rattle.std.specs.List.{range_with_len};
 
 use crate::function::{BlockNode, BlockPlace, Function, InstNode, ValueNode, ValueOrigin};
@@ -64,6 +64,18 @@ fn numbered_results(alloc: Global, first: usize, count: usize) -> Result<ValueLi
     Ok(results)
 }
 
+// The number of the first of so many values that come next, for which there are numbers left.
+fn next_numbers(len: usize, count: usize) -> Result<usize, BuildError>
+    ensures ok { IfOk result (λ n. (n ≡ len) × (len < 2 ^ 32 - 1) × (len + count < 2 ^ 32)) }
+    ensures full { OnErr result ((result ≡ Err BuildError.Full) × ((TABLE_LIMIT ≤ len) ⊎ (TABLE_LIMIT < len + count))) }
+{
+    let first = next_number(len)? as usize;
+    if TABLE_LIMIT - first < count {
+        return Err(BuildError::Full);
+    }
+    Ok(first)
+}
+
 // Makes room in the tables for an instruction with so many results, and makes the list of these.
 fn room_for_inst(
     alloc: Global,
@@ -72,9 +84,8 @@ fn room_for_inst(
     slots: &mut Vec<u64>,
     count: usize,
 ) -> Result<ValueList, BuildError>
-    requires { count ≤ 1 }
     ensures ok { IfOk result (λ l. l ≡ range_with_len (length values.old.items) count) }
-    ensures few_values { OnOk result (length values.old.items < 2 ^ 32 - 1) }
+    ensures few_values { OnOk result (length values.old.items + count < 2 ^ 32) }
     ensures few_insts { OnOk result (length insts.old.items < 2 ^ 32 - 1) }
     ensures room_for_values { OnOk result (vec_len values.new + count ≤ vec_capacity values.new) }
     ensures room_for_inst { OnOk result (vec_len insts.new < vec_capacity insts.new) }
@@ -82,17 +93,20 @@ fn room_for_inst(
     ensures same_values { values.new.items ≡ values.old.items }
     ensures same_insts { insts.new.items ≡ insts.old.items }
     ensures same_slots { slots.new.items ≡ slots.old.items }
-    ensures full { result ≡ Err BuildError.Full → (TABLE_LIMIT ≤ length insts.old.items) ⊎ (TABLE_LIMIT ≤ length values.old.items) }
+    ensures full { result ≡ Err BuildError.Full →
+        (TABLE_LIMIT ≤ length insts.old.items)
+        ⊎ ((TABLE_LIMIT ≤ length values.old.items) ⊎ (TABLE_LIMIT < length values.old.items + count)) }
     ensures insts_at_limit { TABLE_LIMIT ≤ length insts.old.items → result ≡ Err BuildError.Full }
     ensures values_at_limit { TABLE_LIMIT ≤ length values.old.items → result ≡ Err BuildError.Full }
+    ensures results_past_limit { TABLE_LIMIT < length values.old.items + count → result ≡ Err BuildError.Full }
     ensures never_failed { result ≢ Err BuildError.Failed }
 {
     next_number(insts.len())?;
-    let first = next_number(values.len())?;
+    let first = next_numbers(values.len(), count)?;
     values.reserve(count)?;
     insts.reserve(1)?;
     slots.reserve(1)?;
-    numbered_results(alloc, first as usize, count)
+    numbered_results(alloc, first, count)
 }
 
 // Puts the results of `inst` into the table of values, which has room for them.
@@ -238,7 +252,7 @@ impl Function {
     /// It gets the next number of an instruction, and its results get the next numbers of values;
     /// `ctrl_type` is its controlling type, and `Type::Invalid` where it has no results. `Full` comes
     /// where there are 2^32 - 1 instructions or 2^32 - 1 values, and so for an instruction without
-    /// results too.
+    /// results too, or where fewer numbers of values are left than there are results.
     pub fn insert_inst(
         &mut self,
         block: Block,
@@ -255,9 +269,8 @@ impl Function {
             with_inst self.old block at shape (result_types shape ctrl_type) srcloc) }
         ensures number { IfOk result (λ i. i ≡ length self.old.insts) }
         ensures unaliased { OnOk result (has_result shape ≡ true → resolved self.new (length self.old.values) ≡ length self.old.values) }
-        ensures full { result ≡ Err BuildError.Full → (length self.old.insts ≡ 2 ^ 32 - 1) ⊎ (length self.old.values ≡ 2 ^ 32 - 1) }
-        ensures insts_at_limit { length self.old.insts ≡ 2 ^ 32 - 1 → result ≡ Err BuildError.Full }
-        ensures values_at_limit { length self.old.values ≡ 2 ^ 32 - 1 → result ≡ Err BuildError.Full }
+        ensures full { result ≡ Err BuildError.Full → HasNoRoom self.old (result_count shape) }
+        ensures at_limit { HasNoRoom self.old (result_count shape) → result ≡ Err BuildError.Full }
         ensures never_failed { result ≢ Err BuildError.Failed }
         ensures err { OnErr result (self.new ≡ self.old) }
     {

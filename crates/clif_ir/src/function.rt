@@ -8,6 +8,7 @@ ghost use Rattle.clif_ir.specs.Reading.{def_of, DefExists, param_home};
 use clif_instructions::inst_list::InstList;
 use clif_instructions::instructions::InstructionData;
 use clif_instructions::value_list::ValueList;
+use clif_tables::Tables;
 use clif_types::{Block, EntityRef, Inst, Signature, SourceLoc, Type, UserFuncName, Value};
 use std::alloc::Global;
 use std::collections::BTreeSet;
@@ -93,6 +94,7 @@ pub struct Function {
     pub(crate) inst_slots: Vec<u64>,
     pub(crate) block_places: Vec<BlockPlace>,
     pub(crate) aliases: BTreeSet<(Value, Value)>,
+    pub(crate) tables: Tables,
 }
 
 impl Model for Function {
@@ -124,6 +126,7 @@ impl Function {
             inst_slots: Vec::new(alloc),
             block_places: Vec::new(alloc),
             aliases: BTreeSet::new(alloc),
+            tables: Tables::new(alloc),
         }
     }
 

@@ -9,6 +9,7 @@
 #![tactic(auto)]
 
 pub mod dfg;
+pub mod entities;
 pub mod function;
 pub mod layout;
 pub mod successors;

@@ -18,6 +18,7 @@ use clif_instructions::instructions::InstructionData;
 use clif_opcodes::{Control, FloatConstOpcode};
 use clif_types::{Block, EntityRef, Inst, Type, Value};
 use std::fmt;
+use std::fmt::Display;
 
 /// A function that prints as its text.
 #[derive(Clone, Copy)]
@@ -42,6 +43,7 @@ fn write_function<W: fmt::Write>(f: &mut fmt::Formatter<W>, func: &Function) -> 
     let name = &func.name;
     let signature = &func.signature;
     write!(f, "function {name}{signature} {{\n")?;
+    func.tables.fmt(f)?;
     let mut next = func.entry_block();
     for place in 0..func.blocks.len() {
         let Some(block) = next else {

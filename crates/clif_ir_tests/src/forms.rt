@@ -2,7 +2,7 @@
 #![tactic(auto)]
 
 use crate::facts::Fact::{HasType, ResultAt};
-use crate::instructions::Plain::{Concat, CondTrap, Float, Icmp, Load, Store, Trap};
+use crate::instructions::Plain::{Concat, CondTrap, Float, Icmp, Load, Split, Store, Trap};
 use crate::steps::Step::{
     Binary, Convert, Create, Iconst, Is, Jump, LayOut, Param, Put, Return, ReturnFour,
 };
@@ -106,6 +106,31 @@ fn halves(rt: HostRuntime) -> Result<(), Fail> {
     ];
     let text =
         "function %sample() system_v {\nblock0:\n    v0 = iconst.i64 0x8000_0000_0000_0001\n    v1 = iconst.i64 0\n    v2 = iconcat v0, v1  ; v0 = 0x8000_0000_0000_0001, v1 = 0\n    jump block1\n\nblock1(v8: i8):\n    v3 = isub.i128 v2, v2\n    v4 = iconst.i64 0xffff_ffff\n    v5 = sextend.i128 v4  ; v4 = 0xffff_ffff\n    v6 = icmp ugt v3, v5\n    v7 = iconcat.i64 v0, v4  ; v0 = 0x8000_0000_0000_0001, v4 = 0xffff_ffff\n    v9 = iconcat v8, v8\n    return\n}\n";
+    makes(&rt, rt.alloc(), &steps, text)
+}
+
+// Both results before the name; the type is printed where the operand is defined in another block.
+#[test]
+fn parts(rt: HostRuntime) -> Result<(), Fail> {
+    let steps = [
+        Create,
+        Create,
+        LayOut(0),
+        LayOut(1),
+        Param(0, I128),
+        Put(0, I128, Split(0)),
+        Put(0, I64, Split(2)),
+        Jump(0, 1),
+        Put(1, I128, Split(0)),
+        Return(1),
+        Is(HasType(1, I64)),
+        Is(HasType(2, I64)),
+        Is(HasType(3, I32)),
+        Is(HasType(4, I32)),
+        Is(HasType(6, I64)),
+    ];
+    let text =
+        "function %sample() system_v {\nblock0(v0: i128):\n    v1, v2 = isplit v0\n    v3, v4 = isplit v2\n    jump block1\n\nblock1:\n    v5, v6 = isplit.i128 v0\n    return\n}\n";
     makes(&rt, rt.alloc(), &steps, text)
 }
 

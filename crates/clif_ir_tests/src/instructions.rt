@@ -16,6 +16,8 @@ pub enum Plain {
     Icmp(IntCC, u32, u32),
     /// The low half and the high half of an integer.
     Concat(u32, u32),
+    /// An integer whose halves are the results.
+    Split(u32),
     /// A load from an address and a distance from it.
     Load(MemFlagsData, u32, i32),
     /// A store of a value, to an address and a distance from it.
@@ -37,6 +39,7 @@ pub fn shape_of(rt: &impl Abort, plain: Plain) -> InstructionData {
         Plain::Concat(x, y) => InstructionData::Concat {
             args: [v(rt, x), v(rt, y)],
         },
+        Plain::Split(x) => InstructionData::Split { arg: v(rt, x) },
         Plain::Load(flags, p, offset) => InstructionData::Load {
             flags,
             arg: v(rt, p),

@@ -1,7 +1,7 @@
 //! Lists of values and of instructions.
 #![tactic(auto)]
 
-use crate::instructions::Plain::{Concat, CondTrap, Float, Icmp, Load, Store, Trap};
+use crate::instructions::Plain::{Concat, CondTrap, Float, Icmp, Load, Split, Store, Trap};
 use crate::instructions::{Plain, shape_of};
 use crate::support::{i, is_place_of, v};
 use clif_instructions::inst_list::{InsertAt, InstList};
@@ -9,7 +9,7 @@ use clif_instructions::instructions::InstructionData;
 use clif_instructions::value_list::ValueList;
 use clif_opcodes::CondTrapOpcode::{Trapnz, Trapz};
 use clif_opcodes::FloatConstOpcode::{F16const, F32const, F64const};
-use clif_opcodes::ResultKind::{Controlling, Double, Exactly};
+use clif_opcodes::ResultKind::{Controlling, Double, Exactly, Half};
 use clif_opcodes::{BinaryOpcode, ResultKind};
 use clif_types::types::{F16, F32, F64, I8};
 use clif_types::{EntityRef, IntCC, MemFlagsData, TrapCode, Value};
@@ -127,7 +127,7 @@ type Row = (
 fn plain_shapes(rt: HostRuntime) -> Result<(), Fail> {
     let flags = MemFlagsData::new();
     let code = TrapCode::User(1);
-    let rows: [Row; 10] = [
+    let rows: [Row; 11] = [
         (Float(F16const, 1), "f16const", &[], &[Exactly(F16)], false),
         (Float(F32const, 1), "f32const", &[], &[Exactly(F32)], false),
         (Float(F64const, 1), "f64const", &[], &[Exactly(F64)], false),
@@ -139,6 +139,7 @@ fn plain_shapes(rt: HostRuntime) -> Result<(), Fail> {
             false,
         ),
         (Concat(1, 2), "iconcat", &[1, 2], &[Double], false),
+        (Split(1), "isplit", &[1], &[Half, Half], false),
         (Load(flags, 1, 4), "load", &[1], &[Controlling], false),
         (Store(flags, 1, 2, 4), "store", &[1, 2], &[], false),
         (Trap(code), "trap", &[], &[], true),

@@ -1,5 +1,5 @@
 -- Outcomes fit the typing table.
-use Rattle.std.proofs.Common.{◌≡◌, ◌^◌, ◌*◌, ◌+◌, ◌%◌, ◌<◌, ℕ, zero, suc, List, [], ◌∷◌, ◌++◌, arith, subst, refl, sym, ◌∙◌, ap}
+use Rattle.std.proofs.Common.{◌≡◌, ◌^◌, ◌*◌, ◌+◌, ◌/◌, ◌%◌, ◌<◌, ℕ, zero, suc, List, [], ◌∷◌, ◌++◌, arith, subst, refl, sym, ◌∙◌, ap}
 use Rattle.std.specs.Prelude.{ℤ, pos, negsuc, Option, Some, None, Bool, true, false, ◌==◌, ◌&&◌, not, IsTrue, if◌then◌else◌}
 use Rattle.std.specs.List.{AllByRecursion}
 use Rattle.std.proofs.Math.Nat.{mod-lt}
@@ -11,11 +11,11 @@ use Rattle.clif_types.specs.declared.trapcode.TrapCode.TheVariants.{HeapOutOfBou
 use Rattle.clif_types.specs.MemFlags.{MemFlagsShape}
 use Rattle.clif_opcodes.specs.declared.opcodes.FloatConstOpcode.TheVariants.{F16const, F32const, F64const}
 use Rattle.clif_opcodes.specs.declared.kinds.OperandKind.{OperandKind}
-use Rattle.clif_opcodes.specs.Kinds.{IsOfKind, double_of}
+use Rattle.clif_opcodes.specs.Kinds.{IsOfKind, double_of, half_of}
 use Rattle.clif_opcodes.specs.declared.kinds.OperandKind.TheVariants as kind
 use Rattle.clif_opcodes.specs.Typing.{AreOfKinds, binary_second, convert_operand}
 use Rattle.clif_meaning.specs.Bits.{Bits, HasWidth, IsValue, AreValues, value_bytes, value_of_bytes, wrapped}
-use Rattle.clif_meaning.specs.Instruction.{Iconst, FloatConst, Unary, Binary, Compare, Concat, Convert, Select, Operation, Compute, Load, Store, Trap, CondTrap, Jump, Brif, Return}
+use Rattle.clif_meaning.specs.Instruction.{Iconst, FloatConst, Unary, Binary, Compare, Concat, Split, Convert, Select, Operation, Compute, Load, Store, Trap, CondTrap, Jump, Brif, Return}
 use Rattle.clif_meaning.specs.Memory.{Memory, Range, address_in, bytes_in, written}
 use Rattle.clif_meaning.specs.Access.{Accessible, Aligned, Holds, access_claims, claims_if, claims_of}
 use Rattle.clif_meaning.specs.Outcome.{Outcome, Gives, NoStep, Traps, access_outcome, accessed, are_accessible, compares, converted_number, low_bits_at, traps_on, unary_number, binary_fault, binary_number, outcome_of, outcome_of_computed, unless_fault}
@@ -164,6 +164,9 @@ outcomes_fit world (Compute (Compare condition)) ty returns types operands memor
 outcomes_fit world (Compute Concat) ty returns types operands memory at fits values =
     two_operands (Fits world (Compute Concat) ty returns memory) ty kind.Controlling kind.Controlling types operands fits values
     (λ t u x y first second x_is y_is claims. (low_fits (double_of ty) (x + 2 ^ bits_of ty * y), tt))
+outcomes_fit world (Compute Split) ty returns types operands memory at fits values =
+    one_operand (Fits world (Compute Split) ty returns memory) ty kind.Controlling types operands fits values
+    (λ t x is_kind is_value claims. (low_fits (half_of ty) x, (low_fits (half_of ty) (x / 2 ^ bits_of (half_of ty)), tt)))
 outcomes_fit world (Compute (Convert opcode)) ty returns types operands memory at fits values =
     one_operand (Fits world (Compute (Convert opcode)) ty returns memory) ty (convert_operand opcode) types operands fits values
     (λ t x is_kind is_value claims. (low_fits ty (converted_number opcode t ty x), tt))

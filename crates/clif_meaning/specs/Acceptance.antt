@@ -1,13 +1,13 @@
 -- Which calls a script may make, and which of them are refused. A call outside its condition is a misuse. After the
 -- documentation of Cranelift's `FunctionBuilder`.
-use Rattle.std.specs.Prelude.{ℕ, suc, not, ◌&&◌, ◌||◌, if◌then◌else◌, Bool, true, false, List, [], ◌∷◌, ◌++◌, Option, Some, None, is_some, find, ℤ}
+use Rattle.std.specs.Prelude.{ℕ, suc, not, ◌&&◌, ◌||◌, if◌then◌else◌, Bool, true, false, List, [], ◌∷◌, ◌++◌, Option, Some, None, is_some, find, length, nat_lt, ℤ}
 use Rattle.std.specs.List.{list_all}
 use Rattle.clif_opcodes.specs.declared.opcodes.UnaryOpcode.{UnaryOpcode}
 use Rattle.clif_opcodes.specs.declared.opcodes.BinaryOpcode.{BinaryOpcode}
 use Rattle.clif_opcodes.specs.declared.opcodes.ConvertOpcode.{ConvertOpcode}
 use Rattle.clif_opcodes.specs.declared.opcodes.CondTrapOpcode.{CondTrapOpcode}
 use Rattle.clif_opcodes.specs.declared.opcodes.FloatConstOpcode.{FloatConstOpcode}
-use Rattle.clif_opcodes.specs.declared.kinds.Demand.TheVariants.{ADoubled}
+use Rattle.clif_opcodes.specs.declared.kinds.Demand.TheVariants.{ADoubled, AHalved}
 use Rattle.clif_opcodes.specs.Kinds.{is_met}
 use Rattle.clif_opcodes.specs.Typing.{convert_demand}
 use Rattle.clif_types.specs.declared.condcodes.IntCC.{IntCC}
@@ -17,10 +17,12 @@ use Rattle.clif_types.specs.declared.types.«Type».TheVariants as type
 use Rattle.clif_types.specs.declared.types.LaneType.TheVariants as lane
 use Rattle.clif_types.specs.MemFlags.{MemFlagsShape}
 use Rattle.clif_types.specs.Types.{is_int, is_type}
+use Rattle.clif_tables.specs.Entries.{TableEntry, AStackSlot, AFunction}
+use Rattle.clif_tables.specs.Lists.{TableLists}
 use Rattle.clif_meaning.specs.SameType.{same_type}
-use Rattle.clif_meaning.specs.Instruction.{Iconst, FloatConst, Unary, Binary, Compare, Concat, Convert, Select, Operation, Compute, Load, Store, Trap, CondTrap, Jump, Brif, Return, Argument, Known, CallResult, CallPayload, Edge}
+use Rattle.clif_meaning.specs.Instruction.{Iconst, FloatConst, Unary, Binary, Compare, Concat, Split, Convert, Select, Operation, Compute, Load, Store, Trap, CondTrap, Jump, Brif, Return, Argument, Known, CallResult, CallPayload, Edge}
 use Rattle.clif_meaning.specs.Name.{Name}
-use Rattle.clif_meaning.specs.Request.{Request, CreateBlock, SwitchToBlock, SealBlock, SealAllBlocks, InsertBlockAfter, SetColdBlock, EnsureInsertedBlock, AppendBlockParams, AppendFunctionParams, DeclareVar, DefVar, UseVar, Build, Finalize, Script}
+use Rattle.clif_meaning.specs.Request.{Request, CreateBlock, SwitchToBlock, SealBlock, SealAllBlocks, InsertBlockAfter, SetColdBlock, EnsureInsertedBlock, AppendBlockParams, AppendFunctionParams, DeclareVar, DefVar, UseVar, MakeEntry, Build, Finalize, Script}
 use Rattle.clif_meaning.specs.Ledger.{BlockState, Ledger, empty_ledger, type_of, or_invalid, has_value, has_block, is_filled, is_sealed, is_inserted, is_pristine, has_predecessors, is_unreachable, variable_type, ledger_with}
 
 -- there is a current block, and it isn't filled
@@ -66,8 +68,15 @@ abbrev pub can_operate : Operation → «Type» → Bool
 can_operate (Compute (Iconst number)) ty = is_int ty
 can_operate (Compute (Convert opcode)) ty = is_met (convert_demand opcode) ty
 can_operate (Compute Concat) ty = is_met ADoubled ty
+can_operate (Compute Split) ty = is_met AHalved ty
 can_operate (Load flags offset) ty = is_type ty
 can_operate _ ty = true
+
+-- an entry may be made: a stack slot is aligned to at most 2^31 bytes, and the signature of a function was imported
+abbrev pub can_make : TableLists → TableEntry → Bool
+can_make tables (AStackSlot slot) = nat_lt slot.align_shift 32
+can_make tables (AFunction function) = nat_lt function.signature (length tables.signatures)
+can_make tables _ = true
 
 -- The condition of each kind of call.
 abbrev pub allows : Ledger → Request → Bool
@@ -83,6 +92,7 @@ allows ledger (AppendFunctionParams block types) = is_pristine ledger block && n
 allows ledger (DeclareVar ty) = is_variable_type ty
 allows ledger (DefVar variable value) = is_open ledger ledger.current && can_assign (variable_type ledger variable) (type_of ledger value)
 allows ledger (UseVar variable) = is_open ledger ledger.current && is_some (variable_type ledger variable)
+allows ledger (MakeEntry entry) = can_make ledger.tables entry
 allows ledger (Build instruction) =
     is_open ledger ledger.current && list_all (has_value ledger) instruction.operands && list_all (can_lead ledger) instruction.edges
     && can_operate instruction.operation instruction.controlling
@@ -147,6 +157,9 @@ compare ledger condition a b =
 abbrev pub concat : Ledger → Name → Name → Request
 concat ledger low high =
     Build (record { operation = Compute Concat; controlling = or_invalid (type_of ledger low); operands = low ∷ high ∷ []; edges = [] })
+
+abbrev pub split : Ledger → Name → Request
+split ledger a = Build (record { operation = Compute Split; controlling = or_invalid (type_of ledger a); operands = a ∷ []; edges = [] })
 
 abbrev pub load : MemFlagsShape → «Type» → Name → ℤ → Request
 load flags ty address offset = Build (record { operation = Load flags offset; controlling = ty; operands = address ∷ []; edges = [] })

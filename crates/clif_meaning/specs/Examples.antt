@@ -1,6 +1,6 @@
 -- Worked examples of the definitions. The rows, their texts and their answers are those of the crate's documentation
 -- and of its hostile scripts.
-use Rattle.std.specs.Prelude.{◌≡◌, ◌≢◌, ℕ, zero, suc, ◌+◌, ◌-◌, ◌%◌, ◌^◌, ◌==◌, nat_lt, if◌then◌else◌, List, [], ◌∷◌, ◌++◌, Some, None, pos, negsuc}
+use Rattle.std.specs.Prelude.{◌≡◌, ◌≢◌, ℕ, zero, suc, ◌+◌, ◌-◌, ◌*◌, ◌%◌, ◌^◌, ◌==◌, nat_lt, if◌then◌else◌, List, [], ◌∷◌, ◌++◌, Some, None, pos, negsuc}
 use Rattle.std.specs.declared.cmp.Ordering.{Ordering}
 use Rattle.std.specs.declared.cmp.Ordering.TheVariants.{Less, Equal, Greater}
 use Rattle.clif_types.specs.declared.types.«Type».{«Type»}
@@ -15,7 +15,7 @@ use Rattle.clif_types.specs.Target.{pointer_type_of}
 use Rattle.clif_meaning.specs.Bits.{value_bytes, value_of_bytes}
 use Rattle.clif_meaning.specs.Memory.{Memory, bytes_in, copied, filled, written, byte_order}
 use Rattle.clif_meaning.specs.Switch.{switch_target}
-use Rattle.clif_meaning.specs.Instruction.{Iconst, FloatConst, Unary, Binary, Compare, Concat, Convert, Select, Operation, Compute, Return}
+use Rattle.clif_meaning.specs.Instruction.{Iconst, FloatConst, Unary, Binary, Compare, Concat, Split, Convert, Select, Operation, Compute, Return}
 use Rattle.clif_types.specs.declared.condcodes.IntCC.TheVariants.{SignedLessThan, SignedGreaterThanOrEqual, UnsignedLessThan}
 use Rattle.clif_types.specs.declared.condcodes.IntCC.TheVariants as cc
 use Rattle.clif_opcodes.specs.declared.opcodes.FloatConstOpcode.TheVariants.{F32const}
@@ -40,6 +40,9 @@ use Rattle.clif_meaning.specs.Headline.{script_run, IsWorldOf, script_behaviour,
 
 abbrev pub i8 : «Type»
 i8 = type.Lane lane.I8
+
+abbrev pub i16 : «Type»
+i16 = type.Lane lane.I16
 
 abbrev pub i32 : «Type»
 i32 = type.Lane lane.I32
@@ -99,6 +102,8 @@ pub record ArithmeticExamples : Type 0 where
   pub alike : computed (Compare cc.Equal) i128 [] ((2 ^ 127) ∷ (2 ^ 127) ∷ []) ≡ Values (1 ∷ [])
   -- 4660 is 18 * 256 + 52
   pub of_halves : computed Concat i8 [] (52 ∷ 18 ∷ []) ≡ Values (4660 ∷ [])
+  pub halves : computed Split i16 [] (4660 ∷ []) ≡ Values (52 ∷ 18 ∷ [])
+  pub halves_of_128 : computed Split i128 [] ((2 ^ 64 * 5 + 7) ∷ []) ≡ Values (7 ∷ 5 ∷ [])
   -- the bits of 1.0
   pub float_bits : computed (FloatConst F32const 0x3f80_0000) invalid [] [] ≡ Values (1065353216 ∷ [])
   pub chosen : computed Select i8 [] (7 ∷ 1 ∷ 2 ∷ []) ≡ Values (1 ∷ [])
@@ -109,6 +114,7 @@ pub record ArithmeticExamples : Type 0 where
   pub not_extended_by_zeros : computed (Convert Sextend) i32 (i8 ∷ []) (200 ∷ []) ≢ Values (200 ∷ [])
   pub not_unsigned : computed (Compare SignedLessThan) i8 [] (200 ∷ 5 ∷ []) ≢ Values (0 ∷ [])
   pub not_halves_swapped : computed Concat i8 [] (52 ∷ 18 ∷ []) ≢ Values (13330 ∷ [])
+  pub not_parts_swapped : computed Split i16 [] (4660 ∷ []) ≢ Values (18 ∷ 52 ∷ [])
   pub not_rounded_down : computed (Binary Sdiv) i8 [] (249 ∷ 2 ∷ []) ≢ Values (252 ∷ [])
 
 -- the byte at an address of a memory that holds 1, 2, 3 .. from an address on

@@ -14,7 +14,7 @@ use Rattle.clif_meaning.specs.Machine.{observed}
 use Rattle.clif_meaning.specs.SameMeaning.{SameMeaning, Behaviour}
 use Rattle.clif_meaning.specs.Store.{in_slots_from}
 use Rattle.clif_meaning.specs.Request.{Script}
-use Rattle.clif_meaning.specs.Ledger.{ledger_after, type_of, or_invalid, variable_type, is_marked}
+use Rattle.clif_meaning.specs.Ledger.{ledger_after, slot_count, type_of, or_invalid, variable_type, is_marked}
 use Rattle.clif_meaning.specs.Program.{program_of}
 use Rattle.clif_meaning.specs.Tracked.{is_tracked}
 use Rattle.clif_meaning.specs.ScriptMachine.{ScriptRun, script_machine}
@@ -25,7 +25,7 @@ use Rattle.clif_meaning.specs.Premises.{Premises}
 -- the address lies in a spill slot: a slot of the function that no call of the script created
 abbrev pub in_spill_slot : Script → FunctionView → World → ℕ → Bool
 in_spill_slot script function world address =
-    in_slots_from world (ledger_after script).slot_count (drop (ledger_after script).slot_count function.slots) address
+    in_slots_from world (slot_count (ledger_after script)) (drop (slot_count (ledger_after script)) function.slots) address
 
 -- the run of a script's variable program, beside the finished function
 abbrev pub script_run : Script → FunctionView → World → ScriptRun

@@ -28,6 +28,8 @@ pub data Arithmetic : Type 0 where
   Compare : IntCC → Arithmetic
   -- the integer of twice the width, of its low and its high half
   Concat : Arithmetic
+  -- the low half of an integer and its high half
+  Split : Arithmetic
   -- an operation on one operand, whose result has a type that is given
   Convert : ConvertOpcode → Arithmetic
   -- the second of three operands if the first isn't zero, and else the third
@@ -60,6 +62,7 @@ operation_opcode (Compute (Unary name)) = opcode.Unary name
 operation_opcode (Compute (Binary name)) = opcode.Binary name
 operation_opcode (Compute (Compare condition)) = opcode.Icmp
 operation_opcode (Compute Concat) = opcode.Iconcat
+operation_opcode (Compute Split) = opcode.Isplit
 operation_opcode (Compute (Convert name)) = opcode.Convert name
 operation_opcode (Compute Select) = opcode.Select
 operation_opcode (Load flags offset) = opcode.Load

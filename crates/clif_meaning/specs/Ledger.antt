@@ -5,9 +5,11 @@ use Rattle.std.specs.Prelude.{ℕ, zero, suc, not, ◌&&◌, if◌then◌else◌
 use Rattle.std.specs.List.{list_any}
 use Rattle.clif_types.specs.declared.types.«Type».{«Type»}
 use Rattle.clif_types.specs.declared.types.«Type».TheVariants as type
+use Rattle.clif_tables.specs.Entries.{TableEntry, count_for, with_entry}
+use Rattle.clif_tables.specs.Lists.{TableLists, no_entries}
 use Rattle.clif_meaning.specs.Instruction.{Operation, operation_typing, Edge}
 use Rattle.clif_meaning.specs.Name.{Name, answer_of, same_name}
-use Rattle.clif_meaning.specs.Request.{Request, CreateBlock, SwitchToBlock, SealBlock, SealAllBlocks, InsertBlockAfter, SetColdBlock, EnsureInsertedBlock, AppendBlockParams, AppendFunctionParams, DeclareVar, DefVar, UseVar, Build, Finalize, Script}
+use Rattle.clif_meaning.specs.Request.{Request, CreateBlock, SwitchToBlock, SealBlock, SealAllBlocks, InsertBlockAfter, SetColdBlock, EnsureInsertedBlock, AppendBlockParams, AppendFunctionParams, DeclareVar, DefVar, UseVar, MakeEntry, Build, Finalize, Script}
 use Rattle.clif_meaning.specs.Program.{result_types}
 
 -- what an answer is
@@ -16,6 +18,8 @@ pub data Answered : Type 0 where
   AVariable : (variable : ℕ) → Answered
   AValue : (ty : «Type») → Answered
   AnInstruction : Answered
+  -- an entry of a table, with this number there
+  AnEntry : TableEntry → (number : ℕ) → Answered
 
 -- a block: pristine until something is made in it, filled once it has its terminator, sealed once it was told that no
 -- more branches to it come
@@ -50,12 +54,16 @@ pub record Ledger : Type 0 where
   pub variables : List VariableState
   -- the tables that an instruction was given
   pub served : List Name
-  -- how many stack slots the calls created: those with higher numbers are spill slots
-  pub slot_count : ℕ
+  -- stack slots, signatures, functions and so on
+  pub tables : TableLists
 
 -- before the first call
 abbrev pub empty_ledger : Ledger
-empty_ledger = record { answers = []; blocks = []; current = None; layout = []; variables = []; served = []; slot_count = 0 }
+empty_ledger = record { answers = []; blocks = []; current = None; layout = []; variables = []; served = []; tables = no_entries }
+
+-- how many stack slots the calls created: those with higher numbers are spill slots
+abbrev pub slot_count : Ledger → ℕ
+slot_count ledger = length ledger.tables.stack_slots
 
 -- the answer with this name
 abbrev pub answer_at : Ledger → Name → Option Answered
@@ -189,6 +197,7 @@ answers_to ledger (AppendFunctionParams block types) = map AValue types
 answers_to ledger (DeclareVar ty) = AVariable (length ledger.variables) ∷ []
 answers_to ledger (DefVar variable value) = []
 answers_to ledger (UseVar variable) = AValue (or_invalid (variable_type ledger variable)) ∷ []
+answers_to ledger (MakeEntry entry) = AnEntry entry (count_for ledger.tables entry) ∷ []
 answers_to ledger (Build instruction) = AnInstruction ∷ map AValue (result_types instruction.operation instruction.controlling)
 answers_to ledger Finalize = []
 
@@ -234,6 +243,7 @@ changed_by ledger (AppendFunctionParams block types) = with_state ledger block (
 changed_by ledger (DeclareVar ty) = record ledger { variables = ledger.variables ++ new_variable ty ∷ [] }
 changed_by ledger (DefVar variable value) = with_touched ledger variable
 changed_by ledger (UseVar variable) = with_touched (with_begun ledger) variable
+changed_by ledger (MakeEntry entry) = record ledger { tables = with_entry ledger.tables entry }
 changed_by ledger (Build instruction) =
     fold (with_predecessor (next_answer ledger)) (with_terminator (with_begun ledger) instruction.operation) instruction.edges
 changed_by ledger Finalize = ledger

@@ -10,7 +10,7 @@ use Rattle.clif_opcodes.specs.declared.opcodes.CondTrapOpcode.{CondTrapOpcode}
 use Rattle.clif_opcodes.specs.declared.opcodes.CondTrapOpcode.TheVariants.{Trapz, Trapnz}
 use Rattle.clif_opcodes.specs.declared.opcodes.FloatConstOpcode.{FloatConstOpcode}
 use Rattle.clif_opcodes.specs.declared.opcodes.FloatConstOpcode.TheVariants.{F16const, F32const, F64const}
-use Rattle.clif_opcodes.specs.Kinds.{double_of}
+use Rattle.clif_opcodes.specs.Kinds.{double_of, half_of}
 use Rattle.clif_types.specs.declared.condcodes.IntCC.{IntCC}
 use Rattle.clif_types.specs.declared.condcodes.IntCC.TheVariants as cc
 use Rattle.clif_types.specs.declared.types.LaneType.TheVariants as lane
@@ -24,7 +24,7 @@ use Rattle.clif_opcodes.specs.declared.opcodes.ConvertOpcode.TheVariants.{Splat,
 use Rattle.clif_types.specs.Types.{bits_of, bytes_of, lane_count_of, lane_type_of}
 use Rattle.clif_meaning.specs.Bits.{Bits, value_bytes, value_of_bytes, wrapped}
 use Rattle.clif_meaning.specs.Memory.{Memory, Range, address_in, bytes_in, written}
-use Rattle.clif_meaning.specs.Instruction.{Arithmetic, Iconst, FloatConst, Unary, Binary, Compare, Concat, Convert, Select, Operation, Compute, Load, Store, Trap, CondTrap, Jump, Brif, Return}
+use Rattle.clif_meaning.specs.Instruction.{Arithmetic, Iconst, FloatConst, Unary, Binary, Compare, Concat, Split, Convert, Select, Operation, Compute, Load, Store, Trap, CondTrap, Jump, Brif, Return}
 use Rattle.clif_meaning.specs.Event.{Callee, CallShape}
 use Rattle.clif_meaning.specs.World.{World}
 
@@ -165,6 +165,7 @@ computed (Binary opcode) ty types (x ∷ y ∷ []) =
     unless_fault (binary_fault opcode (bits_of ty) x y) (low_bits_at ty (binary_number opcode (bits_of ty) x y))
 computed (Compare condition) ty types (x ∷ y ∷ []) = Values ((if compares condition (bits_of ty) x y then 1 else 0) ∷ [])
 computed Concat ty types (low ∷ high ∷ []) = Values (low_bits_at (double_of ty) (low + 2 ^ bits_of ty * high) ∷ [])
+computed Split ty types (x ∷ []) = Values (low_bits_at (half_of ty) x ∷ low_bits_at (half_of ty) (x / 2 ^ bits_of (half_of ty)) ∷ [])
 computed (Convert opcode) ty types (x ∷ []) = Values (low_bits_at ty (converted_number opcode (operand_type types 0) ty x) ∷ [])
 computed Select ty types (condition ∷ x ∷ y ∷ []) = Values ((if condition == 0 then y else x) ∷ [])
 computed _ ty types _ = Undefined

@@ -2,6 +2,7 @@
 -- methods of Cranelift's `FunctionBuilder`. A variable is known by its number, and by nothing else.
 use Rattle.std.specs.Prelude.{ℕ, List, map, Option, slice_get, option_and_then}
 use Rattle.clif_types.specs.declared.types.«Type».{«Type»}
+use Rattle.clif_tables.specs.Entries.{TableEntry}
 use Rattle.clif_meaning.specs.Instruction.{Instruction}
 use Rattle.clif_meaning.specs.Name.{Name}
 
@@ -21,6 +22,8 @@ pub data Request : Type 0 where
   DeclareVar : (ty : «Type») → Request
   DefVar : (variable : ℕ) (value : Name) → Request
   UseVar : (variable : ℕ) → Request
+  -- an entry at the end of its table in the function. It is known by its number there, and by nothing else.
+  MakeEntry : TableEntry → Request
   -- an instruction at the end of the current block. It answers its number, and then its results.
   Build : Instruction Name Name → Request
   -- the end of every script

@@ -4,7 +4,7 @@ use Rattle.std.specs.List.{list_any}
 use Rattle.clif_types.specs.declared.types.«Type».{«Type»}
 use Rattle.clif_types.specs.declared.types.«Type».TheVariants as type
 use Rattle.clif_instructions.specs.declared.instructions.InstructionData.{InstructionData}
-use Rattle.clif_instructions.specs.declared.instructions.InstructionData.TheVariants.{UnaryImm, UnaryIeee, Unary, Binary, IntCompare, Concat, Convert, Ternary, Load, Store, Jump, Brif, MultiAry, Trap, CondTrap}
+use Rattle.clif_instructions.specs.declared.instructions.InstructionData.TheVariants.{UnaryImm, UnaryIeee, Unary, Binary, IntCompare, Concat, Split, Convert, Ternary, Load, Store, Jump, Brif, MultiAry, Trap, CondTrap}
 use Rattle.clif_ir.specs.declared.function.InstNode.{InstNode}
 use Rattle.clif_instructions.specs.declared.block_call.BlockArg.{BlockArg}
 use Rattle.clif_instructions.specs.declared.block_call.BlockArg.TheVariants as arg
@@ -27,6 +27,7 @@ operation_of (Unary opcode arg) = Compute (operation.Unary opcode)
 operation_of (Binary opcode args) = Compute (operation.Binary opcode)
 operation_of (IntCompare condition args) = Compute (operation.Compare condition)
 operation_of (Concat args) = Compute operation.Concat
+operation_of (Split arg) = Compute operation.Split
 operation_of (Convert opcode arg) = Compute (operation.Convert opcode)
 operation_of (Ternary args) = Compute operation.Select
 operation_of (Load flags arg offset) = operation.Load flags offset
@@ -97,7 +98,7 @@ items_of body block =
 abbrev pub block_of : Body → ℕ → BlockView
 block_of body block = record { parameters = (block_at body block).params; items = items_of body block }
 
--- a function. There are no stack slots so far.
+-- a function
 abbrev pub view_of : Body → FunctionView
 view_of body = record {
   signature = body.signature;
@@ -105,5 +106,5 @@ view_of body = record {
   blocks = block_of body;
   resolved = resolved body;
   value_type = λ value. (value_at body value).ty;
-  slots = [];
+  slots = body.tables.stack_slots;
 }

@@ -4,6 +4,7 @@ use Rattle.clif_types.specs.declared.extname.UserFuncName.TheVariants.{Testcase}
 use Rattle.clif_types.specs.declared.target.PointerWidth.TheVariants.{U64}
 use Rattle.clif_opcodes.specs.declared.opcodes.BinaryOpcode.TheVariants as binary
 use Rattle.clif_instructions.specs.declared.instructions.InstructionData.TheVariants.{UnaryImm, Binary, MultiAry}
+use Rattle.clif_tables.specs.Lists.{no_entries}
 use Rattle.clif_ir.specs.declared.function.ValueOrigin.TheVariants.{Result, Alias}
 use Rattle.clif_ir.specs.Body.{Body}
 use Rattle.clif_meaning.specs.World.{World}
@@ -28,6 +29,7 @@ first_body = record {
       ∷ record { shape = UnaryImm (pos 0); results = 3 ∷ []; block = 0; srcloc = 0 } ∷ [];
   blocks = record { params = []; insts = 3 ∷ 0 ∷ 1 ∷ 2 ∷ []; is_cold = false } ∷ [];
   layout = 0 ∷ [];
+  tables = no_entries;
 }
 
 pub record ViewExamples : Type 0 where

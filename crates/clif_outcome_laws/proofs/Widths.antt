@@ -1,7 +1,7 @@
 -- Numbers of two widths: halves, extension and reduction.
-use Rattle.std.proofs.Common.{◌≡◌, ◌+◌, ◌-◌, ◌*◌, ◌/◌, ◌%◌, ◌^◌, ◌<◌, ◌≤◌, ℕ, zero, suc, Bool, true, false, if◌then◌else◌, refl, sym, ◌∙◌, ap, arith, subst, ◌⊎◌, inl, inr}
+use Rattle.std.proofs.Common.{◌≡◌, ◌+◌, ◌-◌, ◌*◌, ◌/◌, ◌%◌, ◌^◌, ◌<◌, ◌≤◌, ℕ, zero, suc, [], ◌∷◌, Bool, true, false, if◌then◌else◌, refl, sym, ◌∙◌, ap, arith, subst, ◌⊎◌, inl, inr}
 use Rattle.std.specs.Prelude.{pos, negsuc, IsTrue}
-use Rattle.std.proofs.Math.Nat.{mod-lt, mod-eq_of_lt, pow-suc}
+use Rattle.std.proofs.Math.Nat.{div-lt_iff_lt-mul, mod-add-div, mod-lt, mod-eq_of_lt, pow-suc}
 use Rattle.std.proofs.lemmas.Bool.{leb-true, le-leb, lt-leb, cases_lt}
 use Rattle.std.proofs.lemmas.Nat.{pow_pos, pow-add, pow_below, mul-add-lt, mod_low, shr_high}
 use Rattle.clif_types.specs.declared.types.LaneType.TheVariants as lane
@@ -9,8 +9,8 @@ use Rattle.clif_types.specs.declared.types.«Type».{«Type»}
 use Rattle.clif_types.specs.declared.types.«Type».TheVariants as type
 use Rattle.clif_types.specs.Types.{bits_of, is_int}
 use Rattle.clif_meaning.specs.Bits.{Bits, HasWidth, IsValue, wrapped}
-use Rattle.clif_meaning.specs.Outcome.{is_negative, sign_extended}
-use Rattle.clif_outcome_laws.specs.Integers.{signed_number, HasHalves, HalvesAreParts}
+use Rattle.clif_meaning.specs.Outcome.{Values, is_negative, sign_extended}
+use Rattle.clif_outcome_laws.specs.Integers.{signed_number, HasHalves, HalvesAreParts, PartsMakeWhole}
 
 -- a power is twice the one before
 pub half : (width : ℕ) → 1 ≤ width → 2 ^ width ≡ 2 * 2 ^ (width - 1)
@@ -43,6 +43,30 @@ halves_are_parts (type.Lane lane.I16) types low high at low_is high_is = (_, ref
 halves_are_parts (type.Lane lane.I32) types low high at low_is high_is = (_, refl, mod-lt _ (pow_pos 64), halves 32 low high low_is high_is)
 halves_are_parts (type.Lane lane.I64) types low high at low_is high_is = (_, refl, mod-lt _ (pow_pos 128), halves 64 low high low_is high_is)
 halves_are_parts _ types low high at low_is high_is = cc
+
+-- the halves of a number of twice the width
+parts : (width whole : ℕ) → whole < 2 ^ (width + width)
+    → (whole % 2 ^ width < 2 ^ width) × ((whole / 2 ^ width) % 2 ^ width < 2 ^ width) × HasHalves width (whole % 2 ^ width) ((whole / 2 ^ width) % 2 ^ width) whole
+    × ((whole % 2 ^ width + 2 ^ width * ((whole / 2 ^ width) % 2 ^ width)) % 2 ^ (width + width) ≡ whole)
+parts width whole is =
+    let high_is : whole / 2 ^ width < 2 ^ width = div_below whole (2 ^ width) (2 ^ width) (pow_pos width) (subst (λ (n : ℕ). whole < n) (pow-add 2 width width) is) in
+    let high : (whole / 2 ^ width) % 2 ^ width ≡ whole / 2 ^ width = mod-eq_of_lt high_is in
+    let joined : whole % 2 ^ width + 2 ^ width * (whole / 2 ^ width) ≡ whole = mod-add-div whole (2 ^ width) in (
+      mod-lt whole (pow_pos width),
+      mod-lt (whole / 2 ^ width) (pow_pos width),
+      (refl, sym high),
+      ap (λ (h : ℕ). (whole % 2 ^ width + 2 ^ width * h) % 2 ^ (width + width)) high ∙ ap (λ (n : ℕ). n % 2 ^ (width + width)) joined ∙ mod-eq_of_lt is,
+    )
+  where
+    div_below : (x n m : ℕ) → 0 < n → x < n * m → x / n < m
+    div_below x n m some below = (div-lt_iff_lt-mul some).1 (let turned : n * m ≡ m * n = omega arith in subst (λ (k : ℕ). x < k) turned below)
+
+pub parts_make_whole : PartsMakeWhole
+parts_make_whole (type.Lane lane.I16) types others whole at is = let p = parts 8 whole is in (_, _, refl, p.0, p.1, p.2, ap (λ (x : Bits). Values (x ∷ [])) p.3)
+parts_make_whole (type.Lane lane.I32) types others whole at is = let p = parts 16 whole is in (_, _, refl, p.0, p.1, p.2, ap (λ (x : Bits). Values (x ∷ [])) p.3)
+parts_make_whole (type.Lane lane.I64) types others whole at is = let p = parts 32 whole is in (_, _, refl, p.0, p.1, p.2, ap (λ (x : Bits). Values (x ∷ [])) p.3)
+parts_make_whole (type.Lane lane.I128) types others whole at is = let p = parts 64 whole is in (_, _, refl, p.0, p.1, p.2, ap (λ (x : Bits). Values (x ∷ [])) p.3)
+parts_make_whole _ types others whole at is = cc
 
 -- SIGNED NUMBERS ----------------------------------------------------------------------------------------------------------
 

@@ -4,11 +4,11 @@ use Rattle.std.specs.Prelude.{◌≡◌, ℕ, ◌-◌, ◌%◌, ◌/◌, ◌^◌
 use Rattle.clif_types.specs.declared.types.«Type».{«Type»}
 use Rattle.clif_types.specs.Types.{bits_of}
 use Rattle.clif_opcodes.specs.declared.opcodes.ConvertOpcode.TheVariants.{Uextend, Sextend, Ireduce}
-use Rattle.clif_opcodes.specs.declared.kinds.Demand.TheVariants.{ADoubled}
+use Rattle.clif_opcodes.specs.declared.kinds.Demand.TheVariants.{ADoubled, AHalved}
 use Rattle.clif_opcodes.specs.declared.kinds.OperandKind.TheVariants.{Narrower, Wider}
-use Rattle.clif_opcodes.specs.Kinds.{IsOfKind, double_of, is_met}
+use Rattle.clif_opcodes.specs.Kinds.{IsOfKind, double_of, half_of, is_met}
 use Rattle.clif_meaning.specs.Bits.{Bits, HasWidth, IsValue, wrapped}
-use Rattle.clif_meaning.specs.Instruction.{Arithmetic, Concat, Convert}
+use Rattle.clif_meaning.specs.Instruction.{Arithmetic, Concat, Convert, Split}
 use Rattle.clif_meaning.specs.Outcome.{Values, computed, is_negative}
 
 -- the number that bits mean in two's complement
@@ -29,6 +29,14 @@ abbrev pub HalvesAreParts : Type 0
 HalvesAreParts =
     (ty : «Type») (types : List «Type») (low high : Bits) → IsTrue (is_met ADoubled ty) → IsValue ty low → IsValue ty high
     → Yields Concat (double_of ty) ty types (low ∷ high ∷ []) (HasHalves (bits_of ty) low high)
+
+-- `isplit` gives the low half of an integer and its high half, of which `iconcat` gives the integer again.
+abbrev pub PartsMakeWhole : Type 0
+PartsMakeWhole =
+    (ty : «Type») (types others : List «Type») (whole : Bits) → IsTrue (is_met AHalved ty) → IsValue ty whole
+    → (low : Bits) × (high : Bits) × (computed Split ty types (whole ∷ []) ≡ Values (low ∷ high ∷ []))
+    × IsValue (half_of ty) low × IsValue (half_of ty) high × HasHalves (bits_of (half_of ty)) low high whole
+    × (computed Concat (half_of ty) others (low ∷ high ∷ []) ≡ Values (whole ∷ []))
 
 -- Conversions between integers: `sextend` keeps the signed number, `uextend` the unsigned one, and `ireduce` takes the
 -- unsigned number modulo 2 to the width. And the bits of a signed number are those that mean it.

@@ -3,7 +3,7 @@
 #![tactic(auto)]
 
 ghost use Rattle.clif_outcome_laws.specs.Divisions.{SignedDivisionIsMathematical};
-ghost use Rattle.clif_outcome_laws.specs.Integers.{ConversionsKeepNumbers, HalvesAreParts};
+ghost use Rattle.clif_outcome_laws.specs.Integers.{ConversionsKeepNumbers, HalvesAreParts, PartsMakeWhole};
 ghost use Rattle.clif_outcome_laws.specs.Locality.{OutcomesAreLocal};
 ghost use Rattle.clif_outcome_laws.specs.MemoryExamples.{MemoryExamples};
 ghost use Rattle.clif_outcome_laws.specs.Orders.{SignedOrderIsMathematical};
@@ -21,6 +21,11 @@ pub fn outcomes_are_local()
 /// `iconcat` puts its operands side by side, the first one low.
 pub fn halves_are_parts()
     ensures { HalvesAreParts }
+{}
+
+/// `isplit` takes an integer apart into its halves, which `iconcat` puts together again.
+pub fn parts_make_whole()
+    ensures { PartsMakeWhole }
 {}
 
 /// `sextend` keeps the signed number, `uextend` the unsigned one, and `ireduce` takes the low bits.

@@ -1,17 +1,26 @@
 -- A record is copied to blocks in turn.
-use Rattle.std.proofs.Common.{◌≡◌, ◌≢◌, ℕ, zero, suc, ◌<◌, ◌==◌, ◌||◌, Bool, true, false, List, [], ◌∷◌, ◌++◌, length, take, get_or, refl, ap, arith, sym, ◌∙◌, ◌⊎◌, inl, inr}
-use Rattle.std.specs.Prelude.{Option, Some, None, slice_index, slice_index_or, if◌then◌else◌}
+use Rattle.std.proofs.Common.{◌≡◌, ◌≢◌, ℕ, zero, suc, ◌<◌, ◌==◌, ◌||◌, Bool, true, false, List, [], ◌∷◌, ◌++◌, length, take, get_or, refl, ap, arith, sym, eq-eqb, ◌∙◌, ◌⊎◌, inl, inr}
+use Rattle.std.specs.Prelude.{Option, Some, None, slice_index, if◌then◌else◌, ◌&&◌}
 use Rattle.std.proofs.lemmas.List.Folds.{list_any-append}
 use Rattle.std.proofs.lemmas.Grind.{common_steps}
 use Rattle.std.proofs.lemmas.Bool.{cases_eq}
 use Rattle.clif_instructions.specs.Members.{stands_in}
-use Rattle.clif_records.specs.declared.tables.Cell.{Cell}
-use Rattle.clif_records.specs.Cells.{no_cell, recording, ChangesCells, ChangesSome, SameCells, MayBeSet}
+use Rattle.clif_records.specs.Tables.{RecordMap, record_at}
+use Rattle.clif_records.specs.Records.{MayBeSet, RecordsSome}
 use Rattle.clif_records.specs.Passed.{before_first}
 
+-- a value is recorded for a variable in the blocks that pass a test, and nowhere else
+abbrev pub RecordsIn : RecordMap → RecordMap → ℕ → ℕ → (ℕ → Bool) → Type 0
+RecordsIn old new variable value test =
+    (v b : ℕ) → record_at new v b ≡ (if v == variable && test b then Some value else record_at old v b)
+
 -- in no blocks
-pub cells-none : (old : List Cell) (change : Cell → Cell) → ChangesCells old old change (λ b. stands_in b [])
-cells-none old change b = refl
+pub records-none : (old : RecordMap) (variable value : ℕ) → RecordsIn old old variable value (λ b. stands_in b [])
+records-none old variable value v b = by (v == variable)
+  where
+    by : (t : Bool) → record_at old v b ≡ (if t && false then Some value else record_at old v b)
+    by true = refl
+    by false = refl
 
 stands-further : (b c : ℕ) (blocks : List ℕ) → stands_in b (blocks ++ c ∷ []) ≡ (stands_in b blocks || (c == b))
 stands-further b c blocks = list_any-append (λ y. y == b) blocks (c ∷ []) ∙ ap (λ t. stands_in b blocks || t) (by (c == b))
@@ -21,21 +30,22 @@ stands-further b c blocks = list_any-append (λ y. y == b) blocks (c ∷ []) ∙
     by false = refl
 
 -- in one more block
-pub cells-further : (old mid new : List Cell) (value c : ℕ) (blocks : List ℕ) → ChangesCells old mid (recording value) (λ b. stands_in b blocks)
-    → ChangesCells mid new (recording value) (λ b. b == c) → ChangesCells old new (recording value) (λ b. stands_in b (blocks ++ c ∷ []))
-cells-further old mid new value c blocks before step b =
-    step b ∙ ap (λ e. if b == c then recording value e else e) (before b)
-    ∙ by (stands_in b blocks) (b == c) (c == b) (slice_index_or old b no_cell) (turned b c)
-    ∙ ap (λ t. if t then recording value (slice_index_or old b no_cell) else slice_index_or old b no_cell) (sym (stands-further b c blocks))
+pub records-further : (old mid new : RecordMap) (variable value c : ℕ) (blocks : List ℕ) → RecordsIn old mid variable value (λ b. stands_in b blocks)
+    → RecordsIn mid new variable value (λ b. b == c) → RecordsIn old new variable value (λ b. stands_in b (blocks ++ c ∷ []))
+records-further old mid new variable value c blocks before step v b =
+    step v b ∙ ap (λ (r : Option ℕ). if v == variable && b == c then Some value else r) (before v b)
+    ∙ by (v == variable) (stands_in b blocks) (b == c) (c == b) (record_at old v b) (turned b c)
+    ∙ ap (λ t. if v == variable && t then Some value else record_at old v b) (sym (stands-further b c blocks))
   where
-    by : (here last same : Bool) (cell : Cell) → last ≡ same
-        → (if last then recording value (if here then recording value cell else cell) else (if here then recording value cell else cell)) ≡ (if here || same then recording value cell else cell)
-    by true true same cell is = refl
-    by true false same cell is = refl
-    by false true true cell is = refl
-    by false true false cell is = absurd (let no : true ≡ false = is in cc)
-    by false false true cell is = absurd (let no : false ≡ true = is in cc)
-    by false false false cell is = refl
+    by : (it here last same : Bool) (r : Option ℕ) → last ≡ same
+        → (if it && last then Some value else (if it && here then Some value else r)) ≡ (if it && (here || same) then Some value else r)
+    by false here last same r is = refl
+    by true true true same r is = refl
+    by true true false same r is = refl
+    by true false true true r is = refl
+    by true false true false r is = absurd (let no : true ≡ false = is in cc)
+    by true false false true r is = absurd (let no : false ≡ true = is in cc)
+    by true false false false r is = refl
 
     turned : (b c : ℕ) → (b == c) ≡ (c == b)
     turned b c = elim (cases_eq b c) [ inl same ↦ grind (arith, common_steps, same) | inr other ↦ grind (arith, common_steps, other) ]
@@ -51,19 +61,25 @@ stands-taken b (suc k) (x ∷ xs) is = by (x == b) is (λ later. stands-taken b 
     by false at rest = rest at
 
 -- the first blocks are some of them
-pub cells-some : (old new : List Cell) (change : Cell → Cell) (k : ℕ) (blocks : List ℕ) → ChangesCells old new change (λ b. stands_in b (take k blocks))
-    → ChangesSome old new change (λ b. stands_in b blocks)
-cells-some old new change k blocks changed b = by (stands_in b (take k blocks)) refl
+pub records-some : (old new : RecordMap) (variable value k : ℕ) (blocks : List ℕ) → RecordsIn old new variable value (λ b. stands_in b (take k blocks))
+    → RecordsSome old new variable value blocks
+records-some old new variable value k blocks recorded v b =
+    elim (cases_eq v variable) [
+      | inl same ↦ by same (stands_in b (take k blocks)) refl
+      | inr other ↦ inl (recorded v b ∙ ap (λ t. if t && stands_in b (take k blocks) then Some value else record_at old v b) (test_false v variable other))
+    ]
   where
-    by : (test : Bool) → stands_in b (take k blocks) ≡ test
-        → (slice_index_or new b no_cell ≡ slice_index_or old b no_cell)
-        ⊎ ((stands_in b blocks ≡ true) × (slice_index_or new b no_cell ≡ change (slice_index_or old b no_cell)))
-    by true is = inr (stands-taken b k blocks is, changed b ∙ ap (λ t. if t then change (slice_index_or old b no_cell) else slice_index_or old b no_cell) is)
-    by false is = inl (changed b ∙ ap (λ t. if t then change (slice_index_or old b no_cell) else slice_index_or old b no_cell) is)
+    by : v ≡ variable → (test : Bool) → stands_in b (take k blocks) ≡ test → MayBeSet (record_at old v b) (record_at new v b) value ((v ≡ variable) × (stands_in b blocks ≡ true))
+    by same true is =
+        inr (
+          (same, stands-taken b k blocks is),
+          recorded v b ∙ ap (λ t. if t && stands_in b (take k blocks) then Some value else record_at old v b) (eq-eqb v variable same) ∙ ap (λ t. if t then Some value else record_at old v b) is,
+        )
+    by same false is =
+        inl (recorded v b ∙ ap (λ t. if t && stands_in b (take k blocks) then Some value else record_at old v b) (eq-eqb v variable same) ∙ ap (λ t. if t then Some value else record_at old v b) is)
 
-pub cells-then_same : (old mid new : List Cell) (change : Cell → Cell) (test : ℕ → Bool) → ChangesSome old mid change test → SameCells mid new → ChangesSome old new change test
-cells-then_same old mid new change test some same b =
-    elim (some b) [ inl kept ↦ inl (same b ∙ kept) | inr there ↦ inr (there.0, same b ∙ there.1) ]
+    test_false : (m n : ℕ) → m ≢ n → (m == n) ≡ false
+    test_false m n apart = grind (arith, common_steps, apart)
 
 -- what may be set has what it had, or the value, and isn't emptied
 pub set-recorded : {P : Type 0} (old new : Option ℕ) (value v : ℕ) → MayBeSet old new value P → new ≡ Some v → (old ≡ Some v) ⊎ (v ≡ value)
@@ -105,4 +121,4 @@ before-passed x (suc k) (y ∷ xs) inside at none =
     let other : y ≢ x = none 0 (omega arith) in
     grind (arith, common_steps, rest, other)
 
-pub ruleset copying_rules = (cells-none, cells-further, before-passed, before-all)
+pub ruleset copying_rules = (records-none, records-further, before-passed, before-all)

@@ -1,6 +1,5 @@
 pub mod RecordLaws
 pub mod RecordMaps
-pub mod EmptyRecords
 pub mod SparseSet
 pub mod Stacks
 pub mod Copying

@@ -1,18 +1,22 @@
--- What the map of the records says of a variable in a block is what its cell says.
-use Rattle.std.proofs.Common.{◌≡◌, ◌≢◌, ℕ, zero, suc, ◌+◌, ◌<◌, inl, inr, List, [], ◌∷◌, Option, Some, None, Bool, true, false, cond, refl, ap, sym, ◌∙◌, subst, arith, eq-eqb}
-use Rattle.std.specs.Prelude.{slice_index_or, if◌then◌else◌, ◌==◌, ◌&&◌, is_none}
+-- What the records say of a variable in a block, and what a changed entry makes of them.
+use Rattle.std.proofs.Common.{◌≡◌, ◌≢◌, ℕ, zero, suc, ◌+◌, inl, inr, List, [], ◌∷◌, Option, Some, None, Bool, true, false, cond, refl, ap, sym, ◌∙◌, arith, eq-eqb, length}
+use Rattle.std.specs.Prelude.{if◌then◌else◌, ◌==◌, ◌&&◌, is_some}
 use Rattle.std.specs.declared.cmp.Ordering.{Ordering}
 use Rattle.std.specs.declared.cmp.Ordering.TheVariants.{Less, Equal, Greater}
-use Rattle.std.specs.Ordering.{nat_cmp, ordering_then, is_eq, eq_by_cmp}
+use Rattle.std.specs.Ordering.{nat_cmp, ordering_then, match_ordering, is_eq, eq_by_cmp}
 use Rattle.std.specs.Option.{unwrap_or}
 use Rattle.std.specs.FinMap as map
-use Rattle.std.specs.FinMap.{nat_cmp-IsAntisymmetric, get-insert, get-empty}
+use Rattle.std.specs.FinMap.{nat_cmp-IsAntisymmetric, get-insert, get-empty, get-from_entries, same_map, len-empty, len-insert}
+use Rattle.std.specs.FinMap.Entries.{put, by_order, find-put}
+use Rattle.std.specs.BTreeMap.{BTreeMap, get_by, is_at, insert_entry, IsOrdered, btree_map_len}
+use Rattle.std.specs.Map.{lookup, keys_of}
+use Rattle.std.specs.List.{AllByRecursion}
+use Rattle.std.specs.List.Sorted.{IsStrictlySortedBy}
 use Rattle.std.specs.Cmp.{IsTotalOrder, on_total, then_total, tied_itself, nat_cmp_total}
 use Rattle.std.proofs.lemmas.Grind.{common_steps}
 use Rattle.std.proofs.lemmas.Bool.{cases_eq}
-use Rattle.clif_records.specs.declared.tables.Cell.{Cell}
-use Rattle.clif_records.specs.Tables.{Recorded, RecordMap, variable_then_block, nothing_recorded, recorded_at, record_at}
-use Rattle.clif_records.specs.Cells.{no_cell, is_no_cell, recorded_in, cell_at, with_cell, with_row, records_from, records_in}
+use Rattle.clif_records.specs.Tables.{Recorded, RecordMap, variable_then_block, nothing_recorded, recorded_at, record_at, lookups_at, one_more}
+use Rattle.clif_records.specs.Records.{records_in, recording, counting, HasEntry}
 
 -- THE ORDER -------------------------------------------------------------------------------------------------------
 
@@ -87,6 +91,40 @@ record_at-insert m x b r y c = ap (λ (s : Recorded). s.value) (recorded_at-inse
     through true = refl
     through false = refl
 
+either : {A : Type 0} (t : Bool) (a : A) → (if t then a else a) ≡ a
+either true a = refl
+either false a = refl
+
+never : (t : Bool) → (t && false) ≡ false
+never true = refl
+never false = refl
+
+-- a part of what is recorded, where one entry was changed
+at_entry : {A : Type 0} (part : Recorded → A) (moved : A → A) (m : RecordMap) (x b : ℕ) (change : Recorded → Recorded) → ((r : Recorded) → part (change r) ≡ moved (part r))
+    → (y c : ℕ) → part (recorded_at (map.insert m (x, b) (change (recorded_at m x b))) y c) ≡ (if y == x && c == b then moved (part (recorded_at m y c)) else part (recorded_at m y c))
+at_entry part moved m x b change moves y c =
+    ap part (recorded_at-insert m x b (change (recorded_at m x b)) y c)
+    ∙ elim (cases_eq y x) [
+      | inl same ↦
+          elim (cases_eq c b) [
+            | inl here ↦
+                ap (λ t. part (if t then change (recorded_at m x b) else recorded_at m y c)) (both same here)
+                ∙ moves (recorded_at m x b) ∙ ap (λ v. moved (part (recorded_at m v b))) (sym same) ∙ ap (λ d. moved (part (recorded_at m y d))) (sym here)
+                ∙ sym (ap (λ t. if t then moved (part (recorded_at m y c)) else part (recorded_at m y c)) (both same here))
+            | inr other ↦ unmoved (ap (λ t. y == x && t) (test_false c b other) ∙ never (y == x))
+          ]
+      | inr other ↦ unmoved (ap (λ t. t && c == b) (test_false y x other))
+    ]
+  where
+    both : y ≡ x → c ≡ b → (y == x && c == b) ≡ true
+    both same here = ap (λ t. t && c == b) (test_true y x same) ∙ test_true c b here
+
+    unmoved : (y == x && c == b) ≡ false
+        → part (if y == x && c == b then change (recorded_at m x b) else recorded_at m y c) ≡ (if y == x && c == b then moved (part (recorded_at m y c)) else part (recorded_at m y c))
+    unmoved off =
+        ap (λ t. part (if t then change (recorded_at m x b) else recorded_at m y c)) off
+        ∙ sym (ap (λ t. if t then moved (part (recorded_at m y c)) else part (recorded_at m y c)) off)
+
 -- A LIST OF ENTRIES -----------------------------------------------------------------------------------------------
 
 -- whether two numbers are one, by counting both down
@@ -117,89 +155,104 @@ record_at-entries (e ∷ es) x b =
     record_at-insert (map.from_entries es) e.0.0 e.0.1 e.1 x b
     ∙ (λ i. if same_test e.0.0 x i && same_test e.0.1 b i then e.1.value else record_at-entries es x b i)
 
--- A CELL ----------------------------------------------------------------------------------------------------------
+-- THE ENTRIES OF A MAP --------------------------------------------------------------------------------------------
 
--- the entry that a cell is
-abbrev pub entry_of_cell : Cell → Option Recorded
-entry_of_cell cell = if is_no_cell cell then None else Some (recorded_in cell)
+-- a look-up among the entries is one in the records
+lookup_found : (es : List ((ℕ × ℕ) × Recorded)) (p : ℕ × ℕ) → lookup (is_at (variable_then_block p)) es ≡ map.find variable_then_block p es
+lookup_found [] p = refl
+lookup_found (e ∷ es) p = ap (cond (eq_by_cmp variable_then_block p e.0) (Some e.1)) (lookup_found es p)
 
-cell_elsewhere : (x b : ℕ) (cell : Cell) (m : RecordMap) (p : ℕ × ℕ) → p ≢ (x, b) → map.get (with_cell x b cell m) p ≡ map.get m p
-cell_elsewhere x b cell m p other =
-    elim (is_no_cell cell) as (λ t. map.get (if t then m else map.insert m (x, b) (recorded_in cell)) p ≡ map.get m p) [
-      | true ↦ refl
-      | false ↦ get-insert in_order m (x, b) (recorded_in cell) p ∙ ap (λ t. cond t (Some (recorded_in cell)) (map.get m p)) (apart p (x, b) other)
-    ]
+get-records_in : (kept : BTreeMap (ℕ × ℕ) Recorded) (p : ℕ × ℕ) → map.get (records_in kept) p ≡ get_by (variable_then_block p) kept
+get-records_in kept p = get-from_entries in_order kept.entries p ∙ sym (lookup_found kept.entries p)
 
-cell_there : (x b : ℕ) (cell : Cell) (m : RecordMap) → map.get m (x, b) ≡ None → map.get (with_cell x b cell m) (x, b) ≡ entry_of_cell cell
-cell_there x b cell m none =
-    elim (is_no_cell cell) as (λ t. map.get (if t then m else map.insert m (x, b) (recorded_in cell)) (x, b) ≡ (if t then None else Some (recorded_in cell))) [
-      | true ↦ none
-      | false ↦ get-insert in_order m (x, b) (recorded_in cell) (x, b) ∙ ap (λ t. cond t (Some (recorded_in cell)) (map.get m (x, b))) (itself (x, b))
-    ]
+pub recorded_at-found : (kept : BTreeMap (ℕ × ℕ) Recorded) (x b : ℕ) (found : Option Recorded) → found ≡ get_by (variable_then_block (x, b)) kept
+    → recorded_at (records_in kept) x b ≡ unwrap_or found nothing_recorded
+recorded_at-found kept x b found is = ap (λ e. unwrap_or e nothing_recorded) (get-records_in kept (x, b) ∙ sym is)
 
--- A ROW -----------------------------------------------------------------------------------------------------------
+put_there : (es : List ((ℕ × ℕ) × Recorded)) (p : ℕ × ℕ) (r : Recorded) (q : ℕ × ℕ)
+    → map.find variable_then_block q (insert_entry variable_then_block es p r) ≡ cond (eq_by_cmp variable_then_block q p) (Some r) (map.find variable_then_block q es)
+put_there es p r q = ap (map.find variable_then_block q) (same es) ∙ find-put variable_then_block in_order q p r es
+  where
+    by : (o : Ordering) (less equal greater : List ((ℕ × ℕ) × Recorded)) → match_ordering o less equal greater ≡ by_order o less equal greater
+    by Less less equal greater = refl
+    by Equal less equal greater = refl
+    by Greater less equal greater = refl
 
-row_elsewhere : (x b : ℕ) (row : List Cell) (m : RecordMap) (y c : ℕ) → y ≢ x → map.get (with_row x b row m) (y, c) ≡ map.get m (y, c)
-row_elsewhere x b [] m y c other = refl
-row_elsewhere x b (cell ∷ row) m y c other =
-    cell_elsewhere x b cell (with_row x (suc b) row m) (y, c) (λ is. other (ap (λ (p : ℕ × ℕ). p.0) is))
-    ∙ row_elsewhere x (suc b) row m y c other
+    same : (es : List ((ℕ × ℕ) × Recorded)) → insert_entry variable_then_block es p r ≡ put variable_then_block p r es
+    same [] = refl
+    same (e ∷ es) =
+        ap (λ rest. match_ordering (variable_then_block p e.0) ((p, r) ∷ e ∷ es) ((e.0, r) ∷ es) (e ∷ rest)) (same es)
+        ∙ by (variable_then_block p e.0) ((p, r) ∷ e ∷ es) ((e.0, r) ∷ es) (e ∷ put variable_then_block p r es)
 
-row_before : (x b : ℕ) (row : List Cell) (m : RecordMap) (c : ℕ) → c < b → map.get (with_row x b row m) (x, c) ≡ map.get m (x, c)
-row_before x b [] m c before = refl
-row_before x b (cell ∷ row) m c before =
-    cell_elsewhere x b cell (with_row x (suc b) row m) (x, c) (λ is. let same : c ≡ b = ap (λ (p : ℕ × ℕ). p.1) is in absurd (omega (arith, same, before)))
-    ∙ row_before x (suc b) row m c (omega (arith, before))
+-- an entry was put
+inserted : (es : List ((ℕ × ℕ) × Recorded)) (p : ℕ × ℕ) (r : Recorded)
+    → ◌≡◌ {A = RecordMap} (map.from_entries (insert_entry variable_then_block es p r)) (map.insert (map.from_entries es) p r)
+inserted es p r =
+    same_map in_order same_place _ _ (λ q.
+    get-from_entries in_order (insert_entry variable_then_block es p r) q ∙ put_there es p r q
+    ∙ sym (get-insert in_order (map.from_entries es) p r q ∙ ap (cond (eq_by_cmp variable_then_block q p) (Some r)) (get-from_entries in_order es q)))
 
-row_there : (x b : ℕ) (row : List Cell) (m : RecordMap) → ((c : ℕ) → map.get m (x, c) ≡ None) → (k : ℕ)
-    → map.get (with_row x b row m) (x, b + k) ≡ entry_of_cell (slice_index_or row k no_cell)
-row_there x b [] m none k = none (b + k)
-row_there x b (cell ∷ row) m none zero =
-    subst (λ c. map.get (with_row x b (cell ∷ row) m) (x, c) ≡ entry_of_cell cell) (omega arith)
-    (cell_there x b cell (with_row x (suc b) row m) (row_before x (suc b) row m b (omega arith) ∙ none b))
-row_there x b (cell ∷ row) m none (suc k) =
-    let more : suc b + k ≡ b + suc k = omega arith in
-    cell_elsewhere x b cell (with_row x (suc b) row m) (x, b + suc k) (λ is. let same : b + suc k ≡ b = ap (λ (p : ℕ × ℕ). p.1) is in absurd (omega (arith, same)))
-    ∙ subst (λ c. map.get (with_row x (suc b) row m) (x, c) ≡ entry_of_cell (slice_index_or row k no_cell)) more (row_there x (suc b) row m none k)
+-- what was found for a key, or nothing, was changed and put
+pub entry_changed : (old : BTreeMap (ℕ × ℕ) Recorded) (new : List ((ℕ × ℕ) × Recorded)) (x b : ℕ) (change : Recorded → Recorded)
+    → new ≡ insert_entry variable_then_block old.entries (x, b) (change (unwrap_or (get_by (variable_then_block (x, b)) old) nothing_recorded))
+    → HasEntry (records_in old) (map.from_entries new) x b change
+entry_changed old new x b change put =
+    ap map.from_entries put ∙ inserted old.entries (x, b) _
+    ∙ ap (λ (found : Option Recorded). map.insert (records_in old) (x, b) (change (unwrap_or found nothing_recorded))) (sym (get-records_in old (x, b)))
 
--- ALL ROWS --------------------------------------------------------------------------------------------------------
+not_among : (es : List ((ℕ × ℕ) × Recorded)) (p : ℕ × ℕ) → AllByRecursion (λ q. variable_then_block p q ≡ Less) (keys_of es) → map.find variable_then_block p es ≡ None
+not_among [] p below = refl
+not_among (e ∷ es) p below =
+    ap (λ r. cond (is_eq r) (Some e.1) (map.find variable_then_block p es)) below.0 ∙ not_among es p below.1
 
-rows_before : (x : ℕ) (rows : List (List Cell)) (y c : ℕ) → y < x → map.get (records_from x rows) (y, c) ≡ None
-rows_before x [] y c before = get-empty variable_then_block (y, c)
-rows_before x (row ∷ rows) y c before =
-    row_elsewhere x 0 row (records_from (suc x) rows) y c (λ is. absurd (omega (arith, is, before)))
-    ∙ rows_before (suc x) rows y c (omega (arith, before))
+-- where the keys rise, there are as many records as entries
+pub len-records_in : (kept : BTreeMap (ℕ × ℕ) Recorded) → IsOrdered variable_then_block kept → map.len (records_in kept) ≡ btree_map_len kept
+unfolding IsStrictlySortedBy
+len-records_in kept rising = by kept.entries rising
+  where
+    by : (es : List ((ℕ × ℕ) × Recorded)) → IsStrictlySortedBy variable_then_block (keys_of es) → map.len (map.from_entries {R = variable_then_block} es) ≡ length es
+    by [] rising = len-empty variable_then_block Recorded
+    by (e ∷ es) rising =
+        let absent : map.get (map.from_entries {R = variable_then_block} es) e.0 ≡ None = get-from_entries in_order es e.0 ∙ not_among es e.0 rising.0 in
+        let rest : map.len (map.from_entries {R = variable_then_block} es) ≡ length es = by es rising.1 in
+        len-insert in_order (map.from_entries es) e.0 e.1
+        ∙ ap (λ (f : Option Recorded). cond (is_some f) (map.len (map.from_entries {R = variable_then_block} es)) (map.len (map.from_entries {R = variable_then_block} es) + 1)) absent
+        ∙ ap (λ n. n + 1) rest ∙ omega arith
 
-rows_there : (x : ℕ) (rows : List (List Cell)) (k c : ℕ) → map.get (records_from x rows) (x + k, c) ≡ entry_of_cell (cell_at rows k c)
-rows_there x [] k c = get-empty variable_then_block (x + k, c)
-rows_there x (row ∷ rows) zero c =
-    subst (λ y. map.get (records_from x (row ∷ rows)) (y, c) ≡ entry_of_cell (slice_index_or row c no_cell)) (omega arith)
-    (subst (λ b. map.get (records_from x (row ∷ rows)) (x, b) ≡ entry_of_cell (slice_index_or row c no_cell)) (omega arith)
-    (row_there x 0 row (records_from (suc x) rows) (λ b. rows_before (suc x) rows x b (omega arith)) c))
-rows_there x (row ∷ rows) (suc k) c =
-    let more : suc x + k ≡ x + suc k = omega arith in
-    row_elsewhere x 0 row (records_from (suc x) rows) (x + suc k) c (λ is. absurd (omega (arith, is)))
-    ∙ subst (λ y. map.get (records_from (suc x) rows) (y, c) ≡ entry_of_cell (cell_at rows k c)) more (rows_there (suc x) rows k c)
+-- nothing is recorded where there is no entry, and only there
+pub empty_of_none : (kept : BTreeMap (ℕ × ℕ) Recorded) → btree_map_len kept ≡ 0 → records_in kept ≡ map.empty
+empty_of_none kept none = by kept.entries none
+  where
+    by : (es : List ((ℕ × ℕ) × Recorded)) → length es ≡ 0 → ◌≡◌ {A = RecordMap} (map.from_entries es) map.empty
+    by [] none = refl
+    by (e ∷ es) none = absurd (omega (arith, none))
 
-pub entry : (rows : List (List Cell)) (x b : ℕ) → map.get (records_in rows) (x, b) ≡ entry_of_cell (cell_at rows x b)
-entry rows x b = subst (λ y. map.get (records_in rows) (y, b) ≡ entry_of_cell (cell_at rows x b)) (omega arith) (rows_there 0 rows x b)
+pub none_of_empty : (kept : BTreeMap (ℕ × ℕ) Recorded) → records_in kept ≡ map.empty → btree_map_len kept ≡ 0
+none_of_empty kept empty = by kept.entries empty
+  where
+    some_none : {r : Recorded} → ◌≡◌ {A = Option Recorded} (Some r) None → ⊥
+    some_none same = cc
 
-pub none_of_no_cell : (value : Option ℕ) (lookups : ℕ) → (is_none value && lookups == 0) ≡ true → (value ≡ None) × (lookups ≡ 0)
-none_of_no_cell None lookups is = (refl, grind (arith, common_steps))
-none_of_no_cell (Some v) lookups is = cc
+    by : (es : List ((ℕ × ℕ) × Recorded)) → ◌≡◌ {A = RecordMap} (map.from_entries es) map.empty → length es ≡ 0
+    by [] empty = refl
+    by (e ∷ es) empty =
+        absurd (some_none (
+        ap (λ t. cond t (Some e.1) (map.find variable_then_block e.0 es)) (sym (itself e.0)) ∙ sym (get-from_entries in_order (e ∷ es) e.0)
+        ∙ ap (λ (m : RecordMap). map.get m e.0) empty ∙ get-empty variable_then_block e.0))
 
-nothing_of : (cell : Cell) → is_no_cell cell ≡ true → nothing_recorded ≡ recorded_in cell
-nothing_of cell is =
-    let parts = none_of_no_cell cell.value cell.lookups is in
-    λ i. record { value = sym parts.0 i; lookups = sym parts.1 i }
+-- A CHANGED ENTRY -------------------------------------------------------------------------------------------------
 
-recorded_of_entry : (cell : Cell) → unwrap_or (entry_of_cell cell) nothing_recorded ≡ recorded_in cell
-recorded_of_entry cell =
-    elim (is_no_cell cell) as (λ t. is_no_cell cell ≡ t → unwrap_or (if t then None else Some (recorded_in cell)) nothing_recorded ≡ recorded_in cell) [
-      | true ↦ nothing_of cell
-      | false ↦ λ _. refl
-    ] refl
+pub value_changed : (old new : RecordMap) (x b value : ℕ) → HasEntry old new x b (recording value)
+    → (y c : ℕ) → record_at new y c ≡ (if y == x && c == b then Some value else record_at old y c)
+value_changed old new x b value has y c = ap (λ m. record_at m y c) has ∙ record_at-insert old x b (recording value (recorded_at old x b)) y c
 
--- what the map of rows says is what the cell says
-pub recorded_at-cell : (rows : List (List Cell)) (x b : ℕ) → recorded_at (records_in rows) x b ≡ recorded_in (cell_at rows x b)
-recorded_at-cell rows x b = ap (λ e. unwrap_or e nothing_recorded) (entry rows x b) ∙ recorded_of_entry (cell_at rows x b)
+pub count_changed : (old new : RecordMap) (x b : ℕ) → HasEntry old new x b counting
+    → (y c : ℕ) → lookups_at new y c ≡ (if y == x && c == b then one_more (lookups_at old y c) else lookups_at old y c)
+count_changed old new x b has y c = ap (λ m. lookups_at m y c) has ∙ at_entry (λ r. r.lookups) one_more old x b counting (λ r. refl) y c
+
+-- what the change leaves alone is as it was
+pub value_kept : (old new : RecordMap) (x b : ℕ) → HasEntry old new x b counting → (y c : ℕ) → record_at new y c ≡ record_at old y c
+value_kept old new x b has y c = ap (λ m. record_at m y c) has ∙ at_entry (λ r. r.value) (λ v. v) old x b counting (λ r. refl) y c ∙ either (y == x && c == b) _
+
+pub count_kept : (old new : RecordMap) (x b value : ℕ) → HasEntry old new x b (recording value) → (y c : ℕ) → lookups_at new y c ≡ lookups_at old y c
+count_kept old new x b value has y c = ap (λ m. lookups_at m y c) has ∙ at_entry (λ r. r.lookups) (λ n. n) old x b (recording value) (λ r. refl) y c ∙ either (y == x && c == b) _

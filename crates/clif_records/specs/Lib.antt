@@ -1,4 +1,4 @@
 pub mod Tables
 pub mod Passed
-pub mod Cells
+pub mod Records
 pub mod Stacks

@@ -10,12 +10,9 @@ use Rattle.clif_records.specs.declared.tables.Pending.{Pending}
 use Rattle.clif_records.specs.declared.tables.Sealed.{Sealed}
 use Rattle.clif_records.specs.declared.tables.Sealed.TheVariants.{No, Yes}
 use Rattle.clif_records.specs.declared.tables.SsaBlock.{SsaBlock}
-
 -- what is known of a variable in a block: the value that it is recorded to have at the block's end, if one is recorded,
 -- and how many look-ups of it in the block's predecessors began
-pub record Recorded : Type 0 where
-  pub value : Option ℕ
-  pub lookups : ℕ
+pub use Rattle.clif_records.specs.declared.tables.Recorded.{Recorded}
 
 abbrev pub nothing_recorded : Recorded
 nothing_recorded = record { value = None; lookups = 0 }

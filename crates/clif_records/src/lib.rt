@@ -1,7 +1,7 @@
 //! What the construction of SSA form keeps: variables, their records, predecessors, and the stacks of a look-up.
 //!
-//! Each table is seen by contracts as plain data: the records as a finite map (`specs/Tables`), which rows of cells keep
-//! (`specs/Cells`); the blocks as a list of what is known of each; the blocks that a walk passes as a list
+//! Each table is seen by contracts as plain data: the records as a finite map (`specs/Tables`), which one ordered map
+//! keeps (`specs/Records`); the blocks as a list of what is known of each; the blocks that a walk passes as a list
 //! (`specs/Passed`); and a look-up that is under way as its stacks, the top of each first (`specs/Stacks`). Nothing here
 //! knows a function: `clif_ssa` above does.
 #![tactic(auto)]

@@ -3,149 +3,31 @@
 ghost use Rattle.std.specs.Prelude.{◌≡◌, ◌==◌, ◌&&◌, ◌↔◌, IsTrue, false, ℕ, [], ◌∷◌, ◌++◌, ◌<◌, ◌≤◌, ◌+◌, ◌⊎◌, ◌^◌, length, OnOk, OnErr, IfOk, Some, None, if◌then◌else◌, slice_index_or};
 ghost use Rattle.clif_instructions.specs.Members.{Stands, place_of, without};
 ghost use Rattle.std.specs.FinMap as map;
-ghost use Rattle.clif_records.specs.Cells.{no_cell, is_no_cell, recorded_in, cell_at, SameCells, RecordsCell, RecordsCells, RecordsSomeCells, RecordsUpTo, RecordsSome, CountsCell};
+ghost use Rattle.clif_records.specs.Records.{recording, counting, HasEntry, RecordsUpTo, RecordsSome};
 ghost use Rattle.clif_records.specs.Tables.{recorded_at, record_at, lookups_at, one_more, known_at, sealed_at, predecessors_at, sealed_predecessors_at, is_yes, pending_of};
 
 use crate::variable::Variable;
 use clif_types::{Block, BuildError, EntityRef, Inst, Value};
 use smallvec::SmallVec;
 use std::alloc::Global;
+use std::collections::BTreeMap;
 use std::marker::Model;
 use std::mem;
 
 /// What is known of a variable in a block.
 #[derive(Clone, Copy, Debug, PartialEq, Eq)]
-pub struct Cell {
+pub struct Recorded {
     /// The value that the variable has at the block's end so far, if one is known.
     pub value: Option<Value>,
     /// How many look-ups of the variable in the block's predecessors began, up to 2^32 - 1 of them.
     pub lookups: u32,
 }
 
-/// What a block holds of a variable of which nothing is known there.
-const NO_CELL: Cell = Cell {
+/// What is known where there is no record.
+const NOTHING_RECORDED: Recorded = Recorded {
     value: None,
     lookups: 0,
 };
-
-impl Cell {
-    /// Whether nothing is known.
-    fn says_nothing(&self) -> bool
-        ensures { result ≡ is_no_cell self.now }
-    {
-        self.value.is_none() && self.lookups == 0
-    }
-}
-
-/// What is known of one variable: a cell for each block, by its number. What is past the end isn't
-/// known.
-#[derive(Debug, Drop)]
-pub struct Records {
-    cells: Vec<Cell>,
-}
-
-impl Model for Records {
-    ghost use Rattle.std.specs.Prelude.{List};
-    ghost use Rattle.clif_records.specs.declared.tables.Cell.{Cell};
-
-    ghost Value = { List Cell };
-
-    ghost view = { λ r. r.cells.items };
-}
-
-impl Records {
-    /// No records.
-    pub(crate) fn new(alloc: Global) -> Self
-        ensures { result ≡ [] }
-    {
-        Records {
-            cells: Vec::new(alloc),
-        }
-    }
-
-    /// The cell of a block.
-    pub(crate) fn get(&self, block: Block) -> Cell
-        ensures { result ≡ slice_index_or self.now block no_cell }
-    {
-        match self.cells.get(block.index()) {
-            Some(cell) => *cell,
-            None => NO_CELL,
-        }
-    }
-
-    /// Whether nothing is known in any block.
-    pub(crate) fn is_empty(&self) -> bool
-        ensures { IsTrue result ↔ ((b : ℕ) → slice_index_or self.now b no_cell ≡ no_cell) }
-    {
-        for cell in self.cells.iter() {
-            if !cell.says_nothing() {
-                return false;
-            }
-        }
-        true
-    }
-
-    // Makes room for a block. What is known in each block stays.
-    fn reach(&mut self, block: Block) -> Result<(), BuildError>
-        ensures same { SameCells self.old self.new }
-        ensures ok { OnOk result (block < length self.new) }
-        ensures only_memory { OnErr result (result ≡ Err BuildError.Memory) }
-    {
-        if block.index() < self.cells.len() {
-            return Ok(());
-        }
-        let missing = (block.index() + 1).saturating_sub(self.cells.len());
-        for _ in 0..missing {
-            self.cells.push(NO_CELL)?;
-        }
-        Ok(())
-    }
-
-    /// Records a value in a block. After an error each cell is as it was.
-    pub(crate) fn record(&mut self, block: Block, value: Value) -> Result<(), BuildError>
-        ensures ok { OnOk result (RecordsCell self.old self.new value block) }
-        ensures err { OnErr result (SameCells self.old self.new) }
-        ensures only_memory { OnErr result (result ≡ Err BuildError.Memory) }
-    {
-        self.reach(block)?;
-        self.cells[block.index()].value = Some(value);
-        Ok(())
-    }
-
-    /// Counts a look-up in a block's predecessors. After an error each cell is as it was.
-    pub(crate) fn count_lookup(&mut self, block: Block) -> Result<(), BuildError>
-        ensures ok { OnOk result (CountsCell self.old self.new block) }
-        ensures err { OnErr result (SameCells self.old self.new) }
-        ensures only_memory { OnErr result (result ≡ Err BuildError.Memory) }
-    {
-        self.reach(block)?;
-        let lookups = self.cells[block.index()].lookups;
-        self.cells[block.index()].lookups = lookups.saturating_add(1);
-        Ok(())
-    }
-
-    #[tactic(auto, using(crate::proofs::Copying::copying_rules))]
-    /// Records a value in these blocks, up to the first `from` among them. After an error it may be
-    /// recorded in some.
-    pub(crate) fn record_each(
-        &mut self,
-        blocks: &[Block],
-        from: Block,
-        value: Value,
-    ) -> Result<(), BuildError>
-        ensures ok { OnOk result (RecordsCells self.old self.new value blocks.now from) }
-        ensures part { RecordsSomeCells self.old self.new value blocks.now }
-        ensures only_memory { OnErr result (result ≡ Err BuildError.Memory) }
-    {
-        for block in blocks.iter() {
-            if *block == from {
-                break;
-            }
-            self.record(*block, value)?;
-        }
-        Ok(())
-    }
-}
 
 /// A parameter that waits for its block to be sealed, and the variable for which it was made.
 #[derive(Clone, Copy, Debug, PartialEq, Eq)]
@@ -197,21 +79,23 @@ impl PendingList {
     }
 }
 
-/// The records of all variables: a dense table of tables, with one cell for each variable and block.
+/// The records of all variables: one map, with an entry for each variable and block of which something
+/// is known.
 #[derive(Debug, Drop)]
 pub struct VariableTable {
-    rows: Vec<Records>,
+    // By the variable and then by the block, so that the records of a variable are one range of keys.
+    records: BTreeMap<(Variable, Block), Recorded>,
 }
 
 impl Model for VariableTable {
-    ghost use Rattle.clif_records.specs.Cells.{records_in};
+    ghost use Rattle.clif_records.specs.Records.{records_in};
     ghost use Rattle.clif_records.specs.Tables.{RecordMap, record_map_code};
 
     ghost Value = { RecordMap };
 
     ghost coded = { record_map_code };
 
-    ghost view = { λ t. records_in t.rows.items };
+    ghost view = { λ t. records_in t.records };
 }
 
 impl VariableTable {
@@ -220,36 +104,38 @@ impl VariableTable {
         ensures { result ≡ map.empty }
     {
         VariableTable {
-            rows: Vec::new(alloc),
+            records: BTreeMap::new(alloc),
         }
     }
 
-    /// Forgets all records, and keeps the memory.
+    /// Forgets all records, and gives their memory back.
     pub fn clear(&mut self)
         ensures { self.new ≡ map.empty }
     {
-        self.rows.clear();
+        self.records.clear();
     }
 
     /// Whether nothing is recorded.
     pub fn is_empty(&self) -> bool
         ensures { IsTrue result ↔ (self.now ≡ map.empty) }
     {
-        for row in self.rows.iter() {
-            if !row.is_empty() {
-                return false;
-            }
-        }
-        true
+        self.records.is_empty()
+    }
+
+    /// In how many pairs of a variable and a block something is recorded.
+    pub fn records(&self) -> usize
+        ensures { result ≡ map.len self.now }
+    {
+        self.records.len()
     }
 
     /// What is known of a variable in a block.
-    fn cell(&self, variable: Variable, block: Block) -> Cell
-        ensures { recorded_in result ≡ recorded_at self.now variable block }
+    fn recorded(&self, variable: Variable, block: Block) -> Recorded
+        ensures { result ≡ recorded_at self.now variable block }
     {
-        match self.rows.get(variable.index()) {
-            Some(row) => row.get(block),
-            None => NO_CELL,
+        match self.records.get(&(variable, block)) {
+            Some(recorded) => *recorded,
+            None => NOTHING_RECORDED,
         }
     }
 
@@ -257,27 +143,34 @@ impl VariableTable {
     pub fn get(&self, variable: Variable, block: Block) -> Option<Value>
         ensures { result ≡ record_at self.now variable block }
     {
-        self.cell(variable, block).value
+        self.recorded(variable, block).value
     }
 
     /// How many look-ups of a variable in a block's predecessors began.
     pub fn lookups(&self, variable: Variable, block: Block) -> u32
         ensures { result ≡ lookups_at self.now variable block }
     {
-        self.cell(variable, block).lookups
+        self.recorded(variable, block).lookups
     }
 
-    /// Records a value for a variable in a block. After an error each record is as it was.
+    /// Records a value for a variable in a block. After an error the records are as they were.
     pub fn set(&mut self, variable: Variable, block: Block, value: Value) -> Result<(), BuildError>
+        ensures entry { OnOk result (HasEntry self.old self.new variable block (recording value)) }
+        ensures refused { OnErr result (self.new ≡ self.old) }
         ensures ok { OnOk result ((v b : ℕ) → record_at self.new v b ≡ (if v == variable && b == block then Some value else record_at self.old v b)) }
         ensures lookups { (v b : ℕ) → lookups_at self.new v b ≡ lookups_at self.old v b }
         ensures err { OnErr result ((v b : ℕ) → record_at self.new v b ≡ record_at self.old v b) }
         ensures only_memory { OnErr result (result ≡ Err BuildError.Memory) }
     {
-        reach_row(&mut self.rows, variable)?;
-        self.rows[variable.index()].record(block, value)
+        let recorded = self
+            .records
+            .entry((variable, block))?
+            .or_insert(NOTHING_RECORDED);
+        recorded.value = Some(value);
+        Ok(())
     }
 
+    #[tactic(auto, using(crate::proofs::Copying::copying_rules))]
     /// Records a value for a variable in these blocks, up to the first `from` among them. After an error
     /// it may be recorded in some.
     pub fn set_each(
@@ -292,38 +185,32 @@ impl VariableTable {
         ensures lookups { (v b : ℕ) → lookups_at self.new v b ≡ lookups_at self.old v b }
         ensures only_memory { OnErr result (result ≡ Err BuildError.Memory) }
     {
-        reach_row(&mut self.rows, variable)?;
-        self.rows[variable.index()].record_each(blocks, from, value)
+        for block in blocks.iter() {
+            if *block == from {
+                break;
+            }
+            self.set(variable, *block, value)?;
+        }
+        Ok(())
     }
 
-    /// Counts a look-up of a variable in a block's predecessors. After an error each count is as it was.
+    /// Counts a look-up of a variable in a block's predecessors. After an error the records are as they
+    /// were.
     pub fn count_lookup(&mut self, variable: Variable, block: Block) -> Result<(), BuildError>
+        ensures entry { OnOk result (HasEntry self.old self.new variable block counting) }
+        ensures refused { OnErr result (self.new ≡ self.old) }
         ensures records { (v b : ℕ) → record_at self.new v b ≡ record_at self.old v b }
         ensures ok { OnOk result ((v b : ℕ) → lookups_at self.new v b ≡ (if v == variable && b == block then one_more (lookups_at self.old v b) else lookups_at self.old v b)) }
         ensures err { OnErr result ((v b : ℕ) → lookups_at self.new v b ≡ lookups_at self.old v b) }
         ensures only_memory { OnErr result (result ≡ Err BuildError.Memory) }
     {
-        reach_row(&mut self.rows, variable)?;
-        self.rows[variable.index()].count_lookup(block)
+        let recorded = self
+            .records
+            .entry((variable, block))?
+            .or_insert(NOTHING_RECORDED);
+        recorded.lookups = recorded.lookups.saturating_add(1);
+        Ok(())
     }
-}
-
-#[tactic(auto, using(crate::proofs::RecordLaws::record_rules))]
-// Makes room for a variable. What is known of each variable stays.
-fn reach_row(rows: &mut Vec<Records>, variable: Variable) -> Result<(), BuildError>
-    ensures same { (v b : ℕ) → cell_at rows.new.items v b ≡ cell_at rows.old.items v b }
-    ensures ok { OnOk result (variable < length rows.new.items) }
-    ensures only_memory { OnErr result (result ≡ Err BuildError.Memory) }
-{
-    if variable.index() < rows.len() {
-        return Ok(());
-    }
-    let alloc = *rows.allocator();
-    let missing = (variable.index() + 1).saturating_sub(rows.len());
-    for _ in 0..missing {
-        rows.push(Records::new(alloc))?;
-    }
-    Ok(())
 }
 
 /// Whether a block is sealed.

@@ -1,5 +1,5 @@
 -- What an instruction of a plan is, by numbers, and when it may be made.
-use Rattle.std.proofs.Common.{◌≡◌, ℕ, zero, suc, ◌<◌, List, [], ◌∷◌, length, refl, ap, arith, sym, ◌∙◌, subst}
+use Rattle.std.proofs.Common.{◌≡◌, ℕ, zero, suc, ◌<◌, ◌≤◌, List, [], ◌∷◌, length, refl, ap, arith, sym, ◌∙◌, subst}
 use Rattle.std.specs.Prelude.{ℤ, drop, map, Option, Some, None, is_some, Bool, true, false, ◌&&◌, Ok, slice_index}
 use Rattle.std.specs.List.{All, list_all}
 use Rattle.std.specs.Borrow.{Bor}
@@ -7,7 +7,7 @@ use Rattle.std.proofs.lemmas.Bool.{and_from, and_parts}
 use Rattle.clif_types.specs.declared.types.«Type».{«Type»}
 use Rattle.clif_types.specs.declared.types.«Type».TheVariants.{Invalid}
 use Rattle.clif_types.specs.Signature.{SignatureShape}
-use Rattle.clif_ir.specs.Body.{value_at}
+use Rattle.clif_ir.specs.Body.{Body, value_at}
 use Rattle.clif_instructions.specs.Instruction.{destinations, operands}
 use Rattle.clif_instructions.specs.declared.block_call.BlockCall.{BlockCall}
 use Rattle.clif_types.specs.declared.condcodes.IntCC.{IntCC}
@@ -33,12 +33,21 @@ use Rattle.clif_calls.specs.declared.call.Name.{Name}
 use Rattle.clif_calls.specs.declared.plan.Plan.{Plan}
 use Rattle.clif_calls.specs.declared.plan.Plan.TheVariants as plan
 use Rattle.clif_replay.specs.declared.script.Answer.{Answer}
+use Rattle.clif_ir.specs.Changes.{HasNoRoom}
+use Rattle.clif_instructions.specs.Instruction.{result_count}
+use Rattle.clif_opcodes.specs.declared.opcodes.Opcode.{Opcode}
+use Rattle.clif_opcodes.specs.Typing.{row_of}
+use Rattle.clif_meaning.specs.Instruction.{Operation, operation_typing}
+use Rattle.clif_ssa.specs.Limits.{IsFull}
+use Rattle.cranelift_frontend.specs.Built.{HasFullTable}
+use Rattle.cranelift_frontend.proofs.Sorts.{same_opcode}
+use Rattle.clif_replay.specs.Limits.{PlanMeetsFullTable}
 use Rattle.clif_replay.specs.declared.make_instructions.Planned.{Planned}
 use Rattle.clif_replay.specs.Makes.{AreFound, Finds, IsPlanned, ValuesExist, can_make, has_names, type_in}
 use Rattle.clif_replay.specs.Ready.{IsReady, all_values, is_open, may_lead, value_of}
 use Rattle.clif_replay.specs.Requests.{controlling_in, edge_of, first_type, name_of, operation_in, request_in}
 use Rattle.clif_replay.proofs.Conditions.{all-exist, all-found, all-numbered, found-exists, found-leads, found-names, lead-same, open-same, value-type-same, values-same}
-use Rattle.clif_replay.proofs.Making.{found-one}
+use Rattle.clif_replay.proofs.Making.{found-one, full-either}
 use Rattle.clif_replay.proofs.ReadyLaws.{value-missing}
 
 -- THE CONDITION -----------------------------------------------------------------------------------------------------
@@ -71,6 +80,7 @@ controlling-same : (first second : Name → «Type») → ((name : Name) → fir
 controlling-same first second same (plan.Unary opcode arg) = same arg
 controlling-same first second same (plan.Binary opcode args) = first-same first second same args
 controlling-same first second same (plan.Concat args) = first-same first second same args
+controlling-same first second same (plan.Split arg) = same arg
 controlling-same first second same (plan.IntCompare cond args) = first-same first second same args
 controlling-same first second same (plan.Ternary args) = first-same first second same (drop 1 args)
 controlling-same first second same (plan.Store flags args offset) = first-same first second same args
@@ -185,6 +195,11 @@ pub planned-concat : (b : FunctionBuilder) (answers : List Answer) (args : List 
 planned-concat b answers args x y found =
     record { operation = refl; controlling = first-found b answers args x (y ∷ []) found; typed = refl; operands = found; edges = tt }
 
+pub planned-split : (b : FunctionBuilder) (answers : List Answer) (name : Name) (x : ℕ) → map (value_of b.func.now answers) (name ∷ []) ≡ map Some (x ∷ [])
+    → IsPlanned b answers (plan.Split name) (shape.Split x) (value_at b.func.now x).ty
+planned-split b answers name x found =
+    record { operation = refl; controlling = first-found b answers (name ∷ []) x [] found; typed = refl; operands = found; edges = tt }
+
 pub planned-ternary : (b : FunctionBuilder) (answers : List Answer) (args : List Name) (test x y : ℕ)
     → map (value_of b.func.now answers) args ≡ map Some (test ∷ x ∷ y ∷ [])
     → IsPlanned b answers (plan.Ternary args) (shape.Ternary (test ∷ x ∷ y ∷ [])) (value_at b.func.now x).ty
@@ -214,6 +229,27 @@ pub planned-float : (b : FunctionBuilder) (answers : List Answer) (code : FloatC
 planned-float b answers F16const bits = record { operation = refl; controlling = refl; typed = refl; operands = refl; edges = tt }
 planned-float b answers F32const bits = record { operation = refl; controlling = refl; typed = refl; operands = refl; edges = tt }
 planned-float b answers F64const bits = record { operation = refl; controlling = refl; typed = refl; operands = refl; edges = tt }
+
+-- FULL TABLES ---------------------------------------------------------------------------------------------------------
+
+-- how many results an instruction of a plan has
+abbrev pub plan_count : Plan → ℕ
+plan_count p = length (operation_typing (operation_in p)).results
+
+-- where there is no room for it, a table is full; or one result too many is wanted
+plan-met : (f : Body) (p : Plan) → HasNoRoom f (plan_count p) → (plan_count p ≤ 1 → IsFull f) → PlanMeetsFullTable p f
+plan-met f (plan.Split arg) none few = none
+plan-met f (plan.UnaryIeee F16const bits) none few = few (omega arith)
+plan-met f (plan.UnaryIeee F32const bits) none few = few (omega arith)
+plan-met f (plan.UnaryIeee F64const bits) none few = few (omega arith)
+plan-met f _ none few = few (omega arith)
+
+pub planned-full : (b : FunctionBuilder) (answers : List Answer) (p : Plan) (s : InstructionData) (ty : «Type») → IsPlanned b answers p s ty
+    → HasNoRoom b.func.now (result_count s) → (result_count s ≤ 1 → HasFullTable b) → PlanMeetsFullTable p b.func.now
+planned-full b answers p s ty planned none few =
+    let same : plan_count p ≡ result_count s =
+    ap (λ (o : Operation). length (operation_typing o).results) planned.operation ∙ ap (λ (o : Opcode). length (row_of o).results) (same_opcode s) in
+    plan-met b.func.now p (subst (HasNoRoom b.func.now) (sym same) none) (λ small. full-either b.func.now (few (subst (λ (n : ℕ). n ≤ 1) same small)))
 
 -- what names lead to is there
 edges-there : (b : FunctionBuilder) (answers : List Answer) (edges : List Edge) (made : List BlockCall) → AreFound b answers edges made → list_all (may_lead b answers) edges ≡ true

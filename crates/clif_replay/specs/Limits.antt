@@ -3,6 +3,10 @@ use Rattle.std.specs.Prelude.{◌≡◌, ◌-◌, ◌^◌, length}
 use Rattle.clif_ir.specs.Body.{Body}
 use Rattle.clif_ssa.specs.Constructs.{OnlyConstructs}
 use Rattle.clif_ssa.specs.Limits.{IsFull}
+use Rattle.clif_ir.specs.Changes.{HasNoRoom}
+use Rattle.clif_calls.specs.Plan.{plan_of}
+use Rattle.clif_calls.specs.declared.plan.Plan.{Plan}
+use Rattle.clif_calls.specs.declared.plan.Plan.TheVariants as plan
 use Rattle.clif_calls.specs.declared.call.Call.{Call}
 use Rattle.clif_calls.specs.declared.call.Call.TheVariants as call
 use Rattle.cranelift_frontend.specs.Context.{ContextState}
@@ -11,6 +15,12 @@ use Rattle.cranelift_frontend.specs.Growth.{NoRoomFor}
 -- the construction of SSA form alone leads from this function to one whose table of values, or that of instructions, is full
 abbrev pub ConstructsUntilFull : Body → Type 0
 ConstructsUntilFull f = (g : Body) × OnlyConstructs f g × IsFull g
+
+-- An instruction of this plan finds the table of instructions or that of values full; or, of one with two results, the table
+-- of values has a number left for one of them alone.
+abbrev pub PlanMeetsFullTable : Plan → Body → Type 0
+PlanMeetsFullTable (plan.Split arg) f = HasNoRoom f 2
+PlanMeetsFullTable _ f = IsFull f
 
 -- A call, made so far as it is made, meets a table that holds 2^32 - 1 entries: a call that lengthens a table finds it full,
 -- one that makes several parameters fills the table of values before it has made them all, and a use of a variable and a
@@ -21,7 +31,7 @@ MeetsFullTable (call.DeclareVar ty) f c = length c.variables ≡ 2 ^ 32 - 1
 MeetsFullTable (call.AppendBlockParam block ty) f c = length f.values ≡ 2 ^ 32 - 1
 MeetsFullTable (call.AppendBlockParamsForFunctionParams block) f c = NoRoomFor f (length f.signature.params)
 MeetsFullTable (call.AppendBlockParamsForFunctionReturns block) f c = NoRoomFor f (length f.signature.returns)
-MeetsFullTable (call.Plain instruction) f c = IsFull f
+MeetsFullTable (call.Plain instruction) f c = PlanMeetsFullTable (plan_of instruction) f
 MeetsFullTable (call.Jump destination) f c = IsFull f
 MeetsFullTable (call.Brif condition block_then block_else) f c = IsFull f
 MeetsFullTable (call.Return values) f c = IsFull f

@@ -12,7 +12,6 @@ use Rattle.clif_meaning.specs.Acceptance.{allows, can_operate}
 use Rattle.clif_meaning.specs.Ledger.{Ledger}
 use Rattle.clif_meaning.specs.Request.{AnsweredCall, Request}
 use Rattle.clif_meaning.specs.View.{made_at, operation_of}
-use Rattle.clif_ssa.specs.Limits.{IsFull}
 use Rattle.cranelift_frontend.specs.declared.builder.FunctionBuilder.{FunctionBuilder}
 use Rattle.cranelift_frontend.specs.Builder.{SameLoans}
 use Rattle.cranelift_frontend.specs.Ledger.{ledger_of}
@@ -25,7 +24,7 @@ use Rattle.clif_replay.specs.declared.make_instructions.Planned.{Planned}
 use Rattle.clif_replay.specs.declared.script.Answer.{Answer}
 use Rattle.clif_replay.specs.declared.script.CallError.{CallError}
 use Rattle.clif_replay.specs.declared.script.CallError.TheVariants as error
-use Rattle.clif_replay.specs.Limits.{MeetsFullTable}
+use Rattle.clif_replay.specs.Limits.{MeetsFullTable, PlanMeetsFullTable}
 use Rattle.clif_replay.specs.Ready.{IsFound, IsJudged, IsReady, IsReadyAfter, all_values, is_open, may_lead, types_after, value_of}
 use Rattle.clif_replay.specs.Requests.{controlling_in, operation_in, request_in, request_of}
 
@@ -51,7 +50,7 @@ MakesCall call old new answers result =
 -- for an instruction of this plan
 abbrev pub MakesPlan : Plan → FunctionBuilder → FunctionBuilder → List Answer → Result Answer CallError → Type 0
 MakesPlan plan old new answers result =
-    Makes (λ declared ledger. request_in ledger plan) (IsFull old.func.now) old.ctx.now.variables old new answers result
+    Makes (λ declared ledger. request_in ledger plan) (PlanMeetsFullTable plan old.func.now) old.ctx.now.variables old new answers result
 
 -- What is asked is found, where it is there; or memory is refused.
 pub record Finds {X : Type 0} (Found : X → Type 0) (there : Bool) (result : Result X CallError) : Type 0 where

@@ -3,7 +3,7 @@ use Rattle.std.specs.Prelude.{◌≡◌, ℕ, List, [], ◌∷◌, ◌++◌, map
 use Rattle.clif_ir.specs.Body.{Body}
 use Rattle.clif_meaning.specs.Event.{types_of}
 use Rattle.clif_meaning.specs.Name.{Name}
-use Rattle.clif_meaning.specs.Instruction.{Binary, Brif, Compare, Compute, Concat, CondTrap, Convert, Edge, FloatConst, Iconst, Jump, Known, Load, Operation, Return, Select, Store, Trap, Unary}
+use Rattle.clif_meaning.specs.Instruction.{Binary, Brif, Compare, Compute, Concat, CondTrap, Convert, Edge, FloatConst, Iconst, Jump, Known, Load, Operation, Return, Select, Split, Store, Trap, Unary}
 use Rattle.clif_meaning.specs.Request.{Request, CreateBlock, SwitchToBlock, SealBlock, SealAllBlocks, InsertBlockAfter, SetColdBlock, EnsureInsertedBlock, AppendBlockParams, AppendFunctionParams, DeclareVar, DefVar, UseVar, Build, Finalize, Script, AnsweredCall, script_of}
 use Rattle.clif_meaning.specs.Ledger.{Ledger, empty_ledger, ledger_after, ledger_with, or_invalid, type_of}
 use Rattle.clif_meaning.specs.Acceptance.{Verdict, Accepted, Misuse, Refused, jump, brif, return_, trap, allows, verdict_from, verdict_on}
@@ -40,6 +40,7 @@ operation_in (plan.Unary opcode arg) = Compute (Unary opcode)
 operation_in (plan.Binary opcode args) = Compute (Binary opcode)
 operation_in (plan.Convert opcode ty arg) = Compute (Convert opcode)
 operation_in (plan.Concat args) = Compute Concat
+operation_in (plan.Split arg) = Compute Split
 operation_in (plan.IntCompare cond args) = Compute (Compare cond)
 operation_in (plan.Ternary args) = Compute Select
 operation_in (plan.Load flags ty arg offset) = Load flags offset
@@ -62,6 +63,7 @@ controlling_in typed (plan.Unary opcode arg) = typed arg
 controlling_in typed (plan.Binary opcode args) = first_type typed args
 controlling_in typed (plan.Convert opcode ty arg) = ty
 controlling_in typed (plan.Concat args) = first_type typed args
+controlling_in typed (plan.Split arg) = typed arg
 controlling_in typed (plan.IntCompare cond args) = first_type typed args
 controlling_in typed (plan.Ternary args) = first_type typed (drop 1 args)
 controlling_in typed (plan.Load flags ty arg offset) = ty

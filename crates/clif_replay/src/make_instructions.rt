@@ -84,6 +84,7 @@ fn can_operate(plan: &Plan<'_>, ty: Type) -> bool
         Plan::UnaryImm { .. } => ty.is_int(),
         Plan::Convert { opcode, .. } => Opcode::Convert(*opcode).typing().demand.is_met(ty),
         Plan::Concat { .. } => Demand::ADoubled.is_met(ty),
+        Plan::Split { .. } => Demand::AHalved.is_met(ty),
         Plan::Load { .. } => ty.is_valid(),
         _ => true,
     }
@@ -109,6 +110,7 @@ fn shaped(
         Plan::Binary { opcode, args } => binary(builder, answers, *opcode, args),
         Plan::Convert { opcode, ty, arg } => convert(builder, answers, *opcode, *ty, *arg),
         Plan::Concat { args } => concat(builder, answers, args),
+        Plan::Split { arg } => split(builder, answers, *arg),
         Plan::IntCompare { cond, args } => compare(builder, answers, *cond, args),
         Plan::Ternary { args } => ternary(builder, answers, args),
         Plan::Load {
@@ -198,6 +200,17 @@ fn concat(
     let (x, y) = two_values(func, answers, args)?;
     let args = [x, y];
     Ok(like(func, InstructionData::Concat { args }, x))
+}
+
+// An integer that is split into its halves, at its type.
+fn split(builder: &FunctionBuilder<'_>, answers: &[Answer], arg: Name) -> Result<Planned, CallError>
+    requires answers { AnswersExist builder.now.func.now answers.now }
+    requires values { ValuesExist builder.now answers.now }
+    ensures { FindsPlan builder.now answers.now (Plan.Split arg) result }
+{
+    let func = builder.func();
+    let arg = one_value(func, answers, arg)?;
+    Ok(like(func, InstructionData::Split { arg }, arg))
 }
 
 // A conversion of one value, which is made at a type that is given.

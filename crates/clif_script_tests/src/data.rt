@@ -290,6 +290,7 @@ byte = load.i8 aligned p +4
 wide = sextend.i32 byte
 both = iconcat wide wide
 is_less = icmp slt both p
+low, high = isplit both
 store notrap is_less p -8
 trapnz byte int_ovf
 return single
@@ -306,6 +307,7 @@ block0(v0: i64):
     v5 = sextend.i32 v4
     v6 = iconcat v5, v5
     v7 = icmp slt v6, v0
+    v8, v9 = isplit v6
     store notrap v7, v0-8
     trapnz v4, int_ovf
     return v2  ; v2 = 0.0

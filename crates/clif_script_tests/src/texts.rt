@@ -120,6 +120,7 @@ f64const 0x3ff0_0000_0000_0000
 f64const 18446744073709551615
 sextend.i64 $1.0
 iconcat $1.0 $2.0
+low, high = isplit $1.0
 icmp slt $1.0, $2.0
 icmp uge $1.0, $2.0
 load.i32 $1.0
@@ -144,6 +145,7 @@ f64const 4607182418800017408
 f64const 18446744073709551615
 sextend.i64 $1.0
 iconcat $1.0 $2.0
+isplit $1.0
 icmp slt $1.0 $2.0
 icmp uge $1.0 $2.0
 load.i32 $1.0
@@ -239,7 +241,7 @@ block0:
     Ok(())
 }
 
-const MISUSES: [(&str, &str); 13] = [
+const MISUSES: [(&str, &str); 14] = [
     (data::MISUSE, data::MISUSE_TEXT),
     // an answer that isn't there, and one of another kind
     (
@@ -271,10 +273,14 @@ const MISUSES: [(&str, &str); 13] = [
         "declare_var i8x16",
         "misuse at call 0\nline 1: declare_var i8x16\n",
     ),
-    // no integer of twice the width, and a type that is no integer
+    // no integer of twice the width, none of half the width, and a type that is no integer
     (
         "b = create_block\nx = append_block_param b i128\nswitch_to_block b\niconcat x x",
         "misuse at call 3\nline 4: iconcat x x\n",
+    ),
+    (
+        "b = create_block\nx = append_block_param b i8\nswitch_to_block b\nisplit x",
+        "misuse at call 3\nline 4: isplit x\n",
     ),
     (
         "b = create_block\nx = append_block_param b i8\nswitch_to_block b\nsextend.f32 x",

@@ -23,19 +23,19 @@ use Rattle.clif_ir.specs.Consistent.{IsConsistent}
 use Rattle.clif_instructions.specs.Members.{Once}
 use Rattle.clif_ir.specs.Changes.{inserted_in, inst_node, with_inst}
 use Rattle.clif_paths.specs.Places.{inside}
-use Rattle.clif_paths.specs.Blocks.{Blocks, last_place, with_item, with_born}
+use Rattle.clif_paths.specs.Blocks.{Blocks, last_place, with_item}
 use Rattle.clif_paths.proofs.Tables.{updated-same, updated-other}
 use Rattle.clif_ssa.specs.Own.{Own}
 use Rattle.clif_records.specs.Tables.{is_yes}
 use Rattle.clif_ssa.specs.Ssa.{SsaState, predecessors_of, sealed_of}
 use Rattle.clif_ssa.specs.Sound.{SameProgram, args_of, edge_target, edges_at, entry_of}
-use Rattle.clif_ssa.specs.SoundLaws.{with_entry, with_own, shape_passes, DescribesSoundly, IsOpen}
+use Rattle.clif_ssa.specs.SoundLaws.{with_all_born, with_entry, with_own, shape_passes, DescribesSoundly, IsOpen}
 use Rattle.clif_ssa.specs.Structured.{HasType, Structured, VariableTypes}
 use Rattle.clif_ssa.proofs.Bodies.{Firm, firm_from}
 use Rattle.clif_ssa.proofs.Completing.{SameButLayout, inserted_same, inserted_firm, entry_same}
 use Rattle.clif_ssa.proofs.Entering.{inserted_entry}
-use Rattle.clif_ssa.proofs.Instructions.{inst_new}
-use Rattle.clif_ssa.proofs.Owning.{own_described, own_result_described}
+use Rattle.clif_ssa.proofs.Instructions.{inst_new, inst_values_count}
+use Rattle.clif_ssa.proofs.Owning.{own_described}
 use Rattle.clif_ssa.proofs.StructuredLaws.{inserted_structured, instruction_structured}
 use Rattle.clif_meaning.specs.Name.{Name, answer_of}
 use Rattle.clif_meaning.specs.Instruction.{Operation, Instruction, Edge}
@@ -44,24 +44,25 @@ use Rattle.clif_meaning.specs.Ledger.{AnInstruction, AValue, answers_to, is_fill
 use Rattle.clif_meaning.specs.Program.{Item, Instruct, result_types, answers_from, first_block}
 use Rattle.clif_meaning.specs.FunctionView.{Placed}
 use Rattle.clif_meaning.specs.View.{argument_of, edge_of, edges_of, operation_of, controlling_of, first_type, made_at}
-use Rattle.clif_simulation.specs.Tables.{code, answered, block_name, program_so_far}
+use Rattle.clif_simulation.specs.Tables.{IsProgramOf, code, answered, block_name, program_so_far}
 use Rattle.clif_simulation.specs.Carries.{AreDeclared, AreTypes, Carries, DeclaredAlong, EdgeEarlier, HasEntry, Holds, IsCurrent, IsEarlier, LeadsOwn, SoundOnPaths, SparesBlock, SparesEntry, answered_edge, as_passed, carried, own_placed}
 use Rattle.clif_simulation.proofs.Calls.{inserted_soundly, longer_calls, name_stays, open_kept, opened, plain, structured_so_far, values_same}
 use Rattle.clif_simulation.proofs.Carrying.{all_contained, all_mapped, earlier_name, edge_earlier, edges_kept, holds_item, item_last, leads_kept, numbers_kept, spares_item}
 use Rattle.clif_simulation.proofs.Extending.{extended, one_answer}
 use Rattle.clif_simulation.proofs.Giving.{In, contained_in}
 use Rattle.clif_simulation.proofs.Growing.{GoesOn, KeepsInsts, goes_on-from, goes_on-with_inst, insts_inserted, insts_kept, made_controlled}
-use Rattle.clif_simulation.proofs.ItemCalls.{PutsItem, adds_instruction, adds_result, last-with_item, number_of_answer}
+use Rattle.clif_simulation.proofs.ItemCalls.{PutsItem, adds_instruction, last-with_item, number_of_answer}
 use Rattle.clif_simulation.proofs.Layouts.{out_before, never_out}
 use Rattle.clif_simulation.proofs.LedgerValues.{typed_on}
 use Rattle.clif_simulation.proofs.Ledgers.{fills, types_before}
-use Rattle.clif_simulation.proofs.NameLists.{the_one}
+use Rattle.clif_simulation.proofs.Places.{contained_at}
 use Rattle.clif_simulation.proofs.Requests
 use Rattle.clif_simulation.proofs.Requests.{entry_begun, entry_first}
+use Rattle.clif_simulation.proofs.ResultNames.{answer_is, answer_there, answers_are_new, answers_count, answers_earlier, result_typed, results_answered, typed_at, value_within}
 use Rattle.clif_simulation.proofs.Staying.{restated}
 use Rattle.clif_simulation.proofs.Telling.{MayLead, along_leads, along_old_or_it, along_soundly, along_stays, along_structured}
 use Rattle.clif_simulation.proofs.Unbranched.{no_target}
-use Rattle.clif_simulation.proofs.Values.{is_value_at, false_is, values_added, next_is_new}
+use Rattle.clif_simulation.proofs.Values.{is_value_at, false_is, values_added}
 
 -- an instruction as the machine sees it, by its parts
 abbrev placed_parts : Operation → «Type» → List ℕ → List (Edge ℕ ℕ) → List ℕ → Placed
@@ -329,18 +330,23 @@ module _ (calls : List AnsweredCall) (f : Body) (s : SsaState) (c : Carries call
   entry_is : (program_so_far after).entry ≡ first_block (program_so_far calls).entry (Some B)
   entry_is = Requests.entry_instructed calls call B current.current instruction refl
 
-  -- WITHOUT RESULTS -----------------------------------------------------------------------------------------------------
+  -- THE INSTRUCTION -----------------------------------------------------------------------------------------------------
 
-  module _ (matches : SameBranch calls shape instruction) (no_results : result_types instruction.operation instruction.controlling ≡ [])
-      (controlling : controlling_of (with_inst h b Back shape [] loc) shape [] ≡ instruction.controlling) where
+  module _ (matches : SameBranch calls shape instruction) (types : List «Type») (typed : result_types instruction.operation instruction.controlling ≡ types)
+      (controlling : controlling_of (with_inst h b Back shape types loc) shape (inst_node h b shape types loc).results ≡ instruction.controlling)
+      (numbered : (k : ℕ) → k < length types → slice_get numbers (suc k) ≡ Some (length h.values + k)) where
     abbrev m : Body
-    m = with_inst h b Back shape [] loc
+    m = with_inst h b Back shape types loc
+
+    -- the names of its results
+    abbrev results : List Name
+    results = answers_from (length calls) 1 types
 
     abbrev item : Item
-    item = Instruct (length calls) instruction []
+    item = Instruct (length calls) instruction (answers_from (length calls) 1 types)
 
-    puts : PutsItem calls call B (Instruct (length calls) instruction [])
-    puts = subst (λ (types : List «Type»). PutsItem calls call B (Instruct (length calls) instruction (answers_from (length calls) 1 types))) no_results
+    puts : PutsItem calls call B (Instruct (length calls) instruction (answers_from (length calls) 1 types))
+    puts = subst (λ (ts : List «Type»). PutsItem calls call B (Instruct (length calls) instruction (answers_from (length calls) 1 ts))) typed
         (Requests.puts_instruction calls call B current.current instruction refl)
 
     operands_after : operands shape ≡ map (answered after) instruction.operands
@@ -349,60 +355,95 @@ module _ (calls : List AnsweredCall) (f : Body) (s : SsaState) (c : Carries call
     edges_after : edges_of shape ≡ map (answered_edge after) instruction.edges
     edges_after = matches.edges ∙ sym (edges_kept calls call instruction.edges matches.edges_earlier)
 
-    none_typed : (index : ℕ) (a : «Type») → value_answer_type (slice_get (answers_to (ledger_after (script_of calls)) call.request) index) ≡ Some a
+    -- they are answered by the values from the first new one on
+    results_after : (inst_node h b shape types loc).results ≡ map (answered after) (answers_from (length calls) 1 types)
+    results_after =
+        results_answered calls call (length h.values) 1 types
+        (λ k below. let next : 1 + k ≡ suc k = omega arith in ap (slice_get numbers) next ∙ numbered k below)
+
+    result_number : (k : ℕ) → k < length types → answered after (answer_of (length calls) (suc k)) ≡ length h.values + k
+    result_number k below = sym (number_of_answer calls call (suc k) (length h.values + k) (numbered k below))
+
+    values_typed : (index : ℕ) (a : «Type») → value_answer_type (slice_get (answers_to (ledger_after (script_of calls)) call.request) index) ≡ Some a
         → HasType m (answered after (answer_of (length calls) index)) a
-    none_typed index a is =
-        absurd (by index (subst (λ (types : List «Type»). value_answer_type (slice_get (AnInstruction ∷ map AValue types) index) ≡ Some a) no_results is))
+    values_typed index a is = by index (subst (λ (ts : List «Type»). value_answer_type (slice_get (AnInstruction ∷ map AValue ts) index) ≡ Some a) typed is)
       where
         none_some : None ≡ Some a → ⊥
         none_some h = cc
 
-        by : (i : ℕ) → value_answer_type (slice_get (AnInstruction ∷ []) i) ≡ Some a → ⊥
-        by zero h = none_some h
-        by (suc i) h = none_some h
+        by : (j : ℕ) → value_answer_type (slice_get (AnInstruction ∷ map AValue types) j) ≡ Some a → HasType m (answered after (answer_of (length calls) j)) a
+        by zero h = absurd (none_some h)
+        by (suc j) h =
+            let at : slice_get types j ≡ Some a = typed_at types j a h in
+            let below : j < length types = slice_get_within types j a at in
+            let count : length (with_inst (inserted_in f b) b Back shape types loc).values ≡ length (inserted_in f b).values + length types =
+            inst_values_count (inserted_in f b) b Back shape types loc in
+            subst (λ (v : ℕ). HasType (with_inst (inserted_in f b) b Back shape types loc) v a) (sym (result_number j below))
+            (omega (arith, below, count), result_typed (inserted_in f b).values (length (inserted_in f b).insts) types j a at)
 
-    holds_branch : (t : SsaState) → AreDeclared m t mine.insts → LeadsOwn after mine t → ((types : VariableTypes) → AreTypes after types → Structured types mine m t []) → Holds after mine m t
-    holds_branch t declared leads structured =
-        holds_item calls call stays c.own mine f m s t c.holds (kept []) (keeps []).more (out_before f b) b B item current.named puts (i ∷ []) own_here own_elsewhere
-        (λ d. refl) (typed_on calls call f m c.holds.values_typed (keeps []).types none_typed) (λ out. absurd (never_out f b out))
-        (own_new [] matches.operation operands_after edges_after [] controlling refl) (longer_insts [], tt) (
+    earlier_results : AllByRecursion (IsEarlier after) (answers_from (length calls) 1 types)
+    earlier_results = let l = longer_calls calls call in answers_earlier (length after) (length calls) 1 types (omega (arith, l))
+
+    holds_made : (t : SsaState) → AreDeclared m t mine.insts → LeadsOwn after mine t → ((declared : VariableTypes) → AreTypes after declared → Structured declared mine m t []) → Holds after mine m t
+    holds_made t declared leads structured =
+        holds_item calls call stays c.own mine f m s t c.holds (kept types) (keeps types).more (out_before f b) b B item current.named puts (i ∷ []) own_here own_elsewhere
+        (λ d. refl) (typed_on calls call f m c.holds.values_typed (keeps types).types values_typed) (λ out. absurd (never_out f b out))
+        (own_new types matches.operation operands_after edges_after results controlling results_after) (longer_insts types, tt) (
           all_mapped (IsEarlier calls) (IsEarlier after) (earlier_name calls call) instruction.operands matches.earlier,
-          tt,
+          earlier_results,
           all_mapped (EdgeEarlier calls) (EdgeEarlier after) (edge_earlier calls call stays) instruction.edges matches.edges_earlier,
         )
-        (plain calls f s c consistent b B current unfilled) declared leads (entry_on []) structured
+        (plain calls f s c consistent b B current unfilled) declared leads (entry_on types) structured
 
-    none_given : (index : ℕ) → IsTrue (is_value_at (AnInstruction ∷ map AValue (result_types instruction.operation instruction.controlling)) index) → Contains [] (answer_of (length calls) index)
-    none_given index is = absurd (by index (subst (λ (types : List «Type»). IsTrue (is_value_at (AnInstruction ∷ map AValue types) index)) no_results is))
+    values_named : (index : ℕ) → IsTrue (is_value_at (AnInstruction ∷ map AValue (result_types instruction.operation instruction.controlling)) index)
+        → Contains (answers_from (length calls) 1 types) (answer_of (length calls) index)
+    values_named index is = by index (subst (λ (ts : List «Type»). IsTrue (is_value_at (AnInstruction ∷ map AValue ts) index)) typed is)
       where
-        by : (i : ℕ) → IsTrue (is_value_at (AnInstruction ∷ []) i) → ⊥
-        by zero h = false_is h
-        by (suc i) h = false_is h
+        by : (j : ℕ) → IsTrue (is_value_at (AnInstruction ∷ map AValue types) j) → Contains (answers_from (length calls) 1 types) (answer_of (length calls) j)
+        by zero h = absurd (false_is h)
+        by (suc j) is_value =
+            let next : 1 + j ≡ suc j = omega arith in
+            contained_at (answers_from (length calls) 1 types) j (answer_of (length calls) (suc j))
+            (answer_there (length calls) 1 types j (value_within types j is_value) ∙ ap (λ (index : ℕ). Some (answer_of (length calls) index)) next)
 
-    described_branch : (p : SoundOnPaths calls c.own f s) → DescribesSoundly mine m s (with_item (entered p) b)
-    described_branch p = own_described c.own h s (entered p) b shape loc firm (described_before p) open_here there_still
+    -- the tables with the instruction, whose results are given at its place
+    abbrev made : SoundOnPaths calls c.own f s → Blocks
+    made p = with_all_born (with_item (entered p) b) (last_place (with_item (entered p) b) b) (map code (answers_from (length calls) 1 types)) (length h.values)
 
-    sound_branch : (p : SoundOnPaths calls c.own f s) (t : SsaState) → DescribesSoundly mine m t (with_item (entered p) b) → SoundOnPaths after mine m t
-    sound_branch p t described =
-        let adds = adds_instruction calls call (entered p) b B current.named (unwritten p) instruction puts in
+    same_names : (p : SoundOnPaths calls c.own f s) → IsProgramOf calls (entered p)
+    same_names p = restated calls p.tables (entered p) (same_side p) p.program
+
+    described_made : (p : SoundOnPaths calls c.own f s) → DescribesSoundly mine m s (made p)
+    described_made p =
+        own_described c.own h s (entered p) b (map code (answers_from (length calls) 1 types)) shape types loc firm (described_before p) open_here there_still
+        (answers_count (length calls) 1 types) (answers_are_new calls (entered p) 1 types (same_names p))
+
+    sound_made : (p : SoundOnPaths calls c.own f s) (t : SsaState) → DescribesSoundly mine m t (made p) → SoundOnPaths after mine m t
+    sound_made p t described =
+        let adds = adds_instruction calls call (entered p) b B current.named (unwritten p) instruction (answers_from (length calls) 1 types) (length h.values) (last_place (with_item (entered p) b) b) puts
+        (λ k y at.
+        let is = answer_is (length calls) 1 types k y at in
+        let next : 1 + k ≡ suc k = omega arith in
+        (ap (λ (n : Name). n.place) is.1, ap (answered after) (is.1 ∙ ap (answer_of (length calls)) next) ∙ result_number k is.0))
+        (answers_are_new calls (entered p) 1 types (same_names p)) (last-with_item (entered p) b) in
         record {
-          tables = with_item (entered p) b;
-          program = extended calls after (entered p) (with_item (entered p) b) b B item adds (restated calls p.tables (entered p) (same_side p) p.program);
-          values_given = values_added calls call (entered p) (with_item (entered p) b) b B item adds none_given (values_same calls p.tables (entered p) (same_side p) p.values_given);
+          tables = made p;
+          program = extended calls after (entered p) (made p) b B item adds (same_names p);
+          values_given = values_added calls call (entered p) (made p) b B item adds values_named (values_same calls p.tables (entered p) (same_side p) p.values_given);
           describes = described.0;
           sound = described.1;
           counts = described.2;
         }
 
     -- the state after it may be another one
-    carries_made : (t : SsaState) → AreDeclared m t mine.insts → LeadsOwn after mine t → ((types : VariableTypes) → AreTypes after types → Structured types mine m t [])
+    carries_made : (t : SsaState) → AreDeclared m t mine.insts → LeadsOwn after mine t → ((declared : VariableTypes) → AreTypes after declared → Structured declared mine m t [])
         → (SparesEntry after → (T : Blocks) → DescribesSoundly mine m s T → DescribesSoundly mine m t T) → Carries after m t
     carries_made t declared leads structured sound = record {
       own = mine;
-      holds = holds_branch t declared leads structured;
+      holds = holds_made t declared leads structured;
       on_paths = λ spares.
           let p : SoundOnPaths calls c.own f s = c.on_paths (spares_item calls call B item puts (entry_first calls after B entry_is) spares) in
-          sound_branch p t (sound spares (with_item (entered p) b) (described_branch p));
+          sound_made p t (sound spares (made p) (described_made p));
     }
 
     -- it has edges, and is declared at each block that one of them leads to
@@ -412,7 +453,7 @@ module _ (calls : List AnsweredCall) (f : Body) (s : SsaState) (c : Carries call
       may : (x : ℕ) → Contains told x → MayLead m s i x
       may x here = record {
         unsealed = unsealed x here;
-        apart = λ j leads is. open_kept f m s s b (keeps []) (λ d. refl) exist open_in x j leads (is ∙ ap (λ (node : InstNode). node.block) (node_is []));
+        apart = λ j leads is. open_kept f m s s b (keeps types) (λ d. refl) exist open_in x j leads (is ∙ ap (λ (node : InstNode). node.block) (node_is types));
       }
 
       leads_branch : LeadsOwn after mine t
@@ -420,7 +461,7 @@ module _ (calls : List AnsweredCall) (f : Body) (s : SsaState) (c : Carries call
         where
           by : Contains (predecessors_of s target) j ⊎ (j ≡ i)
               → (block : ℕ) × (name : Name) × Contains (mine.insts block) j × (block_name after block ≡ Some name) × IsTrue (is_filled (ledger_after (script_of after)) name)
-          by (inl old) = leads_plain [] target j old
+          by (inl old) = leads_plain types target j old
           by (inr is) =
               (b, B, subst (λ (e : ℕ). Contains (mine.insts b) e) (sym is) own_it, stays b B current.named, fills calls call instruction b B refl ends current)
 
@@ -438,9 +479,9 @@ module _ (calls : List AnsweredCall) (f : Body) (s : SsaState) (c : Carries call
           named = ap (block_name after) (sym edge.2) ∙ stays (answered calls edge.0.target) edge.0.target (all_in (EdgeEarlier calls) instruction.edges edge.0 matches.edges_earlier edge.1).leads
 
           by : (o : Option Name) → (program_so_far after).entry ≡ o → ⊥
-          by None none = some_none x (sym is_entry ∙ (entry_on []).none none)
+          by None none = some_none x (sym is_entry ∙ (entry_on types).none none)
           by (Some E) some =
-              let e = (entry_on []).some E some in
+              let e = (entry_on types).some E some in
               let at : e.0 ≡ x = one_answer e.0 x (entry_of m) e.1 is_entry in
               let same_name : edge.0.target ≡ E = one_answer edge.0.target E (block_name after x) named (ap (block_name after) (sym at) ∙ e.2) in
               all_in (λ (d : Edge Name Name). d.target ≢ E) instruction.edges edge.0 (item_last calls call B item puts (SparesBlock E) (spares E some)) edge.1 same_name
@@ -448,107 +489,25 @@ module _ (calls : List AnsweredCall) (f : Body) (s : SsaState) (c : Carries call
       carries_along : Carries after m t
       carries_along =
           carries_made t
-          (declared_more [] t (along_stays told s t i along)
-          (λ k target to. along_leads told s t i along target ((exactly target).1 (target_contained (destinations shape) k target (target_is [] k target to)))))
+          (declared_more types t (along_stays told s t i along)
+          (λ k target to. along_leads told s t i along target ((exactly target).1 (target_contained (destinations shape) k target (target_is types k target to)))))
           leads_branch
-          (λ types are. along_structured told types mine m s t i (longer_insts []) once may (passes_made []) along (structured_before [] types are))
-          (λ spares T. along_soundly told mine m s t T i (longer_insts []) (inserted_entry f b) once may (no_entry spares) (λ x k to. ap (λ (args : List BlockArg). length args) (passes_made [] k)) along)
+          (λ declared are. along_structured told declared mine m s t i (longer_insts types) once may (passes_made types) along (structured_before types declared are))
+          (λ spares T. along_soundly told mine m s t T i (longer_insts types) (inserted_entry f b) once may (no_entry spares) (λ x k to. ap (λ (args : List BlockArg). length args) (passes_made types k)) along)
 
-  -- An instruction without edges and results.
-  pub carries_terminator : (matches : SameInstruction calls shape instruction) → result_types instruction.operation instruction.controlling ≡ []
-      → controlling_of (with_inst h b Back shape [] loc) shape [] ≡ instruction.controlling → Carries after (with_inst h b Back shape [] loc) s
-  carries_terminator matches no_results controlling =
-      carries_made (same_branch calls shape instruction matches) no_results controlling s (declared_plain [] matches.no_edges) (leads_plain []) (structured_before []) (λ spares T d. d)
+  -- An instruction without edges, with results of these types.
+  pub carries_plain : (matches : SameInstruction calls shape instruction) (types : List «Type») → result_types instruction.operation instruction.controlling ≡ types
+      → controlling_of (with_inst h b Back shape types loc) shape (inst_node h b shape types loc).results ≡ instruction.controlling
+      → ((k : ℕ) → k < length types → slice_get numbers (suc k) ≡ Some (length h.values + k)) → Carries after (with_inst h b Back shape types loc) s
+  carries_plain matches types typed controlling numbered =
+      carries_made (same_branch calls shape instruction matches) types typed controlling numbered s (declared_plain types matches.no_edges) (leads_plain types) (structured_before types) (λ spares T d. d)
 
   -- A branch: it was declared once at each block to which it leads.
-  pub carries_branch : (matches : SameBranch calls shape instruction) → result_types instruction.operation instruction.controlling ≡ []
-      → controlling_of (with_inst h b Back shape [] loc) shape [] ≡ instruction.controlling → (told : List ℕ) (t : SsaState) → is_terminator instruction.operation ≡ true → Once told
+  pub carries_branch : (matches : SameBranch calls shape instruction) (types : List «Type») → result_types instruction.operation instruction.controlling ≡ types
+      → controlling_of (with_inst h b Back shape types loc) shape (inst_node h b shape types loc).results ≡ instruction.controlling
+      → ((k : ℕ) → k < length types → slice_get numbers (suc k) ≡ Some (length h.values + k)) → (told : List ℕ) (t : SsaState) → is_terminator instruction.operation ≡ true → Once told
       → ((x : ℕ) → (Contains told x → Contains (targets (destinations shape)) x) × (Contains (targets (destinations shape)) x → Contains told x))
       → ((x : ℕ) → Contains told x → is_yes (sealed_of s x) ≡ false) → DeclaredAlong s (length f.insts) told t
-      → Carries after (with_inst h b Back shape [] loc) t
-  carries_branch matches no_results controlling told t ends once exactly unsealed along =
-      carries_along matches no_results controlling told t ends once exactly unsealed (subst (λ (n : ℕ). DeclaredAlong s n told t) as_many along)
-
-  -- WITH ONE RESULT -----------------------------------------------------------------------------------------------------
-
-  module _ (matches : SameInstruction calls shape instruction) (ty : «Type») (one_result : result_types instruction.operation instruction.controlling ≡ ty ∷ [])
-      (controlling : controlling_of (with_inst h b Back shape (ty ∷ []) loc) shape (length h.values ∷ []) ≡ instruction.controlling) (number : slice_get numbers 1 ≡ Some (length h.values)) where
-    abbrev k : Body
-    k = with_inst h b Back shape (ty ∷ []) loc
-
-    abbrev result : Name
-    result = answer_of (length calls) 1
-
-    abbrev giving : Item
-    giving = Instruct (length calls) instruction (result ∷ [])
-
-    puts_result : PutsItem calls call B (Instruct (length calls) instruction (result ∷ []))
-    puts_result = subst (λ (types : List «Type»). PutsItem calls call B (Instruct (length calls) instruction (answers_from (length calls) 1 types))) one_result
-        (Requests.puts_instruction calls call B current.current instruction refl)
-
-    result_is : map (own_placed mine k) (i ∷ []) ≡ carried after (Instruct (length calls) instruction (result ∷ []))
-    result_is =
-        own_new (ty ∷ []) matches.operation (matches.arguments ∙ sym (numbers_kept calls call instruction.operands matches.earlier))
-        (matches.no_edges ∙ sym (ap (map (answered_edge after)) matches.edges)) (result ∷ [])
-        controlling
-        (ap (λ (v : ℕ). v ∷ []) (number_of_answer calls call 1 (length h.values) number))
-
-    given_result : (index : ℕ) → IsTrue (is_value_at (AnInstruction ∷ map AValue (result_types instruction.operation instruction.controlling)) index) → Contains (result ∷ []) (answer_of (length calls) index)
-    given_result index is = by index (subst (λ (types : List «Type»). IsTrue (is_value_at (AnInstruction ∷ map AValue types) index)) one_result is)
-      where
-        by : (j : ℕ) → IsTrue (is_value_at (AnInstruction ∷ AValue ty ∷ []) j) → Contains (result ∷ []) (answer_of (length calls) j)
-        by zero h = absurd (false_is h)
-        by (suc zero) h = the_one result
-        by (suc (suc j)) h = absurd (false_is h)
-
-    sound_result : (p : SoundOnPaths calls c.own f s) → SoundOnPaths after mine k s
-    sound_result p =
-        let was = restated calls p.tables (entered p) (same_side p) p.program in
-        let described = own_result_described c.own h s (entered p) b (code result) shape ty loc firm (described_before p) open_here there_still (next_is_new calls (entered p) 1 was) in
-        let T : Blocks = with_born (with_item (entered p) b) (last_place (with_item (entered p) b) b) (code result) (length h.values) in
-        let adds = adds_result calls call (entered p) b B current.named (unwritten p) instruction (length h.values) (last_place (with_item (entered p) b) b) puts_result number (last-with_item (entered p) b) in
-        record {
-          tables = T;
-          program = extended calls after (entered p) T b B giving adds was;
-          values_given = values_added calls call (entered p) T b B giving adds given_result (values_same calls p.tables (entered p) (same_side p) p.values_given);
-          describes = described.0;
-          sound = described.1;
-          counts = described.2;
-        }
-
-    result_typed : (index : ℕ) (a : «Type») → value_answer_type (slice_get (answers_to (ledger_after (script_of calls)) call.request) index) ≡ Some a
-        → HasType k (answered after (answer_of (length calls) index)) a
-    result_typed index a is = by index (subst (λ (types : List «Type»). value_answer_type (slice_get (AnInstruction ∷ map AValue types) index) ≡ Some a) one_result is)
-      where
-        none_some : None ≡ Some a → ⊥
-        none_some h = cc
-
-        some_is : (b e : «Type») → Some b ≡ Some e → b ≡ e
-        some_is b e same = cc
-
-        by : (j : ℕ) → value_answer_type (slice_get (AnInstruction ∷ AValue ty ∷ []) j) ≡ Some a → HasType k (answered after (answer_of (length calls) j)) a
-        by zero h = absurd (none_some h)
-        by (suc zero) h =
-            let same : ty ≡ a = some_is ty a h in
-            subst (λ (v : ℕ). HasType k v a) (number_of_answer calls call 1 (length h'.values) number)
-            (grind (arith, common_steps), ap (λ (node : ValueNode). node.ty) (node_after h'.values _ []) ∙ same)
-          where
-            h' : Body
-            h' = inserted_in f b
-        by (suc (suc j)) h = absurd (none_some h)
-
-    pub carries_result : Carries after k s
-    carries_result =
-        let l = longer_calls calls call in
-        let result_earlier : IsEarlier after result = omega (arith, l) in
-        record {
-          own = mine;
-          holds = holds_item calls call stays c.own mine f k s s c.holds (kept (ty ∷ [])) (keeps (ty ∷ [])).more (out_before f b) b B giving current.named puts_result (i ∷ []) own_here own_elsewhere
-              (λ d. refl) (typed_on calls call f k c.holds.values_typed (keeps (ty ∷ [])).types result_typed) (λ out. absurd (never_out f b out)) result_is (longer_insts (ty ∷ []), tt) (
-                all_mapped (IsEarlier calls) (IsEarlier after) (earlier_name calls call) instruction.operands matches.earlier,
-                (result_earlier, tt),
-                subst (AllByRecursion (EdgeEarlier after)) (sym matches.edges) tt,
-              )
-              (plain calls f s c consistent b B current unfilled) (declared_plain (ty ∷ []) matches.no_edges) (leads_plain (ty ∷ [])) (entry_on (ty ∷ [])) (structured_before (ty ∷ []));
-          on_paths = λ spares. sound_result (c.on_paths (spares_item calls call B giving puts_result (entry_first calls after B entry_is) spares));
-        }
+      → Carries after (with_inst h b Back shape types loc) t
+  carries_branch matches types typed controlling numbered told t ends once exactly unsealed along =
+      carries_along matches types typed controlling numbered told t ends once exactly unsealed (subst (λ (n : ℕ). DeclaredAlong s n told t) as_many along)

@@ -11,7 +11,7 @@ use Rattle.clif_meaning.specs.Memory.{Memory, Range}
 use Rattle.clif_meaning.specs.Name.{Name, same_name, answer_of}
 use Rattle.clif_opcodes.specs.declared.opcodes.FloatConstOpcode.TheVariants.{F16const, F32const, F64const}
 use Rattle.clif_types.specs.MemFlags.{MemFlagsShape}
-use Rattle.clif_meaning.specs.Instruction.{Instruction, Operation, Compute, Load, Store, Trap, CondTrap, Jump, Brif, Return, Arithmetic, Iconst, FloatConst, Unary, Binary, Compare, Concat, Convert, Select}
+use Rattle.clif_meaning.specs.Instruction.{Instruction, Operation, Compute, Load, Store, Trap, CondTrap, Jump, Brif, Return, Arithmetic, Iconst, FloatConst, Unary, Binary, Compare, Concat, Split, Convert, Select}
 use Rattle.clif_meaning.specs.Request.{Request, Script}
 use Rattle.clif_meaning.specs.Program.{Program, Item, Instruct, Use, Assign, result_types, result_names, answers_from, with_item_at, with_inserted, extended, with_call, empty_program, program_of}
 use Rattle.clif_meaning.specs.Ledger.{is_terminator}
@@ -92,8 +92,13 @@ one_unless : (fault : Option TrapCode) (bits : Bits) (memory : Memory) → Gives
 one_unless None bits memory = refl
 one_unless (Some reason) bits memory = tt
 
+-- how many results arithmetic has
+abbrev arithmetic_count : Arithmetic → ℕ
+arithmetic_count Split = 2
+arithmetic_count _ = 1
+
 counted_arithmetic : (arithmetic : Arithmetic) (ty : «Type») (types : List «Type») (operands : List Bits) (memory : Memory)
-    → GivesCount 1 (outcome_of_computed (computed arithmetic ty types operands) memory)
+    → GivesCount (arithmetic_count arithmetic) (outcome_of_computed (computed arithmetic ty types operands) memory)
 counted_arithmetic (Binary opcode) ty types [] memory = tt
 counted_arithmetic (Binary opcode) ty types (x ∷ []) memory = tt
 counted_arithmetic (Binary opcode) ty types (x ∷ y ∷ []) memory =
@@ -114,6 +119,9 @@ counted_arithmetic Concat ty types [] memory = tt
 counted_arithmetic Concat ty types (x ∷ []) memory = tt
 counted_arithmetic Concat ty types (x ∷ y ∷ []) memory = refl
 counted_arithmetic Concat ty types (x ∷ y ∷ z ∷ operands) memory = tt
+counted_arithmetic Split ty types [] memory = tt
+counted_arithmetic Split ty types (x ∷ []) memory = refl
+counted_arithmetic Split ty types (x ∷ y ∷ operands) memory = tt
 counted_arithmetic (Convert opcode) ty types [] memory = tt
 counted_arithmetic (Convert opcode) ty types (x ∷ []) memory = refl
 counted_arithmetic (Convert opcode) ty types (x ∷ y ∷ operands) memory = tt
@@ -123,11 +131,11 @@ counted_arithmetic Select ty types (c ∷ x ∷ []) memory = tt
 counted_arithmetic Select ty types (c ∷ x ∷ y ∷ []) memory = refl
 counted_arithmetic Select ty types (c ∷ x ∷ y ∷ z ∷ operands) memory = tt
 
-one_type : (arithmetic : Arithmetic) (ty : «Type») → length (result_types (Compute arithmetic) ty) ≡ 1
-one_type (FloatConst F16const bits) ty = refl
-one_type (FloatConst F32const bits) ty = refl
-one_type (FloatConst F64const bits) ty = refl
-one_type _ ty = refl
+as_many_types : (arithmetic : Arithmetic) (ty : «Type») → length (result_types (Compute arithmetic) ty) ≡ arithmetic_count arithmetic
+as_many_types (FloatConst F16const bits) ty = refl
+as_many_types (FloatConst F32const bits) ty = refl
+as_many_types (FloatConst F64const bits) ty = refl
+as_many_types _ ty = refl
 
 counted_access : (count : ℕ) (world : World) (flags : MemFlagsShape) (range : Range) (outcome : Outcome) → GivesCount count outcome
     → GivesCount count (access_outcome world flags range outcome)
@@ -147,7 +155,7 @@ counted_trap false reason memory = refl
 counted_outcome : (world : World) (operation : Operation) (ty : «Type») (types : List «Type») (operands : List Bits) (memory : Memory)
     → GivesCount (length (result_types operation ty)) (outcome_of world operation ty types operands memory)
 counted_outcome world (Compute arithmetic) ty types operands memory =
-    subst (λ (n : ℕ). GivesCount n (outcome_of_computed (computed arithmetic ty types operands) memory)) (sym (one_type arithmetic ty))
+    subst (λ (n : ℕ). GivesCount n (outcome_of_computed (computed arithmetic ty types operands) memory)) (sym (as_many_types arithmetic ty))
     (counted_arithmetic arithmetic ty types operands memory)
 counted_outcome world (Load flags offset) ty types [] memory = tt
 counted_outcome world (Load flags offset) ty types (address ∷ []) memory = counted_access 1 world flags _ (Gives (_ ∷ []) memory) refl

@@ -3,9 +3,11 @@
 use Rattle.std.proofs.Common.{◌≡◌, ℕ, List, refl, Some, None, IsTrue}
 use Rattle.std.specs.Prelude.{Option}
 use Rattle.clif_types.specs.declared.types.«Type».{«Type»}
+use Rattle.clif_tables.specs.Entries.{with_entry}
+use Rattle.clif_tables.specs.Lists.{TableLists}
 use Rattle.clif_meaning.specs.Name.{Name}
 use Rattle.clif_meaning.specs.Instruction.{Instruction}
-use Rattle.clif_meaning.specs.Request.{Request, CreateBlock, SwitchToBlock, SealBlock, SealAllBlocks, InsertBlockAfter, SetColdBlock, EnsureInsertedBlock, AppendBlockParams, AppendFunctionParams, DeclareVar, DefVar, UseVar, Build, Finalize}
+use Rattle.clif_meaning.specs.Request.{Request, CreateBlock, SwitchToBlock, SealBlock, SealAllBlocks, InsertBlockAfter, SetColdBlock, EnsureInsertedBlock, AppendBlockParams, AppendFunctionParams, DeclareVar, DefVar, UseVar, MakeEntry, Build, Finalize}
 use Rattle.clif_meaning.specs.Program.{Program, answers_from, extended, with_inserted, with_parameters}
 use Rattle.clif_meaning.specs.Ledger.{BlockState, Ledger, changed_by, put_after, sealed, with_begun, with_cold_mark, with_parameter_types, with_state}
 
@@ -54,6 +56,7 @@ program_effect (AppendFunctionParams block types) = Takes block types refl (λ n
 program_effect (DeclareVar ty) = Leaves refl (λ program. refl)
 program_effect (DefVar variable value) = Assigns variable value refl
 program_effect (UseVar variable) = Uses variable refl
+program_effect (MakeEntry entry) = Leaves refl (λ program. refl)
 program_effect (Build instruction) = Builds instruction refl
 program_effect Finalize = Leaves refl (λ program. refl)
 
@@ -67,8 +70,9 @@ pub record KeepsFilled (change : BlockState → BlockState) : Type 0 where
 pub data LedgerEffect (request : Request) : Type 0 where
   -- its answers aside, it changes nothing
   Keeps : switch_of request ≡ None → ((ledger : Ledger) → changed_by ledger request ≡ ledger) → LedgerEffect request
-  -- the order of the layout
-  Lays : (layout : Ledger → List Name) → switch_of request ≡ None → ((ledger : Ledger) → changed_by ledger request ≡ record ledger { layout = layout ledger }) → LedgerEffect request
+  -- the order of the layout, or the tables
+  Lays : (layout : Ledger → List Name) (tables : Ledger → TableLists) → switch_of request ≡ None
+      → ((ledger : Ledger) → changed_by ledger request ≡ record ledger { layout = layout ledger; tables = tables ledger }) → LedgerEffect request
   -- the state of one block
   Changes : (block : Name) (change : BlockState → BlockState) → KeepsFilled change → switch_of request ≡ None
       → ((ledger : Ledger) → changed_by ledger request ≡ with_state ledger block change) → LedgerEffect request
@@ -96,7 +100,7 @@ ledger_effect CreateBlock = Creates refl
 ledger_effect (SwitchToBlock block) = Enters block refl
 ledger_effect (SealBlock block) = Changes block sealed seals refl (λ ledger. refl)
 ledger_effect SealAllBlocks = Seals refl
-ledger_effect (InsertBlockAfter block after) = Lays (λ ledger. put_after block after ledger.layout) refl (λ ledger. refl)
+ledger_effect (InsertBlockAfter block after) = Lays (λ ledger. put_after block after ledger.layout) (λ ledger. ledger.tables) refl (λ ledger. refl)
 ledger_effect (SetColdBlock block) = Changes block with_cold_mark marks refl (λ ledger. refl)
 ledger_effect EnsureInsertedBlock = Begins refl (λ ledger. refl)
 ledger_effect (AppendBlockParams block types) = Changes block (with_parameter_types types) (takes types) refl (λ ledger. refl)
@@ -104,5 +108,6 @@ ledger_effect (AppendFunctionParams block types) = Changes block (with_parameter
 ledger_effect (DeclareVar ty) = Declares ty refl
 ledger_effect (DefVar variable value) = Touches variable value refl
 ledger_effect (UseVar variable) = Reads variable refl
+ledger_effect (MakeEntry entry) = Lays (λ ledger. ledger.layout) (λ ledger. with_entry ledger.tables entry) refl (λ ledger. refl)
 ledger_effect (Build instruction) = Appends instruction refl
 ledger_effect Finalize = Keeps refl (λ ledger. refl)

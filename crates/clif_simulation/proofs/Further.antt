@@ -1,10 +1,12 @@
 -- Calls that seal all blocks, put a block behind another one, make a block cold, or bring the current block into the layout.
 use Rattle.std.proofs.Common.{◌≡◌, ℕ, zero, suc, ◌==◌, List, [], ◌∷◌, ◌++◌, refl, ◌∙◌, ap, Bool, true, false, if◌then◌else◌, slice_get, Option, Some}
 use Rattle.std.specs.Prelude.{◌||◌, slice_index_or, slice_set}
+use Rattle.clif_tables.specs.Entries.{TableEntry}
+use Rattle.clif_tables.specs.Lists.{TableLists}
 use Rattle.clif_ir.specs.Body.{Body, block_at, empty_block}
 use Rattle.clif_ir.specs.declared.function.BlockNode.{BlockNode}
 use Rattle.clif_ir.specs.Consistent.{IsConsistent}
-use Rattle.clif_ir.specs.Changes.{inserted_in, put_behind, with_cold, with_layout_after}
+use Rattle.clif_ir.specs.Changes.{inserted_in, put_behind, with_cold, with_layout_after, with_tables}
 use Rattle.clif_instructions.specs.Members.{stands_in}
 use Rattle.clif_paths.specs.Blocks.{Blocks}
 use Rattle.clif_ssa.specs.Own.{Own}
@@ -18,12 +20,14 @@ use Rattle.clif_ssa.proofs.Counting.{blocks_counted}
 use Rattle.clif_ssa.proofs.StructuredLaws.{blocks_structured, inserted_structured}
 use Rattle.clif_ssa.proofs.Writing.{blocks_described}
 use Rattle.clif_meaning.specs.Name.{Name}
+use Rattle.clif_meaning.specs.Ledger.{answers_to, ledger_after}
 use Rattle.clif_meaning.specs.Program.{first_block}
-use Rattle.clif_meaning.specs.Request.{Request, SealAllBlocks, InsertBlockAfter, SetColdBlock, EnsureInsertedBlock, AnsweredCall}
+use Rattle.clif_meaning.specs.Request.{Request, SealAllBlocks, InsertBlockAfter, SetColdBlock, EnsureInsertedBlock, MakeEntry, AnsweredCall, script_of}
 use Rattle.clif_simulation.specs.Carries.{Carries, IsCurrent}
 use Rattle.clif_simulation.proofs.Calls.{carries_kept, carries_on, inserted_soundly, name_stays}
 use Rattle.clif_simulation.proofs.Growing.{goes_on-constructs, insts_kept, insts_same}
 use Rattle.clif_simulation.proofs.Layouts as layouts
+use Rattle.clif_simulation.proofs.Values.{is_value_at}
 use Rattle.clif_simulation.proofs.Requests
 use Rattle.clif_simulation.proofs.Requests.{entry_begun}
 
@@ -76,22 +80,22 @@ cold_insts (node ∷ nodes) zero (suc x) = refl
 cold_insts (node ∷ nodes) (suc b) zero = refl
 cold_insts (node ∷ nodes) (suc b) (suc x) = cold_insts nodes b x
 
--- other blocks and another layout, with the same parameters, instructions and entry
-module _ (f : Body) (nodes : List BlockNode) (layout : List ℕ) (s : SsaState)
-    (same_params : (b : ℕ) → (block_at (record f { blocks = nodes; layout = layout }) b).params ≡ (block_at f b).params)
-    (same_insts : (b : ℕ) → (block_at (record f { blocks = nodes; layout = layout }) b).insts ≡ (block_at f b).insts)
+-- other blocks, another layout and other tables, with the same parameters, instructions and entry
+module _ (f : Body) (nodes : List BlockNode) (layout : List ℕ) (lists : TableLists) (s : SsaState)
+    (same_params : (b : ℕ) → (block_at (record f { blocks = nodes; layout = layout; tables = lists }) b).params ≡ (block_at f b).params)
+    (same_insts : (b : ℕ) → (block_at (record f { blocks = nodes; layout = layout; tables = lists }) b).insts ≡ (block_at f b).insts)
     (entry : slice_get layout 0 ≡ entry_of f) where
-  pub relaid_keeps : (own : Own) (tables : Blocks) → DescribesSoundly own f s tables → Keeps own tables (record f { blocks = nodes; layout = layout }) s
+  pub relaid_keeps : (own : Own) (tables : Blocks) → DescribesSoundly own f s tables → Keeps own tables (record f { blocks = nodes; layout = layout; tables = lists }) s
   relaid_keeps own tables before = record {
     tables = tables;
-    describes = blocks_described own f nodes layout s tables same_params same_insts entry before.0;
+    describes = blocks_described own f nodes layout lists s tables same_params same_insts entry before.0;
     sound = before.1;
     same = same_program tables;
-    counts = blocks_counted own f nodes layout s tables same_params before.2;
+    counts = blocks_counted own f nodes layout lists s tables same_params before.2;
   }
 
-  pub relaid_structured : (types : VariableTypes) (own : Own) → Structured types own f s [] → Structured types own (record f { blocks = nodes; layout = layout }) s []
-  relaid_structured types own before = blocks_structured f nodes layout types own s [] same_params same_insts before
+  pub relaid_structured : (types : VariableTypes) (own : Own) → Structured types own f s [] → Structured types own (record f { blocks = nodes; layout = layout; tables = lists }) s []
+  relaid_structured types own before = blocks_structured f nodes layout lists types own s [] same_params same_insts before
 
 module _ (calls : List AnsweredCall) (f : Body) (s : SsaState) (c : Carries calls f s) where
   abbrev the_call : Request → AnsweredCall
@@ -117,8 +121,8 @@ module _ (calls : List AnsweredCall) (f : Body) (s : SsaState) (c : Carries call
       (Requests.entry_stays calls (calls ++ call ∷ []) f (with_layout_after f b a) (Requests.entry_left calls call (λ program. refl)) (first_stays b a f.layout)
       (name_stays calls call tt) c.holds.entry)
       (λ index. refl) (insts_same f (with_layout_after f b a) refl refl) (λ x out. out_before b a x f.layout out) (λ x. refl)
-      (relaid_structured f f.blocks (put_behind b a f.layout) s (λ x. refl) (λ x. refl) (first_stays b a f.layout))
-      (relaid_keeps f f.blocks (put_behind b a f.layout) s (λ x. refl) (λ x. refl) (first_stays b a f.layout))
+      (relaid_structured f f.blocks (put_behind b a f.layout) f.tables s (λ x. refl) (λ x. refl) (first_stays b a f.layout))
+      (relaid_keeps f f.blocks (put_behind b a f.layout) f.tables s (λ x. refl) (λ x. refl) (first_stays b a f.layout))
 
   -- a block is made cold
   pub carries_cold : (block : Name) (b : ℕ) → Carries (calls ++ the_call (SetColdBlock block) ∷ []) (with_cold f b) s
@@ -127,8 +131,22 @@ module _ (calls : List AnsweredCall) (f : Body) (s : SsaState) (c : Carries call
       let nodes : List BlockNode = (with_cold f b).blocks in
       carries_kept calls f s c call (with_cold f b) s tt tt (Requests.items_left calls call (λ program. refl)) (Requests.entry_left calls call (λ program. refl)) (λ index. refl)
       (insts_same f (with_cold f b) refl refl) refl (λ x. refl)
-      (relaid_structured f nodes f.layout s (cold_params f.blocks b) (cold_insts f.blocks b) refl)
-      (relaid_keeps f nodes f.layout s (cold_params f.blocks b) (cold_insts f.blocks b) refl)
+      (relaid_structured f nodes f.layout f.tables s (cold_params f.blocks b) (cold_insts f.blocks b) refl)
+      (relaid_keeps f nodes f.layout f.tables s (cold_params f.blocks b) (cold_insts f.blocks b) refl)
+
+  -- an entry is put into its table
+  pub carries_tables : (entry : TableEntry) (number : ℕ) (lists : TableLists)
+      → Carries (calls ++ record { request = MakeEntry entry; numbers = number ∷ [] } ∷ []) (with_tables f lists) s
+  carries_tables entry number lists =
+      let call : AnsweredCall = record { request = MakeEntry entry; numbers = number ∷ [] } in
+      carries_kept calls f s c call (with_tables f lists) s tt tt (Requests.items_left calls call (λ program. refl)) (Requests.entry_left calls call (λ program. refl)) no_value
+      (insts_same f (with_tables f lists) refl refl) refl (λ x. refl)
+      (relaid_structured f f.blocks f.layout lists s (λ x. refl) (λ x. refl) refl)
+      (relaid_keeps f f.blocks f.layout lists s (λ x. refl) (λ x. refl) refl)
+    where
+      no_value : (index : ℕ) → is_value_at (answers_to (ledger_after (script_of calls)) (MakeEntry entry)) index ≡ false
+      no_value zero = refl
+      no_value (suc index) = refl
 
   -- the current block is brought into the layout
   pub carries_ensured : (b : ℕ) (B : Name) → IsCurrent calls b B → Carries (calls ++ the_call EnsureInsertedBlock ∷ []) (inserted_in f b) s

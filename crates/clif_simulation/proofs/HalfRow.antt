@@ -258,8 +258,8 @@ premises = record {
   };
 }
 
-pub fits : (f : Body) → IsWorldOf first_signature (view_of f) U64 SampleWorld.sample_world
-fits f = record { arguments = tt; slots = record { aligned = λ s slot h. cc; accessible = λ s slot k h below. cc; within = λ s slot h. cc; apart = λ s t slot other k l h. cc } }
+pub fits : (number : ℕ) → IsWorldOf first_signature (view_of (half_body_with number)) U64 SampleWorld.sample_world
+fits number = record { arguments = tt; slots = record { aligned = λ s slot h. cc; accessible = λ s slot k h below. cc; within = λ s slot h. cc; apart = λ s t slot other k l h. cc } }
 
 -- the use's name is given behind the use
 pub leads_nowhere_here : (p : Place Name) → (code_so_far answered_calls).flow.targets p ≡ []
@@ -316,7 +316,7 @@ module _ (number bits : ℕ) where
     where
       alike : SideBySide answered_calls here s 0 block0 left_here right_here
       alike =
-          (right U64 SampleWorld.sample_world (λ x. false) ByMaps (fits here) premises).from_unsealed 0 block0 refl ([], (refl, (refl, omega arith))) unsealed
+          (right U64 SampleWorld.sample_world (λ x. false) ByMaps (fits number) premises).from_unsealed 0 block0 refl ([], (refl, (refl, omega arith))) unsealed
           (with_nine SampleWorld.sample_world) (with_bits bits SampleWorld.sample_world here) (nine here s bits SampleWorld.sample_world waiting)
 
 abbrev pub of_operation : Operation → ℕ

@@ -139,7 +139,7 @@ constant_of (placed ∷ rest) = of_operation placed.instruction.operation
 constant_of [] = 0
 
 pub other_constant : ReadsRight answered_calls first_signature (half_body_with 8) half_state → ⊥
-other_constant reads = by (reads U64 SampleWorld.sample_world (λ x. false) ByMaps (fits (half_body_with 8)) premises spares 0 block0 refl refl nine 0 items refl)
+other_constant reads = by (reads U64 SampleWorld.sample_world (λ x. false) ByMaps (fits 8) premises spares 0 block0 refl refl nine 0 items refl)
   where
     refute : (index : ℕ) → map without_arguments (drop index (block_of (half_body_with 8) 0).items) ≡ map without_arguments (flat_map (carried answered_calls) items) → ⊥
     refute zero same = let h : 8 ≡ 7 = ap constant_of same in omega (arith, h)
@@ -155,7 +155,7 @@ other_constant reads = by (reads U64 SampleWorld.sample_world (λ x. false) ByMa
 
 pub other_record : ReadsRight answered_calls first_signature half_body (half_state_with 1 (waiting_parameter ∷ [])) → ⊥
 unfolding follow
-other_record reads = by (reads U64 SampleWorld.sample_world (λ x. false) ByMaps (fits half_body) premises spares 0 block0 refl refl nine 2 [] refl)
+other_record reads = by (reads U64 SampleWorld.sample_world (λ x. false) ByMaps (fits 7) premises spares 0 block0 refl refl nine 2 [] refl)
   where
     by : HasBeside answered_calls half_body (half_state_with 1 (waiting_parameter ∷ [])) (state_after (left_here half_body (half_state_with 1 (waiting_parameter ∷ []))) 2)
         (right_here half_body (half_state_with 1 (waiting_parameter ∷ []))) → ⊥
@@ -182,7 +182,7 @@ ended (suc n) =
 
 pub none_waiting : ReadsRight answered_calls first_signature half_body (half_state_with 0 []) → ⊥
 unfolding follow
-none_waiting reads = by (reads U64 SampleWorld.sample_world (λ x. false) ByMaps (fits half_body) premises spares 0 block0 refl refl nine 1 _ refl)
+none_waiting reads = by (reads U64 SampleWorld.sample_world (λ x. false) ByMaps (fits 7) premises spares 0 block0 refl refl nine 1 _ refl)
   where
     none_set : (steps : ℕ) (rest : List Placed) → (state_after (right_here half_body (half_state_with 0 [])) steps).state.control ≡ At rest
         → (state_after (right_here half_body (half_state_with 0 [])) steps).state.values 0 ≡ 0

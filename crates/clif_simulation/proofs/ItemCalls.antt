@@ -1,11 +1,13 @@
 -- The program's side after a use, an assignment and an instruction.
-use Rattle.std.proofs.Common.{◌≡◌, ◌≢◌, ℕ, suc, ◌<◌, List, [], ◌∷◌, ◌++◌, length, refl, sym, ◌∙◌, ap, arith, Some, None, ◌⊎◌, inl, inr, Bool, true, false, length-append}
+use Rattle.std.proofs.Common.{◌≡◌, ◌≢◌, ℕ, suc, ◌+◌, ◌<◌, List, [], ◌∷◌, ◌++◌, length, map, refl, sym, ◌∙◌, ap, arith, Some, None, ◌⊎◌, inl, inr, Bool, true, false, length-append}
 use Rattle.std.specs.Prelude.{slice_get, Option, Contains, if◌then◌else◌, ◌==◌}
 use Rattle.clif_paths.specs.Places.{Place, inside}
 use Rattle.clif_paths.specs.State.{Naming, fresh, reads}
 use Rattle.clif_paths.specs.Steps.{updated}
-use Rattle.clif_paths.specs.Blocks.{Blocks, last_place, with_item, with_read, with_write, with_born}
+use Rattle.clif_paths.specs.Blocks.{Blocks, last_place, state_of, with_item, with_read, with_write}
 use Rattle.clif_paths.proofs.Tables.{updated-same, updated-other, updated_cases, updated_at-same, updated_at-other, number_equal, number_other}
+use Rattle.clif_ssa.specs.SoundLaws.{AreNewNames, with_all_born}
+use Rattle.clif_ssa.proofs.Born.{named_at, names_cases}
 use Rattle.clif_meaning.specs.Name.{Name, answer_of, same_name}
 use Rattle.clif_meaning.specs.Instruction.{Instruction}
 use Rattle.clif_meaning.specs.Request.{AnsweredCall}
@@ -16,6 +18,7 @@ use Rattle.clif_simulation.proofs.Numbers.{answered_stays}
 use Rattle.clif_simulation.proofs.Listed.{MakesNoParameter, parameters_stay}
 use Rattle.clif_simulation.proofs.NameLists.{same_name-equal, same_name_cases, only_one, none_in, the_one, MakesNoBlock, names_stay}
 use Rattle.clif_simulation.proofs.Extending.{AddsItem}
+use Rattle.clif_simulation.proofs.Places.{contained_at, mapped_at, mapped_from, place_of_one}
 
 -- a program with an item behind those of the current block
 module _ (program : Program) (B : Name) (item : Item) where
@@ -169,37 +172,17 @@ module _ (calls : List AnsweredCall) (call : AnsweredCall) (T : Blocks) (b : ℕ
           none_is : (j : ℕ) → None ≡ Some j → ⊥
           none_is j same = cc
 
-  -- an instruction without results
-  pub adds_instruction : (instruction : Instruction Name Name) → PutsItem calls call B (Instruct (length calls) instruction []) → AddsItem calls later T (with_item T b) b B (Instruct (length calls) instruction [])
-  adds_instruction instruction puts = record {
+  -- an instruction, whose results are given at this place by the values from this one on
+  pub adds_instruction : (instruction : Instruction Name Name) (results : List Name) (v : ℕ) (place : Place) → PutsItem calls call B (Instruct (length calls) instruction results)
+      → ((k : ℕ) (y : Name) → slice_get results k ≡ Some y → (y.place ≡ length calls) × (answered later y ≡ v + k)) → AreNewNames (state_of T) (map code results)
+      → place ≡ inside b (suc (T.count b))
+      → AddsItem calls later T (with_all_born (with_item T b) place (map code results) v) b B (Instruct (length calls) instruction results)
+  adds_instruction instruction results v place puts numbered new here = record {
     named = named;
     names = names_stay calls call puts.no_block;
     longer = omega (arith, length-append calls);
-    items_here = puts.items B ∙ items-here (program_so_far calls) B (Instruct (length calls) instruction []);
-    items_elsewhere = λ N other. puts.items N ∙ items-elsewhere (program_so_far calls) B (Instruct (length calls) instruction []) N other;
-    parameters = parameters_stay calls call puts.no_parameter;
-    same_or_other = same_or_other B;
-    count_here = count_here T b;
-    count_elsewhere = λ c other. updated-other T.count b (suc (T.count b)) c other;
-    assigned_here = λ y. unwritten y;
-    assigned_elsewhere = λ place y other. refl;
-    unassigned = unwritten;
-    assigns_earlier = λ y n none. cc;
-    gives_new = λ y gives. absurd (none_in y gives);
-    gives_decided = λ k. inr (refl, refl);
-    answers_stay = λ y before. answered_stays calls call y before;
-  }
-
-  -- an instruction with one result, at this place
-  pub adds_result : (instruction : Instruction Name Name) (v : ℕ) (place : Place) → PutsItem calls call B (Instruct (length calls) instruction (name_at 1 ∷ []))
-      → slice_get call.numbers 1 ≡ Some v → place ≡ inside b (suc (T.count b))
-      → AddsItem calls later T (with_born (with_item T b) place (code (name_at 1)) v) b B (Instruct (length calls) instruction (name_at 1 ∷ []))
-  adds_result instruction v place puts number here = record {
-    named = named;
-    names = names_stay calls call puts.no_block;
-    longer = omega (arith, length-append calls);
-    items_here = puts.items B ∙ items-here (program_so_far calls) B (Instruct (length calls) instruction (name_at 1 ∷ []));
-    items_elsewhere = λ N other. puts.items N ∙ items-elsewhere (program_so_far calls) B (Instruct (length calls) instruction (name_at 1 ∷ [])) N other;
+    items_here = puts.items B ∙ items-here (program_so_far calls) B (Instruct (length calls) instruction results);
+    items_elsewhere = λ N other. puts.items N ∙ items-elsewhere (program_so_far calls) B (Instruct (length calls) instruction results) N other;
     parameters = parameters_stay calls call puts.no_parameter;
     same_or_other = same_or_other B;
     count_here = count_here T b;
@@ -209,8 +192,14 @@ module _ (calls : List AnsweredCall) (call : AnsweredCall) (T : Blocks) (b : ℕ
     unassigned = unwritten;
     assigns_earlier = λ y n none. cc;
     gives_new = λ y gives.
-        let h = given_here 1 v (record { home = place; origin = fresh }) number y (only_one (name_at 1) y gives) in
-        (h.0, h.1 ∙ ap (λ (there : Place). record { home = there; origin = fresh }) here, h.2);
-    gives_decided = given_or_not 1 v (record { home = place; origin = fresh }) number;
+        let at = place_of_one results y gives in
+        let known = numbered at.0 y at.1 in
+        let given = named_at (state_of T) place T.naming T.answer (map code results) v at.0 (code y) new (mapped_at code results at.0 y at.1) in
+        (known.0, given.0 ∙ ap (λ (there : Place). record { home = there; origin = fresh }) here, given.1 ∙ sym known.1);
+    gives_decided = λ n.
+        elim (names_cases place T.naming T.answer (map code results) v n) [
+          | inl now ↦ let name = mapped_from code results now.0 n now.1 in inl (name.0, contained_at results now.0 name.0 name.1, name.2)
+          | inr old ↦ inr old
+        ];
     answers_stay = λ y before. answered_stays calls call y before;
   }

@@ -55,6 +55,7 @@ pub mod Numbers
 pub mod NameLists
 mod Layouts
 pub mod Extending
+pub mod Places
 pub mod ItemCalls
 pub mod Growing
 pub mod Carrying
@@ -66,6 +67,7 @@ pub mod Ledgers
 pub mod Unfilled
 pub mod Telling
 pub mod Calls
+pub mod ResultNames
 pub mod Building
 pub mod Beginning
 pub mod Placing

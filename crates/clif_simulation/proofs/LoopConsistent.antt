@@ -192,4 +192,5 @@ row_consistent = record {
   layout_once = consecutive loop_body.layout 0 in_layout;
   aliases_end = aliases_end;
   edges_without_results = edges_without_results;
+  signatures_exist = λ k function inside. absurd (omega (arith, inside));
 }

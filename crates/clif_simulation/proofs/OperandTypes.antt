@@ -21,7 +21,7 @@ use Rattle.clif_opcodes.specs.Typing.{AreOfKinds, binary_second, convert_demand,
 use Rattle.clif_ir.specs.Body.{Body}
 use Rattle.clif_meaning.specs.Bits.{Bits}
 use Rattle.clif_meaning.specs.Event.{types_of}
-use Rattle.clif_meaning.specs.Instruction.{Iconst, FloatConst, Unary, Binary, Compare, Concat, Convert, Select, Operation, Compute, Load, Store, Trap, CondTrap, Jump, Brif, Return, Instruction, operation_typing}
+use Rattle.clif_meaning.specs.Instruction.{Iconst, FloatConst, Unary, Binary, Compare, Concat, Split, Convert, Select, Operation, Compute, Load, Store, Trap, CondTrap, Jump, Brif, Return, Instruction, operation_typing}
 use Rattle.clif_meaning.specs.Ledger.{ledger_after, or_invalid, type_of}
 use Rattle.clif_meaning.specs.Memory.{Memory}
 use Rattle.clif_meaning.specs.Name.{Name}
@@ -87,6 +87,11 @@ doubled_valid type.Invalid is = none_is is
 doubled_valid (type.Lane l) is = refl
 doubled_valid (type.Vector l n) is = none_is is
 
+halved_valid : (ty : «Type») → IsTrue (is_met demand.AHalved ty) → IsType ty
+halved_valid type.Invalid is = none_is is
+halved_valid (type.Lane l) is = refl
+halved_valid (type.Vector l n) is = none_is is
+
 second_of : (a b : Bool) → IsTrue (a && b) → IsTrue b
 second_of true b is = is
 second_of false b is = none_is is
@@ -133,6 +138,7 @@ outcome_by_types world operation ty returns types others operands memory at fits
     by (Compute (Binary opcode)) at fits = alike (Compute (Binary opcode)) (kinds_valid ty (int_valid ty at) (kind.Controlling ∷ binary_second opcode ∷ []) (binary_told opcode) types fits)
     by (Compute (Compare condition)) at fits = alike (Compute (Compare condition)) (kinds_valid ty (int_valid ty at) (kind.Controlling ∷ kind.Controlling ∷ []) tt types fits)
     by (Compute Concat) at fits = alike (Compute Concat) (kinds_valid ty (doubled_valid ty at) (kind.Controlling ∷ kind.Controlling ∷ []) tt types fits)
+    by (Compute Split) at fits = alike (Compute Split) (kinds_valid ty (halved_valid ty at) (kind.Controlling ∷ []) tt types fits)
     by (Compute (Convert opcode)) at fits = alike (Compute (Convert opcode)) (kinds_valid ty (convert_valid opcode ty at) (convert_operand opcode ∷ []) (convert_told opcode) types fits)
     by (Compute Select) at fits = alike (Compute Select) (kinds_valid ty at (kind.AnInteger ∷ kind.Controlling ∷ kind.Controlling ∷ []) tt types fits)
     by (Load flags offset) at fits = alike (Load flags offset) (kinds_valid ty at (kind.Address ∷ []) tt types fits)

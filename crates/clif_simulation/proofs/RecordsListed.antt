@@ -1,7 +1,7 @@
 -- What is on record in the states of the worked examples.
 use Rattle.std.proofs.Common.{◌≡◌, ℕ, List, [], ◌∷◌, Option, Some, None}
 use Rattle.clif_records.specs.declared.tables.Pending.{Pending}
-use Rattle.clif_records.specs.Tables.{Recorded}
+use Rattle.clif_records.specs.declared.tables.Recorded.{Recorded}
 use Rattle.clif_ssa.specs.Ssa.{record_of}
 use Rattle.clif_records.proofs.RecordMaps.{value_among, record_at-entries, record_at-empty}
 use Rattle.clif_simulation.specs.CarryingExamples.{recorded_in, loop_state}

@@ -7,13 +7,14 @@ use Rattle.clif_instructions.specs.declared.block_call.BlockArg.{BlockArg}
 use Rattle.clif_instructions.specs.declared.block_call.BlockArg.TheVariants.{Value}
 use Rattle.clif_instructions.specs.declared.block_call.BlockCall.{BlockCall}
 use Rattle.clif_instructions.specs.declared.instructions.InstructionData.TheVariants.{UnaryImm, Binary, Jump, Brif, MultiAry}
+use Rattle.clif_tables.specs.Lists.{no_entries}
 use Rattle.clif_ir.specs.declared.function.ValueOrigin.TheVariants.{Result, Param}
 use Rattle.clif_ir.specs.Body.{Body}
 use Rattle.clif_ir.specs.Consistent.{IsConsistent}
 use Rattle.clif_records.specs.declared.tables.Sealed.{Sealed}
 use Rattle.clif_records.specs.declared.tables.Sealed.TheVariants.{No, Yes}
 use Rattle.std.specs.FinMap as map
-use Rattle.clif_records.specs.Tables.{Recorded}
+use Rattle.clif_records.specs.declared.tables.Recorded.{Recorded}
 use Rattle.clif_ssa.specs.Ssa.{SsaState}
 use Rattle.clif_opcodes.specs.declared.opcodes.BinaryOpcode.TheVariants as binary
 use Rattle.clif_meaning.specs.Instruction.{Compute}
@@ -103,6 +104,7 @@ loop_body_with number argument first second = record {
       ∷ record { params = []; insts = 3 ∷ 4 ∷ 5 ∷ []; is_cold = false }
       ∷ record { params = []; insts = 6 ∷ []; is_cold = false } ∷ [];
   layout = 0 ∷ 1 ∷ 2 ∷ 3 ∷ [];
+  tables = no_entries;
 }
 
 abbrev pub to_two_or_three : List BlockCall

@@ -5,6 +5,7 @@ use Rattle.std.specs.Prelude.{ℕ, false, List, [], ◌∷◌}
 use Rattle.clif_types.specs.declared.extname.UserFuncName.TheVariants.{Testcase}
 use Rattle.clif_instructions.specs.declared.block_call.BlockArg.TheVariants.{Value}
 use Rattle.clif_instructions.specs.declared.instructions.InstructionData.TheVariants.{Jump}
+use Rattle.clif_tables.specs.Lists.{no_entries}
 use Rattle.clif_ir.specs.declared.function.ValueOrigin.TheVariants.{Param}
 use Rattle.clif_ir.specs.Body.{Body}
 use Rattle.clif_records.specs.declared.tables.Pending.{Pending}
@@ -58,6 +59,7 @@ waiting_loop_body = record {
       ∷ record { shape = Jump (edge_to 1 []); results = []; block = 1; srcloc = 0 } ∷ [];
   blocks = record { params = []; insts = 0 ∷ []; is_cold = false } ∷ record { params = 0 ∷ []; insts = 1 ∷ []; is_cold = false } ∷ [];
   layout = 0 ∷ 1 ∷ [];
+  tables = no_entries;
 }
 
 -- the construction so far, where these parameters wait in block1
@@ -102,6 +104,7 @@ passing_loop_body_with argument = record {
       ∷ record { shape = Jump (edge_to 1 (Value argument ∷ [])); results = []; block = 1; srcloc = 0 } ∷ [];
   blocks = record { params = 0 ∷ []; insts = 0 ∷ []; is_cold = false } ∷ record { params = 1 ∷ 2 ∷ []; insts = 1 ∷ []; is_cold = false } ∷ [];
   layout = 0 ∷ 1 ∷ [];
+  tables = no_entries;
 }
 
 abbrev pub passing_loop_body : Body
@@ -137,6 +140,7 @@ early_jump_body = record {
   insts = record { shape = Jump (edge_to 1 (Value 0 ∷ [])); results = []; block = 0; srcloc = 0 } ∷ [];
   blocks = record { params = 0 ∷ []; insts = 0 ∷ []; is_cold = false } ∷ record { params = []; insts = []; is_cold = false } ∷ [];
   layout = 0 ∷ [];
+  tables = no_entries;
 }
 
 -- the construction so far

@@ -3,6 +3,7 @@
 use Rattle.std.specs.Prelude.{false, ℕ, zero, suc, List, [], ◌∷◌, pos}
 use Rattle.clif_types.specs.declared.extname.UserFuncName.TheVariants.{Testcase}
 use Rattle.clif_instructions.specs.declared.instructions.InstructionData.TheVariants.{UnaryImm}
+use Rattle.clif_tables.specs.Lists.{no_entries}
 use Rattle.clif_ir.specs.declared.function.ValueOrigin.TheVariants.{Result, Param}
 use Rattle.clif_ir.specs.Body.{Body}
 use Rattle.clif_records.specs.declared.tables.Pending.{Pending}
@@ -31,6 +32,7 @@ half_body_with number = record {
   insts = record { shape = UnaryImm (pos number); results = 1 ∷ []; block = 0; srcloc = 0 } ∷ [];
   blocks = record { params = 0 ∷ []; insts = 0 ∷ []; is_cold = false } ∷ [];
   layout = 0 ∷ [];
+  tables = no_entries;
 }
 
 abbrev pub half_body : Body

@@ -4,6 +4,7 @@ use Rattle.std.specs.Prelude.{Some, Contains, slice_get, cond, if◌then◌else�
 use Rattle.std.proofs.lemmas.Bool.{cases_eq}
 use Rattle.std.proofs.lemmas.List.Elements.{Contains-push_cases}
 use Rattle.clif_types.specs.declared.types.«Type».{«Type»}
+use Rattle.clif_tables.specs.Lists.{TableLists}
 use Rattle.clif_ir.specs.Body.{Body, block_at, inst_at, empty_block}
 use Rattle.clif_ir.specs.Changes.{with_layout, inserted_in, with_block, with_inst}
 use Rattle.clif_instructions.specs.Members.{Stands, Once, place_of, stands_in, without}
@@ -159,11 +160,11 @@ block_params f b =
     (λ last. ap (λ (m : BlockNode). m.params) (sym (at_past f.blocks b empty_block (omega (arith, last)))))
     (λ past. ap (λ (m : BlockNode). m.params) (sym (at_past f.blocks b empty_block (omega (arith, past)))))
 
-pub blocks_counted : (own : Own) (f : Body) (nodes : List BlockNode) (layout : List ℕ) (s : SsaState) (blocks : Blocks)
-    → ((b : ℕ) → (block_at (record f { blocks = nodes; layout = layout }) b).params ≡ (block_at f b).params)
-    → CountsArguments own f s blocks → CountsArguments own (record f { blocks = nodes; layout = layout }) s blocks
-blocks_counted own f nodes layout s blocks same_params counts =
-    counts_same own f (record f { blocks = nodes; layout = layout }) s s blocks blocks
+pub blocks_counted : (own : Own) (f : Body) (nodes : List BlockNode) (layout : List ℕ) (lists : TableLists) (s : SsaState) (blocks : Blocks)
+    → ((b : ℕ) → (block_at (record f { blocks = nodes; layout = layout; tables = lists }) b).params ≡ (block_at f b).params)
+    → CountsArguments own f s blocks → CountsArguments own (record f { blocks = nodes; layout = layout; tables = lists }) s blocks
+blocks_counted own f nodes layout lists s blocks same_params counts =
+    counts_same own f (record f { blocks = nodes; layout = layout; tables = lists }) s s blocks blocks
     (record { predecessors = λ c. refl; inst_same = λ c i here. refl; params = same_params; homes = λ v. refl; defined = λ v c is. refl }) counts
 
 pub block_counted : (own : Own) (f : Body) (s : SsaState) (blocks : Blocks) → CountsArguments own f s blocks → CountsArguments own (with_block f) s blocks

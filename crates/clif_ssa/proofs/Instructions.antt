@@ -1,5 +1,5 @@
 -- A function with one instruction more.
-use Rattle.std.proofs.Common.{◌≡◌, ◌≢◌, ℕ, zero, suc, ◌+◌, ◌<◌, ◌≤◌, List, [], ◌∷◌, length, get_or, set, refl, arith, sym, ◌∙◌, subst}
+use Rattle.std.proofs.Common.{◌≡◌, ◌≢◌, ℕ, zero, suc, ◌+◌, ◌<◌, ◌≤◌, List, [], ◌∷◌, length, get_or, set, ap, refl, arith, sym, ◌∙◌, subst}
 use Rattle.std.specs.Prelude.{slice_index}
 use Rattle.std.proofs.Math.ListN.{get_or-append}
 use Rattle.std.proofs.lemmas.Grind.{common_steps}
@@ -29,6 +29,10 @@ results_count i k (ty ∷ types) =
     let here : alias_count (node ∷ result_nodes i (k + 1) types) ≡ 0 + alias_count (result_nodes i (k + 1) types) = sum_by-cons _ node (result_nodes i (k + 1) types) in
     omega (arith, rest, here)
 
+nodes_count : (i k : ℕ) (types : List «Type») → length (result_nodes i k types) ≡ length types
+nodes_count i k [] = refl
+nodes_count i k (ty ∷ types) = ap suc (nodes_count i (k + 1) types)
+
 -- an entry of a list in which one was replaced by one with the same parameters
 params_set : (xs : List BlockNode) (i : ℕ) (y : BlockNode) (k : ℕ) → y.params ≡ (get_or xs i empty_block).params → (get_or (set xs i y) k empty_block).params ≡ (get_or xs k empty_block).params
 params_set [] i y k same = refl
@@ -52,6 +56,9 @@ module _ (f : Body) (b : ℕ) (at : InsertAt) (shape : InstructionData) (types :
 
   pub inst_values_more : length f.values ≤ length (with_inst f b at shape types loc).values
   inst_values_more = grind (arith, common_steps)
+
+  pub inst_values_count : length (with_inst f b at shape types loc).values ≡ length f.values + length types
+  inst_values_count = grind (arith, common_steps, nodes_count (length f.insts) 0 types)
 
   pub inst_params : (c : ℕ) → (block_at (with_inst f b at shape types loc) c).params ≡ (block_at f c).params
   inst_params c = params_set f.blocks b (record (block_at f b) { insts = put_at at (length f.insts) (block_at f b).insts }) c refl

@@ -28,6 +28,7 @@ pub mod Sealing
 pub mod Using
 pub mod Writing
 pub mod Leading
+pub mod Born
 pub mod Owning
 pub mod Alike
 pub mod Losing

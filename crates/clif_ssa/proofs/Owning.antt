@@ -1,6 +1,7 @@
 -- Instructions of the caller's.
-use Rattle.std.proofs.Common.{◌≡◌, ◌≢◌, ℕ, ◌+◌, ◌<◌, List, [], ◌∷◌, ◌++◌, length, refl, ap, arith, sym, ◌∙◌, subst, ◌⊎◌, inl, inr, append_assoc}
-use Rattle.std.proofs.lemmas.Grind.{common_steps}
+use Rattle.std.proofs.Common.{◌≡◌, ◌≢◌, ℕ, ◌+◌, ◌<◌, List, [], ◌∷◌, ◌++◌, length, refl, ap, arith, sym, ◌∙◌, subst, inl, inr, append_assoc, Some}
+use Rattle.std.specs.Prelude.{slice_get}
+use Rattle.std.proofs.lemmas.Option.{slice_get_within}
 use Rattle.std.proofs.lemmas.Bool.{cases_eq}
 use Rattle.clif_types.specs.declared.types.«Type».{«Type»}
 use Rattle.clif_ir.specs.Body.{Body, resolved}
@@ -10,22 +11,21 @@ use Rattle.clif_instructions.specs.declared.inst_list.InsertAt.TheVariants.{Back
 use Rattle.clif_instructions.specs.declared.instructions.InstructionData.{InstructionData}
 use Rattle.clif_paths.specs.Places.{Place, start, inside, Arm}
 use Rattle.clif_paths.specs.State.{Naming, Kind, born, pending, complete, fresh, Definition}
-use Rattle.clif_paths.specs.Steps.{IsNewName}
-use Rattle.clif_paths.specs.Blocks.{Blocks, last_place, state_of, with_item, with_born}
-use Rattle.clif_paths.proofs.BlockSteps.{born_keeps}
+use Rattle.clif_paths.specs.Blocks.{Blocks, front, last_place, state_of, with_item}
 use Rattle.clif_paths.proofs.Tables.{updated-same, updated-other}
 use Rattle.clif_ssa.specs.Ssa.{SsaState}
 use Rattle.clif_ssa.specs.LookUp.{branch_block}
 use Rattle.clif_ssa.specs.Sound.{Describes, CountsArguments, HasInstructions, HomeFits, IsWaiting}
 use Rattle.clif_records.specs.declared.tables.Pending.{Pending}
 use Rattle.clif_ssa.specs.Own.{Own, with_one_more}
-use Rattle.clif_ssa.specs.SoundLaws.{with_own, shape_passes, DescribesSoundly, IsOpen}
+use Rattle.clif_ssa.specs.SoundLaws.{with_own, shape_passes, AreNewNames, DescribesSoundly, IsOpen, all_born, with_all_born}
 use Rattle.clif_ssa.proofs.Bodies.{Firm}
-use Rattle.clif_ssa.proofs.Describing.{Extends, Arms, arms_of, arms_kept, SameEdges, same_edges, Ordered, SameGiven, ordered_of, ordered_given, ordered_kept, same_passed, KeepsKinds, same_kinds, new_kinds, instructions_kept, zeros_kept, waiting_kept, waiting_exists, homes_kept, assigns_not_kept}
-use Rattle.clif_ssa.proofs.Parameters.{new_unaliased}
-use Rattle.clif_ssa.proofs.Instructions.{inst_resolved, inst_param_home, inst_insts_here, inst_insts_other, inst_extends, inst_params}
+use Rattle.clif_ssa.proofs.Describing.{Extends, Arms, arms_of, arms_kept, SameEdges, same_edges, Ordered, SameGiven, ordered_of, ordered_given, ordered_kept, same_passed, KeepsKinds, instructions_kept, zeros_kept, waiting_kept, waiting_exists, homes_kept, assigns_not_kept}
+use Rattle.clif_ssa.proofs.Parameters.{past_unaliased}
+use Rattle.clif_ssa.proofs.Instructions.{inst_resolved, inst_param_home, inst_insts_here, inst_insts_other, inst_extends, inst_params, inst_values_count}
+use Rattle.clif_ssa.proofs.Born.{IsBorn, IsNamed, all_born_keeps, born_other, born_there_at, named_at, names_cases, names_still, values_cases}
 use Rattle.clif_ssa.proofs.Counting.{inst_counted, counts_given}
-use Rattle.clif_ssa.proofs.Writing.{item_described, name_cases, names_kept, new_name_item}
+use Rattle.clif_ssa.proofs.Writing.{item_described, new_name_item}
 use Rattle.clif_ssa.specs.Zeros.{insts_of_zeros}
 
 -- the caller's instructions of each block, with one more behind those of one
@@ -98,91 +98,50 @@ inst_kept own f s blocks blocks' b shape types loc before extends counts sealed 
           (ordered_given own (with_own own b (length f.insts) shape) f s [] blocks (given_still own f s [] blocks b shape before) (ordered_of own f s [] blocks before));
     }
 
-pub own_described : (own : Own) (f : Body) (s : SsaState) (blocks : Blocks) (b : ℕ) (shape : InstructionData) (loc : ℕ) → Firm f
-    → DescribesSoundly own f s blocks → IsOpen f s b → b < length f.blocks
-    → DescribesSoundly (with_own own b (length f.insts) shape) (with_inst f b Back shape [] loc) s (with_item blocks b)
-own_described own f s blocks b shape loc firm both open_block there =
-    let item : DescribesSoundly own f s (with_item blocks b) = item_described own f s blocks b both open_block in
-    let before : Describes own f s [] (with_item blocks b) = item.0 in
-    let after : Blocks = with_item blocks b in
-    let g : Body = with_inst f b Back shape [] loc in
-    let own' : Own = with_own own b (length f.insts) shape in
-    let count : length g.values ≡ length f.values = grind (arith, common_steps) in
-    let extends : Extends f g after after = inst_extends f b Back shape [] loc after after (λ v below. refl) in
-    let same_end : (v : ℕ) → resolved g v ≡ resolved f v = inst_resolved f b Back shape [] loc firm in
-    let kept : InstKept own' g s after = inst_kept own f s after after b shape [] loc before extends (λ c. refl) (λ c. refl) (λ arm. refl) (λ v arm. refl) (same_kinds after after (λ v. refl)) in (
-      record {
-        sealed = kept.arms.sealed;
-        joined = kept.arms.joined;
-        entered = kept.arms.entered;
-        led = kept.arms.led;
-        leading = kept.arms.leading;
-        leading_apart = kept.arms.leading_apart;
-        entry_apart = kept.arms.entry_apart;
-        resolves = λ v. before.resolves v ∙ sym (same_end v);
-        recorded = before.recorded;
-        records_exist = λ c x v is. omega (arith, before.records_exist c x v is, count);
-        unrecorded = before.unrecorded;
-        unwritten = before.unwritten;
-        absent = λ v past. before.absent v (omega (arith, past, count));
-        homes = before.homes;
-        answered = λ m given. omega (arith, before.answered m given, count);
-        born_there = λ m given is_fresh.
-            let old : _ × (resolved f (blocks.answer m) ≡ blocks.answer m) = before.born_there m given is_fresh in
-            (old.0, same_end (blocks.answer m) ∙ old.1);
-        waiting = λ c p here. waiting_kept f g after after c p (inst_param_home f b Back shape [] loc p.param) refl (before.waiting c p here);
-        completed = λ p here. absurd (omega (arith, here.1));
-        pends = λ v x ends is. before.pends v x (sym (same_end v) ∙ ends) is;
-        waiting_recorded = before.waiting_recorded;
-        complete_there = kept.order.complete_there;
-        complete_first = kept.order.complete_first;
-        waiting_order = kept.order.waiting_order;
-        completing_order = kept.order.completing_order;
-        passes = kept.order.passes;
-        instructions = own_instructions own f after after b shape [] loc there extends before.instructions;
-      },
-      item.1,
-      owned_counted own f s after after b shape [] loc before (λ v below. refl) item.2,
-    )
-
--- A RESULT --------------------------------------------------------------------------------------------------------
-
 born_or_complete : {x : ℕ} → ◌≡◌ {A = Kind} (born x) complete → ⊥
 born_or_complete same = cc
 
 born_or_pending : {x y : ℕ} → ◌≡◌ {A = Kind} (born x) (pending y) → ⊥
 born_or_pending same = cc
 
-pub result_described : (own : Own) (f : Body) (s : SsaState) (blocks : Blocks) (b k n : ℕ) (shape : InstructionData) (ty : «Type») (loc : ℕ) → Firm f
-    → DescribesSoundly own f s blocks → b < length f.blocks → IsNewName (state_of blocks) n
-    → DescribesSoundly (with_own own b (length f.insts) shape) (with_inst f b Back shape (ty ∷ []) loc) s (with_born blocks (inside b k) n (length f.values))
-result_described own f s blocks b k n shape ty loc firm both there name =
+-- what is a complete parameter, or one that waits, was so before names were given
+born_kinds : (blocks : Blocks) (place : Place) (names : List ℕ) (v : ℕ) → KeepsKinds blocks (with_all_born blocks place names v)
+born_kinds blocks place names v = record {
+  complete_before = λ w b is. complete_case w b is (values_cases place blocks.function.definition names v w);
+  pending_before = λ w b x is. pending_case w b x is (values_cases place blocks.function.definition names v w);
+}
+  where
+    complete_case : (w b : ℕ) → all_born place blocks.function.definition names v w ≡ record { home = front b; kind = complete }
+        → IsBorn place blocks.function.definition names v w → blocks.function.definition w ≡ record { home = front b; kind = complete }
+    complete_case w b is (inl new) = absurd (born_or_complete (ap (λ (d : Definition). d.kind) (sym new.4 ∙ is)))
+    complete_case w b is (inr old) = sym old ∙ is
+
+    pending_case : (w b x : ℕ) → all_born place blocks.function.definition names v w ≡ record { home = front b; kind = pending x }
+        → IsBorn place blocks.function.definition names v w → blocks.function.definition w ≡ record { home = front b; kind = pending x }
+    pending_case w b x is (inl new) = absurd (born_or_pending (ap (λ (d : Definition). d.kind) (sym new.4 ∙ is)))
+    pending_case w b x is (inr old) = sym old ∙ is
+
+results_described : (own : Own) (f : Body) (s : SsaState) (blocks : Blocks) (b k : ℕ) (names : List ℕ) (shape : InstructionData) (types : List «Type») (loc : ℕ) → Firm f
+    → DescribesSoundly own f s blocks → b < length f.blocks → length names ≡ length types → AreNewNames (state_of blocks) names
+    → DescribesSoundly (with_own own b (length f.insts) shape) (with_inst f b Back shape types loc) s (with_all_born blocks (inside b k) names (length f.values))
+results_described own f s blocks b k names shape types loc firm both there as_many new =
     let before : Describes own f s [] blocks = both.0 in
-    let g : Body = with_inst f b Back shape (ty ∷ []) loc in
+    let g : Body = with_inst f b Back shape types loc in
     let own' : Own = with_own own b (length f.insts) shape in
     let z : ℕ = length f.values in
     let place : Place = inside b k in
-    let after : Blocks = with_born blocks place n z in
-    let new : Definition = record { home = place; kind = born n } in
-    let named : Naming = record { home = place; origin = fresh } in
+    let after : Blocks = with_all_born blocks place names z in
     let written : place ≢ start = λ none. (let same : inside b k ≡ start = none in cc) in
-    let long : length g.values ≡ z + 1 = grind (arith, common_steps) in
-    let is_new : after.function.definition z ≡ new = updated-same blocks.function.definition z new z refl in
-    let is_old : (v : ℕ) → v ≢ z → after.function.definition v ≡ blocks.function.definition v = λ v other. updated-other blocks.function.definition z new v other in
-    let old_below : (v : ℕ) → v < z → after.function.definition v ≡ blocks.function.definition v = λ v below. is_old v (λ same. absurd (omega (arith, below, same))) in
-    let extends : Extends f g blocks after = inst_extends f b Back shape (ty ∷ []) loc blocks after old_below in
-    let same_end : (v : ℕ) → resolved g v ≡ resolved f v = inst_resolved f b Back shape (ty ∷ []) loc firm in
-    let own_end : resolved f z ≡ z = new_unaliased f firm in
-    let cases : (m : ℕ) → ((m ≡ n) × (after.naming m ≡ named) × (after.answer m ≡ z)) ⊎ ((m ≢ n) × (after.naming m ≡ blocks.naming m) × (after.answer m ≡ blocks.answer m)) =
-    name_cases blocks.naming blocks.answer n z named in
+    let long : length g.values ≡ z + length types = inst_values_count f b Back shape types loc in
+    let below : (j n : ℕ) → slice_get names j ≡ Some n → j < length types = λ j n at. omega (arith, slice_get_within names j n at, as_many) in
+    let old_below : (v : ℕ) → v < z → after.function.definition v ≡ blocks.function.definition v = λ v few. born_other place blocks.function.definition names z v few in
+    let extends : Extends f g blocks after = inst_extends f b Back shape types loc blocks after old_below in
+    let same_end : (v : ℕ) → resolved g v ≡ resolved f v = inst_resolved f b Back shape types loc firm in
+    let own_end : (j : ℕ) → resolved f (z + j) ≡ z + j = past_unaliased f in
+    let cases : (m : ℕ) → IsNamed place blocks.naming blocks.answer names z m = names_cases place blocks.naming blocks.answer names z in
+    let values : (v : ℕ) → IsBorn place blocks.function.definition names z v = values_cases place blocks.function.definition names z in
     let kept : InstKept own' g s after =
-    inst_kept own f s blocks after b shape (ty ∷ []) loc before extends (λ c. refl) (λ c. refl) (λ arm. refl) (λ v arm. refl)
-    (new_kinds blocks after z new is_new is_old (λ is. born_or_complete is) (λ x is. born_or_pending is)) in
-    let fits_new : HomeFits after z (born n) = (
-      updated-same blocks.naming n named n refl ∙ ap (λ (d : Definition). record { home = d.home; origin = fresh }) (sym is_new),
-      updated-same blocks.answer n z n refl,
-      λ none. written (sym (ap (λ (d : Definition). d.home) is_new) ∙ none),
-    ) in (
+    inst_kept own f s blocks after b shape types loc before extends (λ c. refl) (λ c. refl) (λ arm. refl) (λ v arm. refl) (born_kinds blocks place names z) in (
       record {
         sealed = kept.arms.sealed;
         joined = kept.arms.joined;
@@ -196,42 +155,51 @@ result_described own f s blocks b k n shape ty loc firm both there name =
         records_exist = λ c x v is. omega (arith, before.records_exist c x v is, long);
         unrecorded = λ c x is. assigns_not_kept blocks after c x refl (λ j. refl) (before.unrecorded c x is);
         unwritten = before.unwritten;
-        absent = λ v past. is_old v (λ same. absurd (omega (arith, past, same, long))) ∙ before.absent v (omega (arith, past, long));
+        absent = λ v past.
+            elim (values v) [
+              | inl now ↦ absurd (omega (arith, past, long, now.3, below now.0 now.1 now.2))
+              | inr old ↦ old ∙ before.absent v (omega (arith, past, long))
+            ];
         homes = λ v.
-            elim (cases_eq v z) [
-              | inl same ↦
-                  subst (λ w. HomeFits after w (after.function.definition w).kind) (sym same)
-                  (subst (λ (d : Definition). HomeFits after z d.kind) (sym is_new) fits_new)
-              | inr other ↦ homes_kept blocks after v (is_old v other) (λ c known. known) (names_kept blocks.naming blocks.answer n z named name.new_name) (before.homes v)
+            elim (values v) [
+              | inl now ↦
+                  let at = named_at (state_of blocks) place blocks.naming blocks.answer names z now.0 now.1 new now.2 in
+                  let fits : HomeFits after v (born now.1) = (
+                    at.0 ∙ ap (λ (d : Definition). record { home = d.home; origin = fresh }) (sym now.4),
+                    at.1 ∙ sym now.3,
+                    λ none. written (sym (ap (λ (d : Definition). d.home) now.4) ∙ none),
+                  ) in
+                  subst (λ (d : Definition). HomeFits after v d.kind) (sym now.4) fits
+              | inr old ↦ homes_kept blocks after v old (λ c known. known) (λ m given. names_still (state_of blocks) place blocks.answer names z m new given) (before.homes v)
             ];
         answered = λ m given.
             elim (cases m) [
-              | inl now ↦ omega (arith, now.2, long)
-              | inr old ↦ omega (arith, old.2, long, before.answered m (λ none. given (ap (λ (j : Naming). j.home) old.1 ∙ none)))
+              | inl now ↦ omega (arith, now.3, long, below now.0 m now.1)
+              | inr old ↦ omega (arith, old.1, long, before.answered m (λ none. given (ap (λ (j : Naming). j.home) old.0 ∙ none)))
             ];
         born_there = λ m given is_fresh.
             elim (cases m) [
               | inl now ↦ (
-                ap after.function.definition now.2 ∙ is_new ∙ ap (λ j. record { home = place; kind = born j }) (sym now.0)
-                    ∙ ap (λ (j : Naming). record { home = j.home; kind = born m }) (sym now.1),
-                ap (λ w. resolved g w) now.2 ∙ same_end z ∙ own_end ∙ sym now.2,
+                ap after.function.definition now.3 ∙ born_there_at place blocks.function.definition names z now.0 m now.1
+                    ∙ ap (λ (j : Naming). record { home = j.home; kind = born m }) (sym now.2),
+                ap (λ w. resolved g w) now.3 ∙ same_end (z + now.0) ∙ own_end now.0 ∙ sym now.3,
               )
               | inr old ↦
-                  let there : (blocks.naming m).home ≢ start = λ none. given (ap (λ (j : Naming). j.home) old.1 ∙ none) in
+                  let there : (blocks.naming m).home ≢ start = λ none. given (ap (λ (j : Naming). j.home) old.0 ∙ none) in
                   let was : (blocks.function.definition (blocks.answer m) ≡ record { home = (blocks.naming m).home; kind = born m }) × (resolved f (blocks.answer m) ≡ blocks.answer m) =
-                  before.born_there m there (sym (ap (λ (j : Naming). j.origin) old.1) ∙ is_fresh) in (
-                    ap after.function.definition old.2 ∙ old_below (blocks.answer m) (before.answered m there) ∙ was.0 ∙ ap (λ (j : Naming). record { home = j.home; kind = born m }) (sym old.1),
-                    ap (λ w. resolved g w) old.2 ∙ same_end (blocks.answer m) ∙ was.1 ∙ sym old.2,
+                  before.born_there m there (sym (ap (λ (j : Naming). j.origin) old.0) ∙ is_fresh) in (
+                    ap after.function.definition old.1 ∙ old_below (blocks.answer m) (before.answered m there) ∙ was.0 ∙ ap (λ (j : Naming). record { home = j.home; kind = born m }) (sym old.0),
+                    ap (λ w. resolved g w) old.1 ∙ same_end (blocks.answer m) ∙ was.1 ∙ sym old.1,
                   )
             ];
         waiting = λ c p here.
             let was : IsWaiting f blocks c p = before.waiting c p here in
-            waiting_kept f g blocks after c p (inst_param_home f b Back shape (ty ∷ []) loc p.param) (old_below p.param (waiting_exists f blocks c p was)) was;
+            waiting_kept f g blocks after c p (inst_param_home f b Back shape types loc p.param) (old_below p.param (waiting_exists f blocks c p was)) was;
         completed = λ p here. absurd (omega (arith, here.1));
         pends = λ v x ends is.
-            elim (cases_eq v z) [
-              | inl same ↦ absurd (born_or_pending (sym (ap (λ (d : Definition). d.kind) is_new) ∙ ap (λ w. (after.function.definition w).kind) (sym same) ∙ is))
-              | inr other ↦ before.pends v x (sym (same_end v) ∙ ends) (sym (ap (λ (d : Definition). d.kind) (is_old v other)) ∙ is)
+            elim (values v) [
+              | inl now ↦ absurd (born_or_pending (sym (ap (λ (d : Definition). d.kind) now.4) ∙ is))
+              | inr old ↦ before.pends v x (sym (same_end v) ∙ ends) (sym (ap (λ (d : Definition). d.kind) old) ∙ is)
             ];
         waiting_recorded = before.waiting_recorded;
         complete_there = kept.order.complete_there;
@@ -239,21 +207,23 @@ result_described own f s blocks b k n shape ty loc firm both there name =
         waiting_order = kept.order.waiting_order;
         completing_order = kept.order.completing_order;
         passes = kept.order.passes;
-        instructions = own_instructions own f blocks after b shape (ty ∷ []) loc there extends before.instructions;
+        instructions = own_instructions own f blocks after b shape types loc there extends before.instructions;
       },
-      born_keeps blocks place n z
-          (record {
-            written = written;
-            name = name;
-            new_value = ap (λ (d : Definition). d.home) (before.absent z (omega arith));
-            no_alias = before.resolves z ∙ own_end;
-          }) both.1,
-      owned_counted own f s blocks after b shape (ty ∷ []) loc before old_below both.2,
+      all_born_keeps blocks place names z written new
+          (λ j. ap (λ (d : Definition). d.home) (before.absent (z + j) (omega arith)))
+          (λ j. before.resolves (z + j) ∙ own_end j) both.1,
+      owned_counted own f s blocks after b shape types loc before old_below both.2,
     )
 
-pub own_result_described : (own : Own) (f : Body) (s : SsaState) (blocks : Blocks) (b n : ℕ) (shape : InstructionData) (ty : «Type») (loc : ℕ) → Firm f
-    → DescribesSoundly own f s blocks → IsOpen f s b → b < length f.blocks → IsNewName (state_of blocks) n
-    → DescribesSoundly (with_own own b (length f.insts) shape) (with_inst f b Back shape (ty ∷ []) loc) s
-    (with_born (with_item blocks b) (last_place (with_item blocks b) b) n (length f.values))
-own_result_described own f s blocks b n shape ty loc firm both open_block there name =
-    result_described own f s (with_item blocks b) b ((with_item blocks b).count b) n shape ty loc firm (item_described own f s blocks b both open_block) there (new_name_item blocks b n name)
+-- new names are new once the block has one item more
+new_names_item : (blocks : Blocks) (b : ℕ) (names : List ℕ) → AreNewNames (state_of blocks) names → AreNewNames (state_of (with_item blocks b)) names
+new_names_item blocks b [] new = tt
+new_names_item blocks b (n ∷ names) new = (new_name_item blocks b n new.0, new.1, new_names_item blocks b names new.2)
+
+pub own_described : (own : Own) (f : Body) (s : SsaState) (blocks : Blocks) (b : ℕ) (names : List ℕ) (shape : InstructionData) (types : List «Type») (loc : ℕ) → Firm f
+    → DescribesSoundly own f s blocks → IsOpen f s b → b < length f.blocks → length names ≡ length types → AreNewNames (state_of blocks) names
+    → DescribesSoundly (with_own own b (length f.insts) shape) (with_inst f b Back shape types loc) s
+    (with_all_born (with_item blocks b) (last_place (with_item blocks b) b) names (length f.values))
+own_described own f s blocks b names shape types loc firm both open_block there as_many new =
+    results_described own f s (with_item blocks b) b ((with_item blocks b).count b) names shape types loc firm (item_described own f s blocks b both open_block) there as_many
+    (new_names_item blocks b names new)

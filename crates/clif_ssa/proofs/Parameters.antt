@@ -46,6 +46,10 @@ param_count f b ty = grind (arith, common_steps)
 pub new_unaliased : (f : Body) → Firm f → resolved f (length f.values) ≡ length f.values
 new_unaliased f firm = follow_end f.values (length f.values) (length f.values) (past_alias f.values (length f.values) (omega arith))
 
+-- what isn't there stands for itself
+pub past_unaliased : (f : Body) (j : ℕ) → resolved f (length f.values + j) ≡ length f.values + j
+past_unaliased f j = follow_end f.values (length f.values) (length f.values + j) (past_alias f.values (length f.values + j) (omega arith))
+
 home_at_end : (values : List ValueNode) (node : ValueNode) → home_of_node (slice_get (values ++ node ∷ []) (length values)) ≡ home_of_node (Some node)
 home_at_end [] node = refl
 home_at_end (n ∷ values) node = home_at_end values node

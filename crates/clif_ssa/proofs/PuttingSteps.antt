@@ -1,16 +1,21 @@
 -- The steps of a zero are put one after the other.
-use Rattle.std.proofs.Common.{◌≡◌, ℕ, zero, suc, ◌+◌, ◌-◌, ◌^◌, ◌<◌, ◌≤◌, List, [], ◌∷◌, ◌++◌, length, take, refl, ap, arith, sym, ◌∙◌, subst}
-use Rattle.std.specs.Prelude.{All, MatchOption, Option, Some, None, slice_get, slice_index}
+use Rattle.std.proofs.Common.{◌≡◌, ℕ, zero, suc, ◌+◌, ◌-◌, ◌^◌, ◌<◌, ◌≤◌, ◌⊎◌, inl, inr, List, [], ◌∷◌, ◌++◌, length, take, refl, ap, arith, sym, ◌∙◌, subst}
+use Rattle.std.specs.Prelude.{All, MatchOption, Option, Some, None, Result, Err, slice_get, slice_index}
 use Rattle.std.specs.List.{range_with_len}
 use Rattle.std.proofs.lemmas.Grind.{common_steps}
 use Rattle.std.proofs.lemmas.List.FromFn.{length-range_with_len}
+use Rattle.clif_types.specs.declared.error.BuildError.{BuildError}
+use Rattle.clif_types.specs.declared.error.BuildError.TheVariants.{Full}
 use Rattle.clif_types.specs.declared.types.«Type».{«Type»}
 use Rattle.clif_instructions.specs.declared.inst_list.InsertAt.TheVariants.{Behind}
 use Rattle.clif_instructions.specs.declared.instructions.InstructionData.{InstructionData}
 use Rattle.clif_ir.specs.Body.{Body, block_at}
-use Rattle.clif_ir.specs.Changes.{with_inst}
+use Rattle.clif_ir.specs.Changes.{HasNoRoom, with_inst}
 use Rattle.clif_ir.specs.Consistent.{EdgeExists}
-use Rattle.clif_instructions.specs.Instruction.{destinations, operands, result_types}
+use Rattle.clif_instructions.specs.Instruction.{destinations, operands, result_count, result_types}
+use Rattle.clif_ir.proofs.Changes.{no_room_few}
+use Rattle.clif_ir.proofs.KeepsInst.{length-result_types}
+use Rattle.clif_ssa.specs.Limits.{IsFull}
 use Rattle.clif_ssa.specs.Ssa.{no_srcloc, with_steps}
 use Rattle.clif_ssa.specs.Zeros.{IsStepAt, ZeroStep, zero_steps}
 use Rattle.clif_ssa.proofs.ZeroSteps.{steps_insts_here, steps_insts_more, steps_push, steps_values_count}
@@ -75,6 +80,13 @@ take_get (y ∷ ys) (suc k) x is = let more : suc k + 1 ≡ suc (k + 1) = omega 
 past_front : (xs ys : List ℕ) (n : ℕ) → length xs ≡ n → n ≤ length (xs ++ ys)
 past_front xs ys n is = grind (arith, common_steps, is)
 
+-- an error that is passed on was `Full` before
+pub full_before : {T U : Type 0} (r : Result T BuildError) (e y : BuildError) → r ≡ Err Full → r ≡ Err y → y ≡ e → ◌≡◌ {A = Result U BuildError} (Err e) (Err Full)
+full_before {T} {U} r e y is was same = ap (λ (x : BuildError). Err x) (sym same ∙ error_is y Full (sym was ∙ is))
+  where
+    error_is : (a b : BuildError) → ◌≡◌ {A = Result T BuildError} (Err a) (Err b) → a ≡ b
+    error_is a b both = cc
+
 module _ (f g : Body) (b : ℕ) (ty : «Type») (place : ℕ) (g_is : g ≡ with_steps f b (take place (zero_steps ty))) where
   -- all of them
   pub all_put : place ≤ length (zero_steps ty) → length (zero_steps ty) ≤ place → g ≡ with_steps f b (zero_steps ty)
@@ -126,6 +138,21 @@ module _ (f g : Body) (b : ℕ) (ty : «Type») (place : ℕ) (g_is : g ≡ with
     pub step_fits : place + 1 ≤ length (zero_steps ty)
     step_fits = omega (arith, fits)
 
+    step_types : result_types shape result ≡ next.step.ty ∷ []
+    step_types =
+        ap (result_types shape) next.result_is ∙ ap (λ s. result_types s next.step.ty) next.shape_is ∙ plain.one_result (length g.values - 1)
+
+    -- it has one result, so that there is room for it unless a table is full
+    pub step_full : length g.values < 2 ^ 32 → HasNoRoom g (result_count shape) → IsFull g
+    step_full small full = by (no_room_few g (result_count shape) small few full)
+      where
+        few : result_count shape ≤ 1
+        few = let one : length (result_types shape result) ≡ 1 = ap (λ (ts : List «Type»). length ts) step_types in omega (arith, one, length-result_types shape result)
+
+        by : (length g.insts ≡ 2 ^ 32 - 1) ⊎ (length g.values ≡ 2 ^ 32 - 1) → IsFull g
+        by (inl insts) = inr insts
+        by (inr values) = inl values
+
     -- there is one step more
     pub step_more : (loc : ℕ) (h : Body) → b < length f.blocks → loc ≡ no_srcloc → h ≡ with_inst g b (Behind place) shape (result_types shape result) loc
         → (place + 1 ≤ length (zero_steps ty)) × (h ≡ with_steps f b (take (place + 1) (zero_steps ty)))
@@ -133,10 +160,8 @@ module _ (f g : Body) (b : ℕ) (ty : «Type») (place : ℕ) (g_is : g ≡ with
       where
         by : h ≡ with_steps f b (take (place + 1) (zero_steps ty))
         by =
-            let types : result_types shape result ≡ next.step.ty ∷ [] =
-            ap (result_types shape) next.result_is ∙ ap (λ s. result_types s next.step.ty) next.shape_is ∙ plain.one_result (length g.values - 1) in
             made
-            ∙ ap (λ ts. with_inst g b (Behind place) shape ts loc) types
+            ∙ ap (λ ts. with_inst g b (Behind place) shape ts loc) step_types
             ∙ ap (λ n. with_inst g b (Behind place) shape (next.step.ty ∷ []) n) loc_is
             ∙ ap (λ s. with_inst g b (Behind place) s (next.step.ty ∷ []) no_srcloc) next.shape_is
             ∙ ap (λ n. with_inst g b (Behind n) (next.step.shape (length g.values - 1)) (next.step.ty ∷ []) no_srcloc) (sym count)

@@ -7,6 +7,7 @@ use Rattle.std.proofs.lemmas.List.Elements.{Contains-push_cases}
 use Rattle.clif_types.specs.declared.types.«Type».{«Type»}
 use Rattle.clif_types.specs.declared.extname.UserFuncName.{UserFuncName}
 use Rattle.clif_types.specs.Signature.{SignatureShape}
+use Rattle.clif_tables.specs.Lists.{TableLists}
 use Rattle.clif_ir.specs.Body.{Body, empty_body, empty_block, block_at}
 use Rattle.clif_ir.specs.Changes.{with_block, with_inst, with_layout, with_param, inserted_in}
 use Rattle.clif_instructions.specs.Members.{Once, stands_in, without}
@@ -59,9 +60,9 @@ first_structured types name signature = record {
 
 -- BLOCKS ----------------------------------------------------------------------------------------------------------
 
-module _ (f : Body) (blocks : List BlockNode) (layout : List ℕ) where
+module _ (f : Body) (blocks : List BlockNode) (layout : List ℕ) (tables : TableLists) where
   abbrev g : Body
-  g = record f { blocks = blocks; layout = layout }
+  g = record f { blocks = blocks; layout = layout; tables = tables }
 
   blocks_keep_are : (values params : List ℕ) → AreFor f values params → AreFor g values params
   blocks_keep_are [] [] are = tt
@@ -99,14 +100,14 @@ module _ (f : Body) (blocks : List BlockNode) (layout : List ℕ) where
 
 pub block_structured : (types : VariableTypes) (own : Own) (f : Body) (s : SsaState) → Structured types own f s [] → Structured types own (with_block f) s []
 block_structured types own f s before =
-    blocks_structured f (f.blocks ++ empty_block ∷ []) f.layout types own s [] (block_params f) (new_block_insts f.blocks) before
+    blocks_structured f (f.blocks ++ empty_block ∷ []) f.layout f.tables types own s [] (block_params f) (new_block_insts f.blocks) before
 
 pub inserted_structured : (types : VariableTypes) (own : Own) (f : Body) (s : SsaState) (b : ℕ) → Structured types own f s [] → Structured types own (inserted_in f b) s []
 inserted_structured types own f s b before = by (stands_in b f.layout)
   where
     by : (test : Bool) → Structured types own (cond test f (with_layout f b)) s []
     by true = before
-    by false = blocks_structured f f.blocks (f.layout ++ b ∷ []) types own s [] (λ c. refl) (λ c. refl) before
+    by false = blocks_structured f f.blocks (f.layout ++ b ∷ []) f.tables types own s [] (λ c. refl) (λ c. refl) before
 
 -- INSTRUCTIONS AND PARAMETERS -------------------------------------------------------------------------------------
 

@@ -5,6 +5,7 @@ use Rattle.std.proofs.lemmas.Grind.{common_steps}
 use Rattle.std.proofs.lemmas.Bool.{cases_eq}
 use Rattle.clif_types.specs.declared.extname.UserFuncName.{UserFuncName}
 use Rattle.clif_types.specs.Signature.{SignatureShape}
+use Rattle.clif_tables.specs.Lists.{TableLists}
 use Rattle.clif_ir.specs.Body.{Body, block_at, empty_block, resolved, empty_body}
 use Rattle.clif_ir.specs.Changes.{with_block}
 use Rattle.clif_ir.specs.declared.function.BlockNode.{BlockNode}
@@ -119,14 +120,14 @@ block_params f b =
     (λ last. ap (λ (m : BlockNode). m.params) (sym (at_past f.blocks b empty_block (omega (arith, last)))))
     (λ past. ap (λ (m : BlockNode). m.params) (sym (at_past f.blocks b empty_block (omega (arith, past)))))
 
--- a function with other blocks and another layout: each block has the parameters and instructions that it had, and the entry
+-- a function with other blocks, another layout and other tables: each block has the parameters and instructions that it had, and the entry
 -- is the same
-pub blocks_described : (own : Own) (f : Body) (nodes : List BlockNode) (layout : List ℕ) (s : SsaState) (blocks : Blocks)
-    → ((b : ℕ) → (block_at (record f { blocks = nodes; layout = layout }) b).params ≡ (block_at f b).params)
-    → ((b : ℕ) → (block_at (record f { blocks = nodes; layout = layout }) b).insts ≡ (block_at f b).insts)
-    → slice_get layout 0 ≡ entry_of f → Describes own f s [] blocks → Describes own (record f { blocks = nodes; layout = layout }) s [] blocks
-blocks_described own f nodes layout s blocks same_params same_insts entry before =
-    let g : Body = record f { blocks = nodes; layout = layout } in
+pub blocks_described : (own : Own) (f : Body) (nodes : List BlockNode) (layout : List ℕ) (lists : TableLists) (s : SsaState) (blocks : Blocks)
+    → ((b : ℕ) → (block_at (record f { blocks = nodes; layout = layout; tables = lists }) b).params ≡ (block_at f b).params)
+    → ((b : ℕ) → (block_at (record f { blocks = nodes; layout = layout; tables = lists }) b).insts ≡ (block_at f b).insts)
+    → slice_get layout 0 ≡ entry_of f → Describes own f s [] blocks → Describes own (record f { blocks = nodes; layout = layout; tables = lists }) s [] blocks
+blocks_described own f nodes layout lists s blocks same_params same_insts entry before =
+    let g : Body = record f { blocks = nodes; layout = layout; tables = lists } in
     let extends : Extends f g blocks blocks =
     record { values_more = omega arith; insts_more = omega arith; inst_same = λ i here. refl; definition_same = λ v here. refl } in
     let old : Arms f s blocks = arms_of own f s [] blocks before in
@@ -175,7 +176,7 @@ blocks_described own f nodes layout s blocks same_params same_insts entry before
     }
 
 pub block_described : (own : Own) (f : Body) (s : SsaState) (blocks : Blocks) → Describes own f s [] blocks → Describes own (with_block f) s [] blocks
-block_described own f s blocks before = blocks_described own f (f.blocks ++ empty_block ∷ []) f.layout s blocks (block_params f) (block_insts f) refl before
+block_described own f s blocks before = blocks_described own f (f.blocks ++ empty_block ∷ []) f.layout f.tables s blocks (block_params f) (block_insts f) refl before
 
 -- THE FIRST TABLES ------------------------------------------------------------------------------------------------
 

@@ -1,6 +1,7 @@
 -- How the tables of the theory of variables on paths change as a function and the state of its construction do.
 -- Source: own.
-use Rattle.std.specs.Prelude.{◌≡◌, ◌≢◌, ℕ, ◌<◌, ◌==◌, ◌&&◌, ◌||◌, List, [], ◌∷◌, ◌++◌, ◌+◌, length, Bool, true, false, Some, None, Contains, slice_get, if◌then◌else◌}
+use Rattle.std.specs.Prelude.{◌≡◌, ◌≢◌, ℕ, suc, ◌<◌, ◌==◌, ◌&&◌, ◌||◌, List, [], ◌∷◌, ◌++◌, ◌+◌, length, Bool, true, false, Some, None, Contains, slice_get, if◌then◌else◌}
+use Rattle.std.specs.List.{AllByRecursion}
 use Rattle.clif_types.specs.declared.types.«Type».{«Type»}
 use Rattle.clif_types.specs.declared.extname.UserFuncName.{UserFuncName}
 use Rattle.clif_types.specs.Signature.{SignatureShape}
@@ -12,7 +13,8 @@ use Rattle.clif_instructions.specs.Members.{without}
 use Rattle.clif_instructions.specs.declared.block_call.BlockArg.{BlockArg}
 use Rattle.clif_instructions.specs.declared.instructions.InstructionData.{InstructionData}
 use Rattle.clif_instructions.specs.declared.inst_list.InsertAt.TheVariants.{Back}
-use Rattle.clif_paths.specs.Places.{start, Edges, same_place}
+use Rattle.clif_paths.specs.Places.{Place, start, Edges, same_place}
+use Rattle.clif_paths.specs.State.{Naming, Definition, State, born, fresh}
 use Rattle.clif_paths.specs.Steps.{updated, IsNewName}
 use Rattle.clif_paths.specs.Blocks.{Blocks, front, last_place, state_of, no_blocks, with_blocks_sealed, with_block_sealed, with_zero_in, with_dropped, with_item, with_born, with_read, with_write, Knows}
 use Rattle.clif_paths.specs.BlockLaws.{BlocksSound}
@@ -62,6 +64,34 @@ shape_passes shape k = args_of (slice_get (destinations shape) k)
 -- what the caller made, with one more instruction of this shape in block `b`
 abbrev pub with_own : Own → ℕ → ℕ → InstructionData → Own
 with_own own b inst shape = record own { insts = with_one_more own.insts b inst; passed = updated own.passed inst (shape_passes shape) }
+
+-- the names, the definitions and the answers as these names are given at a place, by values that are born there, from this
+-- number on
+abbrev pub all_named : Place → (ℕ → Naming) → List ℕ → ℕ → Naming
+all_named place naming [] = naming
+all_named place naming (n ∷ names) = all_named place (updated naming n (record { home = place; origin = fresh })) names
+
+abbrev pub all_born : Place → (ℕ → Definition) → List ℕ → ℕ → ℕ → Definition
+all_born place definition [] v = definition
+all_born place definition (n ∷ names) v =
+    all_born place (updated definition v (record { home = place; kind = born n })) names (suc v)
+
+abbrev pub all_answered : (ℕ → ℕ) → List ℕ → ℕ → ℕ → ℕ
+all_answered answer [] v = answer
+all_answered answer (n ∷ names) v = all_answered (updated answer n v) names (suc v)
+
+-- GIVE several names at a place, each by the next value.
+abbrev pub with_all_born : Blocks → Place → List ℕ → ℕ → Blocks
+with_all_born blocks place names v = record blocks {
+  naming = all_named place blocks.naming names;
+  function = record blocks.function { definition = all_born place blocks.function.definition names v };
+  answer = all_answered blocks.answer names v;
+}
+
+-- new names, all different
+abbrev pub AreNewNames : State → List ℕ → Type 0
+AreNewNames s [] = Unit {0}
+AreNewNames s (n ∷ names) = IsNewName s n × AllByRecursion (λ m. m ≢ n) names × AreNewNames s names
 
 -- tables that describe a function and a state, and are sound; and the edges to blocks pass what they have to
 abbrev pub DescribesSoundly : Own → Body → SsaState → Blocks → Type 0
@@ -123,21 +153,15 @@ WriteItemKeeps =
     IsOpen f s b → (blocks.naming n).home ≢ start → Records s t x b (blocks.answer n) → SameBlocks s t → SamePredecessors s t →
     DescribesSoundly own f t (with_write (with_item blocks b) b x n)
 
--- an instruction of the caller's without results, at the end of a block
+-- an instruction of the caller's at the end of a block, by whose results new names are given, in order
 abbrev pub OwnInstructionKeeps : Type 0
 OwnInstructionKeeps =
-    (own : Own) (f : Body) (s : SsaState) (blocks : Blocks) (b : ℕ) (shape : InstructionData) (loc : ℕ) →
+    (own : Own) (f : Body) (s : SsaState) (blocks : Blocks) (b : ℕ) (names : List ℕ) (shape : InstructionData)
+    (types : List «Type») (loc : ℕ) →
     IsConsistent f → DescribesSoundly own f s blocks → IsOpen f s b → b < length f.blocks →
-    DescribesSoundly (with_own own b (length f.insts) shape) (with_inst f b Back shape [] loc) s (with_item blocks b)
-
--- the same with one result, by which a new name is given
-abbrev pub OwnResultKeeps : Type 0
-OwnResultKeeps =
-    (own : Own) (f : Body) (s : SsaState) (blocks : Blocks) (b n : ℕ) (shape : InstructionData) (ty : «Type»)
-    (loc : ℕ) →
-    IsConsistent f → DescribesSoundly own f s blocks → IsOpen f s b → b < length f.blocks → IsNewName (state_of blocks) n →
-    DescribesSoundly (with_own own b (length f.insts) shape) (with_inst f b Back shape (ty ∷ []) loc) s
-    (with_born (with_item blocks b) (last_place (with_item blocks b) b) n (length f.values))
+    length names ≡ length types → AreNewNames (state_of blocks) names →
+    DescribesSoundly (with_own own b (length f.insts) shape) (with_inst f b Back shape types loc) s
+    (with_all_born (with_item blocks b) (last_place (with_item blocks b) b) names (length f.values))
 
 -- a parameter of the caller's, by which a new name is given as the block is entered: the block has no parameter of a
 -- variable so far

@@ -1,7 +1,7 @@
 //! Laws for the builder above: the tables of the theory of variables on paths describe what it makes of a function by
 //! itself, and stay sound.
 
-ghost use Rattle.clif_ssa.specs.SoundLaws.{FirstDescribes, SameStateKeeps, InsertionKeeps, NewBlockKeeps, ReadItemKeeps, WriteHereKeeps, WriteItemKeeps, OwnInstructionKeeps, OwnResultKeeps, OwnParameterKeeps, WaitingUseKeeps, ZeroUseKeeps, SealingKeeps, PredecessorDeclared, PredecessorRemoved, NewNameStays};
+ghost use Rattle.clif_ssa.specs.SoundLaws.{FirstDescribes, SameStateKeeps, InsertionKeeps, NewBlockKeeps, ReadItemKeeps, WriteHereKeeps, WriteItemKeeps, OwnInstructionKeeps, OwnParameterKeeps, WaitingUseKeeps, ZeroUseKeeps, SealingKeeps, PredecessorDeclared, PredecessorRemoved, NewNameStays};
 ghost use Rattle.clif_ssa.specs.Structure.{UsesAgree};
 ghost use Rattle.clif_ssa.specs.Structured.{FirstStructured, NewBlockStructured, InsertionStructured, InstructionStructured, ParameterStructured};
 ghost use Rattle.clif_ssa.specs.Within.{WaitingHeld};
@@ -41,14 +41,9 @@ pub fn write_item_keeps()
     ensures { WriteItemKeeps }
 {}
 
-/// The caller's own instruction, without results.
+/// The caller's own instruction, by whose results new names are given.
 pub fn own_instruction_keeps()
     ensures { OwnInstructionKeeps }
-{}
-
-/// The caller's own instruction with one result, which a new name is given.
-pub fn own_result_keeps()
-    ensures { OwnResultKeeps }
 {}
 
 /// The caller's own parameter of a block, which a new name is given.

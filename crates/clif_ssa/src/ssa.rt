@@ -1,5 +1,6 @@
 //! The builder of SSA form.
 ghost use Rattle.std.specs.Prelude.{◌≡◌, ◌≢◌, ◌<◌, ◌≤◌, ◌==◌, ◌↔◌, ◌++◌, ◌⊎◌, List, [], ◌∷◌, ℕ, Bool, IsTrue, Some, None, true, false, length, OnOk, OnErr, IfOk, IfSome, Contains, ◌+◌, ◌-◌, slice_get};
+ghost use Rattle.std.specs.FinMap as map;
 ghost use Rattle.clif_ir.specs.Body.{Body, block_at, value_at};
 ghost use Rattle.clif_instructions.specs.Members.{Stands};
 ghost use Rattle.clif_ssa.specs.Constructs.{OnlyConstructs, TellsMore, TellsZeros};
@@ -70,7 +71,7 @@ impl SSABuilder {
         }
     }
 
-    /// Forgets everything, and keeps the memory.
+    /// Forgets everything. It keeps the room of the blocks, and gives back the memory of the records.
     pub fn clear(&mut self)
         ensures nothing { self.new ≡ no_state }
         ensures looks_once { LooksOnce self.new }
@@ -152,6 +153,13 @@ impl SSABuilder {
             Some(last) => *last == inst,
             None => false,
         }
+    }
+
+    /// In how many pairs of a variable and a block something is recorded: a value, or a count of look-ups.
+    pub fn records(&self) -> usize
+        ensures { result ≡ map.len self.now.records }
+    {
+        self.tables.records()
     }
 
     /// How many look-ups of a variable in the predecessors of a block began.

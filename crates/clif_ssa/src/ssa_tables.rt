@@ -1,5 +1,6 @@
 //! What the construction knows, and the changes that a look-up makes of it.
 ghost use Rattle.std.specs.Prelude.{◌≡◌, ◌≢◌, ◌<◌, ◌≤◌, ◌+◌, ◌↔◌, ◌++◌, ◌∷◌, ◌==◌, ◌&&◌, ◌⊎◌, [], ℕ, IsTrue, length, Some, None, true, false, OnOk, OnErr, IfOk, IfSome, if◌then◌else◌};
+ghost use Rattle.std.specs.FinMap as map;
 ghost use Rattle.clif_ir.specs.Changes.{with_param};
 ghost use Rattle.clif_instructions.specs.Members.{Stands, stands_in};
 ghost use Rattle.clif_ssa.specs.Constructs.{TellsMore};
@@ -58,7 +59,7 @@ impl SsaTables {
         }
     }
 
-    /// Forgets everything, and keeps the memory.
+    /// Forgets everything. It keeps the room of the blocks, and gives back the memory of the records.
     pub(crate) fn clear(&mut self)
         ensures { self.new ≡ no_state }
     {
@@ -146,6 +147,13 @@ impl SsaTables {
         ensures { result ≡ record_of self.now variable block }
     {
         self.variables.get(variable, block)
+    }
+
+    /// In how many pairs of a variable and a block something is recorded.
+    pub(crate) fn records(&self) -> usize
+        ensures { result ≡ map.len self.now.records }
+    {
+        self.variables.records()
     }
 
     /// How many look-ups of a variable in the predecessors of a block began.

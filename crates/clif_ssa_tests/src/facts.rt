@@ -9,6 +9,8 @@ use std::process::Abort;
 pub enum Fact {
     /// So many look-ups of a variable in the predecessors of a block began.
     Lookups(u32, u8, u32),
+    /// In so many pairs of a variable and a block something is recorded.
+    Records(usize),
     /// A block has so many parameters.
     Params(u32, usize),
     /// The parameter of a block at a place is a value.
@@ -31,6 +33,7 @@ pub enum Fact {
 pub fn holds(rt: &impl Abort, made: &Fixture, fact: Fact) -> bool {
     match fact {
         Fact::Lookups(block, variable, count) => made.lookups(rt, variable, block) == count,
+        Fact::Records(count) => made.records() == count,
         Fact::Params(block, count) => made.param_count(rt, block) == count,
         Fact::ParamAt(block, place, value) => made.param(rt, block, place) == value,
         Fact::Resolves(value, original) => made.resolved(rt, value) == original,

@@ -1,7 +1,7 @@
 //! Look-ups over many blocks: each block is asked a bounded number of times.
 #![tactic(auto)]
 
-use super::facts::Fact::{Lookups, ParamAt, Params, Resolves};
+use super::facts::Fact::{Lookups, ParamAt, Params, Records, Resolves};
 use super::steps::Step::{Brif, Create, Define, Goes, Iconst, Is, Leads, Seal, SealAll, Use};
 use super::steps::make_all;
 use super::support::Fixture;
@@ -10,9 +10,8 @@ use std::process::Abort;
 use std::test::Fail;
 
 // A chain of blocks, each sealed with the one before it as its only predecessor: the variable is assigned
-// in the first and used in the last. No look-up in predecessors begins, since the walk goes along the
-// chain, and all blocks know the value then.
-fn uses_along(rt: &impl Abort, alloc: Global, count: u32) -> Result<(), Fail> {
+// in the first and used in the last. The walk goes along the chain, and all blocks know the value then.
+fn used_along(rt: &impl Abort, alloc: Global, count: u32) -> Result<Fixture, Fail> {
     let mut made = Fixture::new(alloc);
     make_all(
         rt,
@@ -23,14 +22,30 @@ fn uses_along(rt: &impl Abort, alloc: Global, count: u32) -> Result<(), Fail> {
         let next = last + 1;
         make_all(rt, &mut made, &[Create, Goes(last, next), Seal(next, 0)])?;
     }
-    make_all(rt, &mut made, &[Use(count, 0, 0), Is(Lookups(count, 0, 0))])
+    make_all(rt, &mut made, &[Use(count, 0, 0)])?;
+    Ok(made)
 }
 
-/// A use at the end of a long chain, and one at the end of a chain twice as long.
+/// A use at the end of a long chain, and one at the end of a chain twice as long. No look-up in
+/// predecessors begins.
 #[test]
 fn chains(rt: HostRuntime) -> Result<(), Fail> {
     for count in [50_000, 100_000] {
-        uses_along(&rt, rt.alloc(), count)?;
+        let mut made = used_along(&rt, rt.alloc(), count)?;
+        make_all(&rt, &mut made, &[Is(Lookups(count, 0, 0))])?;
+    }
+    Ok(())
+}
+
+/// A chain of 1,000 blocks, and one variable of 1,000 that is assigned in the first and used in the last:
+/// there is a record for each block, none for the variables of which nothing is known, and no look-up in
+/// predecessors began.
+#[test]
+fn sparse_records(rt: HostRuntime) -> Result<(), Fail> {
+    let mut made = used_along(&rt, rt.alloc(), 999)?;
+    make_all(&rt, &mut made, &[Is(Records(1_000))])?;
+    for block in 0..1_000 {
+        make_all(&rt, &mut made, &[Is(Lookups(block, 0, 0))])?;
     }
     Ok(())
 }

@@ -28,8 +28,16 @@ fn records(rt: HostRuntime) -> Result<(), Fail> {
     assert!(rt; table.get(var(3), b(&rt, 4)).is_none());
     assert!(rt; table.get(var(5), b(&rt, 3)).is_none());
     assert!(rt; !table.is_empty());
+    // A record that is replaced, and a look-up that is counted at it, are one record still.
+    table.set(var(3), b(&rt, 5), v(&rt, 9))?;
+    table.count_lookup(var(3), b(&rt, 5))?;
+    assert!(rt; table.get(var(3), b(&rt, 5)) == Some(v(&rt, 9)));
+    assert!(rt; table.records() == 1);
+    table.set(var(3), b(&rt, 4), v(&rt, 8))?;
+    assert!(rt; table.records() == 2);
     table.clear();
     assert!(rt; table.is_empty());
+    assert!(rt; table.records() == 0);
     Ok(())
 }
 

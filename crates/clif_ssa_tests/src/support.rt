@@ -238,6 +238,11 @@ impl Fixture {
         self.ssa.is_sealed(b(rt, block))
     }
 
+    /// In how many pairs of a variable and a block something is recorded.
+    pub fn records(&self) -> usize {
+        self.ssa.records()
+    }
+
     /// How many look-ups of a variable in the predecessors of a block began.
     pub fn lookups(&self, rt: &impl Abort, variable: u8, block: u32) -> u32 {
         self.ssa.lookups(var(variable), b(rt, block))

@@ -1,4 +1,5 @@
 pub mod Constants
+pub mod Entries
 pub mod Lends
 pub mod Lists
 pub mod Makes

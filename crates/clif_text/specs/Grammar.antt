@@ -64,6 +64,7 @@ IsPlain names words (plan.Binary opcode args) = (operands : List (List ℕ)) × 
 IsPlain names words (plan.Convert opcode ty arg) =
     (t operand : List ℕ) × (words ≡ (convert_name opcode ++ (codes "." ++ t)) ∷ operand ∷ []) × IsTypeWord t ty × IsAnswer names operand arg
 IsPlain names words (plan.Concat args) = (operands : List (List ℕ)) × (words ≡ codes "iconcat" ∷ operands) × AreAnswers names operands args
+IsPlain names words (plan.Split arg) = (operand : List ℕ) × (words ≡ codes "isplit" ∷ operand ∷ []) × IsAnswer names operand arg
 IsPlain names words (plan.IntCompare cond args) =
     (operands : List (List ℕ)) × (words ≡ codes "icmp" ∷ int_cc_text cond ∷ operands) × AreAnswers names operands args
 IsPlain names words (plan.Ternary args) = (operands : List (List ℕ)) × (words ≡ codes "select" ∷ operands) × AreAnswers names operands args

@@ -43,6 +43,7 @@ plan_text (plan.Unary opcode arg) = unary_name opcode ++ (codes " " ++ answer_te
 plan_text (plan.Binary opcode args) = binary_name opcode ++ answers_text args
 plan_text (plan.Convert opcode ty arg) = convert_name opcode ++ (codes "." ++ (type_text ty ++ (codes " " ++ answer_text arg)))
 plan_text (plan.Concat args) = codes "iconcat" ++ answers_text args
+plan_text (plan.Split arg) = codes "isplit " ++ answer_text arg
 plan_text (plan.IntCompare cond args) = codes "icmp " ++ (int_cc_text cond ++ answers_text args)
 plan_text (plan.Ternary args) = codes "select" ++ answers_text args
 plan_text (plan.Load flags ty arg offset) = codes "load." ++ (type_text ty ++ (mem_flags_text flags ++ (codes " " ++ (answer_text arg ++ offset_text offset))))

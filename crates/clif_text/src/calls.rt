@@ -10,8 +10,8 @@ use crate::args::Args;
 use crate::instructions::{
     binary_named, cond_trap_named, convert_named, float_const_named, read_binary_call,
     read_cond_trap_call, read_convert_call, read_float_const_call, read_icmp_call,
-    read_iconcat_call, read_load_call, read_select_call, read_store_call, read_unary_call,
-    unary_named,
+    read_iconcat_call, read_isplit_call, read_load_call, read_select_call, read_store_call,
+    read_unary_call, unary_named,
 };
 use crate::scope::Scope;
 use clif_calls::{Call, PlainInstruction};
@@ -20,7 +20,7 @@ use clif_words::types::type_named;
 use std::alloc::Global;
 
 // The calls of the format that aren't understood so far, without the type that may follow their name.
-const NOT_SUPPORTED: [&str; 38] = [
+const NOT_SUPPORTED: [&str; 37] = [
     "declare_var_needs_stack_map",
     "declare_value_needs_stack_map",
     "try_use_var",
@@ -50,7 +50,6 @@ const NOT_SUPPORTED: [&str; 38] = [
     "cursor",
     "f128const",
     "vconst",
-    "isplit",
     "stack_addr",
     "stack_load",
     "stack_store",
@@ -124,6 +123,7 @@ fn read_single_instruction<'a>(
 {
     match head {
         "iconcat" => read_iconcat_call(head, args),
+        "isplit" => read_isplit_call(head, args),
         "icmp" => read_icmp_call(head, args),
         "select" => read_select_call(head, args),
         "store" => read_store_call(head, args),
@@ -270,6 +270,7 @@ pub(crate) fn answers_of(call: &Call) -> Answers
         | Call::Brif { .. }
         | Call::Return { .. }
         | Call::Trap { .. } => (true, 0),
+        Call::Plain(PlainInstruction::Isplit { .. }) => (true, 2),
         Call::Plain(_) => (true, 1),
     };
     Answers { instruction, names }

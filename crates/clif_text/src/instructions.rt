@@ -116,6 +116,18 @@ pub(crate) fn read_iconcat_call<'a>(
     Ok(Call::Plain(PlainInstruction::Iconcat { x, y }))
 }
 
+/// The same for `isplit`.
+pub(crate) fn read_isplit_call<'a>(
+    head: &'a str,
+    args: &mut Args<'_, 'a>,
+) -> Result<Call, LineError<'a>>
+    requires { head.now ≡ codes "isplit" }
+    ensures { IfOk result (ReadsCall args.old args.new head.now) }
+{
+    let x = args.value()?;
+    Ok(Call::Plain(PlainInstruction::Isplit { x }))
+}
+
 /// The same for `icmp`.
 pub(crate) fn read_icmp_call<'a>(
     head: &'a str,

@@ -85,6 +85,7 @@ impl fmt::Display for PlanText<'_, '_> {
                 write!(f, "{}.{ty} {}", opcode.name(), AnswerText(*arg))
             }
             Plan::Concat { args } => write!(f, "iconcat{}", AnswersText(args)),
+            Plan::Split { arg } => write!(f, "isplit {}", AnswerText(*arg)),
             Plan::IntCompare { cond, args } => write!(f, "icmp {cond}{}", AnswersText(args)),
             Plan::Ternary { args } => write!(f, "select{}", AnswersText(args)),
             Plan::Load {

@@ -1,14 +1,18 @@
 -- What building an instruction makes of a builder.
-use Rattle.std.proofs.Common.{◌≡◌, ◌≢◌, ◌<◌, ◌==◌, ℕ, List, [], ◌∷◌, refl, sym, ◌∙◌, ap, subst}
+use Rattle.std.proofs.Common.{◌≡◌, ◌≢◌, ◌<◌, ◌≤◌, ◌+◌, ◌==◌, ℕ, List, [], ◌∷◌, refl, sym, ◌∙◌, ap, ap₂, arith, subst}
 use Rattle.std.proofs.lemmas.Bool.{eq-eqb, ne_eqb}
-use Rattle.std.specs.Prelude.{All, Bool, true, false, if◌then◌else◌, is_err, OnOk, Option, Some, IfSome, IfOk, Result, Ok, Err, length}
+use Rattle.std.specs.Prelude.{All, Bool, true, false, if◌then◌else◌, is_err, get_or, map, slice_index, OnOk, Option, None, Some, IfSome, IfOk, Result, Ok, Err, length}
+use Rattle.std.specs.List.{range_with_len}
 use Rattle.clif_types.specs.declared.error.BuildError.{BuildError}
 use Rattle.clif_types.specs.declared.error.BuildError.TheVariants.{Full, Failed}
 use Rattle.clif_types.specs.declared.types.«Type».{«Type»}
 use Rattle.clif_instructions.specs.declared.instructions.InstructionData.{InstructionData}
-use Rattle.clif_ir.specs.Body.{inst_at}
+use Rattle.clif_ir.specs.Body.{inst_at, value_at}
+use Rattle.clif_ir.specs.Changes.{HasNoRoom, inserted_in}
+use Rattle.clif_ir.proofs.Changes.{no_room_few}
+use Rattle.clif_ir.proofs.KeepsInst.{length-result_types}
 use Rattle.clif_ir.specs.Consistent.{IsConsistent}
-use Rattle.clif_instructions.specs.Instruction.{destinations, is_branch, is_terminator, operands, result_type_of, result_types}
+use Rattle.clif_instructions.specs.Instruction.{destinations, is_branch, is_terminator, operands, result_count, result_type_of, result_types}
 use Rattle.clif_instructions.specs.Edges.{targets}
 use Rattle.clif_ssa.specs.Ssa.{SealedStays, SsaState}
 use Rattle.clif_ssa.specs.Structure.{LooksOnce}
@@ -16,16 +20,17 @@ use Rattle.clif_records.specs.Tables.{is_yes}
 use Rattle.cranelift_frontend.specs.declared.context.BlockStatus.TheVariants.{Filled}
 use Rattle.cranelift_frontend.specs.Context.{begun, status_of}
 use Rattle.cranelift_frontend.specs.declared.builder.FunctionBuilder.{FunctionBuilder}
-use Rattle.cranelift_frontend.specs.Builder.{Appends, CanLead, FillsCurrent, HasCurrent, IsLeft, SameLoans, status_after}
-use Rattle.cranelift_frontend.specs.Built.{Builds, BuildsValue, HasFullTable, after_build, numbers_of, numbers_with}
+use Rattle.cranelift_frontend.specs.Builder.{Appends, AppendsPair, AppendsValue, CanLead, FillsCurrent, HasCurrent, IsLeft, SameLoans, status_after}
+use Rattle.cranelift_frontend.specs.Built.{Builds, BuildsPair, BuildsValue, after_build, numbers_of, numbers_with, numbers_with_pair}
 use Rattle.cranelift_frontend.specs.Construction.{IsDeclared}
 use Rattle.clif_meaning.specs.Instruction.{Instruction}
 use Rattle.clif_meaning.specs.Name.{Name}
 use Rattle.clif_meaning.specs.Request.{AnsweredCall}
 use Rattle.cranelift_frontend.specs.Ledger.{AgreesWithLedger, HasShape, LedgerAgrees, ledger_of}
 use Rattle.cranelift_frontend.specs.StandsFor.{StandsFor, StandsIn}
-use Rattle.cranelift_frontend.proofs.Framed.{appended-typed, appended-types, left-free}
-use Rattle.cranelift_frontend.proofs.Growing.{append_exists, append_grows, appends_value, at_current, current_appended, current_results, fills_none_begun, on_ok_step, status_after_none}
+use Rattle.clif_simulation.proofs.Places.{range_count}
+use Rattle.cranelift_frontend.proofs.Framed.{appended-typed, appended-types, appended-types-of, left-free}
+use Rattle.cranelift_frontend.proofs.Growing.{append_exists, append_grows, appended_range, appends_pair, appends_value, at_current, current_appended, current_results, fills_none_begun, on_ok_step, status_after_none, values-inserted}
 use Rattle.cranelift_frontend.proofs.LedgerLeads.{blocks-along}
 use Rattle.cranelift_frontend.proofs.LedgerLists.{if-no, if-yes}
 use Rattle.cranelift_frontend.proofs.LedgerShaped.{current-is, ledger-shaped}
@@ -62,7 +67,7 @@ module _ (old new : FunctionBuilder) (shape : InstructionData) (ty : «Type») (
     (fails : new.failed ≡ is_err r) (appends : IfOk r (Appends old new block shape ty))
     (declares : IfOk r (λ inst. IsDeclared old.ctx.now.ssa inst (targets (destinations shape)) new.ctx.now.ssa))
     (ssa : is_branch shape ≡ false → new.ctx.now.ssa ≡ old.ctx.now.ssa) (variables : new.ctx.now.variables ≡ old.ctx.now.variables)
-    (full : r ≡ Err Full → HasFullTable old) (never_failed : r ≢ Err Failed) (looks_once : LooksOnce old.ctx.now.ssa → LooksOnce new.ctx.now.ssa) where
+    (full : r ≡ Err Full → HasNoRoom old.func.now (result_count shape)) (never_failed : r ≢ Err Failed) (looks_once : LooksOnce old.ctx.now.ssa → LooksOnce new.ctx.now.ssa) where
   appends_at : IfSome old.position (λ block. IfOk r (Appends old new block shape ty))
   appends_at = subst (λ (o : Option ℕ). IfSome o (λ b. IfOk r (Appends old new b shape ty))) (sym at) appends
 
@@ -88,6 +93,7 @@ module _ (old new : FunctionBuilder) (shape : InstructionData) (ty : «Type») (
         variables = variables;
         position = position;
         full = full;
+        full_table = λ few is. no_room_few old.func.now (result_count shape) consistent.values_fit few (full is);
         failed = (λ is. absurd (never_failed is), λ failed. let no_way : ⊥ = cc in absurd no_way);
         unchanged = λ failed. let no_way : ⊥ = cc in absurd no_way;
         fails = fails;
@@ -111,6 +117,68 @@ module _ (old new : FunctionBuilder) (shape : InstructionData) (ty : «Type») (
         left = λ ends. appended-left r old new block shape ty at position ends appends;
         free = λ ends. on_ok_step r _ _ (λ (left : IsLeft new). left-free new.position new.func.now new.ctx.now left.filled) (appended-left r old new block shape ty at position ends appends);
       }
+
+-- a result of these was refused
+none_appended : {A : Type 0} (o : Option ℕ) (P : ℕ → A → Type 0) (e : BuildError) → IfSome o (λ block. IfOk (Err e) (P block))
+none_appended None P e = tt
+none_appended (Some block) P e = tt
+
+pub builds_value_refused : (old new : FunctionBuilder) (shape : InstructionData) (ty : «Type») (e : BuildError) → is_branch shape ≡ false → result_types shape ty ≡ result_type_of shape ty ∷ []
+    → Builds old new shape ty (Err e) → BuildsValue old new shape ty (Err e)
+builds_value_refused old new shape ty e no_branch one built =
+    let few : result_count shape ≤ 1 = let long : length (result_types shape ty) ≡ 1 = ap (λ (ts : List «Type»). length ts) one in omega (arith, long, length-result_types shape ty) in
+    record {
+      loans = built.loans;
+      appends = none_appended old.position (λ block value. AppendsValue old new block shape ty value) e;
+      ssa = built.ssa no_branch;
+      variables = built.variables;
+      position = built.position;
+      full = built.full_table few;
+      failed = built.failed;
+      unchanged = built.unchanged;
+      fails = built.fails;
+      looks_once = built.looks_once;
+      ledger = λ calls instruction agrees has. tt;
+      stands = λ signature calls instruction stands has. tt;
+      exists = tt;
+      grows = tt;
+      remembers = λ v b. tt;
+      current = tt;
+      types = tt;
+      typed = tt;
+      fills = tt;
+    }
+
+pub builds_pair_refused : (old new : FunctionBuilder) (shape : InstructionData) (ty : «Type») (e : BuildError) → is_branch shape ≡ false → result_count shape ≡ 2
+    → Builds old new shape ty (Err e) → BuildsPair old new shape ty (Err e)
+builds_pair_refused old new shape ty e no_branch two built =
+    record {
+      loans = built.loans;
+      appends = none_appended old.position (λ block pair. AppendsPair old new block shape ty pair) e;
+      ssa = built.ssa no_branch;
+      variables = built.variables;
+      position = built.position;
+      full = λ is. subst (HasNoRoom old.func.now) two (built.full (ap (λ (x : BuildError). Err x) (error_is e Full is)));
+      failed = (λ is. built.failed.0 (ap (λ (x : BuildError). Err x) (error_is e Failed is)), λ failed. ap (λ (x : BuildError). Err x) (number_error e Failed (built.failed.1 failed)));
+      unchanged = built.unchanged;
+      fails = built.fails;
+      looks_once = built.looks_once;
+      ledger = λ calls instruction agrees has. tt;
+      stands = λ signature calls instruction stands has. tt;
+      exists = tt;
+      grows = tt;
+      remembers = λ v b. tt;
+      current = tt;
+      types = tt;
+      typed = tt;
+      fills = tt;
+    }
+  where
+    error_is : (a b : BuildError) → ◌≡◌ {A = Result (ℕ × ℕ) BuildError} (Err a) (Err b) → a ≡ b
+    error_is a b is = cc
+
+    number_error : (a b : BuildError) → ◌≡◌ {A = Result ℕ BuildError} (Err a) (Err b) → a ≡ b
+    number_error a b is = cc
 
 -- its result is answered
 module _ (old new : FunctionBuilder) (shape : InstructionData) (ty : «Type») (inst value : ℕ)
@@ -153,5 +221,86 @@ module _ (old new : FunctionBuilder) (shape : InstructionData) (ty : «Type») (
         (at_current old (λ block. Appends old new block shape ty inst) current built.appends) one is;
     fills = fills_none_begun old.ctx.now new.ctx.now current.0 (λ b.
         (at_current old (λ block. Appends old new block shape ty inst) current built.appends).status b
+        ∙ ap (λ s. if b == current.0 then s else status_of old.ctx.now b) (status_after_none shape (status_of old.ctx.now current.0) goes_on));
+  }
+
+-- a list of two values, and what is known of each of its values
+pub two_of : (xs : List ℕ) (a b : ℕ) → length xs ≡ 2 → a ≡ get_or xs 0 a → b ≡ get_or xs 1 b → xs ≡ a ∷ b ∷ []
+two_of [] a b count first second = absurd (omega (arith, count))
+two_of (x ∷ []) a b count first second = absurd (omega (arith, count))
+two_of (x ∷ y ∷ []) a b count first second = ap₂ (λ (m n : ℕ). m ∷ n ∷ []) (sym first) (sym second)
+two_of (x ∷ y ∷ z ∷ xs) a b count first second = absurd (omega (arith, count))
+
+pub both_below : (xs : List ℕ) (a b bound : ℕ) → xs ≡ a ∷ b ∷ [] → ((k : ℕ) → k < length xs → slice_index xs k < bound) → (a < bound) × (b < bound)
+both_below xs a b bound are each =
+    let here : (k : ℕ) → k < 2 → slice_index (a ∷ b ∷ []) k < bound = subst (λ (ys : List ℕ). (k : ℕ) → k < length ys → slice_index ys k < bound) are each in
+    (here 0 (omega arith), here 1 (omega arith))
+
+pub pair_count : (old new : FunctionBuilder) (shape : InstructionData) (ty : «Type») (inst : ℕ) → HasCurrent old → Builds old new shape ty (Ok inst) → result_count shape ≡ 2
+    → length (inst_at new.func.now inst).results ≡ 2
+pair_count old new shape ty inst current built two =
+    ap (λ (xs : List ℕ). length xs)
+    (appended_range old.func.now old.ctx.now new.func.now new.ctx.now current.0 shape ty inst (at_current old (λ block. Appends old new block shape ty inst) current built.appends))
+    ∙ range_count (length (inserted_in old.func.now current.0).values) (length (result_types shape ty)) ∙ length-result_types shape ty ∙ two
+
+-- its two results are answered
+module _ (old new : FunctionBuilder) (shape : InstructionData) (ty : «Type») (inst : ℕ) (pair : ℕ × ℕ)
+    (current : HasCurrent old) (built : Builds old new shape ty (Ok inst)) (no_branch : is_branch shape ≡ false)
+    (two : result_count shape ≡ 2) (goes_on : is_terminator shape ≡ false) (are : (inst_at new.func.now inst).results ≡ pair.0 ∷ pair.1 ∷ [])
+    (exist : (pair.0 < length new.func.now.values) × (pair.1 < length new.func.now.values)) where
+  appended : Appends old new current.0 shape ty inst
+  appended = at_current old (λ block. Appends old new block shape ty inst) current built.appends
+
+  pair_numbers : numbers_of new inst ≡ numbers_with_pair old pair
+  pair_numbers =
+      ap (λ (i : ℕ). i ∷ (inst_at new.func.now inst).results) appended.number ∙ ap (λ (vs : List ℕ). length old.func.now.insts ∷ vs) are
+
+  -- they are the next values
+  next : pair.0 ∷ pair.1 ∷ [] ≡ length old.func.now.values ∷ (length old.func.now.values + 1) ∷ []
+  next =
+      sym are ∙ appended_range old.func.now old.ctx.now new.func.now new.ctx.now current.0 shape ty inst appended
+      ∙ ap₂ range_with_len (values-inserted old.func.now current.0) (length-result_types shape ty ∙ two)
+
+  first : pair.0 ≡ length old.func.now.values
+  first = same pair.0 (length old.func.now.values) (pair.1 ∷ []) ((length old.func.now.values + 1) ∷ []) next
+    where
+      same : (a b : ℕ) (xs ys : List ℕ) → a ∷ xs ≡ b ∷ ys → a ≡ b
+      same a b xs ys is = cc
+
+  second : pair.1 ≡ length old.func.now.values + 1
+  second = same pair.1 (length old.func.now.values + 1) pair.0 (length old.func.now.values) next
+    where
+      same : (a b x y : ℕ) → x ∷ a ∷ [] ≡ y ∷ b ∷ [] → a ≡ b
+      same a b x y is = cc
+
+  pub builds_pair : BuildsPair old new shape ty (Ok pair)
+  builds_pair = record {
+    loans = built.loans;
+    appends = appends_pair old new shape ty inst pair built.appends first second;
+    ssa = built.ssa no_branch;
+    variables = built.variables;
+    position = built.position;
+    full = λ full. let no_way : ⊥ = cc in absurd no_way;
+    failed = (
+      λ failed. let no_way : ⊥ = cc in absurd no_way,
+      λ failed. let refused : ◌≡◌ {A = Result ℕ BuildError} (Ok inst) (Err Failed) = built.failed.1 failed in let no_way : ⊥ = cc in absurd no_way,
+    );
+    unchanged = built.unchanged;
+    fails = built.fails;
+    looks_once = built.looks_once;
+    ledger = λ calls instruction agrees has.
+        subst (λ (ns : List ℕ). AgreesWithLedger (after_build calls instruction ns) new) pair_numbers (built.ledger calls instruction agrees has);
+    stands = λ signature calls instruction stands has.
+        subst (λ (ns : List ℕ). StandsFor signature (after_build calls instruction ns) new) pair_numbers (built.stands signature calls instruction stands has);
+    exists = exist;
+    grows = built.grows;
+    remembers = built.remembers;
+    current = built.current goes_on;
+    types = built.types;
+    typed =
+        ap (map (λ (value : ℕ). (value_at new.func.now value).ty)) (sym are)
+        ∙ appended-types-of old.func.now old.ctx.now new.func.now new.ctx.now current.0 shape ty inst appended;
+    fills = fills_none_begun old.ctx.now new.ctx.now current.0 (λ b.
+        appended.status b
         ∙ ap (λ s. if b == current.0 then s else status_of old.ctx.now b) (status_after_none shape (status_of old.ctx.now current.0) goes_on));
   }

@@ -1,6 +1,6 @@
 -- What the answers of the builder's calls share.
-use Rattle.std.proofs.Common.{◌≡◌, ◌≢◌, ◌∷◌, ◌++◌, [], List, sym, subst}
-use Rattle.std.specs.Prelude.{false, is_err, Result, Ok, Err, IfOk, OnOk, OnErr}
+use Rattle.std.proofs.Common.{◌≡◌, ◌≢◌, ◌∷◌, ◌++◌, [], List, refl, sym, subst}
+use Rattle.std.specs.Prelude.{true, false, is_err, Result, Ok, Err, IfOk, OnOk, OnErr}
 use Rattle.clif_types.specs.declared.error.BuildError.{BuildError}
 use Rattle.clif_types.specs.declared.error.BuildError.TheVariants.{Failed, Memory}
 use Rattle.clif_types.specs.Signature.{SignatureShape}
@@ -78,3 +78,19 @@ by_success a is = let no_way : ⊥ = cc in absurd no_way
 -- where the construction knows what it knew
 pub same_looks : (s t : SsaState) → t ≡ s → LooksOnce s → LooksOnce t
 same_looks s t is once = subst LooksOnce (sym is) once
+
+-- a builder that failed answers that it did, and stays as it is
+pub refused : {A : Type 0} (old : FunctionBuilder) → old.failed ≡ true → IsCall {A = A} old old (Err Failed)
+refused old failed =
+    record {
+      loans = record { func = refl; ctx = refl };
+      position = refl;
+      failed = (λ is. failed, λ is. refl);
+      unchanged = λ is. refl;
+      fails = failed;
+      looks_once = λ once. once;
+      types = tt;
+      fills = tt;
+      left = λ left. tt;
+      free = λ left. tt;
+    }

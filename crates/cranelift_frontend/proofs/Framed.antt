@@ -1,11 +1,13 @@
 -- What calls leave of the types of values and of which blocks are filled.
-use Rattle.std.proofs.Common.{◌≡◌, ◌<◌, ℕ, zero, suc, List, [], ◌∷◌, ◌++◌, length, refl, sym, ◌∙◌, ap, subst, arith, inl, inr, ◌⊎◌}
+use Rattle.std.proofs.Common.{◌≡◌, ◌+◌, ◌<◌, ℕ, zero, suc, List, [], ◌∷◌, ◌++◌, length, map, refl, sym, ◌∙◌, ap, ap₂, subst, arith, inl, inr, ◌⊎◌, append_assoc, length-append}
 use Rattle.std.specs.Prelude.{◌==◌, ◌||◌, ◌↔◌, IsTrue, slice_index_or, true, false, Bool, if◌then◌else◌, Option, Some, None, IfSome, Result, Ok, Err, IfOk, OnOk}
+use Rattle.std.specs.List.{range_with_len}
 use Rattle.std.proofs.lemmas.Bool.{cases_eq, eq-eqb, ne_eqb}
 use Rattle.clif_types.specs.declared.types.«Type».{«Type»}
 use Rattle.clif_ir.specs.declared.function.ValueNode.{ValueNode}
+use Rattle.clif_ir.specs.declared.function.ValueOrigin.TheVariants as source
 use Rattle.clif_instructions.specs.declared.instructions.InstructionData.{InstructionData}
-use Rattle.clif_ir.specs.Body.{Body, no_value, value_at}
+use Rattle.clif_ir.specs.Body.{Body, inst_at, no_value, value_at}
 use Rattle.clif_ir.specs.Changes.{inserted_in, result_nodes, with_block, with_layout, with_param}
 use Rattle.clif_instructions.specs.Instruction.{result_types}
 use Rattle.clif_instructions.specs.Members.{stands_in}
@@ -20,6 +22,7 @@ use Rattle.cranelift_frontend.specs.Builder.{AppendsIn, is_free_at, is_unreachab
 use Rattle.cranelift_frontend.specs.Construction.{IsSealingOf, IsUse, SealsAtMost}
 use Rattle.cranelift_frontend.specs.Context.{Begins, ContextState, SetsStatus, begun, status_of}
 use Rattle.cranelift_frontend.specs.Growth.{TypesStay}
+use Rattle.cranelift_frontend.proofs.Growing.{appended_range}
 use Rattle.cranelift_frontend.proofs.LedgerLists.{if-no}
 
 -- THE TYPES OF VALUES -----------------------------------------------------------------------------------------------------
@@ -115,6 +118,30 @@ appended-typed f c g d block shape ty result inst value appends one number =
     ∙ ap (λ (xs : List ValueNode). xs ++ result_nodes (length (inserted_in f block).insts) 0 (result ∷ [])) (same-inserted f block))
     ∙ ap (λ (v : ℕ). (slice_index_or (f.values ++ result_nodes (length (inserted_in f block).insts) 0 (result ∷ [])) v no_value).ty) number
     ∙ ap (λ (node : ValueNode). node.ty) (last_value f.values _)
+
+-- the types of its results
+pub appended-types-of : (f : Body) (c : ContextState) (g : Body) (d : ContextState) (block : ℕ) (shape : InstructionData) (ty : «Type») (inst : ℕ)
+    → AppendsIn f c g d block shape ty inst → map (λ (value : ℕ). (value_at g value).ty) (inst_at g inst).results ≡ result_types shape ty
+appended-types-of f c g d block shape ty inst appends =
+    ap (map (λ (value : ℕ). (value_at g value).ty)) (appended_range f c g d block shape ty inst appends)
+    ∙ ap (λ (h : Body). map (λ (value : ℕ). (value_at h value).ty) (range_with_len (length (inserted_in f block).values) (length (result_types shape ty)))) appends.function
+    ∙ types-from (inserted_in f block).values (length (inserted_in f block).insts) 0 (result_types shape ty)
+  where
+    here : (values : List ValueNode) (node : ValueNode) (nodes : List ValueNode) → slice_index_or (values ++ node ∷ nodes) (length values) no_value ≡ node
+    here [] node nodes = refl
+    here (v ∷ values) node nodes = here values node nodes
+
+    types-from : (values : List ValueNode) (i k : ℕ) (types : List «Type»)
+        → map (λ (value : ℕ). (slice_index_or (values ++ result_nodes i k types) value no_value).ty) (range_with_len (length values) (length types)) ≡ types
+    types-from values i k [] = refl
+    types-from values i k (t ∷ types) =
+        let node : ValueNode = record { ty = t; origin = source.Result i k } in
+        let longer : length (values ++ node ∷ []) ≡ length values + 1 = length-append values (node ∷ []) in
+        let moved : values ++ result_nodes i k (t ∷ types) ≡ (values ++ node ∷ []) ++ result_nodes i (k + 1) types = sym (append_assoc values (node ∷ []) (result_nodes i (k + 1) types)) in
+        ap₂ (λ (s : «Type») (ss : List «Type»). s ∷ ss)
+        (ap (λ (n : ValueNode). n.ty) (here values node (result_nodes i (k + 1) types)))
+        (ap₂ (λ (vs : List ValueNode) (n : ℕ). map (λ (value : ℕ). (slice_index_or vs value no_value).ty) (range_with_len n (length types))) moved (sym longer)
+        ∙ types-from (values ++ node ∷ []) i (k + 1) types)
 
 -- WHICH BLOCKS ARE FILLED -------------------------------------------------------------------------------------------------
 

@@ -11,7 +11,7 @@ use Rattle.clif_instructions.specs.declared.instructions.InstructionData.{Instru
 use Rattle.std.specs.List.{range_with_len}
 use Rattle.clif_ir.specs.declared.function.InstNode.{InstNode}
 use Rattle.clif_ir.specs.Body.{Body, inst_at}
-use Rattle.clif_ir.specs.Changes.{inserted_in, with_block, with_layout, with_inst, with_param, inst_node}
+use Rattle.clif_ir.specs.Changes.{HasNoRoom, inserted_in, with_block, with_layout, with_inst, with_param, inst_node}
 use Rattle.clif_instructions.specs.Instruction.{is_terminator, result_types}
 use Rattle.clif_instructions.specs.Members.{stands_in}
 use Rattle.clif_ssa.specs.Ssa.{no_srcloc}
@@ -19,7 +19,7 @@ use Rattle.cranelift_frontend.specs.declared.context.BlockStatus.{BlockStatus}
 use Rattle.cranelift_frontend.specs.declared.context.BlockStatus.TheVariants.{Empty, Partial, Filled}
 use Rattle.cranelift_frontend.specs.Context.{ContextState, begun, status_of, FillsNone, SetsStatus, Begins}
 use Rattle.cranelift_frontend.specs.declared.builder.FunctionBuilder.{FunctionBuilder}
-use Rattle.cranelift_frontend.specs.Builder.{Appends, AppendsIn, AppendsValue, HasCurrent, status_after, with_appended}
+use Rattle.cranelift_frontend.specs.Builder.{Appends, AppendsIn, AppendsPair, AppendsValue, HasCurrent, status_after, with_appended}
 use Rattle.cranelift_frontend.specs.Construction.{IsUse, IsSealingOf}
 use Rattle.cranelift_frontend.specs.Growth.{Grows}
 use Rattle.clif_ssa.specs.Constructs.{OnlyConstructs}
@@ -170,6 +170,11 @@ appended_node f c g d block shape ty inst appends =
     let last : inst_at (with_appended f block shape ty) inst ≡ node = grind (arith, common_steps, place) in
     made ∙ last
 
+-- its results have the next numbers of values
+pub appended_range : (f : Body) (c : ContextState) (g : Body) (d : ContextState) (block : ℕ) (shape : InstructionData) (ty : «Type») (inst : ℕ)
+    → AppendsIn f c g d block shape ty inst → (inst_at g inst).results ≡ range_with_len (length (inserted_in f block).values) (length (result_types shape ty))
+appended_range f c g d block shape ty inst appends = ap (λ (n : InstNode). n.results) (appended_node f c g d block shape ty inst appends)
+
 -- its result
 pub appended_results : (f : Body) (c : ContextState) (g : Body) (d : ContextState) (block : ℕ) (shape : InstructionData) (ty result : «Type») (inst : ℕ)
     → AppendsIn f c g d block shape ty inst → result_types shape ty ≡ result ∷ [] → (inst_at g inst).results ≡ length f.values ∷ []
@@ -198,6 +203,22 @@ appends_value old new shape ty inst v appends is = by_position old.position appe
     by_position : (o : Option ℕ) → IfSome o (λ block. Appends old new block shape ty inst) → IfSome o (λ block. AppendsValue old new block shape ty v)
     by_position None holds = tt
     by_position (Some block) holds = (subst (λ (i : ℕ). Appends old new block shape ty i) holds.number holds, is)
+
+-- the same of two
+pub appends_pair : (old new : FunctionBuilder) (shape : InstructionData) (ty : «Type») (inst : ℕ) (pair : ℕ × ℕ)
+    → IfSome old.position (λ block. Appends old new block shape ty inst) → pair.0 ≡ length old.func.now.values → pair.1 ≡ length old.func.now.values + 1
+    → IfSome old.position (λ block. AppendsPair old new block shape ty pair)
+appends_pair old new shape ty inst pair appends first second = by_position old.position appends
+  where
+    by_position : (o : Option ℕ) → IfSome o (λ block. Appends old new block shape ty inst) → IfSome o (λ block. AppendsPair old new block shape ty pair)
+    by_position None holds = tt
+    by_position (Some block) holds = (subst (λ (i : ℕ). Appends old new block shape ty i) holds.number holds, first, second)
+
+-- where there is no room once a block was inserted, there was none before
+pub no_room_before : (f : Body) (b count : ℕ) → HasNoRoom (inserted_in f b) count → HasNoRoom f count
+no_room_before f b count (inl insts) = inl (sym (insts-inserted f b) ∙ insts)
+no_room_before f b count (inr (inl values)) = inr (inl (sym (values-inserted f b) ∙ values))
+no_room_before f b count (inr (inr past)) = inr (inr (omega (arith, past, values-inserted f b)))
 
 -- a use answered in the current block
 pub used_current : (r : Result ℕ BuildError) (o : Option ℕ) (f : Body) (c : ContextState) (g : Body) (d : ContextState) (variable : ℕ) (ty : «Type») (block : ℕ)

@@ -65,9 +65,10 @@ laid-agrees calls ledger f c p b a layout agrees same = record {
   current = agrees.current;
   layout = same;
   variables = agrees.variables;
+  tables = agrees.tables;
   own = agrees.own;
   structured = λ types are.
-      blocks_structured f f.blocks (put_behind b a f.layout) types agrees.own c.ssa [] (λ x. refl) (λ x. refl) (agrees.structured types are);
+      blocks_structured f f.blocks (put_behind b a f.layout) f.tables types agrees.own c.ssa [] (λ x. refl) (λ x. refl) (agrees.structured types are);
   callers_types = agrees.callers_types;
   callers_alone = λ d. elim (agrees.callers_alone d) [
     | inl alone ↦ inl alone
@@ -94,7 +95,7 @@ laid calls f c p block after b a agrees names_block names_after =
     let is_laid = laid-agrees calls ledger f c p b a between.layout agrees
     (after-same ledger block after b a ledger.layout f.layout (λ j x named. same-block calls ledger numbered j a x after named at_after) at_block agrees.layout) in
     concluded calls call g c p
-    (agrees-kept calls call between new g c c p p [] is_laid refl refl refl is_laid.current is_laid.variables (λ d. refl) (λ d. refl) (λ d. refl) is_laid.structured
+    (agrees-kept calls call between new g c c p p [] is_laid refl refl refl refl is_laid.current is_laid.variables (λ d. refl) (λ d. refl) (λ d. refl) is_laid.structured
     (answers-none new g (length calls)))
 
 -- what the construction names exists in it

@@ -70,11 +70,11 @@ block-kept calls call f g c d k s was cold sealed leads status =
 
 -- a call that changes neither function nor blocks
 pub agrees-kept : (calls : List AnsweredCall) (call : AnsweredCall) (old new : Ledger) (f : Body) (c d : ContextState) (p q : Option ℕ) (answered : List Answered)
-    (agrees : LedgerAgrees calls old f c p) → new.answers ≡ old.answers ++ answered ∷ [] → new.blocks ≡ old.blocks → new.layout ≡ old.layout
+    (agrees : LedgerAgrees calls old f c p) → new.answers ≡ old.answers ++ answered ∷ [] → new.blocks ≡ old.blocks → new.layout ≡ old.layout → new.tables ≡ old.tables
     → option_map Some new.current ≡ option_map (block_name old) q → map (λ (v : VariableState). v.ty) new.variables ≡ d.variables
     → ((b : ℕ) → is_yes (sealed_of d.ssa b) ≡ is_yes (sealed_of c.ssa b)) → SamePredecessors c.ssa d.ssa → SameStatus c d → IsStructured agrees.own f d
     → AnswersAgree new f (length calls) answered call.numbers → LedgerAgrees (calls ++ call ∷ []) new f d q
-agrees-kept calls call old new f c d p q answered agrees answers blocks layout current variables sealed leads status structured fresh =
+agrees-kept calls call old new f c d p q answered agrees answers blocks layout tables current variables sealed leads status structured fresh =
     record {
       places = places-after calls call old new answered agrees.places answers;
       answers = answers-after calls call old new f f c p answered agrees answers names (keeps-itself f) fresh;
@@ -87,6 +87,7 @@ agrees-kept calls call old new f c d p q answered agrees answers blocks layout c
       current = current ∙ ap (λ (states : List BlockState). option_map (λ (k : ℕ). option_map (λ (s : BlockState). s.block) (slice_get states k)) q) (sym blocks);
       layout = ap (map Some) layout ∙ named-more (block_name old) (block_name new) old.layout f.layout names agrees.layout;
       variables = variables;
+      tables = tables ∙ agrees.tables;
       own = agrees.own;
       structured = structured;
       callers_types = λ k s there. agrees.callers_types k s (ap (λ (states : List BlockState). slice_get states k) (sym blocks) ∙ there);
@@ -117,7 +118,7 @@ pub agrees-switched : (calls : List AnsweredCall) (ledger : Ledger) (f : Body) (
 agrees-switched calls ledger f c p name block agrees named =
     let call : AnsweredCall = record { request = SwitchToBlock name; numbers = [] } in
     let new : Ledger = ledger_with ledger (SwitchToBlock name) in
-    agrees-kept calls call ledger new f c c p (Some block) [] agrees refl refl refl (ap Some (sym named)) agrees.variables (λ b. refl) (λ b. refl) (λ b. refl) agrees.structured
+    agrees-kept calls call ledger new f c c p (Some block) [] agrees refl refl refl refl (ap Some (sym named)) agrees.variables (λ b. refl) (λ b. refl) (λ b. refl) agrees.structured
     (answers-none new f (length calls))
 
 pub switched : (calls : List AnsweredCall) (f : Body) (c : ContextState) (p : Option ℕ) (name : Name) (block : ℕ)
@@ -144,6 +145,7 @@ agrees-created calls ledger f g c d p block agrees function number records seale
       layout = named-more (block_name ledger) (block_name (ledger_with ledger CreateBlock)) ledger.layout f.layout names agrees.layout
           ∙ ap (λ (h : Body). map (block_name (ledger_with ledger CreateBlock)) h.layout) (sym function);
       variables = agrees.variables ∙ sym variables;
+      tables = agrees.tables ∙ ap (λ (h : Body). h.tables) (sym function);
       own = agrees.own;
       structured = λ types are.
           let own : Own = agrees.own in
@@ -323,6 +325,7 @@ module _ (calls : List AnsweredCall) (ledger : Ledger) (f g : Body) (c d : Conte
         current = one-named-more (block_name ledger) (block_name new) ledger.current p names agrees.current;
         layout = named-more (block_name ledger) (block_name new) ledger.layout f.layout names agrees.layout ∙ ap (map (block_name new)) (sym layout);
         variables = agrees.variables ∙ sym variables;
+        tables = agrees.tables ∙ sym extends.tables;
         own = agrees.own;
         structured = structured;
         callers_types = λ k t there.

@@ -162,6 +162,7 @@ module _ (calls : List AnsweredCall) (old new : Ledger) (g : Body) (c d : Contex
         current = ap (option_map Some) ledger.current ∙ one-named-more (block_name old) (block_name new) old.current p names agrees.current;
         layout = ap (map Some) ledger.layout ∙ named-more (block_name old) (block_name new) old.layout g.layout names agrees.layout;
         variables = ap (map (λ (v : VariableState). v.ty)) ledger.variables ∙ agrees.variables ∙ sym variables;
+        tables = ledger.tables ∙ agrees.tables;
         own = mine;
         structured = structured;
         callers_types = λ k t there.

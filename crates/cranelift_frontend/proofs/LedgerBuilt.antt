@@ -1,6 +1,7 @@
 -- An instruction is built: the agreement with the ledger is kept.
-use Rattle.std.proofs.Common.{◌≡◌, ◌≢◌, ◌<◌, ◌+◌, ◌==◌, ℕ, suc, List, [], ◌∷◌, ◌++◌, length, refl, sym, ◌∙◌, ap, subst, arith, inl, inr, length-append}
+use Rattle.std.proofs.Common.{◌≡◌, ◌≢◌, ◌<◌, ◌+◌, ◌==◌, ℕ, zero, suc, List, [], ◌∷◌, ◌++◌, length, refl, sym, ◌∙◌, ap, subst, arith, inl, inr, length-append}
 use Rattle.std.specs.Prelude.{map, slice_get, Option, Some, option_map, Bool, true, false, if◌then◌else◌, fold, All, Contains}
+use Rattle.std.specs.List.{range_with_len}
 use Rattle.std.proofs.lemmas.Bool.{eq-eqb, or_cases, or_left, or_right, eqb-true}
 use Rattle.std.proofs.lemmas.Option.{get_or_from_slice_get}
 use Rattle.clif_types.specs.declared.types.«Type».{«Type»}
@@ -11,7 +12,7 @@ use Rattle.clif_ir.specs.declared.function.InstNode.{InstNode}
 use Rattle.clif_instructions.specs.declared.block_call.BlockCall.{BlockCall}
 use Rattle.clif_ir.specs.declared.function.BlockNode.{BlockNode}
 use Rattle.clif_ir.specs.Body.{Body, block_at, inst_at, no_inst}
-use Rattle.clif_ir.specs.Changes.{inserted_in, with_inst, inst_node}
+use Rattle.clif_ir.specs.Changes.{inserted_in, with_inst, inst_node, result_nodes}
 use Rattle.clif_ir.specs.Consistent.{IsConsistent}
 use Rattle.clif_instructions.specs.Instruction.{destinations}
 use Rattle.clif_instructions.specs.Members.{stands_in}
@@ -45,7 +46,7 @@ use Rattle.cranelift_frontend.specs.Ledger.{AnswersAgree, AreTypesOf, IsEnded, I
 use Rattle.cranelift_frontend.specs.Order.{IsInOrder}
 use Rattle.cranelift_frontend.proofs.LedgerLists.{get-last, name-of-some}
 use Rattle.cranelift_frontend.proofs.LedgerNames.{name-number, state-twice}
-use Rattle.cranelift_frontend.proofs.LedgerKept.{Continues, Extends, Extends-then, Extends-inserted, Continues-inst, branch-kept, inserted-insts, inserted-values, keeps-of, answers-one, answers-two}
+use Rattle.cranelift_frontend.proofs.LedgerKept.{Continues, Extends, Extends-then, Extends-inserted, Continues-inst, branch-kept, inserted-insts, keeps-of, answers-one, answers-results}
 use Rattle.cranelift_frontend.proofs.LedgerMade.{ChangeAgrees, MadeLedger, Makes, agrees-made, alone-still, begun-ledger, changed-names, ended-here, ended-still, made-callers, unpristine}
 use Rattle.cranelift_frontend.proofs.LedgerUsed.{begun-agrees, begun-not-empty}
 use Rattle.cranelift_frontend.proofs.LedgerLeads.{LedLedger, lead-still, lead-to, led-ledger}
@@ -106,13 +107,26 @@ node-there f g block shape types function =
     ∙ ap (slice_get (with_inst (inserted_in f block) block Back shape types no_srcloc).insts) (sym (inserted-insts f block))
     ∙ get-last (inserted_in f block).insts _
 
--- the type of its result
-pub result-type : (f g : Body) (block : ℕ) (shape : InstructionData) (ty : «Type»)
-    → g ≡ with_inst (inserted_in f block) block Back shape (ty ∷ []) no_srcloc → value_type g (length f.values) ≡ Some ty
-result-type f g block shape ty function =
-    ap (λ (h : Body). value_type h (length f.values)) function
-    ∙ ap (value_type (with_inst (inserted_in f block) block Back shape (ty ∷ []) no_srcloc)) (sym (inserted-values f block))
-    ∙ ap (option_map (λ (n : ValueNode). n.ty)) (get-last (inserted_in f block).values _)
+-- the types of its results
+results-types : (f g : Body) (block : ℕ) (shape : InstructionData) (types : List «Type») → g ≡ with_inst (inserted_in f block) block Back shape types no_srcloc
+    → (k : ℕ) (ty : «Type») → slice_get types k ≡ Some ty → value_type g (length (inserted_in f block).values + k) ≡ Some ty
+results-types f g block shape types function k ty at =
+    ap (λ (h : Body). value_type h (length (inserted_in f block).values + k)) function
+    ∙ ap (option_map (λ (n : ValueNode). n.ty)) (behind (inserted_in f block).values)
+    ∙ node 0 types k at
+  where
+    behind : (values : List ValueNode)
+        → slice_get (values ++ result_nodes (length (inserted_in f block).insts) 0 types) (length values + k) ≡ slice_get (result_nodes (length (inserted_in f block).insts) 0 types) k
+    behind [] = let same : 0 + k ≡ k = omega arith in ap (slice_get (result_nodes (length (inserted_in f block).insts) 0 types)) same
+    behind (v ∷ values) =
+        let same : suc (length values) + k ≡ suc (length values + k) = omega arith in
+        ap (slice_get ((v ∷ values) ++ result_nodes (length (inserted_in f block).insts) 0 types)) same ∙ behind values
+
+    node : (j : ℕ) (ts : List «Type») (m : ℕ) → slice_get ts m ≡ Some ty
+        → option_map (λ (n : ValueNode). n.ty) (slice_get (result_nodes (length (inserted_in f block).insts) j ts) m) ≡ Some ty
+    node j [] m at = let none : ⊥ = cc in absurd none
+    node j (t ∷ ts) zero at = at
+    node j (t ∷ ts) (suc m) at = node (j + 1) ts m at
 
 -- an instruction behind which its block goes on
 pub agrees-plain : (calls : List AnsweredCall) (ledger : Ledger) (f g : Body) (c d : ContextState) (p : Option ℕ) (block : ℕ) (shape : InstructionData)
@@ -140,36 +154,23 @@ agrees-plain calls ledger f g c d p block shape operation controlling types oper
     begun_by true is x at = let no_way : ⊥ = cc in absurd no_way
     begun_by false is x at =
         let begins = begun-ledger ledger x at in
-        record { blocks = begins.blocks; layout = begins.layout; current = begins.current; variables = begins.variables }
+        record { blocks = begins.blocks; layout = begins.layout; current = begins.current; variables = begins.variables; tables = begins.tables }
 
--- with one result
-pub agrees-value : (calls : List AnsweredCall) (ledger : Ledger) (f g : Body) (c d : ContextState) (p : Option ℕ) (block : ℕ) (shape : InstructionData)
-    (operation : Operation) (controlling ty : «Type») (operands : List Name) (inst value : ℕ)
-    → LedgerAgrees calls ledger f c p → p ≡ Some block → IsConsistent f → block < length f.blocks → g ≡ with_inst (inserted_in f block) block Back shape (ty ∷ []) no_srcloc
-    → SetsStatus c d block (begun (status_of c block)) → d.ssa ≡ c.ssa → d.variables ≡ c.variables → inst ≡ length f.insts → value ≡ length f.values
-    → is_terminator operation ≡ false → program.result_types operation controlling ≡ ty ∷ []
-    → LedgerAgrees (calls ++ record { request = Build (record { operation = operation; controlling = controlling; operands = operands; edges = [] }); numbers = inst ∷ value ∷ [] } ∷ [])
-    (ledger_with ledger (Build (record { operation = operation; controlling = controlling; operands = operands; edges = [] }))) g d p
-agrees-value calls ledger f g c d p block shape operation controlling ty operands inst value agrees at consistent exists function sets ssa variables is_inst is_value goes_on typed =
-    let node : InstNode = inst_node (inserted_in f block) block shape (ty ∷ []) no_srcloc in
-    let there : slice_get g.insts inst ≡ Some node = ap (slice_get g.insts) is_inst ∙ node-there f g block shape (ty ∷ []) function in
-    let results : node.results ≡ value ∷ [] = ap (λ (n : ℕ). n ∷ []) (inserted-values f block ∙ sym is_value) in
-    agrees-plain calls ledger f g c d p block shape operation controlling (ty ∷ []) operands inst (value ∷ []) agrees at consistent exists function sets ssa variables goes_on typed
-    (λ new. answers-two new g (length calls) inst value node ty there results (ap (value_type g) is_value ∙ result-type f g block shape ty function))
-
--- without results
-pub agrees-effect : (calls : List AnsweredCall) (ledger : Ledger) (f g : Body) (c d : ContextState) (p : Option ℕ) (block : ℕ) (shape : InstructionData)
-    (operation : Operation) (controlling : «Type») (operands : List Name) (inst : ℕ)
-    → LedgerAgrees calls ledger f c p → p ≡ Some block → IsConsistent f → block < length f.blocks → g ≡ with_inst (inserted_in f block) block Back shape [] no_srcloc
+-- with its results, which have the next numbers of values
+pub agrees-built : (calls : List AnsweredCall) (ledger : Ledger) (f g : Body) (c d : ContextState) (p : Option ℕ) (block : ℕ) (shape : InstructionData)
+    (operation : Operation) (controlling : «Type») (types : List «Type») (operands : List Name) (inst : ℕ)
+    → LedgerAgrees calls ledger f c p → p ≡ Some block → IsConsistent f → block < length f.blocks → g ≡ with_inst (inserted_in f block) block Back shape types no_srcloc
     → SetsStatus c d block (begun (status_of c block)) → d.ssa ≡ c.ssa → d.variables ≡ c.variables → inst ≡ length f.insts
-    → is_terminator operation ≡ false → program.result_types operation controlling ≡ []
-    → LedgerAgrees (calls ++ record { request = Build (record { operation = operation; controlling = controlling; operands = operands; edges = [] }); numbers = inst ∷ [] } ∷ [])
+    → is_terminator operation ≡ false → program.result_types operation controlling ≡ types
+    → LedgerAgrees
+    (calls ++ record { request = Build (record { operation = operation; controlling = controlling; operands = operands; edges = [] }); numbers = inst ∷ range_with_len (length (inserted_in f block).values) (length types) } ∷ [])
     (ledger_with ledger (Build (record { operation = operation; controlling = controlling; operands = operands; edges = [] }))) g d p
-agrees-effect calls ledger f g c d p block shape operation controlling operands inst agrees at consistent exists function sets ssa variables is_inst goes_on typed =
-    let node : InstNode = inst_node (inserted_in f block) block shape [] no_srcloc in
-    let there : slice_get g.insts inst ≡ Some node = ap (slice_get g.insts) is_inst ∙ node-there f g block shape [] function in
-    agrees-plain calls ledger f g c d p block shape operation controlling [] operands inst [] agrees at consistent exists function sets ssa variables goes_on typed
-    (λ new. answers-one new g (length calls) AnInstruction inst (node, there) (node, there, refl))
+agrees-built calls ledger f g c d p block shape operation controlling types operands inst agrees at consistent exists function sets ssa variables is_inst goes_on typed =
+    let first : ℕ = length (inserted_in f block).values in
+    let node : InstNode = inst_node (inserted_in f block) block shape types no_srcloc in
+    let there : slice_get g.insts inst ≡ Some node = ap (slice_get g.insts) is_inst ∙ node-there f g block shape types function in
+    agrees-plain calls ledger f g c d p block shape operation controlling types operands inst (range_with_len first (length types)) agrees at consistent exists function sets ssa variables goes_on typed
+    (λ new. answers-results new g (length calls) inst first node types there refl (results-types f g block shape types function))
 
 -- the state of a block that gets its terminator
 abbrev pub filled : BlockState → BlockState
@@ -198,6 +199,7 @@ filled-ledger ledger name current =
       layout = begins.layout;
       current = begins.current;
       variables = begins.variables;
+      tables = begins.tables;
     })
 
 -- A TERMINATOR ------------------------------------------------------------------------------------------------------
@@ -261,7 +263,7 @@ module _ (calls : List AnsweredCall) (f g : Body) (c d : ContextState) (p : Opti
   changed : MadeLedger ledger (record ended_ledger { answers = answered }) current.0 (λ (t : BlockState). filled (unpristine t))
   changed =
       let fills = filled-ledger ledger current.0 current.1 in
-      record { blocks = fills.blocks; layout = fills.layout; current = fills.current; variables = fills.variables }
+      record { blocks = fills.blocks; layout = fills.layout; current = fills.current; variables = fills.variables; tables = fills.tables }
 
   -- the ledger agrees before the branch is declared
   abbrev ended : LedgerAgrees (calls ++ call ∷ []) (record ended_ledger { answers = answered }) g undeclared p
@@ -314,7 +316,7 @@ module _ (calls : List AnsweredCall) (f g : Body) (c d : ContextState) (p : Opti
       (next_answer ledger) instruction.edges
   led =
       let all = led-ledger (next_answer ledger) instruction.edges ended_ledger in
-      record { answers = refl; blocks = all.blocks; layout = all.layout; current = all.current; variables = all.variables }
+      record { answers = refl; blocks = all.blocks; layout = all.layout; current = all.current; variables = all.variables; tables = all.tables }
 
   declares : LedgerAgrees (calls ++ call ∷ []) (record (fold (with_predecessor (next_answer ledger)) ended_ledger instruction.edges) { answers = answered }) g d p
   declares =

@@ -35,6 +35,7 @@ agrees-empty name signature =
       current = refl;
       layout = refl;
       variables = refl;
+      tables = refl;
       own = no_own;
       structured = λ types are. first_structured types name signature;
       callers_types = λ k s there. absurd (none-some s there);

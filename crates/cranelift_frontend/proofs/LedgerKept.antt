@@ -1,6 +1,7 @@
 -- What an agreement with the ledger keeps as a function grows and calls follow.
 use Rattle.std.proofs.Common.{◌≡◌, ◌+◌, ◌<◌, ℕ, zero, suc, List, [], ◌∷◌, ◌++◌, length, refl, sym, ◌∙◌, ap, subst, arith, ◌⊎◌, inl, inr, length-append, length-set}
-use Rattle.std.specs.Prelude.{fold, slice_get, slice_index_or, slice_set, Option, Some, None, option_map, option_and_then, Bool, true, false, if◌then◌else◌, ◌==◌, ◌||◌}
+use Rattle.std.specs.Prelude.{fold, map, slice_get, slice_index_or, slice_set, Option, Some, None, option_map, option_and_then, Bool, true, false, if◌then◌else◌, ◌==◌, ◌||◌}
+use Rattle.std.specs.List.{range_with_len}
 use Rattle.std.specs.Option.{option_to_list}
 use Rattle.std.proofs.lemmas.Option.{get_or_from_slice_get, slice_get-get_or, slice_get_within, same_Some, none-some}
 use Rattle.std.proofs.lemmas.Bool.{eq-eqb, or_left, or_right, or_cases, eqb-true}
@@ -19,12 +20,13 @@ use Rattle.clif_ir.specs.Reading.{param_home, home_of_node}
 use Rattle.clif_instructions.specs.Members.{stands_in}
 use Rattle.clif_meaning.specs.Name.{Name, answer_of}
 use Rattle.clif_meaning.specs.Request.{AnsweredCall, script_of, number_of}
-use Rattle.clif_meaning.specs.Ledger.{Answered, ABlock, AVariable, AValue, AnInstruction, Ledger, ledger_with, empty_ledger, answer_at, value_answer_type, type_of, has_value}
+use Rattle.clif_meaning.specs.Ledger.{Answered, ABlock, AVariable, AValue, AnInstruction, AnEntry, Ledger, ledger_with, empty_ledger, answer_at, value_answer_type, type_of, has_value}
 use Rattle.clif_ssa.specs.Zeros.{ZeroStep, zero_steps}
 use Rattle.clif_records.specs.declared.tables.Pending.{Pending}
 use Rattle.clif_ssa.specs.Constructs.{MayPassMore, OnlyConstructs}
 use Rattle.clif_ssa.specs.LookUp.{branch_block}
 use Rattle.clif_ssa.specs.Ssa.{step_values, with_steps, with_zero, zero_value, zeroed, zeroed_in, completed, completing_blocks}
+use Rattle.clif_simulation.proofs.Places.{mapped_count, mapped_from, range_at, range_count}
 use Rattle.cranelift_frontend.specs.Ledger.{AnswerAgrees, HaveTypes, ResultsFollow, AnswersAgree, LedgerAgrees, block_name, value_type, ledger_of}
 use Rattle.cranelift_frontend.specs.Context.{ContextState}
 use Rattle.cranelift_frontend.proofs.LedgerLists.{fold-push, get-front, get-push, map-some, some-is, and-then-some, if-yes, numbered-more}
@@ -56,6 +58,7 @@ pub record Extends (f g : Body) : Type 0 where
   pub insts : (i : ℕ) (node : InstNode) → slice_get f.insts i ≡ Some node → KeepsInst g i node
   pub block_count : length g.blocks ≡ length f.blocks
   pub cold : (b : ℕ) → (block_at g b).is_cold ≡ (block_at f b).is_cold
+  pub tables : g.tables ≡ f.tables
 
 -- where one block is written anew, and keeps its mark
 pub same_cold : (nodes : List BlockNode) (b x : ℕ) (node : BlockNode) → node.is_cold ≡ (slice_index_or nodes b empty_block).is_cold
@@ -109,6 +112,7 @@ extends-constructs f g constructs =
           };
       block_count = constructs.block_count;
       cold = λ b. ap (λ (n : BlockNode). n.is_cold) (constructs.blocks b).node;
+      tables = ap (λ (h : Body). h.tables) constructs.same;
     }
 
 -- it has also its layout, and no other parameters
@@ -124,6 +128,7 @@ Extends-same f g same =
       insts = λ i node is. keeps-node g i node (ap (λ (h : Body). slice_get h.insts i) same ∙ is);
       block_count = ap (λ (h : Body). length h.blocks) same;
       cold = λ b. ap (λ (h : Body). (block_at h b).is_cold) same;
+      tables = ap (λ (h : Body). h.tables) same;
     }
 
 pub Extends-then : (f g h : Body) → Extends f g → Extends g h → Extends f h
@@ -136,6 +141,7 @@ Extends-then f g h first next =
           record { kept = two.kept; there = two.there; results = two.results ∙ one.results; block = two.block ∙ one.block };
       block_count = next.block_count ∙ first.block_count;
       cold = λ b. next.cold b ∙ first.cold b;
+      tables = next.tables ∙ first.tables;
     }
 
 pub Continues-same : (f : Body) → Continues f f
@@ -199,7 +205,7 @@ Extends-inserted f b = by (stands_in b f.layout)
   where
     by : (test : Bool) → Extends f (if test then f else with_layout f b)
     by true = Extends-same f f refl
-    by false = record { values = λ v ty is. is; insts = λ i node is. keeps-node (with_layout f b) i node is; block_count = refl; cold = λ x. refl }
+    by false = record { values = λ v ty is. is; insts = λ i node is. keeps-node (with_layout f b) i node is; block_count = refl; cold = λ x. refl; tables = refl }
 
 pub home-inserted : (f : Body) (b v h : ℕ) → param_home (inserted_in f b) v ≡ Some h → param_home f v ≡ Some h
 home-inserted f b v h = by (stands_in b f.layout)
@@ -247,6 +253,7 @@ Extends-param f b ty =
       insts = λ i node is. keeps-node (with_param f b ty) i node is;
       block_count = length-set f.blocks b _;
       cold = λ x. same_cold f.blocks b x _ refl;
+      tables = refl;
     }
 
 pub home-param : (f : Body) (b : ℕ) (ty : «Type») (v h : ℕ) → param_home (with_param f b ty) v ≡ Some h → (param_home f v ≡ Some h) ⊎ (b ≡ h)
@@ -261,6 +268,7 @@ Continues-inst f b at shape types loc =
         insts = λ i node is. keeps-node (with_inst f b at shape types loc) i node (get-front f.insts _ i node is);
         block_count = length-set f.blocks b _;
         cold = λ x. same_cold f.blocks b x _ refl;
+        tables = refl;
       };
       layout = refl;
       homes = λ v h is. home-append f.values (result_nodes (length f.insts) 0 types) v h (home-results (length f.insts) 0 types) is;
@@ -280,6 +288,7 @@ Continues-steps f b steps =
         insts = λ i node is. keeps-node (with_steps f b steps) i node (get-front f.insts _ i node is);
         block_count = length-set f.blocks b _;
         cold = λ x. same_cold f.blocks b x _ refl;
+        tables = refl;
       };
       layout = refl;
       homes = λ v h is. home-append f.values (step_values (length f.insts) steps) v h (home-steps (length f.insts) steps) is;
@@ -294,6 +303,7 @@ Continues-alias f v original =
         insts = λ i node is. keeps-node (with_alias f v original) i node is;
         block_count = length-set f.blocks _ _;
         cold = λ x. same_cold f.blocks _ x _ refl;
+        tables = refl;
       };
       layout = refl;
       homes = λ w h is. home-set f.values v _ (resolved f original) w h is;
@@ -372,6 +382,7 @@ answer-kept : (old new : Ledger) (f g : Body) → ((k : ℕ) (name : Name) → b
 answer-kept old new f g names extends name ABlock number is = names number name is
 answer-kept old new f g names extends name (AVariable variable) number is = is
 answer-kept old new f g names extends name (AValue ty) number is = extends.values number ty is
+answer-kept old new f g names extends name (AnEntry entry place) number is = is
 answer-kept old new f g names extends name AnInstruction number is =
     let node = extends.insts number is.0 is.1 in
     (node.kept, node.there)
@@ -381,6 +392,7 @@ results-kept f g extends [] numbers follow = tt
 results-kept f g extends (ABlock ∷ answers) numbers follow = tt
 results-kept f g extends (AVariable variable ∷ answers) numbers follow = tt
 results-kept f g extends (AValue ty ∷ answers) numbers follow = tt
+results-kept f g extends (AnEntry entry place ∷ answers) numbers follow = tt
 results-kept f g extends (AnInstruction ∷ answers) [] follow = tt
 results-kept f g extends (AnInstruction ∷ answers) (inst ∷ numbers) follow =
     let node = extends.insts inst follow.0 follow.1 in
@@ -446,21 +458,24 @@ answers-one ledger g place answer number agrees follow = record { count = refl; 
         (subst (λ (m : ℕ). AnswerAgrees ledger g (answer_of place 0) answer m) (same_Some number n there) agrees)
     each (suc index) other n at there = absurd (none-some other at)
 
--- an instruction with one result
-pub answers-two : (ledger : Ledger) (g : Body) (place inst value : ℕ) (node : InstNode) (ty : «Type»)
-    → slice_get g.insts inst ≡ Some node → node.results ≡ value ∷ [] → value_type g value ≡ Some ty
-    → AnswersAgree ledger g place (AnInstruction ∷ AValue ty ∷ []) (inst ∷ value ∷ [])
-answers-two ledger g place inst value node ty there results typed = record { count = refl; each = each; results = (node, there, sym results) }
+-- an instruction with results of these types, which have the numbers from the first on
+pub answers-results : (ledger : Ledger) (g : Body) (place inst first : ℕ) (node : InstNode) (types : List «Type»)
+    → slice_get g.insts inst ≡ Some node → node.results ≡ range_with_len first (length types)
+    → ((k : ℕ) (ty : «Type») → slice_get types k ≡ Some ty → value_type g (first + k) ≡ Some ty)
+    → AnswersAgree ledger g place (AnInstruction ∷ map AValue types) (inst ∷ range_with_len first (length types))
+answers-results ledger g place inst first node types there results typed =
+    record { count = ap suc (range_count first (length types) ∙ sym (mapped_count AValue types)); each = each; results = (node, there, sym results) }
   where
-    each : (index : ℕ) (other : Answered) (n : ℕ) → slice_get (AnInstruction ∷ AValue ty ∷ []) index ≡ Some other → slice_get (inst ∷ value ∷ []) index ≡ Some n
+    each : (index : ℕ) (other : Answered) (n : ℕ) → slice_get (AnInstruction ∷ map AValue types) index ≡ Some other → slice_get (inst ∷ range_with_len first (length types)) index ≡ Some n
         → AnswerAgrees ledger g (answer_of place index) other n
     each zero other n at same =
         subst (λ (a : Answered). AnswerAgrees ledger g (answer_of place 0) a n) (same_Some AnInstruction other at)
         (node, ap (slice_get g.insts) (sym (same_Some inst n same)) ∙ there)
-    each (suc zero) other n at same =
-        subst (λ (a : Answered). AnswerAgrees ledger g (answer_of place 1) a n) (same_Some (AValue ty) other at)
-        (ap (value_type g) (sym (same_Some value n same)) ∙ typed)
-    each (suc (suc index)) other n at same = absurd (none-some other at)
+    each (suc index) other n at same =
+        let found = mapped_from AValue types index other at in
+        let number : first + index ≡ n = same_Some (first + index) n (sym (range_at first (length types) index (slice_get_within types index found.0 found.1)) ∙ same) in
+        subst (λ (a : Answered). AnswerAgrees ledger g (answer_of place (suc index)) a n) found.2
+        (ap (value_type g) (sym number) ∙ typed index found.0 found.1)
 
 -- an answer stays under its name
 pub answer-still : (old new : Ledger) (answered : List Answered) (name : Name) (answer : Answered) → new.answers ≡ old.answers ++ answered ∷ []
@@ -486,6 +501,7 @@ named-value calls ledger f c p agrees name value number is_value =
     by (Some ABlock) ty is = absurd (none-some ty is)
     by (Some (AVariable variable)) ty is = absurd (none-some ty is)
     by (Some (AValue other)) ty is = ap (λ (t : «Type»). Some (AValue t)) (same_Some other ty is)
+    by (Some (AnEntry entry place)) ty is = absurd (none-some ty is)
     by (Some AnInstruction) ty is = absurd (none-some ty is)
 
 -- from the ledger with one more call to the ledger of all calls

@@ -120,9 +120,10 @@ pub record LedLedger (old new : Ledger) (branch : Name) (edges : List (Edge Name
   pub layout : new.layout ≡ old.layout
   pub current : new.current ≡ old.current
   pub variables : new.variables ≡ old.variables
+  pub tables : new.tables ≡ old.tables
 
 pub led-ledger : (branch : Name) (edges : List (Edge Name Name)) (ledger : Ledger) → LedLedger ledger (fold (with_predecessor branch) ledger edges) branch edges
-led-ledger branch [] ledger = record { answers = refl; blocks = none ledger.blocks; layout = refl; current = refl; variables = refl }
+led-ledger branch [] ledger = record { answers = refl; blocks = none ledger.blocks; layout = refl; current = refl; variables = refl; tables = refl }
   where
     none : (states : List BlockState) → states ≡ map (λ (s : BlockState). if goes [] s.block then led branch s else s) states
     none [] = refl
@@ -135,6 +136,7 @@ led-ledger branch (edge ∷ edges) ledger =
       layout = rest.layout;
       current = rest.current;
       variables = rest.variables;
+      tables = rest.tables;
     }
 
 -- NAMES AND NUMBERS -----------------------------------------------------------------------------------------------

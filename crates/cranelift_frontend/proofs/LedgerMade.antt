@@ -41,6 +41,7 @@ pub record MadeLedger (old new : Ledger) (name : Name) (change : BlockState → 
   pub layout : new.layout ≡ (with_layout old name).layout
   pub current : new.current ≡ old.current
   pub variables : map (λ (v : VariableState). v.ty) new.variables ≡ map (λ (v : VariableState). v.ty) old.variables
+  pub tables : new.tables ≡ old.tables
 
 -- the function and the context in which something was made in a block: `mine` is what the caller made before
 pub record Makes (mine : Own) (f : Body) (c : ContextState) (g : Body) (d : ContextState) (block : ℕ) : Type 0 where
@@ -191,6 +192,7 @@ agrees-made calls call old new f g c d p block name change status answered agree
       current = ap (option_map Some) ledger.current ∙ one-named-more (block_name old) (block_name new) old.current p names agrees.current;
       layout = ap (map Some) ledger.layout ∙ layout-after calls old new f block name numbered agrees.layout named names ∙ ap (map (block_name new)) (sym makes.layout);
       variables = ledger.variables ∙ agrees.variables ∙ sym makes.variables;
+      tables = ledger.tables ∙ agrees.tables ∙ sym makes.extends.tables;
       own = makes.own;
       structured = makes.structured;
       callers_types = λ k t there.
@@ -247,6 +249,7 @@ begun-ledger ledger name current =
       layout = refl;
       current = same_current (is_inserted ledger name);
       variables = same_variables (is_inserted ledger name);
+      tables = same_tables (is_inserted ledger name);
     })
   where
     placed : Bool → Ledger
@@ -259,6 +262,10 @@ begun-ledger ledger name current =
     same_current : (inserted : Bool) → (if inserted then ledger else record ledger { layout = ledger.layout ++ name ∷ [] }).current ≡ ledger.current
     same_current true = refl
     same_current false = refl
+
+    same_tables : (inserted : Bool) → (if inserted then ledger else record ledger { layout = ledger.layout ++ name ∷ [] }).tables ≡ ledger.tables
+    same_tables true = refl
+    same_tables false = refl
 
     same_variables : (inserted : Bool)
         → map (λ (v : VariableState). v.ty) (if inserted then ledger else record ledger { layout = ledger.layout ++ name ∷ [] }).variables ≡ map (λ (v : VariableState). v.ty) ledger.variables

@@ -26,7 +26,7 @@ use Rattle.clif_instructions.specs.declared.instructions.InstructionData.TheVari
 use Rattle.clif_ir.specs.Body.{Body, inst_at, no_inst, no_value, value_at}
 use Rattle.clif_ir.specs.Changes.{inserted_in, with_inst, inst_node}
 use Rattle.clif_ir.specs.Consistent.{IsConsistent}
-use Rattle.clif_instructions.specs.Instruction.{destinations, is_branch, is_terminator, result_type_of, result_types}
+use Rattle.clif_instructions.specs.Instruction.{destinations, is_branch, is_terminator, result_types}
 use Rattle.clif_instructions.specs.Edges.{targets}
 use Rattle.clif_meaning.specs.Name.{Name}
 use Rattle.clif_meaning.specs.Instruction.{Edge, Instruction, Operation, Iconst, Compute}
@@ -44,9 +44,9 @@ use Rattle.cranelift_frontend.specs.Builder.{AppendsIn, CanLeadIn, HasCurrent}
 use Rattle.cranelift_frontend.specs.Construction.{IsDeclared}
 use Rattle.cranelift_frontend.specs.Ledger.{HasShape, LedgerAgrees, NamesEdge, NamesEdges, NamesValue, ledger_of}
 use Rattle.cranelift_frontend.proofs.LedgerLists.{map-some}
-use Rattle.cranelift_frontend.proofs.LedgerKept.{concluded, inserted-values, named-value}
-use Rattle.cranelift_frontend.proofs.LedgerBuilt.{agrees-effect, agrees-ended, agrees-value, node-there}
-use Rattle.cranelift_frontend.proofs.Sorts.{EndsBlock, GivesNone, GivesOne, same_opcode, sort_of}
+use Rattle.cranelift_frontend.proofs.LedgerKept.{concluded, named-value}
+use Rattle.cranelift_frontend.proofs.LedgerBuilt.{agrees-built, agrees-ended, node-there}
+use Rattle.cranelift_frontend.proofs.Sorts.{EndsBlock, StaysInBlock, same_opcode, sort_of}
 
 -- SHAPES ----------------------------------------------------------------------------------------------------------
 
@@ -108,27 +108,17 @@ module _ (calls : List AnsweredCall) (f g : Body) (c d : ContextState) (p : Opti
   same-plain : destinations shape ≡ [] → instruction ≡ plain instruction.operation instruction.controlling instruction.operands
   same-plain none = is-plain instruction instruction.operation instruction.controlling refl refl (names-none calls instruction.edges (destinations shape) none has.edges)
 
-  giving-one : GivesOne shape ty → d.ssa ≡ c.ssa → Agrees instruction (inst_at g inst).results
-  giving-one known ssa =
+  staying : StaysInBlock shape → d.ssa ≡ c.ssa → Agrees instruction (inst_at g inst).results
+  staying known ssa =
       let names : List Name = instruction.operands in
-      let result : «Type» = result_type_of shape ty in
-      let numbered : (inst_at g inst).results ≡ length f.values ∷ [] = results-of (result ∷ []) known.one ∙ ap (λ (n : ℕ). n ∷ []) (inserted-values f block) in
-      subst (Agrees instruction) (sym numbered)
-      (subst (λ (i : Instruction Name Name). Agrees i (length f.values ∷ [])) (sym (same-plain known.no_edges))
-      (concluded calls (built (plain instruction.operation instruction.controlling names) (inst ∷ length f.values ∷ [])) g d p
-      (agrees-value calls (ledger_of calls) f g c d p block shape instruction.operation instruction.controlling result names inst (length f.values)
-      agrees at consistent exists (function_of (result ∷ []) known.one) (sets_status false known.goes_on) ssa variables appends.number refl
-      (same_end calls f instruction shape ty has ∙ known.goes_on) (same_types calls f instruction shape ty has ∙ known.one))))
-
-  giving-none : GivesNone shape ty → d.ssa ≡ c.ssa → Agrees instruction (inst_at g inst).results
-  giving-none known ssa =
-      let names : List Name = instruction.operands in
-      subst (Agrees instruction) (sym (results-of [] known.none))
-      (subst (λ (i : Instruction Name Name). Agrees i []) (sym (same-plain known.no_edges))
-      (concluded calls (built (plain instruction.operation instruction.controlling names) (inst ∷ [])) g d p
-      (agrees-effect calls (ledger_of calls) f g c d p block shape instruction.operation instruction.controlling names inst
-      agrees at consistent exists (function_of [] known.none) (sets_status false known.goes_on) ssa variables appends.number
-      (same_end calls f instruction shape ty has ∙ known.goes_on) (same_types calls f instruction shape ty has ∙ known.none))))
+      let types : List «Type» = result_types shape ty in
+      let results : List ℕ = range_with_len (length (inserted_in f block).values) (length types) in
+      subst (Agrees instruction) (sym (results-of types refl))
+      (subst (λ (i : Instruction Name Name). Agrees i results) (sym (same-plain known.no_edges))
+      (concluded calls (built (plain instruction.operation instruction.controlling names) (inst ∷ results)) g d p
+      (agrees-built calls (ledger_of calls) f g c d p block shape instruction.operation instruction.controlling types names inst
+      agrees at consistent exists (function_of types refl) (sets_status false known.goes_on) ssa variables appends.number
+      (same_end calls f instruction shape ty has ∙ known.goes_on) (same_types calls f instruction shape ty has))))
 
   -- a terminator, with its edges
   ending : EndsBlock shape ty → status_of c block ≢ Filled → All (CanLeadIn f c) (destinations shape) → IsDeclared c.ssa inst (targets (destinations shape)) d.ssa
@@ -146,11 +136,10 @@ pub shaped-ledger : (calls : List AnsweredCall) (f g : Body) (c d : ContextState
     → LedgerAgrees (calls ++ built instruction (inst ∷ (inst_at g inst).results) ∷ []) (ledger_of (calls ++ built instruction (inst ∷ (inst_at g inst).results) ∷ [])) g d p
 shaped-ledger calls f g c d p block instruction shape ty inst agrees at exists open_in consistent has may appends declared ssa variables = by (sort_of shape ty)
   where
-    by : GivesOne shape ty ⊎ (GivesNone shape ty ⊎ EndsBlock shape ty)
+    by : StaysInBlock shape ⊎ EndsBlock shape ty
         → LedgerAgrees (calls ++ built instruction (inst ∷ (inst_at g inst).results) ∷ []) (ledger_of (calls ++ built instruction (inst ∷ (inst_at g inst).results) ∷ [])) g d p
-    by (inl known) = giving-one calls f g c d p block instruction shape ty inst agrees at exists consistent has appends variables known (ssa known.no_branch)
-    by (inr (inl known)) = giving-none calls f g c d p block instruction shape ty inst agrees at exists consistent has appends variables known (ssa known.no_branch)
-    by (inr (inr known)) = ending calls f g c d p block instruction shape ty inst agrees at exists consistent has appends variables known open_in may declared
+    by (inl known) = staying calls f g c d p block instruction shape ty inst agrees at exists consistent has appends variables known (ssa known.no_branch)
+    by (inr known) = ending calls f g c d p block instruction shape ty inst agrees at exists consistent has appends variables known open_in may declared
 
 -- where no error is answered
 pub ledger-shaped : {E : Type 0} (calls : List AnsweredCall) (f g : Body) (c d : ContextState) (p : Option ℕ) (block : ℕ) (instruction : Instruction Name Name) (shape : InstructionData) (ty : «Type») (r : Result ℕ E)

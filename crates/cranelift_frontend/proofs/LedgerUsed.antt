@@ -125,6 +125,7 @@ module _ (calls : List AnsweredCall) (ledger : Ledger) (f g : Body) (c d : Conte
         layout = begun_ledger.layout;
         current = begun_ledger.current;
         variables = types-touched variable (with_begun ledger).variables ∙ begun_ledger.variables;
+        tables = begun_ledger.tables;
       } in
       let typed : variable_type ledger variable ≡ Some ty = ledger-type calls ledger f c p agrees variable ∙ declared in
       agrees-made calls call ledger new f g c d p block name unpristine (begun (status_of c block)) (AValue ty ∷ []) agrees current.2

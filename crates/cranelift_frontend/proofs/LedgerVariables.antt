@@ -31,7 +31,7 @@ agrees-declared calls ledger f c p ty variable agrees number =
     let call : AnsweredCall = record { request = DeclareVar ty; numbers = variable ∷ [] } in
     let new : Ledger = ledger_with ledger (DeclareVar ty) in
     let d : ContextState = record c { variables = c.variables ++ ty ∷ [] } in
-    agrees-kept calls call ledger new f c d p p (AVariable (length ledger.variables) ∷ []) agrees refl refl refl agrees.current
+    agrees-kept calls call ledger new f c d p p (AVariable (length ledger.variables) ∷ []) agrees refl refl refl refl agrees.current
     (map_push (λ (v : VariableState). v.ty) ledger.variables (new_variable ty) ∙ ap (λ (types : List «Type»). types ++ ty ∷ []) agrees.variables)
     (λ b. refl) (λ b. refl) (λ b. refl)
     (λ types are. agrees.structured types (λ x t is. are x t (get-front c.variables _ x t is)))
@@ -54,7 +54,7 @@ pub agrees-assigned : (calls : List AnsweredCall) (ledger : Ledger) (f : Body) (
 agrees-assigned calls ledger f c d p variable name block value ty agrees declared typed records blocks status variables =
     let call : AnsweredCall = record { request = DefVar variable name; numbers = [] } in
     let new : Ledger = ledger_with ledger (DefVar variable name) in
-    agrees-kept calls call ledger new f c d p p [] agrees refl refl refl agrees.current
+    agrees-kept calls call ledger new f c d p p [] agrees refl refl refl refl agrees.current
     (types-touched variable ledger.variables ∙ agrees.variables ∙ sym variables)
     (λ b. ap (λ (xs : List SsaBlock). is_yes (sealed_at xs b)) blocks) leads
     (λ b. ap (λ (xs : List BlockStatus). status_of (record c { status = xs }) b) status)

@@ -12,7 +12,7 @@ pub mod LedgerBlocks
 pub mod LedgerLeads
 pub mod LedgerBranched
 pub mod LedgerBuilt
-mod Sorts
+pub mod Sorts
 pub mod LedgerShaped
 pub mod LedgerVariables
 pub mod LedgerEnds
@@ -27,6 +27,7 @@ mod StandingOpen
 pub mod Standing
 pub mod StandingResults
 pub mod Marking
+pub mod Entries
 pub mod SealingAll
 pub mod Finishing
 pub mod StandingBuilt

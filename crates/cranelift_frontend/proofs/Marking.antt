@@ -116,9 +116,10 @@ module _ (calls : List AnsweredCall) (f : Body) (c : ContextState) (p : Option �
     current = one-named-more (block_name old) (block_name new) old.current p names agrees.current;
     layout = named-more (block_name old) (block_name new) old.layout f.layout names agrees.layout;
     variables = agrees.variables;
+    tables = agrees.tables;
     own = agrees.own;
     structured = λ types are.
-        blocks_structured f g.blocks f.layout types agrees.own c.ssa [] (cold_params f.blocks b) (cold_insts f.blocks b)
+        blocks_structured f g.blocks f.layout f.tables types agrees.own c.ssa [] (cold_params f.blocks b) (cold_insts f.blocks b)
         (agrees.structured types are);
     callers_types = λ k t there.
         let e = entry k t there in
@@ -199,7 +200,7 @@ ensured calls f g c d p block (Ok u) agrees at is sets ssa variables =
     let current = name-of-some (block_name ledger) ledger.current block (agrees.current ∙ ap (option_map (block_name ledger)) at) in
     let begins = begun-ledger ledger current.0 current.1 in
     let changed : MadeLedger ledger new current.0 unpristine =
-    record { blocks = begins.blocks; layout = begins.layout; current = begins.current; variables = begins.variables } in
+    record { blocks = begins.blocks; layout = begins.layout; current = begins.current; variables = begins.variables; tables = begins.tables } in
     concluded calls call g d p
     (subst (λ (h : Body). LedgerAgrees (calls ++ call ∷ []) new h d p) (sym is)
     (agrees-made calls call ledger new f (inserted_in f block) c d p block current.0 unpristine (begun (status_of c block)) [] agrees current.2 refl changed

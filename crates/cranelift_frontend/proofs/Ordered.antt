@@ -246,7 +246,7 @@ pub order-cold : (f : Body) (c : ContextState) (b : ℕ) → IsInOrder f c → I
 order-cold f c b order = record {
   own = order.own;
   structured = λ types are.
-      blocks_structured f (with_cold f b).blocks f.layout types order.own c.ssa [] (cold_params f.blocks b) (cold_insts f.blocks b) (order.structured types are);
+      blocks_structured f (with_cold f b).blocks f.layout f.tables types order.own c.ssa [] (cold_params f.blocks b) (cold_insts f.blocks b) (order.structured types are);
   callers_alone = λ d. elim (order.callers_alone d) [
     | inl alone ↦ inl (cold_params f.blocks b d ∙ alone)
     | inr was ↦ inr (record { inserted = was.inserted; begun = was.begun })
@@ -260,7 +260,7 @@ pub order-laid : (f : Body) (c : ContextState) (b a : ℕ) → IsInOrder f c →
 order-laid f c b a order = record {
   own = order.own;
   structured = λ types are.
-      blocks_structured f f.blocks (with_layout_after f b a).layout types order.own c.ssa [] (λ x. refl) (λ x. refl) (order.structured types are);
+      blocks_structured f f.blocks (with_layout_after f b a).layout f.tables types order.own c.ssa [] (λ x. refl) (λ x. refl) (order.structured types are);
   callers_alone = λ d. elim (order.callers_alone d) [
     | inl alone ↦ inl alone
     | inr old ↦ inr (record { inserted = still_stands b a d f.layout old.inserted; begun = old.begun })

@@ -122,6 +122,9 @@ module _ (calls : List AnsweredCall) (ledger : Ledger) (f : Body) (c : ContextSt
   current_is : new.current ≡ ledger.current
   current_is = by_request (λ (r : Request). (ledger_with ledger r).current ≡ ledger.current) refl refl
 
+  tables_are : new.tables ≡ ledger.tables
+  tables_are = by_request (λ (r : Request). (ledger_with ledger r).tables ≡ ledger.tables) refl refl
+
   variables_are : new.variables ≡ ledger.variables
   variables_are = by_request (λ (r : Request). (ledger_with ledger r).variables ≡ ledger.variables) refl refl
 
@@ -211,6 +214,7 @@ module _ (calls : List AnsweredCall) (ledger : Ledger) (f : Body) (c : ContextSt
         ap (map Some) layout_is ∙ named-more (block_name ledger) (block_name new) ledger.layout f.layout names agrees.layout
         ∙ ap (map (block_name new)) (sym (same_layout f b types));
     variables = ap (map (λ (v : VariableState). v.ty)) variables_are ∙ agrees.variables;
+    tables = tables_are ∙ agrees.tables ∙ sym extends.tables;
     own = mine;
     structured = λ declared are. params_structured b (length calls) declared agrees.own f c.ssa types (firm_from f consistent) there bare (agrees.structured declared are);
     callers_types = λ k t at.

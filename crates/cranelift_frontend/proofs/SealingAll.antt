@@ -93,6 +93,7 @@ module _ (calls : List AnsweredCall) (ledger : Ledger) (f g : Body) (c d : Conte
     current = one-named-more (block_name ledger) (block_name new) ledger.current p names agrees.current;
     layout = named-more (block_name ledger) (block_name new) ledger.layout f.layout names agrees.layout ∙ ap (map (block_name new)) (sym layout);
     variables = agrees.variables ∙ sym variables;
+    tables = agrees.tables ∙ sym extends.tables;
     own = agrees.own;
     structured = structured;
     callers_types = λ k t there.

@@ -1,23 +1,21 @@
 -- An instruction of any shape is built, with edges or without: the builder stands for the list with this call at its end.
-use Rattle.std.proofs.Common.{◌≡◌, ◌≢◌, ℕ, zero, suc, ◌<◌, List, [], ◌∷◌, ◌++◌, length, map, refl, sym, ◌∙◌, ap, subst, arith, ◌⊎◌, inl, inr}
+use Rattle.std.proofs.Common.{◌≡◌, ◌≢◌, ℕ, zero, suc, ◌+◌, ◌<◌, List, [], ◌∷◌, ◌++◌, length, map, refl, sym, ◌∙◌, ap, subst, arith, ◌⊎◌, inl, inr}
 use Rattle.std.specs.Prelude.{slice_get, slice_index, slice_index_or, All, Contains, Option, Some, true, false, IfOk, Result, Ok, Err, ◌==◌}
 use Rattle.std.proofs.lemmas.Bool.{eq-eqb, eqb-true, or_left, or_right}
 use Rattle.std.proofs.lemmas.Map.Views.{Contains-from_any}
 use Rattle.clif_types.specs.declared.types.«Type».{«Type»}
 use Rattle.clif_types.specs.Signature.{SignatureShape}
 use Rattle.clif_instructions.specs.declared.block_call.BlockCall.{BlockCall}
-use Rattle.clif_ir.specs.declared.function.ValueNode.{ValueNode}
 use Rattle.clif_instructions.specs.declared.instructions.InstructionData.{InstructionData}
 use Rattle.clif_ir.specs.Body.{Body, inst_at}
 use Rattle.clif_ir.specs.Changes.{inserted_in, inst_node, with_inst}
 use Rattle.clif_ir.specs.Consistent.{IsConsistent}
 use Rattle.clif_instructions.specs.declared.inst_list.InsertAt.TheVariants.{Back}
-use Rattle.clif_instructions.specs.Instruction.{destinations, is_branch, operands, result_type_of, result_types}
+use Rattle.clif_instructions.specs.Instruction.{destinations, is_branch, operands, result_types}
 use Rattle.clif_instructions.specs.Members.{stands_in}
 use Rattle.clif_instructions.specs.Edges.{targets}
 use Rattle.clif_ssa.specs.Ssa.{no_srcloc, predecessors_of, record_of, sealed_of, SsaState}
 use Rattle.clif_records.specs.Tables.{is_yes}
-use Rattle.clif_ssa.proofs.Completing.{inserted_same}
 use Rattle.clif_meaning.specs.Name.{Name}
 use Rattle.clif_meaning.specs.Instruction.{Instruction}
 use Rattle.clif_meaning.specs.Ledger as ledger
@@ -25,7 +23,8 @@ use Rattle.clif_meaning.specs.Program as program
 use Rattle.clif_meaning.specs.Request.{AnsweredCall, Build}
 use Rattle.clif_meaning.specs.View.{controlling_of, edge_of}
 use Rattle.clif_simulation.specs.Carries.{Carries, DeclaredAlong, IsCurrent}
-use Rattle.clif_simulation.proofs.Building.{SameBranch, SameInstruction, carries_branch, carries_result, carries_terminator, made_controlling}
+use Rattle.clif_simulation.proofs.Building.{SameBranch, SameInstruction, carries_branch, carries_plain, made_controlling}
+use Rattle.clif_simulation.proofs.Places.{range_at}
 use Rattle.cranelift_frontend.specs.declared.context.BlockStatus.TheVariants.{Filled}
 use Rattle.cranelift_frontend.specs.Construction.{IsDeclared}
 use Rattle.cranelift_frontend.specs.Context.{ContextState, status_of}
@@ -34,8 +33,8 @@ use Rattle.cranelift_frontend.specs.Ledger.{HasShape, LedgerAgrees, NamesEdges, 
 use Rattle.cranelift_frontend.specs.StandsFor.{StandsIn}
 use Rattle.cranelift_frontend.proofs.LedgerNames.{name-number}
 use Rattle.cranelift_frontend.proofs.LedgerShaped.{same_end, same_types}
-use Rattle.cranelift_frontend.proofs.Sorts.{EndsBlock, GivesNone, GivesOne, sort_of}
-use Rattle.cranelift_frontend.proofs.Growing.{appended_results}
+use Rattle.cranelift_frontend.proofs.Sorts.{EndsBlock, StaysInBlock, sort_of}
+use Rattle.cranelift_frontend.proofs.Growing.{appended_range}
 use Rattle.cranelift_frontend.proofs.Standing.{current_name, current_unfilled}
 use Rattle.cranelift_frontend.proofs.StandingBuilt.{all_named, edges_named, none_named, stands_built}
 
@@ -125,28 +124,25 @@ module _ (declared : SignatureShape) (calls : List AnsweredCall) (f g : Body) (c
   controlled_at types is =
       made_controlling calls f c.ssa stands.carries consistent block here.0 here.1 unfilled there shape instruction no_srcloc numbers types ty (sym is) operands_exist ∙ sym has.controlling
 
-  -- it has one result
-  stands_value : GivesOne shape ty → d.ssa ≡ c.ssa → StandsIn declared (calls ++ call ∷ []) g d p
-  stands_value known same =
-      let result : «Type» = result_type_of shape ty in
-      let results : (inst_at g inst).results ≡ length f.values ∷ [] = appended_results f c g d block shape ty result inst appends known.one in
-      let inserted : length f.values ≡ length (inserted_in f block).values = ap (λ (vs : List ValueNode). length vs) (sym (inserted_same f block).values) in
-      let carries = carries_result calls f c.ssa stands.carries consistent block here.0 here.1 unfilled there shape instruction no_srcloc numbers (plainly known.no_edges)
-      result (program_types ∙ known.one) (controlled_at (result ∷ []) known.one) (ap (λ (rs : List ℕ). slice_get (inst ∷ rs) 1) results ∙ ap (λ (v : ℕ). Some v) inserted) in
-      finished (result ∷ []) known.one (subst (Carries (calls ++ call ∷ []) (with_inst (inserted_in f block) block Back shape (result ∷ []) no_srcloc)) (sym same) carries)
+  -- its results have the next numbers of values
+  numbered : (k : ℕ) → k < length (result_types shape ty) → slice_get (inst ∷ (inst_at g inst).results) (suc k) ≡ Some (length (inserted_in f block).values + k)
+  numbered k below =
+      ap (λ (rs : List ℕ). slice_get rs k) (appended_range f c g d block shape ty inst appends)
+      ∙ range_at (length (inserted_in f block).values) (length (result_types shape ty)) k below
 
-  -- it has none, and its block goes on
-  stands_effect : GivesNone shape ty → d.ssa ≡ c.ssa → StandsIn declared (calls ++ call ∷ []) g d p
-  stands_effect known same =
-      let carries = carries_terminator calls f c.ssa stands.carries consistent block here.0 here.1 unfilled there shape instruction no_srcloc numbers (plainly known.no_edges)
-      (program_types ∙ known.none) (controlled_at [] known.none) in
-      finished [] known.none (subst (Carries (calls ++ call ∷ []) (with_inst (inserted_in f block) block Back shape [] no_srcloc)) (sym same) carries)
+  -- its block goes on
+  stands_plain : StaysInBlock shape → d.ssa ≡ c.ssa → StandsIn declared (calls ++ call ∷ []) g d p
+  stands_plain known same =
+      let types : List «Type» = result_types shape ty in
+      let carries = carries_plain calls f c.ssa stands.carries consistent block here.0 here.1 unfilled there shape instruction no_srcloc numbers (plainly known.no_edges)
+      types program_types (controlled_at types refl) numbered in
+      finished types refl (subst (Carries (calls ++ call ∷ []) (with_inst (inserted_in f block) block Back shape types no_srcloc)) (sym same) carries)
 
   -- it ends its block
   stands_end : EndsBlock shape ty → All (CanLeadIn f c) (destinations shape) → IsDeclared c.ssa inst (targets (destinations shape)) d.ssa → StandsIn declared (calls ++ call ∷ []) g d p
   stands_end known edges declares =
       finished [] known.none
-      (carries_branch calls f c.ssa stands.carries consistent block here.0 here.1 unfilled there shape instruction no_srcloc numbers branch (program_types ∙ known.none) (controlled_at [] known.none)
+      (carries_branch calls f c.ssa stands.carries consistent block here.0 here.1 unfilled there shape instruction no_srcloc numbers branch [] (program_types ∙ known.none) (controlled_at [] known.none) (λ k below. absurd (omega (arith, below)))
       declares.told d.ssa (same_end calls f instruction shape ty has ∙ known.ends) declares.once
       exactly (λ x told. let to = (exactly x).0 told in target_unsealed f c (destinations shape) to.0 x edges to.1 to.2)
       (subst (λ (i : ℕ). DeclaredAlong c.ssa i declares.told d.ssa) appends.number declares.along))
@@ -168,10 +164,9 @@ pub shaped_stands : (declared : SignatureShape) (calls : List AnsweredCall) (f g
     → StandsIn declared (calls ++ built instruction (inst ∷ (inst_at g inst).results) ∷ []) g d p
 shaped_stands declared calls f g c d p instruction shape ty inst block stands consistent has exist at there open_block appends edges declares same kept = by (sort_of shape ty)
   where
-    by : GivesOne shape ty ⊎ (GivesNone shape ty ⊎ EndsBlock shape ty) → StandsIn declared (calls ++ built instruction (inst ∷ (inst_at g inst).results) ∷ []) g d p
-    by (inl known) = stands_value declared calls f g c d p instruction shape ty inst block stands consistent has exist at there open_block appends kept known (same known.no_branch)
-    by (inr (inl known)) = stands_effect declared calls f g c d p instruction shape ty inst block stands consistent has exist at there open_block appends kept known (same known.no_branch)
-    by (inr (inr known)) = stands_end declared calls f g c d p instruction shape ty inst block stands consistent has exist at there open_block appends kept known edges declares
+    by : StaysInBlock shape ⊎ EndsBlock shape ty → StandsIn declared (calls ++ built instruction (inst ∷ (inst_at g inst).results) ∷ []) g d p
+    by (inl known) = stands_plain declared calls f g c d p instruction shape ty inst block stands consistent has exist at there open_block appends kept known (same known.no_branch)
+    by (inr known) = stands_end declared calls f g c d p instruction shape ty inst block stands consistent has exist at there open_block appends kept known edges declares
 
 -- where no error is answered
 pub stands_shaped : {E : Type 0} (declared : SignatureShape) (calls : List AnsweredCall) (f g : Body) (c d : ContextState) (p : Option ℕ) (instruction : Instruction Name Name) (shape : InstructionData)

@@ -126,6 +126,12 @@ abbrev pub AppendsValue : FunctionBuilder → FunctionBuilder → ℕ → Instru
 AppendsValue old new block shape ty v =
     Appends old new block shape ty (length old.func.now.insts) × (v ≡ length old.func.now.values)
 
+-- and for one with two, which are these values
+abbrev pub AppendsPair : FunctionBuilder → FunctionBuilder → ℕ → InstructionData → «Type» → ℕ × ℕ → Type 0
+AppendsPair old new block shape ty pair =
+    Appends old new block shape ty (length old.func.now.insts)
+    × (pair.0 ≡ length old.func.now.values) × (pair.1 ≡ length old.func.now.values + 1)
+
 -- the first block from `block` on, among `count` ones, that isn't finished, and what it lacks
 abbrev pub block_fault : ContextState → ℕ → Option FinalizeError
 block_fault c block =

@@ -1,12 +1,13 @@
 -- What building an instruction makes of a builder, whatever it answers. Source: own, after the crate's documentation of
 -- `InstBuilder`.
-use Rattle.std.specs.Prelude.{◌≡◌, ◌<◌, ◌-◌, ◌^◌, ◌⊎◌, ◌↔◌, ℕ, List, [], ◌∷◌, ◌++◌, length, true, false, is_err, IsTrue, Result, Err, IfOk, OnOk, IfSome}
+use Rattle.std.specs.Prelude.{◌≡◌, ◌<◌, ◌≤◌, ◌-◌, ◌^◌, ◌⊎◌, ◌↔◌, ℕ, List, [], ◌∷◌, ◌++◌, length, true, false, is_err, map, IsTrue, Result, Err, IfOk, OnOk, IfSome}
 use Rattle.clif_types.specs.declared.error.BuildError.{BuildError}
 use Rattle.clif_types.specs.declared.error.BuildError.TheVariants.{Full, Failed}
 use Rattle.clif_types.specs.declared.types.«Type».{«Type»}
 use Rattle.clif_types.specs.Signature.{SignatureShape}
 use Rattle.clif_ir.specs.Body.{inst_at, value_at}
-use Rattle.clif_instructions.specs.Instruction.{destinations, is_branch, is_terminator, result_type_of}
+use Rattle.clif_instructions.specs.Instruction.{destinations, is_branch, is_terminator, result_count, result_type_of, result_types}
+use Rattle.clif_ir.specs.Changes.{HasNoRoom}
 use Rattle.clif_instructions.specs.Edges.{targets}
 use Rattle.clif_instructions.specs.declared.instructions.InstructionData.{InstructionData}
 use Rattle.clif_meaning.specs.Instruction.{Instruction}
@@ -15,7 +16,7 @@ use Rattle.clif_meaning.specs.Request.{AnsweredCall, Build}
 use Rattle.clif_ssa.specs.Ssa.{SealedStays}
 use Rattle.clif_ssa.specs.Structure.{LooksOnce}
 use Rattle.cranelift_frontend.specs.declared.builder.FunctionBuilder.{FunctionBuilder}
-use Rattle.cranelift_frontend.specs.Builder.{Appends, AppendsValue, FillsCurrent, HasCurrent, IsLeft, SameLoans, is_free}
+use Rattle.cranelift_frontend.specs.Builder.{Appends, AppendsPair, AppendsValue, FillsCurrent, HasCurrent, IsLeft, SameLoans, is_free}
 use Rattle.cranelift_frontend.specs.Construction.{IsDeclared}
 use Rattle.cranelift_frontend.specs.Context.{FillsNone}
 use Rattle.cranelift_frontend.specs.Growth.{Grows, RemembersIn, TypesStay}
@@ -34,6 +35,10 @@ numbers_of b inst = inst ∷ (inst_at b.func.now inst).results
 abbrev pub numbers_with : FunctionBuilder → ℕ → List ℕ
 numbers_with b value = length b.func.now.insts ∷ value ∷ []
 
+-- the numbers that answer the next instruction, if these values are its results
+abbrev pub numbers_with_pair : FunctionBuilder → ℕ × ℕ → List ℕ
+numbers_with_pair b pair = length b.func.now.insts ∷ pair.0 ∷ pair.1 ∷ []
+
 -- the table of instructions or that of values is full
 abbrev pub HasFullTable : FunctionBuilder → Type 0
 HasFullTable b = (length b.func.now.insts ≡ 2 ^ 32 - 1) ⊎ (length b.func.now.values ≡ 2 ^ 32 - 1)
@@ -46,7 +51,8 @@ pub record Builds (old new : FunctionBuilder) (shape : InstructionData) (ty : «
   pub ssa : is_branch shape ≡ false → new.ctx.now.ssa ≡ old.ctx.now.ssa
   pub variables : new.ctx.now.variables ≡ old.ctx.now.variables
   pub position : new.position ≡ old.position
-  pub full : answer ≡ Err Full → HasFullTable old
+  pub full : answer ≡ Err Full → HasNoRoom old.func.now (result_count shape)
+  pub full_table : result_count shape ≤ 1 → answer ≡ Err Full → HasFullTable old
   pub failed : (answer ≡ Err Failed) ↔ IsTrue old.failed
   pub unchanged : IsTrue old.failed → new ≡ old
   pub fails : new.failed ≡ is_err answer
@@ -92,4 +98,30 @@ pub record BuildsValue (old new : FunctionBuilder) (shape : InstructionData) (ty
   pub current : OnOk answer (HasCurrent new)
   pub types : OnOk answer (TypesStay old.func.now new.func.now)
   pub typed : IfOk answer (λ value. (value_at new.func.now value).ty ≡ result_type_of shape ty)
+  pub fills : OnOk answer (FillsNone old.ctx.now new.ctx.now)
+
+-- The same of an instruction that has two results and ends no block; the answer is these.
+pub record BuildsPair (old new : FunctionBuilder) (shape : InstructionData) (ty : «Type») (answer : Result (ℕ × ℕ) BuildError) : Type 0 where
+  pub loans : SameLoans old new
+  pub appends : IfSome old.position (λ block. IfOk answer (AppendsPair old new block shape ty))
+  pub ssa : new.ctx.now.ssa ≡ old.ctx.now.ssa
+  pub variables : new.ctx.now.variables ≡ old.ctx.now.variables
+  pub position : new.position ≡ old.position
+  pub full : answer ≡ Err Full → HasNoRoom old.func.now 2
+  pub failed : (answer ≡ Err Failed) ↔ IsTrue old.failed
+  pub unchanged : IsTrue old.failed → new ≡ old
+  pub fails : new.failed ≡ is_err answer
+  pub looks_once : LooksOnce old.ctx.now.ssa → LooksOnce new.ctx.now.ssa
+  pub ledger : (calls : List AnsweredCall) (instruction : Instruction Name Name)
+      → AgreesWithLedger calls old → HasShape calls old.func.now instruction shape ty
+      → IfOk answer (λ pair. AgreesWithLedger (after_build calls instruction (numbers_with_pair old pair)) new)
+  pub stands : (signature : SignatureShape) (calls : List AnsweredCall) (instruction : Instruction Name Name)
+      → StandsFor signature calls old → HasShape calls old.func.now instruction shape ty
+      → IfOk answer (λ pair. StandsFor signature (after_build calls instruction (numbers_with_pair old pair)) new)
+  pub exists : IfOk answer (λ pair. (pair.0 < length new.func.now.values) × (pair.1 < length new.func.now.values))
+  pub grows : OnOk answer (Grows old.func.now new.func.now)
+  pub remembers : (v b : ℕ) → OnOk answer (RemembersIn v b old new)
+  pub current : OnOk answer (HasCurrent new)
+  pub types : OnOk answer (TypesStay old.func.now new.func.now)
+  pub typed : IfOk answer (λ pair. map (λ value. (value_at new.func.now value).ty) (pair.0 ∷ pair.1 ∷ []) ≡ result_types shape ty)
   pub fills : OnOk answer (FillsNone old.ctx.now new.ctx.now)

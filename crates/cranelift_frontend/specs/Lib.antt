@@ -8,5 +8,6 @@ pub mod Growth
 pub mod StandsFor
 pub mod Built
 pub mod Calls
+pub mod Entries
 pub mod Laws
 pub mod LedgerLaws

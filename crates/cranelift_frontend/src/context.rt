@@ -134,7 +134,7 @@ impl FunctionBuilderContext {
         }
     }
 
-    /// Forgets everything, and keeps the memory.
+    /// Forgets everything. It keeps the room of blocks and variables, and gives back the memory of the records.
     pub(crate) fn clear(&mut self)
         ensures { self.new ≡ empty_context }
     {

@@ -1,13 +1,14 @@
 //! How a builder makes instructions at the end of its current block.
-ghost use Rattle.std.specs.Prelude.{◌≡◌, ◌≢◌, ◌<◌, ◌-◌, ◌^◌, ◌⊎◌, IfOk, Err, false, length, slice_index, EachIndex, All};
+ghost use Rattle.std.specs.Prelude.{◌≡◌, ◌≢◌, ◌<◌, ◌∷◌, [], IfOk, Err, false, length, slice_index, EachIndex, All};
 ghost use Rattle.std.proofs.Math.Nat.{lt_of_lt_of_le};
 ghost use Rattle.clif_ir.specs.Body.{value_at};
-ghost use Rattle.clif_instructions.specs.Instruction.{operands, destinations, is_branch};
+ghost use Rattle.clif_ir.specs.Changes.{HasNoRoom};
+ghost use Rattle.clif_instructions.specs.Instruction.{operands, destinations, is_branch, result_count};
 ghost use Rattle.clif_instructions.specs.Edges.{targets};
 ghost use Rattle.clif_ssa.specs.Ssa.{NamesExist};
 ghost use Rattle.clif_ssa.specs.Structure.{LooksOnce};
 ghost use Rattle.cranelift_frontend.specs.Builder.{HasCurrent, CanLead, CanLeadIn, AppendsIn};
-ghost use Rattle.cranelift_frontend.specs.Built.{Builds, BuildsValue};
+ghost use Rattle.cranelift_frontend.specs.Built.{Builds, BuildsPair, BuildsValue};
 ghost use Rattle.cranelift_frontend.specs.Construction.{IsDeclared};
 
 use crate::builder::FunctionBuilder;
@@ -51,6 +52,9 @@ impl<'a> InstBuilderBase for FunctionBuilder<'a> {
 
     ghost builds_like = { λ old new shape x answer.
         BuildsValue old new shape (value_at old.func.now x).ty answer };
+
+    ghost builds_pair = { λ old new shape x answer.
+        BuildsPair old new shape (value_at old.func.now x).ty answer };
 
     ghost like_is_value = { λ old new shape x answer built. built };
 
@@ -96,6 +100,16 @@ impl<'a> InstBuilderBase for FunctionBuilder<'a> {
         self.build_value(shape, ty)
     }
 
+    fn build_pair(
+        &mut self,
+        shape: InstructionData,
+        like: Value,
+    ) -> Result<(Value, Value), BuildError> {
+        let ty = self.func.value_type(like);
+        let inst = self.build(shape, ty)?;
+        Ok(both_values(self.func.inst_results(inst)))
+    }
+
     fn refuse(&mut self) -> BuildError {
         if self.failed {
             return BuildError::Failed;
@@ -103,6 +117,14 @@ impl<'a> InstBuilderBase for FunctionBuilder<'a> {
         self.failed = true;
         BuildError::Memory
     }
+}
+
+// The two values of a list.
+fn both_values(values: &[Value]) -> (Value, Value)
+    requires { length values.now ≡ 2 }
+    ensures { values.now ≡ result.0 ∷ result.1 ∷ [] }
+{
+    (values[0], values[1])
 }
 
 // Appends an instruction to a block, which is filled then if the instruction is a terminator; a branch becomes a
@@ -124,7 +146,7 @@ fn append(
     ensures names { NamesExist func.new ctx.new.ssa }
     ensures looks_once { LooksOnce ctx.old.ssa → LooksOnce ctx.new.ssa }
     ensures variables { ctx.new.variables ≡ ctx.old.variables }
-    ensures full { result ≡ Err BuildError.Full → (length func.old.insts ≡ 2 ^ 32 - 1) ⊎ (length func.old.values ≡ 2 ^ 32 - 1) }
+    ensures full { result ≡ Err BuildError.Full → HasNoRoom func.old (result_count shape) }
     ensures never_failed { result ≢ Err BuildError.Failed }
 {
     begin_block(func, ctx, block)?;

@@ -4,6 +4,7 @@
 pub mod blocks;
 pub mod builder;
 pub mod context;
+pub mod entities;
 pub mod error;
 pub mod finalize;
 pub mod frontend;

@@ -2,7 +2,7 @@
 #![tactic(auto)]
 
 use crate::forms::Effect::{Store, Trap, Trapnz, Trapz};
-use crate::forms::Form::{F16const, F32const, F64const, Icmp, Iconcat, Load};
+use crate::forms::Form::{F16const, F32const, F64const, Icmp, Iconcat, Isplit, Load};
 use crate::steps::Ending::{Return, ReturnNone};
 use crate::steps::Operand::{
     Binary, ByDouble, Constant, Convert, Form, Param, Read, Select, Unary,
@@ -175,11 +175,12 @@ fn comparisons_and_halves(rt: HostRuntime) -> Result<(), Fail> {
         Make(Convert(Sextend, 0)),
         Make(Form(Icmp(IntCC::SignedLessThan, 0, 1))),
         Make(Form(Iconcat(0, 1))),
+        Make(Form(Isplit(4))),
         End(Return(3)),
         Seal(0),
     ];
     let text =
-        "function %compared() -> i32 system_v {\nblock0(v0: i32, v1: i32):\n    v2 = sextend.i64 v0\n    v3 = icmp slt v0, v1\n    v4 = iconcat v0, v1\n    return v3\n}\n";
+        "function %compared() -> i32 system_v {\nblock0(v0: i32, v1: i32):\n    v2 = sextend.i64 v0\n    v3 = icmp slt v0, v1\n    v4 = iconcat v0, v1\n    v5, v6 = isplit v4\n    return v3\n}\n";
     builds(&rt, rt.alloc(), "compared", 0, &steps, text)
 }
 

@@ -21,6 +21,8 @@ pub enum Form {
     Icmp(IntCC, usize, usize),
     /// Of two values of type I32.
     Iconcat(usize, usize),
+    /// The high half of a value of type I64.
+    Isplit(usize),
     /// A load of type I32.
     Load(MemFlagsData, usize, i32),
 }
@@ -61,6 +63,10 @@ fn is_comparison(shape: &InstructionData, condition: IntCC, operands: &[Value]) 
 
 fn is_concat(shape: &InstructionData, operands: &[Value]) -> bool {
     matches!(shape, InstructionData::Concat { .. }) && shape.arguments() == operands
+}
+
+fn is_split(shape: &InstructionData, operands: &[Value]) -> bool {
+    matches!(shape, InstructionData::Split { .. }) && shape.arguments() == operands
 }
 
 fn is_load(shape: &InstructionData, expected: MemFlagsData, operands: &[Value], by: i32) -> bool {
@@ -181,6 +187,27 @@ fn iconcat(rt: &impl Abort, builder: &mut FunctionBuilder<'_>, lo: Value, hi: Va
     made
 }
 
+// The results of the instruction that was made last.
+fn last_results<'b>(rt: &impl Abort, builder: &'b FunctionBuilder<'_>) -> &'b [Value] {
+    let count = builder.func().inst_count();
+    assert!(rt; count > 0);
+    builder.inst_results(Inst::new(count - 1))
+}
+
+fn isplit(rt: &impl Abort, builder: &mut FunctionBuilder<'_>, x: Value) -> Value
+    ensures { builder.new.ctx.now.variables ≡ builder.old.ctx.now.variables }
+{
+    asserts_current(rt, builder);
+    asserts_value(rt, builder, x);
+    assert!(rt; builder.func().value_type(x) == I64);
+    let (low, high) = builder.ins().isplit(x).expect(rt, "two values");
+    assert!(rt; is_split(last_shape(rt, builder), &[x]));
+    assert!(rt; last_results(rt, builder) == [low, high].as_slice());
+    has_type(rt, builder, low, I32);
+    has_type(rt, builder, high, I32);
+    high
+}
+
 fn load(
     rt: &impl Abort,
     builder: &mut FunctionBuilder<'_>,
@@ -272,6 +299,7 @@ pub fn make(
             let (lo, hi) = (named(rt, values, lo), named(rt, values, hi));
             iconcat(rt, builder, lo, hi)
         }
+        Form::Isplit(x) => isplit(rt, builder, named(rt, values, x)),
         Form::Load(flags, p, offset) => load(rt, builder, flags, named(rt, values, p), offset),
     }
 }

@@ -3,7 +3,7 @@
 
 use crate::interpreters::memory::{Access, Fault, Memory};
 use crate::interpreters::{
-    End, Ending, STEPS, binary, compares, concat, constant, convert, end_by, traps, unary,
+    End, Ending, STEPS, binary, compares, concat, constant, convert, end_by, split, traps, unary,
 };
 use clif_ir::{BlockArg, BlockCall, Function, InstructionData};
 use clif_types::{Block, EntityRef, Inst, MemFlagsData, Type, Value, types};
@@ -177,6 +177,11 @@ impl<'a> State<'a> {
                 } else {
                     Ok(Next::InBlock)
                 }
+            }
+            InstructionData::Split { arg } => {
+                let (low, high) = split(self.type_of(*arg), self.bits(*arg));
+                self.give(results, &[low, high])?;
+                Ok(Next::InBlock)
             }
             InstructionData::Trap { code } => Ok(Next::Faulted(Fault::Trapped(*code))),
             InstructionData::Jump { destination } => self.follow(destination),

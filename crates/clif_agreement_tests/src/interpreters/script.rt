@@ -3,7 +3,7 @@
 
 use crate::interpreters::memory::{Access, Fault, Memory};
 use crate::interpreters::{
-    End, Ending, STEPS, binary, compares, concat, constant, convert, end_by, traps, unary,
+    End, Ending, STEPS, binary, compares, concat, constant, convert, end_by, split, traps, unary,
 };
 use clif_opcodes::FloatConstOpcode;
 use clif_script::{Call, Edge, Name, Plan};
@@ -62,6 +62,16 @@ fn doubled(ty: Type) -> Type {
         16 => types::I32,
         32 => types::I64,
         _ => types::I128,
+    }
+}
+
+/// The integer of half the width.
+fn halved(ty: Type) -> Type {
+    match ty.bits() {
+        16 => types::I8,
+        32 => types::I16,
+        64 => types::I32,
+        _ => types::I64,
     }
 }
 
@@ -143,6 +153,14 @@ impl<'a> State<'a> {
         self.memory.store(&access, bits)
     }
 
+    /// Gives the halves of an integer to the answers of a place.
+    fn split(&mut self, place: usize, arg: Name) -> Result<(), AllocError> {
+        let Typed { ty, bits } = self.name(arg);
+        let (low, high) = split(ty, bits);
+        self.give(Name { place, answer: 1 }, of_type(halved(ty), low))?;
+        self.give(Name { place, answer: 2 }, of_type(halved(ty), high))
+    }
+
     /// What an instruction does that neither branches nor ends a block; its results are answers from 1 on.
     fn plain(&mut self, place: usize, plan: &Plan<'_>) -> Result<Did<'a>, AllocError> {
         let done = match plan {
@@ -157,6 +175,10 @@ impl<'a> State<'a> {
                 } else {
                     Ok(())
                 }
+            }
+            Plan::Split { arg } => {
+                self.split(place, *arg)?;
+                Ok(())
             }
             _ => match self.computed(plan) {
                 Ok(value) => {

@@ -1,11 +1,11 @@
 use Rattle.std.proofs.Common.{◌∙◌, ap, refl}
 use Rattle.std.proofs.lemmas.Result.{err_from_is_err_and}
 use Rattle.clif_replay.specs.declared.script.Answer.TheVariants as answer
-use Rattle.clif_replay.proofs.Making.{answered-sound, full-either, made-answer, made-misused, made-refused}
+use Rattle.clif_replay.proofs.Making.{answered-sound, made-answer, made-misused, made-refused}
 use Rattle.std.specs.Prelude.{Err}
 use Rattle.clif_replay.proofs.ReadyLaws.{answers-exist, ready-more, value-exists}
 use Rattle.clif_replay.proofs.Conditions.{has-current}
-use Rattle.clif_replay.proofs.Planning.{destinations-lead, instruction-named, operands-exist, opens-planned, plan-same}
+use Rattle.clif_replay.proofs.Planning.{destinations-lead, instruction-named, operands-exist, opens-planned, plan-same, planned-full}
 use Rattle.clif_replay.proofs.make_instructions.make_instruction.Goals as goal
 
 pub checked-requires : goal.checked-requires
@@ -34,7 +34,7 @@ returns-in_err-inst c =
     let done = c.append.ensures in
     let p = err_from_is_err_and c.from_residual-in_err-inst.result c.from_residual-in_err-inst.ensures.1 in
     made-refused c.args.builder.now c.append.new.builder c.args.answers.now c.append.result c.in_err-inst.field-0.0 p.0 c.from_residual-in_err-inst.result c.in_err-inst.was p.1 p.2 done.loans c.requires.sound done.failed
-    (λ declared calls ready. plan-same calls c.args.builder.now c.args.answers.now ready c.args.plan.now ∙ c.in_ok-planned.ensures.may) (λ full. full-either c.args.builder.now.func.now (done.full full))
+    (λ declared calls ready. plan-same calls c.args.builder.now c.args.answers.now ready c.args.plan.now ∙ c.in_ok-planned.ensures.may) (λ full. planned-full c.args.builder.now c.args.answers.now c.args.plan.now _ _ c.in_ok-planned.ensures.found (done.full full) (λ few. done.full_table few full))
 
 pub returns : goal.returns
 returns c =

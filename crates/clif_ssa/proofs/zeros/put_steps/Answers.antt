@@ -1,6 +1,8 @@
-use Rattle.std.proofs.Common.{arith, ◌^◌, ◌<◌, ◌≤◌, ◌+◌, ◌-◌, length}
+use Rattle.std.proofs.Common.{arith, sym, subst, ◌^◌, ◌<◌, ◌≤◌, ◌+◌, ◌-◌, length}
+use Rattle.std.proofs.lemmas.Result.{err_from_is_err_and}
+use Rattle.clif_ssa.specs.Limits.{IsFull}
 use Rattle.clif_ssa.specs.Zeros.{zero_steps}
-use Rattle.clif_ssa.proofs.PuttingSteps.{row_some, row_none, all_put, place_small, place_stands, step_edges, step_fits, step_more, step_operands}
+use Rattle.clif_ssa.proofs.PuttingSteps.{row_some, row_none, all_put, place_small, place_stands, step_edges, step_fits, full_before, step_full, step_more, step_operands}
 use Rattle.clif_ssa.proofs.zeros.put_steps.Goals as goal
 
 pub insert_inst-requires-clause-place_exists : goal.insert_inst-requires-clause-place_exists
@@ -41,3 +43,11 @@ pub returns-clause-ok : goal.returns-clause-ok
 returns-clause-ok c =
     all_put c.args.func.now c.loop-shape.func c.args.block c.args.ty c.loop-shape.place c.loop-shape.invariant.1 c.loop-shape.invariant.0
     (row_none c.args.ty c.loop-shape.place c.latest_value.result c.zero_step.result c.zero_step.ensures (λ shape t is. c.in_default.not-Some (shape, t) is))
+
+pub returns-in_err-insert_inst-clause-full : goal.returns-in_err-insert_inst-clause-full
+returns-in_err-insert_inst-clause-full c = λ is.
+    let p = err_from_is_err_and c.from_residual.result c.from_residual.ensures.1 in
+    subst IsFull (sym c.in_err-insert_inst.ensures.err)
+    (step_full c.args.func.now c.loop-shape.func c.args.block c.args.ty c.loop-shape.place c.loop-shape.invariant.1 c.in-Some.shape c.in-Some.result
+    (row_some _ _ _ _ _ _ _ c.zero_step.ensures c.in-Some.is c.latest_value.ensures) c.law_consistent.ensures.values_fit
+    (c.in_err-insert_inst.ensures.full (full_before c.from_residual.result c.in_err-insert_inst.field-0.0 p.0 is p.1 p.2)))

@@ -9,7 +9,7 @@ use Rattle.clif_instructions.specs.Instruction.{operands, destinations, result_t
 use Rattle.clif_ir.specs.Whole.{body_of, chain, no_place, placed_at}
 use Rattle.clif_ir.proofs.Inserting.{moved_old}
 use Rattle.clif_ir.proofs.KeepsListed.{listed_results}
-use Rattle.clif_ir.proofs.KeepsInst.{with_inst_consistent, branch-result_types, length-result_types-le, with_inst-unaliased}
+use Rattle.clif_ir.proofs.KeepsInst.{with_inst_consistent, branch-result_types, length-result_types, with_inst-unaliased}
 use Rattle.clif_ir.proofs.KeepsPlaces.{with_inst_placed, with_inst_linked, with_inst_chained, front_fits}
 use Rattle.clif_ir.proofs.KeepsWhole.{whole_with}
 use Rattle.clif_ir.proofs.function.Function.insert_inst.Goals as goal
@@ -21,7 +21,7 @@ invariant_of-self-2 c =
     let chained : chain (length (set c.self.inside.block_places.items c.args.block (placed_at c.args.at (slice_index_or c.self.inside.block_places.items c.args.block no_place)))) (set c.self.inside.block_places.items c.args.block (placed_at c.args.at (slice_index_or c.self.inside.block_places.items c.args.block no_place))) c.self.inside.first_block ≡ (body_of c.self.inside).layout =
     with_inst_chained (body_of c.self.inside) _ _ _ _ c.args.block c.args.at (grind (arith, common_steps)) c.self.invariant.consistent c.self.invariant.placed c.self.invariant.linked in
     whole_with (with_inst (body_of c.self.inside) c.args.block c.args.at c.args.shape (result_types c.args.shape c.args.ctrl_type) c.args.srcloc) _ _ _ (grind (arith, common_steps, chained)) (grind (arith, common_steps)) (grind (arith, common_steps))
-    (with_inst_consistent _ _ _ _ _ _ c.self.invariant.consistent (grind (arith, common_steps)) fits (subst (λ (f : Body). EachIndex (operands c.args.shape) (λ k. slice_index (operands c.args.shape) k < length f.values)) (sym c.self.view_is) c.requires.operands_exist) (subst (λ (f : Body). All (EdgeExists f) (destinations c.args.shape)) (sym c.self.view_is) c.requires.edges_exist) (branch-result_types c.args.shape c.args.ctrl_type) (grind (arith, common_steps)) (grind (arith, common_steps, length-result_types-le c.args.shape c.args.ctrl_type)))
+    (with_inst_consistent _ _ _ _ _ _ c.self.invariant.consistent (grind (arith, common_steps)) fits (subst (λ (f : Body). EachIndex (operands c.args.shape) (λ k. slice_index (operands c.args.shape) k < length f.values)) (sym c.self.view_is) c.requires.operands_exist) (subst (λ (f : Body). All (EdgeExists f) (destinations c.args.shape)) (sym c.self.view_is) c.requires.edges_exist) (branch-result_types c.args.shape c.args.ctrl_type) (grind (arith, common_steps)) (grind (arith, common_steps, length-result_types c.args.shape c.args.ctrl_type)))
     (with_inst_placed (body_of c.self.inside) c.args.block c.args.at c.args.shape (result_types c.args.shape c.args.ctrl_type) c.args.srcloc c.self.inside.inst_slots.items c.self.inside.block_places.items (grind (arith, common_steps)) fits c.self.invariant.consistent c.self.invariant.placed)
     (with_inst_linked (body_of c.self.inside).layout c.self.inside.block_places.items c.self.inside.first_block c.self.inside.last_block c.args.block c.args.at (grind (arith, common_steps)) c.self.invariant.linked)
     (listed_results c.self.inside.values.items _ (length c.self.inside.insts.items) (result_types c.args.shape c.args.ctrl_type) _ (grind (arith, common_steps)) c.self.invariant.listed)

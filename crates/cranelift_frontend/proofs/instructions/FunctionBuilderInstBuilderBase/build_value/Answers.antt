@@ -1,8 +1,9 @@
-use Rattle.std.proofs.Common.{◌≡◌, ◌<◌, ℕ, List, [], ◌∷◌, Ok, length, get_or, arith, ap, sym, subst, ◌∙◌}
+use Rattle.std.proofs.Common.{◌≡◌, ◌<◌, ℕ, List, [], ◌∷◌, Ok, Err, length, get_or, arith, ap, sym, subst, ◌∙◌}
+use Rattle.std.proofs.lemmas.Result.{err_from_is_err_and}
 use Rattle.cranelift_frontend.specs.declared.builder.FunctionBuilder.{FunctionBuilder}
 use Rattle.clif_instructions.specs.Instruction.{result_type_of}
 use Rattle.cranelift_frontend.specs.Built.{BuildsValue}
-use Rattle.cranelift_frontend.proofs.Built.{builds_value}
+use Rattle.cranelift_frontend.proofs.Built.{builds_value, builds_value_refused}
 use Rattle.cranelift_frontend.proofs.Growing.{current_results}
 use Rattle.cranelift_frontend.proofs.Named.{same_builder}
 use Rattle.cranelift_frontend.proofs.instructions.FunctionBuilderInstBuilderBase.build_value.Goals as goal
@@ -33,4 +34,15 @@ returns c =
           subst (λ (b : FunctionBuilder). BuildsValue c.args.self.now b c.args.shape c.args.ctrl_type (Ok value)) (sym (same_builder c.build.new.self _))
           (builds_value c.args.self.now c.build.new.self c.args.shape c.args.ctrl_type c.in_ok-inst.inst value
           c.requires.current c.in_ok-inst.ensures.built c.requires.value.no_branch (c.requires.value.one_result c.args.ctrl_type) c.requires.value.goes_on is here);
+    }
+
+pub returns-in_err-inst : goal.returns-in_err-inst
+returns-in_err-inst c =
+    let p = err_from_is_err_and c.from_residual.result c.from_residual.ensures.1 in
+    record {
+      built =
+          subst (λ (b : FunctionBuilder). BuildsValue c.args.self.now b c.args.shape c.args.ctrl_type c.from_residual.result) (sym (same_builder c.build.new.self _))
+          (subst (BuildsValue c.args.self.now c.build.new.self c.args.shape c.args.ctrl_type) (sym (p.1 ∙ ap Err p.2))
+          (builds_value_refused c.args.self.now c.build.new.self c.args.shape c.args.ctrl_type c.in_err-inst.field-0.0
+          c.requires.value.no_branch (c.requires.value.one_result c.args.ctrl_type) c.in_err-inst.ensures.built));
     }

@@ -1,0 +1,5 @@
+pub mod Pairs
+pub mod Walks
+pub mod Pieces
+pub mod Errors
+pub mod Law

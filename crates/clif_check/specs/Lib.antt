@@ -1,0 +1,2 @@
+pub mod WellTyped
+pub mod Texts
