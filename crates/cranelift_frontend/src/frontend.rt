@@ -259,7 +259,7 @@ impl<'a> FunctionBuilder<'a> {
     ///
     /// A variable is assigned by [`FunctionBuilder::def_var`] and read by [`FunctionBuilder::use_var`], in any
     /// block; the builder finds the values and block parameters that this takes in SSA form. A variable that is
-    /// read before it is assigned is zero. So far its type is one of I8 to I64.
+    /// read before it is assigned is zero. So far its type is an integer, F16, F32, F64 or a vector of these floats.
     pub fn declare_var(&mut self, ty: Type) -> Result<Variable, BuildError>
         requires { IsTrue (is_declarable ty) }
         ensures call { IsCall self.old self.new result }
