@@ -1,6 +1,11 @@
 -- An answer is no error.
 use Rattle.std.proofs.Common.{◌≢◌}
-use Rattle.std.specs.Prelude.{Result, Ok, Err}
+use Rattle.std.specs.Prelude.{Result, Ok, Err, IfOk}
 
 pub answer_no_error : {A E : Type 0} (value : A) (error : E) → ◌≢◌ {A = Result A E} (Ok value) (Err error)
 answer_no_error value error same = let no_way : ⊥ = cc in no_way
+
+-- what follows for a value holds of an answer that is one
+pub if_ok_then : {A E : Type 0} {P Q : A → Type 0} (answer : Result A E) → ((value : A) → P value → Q value) → IfOk answer P → IfOk answer Q
+if_ok_then (Ok value) follows holds = follows value holds
+if_ok_then (Err error) follows holds = tt
