@@ -194,6 +194,13 @@ seal_block-requires-4-clause-unsealed c =
     (open_ended c.in_ok-jump-2.ensures.built (c.builder-34-1.given.1 (sym c.ins-7.ensures.same))
     (header_open_in_body at.After-ins-7 (header_body entry) (body_exit entry) (open_in_header at.After-ins-3 c.in_ok-header.header (header_open entry)))).unsealed
 
+pub seal_block-requires-4-clause-exists : goal.seal_block-requires-4-clause-exists
+seal_block-requires-4-clause-exists c =
+    let at = goal.at.seal_block-requires-4-clause-exists c in
+    let entry = at.After-ins-2 in
+    (open_ended c.in_ok-jump-2.ensures.built (c.builder-34-1.given.1 (sym c.ins-7.ensures.same))
+    (header_open_in_body at.After-ins-7 (header_body entry) (body_exit entry) (open_in_header at.After-ins-3 c.in_ok-header.header (header_open entry)))).exists
+
 -- THE BLOCK `exit` ------------------------------------------------------------------------------------------------------
 
 pub switch_to_block-requires-4-clause-unfilled : goal.switch_to_block-requires-4-clause-unfilled
