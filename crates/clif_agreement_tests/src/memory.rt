@@ -226,3 +226,78 @@ fn sum_of_an_array(rt: HostRuntime) -> Result<(), Fail> {
     let end = End::Returned(vec![in alloc; 327]?);
     text_ends(&rt, alloc, SUM, &[4096], before, end, after)
 }
+
+// A function without operands of its own, whose lines these are behind two stack slots of eight bytes, ends so.
+fn slots_end(
+    rt: &impl Abort,
+    alloc: Global,
+    ty: &str,
+    lines: &str,
+    memories: (Memory, Memory),
+    end: End,
+) -> Result<(), Fail> {
+    let lines = format!(in alloc;
+        "s = create_sized_stack_slot 8 3\nt = create_sized_stack_slot 8 3\n{lines}"
+    )?;
+    lines_end(rt, alloc, ("i64", ty), lines.as_str(), 0, memories, end)
+}
+
+/// A slot keeps what is stored into it, and another one keeps what it held. An address lies in its slot.
+#[test]
+fn stack_slots(rt: HostRuntime) -> Result<(), Fail> {
+    let alloc = rt.alloc();
+    let before = beginning(4096, &[1, 2, 3, 4, 5, 6, 7, 8, 9]);
+    let after = beginning(4096, &[1, 2, 0xd8, 0xff, 5, 6, 7, 8, 9]);
+    for lines in [
+        "x = iconst.i16 -40\nstack_store x s 2\ny = stack_load.i16 s 2\nreturn y",
+        "x = iconst.i16 -40\nstack_store x t -6\ny = stack_load.i16 ss0 +2\nreturn y",
+        "x = iconst.i16 -40\na = stack_addr.i64 s\nstore x a 2\ny = stack_load.i16 s 2\nreturn y",
+        "x = iconst.i16 -40\na = stack_addr.i32 s 2\nstore x a\ny = stack_load.i16 s 2\nreturn y",
+    ] {
+        let end = End::Returned(vec![in alloc; 65496]?);
+        slots_end(&rt, alloc, "i16", lines, (before, after), end)?;
+    }
+    let end = End::Returned(vec![in alloc; 9]?);
+    slots_end(
+        &rt,
+        alloc,
+        "i8",
+        "y = stack_load.i8 t\nreturn y",
+        (before, before),
+        end,
+    )
+}
+
+/// An address has the low bits of its type, and zeros above. It counts modulo the width of pointers.
+#[test]
+fn slot_addresses(rt: HostRuntime) -> Result<(), Fail> {
+    let alloc = rt.alloc();
+    for (ty, place, number) in [
+        ("i64", "t", 4104),
+        ("i64", "s -4096", 0),
+        ("i64", "s -4097", 0xffff_ffff_ffff_ffff),
+        ("i16", "s -4097", 0xffff),
+        ("i8", "t 1", 9),
+        ("i128", "s -4097", 0xffff_ffff_ffff_ffff),
+    ] {
+        let lines = format!(in alloc; "a = stack_addr.{ty} {place}\nreturn a")?;
+        let end = End::Returned(vec![in alloc; number]?);
+        slots_end(&rt, alloc, ty, lines.as_str(), (ZEROS, ZEROS), end)?;
+    }
+    Ok(())
+}
+
+/// A byte that isn't accessible lies in no slot: an access to it traps.
+#[test]
+fn out_of_slots(rt: HostRuntime) -> Result<(), Fail> {
+    let alloc = rt.alloc();
+    for lines in [
+        "x = stack_load.i16 s -1\nreturn x",
+        "x = stack_load.i16 t 23\nreturn x",
+        "x = iconst.i16 -1\nstack_store x s -1\nreturn x",
+    ] {
+        let end = End::Trapped(TrapCode::HeapOutOfBounds);
+        slots_end(&rt, alloc, "i16", lines, (ZEROS, ZEROS), end)?;
+    }
+    Ok(())
+}

@@ -6,6 +6,7 @@ use Rattle.clif_opcodes.specs.declared.opcodes.CondTrapOpcode.TheVariants as con
 use Rattle.clif_opcodes.specs.declared.opcodes.ConvertOpcode.TheVariants as convert
 use Rattle.clif_opcodes.specs.declared.opcodes.FloatConstOpcode.{FloatConstOpcode}
 use Rattle.clif_opcodes.specs.declared.opcodes.FloatConstOpcode.TheVariants as float_const
+use Rattle.clif_opcodes.specs.declared.opcodes.StackOpcode.TheVariants as stack
 use Rattle.clif_opcodes.specs.declared.opcodes.UnaryOpcode.TheVariants as unary
 use Rattle.clif_calls.specs.declared.call.Edge.{Edge}
 use Rattle.clif_calls.specs.declared.call.Name.{Name}
@@ -45,6 +46,9 @@ plan_of (plain.Ineg x) = plan.Unary unary.Ineg x
 plan_of (plain.Bnot x) = plan.Unary unary.Bnot x
 plan_of (plain.Load ty flags p offset) = plan.Load flags ty p offset
 plan_of (plain.Store flags x p offset) = plan.Store flags (x ∷ p ∷ []) offset
+plan_of (plain.StackAddr ty slot offset) = plan.StackLoad stack.StackAddr ty slot offset
+plan_of (plain.StackLoad ty slot offset) = plan.StackLoad stack.StackLoad ty slot offset
+plan_of (plain.StackStore x slot offset) = plan.StackStore x slot offset
 plan_of (plain.Trapz c code) = plan.CondTrap cond_trap.Trapz c code
 plan_of (plain.Trapnz c code) = plan.CondTrap cond_trap.Trapnz c code
 
@@ -65,6 +69,7 @@ operands_in (plan.IntCompare cond args) = args
 operands_in (plan.Ternary args) = args
 operands_in (plan.Load flags ty arg offset) = arg ∷ []
 operands_in (plan.Store flags args offset) = args
+operands_in (plan.StackStore arg slot offset) = arg ∷ []
 operands_in (plan.CondTrap opcode arg code) = arg ∷ []
 operands_in (plan.Brif condition block_then block_else) = condition ∷ []
 operands_in (plan.MultiAry args) = args.now

@@ -1,6 +1,6 @@
 //! The calls of a script, and the names of their answers.
 use clif_records::Variable;
-use clif_types::{IntCC, MemFlagsData, TrapCode, Type};
+use clif_types::{IntCC, MemFlagsData, StackSlot, TrapCode, Type};
 
 /// An answer of an earlier call: which call, and which of its answers.
 ///
@@ -27,8 +27,8 @@ pub struct Edge {
 
 /// An instruction that neither branches nor ends its block, with names in place of values.
 ///
-/// Each variant is the instruction of its name. `Store`, `Trapz` and `Trapnz` have no result, and each other one
-/// has one.
+/// Each variant is the instruction of its name. `Store`, `StackStore`, `Trapz` and `Trapnz` have no result, `Isplit`
+/// has two, and each other one has one. A stack slot is named by its number, and exists.
 #[derive(Clone, Copy)]
 pub enum PlainInstruction {
     /// `iconst.ty imm`, at a type of integers.
@@ -176,6 +176,24 @@ pub enum PlainInstruction {
         p: Name,
         offset: i32,
     },
+    /// `stack_addr.ty slot+offset`, at a type of integers.
+    StackAddr {
+        ty: Type,
+        slot: StackSlot,
+        offset: i32,
+    },
+    /// `stack_load.ty slot+offset`.
+    StackLoad {
+        ty: Type,
+        slot: StackSlot,
+        offset: i32,
+    },
+    /// `stack_store x, slot+offset`.
+    StackStore {
+        x: Name,
+        slot: StackSlot,
+        offset: i32,
+    },
     /// `trapz c, code`, which traps if the operand is zero.
     Trapz {
         c: Name,
@@ -234,8 +252,14 @@ pub enum Call {
     AppendBlockParamsForFunctionReturns {
         block: Name,
     },
-    /// `declare_var(ty)`: answers the variable, which is numbered from 0 on. So far the type is one of I8
-    /// to I64.
+    /// `create_sized_stack_slot(StackSlotData::new(size, align_shift))`: answers the slot, which is numbered from 0 on.
+    /// The alignment is at most 2^31.
+    CreateSizedStackSlot {
+        size: u32,
+        align_shift: u8,
+    },
+    /// `declare_var(ty)`: answers the variable, which is numbered from 0 on. The type is any but F128 and those of vectors
+    /// of integers, so far.
     DeclareVar {
         ty: Type,
     },

@@ -3,8 +3,10 @@ ghost use Rattle.std.specs.Prelude.{◌≡◌, ◌∷◌, ◌≤◌, ◌^◌, []
 ghost use Rattle.clif_calls.specs.Plan.{float_width, plan_of};
 
 use crate::call::{Edge, Name, PlainInstruction};
-use clif_opcodes::{BinaryOpcode, CondTrapOpcode, ConvertOpcode, FloatConstOpcode, UnaryOpcode};
-use clif_types::{IntCC, MemFlagsData, TrapCode, Type};
+use clif_opcodes::{
+    BinaryOpcode, CondTrapOpcode, ConvertOpcode, FloatConstOpcode, StackOpcode, UnaryOpcode,
+};
+use clif_types::{IntCC, MemFlagsData, StackSlot, TrapCode, Type};
 
 /// An instruction by its format: what it does, and the names of its operands and of its edges, in order.
 #[derive(Clone, Copy)]
@@ -63,6 +65,19 @@ pub enum Plan<'a> {
     Store {
         flags: MemFlagsData,
         args: [Name; 2],
+        offset: i32,
+    },
+    /// A place in a stack slot, and the type of its address or of what is loaded from there.
+    StackLoad {
+        opcode: StackOpcode,
+        ty: Type,
+        slot: StackSlot,
+        offset: i32,
+    },
+    /// What is stored, and a place in a stack slot.
+    StackStore {
+        arg: Name,
+        slot: StackSlot,
         offset: i32,
     },
     /// A reason, for which the function ends.
@@ -153,6 +168,19 @@ impl PlainInstruction {
                     offset,
                 }
             }
+            PlainInstruction::StackAddr { ty, slot, offset } => {
+                at_slot(StackOpcode::StackAddr, ty, slot, offset)
+            }
+            PlainInstruction::StackLoad { ty, slot, offset } => {
+                at_slot(StackOpcode::StackLoad, ty, slot, offset)
+            }
+            PlainInstruction::StackStore { x, slot, offset } => {
+                Plan::StackStore {
+                    arg: x,
+                    slot,
+                    offset,
+                }
+            }
             PlainInstruction::Trapz { c, code } => trap_if(CondTrapOpcode::Trapz, c, code),
             PlainInstruction::Trapnz { c, code } => trap_if(CondTrapOpcode::Trapnz, c, code),
         }
@@ -207,6 +235,16 @@ impl PlainInstruction {
         }
     }
 
+    /// The instruction with this opcode at a place in a stack slot, whose result has this type.
+    pub fn stack(opcode: StackOpcode, ty: Type, slot: StackSlot, offset: i32) -> PlainInstruction
+        ensures { plan_of result ≡ Plan.StackLoad opcode ty slot offset }
+    {
+        match opcode {
+            StackOpcode::StackAddr => PlainInstruction::StackAddr { ty, slot, offset },
+            StackOpcode::StackLoad => PlainInstruction::StackLoad { ty, slot, offset },
+        }
+    }
+
     /// The instruction of two operands with this opcode.
     pub fn binary(opcode: BinaryOpcode, x: Name, y: Name) -> PlainInstruction
         ensures { plan_of result ≡ Plan.Binary opcode (x ∷ y ∷ []) }
@@ -257,6 +295,18 @@ fn two(opcode: BinaryOpcode, x: Name, y: Name) -> Plan<'static>
     Plan::Binary {
         opcode,
         args: [x, y],
+    }
+}
+
+// A place in a stack slot, at a type.
+fn at_slot(opcode: StackOpcode, ty: Type, slot: StackSlot, offset: i32) -> Plan<'static>
+    ensures { result ≡ Plan.StackLoad opcode ty slot offset }
+{
+    Plan::StackLoad {
+        opcode,
+        ty,
+        slot,
+        offset,
     }
 }
 

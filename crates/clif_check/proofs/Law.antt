@@ -7,10 +7,11 @@ use Rattle.clif_opcodes.specs.declared.kinds.OperandKind.{OperandKind}
 use Rattle.clif_opcodes.specs.declared.kinds.OtherOperands.{OtherOperands}
 use Rattle.clif_opcodes.specs.declared.kinds.OtherOperands.TheVariants as others
 use Rattle.clif_opcodes.specs.declared.opcodes.FloatConstOpcode.TheVariants as float
+use Rattle.clif_opcodes.specs.declared.opcodes.StackOpcode.TheVariants as stack
 use Rattle.clif_opcodes.specs.Kinds.{is_met}
 use Rattle.clif_opcodes.specs.Typing.{AreOfKinds, FitOperands, Row}
 use Rattle.clif_instructions.specs.declared.instructions.InstructionData.{InstructionData}
-use Rattle.clif_instructions.specs.declared.instructions.InstructionData.TheVariants.{UnaryImm, UnaryIeee, Unary, Binary, IntCompare, Concat, Split, Convert, Ternary, Load, Store, Jump, Brif, MultiAry, Trap, CondTrap}
+use Rattle.clif_instructions.specs.declared.instructions.InstructionData.TheVariants.{UnaryImm, UnaryIeee, Unary, Binary, IntCompare, Concat, Split, Convert, Ternary, Load, Store, StackLoad, StackStore, Jump, Brif, MultiAry, Trap, CondTrap}
 use Rattle.clif_instructions.specs.Instruction.{operands, typing_of}
 use Rattle.clif_ir.specs.declared.function.InstNode.{InstNode}
 use Rattle.clif_ir.specs.Body.{Body, inst_at, block_at}
@@ -35,6 +36,8 @@ same_row (Convert opcode arg) = refl
 same_row (Ternary args) = refl
 same_row (Load flags arg offset) = refl
 same_row (Store flags args offset) = refl
+same_row (StackLoad opcode slot offset) = refl
+same_row (StackStore arg slot offset) = refl
 same_row (Jump destination) = refl
 same_row (Brif arg blocks) = refl
 same_row (MultiAry args) = refl
@@ -62,6 +65,9 @@ returns_alone (Convert opcode arg) is = no_others is
 returns_alone (Ternary args) is = no_others is
 returns_alone (Load flags arg offset) is = no_others is
 returns_alone (Store flags args offset) is = no_others is
+returns_alone (StackLoad stack.StackAddr slot offset) is = no_others is
+returns_alone (StackLoad stack.StackLoad slot offset) is = no_others is
+returns_alone (StackStore arg slot offset) is = no_others is
 returns_alone (Jump destination) is = no_others is
 returns_alone (Brif arg blocks) is = no_others is
 returns_alone (MultiAry args) is = refl

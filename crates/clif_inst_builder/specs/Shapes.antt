@@ -12,9 +12,10 @@ use Rattle.clif_opcodes.specs.declared.opcodes.BinaryOpcode.{BinaryOpcode}
 use Rattle.clif_opcodes.specs.declared.opcodes.CondTrapOpcode.{CondTrapOpcode}
 use Rattle.clif_opcodes.specs.declared.opcodes.FloatConstOpcode.{FloatConstOpcode}
 use Rattle.clif_opcodes.specs.declared.opcodes.ConvertOpcode.{ConvertOpcode}
+use Rattle.clif_opcodes.specs.declared.opcodes.StackOpcode.{StackOpcode}
 use Rattle.clif_opcodes.specs.declared.opcodes.UnaryOpcode.{UnaryOpcode}
 use Rattle.clif_instructions.specs.declared.instructions.InstructionData.{InstructionData}
-use Rattle.clif_instructions.specs.declared.instructions.InstructionData.TheVariants.{UnaryImm, UnaryIeee, Unary, Binary, IntCompare, Concat, Split, Convert, Ternary, Load, Store, Jump, Brif, MultiAry, Trap, CondTrap}
+use Rattle.clif_instructions.specs.declared.instructions.InstructionData.TheVariants.{UnaryImm, UnaryIeee, Unary, Binary, IntCompare, Concat, Split, Convert, Ternary, Load, Store, StackLoad, StackStore, Jump, Brif, MultiAry, Trap, CondTrap}
 use Rattle.clif_instructions.specs.Instruction.{destinations, is_branch, is_terminator, result_count, result_type_of, result_types}
 
 -- an edge to a block that passes these arguments
@@ -67,6 +68,12 @@ load flags address offset = Load flags address offset
 
 abbrev pub store : MemFlagsShape → ℕ → ℕ → ℤ → InstructionData
 store flags x address offset = Store flags (x ∷ address ∷ []) offset
+
+abbrev pub stack : StackOpcode → ℕ → ℤ → InstructionData
+stack opcode slot offset = StackLoad opcode slot offset
+
+abbrev pub stack_store : ℕ → ℕ → ℤ → InstructionData
+stack_store x slot offset = StackStore x slot offset
 
 abbrev pub trap : TrapCode → InstructionData
 trap code = Trap code

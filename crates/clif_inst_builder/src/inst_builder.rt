@@ -1,16 +1,18 @@
 //! The instructions by name, over anything that makes an instruction of any shape: `builder.ins().iadd(x, y)?`.
 ghost use Rattle.std.specs.Prelude.{◌≡◌, ◌∷◌, [], IsTrue, IfOk, OnErr, Err, All};
 ghost use Rattle.clif_types.specs.Types.{is_int, is_type};
-ghost use Rattle.clif_instructions.specs.Instruction.{operands, destinations};
+ghost use Rattle.clif_instructions.specs.Instruction.{ASlot, entries_of, operands, destinations};
 ghost use Rattle.clif_opcodes.specs.Kinds.{is_met};
 ghost use Rattle.clif_opcodes.specs.declared.kinds.Demand.{Demand};
-ghost use Rattle.clif_inst_builder.specs.Shapes.{GivesPair, GivesValue, AfterValue, LikeIsValue, binary, brif_to, concat, cond_trap, convert, edge_to, int_compare, jump, load, multi_ary, split, store, ternary, trap, unary, unary_ieee, unary_imm};
+ghost use Rattle.clif_inst_builder.specs.Shapes.{GivesPair, GivesValue, AfterValue, LikeIsValue, binary, brif_to, concat, cond_trap, convert, edge_to, int_compare, jump, load, multi_ary, split, stack, stack_store, store, ternary, trap, unary, unary_ieee, unary_imm};
 
 use clif_instructions::block_call::{BlockArg, BlockCall};
 use clif_instructions::instructions::InstructionData;
 use clif_instructions::value_list::ValueList;
-use clif_opcodes::{BinaryOpcode, CondTrapOpcode, ConvertOpcode, FloatConstOpcode, UnaryOpcode};
-use clif_types::{Block, BuildError, Inst, IntCC, MemFlagsData, TrapCode, Type, Value};
+use clif_opcodes::{
+    BinaryOpcode, CondTrapOpcode, ConvertOpcode, FloatConstOpcode, StackOpcode, UnaryOpcode,
+};
+use clif_types::{Block, BuildError, Inst, IntCC, MemFlagsData, StackSlot, TrapCode, Type, Value};
 use std::alloc::Global;
 
 /// What makes an instruction of any shape at the end of the current block.
@@ -20,12 +22,16 @@ pub trait InstBuilderBase {
     ghost use Rattle.clif_types.specs.declared.types.«Type».{«Type»};
     ghost use Rattle.clif_instructions.specs.declared.block_call.BlockCall.{BlockCall};
     ghost use Rattle.clif_instructions.specs.declared.instructions.InstructionData.{InstructionData};
+    ghost use Rattle.clif_instructions.specs.Instruction.{EntryRef, ASlot};
 
     // there is a current block, which may get an instruction
     ghost can_build: { Self → Type 0 };
 
     // the function has this value
     ghost has_value: { Self → ℕ → Type 0 };
+
+    // the function has this entry of a table
+    ghost has_entry: { Self → EntryRef → Type 0 };
 
     // an edge may be made: its target exists and isn't sealed, and the function has what it passes
     ghost can_lead: { Self → BlockCall → Type 0 };
@@ -60,12 +66,14 @@ pub trait InstBuilderBase {
         requires current { can_build self.old }
         requires operands_exist { All (has_value self.old) (operands shape) }
         requires edges { All (can_lead self.old) (destinations shape) }
+        requires entries_exist { All (has_entry self.old) (entries_of shape) }
         ensures built { builds self.old self.new shape ctrl_type result };
 
     /// Appends an instruction that has one result and goes on behind it, and returns the result's value.
     fn build_value(&mut self, shape: InstructionData, ctrl_type: Type) -> Result<Value, BuildError>
         requires current { can_build self.old }
         requires operands_exist { All (has_value self.old) (operands shape) }
+        requires entries_exist { All (has_entry self.old) (entries_of shape) }
         requires value { GivesValue shape }
         ensures built { builds_value self.old self.new shape ctrl_type result };
 
@@ -73,6 +81,7 @@ pub trait InstBuilderBase {
     fn build_like(&mut self, shape: InstructionData, like: Value) -> Result<Value, BuildError>
         requires current { can_build self.old }
         requires operands_exist { All (has_value self.old) (operands shape) }
+        requires entries_exist { All (has_entry self.old) (entries_of shape) }
         requires value { GivesValue shape }
         requires like_exists { has_value self.old like }
         ensures built { builds_like self.old self.new shape like result };
@@ -86,6 +95,7 @@ pub trait InstBuilderBase {
     ) -> Result<(Value, Value), BuildError>
         requires current { can_build self.old }
         requires operands_exist { All (has_value self.old) (operands shape) }
+        requires entries_exist { All (has_entry self.old) (entries_of shape) }
         requires pair { GivesPair shape }
         requires like_exists { has_value self.old like }
         ensures built { builds_pair self.old self.new shape like result };
@@ -95,13 +105,16 @@ pub trait InstBuilderBase {
         ensures refused { (shape : InstructionData) (ty : «Type») →
             builds self.old self.new shape ty (Err result) };
 
-    // after a value was built one can build on, with this value and with those that there were before
+    // after a value was built one can build on, with this value, and with the values and slots that there were before
     ghost builds_on: { AfterValue builds_value (λ old new value. can_build new) };
 
     ghost built_exists: { AfterValue builds_value (λ old new value. has_value new value) };
 
     ghost others_exist: { AfterValue builds_value
         (λ old new value. (x : ℕ) → has_value old x → has_value new x) };
+
+    ghost slots_stay: { AfterValue builds_value
+        (λ old new value. (s : ℕ) → has_entry old (ASlot s) → has_entry new (ASlot s)) };
 
     ghost like_is_value: { LikeIsValue builds_like builds_value type_of };
 }
@@ -442,6 +455,61 @@ pub trait InstBuilder: InstBuilderBase {
         self.build(shape, Type::Invalid)
     }
 
+    /// `stack_addr.ty slot+offset`: the address of a stack slot plus `offset`, which counts modulo the width of pointers:
+    /// its low bits, with zeros above them at a wider type.
+    final fn stack_addr(
+        &mut self,
+        ty: Type,
+        slot: StackSlot,
+        offset: i32,
+    ) -> Result<Value, BuildError>
+        requires current { Self.can_build self.old }
+        requires integer { IsTrue (is_int ty) }
+        requires slot_exists { Self.has_entry self.old (ASlot slot) }
+        ensures built { Self.builds_value self.old self.new
+            (stack StackOpcode.StackAddr slot offset) ty result }
+    {
+        self.stack(StackOpcode::StackAddr, ty, slot, offset)
+    }
+
+    /// `stack_load.ty slot+offset`: the value of type `ty` that is in memory at the address of a stack slot plus `offset`.
+    /// It traps with `heap_oob` if a byte isn't accessible; those of the slot are.
+    final fn stack_load(
+        &mut self,
+        ty: Type,
+        slot: StackSlot,
+        offset: i32,
+    ) -> Result<Value, BuildError>
+        requires current { Self.can_build self.old }
+        requires valid { IsTrue (is_type ty) }
+        requires slot_exists { Self.has_entry self.old (ASlot slot) }
+        ensures built { Self.builds_value self.old self.new
+            (stack StackOpcode.StackLoad slot offset) ty result }
+    {
+        self.stack(StackOpcode::StackLoad, ty, slot, offset)
+    }
+
+    /// `stack_store x, slot+offset`: puts `x` into memory at the address of a stack slot plus `offset`, which is taken as in
+    /// [`InstBuilder::stack_load`].
+    final fn stack_store(
+        &mut self,
+        x: Value,
+        slot: StackSlot,
+        offset: i32,
+    ) -> Result<Inst, BuildError>
+        requires current { Self.can_build self.old }
+        requires x_exists { Self.has_value self.old x }
+        requires slot_exists { Self.has_entry self.old (ASlot slot) }
+        ensures built { Self.builds self.old self.new (stack_store x slot offset) Type.Invalid result }
+    {
+        let shape = InstructionData::StackStore {
+            arg: x,
+            slot,
+            offset,
+        };
+        self.build(shape, Type::Invalid)
+    }
+
     /// `trap code`: ends the run with this trap. The current block is filled afterwards.
     final fn trap(&mut self, code: TrapCode) -> Result<Inst, BuildError>
         requires current { Self.can_build self.old }
@@ -563,6 +631,26 @@ pub trait InstBuilder: InstBuilderBase {
     {
         let args = [x, y];
         self.build_like(InstructionData::Binary { opcode, args }, x)
+    }
+
+    /// An instruction that reads a stack slot or its address.
+    final fn stack(
+        &mut self,
+        opcode: StackOpcode,
+        ty: Type,
+        slot: StackSlot,
+        offset: i32,
+    ) -> Result<Value, BuildError>
+        requires current { Self.can_build self.old }
+        requires slot_exists { Self.has_entry self.old (ASlot slot) }
+        ensures built { Self.builds_value self.old self.new (stack opcode slot offset) ty result }
+    {
+        let shape = InstructionData::StackLoad {
+            opcode,
+            slot,
+            offset,
+        };
+        self.build_value(shape, ty)
     }
 
     /// An instruction that traps under a condition.

@@ -10,7 +10,7 @@ use Rattle.clif_opcodes.specs.Typing.{Row, row_of}
 use Rattle.clif_instructions.specs.declared.block_call.BlockCall.{BlockCall}
 use Rattle.clif_instructions.specs.Edges.{appended_to, with_argument_to}
 use Rattle.clif_instructions.specs.declared.instructions.InstructionData.{InstructionData}
-use Rattle.clif_instructions.specs.declared.instructions.InstructionData.TheVariants.{UnaryImm, UnaryIeee, Unary, Binary, IntCompare, Concat, Split, Convert, Ternary, Load, Store, Jump, Brif, MultiAry, Trap, CondTrap}
+use Rattle.clif_instructions.specs.declared.instructions.InstructionData.TheVariants.{UnaryImm, UnaryIeee, Unary, Binary, IntCompare, Concat, Split, Convert, Ternary, Load, Store, StackLoad, StackStore, Jump, Brif, MultiAry, Trap, CondTrap}
 
 -- the operands, as they are printed
 abbrev pub operands : InstructionData → List ℕ
@@ -25,6 +25,8 @@ operands (Convert opcode arg) = arg ∷ []
 operands (Ternary args) = args
 operands (Load flags arg offset) = arg ∷ []
 operands (Store flags args offset) = args
+operands (StackLoad opcode slot offset) = []
+operands (StackStore arg slot offset) = arg ∷ []
 operands (Jump destination) = []
 operands (Brif arg blocks) = arg ∷ []
 operands (MultiAry args) = args
@@ -62,6 +64,8 @@ opcode_of (Convert name arg) = opcode.Convert name
 opcode_of (Ternary args) = opcode.Select
 opcode_of (Load flags arg offset) = opcode.Load
 opcode_of (Store flags args offset) = opcode.Store
+opcode_of (StackLoad name slot offset) = opcode.Stack name
+opcode_of (StackStore arg slot offset) = opcode.StackStore
 opcode_of (Jump destination) = opcode.Jump
 opcode_of (Brif arg blocks) = opcode.Brif
 opcode_of (MultiAry args) = opcode.Return
@@ -91,3 +95,13 @@ result_types shape ty = map (result_type ty) (typing_of shape).results
 -- the type of the first result; the invalid type where there is none
 abbrev pub result_type_of : InstructionData → «Type» → «Type»
 result_type_of shape ty = slice_index_or (result_types shape ty) 0 Invalid
+
+-- an entry of a table of the function, by its number there
+pub data EntryRef : Type 0 where
+  ASlot : (number : ℕ) → EntryRef
+
+-- the entries of tables that it names
+abbrev pub entries_of : InstructionData → List EntryRef
+entries_of (StackLoad opcode slot offset) = ASlot slot ∷ []
+entries_of (StackStore arg slot offset) = ASlot slot ∷ []
+entries_of _ = []

@@ -7,10 +7,10 @@ use crate::block_call::{BlockCall, append_to_edge, append_to_edges};
 use crate::value_list::ValueList;
 use clif_opcodes::{
     BinaryOpcode, CondTrapOpcode, Control, ConvertOpcode, FloatConstOpcode, Opcode, ResultKind,
-    UnaryOpcode,
+    StackOpcode, UnaryOpcode,
 };
 use clif_types::types::{F16, F32, F64, I8};
-use clif_types::{Block, BuildError, IntCC, MemFlagsData, TrapCode, Value};
+use clif_types::{Block, BuildError, IntCC, MemFlagsData, StackSlot, TrapCode, Value};
 use std::slice;
 
 /// An instruction without its results and its place: what it does, and with which operands.
@@ -71,6 +71,18 @@ pub enum InstructionData {
         args: [Value; 2],
         offset: i32,
     },
+    /// `stack_addr.T slot+offset`: where a stack slot is, and `stack_load.T slot+offset`: what is in memory there.
+    StackLoad {
+        opcode: StackOpcode,
+        slot: StackSlot,
+        offset: i32,
+    },
+    /// `stack_store x, slot+offset`: puts `x` into memory where a stack slot is.
+    StackStore {
+        arg: Value,
+        slot: StackSlot,
+        offset: i32,
+    },
     /// `jump block(x, ..)`: goes along its one edge.
     Jump {
         destination: BlockCall,
@@ -105,6 +117,7 @@ impl InstructionData {
         match self {
             InstructionData::UnaryImm { .. }
             | InstructionData::UnaryIeee { .. }
+            | InstructionData::StackLoad { .. }
             | InstructionData::Jump { .. }
             | InstructionData::Trap { .. } => &[],
             InstructionData::Unary { arg, .. } => slice::from_ref(arg),
@@ -116,6 +129,7 @@ impl InstructionData {
             InstructionData::Ternary { args } => args,
             InstructionData::Load { arg, .. } => slice::from_ref(arg),
             InstructionData::Store { args, .. } => args,
+            InstructionData::StackStore { arg, .. } => slice::from_ref(arg),
             InstructionData::Brif { arg, .. } => slice::from_ref(arg),
             InstructionData::MultiAry { args } => args.as_slice(),
             InstructionData::CondTrap { arg, .. } => slice::from_ref(arg),
@@ -163,6 +177,8 @@ impl InstructionData {
             InstructionData::Ternary { .. } => Opcode::Select,
             InstructionData::Load { .. } => Opcode::Load,
             InstructionData::Store { .. } => Opcode::Store,
+            InstructionData::StackLoad { opcode, .. } => Opcode::Stack(*opcode),
+            InstructionData::StackStore { .. } => Opcode::StackStore,
             InstructionData::Jump { .. } => Opcode::Jump,
             InstructionData::Brif { .. } => Opcode::Brif,
             InstructionData::MultiAry { .. } => Opcode::Return,
@@ -185,8 +201,10 @@ impl InstructionData {
             | InstructionData::Binary { .. }
             | InstructionData::Convert { .. }
             | InstructionData::Ternary { .. }
-            | InstructionData::Load { .. } => &[ResultKind::Controlling],
+            | InstructionData::Load { .. }
+            | InstructionData::StackLoad { .. } => &[ResultKind::Controlling],
             InstructionData::Store { .. }
+            | InstructionData::StackStore { .. }
             | InstructionData::Jump { .. }
             | InstructionData::Brif { .. }
             | InstructionData::MultiAry { .. }

@@ -85,6 +85,7 @@ with_alias_consistent f v original b known exists is_param there apart =
           (resolved-no_alias f.values original known.aliases_end there) apart refl known.aliases_end;
       edges_without_results = known.edges_without_results;
       signatures_exist = known.signatures_exist;
+      entries_exist = known.entries_exist;
     }
 
 pub with_alias_placed : (f : Body) (v original b : ℕ) (slots : List ℕ) (places : List BlockPlace) → IsConsistent f → v < length f.values → (value_at f v).origin ≡ Param b

@@ -44,4 +44,5 @@ with_block_consistent f known room =
       aliases_end = known.aliases_end;
       edges_without_results = known.edges_without_results;
       signatures_exist = known.signatures_exist;
+      entries_exist = known.entries_exist;
     }

@@ -11,10 +11,10 @@ use Rattle.clif_ir.specs.declared.function.ValueOrigin.TheVariants.{Result}
 use Rattle.clif_instructions.specs.declared.instructions.InstructionData.{InstructionData}
 use Rattle.clif_instructions.specs.declared.instructions.InstructionData.TheVariants.{Jump, Brif}
 use Rattle.clif_instructions.specs.Edges.{appended_to, with_argument_to}
-use Rattle.clif_instructions.specs.Instruction.{operands, destinations, with_argument}
+use Rattle.clif_instructions.specs.Instruction.{entries_of, operands, destinations, with_argument}
 use Rattle.clif_ir.specs.Body.{Body, inst_at, value_at, block_at, no_inst}
 use Rattle.clif_ir.specs.Changes.{with_branch_argument}
-use Rattle.clif_ir.specs.Consistent.{IsConsistent, PassedExists, EdgeExists}
+use Rattle.clif_ir.specs.Consistent.{IsConsistent, PassedExists, EdgeExists, EntryExists}
 use Rattle.clif_instructions.specs.Members.{Stands}
 use Rattle.clif_ir.specs.Whole.{IsPlaced}
 use Rattle.clif_instructions.proofs.Lists.{at_set}
@@ -29,6 +29,11 @@ pub destinations-with_argument : (b v : ℕ) (shape : InstructionData) → desti
 destinations-with_argument b v (Jump destination) = refl
 destinations-with_argument b v (Brif arg blocks) = refl
 destinations-with_argument b v _ = refl
+
+entries-with_argument : (b v : ℕ) (shape : InstructionData) → entries_of (with_argument b v shape) ≡ entries_of shape
+entries-with_argument b v (Jump destination) = refl
+entries-with_argument b v (Brif arg blocks) = refl
+entries-with_argument b v _ = refl
 
 -- an edge that passes an existing value more names what exists, by whether it goes to the block
 appended-exists-by : (f : Body) (b v : ℕ) (edge : BlockCall) → v < length f.values → EdgeExists f edge → (test : Bool) → (edge.block == b) ≡ test
@@ -87,6 +92,10 @@ with_branch_argument_consistent f i b v known exists inside =
       layout_once = known.layout_once;
       aliases_end = known.aliases_end;
       signatures_exist = known.signatures_exist;
+      entries_exist = λ j.
+          at_set (λ (m : InstNode). All (EntryExists f.tables) (entries_of m.shape)) f.insts i node j no_inst exists
+          (λ _. subst (All (EntryExists f.tables)) (sym (entries-with_argument b v shape)) (known.entries_exist i))
+          (λ _. known.entries_exist j);
       edges_without_results = λ j.
           at_set (λ (m : InstNode). destinations m.shape ≢ [] → m.results ≡ []) f.insts i node j no_inst exists
           (λ _ branch. known.edges_without_results i (λ none. branch (destinations-with_argument b v shape ∙ ap (with_argument_to b v) none)))

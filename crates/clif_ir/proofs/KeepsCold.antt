@@ -51,6 +51,7 @@ with_cold_consistent f b known exists =
       aliases_end = known.aliases_end;
       edges_without_results = known.edges_without_results;
       signatures_exist = known.signatures_exist;
+      entries_exist = known.entries_exist;
     }
 
 pub with_cold_placed : (f : Body) (b : ℕ) (slots : List ℕ) (places : List BlockPlace) → b < length f.blocks → IsPlaced f slots places → IsPlaced (with_cold f b) slots places

@@ -14,11 +14,11 @@ use Rattle.clif_ir.specs.declared.function.ValueOrigin.TheVariants.{Result, Para
 use Rattle.clif_instructions.specs.declared.inst_list.InsertAt.{InsertAt}
 use Rattle.clif_instructions.specs.declared.instructions.InstructionData.{InstructionData}
 use Rattle.clif_instructions.specs.declared.instructions.InstructionData.TheVariants.{Jump, Brif}
-use Rattle.clif_instructions.specs.Instruction.{operands, destinations, result_count, result_types}
+use Rattle.clif_instructions.specs.Instruction.{entries_of, operands, destinations, result_count, result_types}
 use Rattle.clif_ir.specs.Body.{Body, value_at, inst_at, block_at, empty_block, no_value, no_inst, alias_of_origin, resolved}
 use Rattle.clif_instructions.specs.Members.{IsPlaceOf, put_at, Stands, Once}
 use Rattle.clif_ir.specs.Changes.{with_inst, inst_node, result_nodes}
-use Rattle.clif_ir.specs.Consistent.{IsConsistent, IsOrigin, EdgeExists, alias_count}
+use Rattle.clif_ir.specs.Consistent.{IsConsistent, IsOrigin, EdgeExists, EntryExists, alias_count}
 use Rattle.clif_instructions.proofs.Lists.{at_push, at_set, at_append}
 use Rattle.clif_ir.proofs.Keeps.{larger_edges, leads_inside, larger_origin}
 use Rattle.clif_ir.proofs.Inserting.{put_at-each, put_at-Stands, put_at-stands, put_at-Once}
@@ -59,9 +59,9 @@ alias_of-result_nodes i k (ty ∷ types) (suc j) = alias_of-result_nodes i (k + 
 
 pub with_inst_consistent : (f : Body) (b : ℕ) (at : InsertAt) (shape : InstructionData) (types : List «Type») (loc : ℕ)
     → IsConsistent f → b < length f.blocks → IsPlaceOf at (length (block_at f b).insts) → EachIndex (operands shape) (λ k. slice_index (operands shape) k < length f.values)
-    → All (EdgeExists f) (destinations shape) → (destinations shape ≢ [] → types ≡ []) → length f.insts < 2 ^ 32 - 1 → length f.values + length types < 2 ^ 32
+    → All (EdgeExists f) (destinations shape) → All (EntryExists f.tables) (entries_of shape) → (destinations shape ≢ [] → types ≡ []) → length f.insts < 2 ^ 32 - 1 → length f.values + length types < 2 ^ 32
     → IsConsistent (with_inst f b at shape types loc)
-with_inst_consistent f b at shape types loc known exists fits operands_exist edges_exist without_results inst_room value_room =
+with_inst_consistent f b at shape types loc known exists fits operands_exist edges_exist entries_exist without_results inst_room value_room =
     let g : Body = with_inst f b at shape types loc in
     let n : ℕ = length f.values in
     let i0 : ℕ = length f.insts in
@@ -150,6 +150,11 @@ with_inst_consistent f b at shape types loc known exists fits operands_exist edg
       aliases_end = ways_end-append f.values nodes (leads_inside f known) (alias_count-result_nodes i0 0 types)
           (λ v behind. ap (λ (m : ValueNode). alias_of_origin m.origin) (get_or-append_right f.values nodes v no_value behind) ∙ alias_of-result_nodes i0 0 types (v - n)) known.aliases_end;
       signatures_exist = known.signatures_exist;
+      entries_exist = λ i.
+          at_push (λ m. All (EntryExists f.tables) (entries_of m.shape)) f.insts node i no_inst
+          (λ _. known.entries_exist i)
+          (λ _. entries_exist)
+          (λ _ k d inside. absurd (omega (arith, inside)));
       edges_without_results = λ i.
           at_push (λ m. destinations m.shape ≢ [] → m.results ≡ []) f.insts node i no_inst
           (λ _. known.edges_without_results i)

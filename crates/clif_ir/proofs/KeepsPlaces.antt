@@ -127,6 +127,7 @@ with_order_consistent f layout known exist once = record {
   aliases_end = known.aliases_end;
   edges_without_results = known.edges_without_results;
   signatures_exist = known.signatures_exist;
+  entries_exist = known.entries_exist;
 }
 
 -- the links of some blocks are changed

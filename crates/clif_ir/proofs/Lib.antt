@@ -15,3 +15,4 @@ pub mod Orders
 pub mod Links
 pub mod Linking
 pub mod KeepsWhole
+pub mod KeepsTables

@@ -2,6 +2,7 @@
 -- Source: own, after the crate's documentation of its data flow graph and its layout.
 use Rattle.std.specs.Prelude.{◌≡◌, ◌≢◌, ℕ, ◌<◌, ◌^◌, List, [], length, slice_index, None, is_some, count_by, All}
 use Rattle.clif_tables.specs.Entries.{SignaturesExist}
+use Rattle.clif_tables.specs.Lists.{TableLists}
 use Rattle.clif_ir.specs.declared.function.ValueOrigin.{ValueOrigin}
 use Rattle.clif_ir.specs.declared.function.ValueOrigin.TheVariants.{Result, Param, Alias}
 use Rattle.clif_ir.specs.declared.function.ValueNode.{ValueNode}
@@ -9,7 +10,7 @@ use Rattle.clif_ir.specs.Body.{Body, value_at, inst_at, block_at, alias_of, alia
 use Rattle.clif_instructions.specs.declared.block_call.BlockCall.{BlockCall}
 use Rattle.clif_instructions.specs.declared.block_call.BlockArg.{BlockArg}
 use Rattle.clif_instructions.specs.declared.block_call.BlockArg.TheVariants as arg
-use Rattle.clif_instructions.specs.Instruction.{operands, destinations}
+use Rattle.clif_instructions.specs.Instruction.{EntryRef, ASlot, entries_of, operands, destinations}
 use Rattle.clif_instructions.specs.Members.{Stands, Once}
 
 -- where value `v` comes from exists and knows `v`
@@ -32,6 +33,10 @@ PassedExists f (arg.TryCallExn k) = Unit {0}
 abbrev pub EdgeExists : Body → BlockCall → Type 0
 EdgeExists f edge = (edge.block < length f.blocks) × All (PassedExists f) edge.args
 
+-- an entry that an instruction names exists
+abbrev pub EntryExists : TableLists → EntryRef → Type 0
+EntryExists tables (ASlot number) = number < length tables.stack_slots
+
 pub record IsConsistent (f : Body) : Type 0 where
   -- no table has more than 2^32 - 1 entries
   pub values_fit : length f.values < 2 ^ 32
@@ -42,6 +47,7 @@ pub record IsConsistent (f : Body) : Type 0 where
   pub operands_exist : (i k : ℕ) → k < length (operands (inst_at f i).shape)
       → slice_index (operands (inst_at f i).shape) k < length f.values
   pub edges_exist : (i : ℕ) → All (EdgeExists f) (destinations (inst_at f i).shape)
+  pub entries_exist : (i : ℕ) → All (EntryExists f.tables) (entries_of (inst_at f i).shape)
   -- results and parameters know their place
   pub results_known : (i k : ℕ) → k < length (inst_at f i).results
       → (slice_index (inst_at f i).results k < length f.values)

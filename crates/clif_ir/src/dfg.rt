@@ -7,8 +7,8 @@ ghost use Rattle.std.specs.Prelude.{◌≡◌, ◌≢◌, [], ◌∷◌, ◌++�
 ghost use Rattle.clif_opcodes.specs.Kinds.{result_type};
 ghost use Rattle.clif_ir.specs.Body.{Body, value_at, block_at, empty_block, resolved};
 ghost use Rattle.clif_instructions.specs.Members.{Stands, IsPlaceOf, put_at};
-ghost use Rattle.clif_ir.specs.Consistent.{EdgeExists};
-ghost use Rattle.clif_instructions.specs.Instruction.{operands, destinations, has_result, result_count, result_types};
+ghost use Rattle.clif_ir.specs.Consistent.{EdgeExists, EntryExists};
+ghost use Rattle.clif_instructions.specs.Instruction.{entries_of, operands, destinations, has_result, result_count, result_types};
 ghost use Rattle.clif_ir.specs.Whole.{lowered, moved_count, next_slot, placed_at};
 ghost use Rattle.clif_ir.specs.Changes.{HasNoRoom, with_block, with_param, with_inst, with_branch_argument, with_alias, home_of, result_nodes};
 ghost use Rattle.std.specs.List.{range_with_len};
@@ -265,6 +265,7 @@ impl Function {
         requires place_exists { IsPlaceOf at (length (block_at self.old block).insts) }
         requires operands_exist { EachIndex (operands shape) (λ k. slice_index (operands shape) k < length self.old.values) }
         requires edges_exist { All (EdgeExists self.old) (destinations shape) }
+        requires entries_exist { All (EntryExists self.old.tables) (entries_of shape) }
         ensures ok { OnOk result (self.new ≡
             with_inst self.old block at shape (result_types shape ctrl_type) srcloc) }
         ensures number { IfOk result (λ i. i ≡ length self.old.insts) }

@@ -3,17 +3,20 @@
 //!
 //! Each call that makes an entry gives it the next number of its table. Its errors are `Memory`, and `Full`
 //! exactly where the table holds 2^32 - 1 entries; the function is then as it was.
-ghost use Rattle.std.specs.Prelude.{◌≡◌, ◌<◌, length};
+ghost use Rattle.std.specs.Prelude.{◌≡◌, ◌<◌, ◌↔◌, length, All, IsTrue};
 ghost use Rattle.clif_tables.specs.Entries.{AStackSlot, ADynamicStackSlot, AGlobalValue, ASignature, AFunction};
 ghost use Rattle.clif_tables.specs.Lists.{with_constant};
 ghost use Rattle.clif_tables.specs.Makes.{Pools};
+ghost use Rattle.clif_instructions.specs.Instruction.{entries_of};
 ghost use Rattle.clif_ir.specs.Changes.{with_tables};
+ghost use Rattle.clif_ir.specs.Consistent.{EntryExists};
 ghost use Rattle.clif_ir.specs.Entries.{MakesIn};
 
 use crate::function::Function;
+use clif_instructions::instructions::InstructionData;
 use clif_tables::Tables;
 use clif_types::{
-    BuildError, Constant, DynamicStackSlot, DynamicStackSlotData, ExtFuncData, FuncRef,
+    BuildError, Constant, DynamicStackSlot, DynamicStackSlotData, EntityRef, ExtFuncData, FuncRef,
     GlobalValue, GlobalValueData, SigRef, Signature, StackSlot, StackSlotData,
 };
 
@@ -23,6 +26,18 @@ impl Function {
         ensures { result.now ≡ self.now.tables }
     {
         &self.tables
+    }
+
+    /// Whether the entries of tables exist that an instruction of this shape names.
+    pub fn has_entries(&self, shape: &InstructionData) -> bool
+        ensures { IsTrue result ↔ All (EntryExists self.now.tables) (entries_of shape.now) }
+    {
+        match shape {
+            InstructionData::StackLoad { slot, .. } | InstructionData::StackStore { slot, .. } => {
+                slot.index() < self.tables.stack_slot_count()
+            }
+            _ => true,
+        }
     }
 
     /// Makes a stack slot.

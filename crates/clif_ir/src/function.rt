@@ -81,7 +81,6 @@ pub(crate) struct BlockPlace {
 /// an alias of it, in order. An instruction at place `k` of a block into which `n` instructions were put
 /// elsewhere than at its back has the slot 2^32 + `k` - `n`, so that only those before a new one change
 /// their slots, and none does as instructions are put at either end.
-#[derive(Drop)]
 pub struct Function {
     pub(crate) alloc: Global,
     pub(crate) name: UserFuncName,
@@ -107,6 +106,26 @@ impl Model for Function {
     ghost view = { body_of };
 
     ghost invariant = { IsWhole };
+}
+
+// Written by hand, so that whoever drops a function meets one call and not the fields.
+impl Drop for Function {
+    fn drop(self) {
+        let Function {
+            alloc: _,
+            name: _,
+            signature: _,
+            values: _,
+            insts: _,
+            blocks: _,
+            first_block: _,
+            last_block: _,
+            inst_slots: _,
+            block_places: _,
+            aliases: _,
+            tables: _,
+        } = self;
+    }
 }
 
 impl Function {

@@ -16,7 +16,7 @@ use clif_instructions::block_call::{BlockArg, BlockCall};
 use clif_instructions::immediates::{FloatBits, Imm64, Offset32, signed_at};
 use clif_instructions::instructions::InstructionData;
 use clif_opcodes::{Control, FloatConstOpcode};
-use clif_types::{Block, EntityRef, Inst, Type, Value};
+use clif_types::{Block, EntityRef, Inst, StackSlot, Type, Value};
 use std::fmt;
 use std::fmt::Display;
 
@@ -159,6 +159,8 @@ fn write_operation<W: fmt::Write>(
     match shape {
         InstructionData::Load { offset, .. } => write_offset(f, *offset),
         InstructionData::Store { offset, .. } => write_offset(f, *offset),
+        InstructionData::StackLoad { slot, offset, .. } => write_place(f, " ", *slot, *offset),
+        InstructionData::StackStore { slot, offset, .. } => write_place(f, ", ", *slot, *offset),
         InstructionData::Trap { code } => write!(f, " {code}"),
         InstructionData::CondTrap { code, .. } => write!(f, ", {code}"),
         _ => Ok(()),
@@ -167,6 +169,17 @@ fn write_operation<W: fmt::Write>(
 
 fn float_bits(opcode: FloatConstOpcode, bits: u64) -> FloatBits {
     FloatBits { opcode, bits }
+}
+
+// A place from a stack slot on.
+fn write_place<W: fmt::Write>(
+    f: &mut fmt::Formatter<W>,
+    separator: &str,
+    slot: StackSlot,
+    offset: i32,
+) -> fmt::Result {
+    write!(f, "{separator}{slot}")?;
+    write_offset(f, offset)
 }
 
 fn write_offset<W: fmt::Write>(f: &mut fmt::Formatter<W>, offset: i32) -> fmt::Result {

@@ -2,9 +2,11 @@
 #![tactic(auto)]
 
 use crate::facts::Fact::{HasType, ResultAt};
-use crate::instructions::Plain::{Concat, CondTrap, Float, Icmp, Load, Split, Store, Trap};
+use crate::instructions::Plain::{
+    Concat, CondTrap, Float, Icmp, Load, Split, Stack, StackStore, Store, Trap,
+};
 use crate::steps::Step::{
-    Binary, Convert, Create, Iconst, Is, Jump, LayOut, Param, Put, Return, ReturnFour,
+    Binary, Convert, Create, Iconst, Is, Jump, LayOut, Param, Put, Return, ReturnFour, Slot,
 };
 use crate::steps::makes;
 use clif_instructions::inst_list::InsertAt::Back;
@@ -12,6 +14,7 @@ use clif_opcodes::BinaryOpcode::Isub;
 use clif_opcodes::CondTrapOpcode::{Trapnz, Trapz};
 use clif_opcodes::ConvertOpcode::{Sextend, Splat};
 use clif_opcodes::FloatConstOpcode::{F16const, F32const, F64const};
+use clif_opcodes::StackOpcode::{StackAddr, StackLoad};
 use clif_types::IntCC::{
     Equal, NotEqual, SignedGreaterThan, SignedGreaterThanOrEqual, SignedLessThan,
     SignedLessThanOrEqual, UnsignedGreaterThan, UnsignedGreaterThanOrEqual, UnsignedLessThan,
@@ -221,6 +224,36 @@ fn stores(rt: HostRuntime) -> Result<(), Fail> {
     ];
     let text =
         "function %sample() system_v {\nblock0(v0: i64):\n    v1 = iconst.i16 0xffff_ffff_ffff_abab\n    store aligned v1, v0  ; v1 = 0xffff_ffff_ffff_abab\n    store aligned v1, v0+2  ; v1 = 0xffff_ffff_ffff_abab\n    store aligned v1, v0+4  ; v1 = 0xffff_ffff_ffff_abab\n    store notrap aligned region1 v0, v0-0x8000_0000\n\nblock1:\n    store.i16 notrap aligned v1, v0-8  ; v1 = 0xffff_ffff_ffff_abab\n    v2 = iconst.i8 0\n    store v2, v0  ; v2 = 0\n    return\n}\n";
+    makes(&rt, rt.alloc(), &steps, text)
+}
+
+// Slots stand in the preamble. The type of what is stored is printed where that is defined elsewhere.
+#[test]
+fn stack_slots(rt: HostRuntime) -> Result<(), Fail> {
+    let steps = [
+        Slot(4, 2),
+        Slot(8, 0),
+        Create,
+        Create,
+        LayOut(0),
+        LayOut(1),
+        Iconst(0, Back, I32, 0),
+        Put(0, I64, Stack(StackAddr, 0, 0)),
+        Put(0, INVALID, Store(MemFlagsData::trusted(), 0, 1, 0)),
+        Put(0, I32, Stack(StackLoad, 0, 0)),
+        Put(0, INVALID, StackStore(2, 1, 4)),
+        Jump(0, 1),
+        Put(1, INVALID, StackStore(0, 1, -4)),
+        Put(1, I8, Stack(StackLoad, 1, 7)),
+        Put(1, I128, Stack(StackAddr, 1, -0x1_0000)),
+        Put(1, INVALID, StackStore(3, 1, 7)),
+        Return(1),
+        Is(HasType(1, I64)),
+        Is(HasType(2, I32)),
+        Is(ResultAt(4, 0, None)),
+    ];
+    let text =
+        "function %sample() system_v {\n    ss0 = explicit_slot 4, align = 4\n    ss1 = explicit_slot 8\n\nblock0:\n    v0 = iconst.i32 0\n    v1 = stack_addr.i64 ss0\n    store notrap aligned v0, v1  ; v0 = 0\n    v2 = stack_load.i32 ss0\n    stack_store v2, ss1+4\n    jump block1\n\nblock1:\n    stack_store.i32 v0, ss1-4  ; v0 = 0\n    v3 = stack_load.i8 ss1+7\n    v4 = stack_addr.i128 ss1-0x0001_0000\n    stack_store v3, ss1+7\n    return\n}\n";
     makes(&rt, rt.alloc(), &steps, text)
 }
 

@@ -3,8 +3,8 @@
 
 use crate::support::v;
 use clif_instructions::instructions::InstructionData;
-use clif_opcodes::{CondTrapOpcode, FloatConstOpcode};
-use clif_types::{IntCC, MemFlagsData, TrapCode};
+use clif_opcodes::{CondTrapOpcode, FloatConstOpcode, StackOpcode};
+use clif_types::{EntityRef, IntCC, MemFlagsData, StackSlot, TrapCode};
 use std::process::Abort;
 
 /// An instruction.
@@ -22,6 +22,10 @@ pub enum Plain {
     Load(MemFlagsData, u32, i32),
     /// A store of a value, to an address and a distance from it.
     Store(MemFlagsData, u32, u32, i32),
+    /// The address of a stack slot, or a load from it, at a distance.
+    Stack(StackOpcode, u32, i32),
+    /// A store of a value into a stack slot, at a distance.
+    StackStore(u32, u32, i32),
     /// A trap.
     Trap(TrapCode),
     /// A trap under a condition on a value.
@@ -50,6 +54,16 @@ pub fn shape_of(rt: &impl Abort, plain: Plain) -> InstructionData {
             args: [v(rt, x), v(rt, p)],
             offset,
         },
+        Plain::Stack(opcode, slot, offset) => InstructionData::StackLoad {
+            opcode,
+            slot: slot_of(rt, slot),
+            offset,
+        },
+        Plain::StackStore(x, slot, offset) => InstructionData::StackStore {
+            arg: v(rt, x),
+            slot: slot_of(rt, slot),
+            offset,
+        },
         Plain::Trap(code) => InstructionData::Trap { code },
         Plain::CondTrap(opcode, x, code) => InstructionData::CondTrap {
             opcode,
@@ -57,4 +71,10 @@ pub fn shape_of(rt: &impl Abort, plain: Plain) -> InstructionData {
             code,
         },
     }
+}
+
+// The stack slot with this number.
+fn slot_of(rt: &impl Abort, number: u32) -> StackSlot {
+    assert!(rt; number < 0xffff_ffff);
+    StackSlot::from_u32(number)
 }

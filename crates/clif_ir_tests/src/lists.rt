@@ -1,7 +1,9 @@
 //! Lists of values and of instructions.
 #![tactic(auto)]
 
-use crate::instructions::Plain::{Concat, CondTrap, Float, Icmp, Load, Split, Store, Trap};
+use crate::instructions::Plain::{
+    Concat, CondTrap, Float, Icmp, Load, Split, Stack, StackStore, Store, Trap,
+};
 use crate::instructions::{Plain, shape_of};
 use crate::support::{i, is_place_of, v};
 use clif_instructions::inst_list::{InsertAt, InstList};
@@ -10,6 +12,7 @@ use clif_instructions::value_list::ValueList;
 use clif_opcodes::CondTrapOpcode::{Trapnz, Trapz};
 use clif_opcodes::FloatConstOpcode::{F16const, F32const, F64const};
 use clif_opcodes::ResultKind::{Controlling, Double, Exactly, Half};
+use clif_opcodes::StackOpcode::{StackAddr, StackLoad};
 use clif_opcodes::{BinaryOpcode, ResultKind};
 use clif_types::types::{F16, F32, F64, I8};
 use clif_types::{EntityRef, IntCC, MemFlagsData, TrapCode, Value};
@@ -127,7 +130,7 @@ type Row = (
 fn plain_shapes(rt: HostRuntime) -> Result<(), Fail> {
     let flags = MemFlagsData::new();
     let code = TrapCode::User(1);
-    let rows: [Row; 11] = [
+    let rows: [Row; 14] = [
         (Float(F16const, 1), "f16const", &[], &[Exactly(F16)], false),
         (Float(F32const, 1), "f32const", &[], &[Exactly(F32)], false),
         (Float(F64const, 1), "f64const", &[], &[Exactly(F64)], false),
@@ -142,6 +145,21 @@ fn plain_shapes(rt: HostRuntime) -> Result<(), Fail> {
         (Split(1), "isplit", &[1], &[Half, Half], false),
         (Load(flags, 1, 4), "load", &[1], &[Controlling], false),
         (Store(flags, 1, 2, 4), "store", &[1, 2], &[], false),
+        (
+            Stack(StackAddr, 0, 4),
+            "stack_addr",
+            &[],
+            &[Controlling],
+            false,
+        ),
+        (
+            Stack(StackLoad, 0, 4),
+            "stack_load",
+            &[],
+            &[Controlling],
+            false,
+        ),
+        (StackStore(1, 0, 4), "stack_store", &[1], &[], false),
         (Trap(code), "trap", &[], &[], true),
         (CondTrap(Trapz, 1, code), "trapz", &[1], &[], false),
         (CondTrap(Trapnz, 1, code), "trapnz", &[1], &[], false),

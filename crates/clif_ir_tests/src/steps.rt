@@ -13,7 +13,7 @@ use clif_instructions::instructions::InstructionData;
 use clif_instructions::value_list::ValueList;
 use clif_ir::function::Function;
 use clif_opcodes::{BinaryOpcode, ConvertOpcode, UnaryOpcode};
-use clif_types::{SourceLoc, Type, Value};
+use clif_types::{SourceLoc, StackSlotData, Type, Value};
 use std::alloc::Global;
 use std::process::Abort;
 use std::test::Fail;
@@ -31,6 +31,8 @@ pub enum Step {
     Ensure(u32),
     /// Marks a block as cold.
     Cold(u32),
+    /// Makes a stack slot of a size and the shift of an alignment.
+    Slot(u32, u8),
     /// Puts a parameter at the end of those of a block.
     Param(u32, Type),
     /// Puts a constant into a block.
@@ -105,6 +107,12 @@ fn param(rt: &impl Abort, func: &mut Function, block: u32, ty: Type) -> Result<(
     Ok(())
 }
 
+fn slot(rt: &impl Abort, func: &mut Function, size: u32, align_shift: u8) -> Result<(), Fail> {
+    assert!(rt; align_shift < 32);
+    func.create_sized_stack_slot(StackSlotData::new(size, align_shift))?;
+    Ok(())
+}
+
 fn insert(
     rt: &impl Abort,
     func: &mut Function,
@@ -116,6 +124,7 @@ fn insert(
     let block = block_of(rt, func, block);
     assert!(rt; has_operands(func, shape.arguments()));
     assert!(rt; has_edges(func, shape.branch_destination()));
+    assert!(rt; func.has_entries(&shape));
     assert!(rt; is_place_of(at, func.block_inst_count(block)));
     func.insert_inst(block, at, shape, ty, SourceLoc::new(PLACE))?;
     Ok(())
@@ -178,6 +187,7 @@ fn make(rt: &impl Abort, func: &mut Function, step: Step) -> Result<(), Fail> {
         Step::LayOutAfter(block, after) => lay_out_after(rt, func, block, after),
         Step::Ensure(block) => ensure(rt, func, block),
         Step::Cold(block) => cold(rt, func, block),
+        Step::Slot(size, align_shift) => slot(rt, func, size, align_shift),
         Step::Param(block, ty) => param(rt, func, block, ty),
         Step::Iconst(block, at, ty, imm) => {
             insert(rt, func, block, at, InstructionData::UnaryImm { imm }, ty)

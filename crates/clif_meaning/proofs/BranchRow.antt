@@ -1,7 +1,6 @@
 -- The edges of the row `both_arms`, and of the same with the argument on one arm alone; and that the same with swapped arms
 -- doesn't mean what the row means.
 use Rattle.std.proofs.Common.{◌≡◌, zero, suc, List, [], ◌∷◌, refl, ap}
-use Rattle.clif_types.specs.declared.target.PointerWidth.TheVariants.{U64}
 use Rattle.clif_meaning.specs.World.{World}
 use Rattle.clif_meaning.specs.Machine.{Observation, Returned}
 use Rattle.clif_meaning.specs.SameMeaning.{SameMeaning}
@@ -27,10 +26,10 @@ pub one_arm : EdgesMatch one_arm_function → ⊥
 one_arm match = none_is_not_one (match 2).1.1.0.1.0
 
 pub swapped_differs : (world : World)
-    → SameMeaning (script_behaviour both_arms_script swapped_function world) (function_behaviour both_arms_script swapped_function U64 world) → ⊥
+    → SameMeaning (script_behaviour both_arms_script swapped_function world) (function_behaviour both_arms_script swapped_function world) → ⊥
 swapped_differs world same =
     let zero_is_five : ended_with (0 ∷ []) world ≡ ended_with (5 ∷ []) world =
-    other_ends (script_behaviour both_arms_script swapped_function world) (function_behaviour both_arms_script swapped_function U64 world)
+    other_ends (script_behaviour both_arms_script swapped_function world) (function_behaviour both_arms_script swapped_function world)
     (Endings.script_stays (script_run both_arms_script swapped_function world)) 42 4 tt tt same in
     let ends : Returned (0 ∷ []) world.memory ≡ Returned (5 ∷ []) world.memory = ap (λ (seen : Observation). seen.ending) zero_is_five in
     cc

@@ -1,6 +1,5 @@
 -- The row `first` meets the premises in every world, and its function means what its script means.
 use Rattle.std.proofs.Common.{◌≡◌, ◌<◌, ◌≤◌, ℕ, zero, suc, List, [], ◌∷◌, refl, sym, ◌∙◌, arith, ◌⊎◌, inl, inr, subst}
-use Rattle.clif_types.specs.declared.types.«Type».{«Type»}
 use Rattle.clif_types.specs.declared.target.PointerWidth.TheVariants.{U64}
 use Rattle.clif_types.specs.Target.{pointer_type_of}
 use Rattle.clif_meaning.specs.Event.{CallShape, Event}
@@ -70,7 +69,7 @@ shows_all left right a b stays end before same n = by (order n a)
     by (inl early) = (0, before n early)
     by (inr late) = (b, stays a n late end ∙ same)
 
-script_before : (world : World) (n : ℕ) → n < 6 → script_behaviour first_script first_function world n ≡ function_behaviour first_script first_function U64 world 0
+script_before : (world : World) (n : ℕ) → n < 6 → script_behaviour first_script first_function world n ≡ function_behaviour first_script first_function world 0
 script_before world zero h = refl
 script_before world (suc zero) h = refl
 script_before world (suc (suc zero)) h = refl
@@ -79,7 +78,7 @@ script_before world (suc (suc (suc (suc zero)))) h = refl
 script_before world (suc (suc (suc (suc (suc zero))))) h = refl
 script_before world (suc (suc (suc (suc (suc (suc n)))))) h = absurd (omega arith)
 
-function_before : (world : World) (n : ℕ) → n < 4 → function_behaviour first_script first_function U64 world n ≡ script_behaviour first_script first_function world 0
+function_before : (world : World) (n : ℕ) → n < 4 → function_behaviour first_script first_function world n ≡ script_behaviour first_script first_function world 0
 function_before world zero h = refl
 function_before world (suc zero) h = refl
 function_before world (suc (suc zero)) h = refl
@@ -88,14 +87,14 @@ function_before world (suc (suc (suc (suc n)))) h = absurd (omega arith)
 
 pub first_same : MeansTheSame first_script first_signature U64 first_function
 first_same world fits premises = record {
-  there = shows_all (script_behaviour first_script first_function world) (function_behaviour first_script first_function U64 world) 6 4
+  there = shows_all (script_behaviour first_script first_function world) (function_behaviour first_script first_function world) 6 4
       (Endings.script_stays (script_run first_script first_function world)) tt (script_before world) refl;
-  back = shows_all (function_behaviour first_script first_function U64 world) (script_behaviour first_script first_function world) 4 6
-      (Endings.function_stays (function_run first_script first_function U64 world ByMaps)) tt (function_before world) refl;
+  back = shows_all (function_behaviour first_script first_function world) (script_behaviour first_script first_function world) 4 6
+      (Endings.function_stays (function_run first_script first_function world ByMaps)) tt (function_before world) refl;
 }
 
 -- of no slots nothing is asked
-pub no_slots : (world : World) → PlacesSlots world [] 64
+pub no_slots : (world : World) → PlacesSlots world []
 no_slots world = record {
   aligned = λ s slot h. cc;
   accessible = λ s slot k h below. cc;
@@ -104,14 +103,14 @@ no_slots world = record {
 }
 
 pub a_world : (world : World) × IsWorldOf first_signature first_function U64 world × ((events : List Event) (call : CallShape) → world.moved events call ≡ moved_by_16)
-a_world = (SampleWorld.sample_world, record { arguments = tt; slots = no_slots SampleWorld.sample_world }, λ events call. refl)
+a_world = (SampleWorld.sample_world, record { arguments = tt; pointers = refl; slots = no_slots SampleWorld.sample_world }, λ events call. refl)
 
 -- what the theorem says of a function in the sample world
 in_sample : (function : FunctionView) → function.slots ≡ [] → MeansTheSame first_script first_signature U64 function
-    → SameMeaning (script_behaviour first_script function SampleWorld.sample_world) (function_behaviour first_script function U64 SampleWorld.sample_world)
+    → SameMeaning (script_behaviour first_script function SampleWorld.sample_world) (function_behaviour first_script function SampleWorld.sample_world)
 in_sample function no_slot same =
     same SampleWorld.sample_world
-    (record { arguments = tt; slots = subst (λ (slots : List StackSlotShape). PlacesSlots SampleWorld.sample_world slots 64) (sym no_slot) (no_slots SampleWorld.sample_world) })
+    (record { arguments = tt; pointers = refl; slots = subst (λ (slots : List StackSlotShape). PlacesSlots SampleWorld.sample_world slots) (sym no_slot) (no_slots SampleWorld.sample_world) })
     (premises_beside function SampleWorld.sample_world)
 
 pub eight_refused : MeansTheSame first_script first_signature U64 (first_function_with 8) → ⊥

@@ -15,10 +15,11 @@ use Rattle.clif_opcodes.specs.Kinds.{IsOfKind, double_of, half_of}
 use Rattle.clif_opcodes.specs.declared.kinds.OperandKind.TheVariants as kind
 use Rattle.clif_opcodes.specs.Typing.{AreOfKinds, binary_second, convert_operand}
 use Rattle.clif_meaning.specs.Bits.{Bits, HasWidth, IsValue, AreValues, value_bytes, value_of_bytes, wrapped}
-use Rattle.clif_meaning.specs.Instruction.{Iconst, FloatConst, Unary, Binary, Compare, Concat, Split, Convert, Select, Operation, Compute, Load, Store, Trap, CondTrap, Jump, Brif, Return}
+use Rattle.clif_opcodes.specs.declared.opcodes.StackOpcode.TheVariants.{StackAddr, StackLoad}
+use Rattle.clif_meaning.specs.Instruction.{Iconst, FloatConst, Unary, Binary, Compare, Concat, Split, Convert, Select, Operation, Compute, Load, Store, Stack, StackStore, Trap, CondTrap, Jump, Brif, Return}
 use Rattle.clif_meaning.specs.Memory.{Memory, Range, address_in, bytes_in, written}
 use Rattle.clif_meaning.specs.Access.{Accessible, Aligned, Holds, access_claims, claims_if, claims_of}
-use Rattle.clif_meaning.specs.Outcome.{Outcome, Gives, NoStep, Traps, access_outcome, accessed, are_accessible, compares, converted_number, low_bits_at, traps_on, unary_number, binary_fault, binary_number, outcome_of, outcome_of_computed, unless_fault}
+use Rattle.clif_meaning.specs.Outcome.{Outcome, Gives, NoStep, Traps, access_outcome, accessed, are_accessible, compares, converted_number, low_bits_at, no_claim, slot_accessed, slot_address, traps_on, unary_number, binary_fault, binary_number, outcome_of, outcome_of_computed, unless_fault}
 use Rattle.clif_meaning.specs.Laws.{FitsTypes, OutcomesFit}
 use Rattle.clif_meaning.specs.Program.{result_types}
 use Rattle.clif_meaning.specs.World.{World}
@@ -184,6 +185,19 @@ outcomes_fit world (Store flags offset) ty returns types operands memory at fits
     (λ t u x y first second x_is y_is claims.
     let range : Range = accessed ty u y offset in
     access_fits world flags range (Gives [] (written memory range (value_bytes range.size x))) [] returns claims tt)
+outcomes_fit world (Stack StackAddr slot offset) ty returns types operands memory at fits values =
+    no_operand (Fits world (Stack StackAddr slot offset) ty returns memory) ty types operands fits values (λ claims. (low_fits ty (slot_address world slot offset), tt))
+outcomes_fit world (Stack StackLoad slot offset) ty returns types operands memory at fits values =
+    no_operand (Fits world (Stack StackLoad slot offset) ty returns memory) ty types operands fits values
+    (λ claims.
+    let range : Range = slot_accessed world ty slot offset in
+    access_fits world no_claim range (Gives (low_bits_at ty (value_of_bytes (bytes_in memory range)) ∷ []) memory) (ty ∷ []) returns tt
+    (low_fits ty (value_of_bytes (bytes_in memory range)), tt))
+outcomes_fit world (StackStore slot offset) ty returns types operands memory at fits values =
+    one_operand (Fits world (StackStore slot offset) ty returns memory) ty kind.Controlling types operands fits values
+    (λ t x is_kind is_value claims.
+    let range : Range = slot_accessed world ty slot offset in
+    access_fits world no_claim range (Gives [] (written memory range (value_bytes range.size x))) [] returns tt tt)
 outcomes_fit world (Trap reason) ty returns types operands memory at fits values =
     no_operand (Fits world (Trap reason) ty returns memory) ty types operands fits values (λ claims. tt)
 outcomes_fit world (CondTrap opcode reason) ty returns types operands memory at fits values =

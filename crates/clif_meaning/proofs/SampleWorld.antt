@@ -36,6 +36,7 @@ sample_world = record {
   arguments = [];
   memory = λ address. 0;
   is_accessible = λ address. true;
+  pointer_width = 64;
   slot_place = λ slot. 1000;
   memcmp_number = λ left right. sign_number (byte_order left right);
   answer = λ events call. Results (map (λ ty. 0) (types_of call.signature.returns));

@@ -15,7 +15,7 @@ use Rattle.clif_meaning.proofs.FirstPremises.{shows_all}
 abbrev view : FunctionView
 view = view_of first_body
 
-script_before : (world : World) (n : ℕ) → n < 6 → script_behaviour first_script view world n ≡ function_behaviour first_script view U64 world 0
+script_before : (world : World) (n : ℕ) → n < 6 → script_behaviour first_script view world n ≡ function_behaviour first_script view world 0
 script_before world zero h = refl
 script_before world (suc zero) h = refl
 script_before world (suc (suc zero)) h = refl
@@ -24,7 +24,7 @@ script_before world (suc (suc (suc (suc zero)))) h = refl
 script_before world (suc (suc (suc (suc (suc zero))))) h = refl
 script_before world (suc (suc (suc (suc (suc (suc n)))))) h = absurd (omega arith)
 
-function_before : (world : World) (n : ℕ) → n < 4 → function_behaviour first_script view U64 world n ≡ script_behaviour first_script view world 0
+function_before : (world : World) (n : ℕ) → n < 4 → function_behaviour first_script view world n ≡ script_behaviour first_script view world 0
 function_before world zero h = refl
 function_before world (suc zero) h = refl
 function_before world (suc (suc zero)) h = refl
@@ -34,8 +34,8 @@ function_before world (suc (suc (suc (suc n)))) h = absurd (omega arith)
 pub same : MeansTheSame first_script first_signature U64 view
 unfolding follow
 same world fits premises = record {
-  there = shows_all (script_behaviour first_script view world) (function_behaviour first_script view U64 world) 6 4
+  there = shows_all (script_behaviour first_script view world) (function_behaviour first_script view world) 6 4
       (Endings.script_stays (script_run first_script view world)) tt (script_before world) refl;
-  back = shows_all (function_behaviour first_script view U64 world) (script_behaviour first_script view world) 4 6
-      (Endings.function_stays (function_run first_script view U64 world ByMaps)) tt (function_before world) refl;
+  back = shows_all (function_behaviour first_script view world) (script_behaviour first_script view world) 4 6
+      (Endings.function_stays (function_run first_script view world ByMaps)) tt (function_before world) refl;
 }

@@ -1,6 +1,5 @@
 -- The row `first`, and functions that don't mean what it means.
 use Rattle.std.proofs.Common.{◌≡◌, ◌≤◌, ℕ, [], ◌∷◌, sym, ◌∙◌, ap, arith, ◌⊎◌, inl, inr}
-use Rattle.clif_types.specs.declared.target.PointerWidth.TheVariants.{U64}
 use Rattle.clif_meaning.specs.World.{World}
 use Rattle.clif_meaning.specs.Machine.{Observation, Returned, Stuck, IsEnd, EndStays}
 use Rattle.clif_meaning.specs.SameMeaning.{Behaviour, SameMeaning}
@@ -29,19 +28,19 @@ other_ends left right stays n m end_left end_right same =
     one_end left stays n found.0 end_left ended ∙ sym found.1
 
 pub eight_is_not_seven : (world : World)
-    → SameMeaning (script_behaviour first_script (first_function_with 8) world) (function_behaviour first_script (first_function_with 8) U64 world) → ⊥
+    → SameMeaning (script_behaviour first_script (first_function_with 8) world) (function_behaviour first_script (first_function_with 8) world) → ⊥
 eight_is_not_seven world same =
     let seven_is_eight : ended_with (7 ∷ []) world ≡ ended_with (8 ∷ []) world =
-    other_ends (script_behaviour first_script (first_function_with 8) world) (function_behaviour first_script (first_function_with 8) U64 world)
+    other_ends (script_behaviour first_script (first_function_with 8) world) (function_behaviour first_script (first_function_with 8) world)
     (Endings.script_stays (script_run first_script (first_function_with 8) world)) 6 4 tt tt same in
     let ends : Returned (7 ∷ []) world.memory ≡ Returned (8 ∷ []) world.memory = ap (λ (seen : Observation). seen.ending) seven_is_eight in
     cc
 
 pub stuck_is_not_seven : (world : World)
-    → SameMeaning (script_behaviour first_script empty_function world) (function_behaviour first_script empty_function U64 world) → ⊥
+    → SameMeaning (script_behaviour first_script empty_function world) (function_behaviour first_script empty_function world) → ⊥
 stuck_is_not_seven world same =
     let seven_is_stuck : ended_with (7 ∷ []) world ≡ stuck =
-    other_ends (script_behaviour first_script empty_function world) (function_behaviour first_script empty_function U64 world)
+    other_ends (script_behaviour first_script empty_function world) (function_behaviour first_script empty_function world)
     (Endings.script_stays (script_run first_script empty_function world)) 6 0 tt tt same in
     let ends : Returned (7 ∷ []) world.memory ≡ Stuck = ap (λ (seen : Observation). seen.ending) seven_is_stuck in
     cc
@@ -49,5 +48,5 @@ stuck_is_not_seven world same =
 pub empty_script_is_stuck : (world : World) (n : ℕ) → script_behaviour [] empty_function world n ≡ stuck
 empty_script_is_stuck world n = Endings.script_stays (script_run [] empty_function world) 0 n (omega arith) tt
 
-pub empty_function_is_stuck : (world : World) (n : ℕ) → function_behaviour [] empty_function U64 world n ≡ stuck
-empty_function_is_stuck world n = Endings.function_stays (function_run [] empty_function U64 world ByMaps) 0 n (omega arith) tt
+pub empty_function_is_stuck : (world : World) (n : ℕ) → function_behaviour [] empty_function world n ≡ stuck
+empty_function_is_stuck world n = Endings.function_stays (function_run [] empty_function world ByMaps) 0 n (omega arith) tt

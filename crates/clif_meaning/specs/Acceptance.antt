@@ -7,6 +7,9 @@ use Rattle.clif_opcodes.specs.declared.opcodes.BinaryOpcode.{BinaryOpcode}
 use Rattle.clif_opcodes.specs.declared.opcodes.ConvertOpcode.{ConvertOpcode}
 use Rattle.clif_opcodes.specs.declared.opcodes.CondTrapOpcode.{CondTrapOpcode}
 use Rattle.clif_opcodes.specs.declared.opcodes.FloatConstOpcode.{FloatConstOpcode}
+use Rattle.clif_opcodes.specs.declared.opcodes.StackOpcode.{StackOpcode}
+use Rattle.clif_opcodes.specs.declared.opcodes.StackOpcode.TheVariants.{StackAddr, StackLoad}
+use Rattle.clif_instructions.specs.Instruction.{EntryRef, ASlot}
 use Rattle.clif_opcodes.specs.declared.kinds.Demand.TheVariants.{ADoubled, AHalved}
 use Rattle.clif_opcodes.specs.Kinds.{is_met}
 use Rattle.clif_opcodes.specs.Typing.{convert_demand}
@@ -20,7 +23,7 @@ use Rattle.clif_types.specs.Types.{is_int, is_type}
 use Rattle.clif_tables.specs.Entries.{TableEntry, AStackSlot, AFunction}
 use Rattle.clif_tables.specs.Lists.{TableLists}
 use Rattle.clif_meaning.specs.SameType.{same_type}
-use Rattle.clif_meaning.specs.Instruction.{Iconst, FloatConst, Unary, Binary, Compare, Concat, Split, Convert, Select, Operation, Compute, Load, Store, Trap, CondTrap, Jump, Brif, Return, Argument, Known, CallResult, CallPayload, Edge}
+use Rattle.clif_meaning.specs.Instruction.{Iconst, FloatConst, Unary, Binary, Compare, Concat, Split, Convert, Select, Operation, operation_entries, Compute, Load, Store, Stack, StackStore, Trap, CondTrap, Jump, Brif, Return, Argument, Known, CallResult, CallPayload, Edge}
 use Rattle.clif_meaning.specs.Name.{Name}
 use Rattle.clif_meaning.specs.Request.{Request, CreateBlock, SwitchToBlock, SealBlock, SealAllBlocks, InsertBlockAfter, SetColdBlock, EnsureInsertedBlock, AppendBlockParams, AppendFunctionParams, DeclareVar, DefVar, UseVar, MakeEntry, Build, Finalize, Script}
 use Rattle.clif_meaning.specs.Ledger.{BlockState, Ledger, empty_ledger, type_of, or_invalid, has_value, has_block, is_filled, is_sealed, is_inserted, is_pristine, has_predecessors, is_unreachable, variable_type, ledger_with}
@@ -70,7 +73,13 @@ can_operate (Compute (Convert opcode)) ty = is_met (convert_demand opcode) ty
 can_operate (Compute Concat) ty = is_met ADoubled ty
 can_operate (Compute Split) ty = is_met AHalved ty
 can_operate (Load flags offset) ty = is_type ty
+can_operate (Stack StackAddr slot offset) ty = is_int ty
+can_operate (Stack StackLoad slot offset) ty = is_type ty
 can_operate _ ty = true
+
+-- an entry that an operation names was made
+abbrev pub has_entry : TableLists → EntryRef → Bool
+has_entry tables (ASlot number) = nat_lt number (length tables.stack_slots)
 
 -- an entry may be made: a stack slot is aligned to at most 2^31 bytes, and the signature of a function was imported
 abbrev pub can_make : TableLists → TableEntry → Bool
@@ -95,7 +104,7 @@ allows ledger (UseVar variable) = is_open ledger ledger.current && is_some (vari
 allows ledger (MakeEntry entry) = can_make ledger.tables entry
 allows ledger (Build instruction) =
     is_open ledger ledger.current && list_all (has_value ledger) instruction.operands && list_all (can_lead ledger) instruction.edges
-    && can_operate instruction.operation instruction.controlling
+    && can_operate instruction.operation instruction.controlling && list_all (has_entry ledger.tables) (operation_entries instruction.operation)
 allows ledger Finalize = true
 
 -- why a call that may be made is refused
@@ -168,6 +177,14 @@ load flags ty address offset = Build (record { operation = Load flags offset; co
 abbrev pub store : Ledger → MemFlagsShape → Name → Name → ℤ → Request
 store ledger flags stored address offset =
     Build (record { operation = Store flags offset; controlling = or_invalid (type_of ledger stored); operands = stored ∷ address ∷ []; edges = [] })
+
+abbrev pub stack : StackOpcode → «Type» → ℕ → ℤ → Request
+stack opcode ty slot offset = Build (record { operation = Stack opcode slot offset; controlling = ty; operands = []; edges = [] })
+
+-- at the type of what is stored
+abbrev pub stack_store : Ledger → Name → ℕ → ℤ → Request
+stack_store ledger stored slot offset =
+    Build (record { operation = StackStore slot offset; controlling = or_invalid (type_of ledger stored); operands = stored ∷ []; edges = [] })
 
 abbrev pub trap : TrapCode → Request
 trap reason = Build (record { operation = Trap reason; controlling = type.Invalid; operands = []; edges = [] })

@@ -1,14 +1,15 @@
 -- What an item of a script does to memory by itself, and what it claims: the ranges that it may touch, and what its
 -- flags, alignments and overlap promise. After the documentation of Cranelift's memory flags and memory helpers.
 use Rattle.std.specs.Prelude.{◌≡◌, ℕ, ◌%◌, ◌^◌, ◌<◌, ◌++◌, Bool, false, if◌then◌else◌, List, [], ◌∷◌, IsTrue, ◌&&◌, Option, None}
+use Rattle.clif_opcodes.specs.declared.opcodes.StackOpcode.TheVariants.{StackLoad}
 use Rattle.clif_types.specs.declared.types.«Type».{«Type»}
 use Rattle.clif_types.specs.MemFlags.{MemFlagsShape}
 use Rattle.clif_types.specs.Signature.{SignatureShape}
 use Rattle.clif_types.specs.declared.libcall.LibCall.{LibCall}
 use Rattle.clif_meaning.specs.Bits.{Bits}
 use Rattle.clif_meaning.specs.Memory.{Range, address_in, lies_in}
-use Rattle.clif_meaning.specs.Instruction.{Operation, Load, Store}
-use Rattle.clif_meaning.specs.Outcome.{accessed, operand_type}
+use Rattle.clif_meaning.specs.Instruction.{Operation, Load, Store, Stack, StackStore}
+use Rattle.clif_meaning.specs.Outcome.{accessed, slot_accessed, operand_type}
 use Rattle.clif_meaning.specs.World.{World}
 
 -- a claim: each byte of the range may be read and written; the address is a multiple of the alignment, which is a
@@ -28,6 +29,8 @@ Holds world (Apart left right) = (address : ℕ) → (lies_in left address && li
 abbrev pub touched_ranges : World → Operation → «Type» → List «Type» → List Bits → List Range
 touched_ranges world (Load flags offset) ty types (address ∷ []) = accessed ty (operand_type types 0) address offset ∷ []
 touched_ranges world (Store flags offset) ty types (stored ∷ address ∷ []) = accessed ty (operand_type types 1) address offset ∷ []
+touched_ranges world (Stack StackLoad slot offset) ty types [] = slot_accessed world ty slot offset ∷ []
+touched_ranges world (StackStore slot offset) ty types (stored ∷ []) = slot_accessed world ty slot offset ∷ []
 touched_ranges world _ ty types operands = []
 
 -- what the flags of an access claim: that no byte is out of bounds, and that the address is a multiple of the size

@@ -3,7 +3,6 @@
 use Rattle.std.specs.Prelude.{◌≡◌, ℕ, zero, suc, List, [], ◌∷◌, Some, pos, negsuc}
 use Rattle.clif_types.specs.declared.types.«Type».TheVariants as type
 use Rattle.clif_types.specs.declared.call_conv.CallConv.TheVariants.{SystemV}
-use Rattle.clif_types.specs.declared.target.PointerWidth.TheVariants.{U64}
 use Rattle.clif_types.specs.Signature.{SignatureShape}
 use Rattle.clif_meaning.specs.World.{World}
 use Rattle.clif_meaning.specs.Instruction.{Iconst, Binary, Compute, Jump, Brif, Return, Known, Edge}
@@ -106,10 +105,10 @@ pub record BranchExamples : Type 0 where
   pub other : (world : World) → outcome_of world Brif i8 (i8 ∷ []) (0 ∷ []) world.memory ≡ Goes 1 [] world.memory
   -- the row answers 0 on both machines, in every world
   pub script : (world : World) → script_behaviour both_arms_script both_arms_function world 42 ≡ ended_with (0 ∷ []) world
-  pub function : (world : World) → function_behaviour both_arms_script both_arms_function U64 world 24 ≡ ended_with (0 ∷ []) world
+  pub function : (world : World) → function_behaviour both_arms_script both_arms_function world 24 ≡ ended_with (0 ∷ []) world
   -- with swapped arms the function answers 5 at once, and doesn't mean what the row means
-  pub swapped : (world : World) → function_behaviour both_arms_script swapped_function U64 world 4 ≡ ended_with (5 ∷ []) world
-  pub swapped_differs : (world : World) → SameMeaning (script_behaviour both_arms_script swapped_function world) (function_behaviour both_arms_script swapped_function U64 world) → ⊥
+  pub swapped : (world : World) → function_behaviour both_arms_script swapped_function world 4 ≡ ended_with (5 ∷ []) world
+  pub swapped_differs : (world : World) → SameMeaning (script_behaviour both_arms_script swapped_function world) (function_behaviour both_arms_script swapped_function world) → ⊥
   pub accepted : verdict_on both_arms_script ≡ Accepted
   pub edges_match : EdgesMatch both_arms_function
   pub one_arm : EdgesMatch one_arm_function → ⊥

@@ -75,7 +75,6 @@ abbrev pub sample_function_run : World → function.Collector → function.Funct
 sample_function_run world collector = record {
   function = record empty_function { resolved = λ v. if v == 5 then 4 else v; value_type = λ v. i64 };
   collector = collector;
-  pointer_width = 64;
   hidden = slot_bytes;
   world = world;
 }

@@ -216,7 +216,7 @@ ended_with results world = record { events = []; ending = Returned results world
 
 pub record FirstAnswersSeven : Type 0 where
   pub script : (world : World) → script_behaviour first_script first_function world 6 ≡ ended_with (7 ∷ []) world
-  pub function : (world : World) → function_behaviour first_script first_function U64 world 4 ≡ ended_with (7 ∷ []) world
+  pub function : (world : World) → function_behaviour first_script first_function world 4 ≡ ended_with (7 ∷ []) world
   pub accepted : verdict_on first_script ≡ Accepted
   pub well_placed : WellPlaced first_function
   pub records : RecordsWellPlaced first_function first_records
@@ -235,7 +235,7 @@ moved_by_16 ty bits = if bits == 0 then 0 else (bits + 16) % 2 ^ bits_of ty
 -- a function that answers 8 in place of 7
 abbrev pub EightIsNotSeven : Type 0
 EightIsNotSeven = (world : World) →
-    SameMeaning (script_behaviour first_script (first_function_with 8) world) (function_behaviour first_script (first_function_with 8) U64 world) → ⊥
+    SameMeaning (script_behaviour first_script (first_function_with 8) world) (function_behaviour first_script (first_function_with 8) world) → ⊥
 
 -- the row `empty`: no calls, and a function without blocks
 abbrev pub empty_function : FunctionView
@@ -254,8 +254,8 @@ stuck = record { events = []; ending = Stuck }
 -- Both machines are stuck at once, and stay so; a function that is stuck is no function for the row `first`.
 pub record EmptyIsStuck : Type 0 where
   pub script : (world : World) (n : ℕ) → script_behaviour [] empty_function world n ≡ stuck
-  pub function : (world : World) (n : ℕ) → function_behaviour [] empty_function U64 world n ≡ stuck
-  pub not_first : (world : World) → SameMeaning (script_behaviour first_script empty_function world) (function_behaviour first_script empty_function U64 world) → ⊥
+  pub function : (world : World) (n : ℕ) → function_behaviour [] empty_function world n ≡ stuck
+  pub not_first : (world : World) → SameMeaning (script_behaviour first_script empty_function world) (function_behaviour first_script empty_function world) → ⊥
 
 -- Which calls are a misuse, and which are refused.
 pub record VerdictExamples : Type 0 where

@@ -25,8 +25,6 @@ pub data Collector : Type 0 where
 pub record FunctionRun : Type 0 where
   pub function : FunctionView
   pub collector : Collector
-  -- the width of pointers
-  pub pointer_width : ℕ
   -- the addresses that lie in spill slots
   pub hidden : ℕ → Bool
   pub world : World
@@ -63,7 +61,7 @@ give_results state results rest values = record state { values = assigned same_v
 
 -- the bytes of an entry of a stack map
 abbrev pub entry_range : FunctionRun → UserStackMapEntry → Range
-entry_range run entry = record { width = run.pointer_width; start = run.world.slot_place entry.slot + entry.offset; size = bytes_of entry.ty }
+entry_range run entry = record { width = run.world.pointer_width; start = run.world.slot_place entry.slot + entry.offset; size = bytes_of entry.ty }
 
 -- the value in a slot is moved, by the entry's type
 abbrev pub entry_moved : FunctionRun → («Type» → Bits → Bits) → UserStackMapEntry → Memory → Memory

@@ -2,7 +2,7 @@
 -- return or trap the function shows within n steps the script's variable program shows within some number of steps,
 -- and the other way round, though the script's collector moves every tracked variable and name at each outside call,
 -- and the function's only what lies in the slots that the call's stack map names. Own.
-use Rattle.std.specs.Prelude.{ℕ, Bool, drop}
+use Rattle.std.specs.Prelude.{◌≡◌, ℕ, Bool, drop}
 use Rattle.clif_types.specs.Types.{bits_of}
 use Rattle.clif_types.specs.Signature.{SignatureShape}
 use Rattle.clif_types.specs.declared.target.PointerWidth.{PointerWidth}
@@ -44,26 +44,26 @@ abbrev pub pointer_bits : PointerWidth → ℕ
 pointer_bits width = bits_of (pointer_type_of width)
 
 -- the run of the finished function
-abbrev pub function_run : Script → FunctionView → PointerWidth → World → Collector → FunctionRun
-function_run script function width world collector = record {
+abbrev pub function_run : Script → FunctionView → World → Collector → FunctionRun
+function_run script function world collector = record {
   function = function;
   collector = collector;
-  pointer_width = pointer_bits width;
   hidden = in_spill_slot script function world;
   world = world;
 }
 
--- a world in which the function can run: arguments by the signature, and places for its slots
+-- a world in which the function can run: arguments by the signature, pointers of this width, and places for its slots
 pub record IsWorldOf (signature : SignatureShape) (function : FunctionView) (width : PointerWidth) (world : World) : Type 0 where
   pub arguments : AreValues (types_of signature.params) world.arguments
-  pub slots : PlacesSlots world function.slots (pointer_bits width)
+  pub pointers : world.pointer_width ≡ pointer_bits width
+  pub slots : PlacesSlots world function.slots
 
 -- what the script shows, and what the function shows under the collector by maps
 abbrev pub script_behaviour : Script → FunctionView → World → Behaviour
 script_behaviour script function world = observed (script_machine (script_run script function world))
 
-abbrev pub function_behaviour : Script → FunctionView → PointerWidth → World → Behaviour
-function_behaviour script function width world = observed (function_machine (function_run script function width world ByMaps))
+abbrev pub function_behaviour : Script → FunctionView → World → Behaviour
+function_behaviour script function world = observed (function_machine (function_run script function world ByMaps))
 
 -- The finished function means what the script means, in every world under the premises. The signature is the one that
 -- the caller gave, and isn't read off the function: a function with another one doesn't empty the premises.
@@ -71,4 +71,4 @@ abbrev pub MeansTheSame : Script → SignatureShape → PointerWidth → Functio
 MeansTheSame script signature width function =
     (world : World) → IsWorldOf signature function width world
     → Premises script signature (pointer_type_of width) (script_run script function world)
-    → SameMeaning (script_behaviour script function world) (function_behaviour script function width world)
+    → SameMeaning (script_behaviour script function world) (function_behaviour script function world)

@@ -1,11 +1,12 @@
 -- The one shape of an instruction, for the script's machine and for the function's: what operands are is a parameter,
 -- a name or a value. After Cranelift's `InstructionData`, its opcode and controlling type apart from its operands.
-use Rattle.std.specs.Prelude.{ℕ, List, ℤ}
+use Rattle.std.specs.Prelude.{ℕ, List, [], ◌∷◌, ℤ}
 use Rattle.clif_opcodes.specs.declared.opcodes.CondTrapOpcode.{CondTrapOpcode}
 use Rattle.clif_opcodes.specs.declared.opcodes.FloatConstOpcode.{FloatConstOpcode}
 use Rattle.clif_opcodes.specs.declared.opcodes.UnaryOpcode.{UnaryOpcode}
 use Rattle.clif_opcodes.specs.declared.opcodes.BinaryOpcode.{BinaryOpcode}
 use Rattle.clif_opcodes.specs.declared.opcodes.ConvertOpcode.{ConvertOpcode}
+use Rattle.clif_opcodes.specs.declared.opcodes.StackOpcode.{StackOpcode}
 use Rattle.clif_opcodes.specs.declared.opcodes.Opcode.{Opcode}
 use Rattle.clif_opcodes.specs.declared.opcodes.Opcode.TheVariants as opcode
 use Rattle.clif_opcodes.specs.Typing.{Row, row_of}
@@ -13,6 +14,7 @@ use Rattle.clif_types.specs.declared.condcodes.IntCC.{IntCC}
 use Rattle.clif_types.specs.declared.trapcode.TrapCode.{TrapCode}
 use Rattle.clif_types.specs.declared.types.«Type».{«Type»}
 use Rattle.clif_types.specs.MemFlags.{MemFlagsShape}
+use Rattle.clif_instructions.specs.Instruction.{EntryRef, ASlot}
 
 -- operations that compute bits from bits, without memory, world or control
 pub data Arithmetic : Type 0 where
@@ -43,6 +45,10 @@ pub data Operation : Type 0 where
   Load : (flags : MemFlagsShape) (offset : ℤ) → Operation
   -- puts its first operand into memory, at the address that the second one and the offset make
   Store : (flags : MemFlagsShape) (offset : ℤ) → Operation
+  -- gives where a stack slot is, at an offset, or what is in memory there
+  Stack : StackOpcode → (slot : ℕ) (offset : ℤ) → Operation
+  -- puts its operand into memory where a stack slot is, at an offset
+  StackStore : (slot : ℕ) (offset : ℤ) → Operation
   -- ends the run with a trap
   Trap : TrapCode → Operation
   -- does so where its operand is zero, or where it isn't
@@ -67,6 +73,8 @@ operation_opcode (Compute (Convert name)) = opcode.Convert name
 operation_opcode (Compute Select) = opcode.Select
 operation_opcode (Load flags offset) = opcode.Load
 operation_opcode (Store flags offset) = opcode.Store
+operation_opcode (Stack name slot offset) = opcode.Stack name
+operation_opcode (StackStore slot offset) = opcode.StackStore
 operation_opcode (Trap reason) = opcode.Trap
 operation_opcode (CondTrap name reason) = opcode.CondTrap name
 operation_opcode Jump = opcode.Jump
@@ -76,6 +84,12 @@ operation_opcode Return = opcode.Return
 -- its row of the typing table
 abbrev pub operation_typing : Operation → Row
 operation_typing operation = row_of (operation_opcode operation)
+
+-- the entries of tables that it names
+abbrev pub operation_entries : Operation → List EntryRef
+operation_entries (Stack name slot offset) = ASlot slot ∷ []
+operation_entries (StackStore slot offset) = ASlot slot ∷ []
+operation_entries _ = []
 
 -- what an edge passes to a parameter of its target
 pub data Argument (Operand : Type 0) : Type 0 where

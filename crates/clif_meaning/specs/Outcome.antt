@@ -1,6 +1,6 @@
 -- What an instruction does, from the bits of its operands, memory and the world: the table of the instruction set, by
 -- operation. Both machines read it. After the documentation of Cranelift's instructions.
-use Rattle.std.specs.Prelude.{ℕ, ℤ, zero, suc, ◌+◌, ◌-◌, ◌*◌, ◌/◌, ◌%◌, ◌^◌, ◌==◌, ◌&&◌, nat_le, nat_lt, not, Bool, true, if◌then◌else◌, List, [], ◌∷◌, Option, Some, None, slice_index_or}
+use Rattle.std.specs.Prelude.{ℕ, ℤ, zero, suc, ◌+◌, ◌-◌, ◌*◌, ◌/◌, ◌%◌, ◌^◌, ◌==◌, ◌&&◌, nat_le, nat_lt, not, Bool, true, false, if◌then◌else◌, List, [], ◌∷◌, Option, Some, None, slice_index_or}
 use Rattle.std.specs.Int.Bits.{bit_and, bit_or, bit_xor}
 use Rattle.clif_opcodes.specs.declared.opcodes.UnaryOpcode.{UnaryOpcode}
 use Rattle.clif_opcodes.specs.declared.opcodes.UnaryOpcode.TheVariants.{Ineg, Bnot}
@@ -19,12 +19,13 @@ use Rattle.clif_types.specs.declared.types.«Type».TheVariants as type
 use Rattle.clif_types.specs.MemFlags.{MemFlagsShape}
 use Rattle.clif_types.specs.declared.trapcode.TrapCode.{TrapCode}
 use Rattle.clif_types.specs.declared.trapcode.TrapCode.TheVariants.{DivisionByZero, HeapOutOfBounds, IntegerOverflow}
+use Rattle.clif_opcodes.specs.declared.opcodes.StackOpcode.TheVariants.{StackAddr, StackLoad}
 use Rattle.clif_opcodes.specs.declared.opcodes.ConvertOpcode.{ConvertOpcode}
 use Rattle.clif_opcodes.specs.declared.opcodes.ConvertOpcode.TheVariants.{Splat, Uextend, Sextend, Ireduce}
 use Rattle.clif_types.specs.Types.{bits_of, bytes_of, lane_count_of, lane_type_of}
 use Rattle.clif_meaning.specs.Bits.{Bits, value_bytes, value_of_bytes, wrapped}
 use Rattle.clif_meaning.specs.Memory.{Memory, Range, address_in, bytes_in, written}
-use Rattle.clif_meaning.specs.Instruction.{Arithmetic, Iconst, FloatConst, Unary, Binary, Compare, Concat, Split, Convert, Select, Operation, Compute, Load, Store, Trap, CondTrap, Jump, Brif, Return}
+use Rattle.clif_meaning.specs.Instruction.{Arithmetic, Iconst, FloatConst, Unary, Binary, Compare, Concat, Split, Convert, Select, Operation, Compute, Load, Store, Stack, StackStore, Trap, CondTrap, Jump, Brif, Return}
 use Rattle.clif_meaning.specs.Event.{Callee, CallShape}
 use Rattle.clif_meaning.specs.World.{World}
 
@@ -183,6 +184,18 @@ accessed access address_type address offset =
     let width : ℕ = bits_of address_type in
     record { width = width; start = (address + wrapped width offset) % 2 ^ width; size = bytes_of access }
 
+-- Stack slots: the address at an offset from where the world places a slot, which counts modulo the width of pointers, and
+-- the bytes that an access there touches.
+abbrev pub slot_address : World → ℕ → ℤ → Bits
+slot_address world slot offset = (world.slot_place slot + wrapped world.pointer_width offset) % 2 ^ world.pointer_width
+
+abbrev pub slot_accessed : World → «Type» → ℕ → ℤ → Range
+slot_accessed world access slot offset = record { width = world.pointer_width; start = slot_address world slot offset; size = bytes_of access }
+
+-- an access to a slot claims nothing: where a byte of it isn't accessible, it traps
+abbrev pub no_claim : MemFlagsShape
+no_claim = record { notrap = false; aligned = false; alias_region = None }
+
 -- each of so many bytes from this place of a range on is accessible
 abbrev pub are_accessible : World → Range → ℕ → Bool
 are_accessible world range zero = true
@@ -213,6 +226,13 @@ outcome_of world (Load flags offset) ty types (address ∷ []) memory =
 outcome_of world (Store flags offset) ty types (stored ∷ address ∷ []) memory =
     let range : Range = accessed ty (operand_type types 1) address offset in
     access_outcome world flags range (Gives [] (written memory range (value_bytes range.size stored)))
+outcome_of world (Stack StackAddr slot offset) ty types [] memory = Gives (low_bits_at ty (slot_address world slot offset) ∷ []) memory
+outcome_of world (Stack StackLoad slot offset) ty types [] memory =
+    let range : Range = slot_accessed world ty slot offset in
+    access_outcome world no_claim range (Gives (low_bits_at ty (value_of_bytes (bytes_in memory range)) ∷ []) memory)
+outcome_of world (StackStore slot offset) ty types (stored ∷ []) memory =
+    let range : Range = slot_accessed world ty slot offset in
+    access_outcome world no_claim range (Gives [] (written memory range (value_bytes range.size stored)))
 outcome_of world (Trap reason) ty types [] memory = Traps reason
 outcome_of world (CondTrap opcode reason) ty types (condition ∷ []) memory =
     if traps_on opcode condition then Traps reason else Gives [] memory

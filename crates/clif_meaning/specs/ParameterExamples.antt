@@ -3,7 +3,6 @@
 use Rattle.std.specs.Prelude.{◌≡◌, ℕ, zero, suc, List, [], ◌∷◌, Some, pos}
 use Rattle.clif_types.specs.declared.types.«Type».TheVariants as type
 use Rattle.clif_types.specs.declared.call_conv.CallConv.TheVariants.{SystemV}
-use Rattle.clif_types.specs.declared.target.PointerWidth.TheVariants.{U64}
 use Rattle.clif_types.specs.Signature.{SignatureShape}
 use Rattle.clif_meaning.specs.World.{World}
 use Rattle.clif_meaning.specs.Instruction.{Binary, Compute, Return, Known}
@@ -58,8 +57,8 @@ passing_two world = record world { arguments = 9 ∷ 4 ∷ [] }
 pub record ParameterExamples : Type 0 where
   -- 9 less 4, on both machines; with the parameters in the other order the function answers another number
   pub script : (world : World) → script_behaviour difference_script difference_function (passing_two world) 3 ≡ ended_with (5 ∷ []) world
-  pub function : (world : World) → function_behaviour difference_script difference_function U64 (passing_two world) 3 ≡ ended_with (5 ∷ []) world
-  pub turned : (world : World) → function_behaviour difference_script (difference_with (1 ∷ 0 ∷ [])) U64 (passing_two world) 3 ≡ ended_with (4294967291 ∷ []) world
+  pub function : (world : World) → function_behaviour difference_script difference_function (passing_two world) 3 ≡ ended_with (5 ∷ []) world
+  pub turned : (world : World) → function_behaviour difference_script (difference_with (1 ∷ 0 ∷ [])) (passing_two world) 3 ≡ ended_with (4294967291 ∷ []) world
   pub accepted : verdict_on difference_script ≡ Accepted
   pub parameters : (program_of difference_script).parameters (block 0) ≡ answer_of 2 0 ∷ answer_of 2 1 ∷ []
   pub second : type_of (ledger_after difference_script) (answer_of 2 1) ≡ Some i32

@@ -5,7 +5,6 @@
 use Rattle.std.specs.Prelude.{◌≡◌, ℕ, zero, suc, ◌+◌, ◌^◌, List, [], ◌∷◌, map, Some, pos, negsuc, ◌==◌, if◌then◌else◌}
 use Rattle.clif_types.specs.declared.types.«Type».TheVariants as type
 use Rattle.clif_types.specs.declared.call_conv.CallConv.TheVariants.{SystemV}
-use Rattle.clif_types.specs.declared.target.PointerWidth.TheVariants.{U64}
 use Rattle.clif_types.specs.Signature.{SignatureShape}
 use Rattle.clif_meaning.specs.World.{World}
 use Rattle.clif_meaning.specs.Instruction.{Arithmetic, Iconst, Binary, Compute, Return, Known, Edge}
@@ -173,7 +172,7 @@ passing_one argument world = record world { arguments = argument ∷ [] }
 -- a script and a function answer 0 for this argument, in every world, after so many steps
 pub record AnswerZero (script : Script) (function : FunctionView) (argument steps items : ℕ) : Type 0 where
   pub by_script : (world : World) → script_behaviour script function (passing_one argument world) steps ≡ ended_with (0 ∷ []) world
-  pub by_function : (world : World) → function_behaviour script function U64 (passing_one argument world) items ≡ ended_with (0 ∷ []) world
+  pub by_function : (world : World) → function_behaviour script function (passing_one argument world) items ≡ ended_with (0 ∷ []) world
 
 pub record SampleExamples : Type 0 where
   -- y goes 2, 1, 0, or at once to 0, also past the end of 32 bits
@@ -189,4 +188,4 @@ pub record SampleExamples : Type 0 where
   pub accepted : verdict_on sample_script ≡ Accepted
   pub late_accepted : verdict_on sample_late_script ≡ Accepted
   -- with swapped arms the function answers 2 at once
-  pub swapped : (world : World) → function_behaviour sample_script (sample_function_to (plain 2 ∷ plain 3 ∷ [])) U64 (passing_one 1 world) 7 ≡ ended_with (2 ∷ []) world
+  pub swapped : (world : World) → function_behaviour sample_script (sample_function_to (plain 2 ∷ plain 3 ∷ [])) (passing_one 1 world) 7 ≡ ended_with (2 ∷ []) world

@@ -4,7 +4,7 @@ use Rattle.std.specs.List.{list_any}
 use Rattle.clif_types.specs.declared.types.«Type».{«Type»}
 use Rattle.clif_types.specs.declared.types.«Type».TheVariants as type
 use Rattle.clif_instructions.specs.declared.instructions.InstructionData.{InstructionData}
-use Rattle.clif_instructions.specs.declared.instructions.InstructionData.TheVariants.{UnaryImm, UnaryIeee, Unary, Binary, IntCompare, Concat, Split, Convert, Ternary, Load, Store, Jump, Brif, MultiAry, Trap, CondTrap}
+use Rattle.clif_instructions.specs.declared.instructions.InstructionData.TheVariants.{UnaryImm, UnaryIeee, Unary, Binary, IntCompare, Concat, Split, Convert, Ternary, Load, Store, StackLoad, StackStore, Jump, Brif, MultiAry, Trap, CondTrap}
 use Rattle.clif_ir.specs.declared.function.InstNode.{InstNode}
 use Rattle.clif_instructions.specs.declared.block_call.BlockArg.{BlockArg}
 use Rattle.clif_instructions.specs.declared.block_call.BlockArg.TheVariants as arg
@@ -32,6 +32,8 @@ operation_of (Convert opcode arg) = Compute (operation.Convert opcode)
 operation_of (Ternary args) = Compute operation.Select
 operation_of (Load flags arg offset) = operation.Load flags offset
 operation_of (Store flags args offset) = operation.Store flags offset
+operation_of (StackLoad opcode slot offset) = operation.Stack opcode slot offset
+operation_of (StackStore arg slot offset) = operation.StackStore slot offset
 operation_of (Jump destination) = operation.Jump
 operation_of (Brif arg blocks) = operation.Brif
 operation_of (MultiAry args) = Return

@@ -39,5 +39,5 @@ pub record ViewExamples : Type 0 where
   pub parameters : ((view_of first_body).blocks 0).parameters ≡ []
   pub alias : (view_of first_body).resolved 0 ≡ 3
   pub no_alias : (view_of first_body).resolved 2 ≡ 2
-  pub answers_seven : (world : World) → function_behaviour first_script (view_of first_body) U64 world 4 ≡ ended_with (7 ∷ []) world
+  pub answers_seven : (world : World) → function_behaviour first_script (view_of first_body) world 4 ≡ ended_with (7 ∷ []) world
   pub means_the_same : MeansTheSame first_script first_signature U64 (view_of first_body)

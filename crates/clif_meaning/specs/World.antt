@@ -22,6 +22,8 @@ pub record World : Type 0 where
   pub memory : Memory
   -- which addresses may be read and written
   pub is_accessible : ℕ → Bool
+  -- how many bits a pointer has
+  pub pointer_width : ℕ
   -- the place of each stack slot
   pub slot_place : ℕ → ℕ
   -- the number that `Memcmp` answers for two lists of bytes
@@ -45,9 +47,9 @@ pub record World : Type 0 where
 
 -- the places of the slots are what was asked: aligned, accessible, within the width of pointers, and apart: no byte of
 -- the one is a byte of another
-pub record PlacesSlots (world : World) (slots : List StackSlotShape) (pointer_width : ℕ) : Type 0 where
+pub record PlacesSlots (world : World) (slots : List StackSlotShape) : Type 0 where
   pub aligned : (s : ℕ) (slot : StackSlotShape) → slice_get slots s ≡ Some slot → world.slot_place s % 2 ^ slot.align_shift ≡ 0
   pub accessible : (s : ℕ) (slot : StackSlotShape) (k : ℕ) → slice_get slots s ≡ Some slot → k < slot.size → IsTrue (world.is_accessible (world.slot_place s + k))
-  pub within : (s : ℕ) (slot : StackSlotShape) → slice_get slots s ≡ Some slot → world.slot_place s + slot.size ≤ 2 ^ pointer_width
+  pub within : (s : ℕ) (slot : StackSlotShape) → slice_get slots s ≡ Some slot → world.slot_place s + slot.size ≤ 2 ^ world.pointer_width
   pub apart : (s t : ℕ) (slot other : StackSlotShape) (k l : ℕ) → slice_get slots s ≡ Some slot → slice_get slots t ≡ Some other → s ≢ t
       → k < slot.size → l < other.size → world.slot_place s + k ≢ world.slot_place t + l

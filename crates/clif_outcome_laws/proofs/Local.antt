@@ -9,8 +9,9 @@ use Rattle.clif_types.specs.MemFlags.{MemFlagsShape}
 use Rattle.clif_types.specs.declared.trapcode.TrapCode.TheVariants.{HeapOutOfBounds}
 use Rattle.clif_meaning.specs.Bits.{Bits, value_bytes, value_of_bytes}
 use Rattle.clif_meaning.specs.Memory.{Memory, Range, address_in, index_in, lies_in, bytes_from, bytes_in, written}
-use Rattle.clif_meaning.specs.Instruction.{Compute, Load, Store, Trap, CondTrap, Jump, Brif, Return}
-use Rattle.clif_meaning.specs.Outcome.{Outcome, Computed, Values, Fault, Undefined, Gives, Traps, NoStep, access_outcome, accessed, are_accessible, computed, outcome_of_computed, low_bits_at, operand_type}
+use Rattle.clif_opcodes.specs.declared.opcodes.StackOpcode.TheVariants.{StackAddr, StackLoad}
+use Rattle.clif_meaning.specs.Instruction.{Compute, Load, Store, Stack, StackStore, Trap, CondTrap, Jump, Brif, Return}
+use Rattle.clif_meaning.specs.Outcome.{Outcome, Computed, Values, Fault, Undefined, Gives, Traps, NoStep, access_outcome, accessed, no_claim, slot_accessed, are_accessible, computed, outcome_of_computed, low_bits_at, operand_type}
 use Rattle.clif_meaning.specs.World.{World}
 use Rattle.clif_outcome_laws.specs.Locality.{ChangeAlike, SameInside, Agree, OutcomesAreLocal, lies_in_one}
 
@@ -114,6 +115,20 @@ outcomes_are_local world (Store flags offset) ty types (stored ∷ address ∷ [
     let bytes : List ℕ = value_bytes range.size stored in
     access_agrees world flags range left right (Gives [] (written left range bytes)) (Gives [] (written right range bytes)) (refl, writes left right range bytes)
 outcomes_are_local world (Store flags offset) ty types (stored ∷ address ∷ x ∷ operands) left right same = tt
+outcomes_are_local world (Stack StackAddr slot offset) ty types [] left right same = (refl, stays [] left right same)
+outcomes_are_local world (Stack StackAddr slot offset) ty types (x ∷ operands) left right same = tt
+outcomes_are_local world (Stack StackLoad slot offset) ty types [] left right same =
+    let range : Range = slot_accessed world ty slot offset in
+    let read = same_bytes left right range (mod-lt _ (pow_pos world.pointer_width)) same in
+    access_agrees world no_claim range left right (Gives (low_bits_at ty (value_of_bytes (bytes_in left range)) ∷ []) left) (Gives (low_bits_at ty (value_of_bytes (bytes_in right range)) ∷ []) right)
+    (ap (λ (bytes : List ℕ). low_bits_at ty (value_of_bytes bytes) ∷ []) read, stays (range ∷ []) left right same)
+outcomes_are_local world (Stack StackLoad slot offset) ty types (x ∷ operands) left right same = tt
+outcomes_are_local world (StackStore slot offset) ty types [] left right same = tt
+outcomes_are_local world (StackStore slot offset) ty types (stored ∷ []) left right same =
+    let range : Range = slot_accessed world ty slot offset in
+    let bytes : List ℕ = value_bytes range.size stored in
+    access_agrees world no_claim range left right (Gives [] (written left range bytes)) (Gives [] (written right range bytes)) (refl, writes left right range bytes)
+outcomes_are_local world (StackStore slot offset) ty types (stored ∷ x ∷ operands) left right same = tt
 outcomes_are_local world (Trap reason) ty types [] left right same = refl
 outcomes_are_local world (Trap reason) ty types (x ∷ operands) left right same = tt
 outcomes_are_local world (CondTrap opcode reason) ty types [] left right same = tt

@@ -1,6 +1,6 @@
 -- Worked examples of loads, stores and traps, in every world with the accessible bytes that are chosen. The answers are
 -- those of Cranelift's documentation of memory flags and of little-endian memory.
-use Rattle.std.specs.Prelude.{◌≡◌, ◌≢◌, ℕ, ◌==◌, ◌&&◌, nat_lt, true, false, if◌then◌else◌, [], ◌∷◌, None, ℤ, pos, negsuc}
+use Rattle.std.specs.Prelude.{◌≡◌, ◌≢◌, ℕ, ◌+◌, ◌*◌, ◌==◌, ◌&&◌, nat_lt, true, false, if◌then◌else◌, [], ◌∷◌, None, ℤ, pos, negsuc}
 use Rattle.clif_types.specs.declared.types.«Type».{«Type»}
 use Rattle.clif_types.specs.declared.types.«Type».TheVariants as type
 use Rattle.clif_types.specs.declared.types.LaneType.TheVariants as lane
@@ -8,8 +8,9 @@ use Rattle.clif_types.specs.declared.trapcode.TrapCode.TheVariants.{HeapOutOfBou
 use Rattle.clif_types.specs.MemFlags.{MemFlagsShape}
 use Rattle.clif_opcodes.specs.declared.opcodes.CondTrapOpcode.{CondTrapOpcode}
 use Rattle.clif_opcodes.specs.declared.opcodes.CondTrapOpcode.TheVariants.{Trapz, Trapnz}
+use Rattle.clif_opcodes.specs.declared.opcodes.StackOpcode.TheVariants.{StackAddr, StackLoad}
 use Rattle.clif_meaning.specs.Memory.{Memory, written}
-use Rattle.clif_meaning.specs.Instruction.{Load, Store, Trap, CondTrap}
+use Rattle.clif_meaning.specs.Instruction.{Load, Store, Stack, StackStore, Trap, CondTrap}
 use Rattle.clif_meaning.specs.Outcome.{Outcome, Gives, Traps, NoStep, outcome_of}
 use Rattle.clif_meaning.specs.World.{World}
 
@@ -118,6 +119,37 @@ pub record StoreExamples (world : World) (memory : Memory) : Type 0 where
   pub trusted_stuck : store (with_two_bytes world) trusted (pos 1) memory ≡ NoStep
   pub odd_stuck : store (with_all_bytes world) aligned (pos 1) memory ≡ NoStep
 
+-- the world with the two accessible bytes, pointers of 16 bits, and slot `s` placed at 100 + 4 * s
+abbrev pub with_slots : World → World
+with_slots world = record (with_two_bytes world) { pointer_width = 16; slot_place = λ slot. 100 + 4 * slot }
+
+-- What instructions do with slots in it: they read an address at a type, load two bytes, and store 1234 there.
+abbrev pub slot_address : World → (slot : ℕ) → ℤ → «Type» → Outcome
+slot_address world slot offset ty = outcome_of (with_slots world) (Stack StackAddr slot offset) ty [] [] loaded_memory
+
+abbrev pub slot_load : World → (slot : ℕ) → ℤ → Outcome
+slot_load world slot offset = outcome_of (with_slots world) (Stack StackLoad slot offset) i16 [] [] loaded_memory
+
+abbrev pub slot_store : World → (slot : ℕ) → ℤ → Memory → Outcome
+slot_store world slot offset memory = outcome_of (with_slots world) (StackStore slot offset) i16 (i16 ∷ []) (4660 ∷ []) memory
+
+-- memory after 1234 was stored from 100 on, addresses of 16 bits
+abbrev pub slot_stored : Memory → Memory
+slot_stored memory = written memory (record { width = 16; start = 100; size = 2 }) (52 ∷ 18 ∷ [])
+
+pub record SlotExamples (world : World) (memory : Memory) : Type 0 where
+  pub address : slot_address world 1 (pos 0) i64 ≡ gives 104
+  pub offset_counts : slot_address world 1 (pos 8) i64 ≡ gives 112
+  -- 100 - 101 at 16 bits, with zeros above; and the low bits of 356
+  pub wraps : slot_address world 0 (negsuc 100) i64 ≡ gives 65535
+  pub low_bits : slot_address world 0 (pos 256) i8 ≡ gives 100
+  pub not_other : slot_address world 0 (pos 0) i64 ≢ gives 104
+  pub loads : slot_load world 0 (pos 0) ≡ gives 4660
+  pub loads_before : slot_load world 1 (negsuc 3) ≡ gives 4660
+  pub load_traps : slot_load world 1 (pos 0) ≡ Traps HeapOutOfBounds
+  pub stores : slot_store world 0 (pos 0) memory ≡ Gives [] (slot_stored memory)
+  pub store_traps : slot_store world 0 (pos 1) memory ≡ Traps HeapOutOfBounds
+
 -- A trap under a condition, on an operand.
 abbrev pub cond_trap : World → CondTrapOpcode → ℕ → Memory → Outcome
 cond_trap world opcode condition memory = outcome_of world (CondTrap opcode IntegerOverflow) i8 (i8 ∷ []) (condition ∷ []) memory
@@ -137,4 +169,5 @@ pub record TrapExamples (world : World) (memory : Memory) : Type 0 where
 pub record MemoryExamples : Type 0 where
   pub loads : (world : World) → LoadExamples world
   pub stores : (world : World) (memory : Memory) → StoreExamples world memory
+  pub slots : (world : World) (memory : Memory) → SlotExamples world memory
   pub traps : (world : World) (memory : Memory) → TrapExamples world memory

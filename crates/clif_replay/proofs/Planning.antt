@@ -1,27 +1,22 @@
 -- What an instruction of a plan is, by numbers, and when it may be made.
 use Rattle.std.proofs.Common.{◌≡◌, ℕ, zero, suc, ◌<◌, ◌≤◌, List, [], ◌∷◌, length, refl, ap, arith, sym, ◌∙◌, subst}
-use Rattle.std.specs.Prelude.{ℤ, drop, map, Option, Some, None, is_some, Bool, true, false, ◌&&◌, Ok, slice_index}
+use Rattle.std.specs.Prelude.{◌↔◌, IsTrue, drop, map, Option, Some, None, is_some, Bool, true, false, ◌&&◌, Ok, slice_index}
 use Rattle.std.specs.List.{All, list_all}
 use Rattle.std.specs.Borrow.{Bor}
-use Rattle.std.proofs.lemmas.Bool.{and_from, and_parts}
+use Rattle.std.proofs.lemmas.Bool.{and_from, and_parts, false_from_ne_true, false≢true, lt-ltb, ltb-true}
 use Rattle.clif_types.specs.declared.types.«Type».{«Type»}
 use Rattle.clif_types.specs.declared.types.«Type».TheVariants.{Invalid}
 use Rattle.clif_types.specs.Signature.{SignatureShape}
-use Rattle.clif_ir.specs.Body.{Body, value_at}
-use Rattle.clif_instructions.specs.Instruction.{destinations, operands}
+use Rattle.clif_ir.specs.Body.{Body}
+use Rattle.clif_instructions.specs.Instruction.{EntryRef, ASlot, destinations, entries_of, operands}
+use Rattle.clif_tables.specs.Lists.{TableLists}
+use Rattle.clif_ir.specs.Consistent.{EntryExists}
 use Rattle.clif_instructions.specs.declared.block_call.BlockCall.{BlockCall}
-use Rattle.clif_types.specs.declared.condcodes.IntCC.{IntCC}
-use Rattle.clif_types.specs.declared.trapcode.TrapCode.{TrapCode}
-use Rattle.clif_types.specs.MemFlags.{MemFlagsShape}
-use Rattle.clif_opcodes.specs.declared.opcodes.BinaryOpcode.{BinaryOpcode}
-use Rattle.clif_opcodes.specs.declared.opcodes.CondTrapOpcode.{CondTrapOpcode}
-use Rattle.clif_opcodes.specs.declared.opcodes.FloatConstOpcode.{FloatConstOpcode}
 use Rattle.clif_opcodes.specs.declared.opcodes.FloatConstOpcode.TheVariants.{F16const, F32const, F64const}
-use Rattle.clif_opcodes.specs.declared.opcodes.ConvertOpcode.{ConvertOpcode}
-use Rattle.clif_opcodes.specs.declared.opcodes.UnaryOpcode.{UnaryOpcode}
+use Rattle.clif_opcodes.specs.declared.opcodes.StackOpcode.TheVariants as stack
 use Rattle.clif_instructions.specs.declared.instructions.InstructionData.{InstructionData}
 use Rattle.clif_instructions.specs.declared.instructions.InstructionData.TheVariants as shape
-use Rattle.clif_meaning.specs.Acceptance.{allows, can_lead}
+use Rattle.clif_meaning.specs.Acceptance.{allows, can_lead, has_entry}
 use Rattle.clif_meaning.specs.Ledger.{or_invalid, type_of}
 use Rattle.clif_meaning.specs.Request.{AnsweredCall}
 use Rattle.cranelift_frontend.specs.declared.builder.FunctionBuilder.{FunctionBuilder}
@@ -37,13 +32,14 @@ use Rattle.clif_ir.specs.Changes.{HasNoRoom}
 use Rattle.clif_instructions.specs.Instruction.{result_count}
 use Rattle.clif_opcodes.specs.declared.opcodes.Opcode.{Opcode}
 use Rattle.clif_opcodes.specs.Typing.{row_of}
-use Rattle.clif_meaning.specs.Instruction.{Operation, operation_typing}
+use Rattle.clif_meaning.specs.Instruction.{Operation, operation_entries, operation_typing}
+use Rattle.clif_meaning.specs.View.{operation_of}
 use Rattle.clif_ssa.specs.Limits.{IsFull}
 use Rattle.cranelift_frontend.specs.Built.{HasFullTable}
 use Rattle.cranelift_frontend.proofs.Sorts.{same_opcode}
 use Rattle.clif_replay.specs.Limits.{PlanMeetsFullTable}
 use Rattle.clif_replay.specs.declared.make_instructions.Planned.{Planned}
-use Rattle.clif_replay.specs.Makes.{AreFound, Finds, IsPlanned, ValuesExist, can_make, has_names, type_in}
+use Rattle.clif_replay.specs.Makes.{AreFound, Finds, IsPlanned, ValuesExist, can_make, has_entries, has_names, type_in}
 use Rattle.clif_replay.specs.Ready.{IsReady, all_values, is_open, may_lead, value_of}
 use Rattle.clif_replay.specs.Requests.{controlling_in, edge_of, first_type, name_of, operation_in, request_in}
 use Rattle.clif_replay.proofs.Conditions.{all-exist, all-found, all-numbered, found-exists, found-leads, found-names, lead-same, open-same, value-type-same, values-same}
@@ -84,6 +80,7 @@ controlling-same first second same (plan.Split arg) = same arg
 controlling-same first second same (plan.IntCompare cond args) = first-same first second same args
 controlling-same first second same (plan.Ternary args) = first-same first second same (drop 1 args)
 controlling-same first second same (plan.Store flags args offset) = first-same first second same args
+controlling-same first second same (plan.StackStore arg slot offset) = same arg
 controlling-same first second same (plan.CondTrap opcode arg code) = same arg
 controlling-same first second same (plan.Brif condition block_then block_else) = same condition
 controlling-same first second same _ = refl
@@ -96,15 +93,16 @@ plan-same calls b answers ready p =
     let edges = edges-same calls b answers ready (edges_in p) in
     let opens = open-same calls b answers ready in
     let typed = controlling-same (λ name. or_invalid (type_of (ledger_of calls) (name_of name))) (λ name. type_in b.func.now (value_of b.func.now answers name)) (type-same calls b answers ready) p in
-    rw (values, edges, opens, typed) (by (is_open b) (all_values b.func.now answers (operands_in p)) (list_all (may_lead b answers) (edges_in p)) _)
+    let tables = ready.stands.ledger.tables in
+    rw (values, edges, opens, typed, tables) (by (is_open b) (all_values b.func.now answers (operands_in p)) (list_all (may_lead b answers) (edges_in p)) _ _)
   where
-    by : (first second third last : Bool) → (((first && second) && third) && last) ≡ ((first && (second && third)) && last)
-    by true second third last = refl
-    by false second third last = refl
+    by : (first second third fourth last : Bool) → ((((first && second) && third) && fourth) && last) ≡ (((first && (second && third)) && fourth) && last)
+    by true second third fourth last = refl
+    by false second third fourth last = refl
 
 -- one that may be made stands in an open block
 pub opens-planned : (b : FunctionBuilder) (answers : List Answer) (p : Plan) → can_make b answers p ≡ true → is_open b ≡ true
-opens-planned b answers p may = (and_parts (is_open b) (has_names b answers p) (and_parts (is_open b && has_names b answers p) _ may).0).0
+opens-planned b answers p may = (and_parts (is_open b) (has_names b answers p) (and_parts (is_open b && has_names b answers p) _ (and_parts _ (has_entries b.func.now p) may).0).0).0
 
 -- THE SHAPE -----------------------------------------------------------------------------------------------------------
 
@@ -146,19 +144,46 @@ pub destinations-lead : {declared : SignatureShape} (calls : List AnsweredCall) 
     → (p : Plan) (s : InstructionData) (ty : «Type») → IsPlanned b answers p s ty → All (CanLead b) (destinations s)
 destinations-lead calls b answers ready p s ty planned = edges-lead calls b answers ready (edges_in p) (destinations s) planned.edges
 
+-- the entries that it names exist
+entries-alike : (s : InstructionData) → operation_entries (operation_of s) ≡ entries_of s
+entries-alike (shape.UnaryIeee code bits) = refl
+entries-alike _ = refl
+
+entry-exists : (tables : TableLists) (entry : EntryRef) → has_entry tables entry ≡ true → EntryExists tables entry
+entry-exists tables (ASlot number) there = ltb-true number (length tables.stack_slots) there
+
+all-entries-exist : (tables : TableLists) (entries : List EntryRef) → list_all (has_entry tables) entries ≡ true → All (EntryExists tables) entries
+all-entries-exist tables [] there k d inside = absurd (omega (arith, inside))
+all-entries-exist tables (entry ∷ entries) there zero d inside = entry-exists tables entry (and_parts (has_entry tables entry) _ there).0
+all-entries-exist tables (entry ∷ entries) there (suc k) d inside =
+    all-entries-exist tables entries (and_parts (has_entry tables entry) _ there).1 k d (omega (arith, inside))
+
+entries-found : (tables : TableLists) (entries : List EntryRef) → All (EntryExists tables) entries → list_all (has_entry tables) entries ≡ true
+entries-found tables [] exist = refl
+entries-found tables (entry ∷ entries) exist =
+    and_from (has_entry tables entry) (list_all (has_entry tables) entries) (entry-found entry (exist 0 entry (omega arith)))
+    (entries-found tables entries (λ k d inside. exist (suc k) d (omega (arith, inside))))
+  where
+    entry-found : (e : EntryRef) → EntryExists tables e → has_entry tables e ≡ true
+    entry-found (ASlot number) below = lt-ltb number (length tables.stack_slots) below
+
+-- a test of what the shape names is one of what the plan names
+pub entries-same : (b : FunctionBuilder) (answers : List Answer) (p : Plan) (s : InstructionData) (ty : «Type») (test : Bool) → IsPlanned b answers p s ty
+    → IsTrue test ↔ All (EntryExists b.func.now.tables) (entries_of s) → has_entries b.func.now p ≡ test
+entries-same b answers p s ty test planned tells =
+    ap (list_all (has_entry b.func.now.tables)) (ap operation_entries planned.operation ∙ entries-alike s) ∙ by test tells
+  where
+    by : (test : Bool) → IsTrue test ↔ All (EntryExists b.func.now.tables) (entries_of s) → list_all (has_entry b.func.now.tables) (entries_of s) ≡ test
+    by true tells = entries-found b.func.now.tables (entries_of s) (tells.0 refl)
+    by false tells = false_from_ne_true _ (λ there. let no_way : false ≡ true = tells.1 (all-entries-exist b.func.now.tables (entries_of s) there) in absurd (false≢true no_way))
+
+pub entries-exist : (b : FunctionBuilder) (answers : List Answer) (p : Plan) (s : InstructionData) (ty : «Type») → IsPlanned b answers p s ty → can_make b answers p ≡ true
+    → All (EntryExists b.func.now.tables) (entries_of s)
+entries-exist b answers p s ty planned may =
+    all-entries-exist b.func.now.tables (entries_of s)
+    (ap (list_all (has_entry b.func.now.tables)) (sym (ap operation_entries planned.operation ∙ entries-alike s)) ∙ (and_parts _ (has_entries b.func.now p) may).1)
+
 -- FORMATS -------------------------------------------------------------------------------------------------------------
-
--- the type of the first of these names is that of the first of the values that they lead to
-first-found : (b : FunctionBuilder) (answers : List Answer) (names : List Name) (x : ℕ) (xs : List ℕ) → map (value_of b.func.now answers) names ≡ map Some (x ∷ xs)
-    → first_type (λ name. type_in b.func.now (value_of b.func.now answers name)) names ≡ (value_at b.func.now x).ty
-first-found b answers [] x xs found = let no_way : ⊥ = cc in absurd no_way
-first-found b answers (name ∷ names) x xs found = let here : value_of b.func.now answers name ≡ Some x = cc in ap (type_in b.func.now) here
-
-second-found : (b : FunctionBuilder) (answers : List Answer) (names : List Name) (w x : ℕ) (xs : List ℕ) → map (value_of b.func.now answers) names ≡ map Some (w ∷ x ∷ xs)
-    → first_type (λ name. type_in b.func.now (value_of b.func.now answers name)) (drop 1 names) ≡ (value_at b.func.now x).ty
-second-found b answers [] w x xs found = let no_way : ⊥ = cc in absurd no_way
-second-found b answers (name ∷ names) w x xs found =
-    let rest : map (value_of b.func.now answers) names ≡ map Some (x ∷ xs) = cc in first-found b answers names x xs rest
 
 -- the first of the values that names lead to exists, and so does the second
 pub first-exists : (b : FunctionBuilder) (answers : List Answer) (names : List Name) (x : ℕ) (xs : List ℕ) → ValuesExist b answers
@@ -172,64 +197,6 @@ second-exists b answers [] w x xs exist found = let no_way : ⊥ = cc in absurd 
 second-exists b answers (name ∷ names) w x xs exist found =
     let rest : map (value_of b.func.now answers) names ≡ map Some (x ∷ xs) = cc in first-exists b answers names x xs exist rest
 
-pub planned-unary : (b : FunctionBuilder) (answers : List Answer) (code : UnaryOpcode) (name : Name) (x : ℕ) → map (value_of b.func.now answers) (name ∷ []) ≡ map Some (x ∷ [])
-    → IsPlanned b answers (plan.Unary code name) (shape.Unary code x) (value_at b.func.now x).ty
-planned-unary b answers code name x found =
-    record { operation = refl; controlling = first-found b answers (name ∷ []) x [] found; typed = refl; operands = found; edges = tt }
-
-pub planned-binary : (b : FunctionBuilder) (answers : List Answer) (code : BinaryOpcode) (args : List Name) (x y : ℕ)
-    → map (value_of b.func.now answers) args ≡ map Some (x ∷ y ∷ [])
-    → IsPlanned b answers (plan.Binary code args) (shape.Binary code (x ∷ y ∷ [])) (value_at b.func.now x).ty
-planned-binary b answers code args x y found =
-    record { operation = refl; controlling = first-found b answers args x (y ∷ []) found; typed = refl; operands = found; edges = tt }
-
-pub planned-compare : (b : FunctionBuilder) (answers : List Answer) (cond : IntCC) (args : List Name) (x y : ℕ)
-    → map (value_of b.func.now answers) args ≡ map Some (x ∷ y ∷ [])
-    → IsPlanned b answers (plan.IntCompare cond args) (shape.IntCompare cond (x ∷ y ∷ [])) (value_at b.func.now x).ty
-planned-compare b answers cond args x y found =
-    record { operation = refl; controlling = first-found b answers args x (y ∷ []) found; typed = refl; operands = found; edges = tt }
-
-pub planned-concat : (b : FunctionBuilder) (answers : List Answer) (args : List Name) (x y : ℕ)
-    → map (value_of b.func.now answers) args ≡ map Some (x ∷ y ∷ [])
-    → IsPlanned b answers (plan.Concat args) (shape.Concat (x ∷ y ∷ [])) (value_at b.func.now x).ty
-planned-concat b answers args x y found =
-    record { operation = refl; controlling = first-found b answers args x (y ∷ []) found; typed = refl; operands = found; edges = tt }
-
-pub planned-split : (b : FunctionBuilder) (answers : List Answer) (name : Name) (x : ℕ) → map (value_of b.func.now answers) (name ∷ []) ≡ map Some (x ∷ [])
-    → IsPlanned b answers (plan.Split name) (shape.Split x) (value_at b.func.now x).ty
-planned-split b answers name x found =
-    record { operation = refl; controlling = first-found b answers (name ∷ []) x [] found; typed = refl; operands = found; edges = tt }
-
-pub planned-ternary : (b : FunctionBuilder) (answers : List Answer) (args : List Name) (test x y : ℕ)
-    → map (value_of b.func.now answers) args ≡ map Some (test ∷ x ∷ y ∷ [])
-    → IsPlanned b answers (plan.Ternary args) (shape.Ternary (test ∷ x ∷ y ∷ [])) (value_at b.func.now x).ty
-planned-ternary b answers args test x y found =
-    record { operation = refl; controlling = second-found b answers args test x (y ∷ []) found; typed = refl; operands = found; edges = tt }
-
-pub planned-convert : (b : FunctionBuilder) (answers : List Answer) (code : ConvertOpcode) (ty : «Type») (name : Name) (x : ℕ)
-    → map (value_of b.func.now answers) (name ∷ []) ≡ map Some (x ∷ []) → IsPlanned b answers (plan.Convert code ty name) (shape.Convert code x) ty
-planned-convert b answers code ty name x found = record { operation = refl; controlling = refl; typed = refl; operands = found; edges = tt }
-
-pub planned-load : (b : FunctionBuilder) (answers : List Answer) (flags : MemFlagsShape) (ty : «Type») (name : Name) (offset : ℤ) (x : ℕ)
-    → map (value_of b.func.now answers) (name ∷ []) ≡ map Some (x ∷ []) → IsPlanned b answers (plan.Load flags ty name offset) (shape.Load flags x offset) ty
-planned-load b answers flags ty name offset x found = record { operation = refl; controlling = refl; typed = refl; operands = found; edges = tt }
-
-pub planned-store : (b : FunctionBuilder) (answers : List Answer) (flags : MemFlagsShape) (args : List Name) (offset : ℤ) (x y : ℕ)
-    → map (value_of b.func.now answers) args ≡ map Some (x ∷ y ∷ []) → IsPlanned b answers (plan.Store flags args offset) (shape.Store flags (x ∷ y ∷ []) offset) Invalid
-planned-store b answers flags args offset x y found =
-    record { operation = refl; controlling = first-found b answers args x (y ∷ []) found; typed = refl; operands = found; edges = tt }
-
-pub planned-cond_trap : (b : FunctionBuilder) (answers : List Answer) (code : CondTrapOpcode) (name : Name) (reason : TrapCode) (x : ℕ)
-    → map (value_of b.func.now answers) (name ∷ []) ≡ map Some (x ∷ []) → IsPlanned b answers (plan.CondTrap code name reason) (shape.CondTrap code x reason) Invalid
-planned-cond_trap b answers code name reason x found =
-    record { operation = refl; controlling = first-found b answers (name ∷ []) x [] found; typed = refl; operands = found; edges = tt }
-
-pub planned-float : (b : FunctionBuilder) (answers : List Answer) (code : FloatConstOpcode) (bits : ℕ)
-    → IsPlanned b answers (plan.UnaryIeee code bits) (shape.UnaryIeee code bits) Invalid
-planned-float b answers F16const bits = record { operation = refl; controlling = refl; typed = refl; operands = refl; edges = tt }
-planned-float b answers F32const bits = record { operation = refl; controlling = refl; typed = refl; operands = refl; edges = tt }
-planned-float b answers F64const bits = record { operation = refl; controlling = refl; typed = refl; operands = refl; edges = tt }
-
 -- FULL TABLES ---------------------------------------------------------------------------------------------------------
 
 -- how many results an instruction of a plan has
@@ -242,6 +209,8 @@ plan-met f (plan.Split arg) none few = none
 plan-met f (plan.UnaryIeee F16const bits) none few = few (omega arith)
 plan-met f (plan.UnaryIeee F32const bits) none few = few (omega arith)
 plan-met f (plan.UnaryIeee F64const bits) none few = few (omega arith)
+plan-met f (plan.StackLoad stack.StackAddr ty slot offset) none few = few (omega arith)
+plan-met f (plan.StackLoad stack.StackLoad ty slot offset) none few = few (omega arith)
 plan-met f _ none few = few (omega arith)
 
 pub planned-full : (b : FunctionBuilder) (answers : List Answer) (p : Plan) (s : InstructionData) (ty : «Type») → IsPlanned b answers p s ty

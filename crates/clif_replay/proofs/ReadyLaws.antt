@@ -132,6 +132,7 @@ block-found calls b answers ready name block found = by (slice_get answers name.
     by None at found = absurd (none-some block found)
     by (Some answer.Nothing) at found = absurd (none-some block found)
     by (Some (answer.Variable v)) at found = absurd (none-some block found)
+    by (Some answer.Entry) at found = absurd (none-some block found)
     by (Some (answer.Values first count)) at found = absurd (none-some block found)
     by (Some (answer.Inst i)) at found = absurd (none-some block found)
     by (Some (answer.Block x)) at found = by_block x at name.answer refl found
@@ -157,6 +158,11 @@ block-missing calls b answers ready name missing =
         let e = entry calls b answers ready name.place (answer.Variable v) at in
         let one = one-answer e.given (AVariable v) name.answer ABlock e.is.0 (sym (answer-at calls b name.place name.answer (answer.Variable v) e) ∙ answered) in
         let wrong : AVariable v ≡ ABlock = one.1 in
+        cc
+    by (Some answer.Entry) at missing answered =
+        let e = entry calls b answers ready name.place answer.Entry at in
+        let one = one-answer e.given (AnEntry e.is.0 e.is.1) name.answer ABlock e.is.2 (sym (answer-at calls b name.place name.answer answer.Entry e) ∙ answered) in
+        let wrong : AnEntry e.is.0 e.is.1 ≡ ABlock = one.1 in
         cc
     by (Some (answer.Values first count)) at missing answered =
         let e = entry calls b answers ready name.place (answer.Values first count) at in
@@ -254,6 +260,7 @@ value-found calls b answers ready name value found = by (slice_get answers name.
     by None at found = absurd (none-some value found)
     by (Some answer.Nothing) at found = absurd (none-some value found)
     by (Some (answer.Variable v)) at found = absurd (none-some value found)
+    by (Some answer.Entry) at found = absurd (none-some value found)
     by (Some (answer.Block x)) at found = absurd (none-some value found)
     by (Some (answer.Values first count)) at found = by_values first count at (nat_lt name.answer count) refl found
     by (Some (answer.Inst i)) at found = by_inst i at name.answer refl found
@@ -287,6 +294,11 @@ value-missing calls b answers ready name missing =
         let e = entry calls b answers ready name.place (answer.Variable v) at in
         let one = one-answer e.given (AVariable v) name.answer (AValue ty) e.is.0 (sym (answer-at calls b name.place name.answer (answer.Variable v) e) ∙ answered) in
         let wrong : AVariable v ≡ AValue ty = one.1 in
+        cc
+    by ty (Some answer.Entry) at missing answered =
+        let e = entry calls b answers ready name.place answer.Entry at in
+        let one = one-answer e.given (AnEntry e.is.0 e.is.1) name.answer (AValue ty) e.is.2 (sym (answer-at calls b name.place name.answer answer.Entry e) ∙ answered) in
+        let wrong : AnEntry e.is.0 e.is.1 ≡ AValue ty = one.1 in
         cc
     by ty (Some (answer.Block x)) at missing answered =
         let e = entry calls b answers ready name.place (answer.Block x) at in
@@ -327,6 +339,7 @@ answers-exist calls b answers ready k inside =
     by answer.Nothing at = tt
     by (answer.Block x) at = tt
     by (answer.Variable v) at = tt
+    by answer.Entry at = tt
     by (answer.Values first count) at = λ j below.
         let e = entry calls b answers ready k (answer.Values first count) at in
         let there : j < length e.is.0 = omega (arith, below, e.is.3) in

@@ -27,6 +27,7 @@ PlanMeetsFullTable _ f = IsFull f
 -- sealing construct until a table is full. No other call lengthens a table.
 abbrev pub MeetsFullTable : Call → Body → ContextState → Type 0
 MeetsFullTable call.CreateBlock f c = length f.blocks ≡ 2 ^ 32 - 1
+MeetsFullTable (call.CreateSizedStackSlot size align_shift) f c = length f.tables.stack_slots ≡ 2 ^ 32 - 1
 MeetsFullTable (call.DeclareVar ty) f c = length c.variables ≡ 2 ^ 32 - 1
 MeetsFullTable (call.AppendBlockParam block ty) f c = length f.values ≡ 2 ^ 32 - 1
 MeetsFullTable (call.AppendBlockParamsForFunctionParams block) f c = NoRoomFor f (length f.signature.params)

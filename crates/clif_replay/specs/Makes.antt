@@ -8,7 +8,8 @@ use Rattle.clif_ir.specs.Body.{Body, value_at}
 use Rattle.clif_instructions.specs.Instruction.{destinations, operands, result_types}
 use Rattle.clif_instructions.specs.declared.block_call.BlockCall.{BlockCall}
 use Rattle.clif_instructions.specs.declared.instructions.InstructionData.{InstructionData}
-use Rattle.clif_meaning.specs.Acceptance.{allows, can_operate}
+use Rattle.clif_meaning.specs.Acceptance.{allows, can_operate, has_entry}
+use Rattle.clif_meaning.specs.Instruction.{operation_entries}
 use Rattle.clif_meaning.specs.Ledger.{Ledger}
 use Rattle.clif_meaning.specs.Request.{AnsweredCall, Request}
 use Rattle.clif_meaning.specs.View.{made_at, operation_of}
@@ -91,7 +92,13 @@ has_names b answers plan = all_values b.func.now answers (operands_in plan) && l
 abbrev pub FindsPlan : FunctionBuilder → List Answer → Plan → Result Planned CallError → Type 0
 FindsPlan b answers plan result = Finds (λ (p : Planned). IsPlanned b answers plan p.shape p.ty) (has_names b answers plan) result
 
+-- the entries of tables that it names were made
+abbrev pub has_entries : Body → Plan → Bool
+has_entries f plan = list_all (has_entry f.tables) (operation_entries (operation_in plan))
+
 -- it may be made
 abbrev pub can_make : FunctionBuilder → List Answer → Plan → Bool
 can_make b answers plan =
-    (is_open b && has_names b answers plan) && can_operate (operation_in plan) (controlling_in (λ name. type_in b.func.now (value_of b.func.now answers name)) plan)
+    (is_open b && has_names b answers plan)
+    && can_operate (operation_in plan) (controlling_in (λ name. type_in b.func.now (value_of b.func.now answers name)) plan)
+    && has_entries b.func.now plan

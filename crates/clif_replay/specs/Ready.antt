@@ -8,9 +8,10 @@ use Rattle.clif_instructions.specs.Members.{stands_in}
 use Rattle.clif_instructions.specs.declared.block_call.BlockArg.{BlockArg}
 use Rattle.clif_instructions.specs.declared.block_call.BlockArg.TheVariants.{Value}
 use Rattle.clif_instructions.specs.declared.block_call.BlockCall.{BlockCall}
+use Rattle.clif_tables.specs.Entries.{TableEntry}
 use Rattle.clif_meaning.specs.SameType.{same_type}
 use Rattle.clif_meaning.specs.Request.{AnsweredCall, Request}
-use Rattle.clif_meaning.specs.Ledger.{Answered, ABlock, AVariable, AValue, AnInstruction}
+use Rattle.clif_meaning.specs.Ledger.{Answered, ABlock, AVariable, AValue, AnInstruction, AnEntry}
 use Rattle.clif_simulation.specs.Carries.{numbers_from}
 use Rattle.clif_records.specs.Tables.{is_yes}
 use Rattle.clif_ssa.specs.Ssa.{predecessors_of, sealed_of}
@@ -39,6 +40,7 @@ AnswerIs (answer.Values first count) answered numbers =
     (types : List «Type») × (answered ≡ map AValue types) × (numbers ≡ numbers_from first types) × (count ≡ length types)
 AnswerIs (answer.Inst i) answered numbers =
     (types : List «Type») × (results : List ℕ) × (answered ≡ AnInstruction ∷ map AValue types) × (numbers ≡ i ∷ results)
+AnswerIs answer.Entry answered numbers = (entry : TableEntry) × (number : ℕ) × (answered ≡ AnEntry entry number ∷ []) × (numbers ≡ number ∷ [])
 
 -- the builder stands for these calls, on a function of this signature, and these are their answers; and it is known how a
 -- ledger is read
@@ -77,6 +79,7 @@ block_in index (Some answer.Nothing) = None
 block_in index (Some (answer.Variable v)) = None
 block_in index (Some (answer.Values first count)) = None
 block_in index (Some (answer.Inst i)) = None
+block_in index (Some answer.Entry) = None
 block_in index None = None
 
 abbrev pub block_of : List Answer → Name → Option ℕ
@@ -89,6 +92,7 @@ value_in f index (Some (answer.Inst i)) = if index == 0 then None else slice_get
 value_in f index (Some answer.Nothing) = None
 value_in f index (Some (answer.Block b)) = None
 value_in f index (Some (answer.Variable v)) = None
+value_in f index (Some answer.Entry) = None
 value_in f index None = None
 
 abbrev pub value_of : Body → List Answer → Name → Option ℕ
@@ -100,6 +104,7 @@ AnswerExists f (answer.Inst i) = i < length f.insts
 AnswerExists f answer.Nothing = Unit {0}
 AnswerExists f (answer.Block b) = Unit {0}
 AnswerExists f (answer.Variable v) = Unit {0}
+AnswerExists f answer.Entry = Unit {0}
 AnswerExists f (answer.Values first count) = (k : ℕ) → k < count → first + k < length f.values
 
 -- what each answer names exists

@@ -3,13 +3,14 @@ use Rattle.std.specs.Prelude.{◌≡◌, ℕ, List, [], ◌∷◌, ◌++◌, map
 use Rattle.clif_ir.specs.Body.{Body}
 use Rattle.clif_meaning.specs.Event.{types_of}
 use Rattle.clif_meaning.specs.Name.{Name}
-use Rattle.clif_meaning.specs.Instruction.{Binary, Brif, Compare, Compute, Concat, CondTrap, Convert, Edge, FloatConst, Iconst, Jump, Known, Load, Operation, Return, Select, Split, Store, Trap, Unary}
-use Rattle.clif_meaning.specs.Request.{Request, CreateBlock, SwitchToBlock, SealBlock, SealAllBlocks, InsertBlockAfter, SetColdBlock, EnsureInsertedBlock, AppendBlockParams, AppendFunctionParams, DeclareVar, DefVar, UseVar, Build, Finalize, Script, AnsweredCall, script_of}
+use Rattle.clif_meaning.specs.Instruction.{Binary, Brif, Compare, Compute, Concat, CondTrap, Convert, Edge, FloatConst, Iconst, Jump, Known, Load, Operation, Return, Select, Split, Stack, StackStore, Store, Trap, Unary}
+use Rattle.clif_meaning.specs.Request.{Request, CreateBlock, SwitchToBlock, SealBlock, SealAllBlocks, InsertBlockAfter, SetColdBlock, EnsureInsertedBlock, AppendBlockParams, AppendFunctionParams, DeclareVar, DefVar, UseVar, MakeEntry, Build, Finalize, Script, AnsweredCall, script_of}
 use Rattle.clif_meaning.specs.Ledger.{Ledger, empty_ledger, ledger_after, ledger_with, or_invalid, type_of}
 use Rattle.clif_meaning.specs.Acceptance.{Verdict, Accepted, Misuse, Refused, jump, brif, return_, trap, allows, verdict_from, verdict_on}
 use Rattle.clif_types.specs.declared.types.«Type».{«Type»}
 use Rattle.clif_types.specs.declared.types.«Type».TheVariants.{Invalid}
 use Rattle.clif_types.specs.Signature.{SignatureShape}
+use Rattle.clif_tables.specs.Entries.{AStackSlot}
 use Rattle.clif_types.specs.declared.extname.UserFuncName.{UserFuncName}
 use Rattle.cranelift_frontend.specs.Context.{ContextState}
 use Rattle.cranelift_frontend.specs.StandsFor.{LeavesNoParameter, StandsIn}
@@ -45,6 +46,8 @@ operation_in (plan.IntCompare cond args) = Compute (Compare cond)
 operation_in (plan.Ternary args) = Compute Select
 operation_in (plan.Load flags ty arg offset) = Load flags offset
 operation_in (plan.Store flags args offset) = Store flags offset
+operation_in (plan.StackLoad opcode ty slot offset) = Stack opcode slot offset
+operation_in (plan.StackStore arg slot offset) = StackStore slot offset
 operation_in (plan.Trap code) = Trap code
 operation_in (plan.CondTrap opcode arg code) = CondTrap opcode code
 operation_in (plan.Jump destination) = Jump
@@ -68,6 +71,8 @@ controlling_in typed (plan.IntCompare cond args) = first_type typed args
 controlling_in typed (plan.Ternary args) = first_type typed (drop 1 args)
 controlling_in typed (plan.Load flags ty arg offset) = ty
 controlling_in typed (plan.Store flags args offset) = first_type typed args
+controlling_in typed (plan.StackLoad opcode ty slot offset) = ty
+controlling_in typed (plan.StackStore arg slot offset) = typed arg
 controlling_in typed (plan.CondTrap opcode arg code) = typed arg
 controlling_in typed (plan.Brif condition block_then block_else) = typed condition
 controlling_in typed _ = Invalid
@@ -90,6 +95,7 @@ request_of signature ledger call.EnsureInsertedBlock = EnsureInsertedBlock
 request_of signature ledger (call.AppendBlockParam block ty) = AppendBlockParams (name_of block) (ty ∷ [])
 request_of signature ledger (call.AppendBlockParamsForFunctionParams block) = AppendFunctionParams (name_of block) (types_of signature.params)
 request_of signature ledger (call.AppendBlockParamsForFunctionReturns block) = AppendBlockParams (name_of block) (types_of signature.returns)
+request_of signature ledger (call.CreateSizedStackSlot size align_shift) = MakeEntry (AStackSlot (record { size = size; align_shift = align_shift }))
 request_of signature ledger (call.DeclareVar ty) = DeclareVar ty
 request_of signature ledger (call.DefVar variable value) = DefVar variable (name_of value)
 request_of signature ledger (call.UseVar variable) = UseVar variable

@@ -9,6 +9,7 @@ use crate::make_blocks::{
     create_block, ensure_inserted_block, insert_block_after, seal_all_blocks, seal_block,
     set_cold_block, switch_to_block,
 };
+use crate::make_entities::create_sized_stack_slot;
 use crate::make_instructions::make_instruction;
 use crate::make_parameters::{
     append_block_param, append_block_params_for_function_params,
@@ -48,6 +49,9 @@ pub(crate) fn make_call(
         }
         Call::AppendBlockParamsForFunctionReturns { block } => {
             append_block_params_for_function_returns(builder, answers, *block)
+        }
+        Call::CreateSizedStackSlot { size, align_shift } => {
+            create_sized_stack_slot(builder, answers, *size, *align_shift)
         }
         Call::DeclareVar { ty } => declare_var(builder, answers, *ty),
         Call::DefVar { variable, value } => def_var(builder, answers, types, *variable, *value),

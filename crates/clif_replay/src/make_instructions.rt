@@ -1,7 +1,8 @@
 //! The instructions of a script, each made on a builder by its plan, if its condition holds.
 ghost use Rattle.std.specs.Prelude.{◌≡◌, ◌<◌, ◌-◌, ◌∷◌, [], length, slice_index, EachIndex, All, Err};
 ghost use Rattle.clif_ir.specs.Body.{value_at};
-ghost use Rattle.clif_instructions.specs.Instruction.{destinations, operands};
+ghost use Rattle.clif_ir.specs.Consistent.{EntryExists};
+ghost use Rattle.clif_instructions.specs.Instruction.{destinations, entries_of, operands};
 ghost use Rattle.clif_meaning.specs.Acceptance.{can_operate};
 ghost use Rattle.cranelift_frontend.specs.Builder.{CanLead, HasCurrent};
 ghost use Rattle.cranelift_frontend.specs.Built.{Builds};
@@ -15,9 +16,10 @@ use crate::script::{Answer, CallError};
 use clif_calls::{Edge, Name, Plan};
 use clif_ir::{Function, InstructionData};
 use clif_opcodes::{
-    BinaryOpcode, CondTrapOpcode, ConvertOpcode, Demand, FloatConstOpcode, Opcode, UnaryOpcode,
+    BinaryOpcode, CondTrapOpcode, ConvertOpcode, Demand, FloatConstOpcode, Opcode, StackOpcode,
+    UnaryOpcode,
 };
-use clif_types::{BuildError, Inst, IntCC, MemFlagsData, TrapCode, Type, Value};
+use clif_types::{BuildError, Inst, IntCC, MemFlagsData, StackSlot, TrapCode, Type, Value};
 use cranelift_frontend::{FunctionBuilder, InstBuilderBase};
 
 // An instruction, before it is made: its shape and its controlling type.
@@ -50,6 +52,7 @@ fn append(
     requires current { HasCurrent builder.old }
     requires operands_exist { EachIndex (operands shape) (λ k. slice_index (operands shape) k < length builder.old.func.now.values) }
     requires edges { All (CanLead builder.old) (destinations shape) }
+    requires entries_exist { All (EntryExists builder.old.func.now.tables) (entries_of shape) }
     ensures { Builds builder.old builder.new shape ty result }
 {
     builder.ins().build(shape, ty)
@@ -73,6 +76,9 @@ fn checked(
     if !can_operate(plan, planned.ty) {
         return Err(CallError::Misuse);
     }
+    if !builder.func().has_entries(&planned.shape) {
+        return Err(CallError::Misuse);
+    }
     Ok(planned)
 }
 
@@ -86,6 +92,7 @@ fn can_operate(plan: &Plan<'_>, ty: Type) -> bool
         Plan::Concat { .. } => Demand::ADoubled.is_met(ty),
         Plan::Split { .. } => Demand::AHalved.is_met(ty),
         Plan::Load { .. } => ty.is_valid(),
+        Plan::StackLoad { opcode, .. } => Opcode::Stack(*opcode).typing().demand.is_met(ty),
         _ => true,
     }
 }
@@ -124,6 +131,15 @@ fn shaped(
             args,
             offset,
         } => store(builder, answers, flags, args, *offset),
+        Plan::StackLoad {
+            opcode,
+            ty,
+            slot,
+            offset,
+        } => Ok(at_slot(*opcode, *ty, *slot, *offset)),
+        Plan::StackStore { arg, slot, offset } => {
+            stack_store(builder, answers, *arg, *slot, *offset)
+        }
         Plan::CondTrap { opcode, arg, code } => cond_trap(builder, answers, *opcode, *arg, *code),
         Plan::Jump { destination } => jump(builder, answers, destination),
         Plan::Brif {
@@ -283,6 +299,34 @@ fn store(
         args,
         offset,
     }))
+}
+
+// The address of a stack slot, or a load from it, which are made at a type that is given.
+fn at_slot(opcode: StackOpcode, ty: Type, slot: StackSlot, offset: i32) -> Planned
+    ensures { result ≡ record { shape = InstructionData.StackLoad opcode slot offset; ty = ty } }
+{
+    let shape = InstructionData::StackLoad {
+        opcode,
+        slot,
+        offset,
+    };
+    given(shape, ty)
+}
+
+// A store of a value into a stack slot.
+fn stack_store(
+    builder: &FunctionBuilder<'_>,
+    answers: &[Answer],
+    arg: Name,
+    slot: StackSlot,
+    offset: i32,
+) -> Result<Planned, CallError>
+    requires answers { AnswersExist builder.now.func.now answers.now }
+    requires values { ValuesExist builder.now answers.now }
+    ensures { FindsPlan builder.now answers.now (Plan.StackStore arg slot offset) result }
+{
+    let arg = one_value(builder.func(), answers, arg)?;
+    Ok(untyped(InstructionData::StackStore { arg, slot, offset }))
 }
 
 // A trap under a condition.

@@ -41,7 +41,11 @@ fn value_in(func: &Function, answer: Answer, place: usize) -> Option<Value>
     match answer {
         Answer::Values { first, count } => value_among(func, first, count, place),
         Answer::Inst(inst) if place > 0 => func.inst_results(inst).get(place - 1).copied(),
-        Answer::Inst(_) | Answer::Nothing | Answer::Block(_) | Answer::Variable(_) => None,
+        Answer::Inst(_)
+        | Answer::Nothing
+        | Answer::Block(_)
+        | Answer::Variable(_)
+        | Answer::Entry => None,
     }
 }
 

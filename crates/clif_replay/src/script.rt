@@ -71,6 +71,8 @@ pub(crate) enum Answer {
     Variable(Variable),
     Values { first: Value, count: usize },
     Inst(Inst),
+    // an entry of a table, which calls name by its number
+    Entry,
 }
 
 // Why one call didn't succeed.

@@ -314,6 +314,50 @@ block0(v0: i64):
 }
 ";
 
+pub const SLOTS: &str = "\
+function %slots (i32) -> i32 system_v
+small = create_sized_stack_slot 4 2
+large = create_sized_stack_slot 16 3
+b = create_block
+x = append_block_param b i32
+switch_to_block b
+stack_store x small
+at = stack_addr.i64 large 8
+store x at 4
+half = stack_load.i16 large +12
+y = uextend.i32 half
+z = stack_load.i32 ss0
+sum = iadd y z
+seal_block b
+next = create_block
+jump next
+switch_to_block next
+seal_block next
+stack_store sum $1.0 -4
+return sum
+";
+
+pub const SLOTS_TEXT: &str = "\
+function %slots(i32) -> i32 system_v {
+    ss0 = explicit_slot 4, align = 4
+    ss1 = explicit_slot 16, align = 8
+
+block0(v0: i32):
+    stack_store v0, ss0
+    v1 = stack_addr.i64 ss1+8
+    store v0, v1+4
+    v2 = stack_load.i16 ss1+12
+    v3 = uextend.i32 v2
+    v4 = stack_load.i32 ss0
+    v5 = iadd v3, v4
+    jump block1
+
+block1:
+    stack_store.i32 v5, ss1-4
+    return v5
+}
+";
+
 pub const MISUSE: &str = "\
 # No branch may lead to a block that is sealed.
 block0 = create_block

@@ -57,7 +57,7 @@ fn of_calls(rt: HostRuntime) -> Result<(), Fail> {
     faults(&rt, rt.alloc(), &CALLS)
 }
 
-const INSTRUCTIONS: [(&str, &str); 29] = [
+const INSTRUCTIONS: [(&str, &str); 39] = [
     ("f16const", "expected the bits of an f16"),
     ("f16const 65536", "expected the bits of an f16"),
     ("f32const 4294967296", "expected the bits of an f32"),
@@ -81,6 +81,22 @@ const INSTRUCTIONS: [(&str, &str); 29] = [
     ("load.i32 $0.0 4 4", "expected the end of the line"),
     ("store $0.0", "expected a value"),
     ("store $0.0 $0.0 -", "expected an offset"),
+    ("create_sized_stack_slot", "expected a size of 32 bits"),
+    (
+        "create_sized_stack_slot 4294967296 0",
+        "expected a size of 32 bits",
+    ),
+    ("create_sized_stack_slot 4", "expected a shift of 8 bits"),
+    (
+        "create_sized_stack_slot 4 256",
+        "expected a shift of 8 bits",
+    ),
+    ("stack_addr ss0", "expected a type"),
+    ("stack_load.i32", "expected a stack slot"),
+    ("stack_load.i32 s", "unknown name: s"),
+    ("stack_load.i32 ss4294967295", "expected a stack slot"),
+    ("stack_load.i32 ss0 4 4", "expected the end of the line"),
+    ("stack_store ss0", "unknown name: ss0"),
     ("trapz $0.0", "expected a trap code"),
     ("trapz user7", "unknown name: user7"),
     ("trapnz $0.0 user256", "expected a trap code"),
@@ -144,7 +160,7 @@ fn of_header_lines(rt: HostRuntime) -> Result<(), Fail> {
 
 const CALLS_TO_COME: [(&str, &str); 3] = [
     ("switch x b 1:c", "not supported yet: switch"),
-    ("x = stack_load.i32 s", "not supported yet: stack_load"),
+    ("x = vconst.i8x16 0x00", "not supported yet: vconst"),
     ("call f (x)", "not supported yet: call"),
 ];
 

@@ -8,12 +8,13 @@ use std::alloc::Global;
 use std::process::Abort;
 use std::test::Fail;
 
-const EXAMPLES: [(&str, &str); 7] = [
+const EXAMPLES: [(&str, &str); 8] = [
     (data::DIAMOND, data::DIAMOND_TEXT),
     (data::NESTED_LOOPS, data::NESTED_LOOPS_TEXT),
     (data::SUM_OF_BYTES, data::SUM_OF_BYTES_TEXT),
     (data::CHECKED_ELEMENT, data::CHECKED_ELEMENT_TEXT),
     (data::FORMS, data::FORMS_TEXT),
+    (data::SLOTS, data::SLOTS_TEXT),
     (data::PLACED, data::PLACED_TEXT),
     ("\n# nothing is called\n \t\r\n,", data::EMPTY_TEXT),
 ];
@@ -129,6 +130,12 @@ load.f64 notrap $1.0 -4
 store $1.0 $2.0
 store aligned $1.0, $2.0, -2147483648
 store notrap $1.0 $2.0 0
+s = create_sized_stack_slot 4 2
+t = create_sized_stack_slot 0x10, 0
+stack_addr.i64 t 8
+stack_load.f32 s
+stack_load.i8 $17.0 -1
+stack_store $1.0, ss7, +4
 trapz $1.0 user7
 trapnz $1.0, int_divz
 trap heap_oob
@@ -154,6 +161,12 @@ load.f64 notrap $1.0 -4
 store $1.0 $2.0
 store aligned $1.0 $2.0 -2147483648
 store notrap $1.0 $2.0
+create_sized_stack_slot 4 2
+create_sized_stack_slot 16 0
+stack_addr.i64 ss1 8
+stack_load.f32 ss0
+stack_load.i8 ss1 -1
+stack_store $1.0 ss7 4
 trapz $1.0 user7
 trapnz $1.0 int_divz
 trap heap_oob
@@ -241,7 +254,7 @@ block0:
     Ok(())
 }
 
-const MISUSES: [(&str, &str); 14] = [
+const MISUSES: [(&str, &str); 19] = [
     (data::MISUSE, data::MISUSE_TEXT),
     // an answer that isn't there, and one of another kind
     (
@@ -294,6 +307,28 @@ const MISUSES: [(&str, &str); 14] = [
     (
         "b = create_block\nswitch_to_block b\ntrap user1\ntrap user1",
         "misuse at call 3\nline 4: trap user1\n",
+    ),
+    // an alignment that is too great, a slot that isn't there, and an address that is no integer
+    (
+        "create_sized_stack_slot 4 32",
+        "misuse at call 0\nline 1: create_sized_stack_slot 4 32\n",
+    ),
+    (
+        "s = create_sized_stack_slot 4 31\nb = create_block\nswitch_to_block b\nstack_load.i8 ss1",
+        "misuse at call 3\nline 4: stack_load.i8 ss1\n",
+    ),
+    (
+        "b = create_block\nx = append_block_param b i8\nswitch_to_block b\nstack_store x x",
+        "misuse at call 3\nline 4: stack_store x x\n",
+    ),
+    (
+        "s = create_sized_stack_slot 4 0\nb = create_block\nswitch_to_block b\nstack_addr.f32 s",
+        "misuse at call 3\nline 4: stack_addr.f32 s\n",
+    ),
+    // a slot is no value
+    (
+        "s = create_sized_stack_slot 4 0\nb = create_block\nswitch_to_block b\nreturn s",
+        "misuse at call 3\nline 4: return s\n",
     ),
     // a block that isn't finished
     (

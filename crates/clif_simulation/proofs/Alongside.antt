@@ -88,7 +88,7 @@ module _ (calls : List AnsweredCall) (f : Body) (ssa : SsaState) (consistent : I
     left_run = script_run_so_far calls f world tracked
 
     abbrev pub right_run : FunctionRun
-    right_run = function_run_so_far calls f width world collector
+    right_run = function_run_so_far calls f world collector
 
     abbrev pub items : List Item
     items = Entry.items calls f ssa carries entry is_entry

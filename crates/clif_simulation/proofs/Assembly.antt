@@ -35,7 +35,7 @@ module _ (calls : List AnsweredCall) (f : Body) (ssa : SsaState) (width : Pointe
     left = script_machine (script_run (script_of calls) (view_of f) world)
 
     abbrev right : Machine FunctionState Observation
-    right = function_machine (function_run (script_of calls) (view_of f) width world ByMaps)
+    right = function_machine (function_run (script_of calls) (view_of f) world ByMaps)
 
     -- with an entry
     entered : (entry : Name) → (program_so_far calls).entry ≡ Some entry → SameMeaning (observed left) (observed right)
@@ -51,14 +51,14 @@ module _ (calls : List AnsweredCall) (f : Body) (ssa : SsaState) (width : Pointe
     not_entered none =
         let left_is : left.start ≡ script.blank_state (script_run (script_of calls) (view_of f) world) =
         ap (script.start_at (script_run (script_of calls) (view_of f) world)) none in
-        let right_is : right.start ≡ function_machine_of.blank_state (function_run (script_of calls) (view_of f) width world ByMaps) =
-        ap (function_machine_of.start_at (function_run (script_of calls) (view_of f) width world ByMaps)) (carries.entry.none none) in
+        let right_is : right.start ≡ function_machine_of.blank_state (function_run (script_of calls) (view_of f) world ByMaps) =
+        ap (function_machine_of.start_at (function_run (script_of calls) (view_of f) world ByMaps)) (carries.entry.none none) in
         let same : observed left 0 ≡ observed right 0 = ap left.shown left_is ∙ sym (ap right.shown right_is) in
         let left_end : IsEnd (observed left 0).ending = subst (λ (p : ScriptState). IsEnd (left.shown p).ending) (sym left_is) tt in
         let right_end : IsEnd (observed right 0).ending = subst (λ (q : FunctionState). IsEnd (right.shown q).ending) (sym right_is) tt in
         record {
           there = λ n. (0, Endings.script_stays (script_run (script_of calls) (view_of f) world) 0 n (omega arith) left_end ∙ same);
-          back = λ n. (0, Endings.function_stays (function_run (script_of calls) (view_of f) width world ByMaps) 0 n (omega arith) right_end ∙ sym same);
+          back = λ n. (0, Endings.function_stays (function_run (script_of calls) (view_of f) world ByMaps) 0 n (omega arith) right_end ∙ sym same);
         }
 
     by_entry : (o : Option Name) → (program_so_far calls).entry ≡ o → SameMeaning (observed left) (observed right)
@@ -66,7 +66,7 @@ module _ (calls : List AnsweredCall) (f : Body) (ssa : SsaState) (width : Pointe
     by_entry (Some entry) is_entry = entered entry is_entry
 
     pub means_the_same :
-        SameMeaning (script_behaviour (script_of calls) (view_of f) world) (function_behaviour (script_of calls) (view_of f) width world)
+        SameMeaning (script_behaviour (script_of calls) (view_of f) world) (function_behaviour (script_of calls) (view_of f) world)
     means_the_same = by_entry (program_so_far calls).entry refl
 
 -- the premises say that no branch names the entry

@@ -11,12 +11,13 @@ use Rattle.clif_meaning.specs.Memory.{Memory, Range}
 use Rattle.clif_meaning.specs.Name.{Name, same_name, answer_of}
 use Rattle.clif_opcodes.specs.declared.opcodes.FloatConstOpcode.TheVariants.{F16const, F32const, F64const}
 use Rattle.clif_types.specs.MemFlags.{MemFlagsShape}
-use Rattle.clif_meaning.specs.Instruction.{Instruction, Operation, Compute, Load, Store, Trap, CondTrap, Jump, Brif, Return, Arithmetic, Iconst, FloatConst, Unary, Binary, Compare, Concat, Split, Convert, Select}
+use Rattle.clif_opcodes.specs.declared.opcodes.StackOpcode.TheVariants.{StackAddr, StackLoad}
+use Rattle.clif_meaning.specs.Instruction.{Instruction, Operation, Compute, Load, Store, Stack, StackStore, Trap, CondTrap, Jump, Brif, Return, Arithmetic, Iconst, FloatConst, Unary, Binary, Compare, Concat, Split, Convert, Select}
 use Rattle.clif_meaning.specs.Request.{Request, Script}
 use Rattle.clif_meaning.specs.Program.{Program, Item, Instruct, Use, Assign, result_types, result_names, answers_from, with_item_at, with_inserted, extended, with_call, empty_program, program_of}
 use Rattle.clif_meaning.specs.Ledger.{is_terminator}
 use Rattle.clif_meaning.specs.World.{World}
-use Rattle.clif_meaning.specs.Outcome.{Outcome, Gives, Goes, Returns, Traps, Calls, NoStep, access_outcome, are_accessible, binary_fault, binary_number, computed, traps_on, low_bits_at, outcome_of_computed, outcome_of, unless_fault}
+use Rattle.clif_meaning.specs.Outcome.{Outcome, Gives, Goes, Returns, Traps, Calls, NoStep, access_outcome, no_claim, are_accessible, binary_fault, binary_number, computed, traps_on, low_bits_at, outcome_of_computed, outcome_of, unless_fault}
 use Rattle.clif_simulation.proofs.Effects.{ProgramEffect, program_effect, Leaves, Inserts, Takes, Switches, Assigns, Uses, Builds}
 
 -- an instruction gives the names of its results
@@ -164,6 +165,13 @@ counted_outcome world (Store flags offset) ty types [] memory = tt
 counted_outcome world (Store flags offset) ty types (stored ∷ []) memory = tt
 counted_outcome world (Store flags offset) ty types (stored ∷ address ∷ []) memory = counted_access 0 world flags _ (Gives [] _) refl
 counted_outcome world (Store flags offset) ty types (stored ∷ address ∷ x ∷ operands) memory = tt
+counted_outcome world (Stack StackAddr slot offset) ty types [] memory = refl
+counted_outcome world (Stack StackAddr slot offset) ty types (x ∷ operands) memory = tt
+counted_outcome world (Stack StackLoad slot offset) ty types [] memory = counted_access 1 world no_claim _ (Gives (_ ∷ []) memory) refl
+counted_outcome world (Stack StackLoad slot offset) ty types (x ∷ operands) memory = tt
+counted_outcome world (StackStore slot offset) ty types [] memory = tt
+counted_outcome world (StackStore slot offset) ty types (stored ∷ []) memory = counted_access 0 world no_claim _ (Gives [] _) refl
+counted_outcome world (StackStore slot offset) ty types (stored ∷ x ∷ operands) memory = tt
 counted_outcome world (Trap reason) ty types [] memory = tt
 counted_outcome world (Trap reason) ty types (x ∷ operands) memory = tt
 counted_outcome world (CondTrap opcode reason) ty types [] memory = tt
@@ -196,6 +204,9 @@ terminator_gives_none place instruction ends = ap (answers_from place 1) (none i
     none (Compute _) ends = cc
     none (Load flags offset) ends = cc
     none (Store flags offset) ends = refl
+    none (Stack StackAddr slot offset) ends = cc
+    none (Stack StackLoad slot offset) ends = cc
+    none (StackStore slot offset) ends = refl
     none (Trap reason) ends = refl
     none (CondTrap opcode reason) ends = refl
     none Jump ends = refl

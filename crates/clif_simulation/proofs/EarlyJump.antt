@@ -69,7 +69,7 @@ module _ (width : PointerWidth) (world : World) (tracked : Name → Bool) (colle
   left_run = script_run_so_far early_jump_calls early_jump_body world tracked
 
   abbrev right_run : FunctionRun
-  right_run = function_run_so_far early_jump_calls early_jump_body width world collector
+  right_run = function_run_so_far early_jump_calls early_jump_body world collector
 
   abbrev left : Machine ScriptStanding Observation
   left = interrupted_script early_jump_calls early_jump_state unknowns 0 (block 0) left_run
@@ -137,7 +137,7 @@ the_entry (suc (suc number)) name named is = cc
 abbrev Runs : PointerWidth → World → (Name → Bool) → Collector → ℕ → Name → Type 0
 Runs width world tracked collector =
     RunsBeside early_jump_calls early_jump_body early_jump_state (script_run_so_far early_jump_calls early_jump_body world tracked)
-    (function_run_so_far early_jump_calls early_jump_body width world collector)
+    (function_run_so_far early_jump_calls early_jump_body world collector)
 
 pub reads_right : ReadsRight early_jump_calls sample_signature early_jump_body early_jump_state
 reads_right width world tracked collector fits premises spares number name named is_entry = by (the_entry number name named is_entry)

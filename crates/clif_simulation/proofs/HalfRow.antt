@@ -94,7 +94,7 @@ module _ (width : PointerWidth) (world : World) (tracked : Name → Bool) (colle
 
     abbrev right : Machine FunctionState Observation
     right =
-        starting_at (function_machine (function_run_so_far answered_calls half_body width world collector))
+        starting_at (function_machine (function_run_so_far answered_calls half_body world collector))
         (record { values = values; memory = other_memory; events = other_events; control = At (block_of half_body 0).items })
 
     abbrev Alike : ℕ → ℕ → Type 0
@@ -170,7 +170,7 @@ module _ (width : PointerWidth) (world : World) (tracked : Name → Bool) (colle
     left_machine = script_machine (script_run_so_far answered_calls half_body world tracked)
 
     abbrev right_machine : Machine FunctionState Observation
-    right_machine = function_machine (function_run_so_far answered_calls half_body width world collector)
+    right_machine = function_machine (function_run_so_far answered_calls half_body world collector)
 
     abbrev Sides : ℕ → Name → ScriptState → FunctionState → Type 0
     Sides block name p q = SideBySide answered_calls half_body half_state block name (starting_at left_machine p) (starting_at right_machine q)
@@ -259,7 +259,7 @@ premises = record {
 }
 
 pub fits : (number : ℕ) → IsWorldOf first_signature (view_of (half_body_with number)) U64 SampleWorld.sample_world
-fits number = record { arguments = tt; slots = record { aligned = λ s slot h. cc; accessible = λ s slot k h below. cc; within = λ s slot h. cc; apart = λ s t slot other k l h. cc } }
+fits number = record { arguments = tt; pointers = refl; slots = record { aligned = λ s slot h. cc; accessible = λ s slot k h below. cc; within = λ s slot h. cc; apart = λ s t slot other k l h. cc } }
 
 -- the use's name is given behind the use
 pub leads_nowhere_here : (p : Place Name) → (code_so_far answered_calls).flow.targets p ≡ []
@@ -278,7 +278,7 @@ module _ (number bits : ℕ) where
   here = half_body_with number
 
   abbrev right_here : Machine FunctionState Observation
-  right_here = starting_at (function_machine (function_run_so_far answered_calls here U64 SampleWorld.sample_world ByMaps)) (with_bits bits SampleWorld.sample_world here)
+  right_here = starting_at (function_machine (function_run_so_far answered_calls here SampleWorld.sample_world ByMaps)) (with_bits bits SampleWorld.sample_world here)
 
   abbrev left_here : Machine ScriptState Observation
   left_here = starting_at (script_machine (script_run_so_far answered_calls here SampleWorld.sample_world (λ x. false))) (with_nine SampleWorld.sample_world)
@@ -286,7 +286,7 @@ module _ (number bits : ℕ) where
   ended : (n : ℕ) → (state_after right_here (suc (suc n))).control ≡ IsStuck
   ended zero = refl
   ended (suc n) =
-      ap (λ (c : Control Placed). (function_machine_of.step_at (function_run_so_far answered_calls here U64 SampleWorld.sample_world ByMaps) (state_after right_here (suc (suc n))) c).control) (ended n)
+      ap (λ (c : Control Placed). (function_machine_of.step_at (function_run_so_far answered_calls here SampleWorld.sample_world ByMaps) (state_after right_here (suc (suc n))) c).control) (ended n)
       ∙ ended n
 
   stuck_there : {X : Type 0} {rest : List X} → IsStuck ≡ At rest → ⊥

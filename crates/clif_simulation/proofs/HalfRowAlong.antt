@@ -35,7 +35,7 @@ module _ (width : PointerWidth) (world : World) (tracked : Name → Bool) (colle
   left = interrupted_script answered_calls half_state unknowns 0 block0 (script_run_so_far answered_calls half_body world tracked)
 
   abbrev right : Machine FunctionStanding Observation
-  right = interrupted_function half_state unknowns 0 (function_run_so_far answered_calls half_body width world collector)
+  right = interrupted_function half_state unknowns 0 (function_run_so_far answered_calls half_body world collector)
 
   abbrev Beside : ℕ → ℕ → Type 0
   Beside count steps = StandsBeside answered_calls half_body half_state 0 block0 count (state_after left count).state (state_after right steps).state
@@ -103,7 +103,7 @@ module _ (width : PointerWidth) (world : World) (tracked : Name → Bool) (colle
 
 pub reads_right : ReadsRight answered_calls first_signature half_body half_state
 reads_right width world tracked collector is_world so_far spare zero name named is_entry =
-    subst (RunsBeside answered_calls half_body half_state (script_run_so_far answered_calls half_body world tracked) (function_run_so_far answered_calls half_body width world collector) 0)
+    subst (RunsBeside answered_calls half_body half_state (script_run_so_far answered_calls half_body world tracked) (function_run_so_far answered_calls half_body world collector) 0)
     (the_name name named) (runs width world tracked collector)
 reads_right width world tracked collector is_world so_far spare (suc block) name named is_entry = absurd (no_block block name named)
 
@@ -129,7 +129,7 @@ module _ (f : Body) (s : SsaState) where
   left_here = interrupted_script answered_calls s nine 0 block0 (script_run_so_far answered_calls f SampleWorld.sample_world (λ x. false))
 
   abbrev right_here : Machine FunctionStanding Observation
-  right_here = interrupted_function s nine 0 (function_run_so_far answered_calls f U64 SampleWorld.sample_world ByMaps)
+  right_here = interrupted_function s nine 0 (function_run_so_far answered_calls f SampleWorld.sample_world ByMaps)
 
   abbrev Alike : ℕ → ℕ → Type 0
   Alike count steps = StandsBeside answered_calls f s 0 block0 count (state_after left_here count).state (state_after right_here steps).state
@@ -175,8 +175,8 @@ ended zero = refl
 ended (suc n) =
     ap (λ (c : Control Placed).
     (function_goes none_state nine (state_after (right_here half_body none_state) (suc (suc n)))
-    (function_edge (function_run_so_far answered_calls half_body U64 SampleWorld.sample_world ByMaps) (state_after (right_here half_body none_state) (suc (suc n))).state c)
-    (function_machine_of.step_at (function_run_so_far answered_calls half_body U64 SampleWorld.sample_world ByMaps)
+    (function_edge (function_run_so_far answered_calls half_body SampleWorld.sample_world ByMaps) (state_after (right_here half_body none_state) (suc (suc n))).state c)
+    (function_machine_of.step_at (function_run_so_far answered_calls half_body SampleWorld.sample_world ByMaps)
     (state_after (right_here half_body none_state) (suc (suc n))).state c)).state.control) (ended n)
     ∙ ended n
 

@@ -163,7 +163,7 @@ none_grows (suc (suc (suc zero))) name named grows = absurd (settled (block 3) n
 none_grows (suc (suc (suc (suc number)))) name named grows = cc
 
 fits : IsWorldOf both_arms_signature (view_of loop_body) U64 SampleWorld.sample_world
-fits = record { arguments = tt; slots = record { aligned = λ s slot h. cc; accessible = λ s slot k h below. cc; within = λ s slot h. cc; apart = λ s t slot other k l h. cc } }
+fits = record { arguments = tt; pointers = refl; slots = record { aligned = λ s slot h. cc; accessible = λ s slot k h below. cc; within = λ s slot h. cc; apart = λ s t slot other k l h. cc } }
 
 -- The record ------------------------------------------------------------------------------------------------------------
 
@@ -174,7 +174,7 @@ abbrev left : Machine ScriptStanding Observation
 left = interrupted_script loop_calls (loop_state_recording 1) nothing_known 0 (block 0) (script_run_so_far loop_calls loop_body SampleWorld.sample_world (λ x. false))
 
 abbrev right : Machine FunctionStanding Observation
-right = interrupted_function (loop_state_recording 1) nothing_known 0 (function_run_so_far loop_calls loop_body U64 SampleWorld.sample_world ByMaps)
+right = interrupted_function (loop_state_recording 1) nothing_known 0 (function_run_so_far loop_calls loop_body SampleWorld.sample_world ByMaps)
 
 -- the use in block2 is given before the block's end
 use_is_given : IsGivenBefore (code_so_far loop_calls) (answer_of 15 0) (behind (block 2) 4)

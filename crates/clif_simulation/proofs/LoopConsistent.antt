@@ -6,9 +6,9 @@ use Rattle.std.proofs.lemmas.List.Elements.{All-from_recursion}
 use Rattle.clif_instructions.specs.declared.block_call.BlockArg.{BlockArg}
 use Rattle.clif_ir.specs.declared.function.ValueOrigin.TheVariants.{Result, Param}
 use Rattle.clif_ir.specs.Body.{inst_at, value_at, block_at, alias_of, follow}
-use Rattle.clif_ir.specs.Consistent.{IsConsistent, IsOrigin, EdgeExists, PassedExists, alias_count}
+use Rattle.clif_ir.specs.Consistent.{IsConsistent, IsOrigin, EdgeExists, EntryExists, PassedExists, alias_count}
 use Rattle.clif_instructions.specs.Members.{Once, Stands}
-use Rattle.clif_instructions.specs.Instruction.{operands, destinations}
+use Rattle.clif_instructions.specs.Instruction.{entries_of, operands, destinations}
 use Rattle.clif_simulation.specs.CarryingExamples.{loop_body}
 
 -- numbers that follow each other
@@ -164,6 +164,16 @@ aliases_end (suc (suc zero)) below = refl
 aliases_end (suc (suc (suc zero))) below = refl
 aliases_end (suc (suc (suc (suc v)))) below = absurd (omega (arith, below))
 
+entries_exist : (i : ℕ) → All (EntryExists loop_body.tables) (entries_of (inst_at loop_body i).shape)
+entries_exist zero k d inside = absurd (omega (arith, inside))
+entries_exist (suc zero) k d inside = absurd (omega (arith, inside))
+entries_exist (suc (suc zero)) k d inside = absurd (omega (arith, inside))
+entries_exist (suc (suc (suc zero))) k d inside = absurd (omega (arith, inside))
+entries_exist (suc (suc (suc (suc zero)))) k d inside = absurd (omega (arith, inside))
+entries_exist (suc (suc (suc (suc (suc zero))))) k d inside = absurd (omega (arith, inside))
+entries_exist (suc (suc (suc (suc (suc (suc zero)))))) k d inside = absurd (omega (arith, inside))
+entries_exist (suc (suc (suc (suc (suc (suc (suc i))))))) k d inside = absurd (omega (arith, inside))
+
 edges_without_results : (i : ℕ) → destinations (inst_at loop_body i).shape ≢ [] → (inst_at loop_body i).results ≡ []
 edges_without_results zero some = absurd (some refl)
 edges_without_results (suc zero) some = refl
@@ -192,5 +202,6 @@ row_consistent = record {
   layout_once = consecutive loop_body.layout 0 in_layout;
   aliases_end = aliases_end;
   edges_without_results = edges_without_results;
+  entries_exist = entries_exist;
   signatures_exist = λ k function inside. absurd (omega (arith, inside));
 }

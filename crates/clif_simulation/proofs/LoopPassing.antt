@@ -96,7 +96,7 @@ module _ (width : PointerWidth) (world : World) (tracked : Name → Bool) (colle
   left_run = script_run_so_far passing_loop_calls passing_loop_body world tracked
 
   abbrev right_run : FunctionRun
-  right_run = function_run_so_far passing_loop_calls passing_loop_body width world collector
+  right_run = function_run_so_far passing_loop_calls passing_loop_body world collector
 
   abbrev left : Machine ScriptStanding Observation
   left = interrupted_script passing_loop_calls passing_loop_state unknowns 0 (block 0) left_run
@@ -294,7 +294,7 @@ the_entry (suc (suc number)) name named is = cc
 abbrev Runs : PointerWidth → World → (Name → Bool) → Collector → ℕ → Name → Type 0
 Runs width world tracked collector =
     RunsBeside passing_loop_calls passing_loop_body passing_loop_state (script_run_so_far passing_loop_calls passing_loop_body world tracked)
-    (function_run_so_far passing_loop_calls passing_loop_body width world collector)
+    (function_run_so_far passing_loop_calls passing_loop_body world collector)
 
 pub reads_right : ReadsRight passing_loop_calls sample_signature passing_loop_body passing_loop_state
 reads_right width world tracked collector fits premises spares number name named is_entry = by (the_entry number name named is_entry)
@@ -382,6 +382,7 @@ turned_body = passing_loop_body_with 1
 fits : IsWorldOf sample_signature (view_of turned_body) U64 passing_zero
 fits = record {
   arguments = SampleWorld.zeros_fit (types_of sample_signature.params);
+  pointers = refl;
   slots = record { aligned = λ s slot h. cc; accessible = λ s slot k h below. cc; within = λ s slot h. cc; apart = λ s t slot other k l h. cc };
 }
 
@@ -399,7 +400,7 @@ abbrev left_nine : Machine ScriptStanding Observation
 left_nine = interrupted_script passing_loop_calls passing_loop_state nine 0 (block 0) (script_run_so_far passing_loop_calls turned_body passing_zero (λ x. false))
 
 abbrev turned_run : FunctionRun
-turned_run = function_run_so_far passing_loop_calls turned_body U64 passing_zero ByMaps
+turned_run = function_run_so_far passing_loop_calls turned_body passing_zero ByMaps
 
 abbrev right_nine : Machine FunctionStanding Observation
 right_nine = interrupted_function passing_loop_state nine 0 turned_run

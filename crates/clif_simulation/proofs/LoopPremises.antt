@@ -67,6 +67,6 @@ meets world =
 
 pub loop_meets_premises : LoopMeetsPremises
 loop_meets_premises = record {
-  a_world = (SampleWorld.sample_world, record { arguments = tt; slots = no_memory.no_slots SampleWorld.sample_world }, λ events call. refl);
+  a_world = (SampleWorld.sample_world, record { arguments = tt; pointers = refl; slots = no_memory.no_slots SampleWorld.sample_world }, λ events call. refl);
   premises = meets;
 }

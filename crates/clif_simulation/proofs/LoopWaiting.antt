@@ -81,7 +81,7 @@ module _ (width : PointerWidth) (world : World) (tracked : Name → Bool) (colle
   left_run = script_run_so_far waiting_loop_calls waiting_loop_body world tracked
 
   abbrev right_run : FunctionRun
-  right_run = function_run_so_far waiting_loop_calls waiting_loop_body width world collector
+  right_run = function_run_so_far waiting_loop_calls waiting_loop_body world collector
 
   abbrev left : Machine ScriptStanding Observation
   left = interrupted_script waiting_loop_calls state unknowns 0 (block 0) left_run
@@ -233,12 +233,12 @@ reads_right width world tracked collector fits premises spares number name named
   where
     by : (number ≡ 0) × (block 0 ≡ name)
         → RunsBeside waiting_loop_calls waiting_loop_body state (script_run_so_far waiting_loop_calls waiting_loop_body world tracked)
-        (function_run_so_far waiting_loop_calls waiting_loop_body width world collector) number name
+        (function_run_so_far waiting_loop_calls waiting_loop_body world collector) number name
     by is =
         subst (λ (b : ℕ). RunsBeside waiting_loop_calls waiting_loop_body state (script_run_so_far waiting_loop_calls waiting_loop_body world tracked)
-        (function_run_so_far waiting_loop_calls waiting_loop_body width world collector) b name) (sym is.0)
+        (function_run_so_far waiting_loop_calls waiting_loop_body world collector) b name) (sym is.0)
         (subst (RunsBeside waiting_loop_calls waiting_loop_body state (script_run_so_far waiting_loop_calls waiting_loop_body world tracked)
-        (function_run_so_far waiting_loop_calls waiting_loop_body width world collector) 0) is.1 (runs width world tracked collector))
+        (function_run_so_far waiting_loop_calls waiting_loop_body world collector) 0) is.1 (runs width world tracked collector))
 
 -- What is refused -------------------------------------------------------------------------------------------------------
 
@@ -276,7 +276,7 @@ premises = record {
 }
 
 fits : IsWorldOf both_arms_signature (view_of waiting_loop_body) U64 SampleWorld.sample_world
-fits = record { arguments = tt; slots = record { aligned = λ s slot h. cc; accessible = λ s slot k h below. cc; within = λ s slot h. cc; apart = λ s t slot other k l h. cc } }
+fits = record { arguments = tt; pointers = refl; slots = record { aligned = λ s slot h. cc; accessible = λ s slot k h below. cc; within = λ s slot h. cc; apart = λ s t slot other k l h. cc } }
 
 spares_entry : SparesEntry waiting_loop_calls
 spares_entry entry is = each_items (AllByRecursion (SparesBlock entry)) tt ((other, tt), tt) (tt, ((other, tt), tt))
@@ -295,7 +295,7 @@ abbrev left_nine : Machine ScriptStanding Observation
 left_nine = interrupted_script waiting_loop_calls (waiting_loop_state []) nine 0 (block 0) (script_run_so_far waiting_loop_calls waiting_loop_body SampleWorld.sample_world (λ x. false))
 
 abbrev right_nine : Machine FunctionStanding Observation
-right_nine = interrupted_function (waiting_loop_state []) nine 0 (function_run_so_far waiting_loop_calls waiting_loop_body U64 SampleWorld.sample_world ByMaps)
+right_nine = interrupted_function (waiting_loop_state []) nine 0 (function_run_so_far waiting_loop_calls waiting_loop_body SampleWorld.sample_world ByMaps)
 
 -- the parameter that doesn't wait has no bits set, however often the loop is gone round
 none_set : (steps : ℕ) → ((state_after right_nine steps).state.control ≡ At (block_of waiting_loop_body 1).items) × ((state_after right_nine steps).state.values 0 ≡ 0)
@@ -308,8 +308,8 @@ none_set (suc n) = by (state_after right_nine n) (none_set n)
         subst (λ (after : FunctionStanding). (after.state.control ≡ At (block_of waiting_loop_body 1).items) × (after.state.values 0 ≡ 0))
         (sym (ap (λ (at : Control Placed).
         function_goes (waiting_loop_state []) nine c
-        (function_edge (function_run_so_far waiting_loop_calls waiting_loop_body U64 SampleWorld.sample_world ByMaps) c.state at)
-        (function_machine_of.step_at (function_run_so_far waiting_loop_calls waiting_loop_body U64 SampleWorld.sample_world ByMaps) c.state at)) before.0))
+        (function_edge (function_run_so_far waiting_loop_calls waiting_loop_body SampleWorld.sample_world ByMaps) c.state at)
+        (function_machine_of.step_at (function_run_so_far waiting_loop_calls waiting_loop_body SampleWorld.sample_world ByMaps) c.state at)) before.0))
         (refl, before.1)
 
 use_is_given : IsGivenBefore (code_so_far waiting_loop_calls) (answer_of 7 0) (behind (block 1) 1)

@@ -11,13 +11,14 @@ use Rattle.clif_meaning.specs.ScriptMachine as script
 use Rattle.clif_meaning.specs.ScriptMachine.{ScriptRun, ScriptState}
 use Rattle.clif_meaning.specs.FunctionMachine as function_machine_of
 use Rattle.clif_meaning.specs.FunctionMachine.{FunctionRun, FunctionState}
-use Rattle.clif_meaning.specs.Instruction.{Operation, Compute, Load, Store, Trap, CondTrap, Jump, Brif, Return}
+use Rattle.clif_opcodes.specs.declared.opcodes.StackOpcode.TheVariants.{StackAddr, StackLoad}
+use Rattle.clif_meaning.specs.Instruction.{Operation, Compute, Load, Store, Stack, StackStore, Trap, CondTrap, Jump, Brif, Return}
 use Rattle.clif_types.specs.declared.trapcode.TrapCode.{TrapCode}
 use Rattle.clif_types.specs.declared.trapcode.TrapCode.TheVariants.{HeapOutOfBounds}
 use Rattle.clif_types.specs.MemFlags.{MemFlagsShape}
 use Rattle.clif_types.specs.declared.types.«Type».{«Type»}
 use Rattle.clif_meaning.specs.World.{World}
-use Rattle.clif_meaning.specs.Outcome.{Outcome, Gives, Goes, Returns, Traps, Calls, NoStep, Computed, Values, Fault, Undefined, access_outcome, are_accessible, computed, outcome_of_computed, outcome_of, traps_on}
+use Rattle.clif_meaning.specs.Outcome.{Outcome, Gives, Goes, Returns, Traps, Calls, NoStep, Computed, Values, Fault, Undefined, access_outcome, no_claim, are_accessible, computed, outcome_of_computed, outcome_of, traps_on}
 use Rattle.clif_meaning.proofs.Stuttering.{Matched, ShowsOnlyEnds, steps_from}
 use Rattle.clif_simulation.proofs.Giving.{In}
 
@@ -154,6 +155,13 @@ outcome_plain world (Store flags offset) ty types [] memory = tt
 outcome_plain world (Store flags offset) ty types (stored ∷ []) memory = tt
 outcome_plain world (Store flags offset) ty types (stored ∷ address ∷ []) memory = access_plain world flags _ (Gives [] _) tt
 outcome_plain world (Store flags offset) ty types (stored ∷ address ∷ x ∷ operands) memory = tt
+outcome_plain world (Stack StackAddr slot offset) ty types [] memory = tt
+outcome_plain world (Stack StackAddr slot offset) ty types (x ∷ operands) memory = tt
+outcome_plain world (Stack StackLoad slot offset) ty types [] memory = access_plain world no_claim _ (Gives _ memory) tt
+outcome_plain world (Stack StackLoad slot offset) ty types (x ∷ operands) memory = tt
+outcome_plain world (StackStore slot offset) ty types [] memory = tt
+outcome_plain world (StackStore slot offset) ty types (stored ∷ []) memory = access_plain world no_claim _ (Gives [] _) tt
+outcome_plain world (StackStore slot offset) ty types (stored ∷ x ∷ operands) memory = tt
 outcome_plain world (Trap reason) ty types [] memory = tt
 outcome_plain world (Trap reason) ty types (x ∷ operands) memory = tt
 outcome_plain world (CondTrap opcode reason) ty types [] memory = tt

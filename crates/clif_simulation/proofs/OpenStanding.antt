@@ -73,7 +73,7 @@ module _ (calls : List AnsweredCall) (f : Body) (ssa : SsaState) (consistent : I
     left_run = script_run_so_far calls f world tracked
 
     abbrev pub right_run : FunctionRun
-    right_run = function_run_so_far calls f width world collector
+    right_run = function_run_so_far calls f world collector
 
     abbrev pub left_machine : Machine ScriptStanding Observation
     left_machine = interrupted_script calls ssa unknowns entry entry_name left_run

@@ -3,11 +3,9 @@ use Rattle.std.proofs.Common.{◌≡◌, ℕ, List, [], ◌∷◌, map, slice_ge
 use Rattle.std.specs.Prelude.{IsTrue, true, false, ◌&&◌, Bool}
 use Rattle.std.specs.List.{AllByRecursion}
 use Rattle.clif_types.specs.Signature.{SignatureShape}
-use Rattle.clif_types.specs.declared.types.LaneType.TheVariants as lane
 use Rattle.clif_types.specs.declared.types.«Type».{«Type»}
 use Rattle.clif_types.specs.declared.types.«Type».TheVariants as type
 use Rattle.clif_types.specs.Types.{IsType, is_int, is_type, is_vector, lane_type_of}
-use Rattle.clif_opcodes.specs.declared.kinds.Demand.{Demand}
 use Rattle.clif_opcodes.specs.declared.kinds.Demand.TheVariants as demand
 use Rattle.clif_opcodes.specs.declared.kinds.OperandKind.{OperandKind}
 use Rattle.clif_opcodes.specs.declared.kinds.OperandKind.TheVariants as kind
@@ -21,7 +19,8 @@ use Rattle.clif_opcodes.specs.Typing.{AreOfKinds, binary_second, convert_demand,
 use Rattle.clif_ir.specs.Body.{Body}
 use Rattle.clif_meaning.specs.Bits.{Bits}
 use Rattle.clif_meaning.specs.Event.{types_of}
-use Rattle.clif_meaning.specs.Instruction.{Iconst, FloatConst, Unary, Binary, Compare, Concat, Split, Convert, Select, Operation, Compute, Load, Store, Trap, CondTrap, Jump, Brif, Return, Instruction, operation_typing}
+use Rattle.clif_opcodes.specs.declared.opcodes.StackOpcode.TheVariants.{StackAddr, StackLoad}
+use Rattle.clif_meaning.specs.Instruction.{Iconst, FloatConst, Unary, Binary, Compare, Concat, Split, Convert, Select, Operation, Compute, Load, Store, Stack, StackStore, Trap, CondTrap, Jump, Brif, Return, Instruction, operation_typing}
 use Rattle.clif_meaning.specs.Ledger.{ledger_after, or_invalid, type_of}
 use Rattle.clif_meaning.specs.Memory.{Memory}
 use Rattle.clif_meaning.specs.Name.{Name}
@@ -143,6 +142,9 @@ outcome_by_types world operation ty returns types others operands memory at fits
     by (Compute Select) at fits = alike (Compute Select) (kinds_valid ty at (kind.AnInteger ∷ kind.Controlling ∷ kind.Controlling ∷ []) tt types fits)
     by (Load flags offset) at fits = alike (Load flags offset) (kinds_valid ty at (kind.Address ∷ []) tt types fits)
     by (Store flags offset) at fits = alike (Store flags offset) (kinds_valid ty at (kind.Controlling ∷ kind.Address ∷ []) tt types fits)
+    by (Stack StackAddr slot offset) at fits = alike (Stack StackAddr slot offset) (none_valid ty types fits)
+    by (Stack StackLoad slot offset) at fits = alike (Stack StackLoad slot offset) (none_valid ty types fits)
+    by (StackStore slot offset) at fits = alike (StackStore slot offset) (kinds_valid ty at (kind.Controlling ∷ []) tt types fits)
     by (Trap reason) at fits = alike (Trap reason) (none_valid ty types fits)
     by (CondTrap opcode reason) at fits = alike (CondTrap opcode reason) (kinds_valid ty (int_valid ty at) (kind.Controlling ∷ []) tt types fits)
     by Jump at fits = alike Jump (none_valid ty types fits)

@@ -34,7 +34,7 @@ module _ (calls : List AnsweredCall) (signature : SignatureShape) (f : Body) (ss
     left_run = script_run_so_far calls f world tracked
 
     abbrev right_run : FunctionRun
-    right_run = function_run_so_far calls f width world collector
+    right_run = function_run_so_far calls f world collector
 
     alike : OutcomesAlike calls f world
     alike = outcomes_alike_so_far calls f world carries.whole.values_typed (may_grow calls) signature premises.well_typed

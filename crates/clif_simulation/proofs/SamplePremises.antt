@@ -227,7 +227,7 @@ pub sample_meets_premises : SampleMeetsPremises
 sample_meets_premises = record {
   a_world = (
     record SampleWorld.sample_world { arguments = 1 ∷ [] },
-    record { arguments = (omega arith, tt); slots = no_memory.no_slots (record SampleWorld.sample_world { arguments = 1 ∷ [] }) },
+    record { arguments = (omega arith, tt); pointers = refl; slots = no_memory.no_slots (record SampleWorld.sample_world { arguments = 1 ∷ [] }) },
     λ events call. refl,
   );
   premises = meets;

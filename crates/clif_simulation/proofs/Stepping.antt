@@ -87,7 +87,7 @@ module _ (calls : List AnsweredCall) (f : Body) (ssa : SsaState) (consistent : I
     left_run = script_run (script_of calls) (view_of f) world
 
     abbrev pub right_run : FunctionRun
-    right_run = function_run (script_of calls) (view_of f) width world ByMaps
+    right_run = function_run (script_of calls) (view_of f) world ByMaps
 
     abbrev pub left_machine : Machine ScriptState Observation
     left_machine = script_machine left_run

@@ -179,7 +179,7 @@ ReadsRightWhere growing calls signature f s =
     (width : PointerWidth) (world : World) (tracked : Name → Bool) (collector : Collector)
     → IsWorldOf signature (view_of f) width world → PremisesSoFar growing calls signature → SparesEntry calls
     → (block : ℕ) (name : Name) → block_name calls block ≡ Some name → (program_so_far calls).entry ≡ Some name
-    → RunsBeside calls f s (script_run_so_far calls f world tracked) (function_run_so_far calls f width world collector) block name
+    → RunsBeside calls f s (script_run_so_far calls f world tracked) (function_run_so_far calls f world collector) block name
 
 -- those that may still grow are
 abbrev pub ReadsRight : List AnsweredCall → SignatureShape → Body → SsaState → Type 0

@@ -80,8 +80,8 @@ abbrev pub script_run_so_far : List AnsweredCall → Body → World → (Name �
 script_run_so_far calls f world tracked = record (script_run (script_of calls) (view_of f) world) { is_tracked = tracked }
 
 -- what a run of the function so far goes by, under this collector
-abbrev pub function_run_so_far : List AnsweredCall → Body → PointerWidth → World → Collector → FunctionRun
-function_run_so_far calls f width world collector = function_run (script_of calls) (view_of f) width world collector
+abbrev pub function_run_so_far : List AnsweredCall → Body → World → Collector → FunctionRun
+function_run_so_far calls f world collector = function_run (script_of calls) (view_of f) world collector
 
 -- the machine that starts in this state
 abbrev pub starting_at : {State Seen : Type 0} → Machine State Seen → State → Machine State Seen
@@ -137,4 +137,4 @@ abbrev pub ReadsRightFromAnywhere : List AnsweredCall → SignatureShape → Bod
 ReadsRightFromAnywhere calls signature f s =
     (width : PointerWidth) (world : World) (tracked : Name → Bool) (collector : Collector)
     → IsWorldOf signature (view_of f) width world → PremisesSoFar (may_grow calls) calls signature
-    → RunSideBySide calls f s (script_run_so_far calls f world tracked) (function_run_so_far calls f width world collector)
+    → RunSideBySide calls f s (script_run_so_far calls f world tracked) (function_run_so_far calls f world collector)

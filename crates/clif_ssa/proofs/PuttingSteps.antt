@@ -11,8 +11,8 @@ use Rattle.clif_instructions.specs.declared.inst_list.InsertAt.TheVariants.{Behi
 use Rattle.clif_instructions.specs.declared.instructions.InstructionData.{InstructionData}
 use Rattle.clif_ir.specs.Body.{Body, block_at}
 use Rattle.clif_ir.specs.Changes.{HasNoRoom, with_inst}
-use Rattle.clif_ir.specs.Consistent.{EdgeExists}
-use Rattle.clif_instructions.specs.Instruction.{destinations, operands, result_count, result_types}
+use Rattle.clif_ir.specs.Consistent.{EdgeExists, EntryExists}
+use Rattle.clif_instructions.specs.Instruction.{entries_of, destinations, operands, result_count, result_types}
 use Rattle.clif_ir.proofs.Changes.{no_room_few}
 use Rattle.clif_ir.proofs.KeepsInst.{length-result_types}
 use Rattle.clif_ssa.specs.Limits.{IsFull}
@@ -134,6 +134,9 @@ module _ (f g : Body) (b : ℕ) (ty : «Type») (place : ℕ) (g_is : g ≡ with
 
     pub step_edges : All (EdgeExists g) (destinations shape)
     step_edges = subst (λ edges. All (EdgeExists g) edges) (sym (ap destinations next.shape_is ∙ plain.no_edges (length g.values - 1))) (λ k d inside. absurd (omega (arith, inside)))
+
+    pub step_entries : All (EntryExists g.tables) (entries_of shape)
+    step_entries = subst (λ entries. All (EntryExists g.tables) entries) (sym (ap entries_of next.shape_is ∙ plain.no_entries (length g.values - 1))) (λ k d inside. absurd (omega (arith, inside)))
 
     pub step_fits : place + 1 ≤ length (zero_steps ty)
     step_fits = omega (arith, fits)

@@ -6,7 +6,7 @@ use Rattle.std.proofs.lemmas.Grind.{common_steps}
 use Rattle.std.proofs.lemmas.List.Elements.{All-nil}
 use Rattle.clif_types.specs.declared.types.«Type».{«Type»}
 use Rattle.clif_ir.specs.Body.{Body, inst_at}
-use Rattle.clif_instructions.specs.Instruction.{destinations, is_terminator, operands, result_types, with_argument}
+use Rattle.clif_instructions.specs.Instruction.{entries_of, destinations, is_terminator, operands, result_types, with_argument}
 use Rattle.clif_ir.specs.declared.function.InstNode.{InstNode}
 use Rattle.clif_instructions.specs.declared.instructions.InstructionData.TheVariants.{UnaryImm, UnaryIeee, Convert}
 use Rattle.clif_types.specs.declared.types.LaneType.TheVariants as lane
@@ -27,9 +27,10 @@ same_some same = cc
 
 -- THE TABLE -------------------------------------------------------------------------------------------------------
 
--- a step has no edges, one result and at most the operand before, and control goes on behind it
+-- a step has no edges, names no entry of a table, has one result and at most the operand before, and control goes on behind it
 pub record IsPlainStep (step : ZeroStep) : Type 0 where
   pub no_edges : (value : ℕ) → destinations (step.shape value) ≡ []
+  pub no_entries : (value : ℕ) → entries_of (step.shape value) ≡ []
   pub unchanged : (b v value : ℕ) → with_argument b v (step.shape value) ≡ step.shape value
   pub goes_on : (value : ℕ) → is_terminator (step.shape value) ≡ false
   pub one_result : (value : ℕ) → result_types (step.shape value) step.ty ≡ step.ty ∷ []
@@ -38,6 +39,7 @@ pub record IsPlainStep (step : ZeroStep) : Type 0 where
 plain_constant : (ty : «Type») → IsPlainStep (record { shape = λ value. UnaryImm (pos 0); ty = ty })
 plain_constant ty = record {
   no_edges = λ value. refl;
+  no_entries = λ value. refl;
   unchanged = λ b v value. refl;
   goes_on = λ value. refl;
   one_result = λ value. refl;
@@ -48,6 +50,7 @@ plain_constant ty = record {
 plain_float : (opcode : FloatConstOpcode) → IsPlainStep (record { shape = λ value. UnaryIeee opcode 0; ty = float_type opcode })
 plain_float opcode = record {
   no_edges = λ value. refl;
+  no_entries = λ value. refl;
   unchanged = λ b v value. refl;
   goes_on = λ value. goes_on opcode;
   one_result = λ value. one opcode;
@@ -68,6 +71,7 @@ plain_float opcode = record {
 plain_converted : (opcode : ConvertOpcode) (ty : «Type») → IsPlainStep (record { shape = λ value. Convert opcode value; ty = ty })
 plain_converted opcode ty = record {
   no_edges = λ value. refl;
+  no_entries = λ value. refl;
   unchanged = λ b v value. refl;
   goes_on = λ value. refl;
   one_result = λ value. refl;

@@ -21,7 +21,6 @@ use std::marker::Model;
 ///
 /// A call that makes an entry gives it the next number of its table. Its errors are `Memory`, and `Full`
 /// exactly where the table holds 2^32 - 1 entries; the tables are then as they were.
-#[derive(Drop)]
 pub struct Tables {
     alloc: Global,
     pub(crate) stack_slots: PrimaryMap<StackSlot, StackSlotData>,
@@ -51,6 +50,24 @@ impl Model for Tables {
       jump_tables = t.jump_tables;
       exception_tables = t.exception_tables;
     } };
+}
+
+// Written by hand, so that whoever drops tables meets one call and not the fields.
+impl Drop for Tables {
+    fn drop(self) {
+        let Tables {
+            alloc: _,
+            stack_slots: _,
+            dynamic_stack_slots: _,
+            global_values: _,
+            alias_regions: _,
+            signatures: _,
+            functions: _,
+            constants: _,
+            jump_tables: _,
+            exception_tables: _,
+        } = self;
+    }
 }
 
 impl Tables {

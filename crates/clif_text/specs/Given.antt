@@ -1,14 +1,20 @@
 -- What names stand for, behind the calls so far. Source: own; docs/SCRIPTS.md describes the same.
-use Rattle.std.specs.Prelude.{◌≡◌, ◌≢◌, ℕ, ◌+◌, ◌==◌, ◌⊎◌, ◌++◌, Bool, true, false, List, [], ◌∷◌, Option, Some, None, slice_get, codes, if◌then◌else◌}
+use Rattle.std.specs.Prelude.{◌≡◌, ◌≢◌, ℕ, ◌+◌, ◌==◌, ◌⊎◌, ◌++◌, Bool, true, false, List, [], ◌∷◌, Option, Some, None, slice_get, unwrap_or, codes, if◌then◌else◌}
 use Rattle.clif_calls.specs.declared.call.Name.{Name}
 use Rattle.clif_calls.specs.declared.call.Call.{Call}
 use Rattle.clif_calls.specs.declared.call.Call.TheVariants as call
+use Rattle.clif_text.specs.declared.scope.Kind.{Kind}
+use Rattle.clif_text.specs.declared.scope.Kind.TheVariants as kind
+use Rattle.clif_text.specs.declared.scope.Numbered.{Numbered}
+use Rattle.clif_text.specs.declared.scope.Numbered.TheVariants as numbered
+use Rattle.clif_text.specs.declared.scope.Totals.{Totals}
 use Rattle.clif_text.specs.Grammar.{Names}
 
--- whether the call declares a variable
-abbrev pub declares : Call → Bool
-declares (call.DeclareVar ty) = true
-declares _ = false
+-- of what kind the call answers one, if it answers any by number
+abbrev pub numbered_kind : Call → Option Kind
+numbered_kind (call.DeclareVar ty) = Some kind.Variable
+numbered_kind (call.CreateSizedStackSlot size align_shift) = Some kind.StackSlot
+numbered_kind _ = None
 
 -- whether the call makes an instruction
 abbrev pub is_instruction : Call → Bool
@@ -19,29 +25,59 @@ is_instruction (call.Return values) = true
 is_instruction (call.Trap code) = true
 is_instruction _ = false
 
--- how many variables the calls declare
-abbrev pub declared : List Call → ℕ
-declared [] = 0
-declared (call ∷ calls) = (if declares call then 1 else 0) + declared calls
+-- how many there are of each kind at first
+abbrev pub no_totals : Totals
+no_totals = record { variables = 0; stack_slots = 0 }
 
--- for each call, the number of the variable that it declares; the first one's is this number
-abbrev pub variables_from : ℕ → List Call → List (Option ℕ)
-variables_from number [] = []
-variables_from number (call ∷ calls) = (if declares call then Some number else None) ∷ variables_from (number + (if declares call then 1 else 0)) calls
+-- how many there are of this kind
+abbrev pub total_of : Kind → Totals → ℕ
+total_of kind.Variable totals = totals.variables
+total_of kind.StackSlot totals = totals.stack_slots
 
--- the number of the variable that a call answers, or else this number
-abbrev pub number_or : ℕ → Option (Option ℕ) → ℕ
-number_or other None = other
-number_or other (Some None) = other
-number_or other (Some (Some number)) = number
+-- how many there are of each kind behind a call that answers one of this kind, or none
+abbrev pub totals_behind : Option Kind → Totals → Totals
+totals_behind None totals = totals
+totals_behind (Some kind.Variable) totals = record totals { variables = totals.variables + 1 }
+totals_behind (Some kind.StackSlot) totals = record totals { stack_slots = totals.stack_slots + 1 }
 
--- the number of the variable that an answer is, or else the number that the next variable gets
-abbrev pub variable_in : List (Option ℕ) → ℕ → Name → ℕ
-variable_in variables next name = if name.answer == 0 then number_or next (slice_get variables name.place) else next
+-- what such a call answers by number
+abbrev pub next_of : Option Kind → Totals → Numbered
+next_of None totals = numbered.Nothing
+next_of (Some kind.Variable) totals = numbered.Variable totals.variables
+next_of (Some kind.StackSlot) totals = numbered.StackSlot totals.stack_slots
+
+-- how many there are of each kind behind these calls, where there were so many before them
+abbrev pub totals_from : Totals → List Call → Totals
+totals_from totals [] = totals
+totals_from totals (call ∷ calls) = totals_from (totals_behind (numbered_kind call) totals) calls
+
+-- for each call, what it answers by number, where there were so many of each kind before the calls
+abbrev pub numbered_from : Totals → List Call → List Numbered
+numbered_from totals [] = []
+numbered_from totals (call ∷ calls) = next_of (numbered_kind call) totals ∷ numbered_from (totals_behind (numbered_kind call) totals) calls
+
+-- the number, if it is one of this kind
+abbrev pub number_as : Kind → Numbered → Option ℕ
+number_as kind.Variable (numbered.Variable number) = Some number
+number_as kind.StackSlot (numbered.StackSlot number) = Some number
+number_as _ _ = None
+
+-- the number of the one of this kind that a call answers, or else this number
+abbrev pub number_or : ℕ → Kind → Option Numbered → ℕ
+number_or other kind None = other
+number_or other kind (Some answered) = unwrap_or (number_as kind answered) other
+
+-- the number of the one of this kind that an answer is, or else the number that the next one gets
+abbrev pub number_in : Kind → List Numbered → Totals → Name → ℕ
+number_in kind answered totals name = if name.answer == 0 then number_or (total_of kind totals) kind (slice_get answered name.place) else total_of kind totals
+
+-- what names stand for, where calls answered so by number, and names were given so
+abbrev pub names_with : List Numbered → Totals → (List ℕ → Option Name) → Names
+names_with answered totals given = record { given = given; variable = number_in kind.Variable answered totals; slot = number_in kind.StackSlot answered totals }
 
 -- what names stand for behind these calls, where names were given so
 abbrev pub names_behind : List Call → (List ℕ → Option Name) → Names
-names_behind calls given = record { given = given; variable = variable_in (variables_from 0 calls) (declared calls) }
+names_behind calls given = names_with (numbered_from no_totals calls) (totals_from no_totals calls) given
 
 -- the word stands for this answer from now on, and each other word for what it stood for
 pub record GivesName (word : List ℕ) (name : Name) (old new : List ℕ → Option Name) : Type 0 where

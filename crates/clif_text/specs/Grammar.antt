@@ -1,7 +1,7 @@
 -- Which words stand for which call. Source: own; docs/SCRIPTS.md describes the same format.
 use Rattle.std.specs.Prelude.{◌≡◌, ℕ, ℤ, pos, ◌⊎◌, ◌++◌, List, [], ◌∷◌, Option, Some, None, codes}
 use Rattle.clif_types.specs.Texts.{int_cc_text}
-use Rattle.clif_opcodes.specs.Names.{binary_name, cond_trap_name, convert_name, float_const_name, unary_name}
+use Rattle.clif_opcodes.specs.Names.{binary_name, cond_trap_name, convert_name, float_const_name, stack_name, unary_name}
 use Rattle.clif_words.specs.Spelling.{AreFlags, IsDecimal, IsMagnitude, IsNumber, IsOffset, IsTrapCode, IsTypeWord}
 use Rattle.clif_calls.specs.declared.call.Name.{Name}
 use Rattle.clif_calls.specs.declared.call.Edge.{Edge}
@@ -11,10 +11,12 @@ use Rattle.clif_calls.specs.Plan.{plan_of}
 use Rattle.clif_calls.specs.declared.plan.Plan.{Plan}
 use Rattle.clif_calls.specs.declared.plan.Plan.TheVariants as plan
 
--- what names stand for: the answer that a given name stands for, and the number of the variable that an answer is
+-- what names stand for: the answer that a given name stands for, and the number of the variable, or of the stack slot, that
+-- an answer is
 pub record Names : Type 0 where
   pub given : List ℕ → Option Name
   pub variable : Name → ℕ
+  pub slot : Name → ℕ
 
 -- `$P.K`, with the place and the answer in decimal digits
 abbrev pub IsPlaceName : List ℕ → Name → Type 0
@@ -24,9 +26,18 @@ IsPlaceName word name = (place answer : List ℕ) × (word ≡ codes "$" ++ (pla
 abbrev pub IsAnswer : Names → List ℕ → Name → Type 0
 IsAnswer names word name = IsPlaceName word name ⊎ (names.given word ≡ Some name)
 
--- a word stands for the variable of this number: as the answer of a declaration, or as `varN` where no such name was given
+-- a word stands for this number: as an answer that has it, or as the number in decimal digits behind the prefix where no
+-- such name was given
+abbrev pub IsNumbered : List ℕ → (Name → ℕ) → Names → List ℕ → ℕ → Type 0
+IsNumbered prefix number_of names word number = ((name : Name) × IsAnswer names word name × (number_of name ≡ number)) ⊎ ((digits : List ℕ) × (word ≡ prefix ++ digits) × IsDecimal digits number × (names.given word ≡ None))
+
+-- the variable of this number: as the answer of a declaration, or as `varN`
 abbrev pub IsVariable : Names → List ℕ → ℕ → Type 0
-IsVariable names word number = ((name : Name) × IsAnswer names word name × (names.variable name ≡ number)) ⊎ ((digits : List ℕ) × (word ≡ codes "var" ++ digits) × IsDecimal digits number × (names.given word ≡ None))
+IsVariable names = IsNumbered (codes "var") names.variable names
+
+-- the stack slot of this number: as the answer of the call that made it, or as `ssN`
+abbrev pub IsSlot : Names → List ℕ → ℕ → Type 0
+IsSlot names = IsNumbered (codes "ss") names.slot names
 
 -- the words stand for the answers, one for one
 abbrev pub AreAnswers : Names → List (List ℕ) → List Name → Type 0
@@ -72,6 +83,10 @@ IsPlain names words (plan.Load flags ty arg offset) =
     (t p : List ℕ) × (f o : List (List ℕ)) × (words ≡ (codes "load." ++ t) ∷ (f ++ p ∷ o)) × IsTypeWord t ty × AreFlags f flags × IsAnswer names p arg × IsLastOffset o offset
 IsPlain names words (plan.Store flags args offset) =
     (f operands o : List (List ℕ)) × (words ≡ codes "store" ∷ (f ++ (operands ++ o))) × AreFlags f flags × AreAnswers names operands args × IsLastOffset o offset
+IsPlain names words (plan.StackLoad opcode ty slot offset) =
+    (t s : List ℕ) × (o : List (List ℕ)) × (words ≡ (stack_name opcode ++ (codes "." ++ t)) ∷ s ∷ o) × IsTypeWord t ty × IsSlot names s slot × IsLastOffset o offset
+IsPlain names words (plan.StackStore arg slot offset) =
+    (x s : List ℕ) × (o : List (List ℕ)) × (words ≡ codes "stack_store" ∷ x ∷ s ∷ o) × IsAnswer names x arg × IsSlot names s slot × IsLastOffset o offset
 IsPlain names words (plan.CondTrap opcode arg code) =
     (c reason : List ℕ) × (words ≡ cond_trap_name opcode ∷ c ∷ reason ∷ []) × IsAnswer names c arg × IsTrapCode reason code
 IsPlain names words _ = ⊥
@@ -88,6 +103,7 @@ IsCall names words call.EnsureInsertedBlock = words ≡ codes "ensure_inserted_b
 IsCall names words (call.AppendBlockParam block ty) = (b t : List ℕ) × (words ≡ codes "append_block_param" ∷ b ∷ t ∷ []) × IsAnswer names b block × IsTypeWord t ty
 IsCall names words (call.AppendBlockParamsForFunctionParams block) = (b : List ℕ) × (words ≡ codes "append_block_params_for_function_params" ∷ b ∷ []) × IsAnswer names b block
 IsCall names words (call.AppendBlockParamsForFunctionReturns block) = (b : List ℕ) × (words ≡ codes "append_block_params_for_function_returns" ∷ b ∷ []) × IsAnswer names b block
+IsCall names words (call.CreateSizedStackSlot size align_shift) = (a b : List ℕ) × (words ≡ codes "create_sized_stack_slot" ∷ a ∷ b ∷ []) × IsMagnitude a size × IsMagnitude b align_shift
 IsCall names words (call.DeclareVar ty) = (t : List ℕ) × (words ≡ codes "declare_var" ∷ t ∷ []) × IsTypeWord t ty
 IsCall names words (call.DefVar variable value) = (a b : List ℕ) × (words ≡ codes "def_var" ∷ a ∷ b ∷ []) × IsVariable names a variable × IsAnswer names b value
 IsCall names words (call.UseVar variable) = (a : List ℕ) × (words ≡ codes "use_var" ∷ a ∷ []) × IsVariable names a variable

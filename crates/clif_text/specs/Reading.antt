@@ -4,12 +4,17 @@ use Rattle.clif_calls.specs.declared.call.Call.{Call}
 use Rattle.clif_calls.specs.declared.call.Name.{Name}
 use Rattle.clif_words.specs.Cursor.{words_left}
 use Rattle.clif_text.specs.declared.args.Args.{Args}
+use Rattle.clif_text.specs.declared.scope.Kind.{Kind}
 use Rattle.clif_text.specs.Grammar.{AreAnswers, IsAnswer, IsCall, Names}
-use Rattle.clif_text.specs.Scope.{names_of}
+use Rattle.clif_text.specs.Scope.{names_of, number_of}
 
 -- what names stand for
 abbrev pub names_in : Args → Names
 names_in args = names_of args.scope.now
+
+-- the number of the one of this kind that an answer is
+abbrev pub numbers_in : Kind → Args → Name → ℕ
+numbers_in kind args = number_of kind args.scope.now
 
 -- the next word was taken, and it stands for this
 abbrev pub TakesWord : {A : Type 0} → (old new : Args) → (List ℕ → A → Type 0) → A → Type 0

@@ -1,7 +1,7 @@
 -- The text of a call, as a line of a script that gives no names. Source: own; docs/SCRIPTS.md describes the format.
 use Rattle.std.specs.Prelude.{ℕ, ℤ, List, [], ◌∷◌, ◌++◌, ◌==◌, codes, flat_map, nat_abs, if◌then◌else◌}
 use Rattle.std.specs.Fmt.{decimal, signed_decimal}
-use Rattle.clif_opcodes.specs.Names.{binary_name, cond_trap_name, convert_name, float_const_name, unary_name}
+use Rattle.clif_opcodes.specs.Names.{binary_name, cond_trap_name, convert_name, float_const_name, stack_name, unary_name}
 use Rattle.clif_types.specs.Texts.{type_text, call_conv_text, int_cc_text, mem_flags_text, signature_text, trap_code_text, user_func_name_text}
 use Rattle.clif_types.specs.Signature.{SignatureShape}
 use Rattle.clif_types.specs.declared.extname.UserFuncName.{UserFuncName}
@@ -31,6 +31,10 @@ edge_text edge = answer_text edge.block ++ (codes "(" ++ (answers_text edge.args
 abbrev pub variable_text : ℕ → List ℕ
 variable_text number = codes "var" ++ decimal number
 
+-- `ss0`
+abbrev pub slot_text : ℕ → List ℕ
+slot_text number = codes "ss" ++ decimal number
+
 -- ` -4`, and nothing for 0
 abbrev pub offset_text : ℤ → List ℕ
 offset_text offset = if nat_abs offset == 0 then [] else codes " " ++ signed_decimal offset
@@ -48,6 +52,8 @@ plan_text (plan.IntCompare cond args) = codes "icmp " ++ (int_cc_text cond ++ an
 plan_text (plan.Ternary args) = codes "select" ++ answers_text args
 plan_text (plan.Load flags ty arg offset) = codes "load." ++ (type_text ty ++ (mem_flags_text flags ++ (codes " " ++ (answer_text arg ++ offset_text offset))))
 plan_text (plan.Store flags args offset) = codes "store" ++ (mem_flags_text flags ++ (answers_text args ++ offset_text offset))
+plan_text (plan.StackLoad opcode ty slot offset) = stack_name opcode ++ (codes "." ++ (type_text ty ++ (codes " " ++ (slot_text slot ++ offset_text offset))))
+plan_text (plan.StackStore arg slot offset) = codes "stack_store " ++ (answer_text arg ++ (codes " " ++ (slot_text slot ++ offset_text offset)))
 plan_text (plan.Trap code) = codes "trap " ++ trap_code_text code
 plan_text (plan.CondTrap opcode arg code) = cond_trap_name opcode ++ (codes " " ++ (answer_text arg ++ (codes " " ++ trap_code_text code)))
 plan_text (plan.Jump destination) = codes "jump " ++ edge_text destination.now
@@ -65,6 +71,7 @@ call_text call.EnsureInsertedBlock = codes "ensure_inserted_block"
 call_text (call.AppendBlockParam block ty) = codes "append_block_param " ++ (answer_text block ++ (codes " " ++ type_text ty))
 call_text (call.AppendBlockParamsForFunctionParams block) = codes "append_block_params_for_function_params " ++ answer_text block
 call_text (call.AppendBlockParamsForFunctionReturns block) = codes "append_block_params_for_function_returns " ++ answer_text block
+call_text (call.CreateSizedStackSlot size align_shift) = codes "create_sized_stack_slot " ++ (decimal size ++ (codes " " ++ decimal align_shift))
 call_text (call.DeclareVar ty) = codes "declare_var " ++ type_text ty
 call_text (call.DefVar variable value) = codes "def_var " ++ (variable_text variable ++ (codes " " ++ answer_text value))
 call_text (call.UseVar variable) = codes "use_var " ++ variable_text variable

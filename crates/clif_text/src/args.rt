@@ -1,11 +1,11 @@
 //! What follows the name of a call.
-ghost use Rattle.std.specs.Prelude.{◌≡◌, ◌++◌, ◌∷◌, [], ℕ, List, IfSome, codes};
+ghost use Rattle.std.specs.Prelude.{◌≡◌, ◌<◌, ◌-◌, ◌^◌, ◌++◌, ◌∷◌, [], ℕ, List, IfSome, codes};
 ghost use Rattle.clif_words.specs.Spelling.{IsDecimal};
 
-use crate::scope::{Scope, is_name};
+use crate::scope::{Kind, Scope, is_name};
 use clif_calls::{Edge, Name};
 use clif_records::Variable;
-use clif_types::{IntCC, MemFlagsData, TrapCode, Type};
+use clif_types::{EntityRef, IntCC, MemFlagsData, StackSlot, TrapCode, Type};
 use clif_words::cursor::Cursor;
 use clif_words::error::{Expected, Fault, LineError};
 use clif_words::number::{decimal, magnitude, number, offset};
@@ -19,16 +19,16 @@ pub(crate) struct Args<'w, 'a> {
     scope: &'w Scope<'a>,
 }
 
-// How many variables there can be.
-const MOST_VARIABLES: usize = 0xffff_ffff;
+// How many there can be of a kind that is named by number.
+const MOST_OF_A_KIND: usize = 0xffff_ffff;
 
 impl<'w, 'a> Args<'w, 'a> {
     ghost use Rattle.std.specs.Prelude.{IfOk, OnOk};
     ghost use Rattle.clif_types.specs.Texts.{int_cc_text};
     ghost use Rattle.clif_words.specs.Cursor.{TakesFlags, texts, words_left};
     ghost use Rattle.clif_words.specs.Spelling.{IsMagnitude, IsNumber, IsTrapCode, IsTypeWord};
-    ghost use Rattle.clif_text.specs.Grammar.{AreAnswers, AreLast, IsEdge, IsLastEdge, IsLastOffset, IsVariable};
-    ghost use Rattle.clif_text.specs.Reading.{TakesAnswer, TakesAnswers, TakesWord, TakesWords, names_in};
+    ghost use Rattle.clif_text.specs.Grammar.{AreAnswers, AreLast, IsEdge, IsLastEdge, IsLastOffset, IsNumbered, IsSlot, IsVariable};
+    ghost use Rattle.clif_text.specs.Reading.{TakesAnswer, TakesAnswers, TakesWord, TakesWords, names_in, numbers_in};
 
     pub(crate) fn new(words: &'w [&'a str], scope: &'w Scope<'a>) -> Args<'w, 'a>
         ensures words { words_left result.words ≡ texts words.now }
@@ -77,25 +77,52 @@ impl<'w, 'a> Args<'w, 'a> {
         self.answer(Expected::Value)
     }
 
+    // The number of one of this kind: of the one that a name or `$P.K` stands for, or the number behind the
+    // prefix, unless that name was given.
+    fn numbered(
+        &mut self,
+        prefix: &str,
+        kind: Kind,
+        expected: Expected,
+    ) -> Result<usize, LineError<'a>>
+        ensures scope { self.new.scope ≡ self.old.scope }
+        ensures ok { IfOk result (TakesWord self.old self.new
+            (IsNumbered prefix.now (numbers_in kind self.old) (names_in self.old))) }
+        ensures bounded { IfOk result (λ number. number < 2 ^ 32 - 1) }
+    {
+        let word = self.words.take(expected)?;
+        let number = match self.scope.answer(word) {
+            Some(name) => self.scope.number(kind, name),
+            None => match number_behind(prefix, word) {
+                Some(number) => number,
+                None => return Err(unknown(word, expected)),
+            },
+        };
+        if number < MOST_OF_A_KIND {
+            Ok(number)
+        } else {
+            Err(LineError::wanted(expected))
+        }
+    }
+
     /// A variable: the one that a name or `$P.K` stands for, or `varN`, which is variable N unless that name
     /// was given.
     pub(crate) fn variable(&mut self) -> Result<Variable, LineError<'a>>
         ensures scope { self.new.scope ≡ self.old.scope }
         ensures ok { IfOk result (TakesWord self.old self.new (IsVariable (names_in self.old))) }
     {
-        let word = self.words.take(Expected::Variable)?;
-        let index = match self.scope.answer(word) {
-            Some(name) => self.scope.variable(name),
-            None => match numbered_variable(word) {
-                Some(index) => index,
-                None => return Err(unknown(word, Expected::Variable)),
-            },
-        };
-        if index < MOST_VARIABLES {
-            Ok(Variable::new(index))
-        } else {
-            Err(LineError::wanted(Expected::Variable))
-        }
+        let number = self.numbered("var", Kind::Variable, Expected::Variable)?;
+        Ok(Variable::new(number))
+    }
+
+    /// A stack slot: the one that a name or `$P.K` stands for, or `ssN`, which is slot N unless that name was
+    /// given.
+    pub(crate) fn slot(&mut self) -> Result<StackSlot, LineError<'a>>
+        ensures scope { self.new.scope ≡ self.old.scope }
+        ensures ok { IfOk result (TakesWord self.old self.new (IsSlot (names_in self.old))) }
+    {
+        let number = self.numbered("ss", Kind::StackSlot, Expected::StackSlot)?;
+        Ok(StackSlot::new(number))
     }
 
     /// A type.
@@ -133,6 +160,28 @@ impl<'w, 'a> Args<'w, 'a> {
     {
         let word = self.words.take(expected)?;
         magnitude(word).ok_or(LineError::wanted(expected))
+    }
+
+    /// The size of a stack slot.
+    pub(crate) fn slot_size(&mut self) -> Result<u32, LineError<'a>>
+        ensures scope { self.new.scope ≡ self.old.scope }
+        ensures ok { IfOk result (TakesWord self.old self.new IsMagnitude) }
+    {
+        match u32::try_from(self.magnitude(Expected::SlotSize)?) {
+            Ok(size) => Ok(size),
+            Err(_) => Err(LineError::wanted(Expected::SlotSize)),
+        }
+    }
+
+    /// The shift that makes the alignment of a stack slot.
+    pub(crate) fn align_shift(&mut self) -> Result<u8, LineError<'a>>
+        ensures scope { self.new.scope ≡ self.old.scope }
+        ensures ok { IfOk result (TakesWord self.old self.new IsMagnitude) }
+    {
+        match u8::try_from(self.magnitude(Expected::AlignShift)?) {
+            Ok(shift) => Ok(shift),
+            Err(_) => Err(LineError::wanted(Expected::AlignShift)),
+        }
     }
 
     /// A condition.
@@ -260,10 +309,10 @@ fn unknown(word: &str, expected: Expected) -> LineError<'_> {
     }
 }
 
-// The number in `varN`.
-fn numbered_variable(word: &str) -> Option<usize>
-    ensures { IfSome result (λ number. (digits : List ℕ) × (word.now ≡ codes "var" ++ digits) ×
+// The number behind the prefix, as in `varN`.
+fn number_behind(prefix: &str, word: &str) -> Option<usize>
+    ensures { IfSome result (λ number. (digits : List ℕ) × (word.now ≡ prefix.now ++ digits) ×
         IsDecimal digits number) }
 {
-    decimal(word.strip_prefix("var")?)
+    decimal(word.strip_prefix(prefix)?)
 }

@@ -10,8 +10,8 @@ use crate::args::Args;
 use crate::instructions::{
     binary_named, cond_trap_named, convert_named, float_const_named, read_binary_call,
     read_cond_trap_call, read_convert_call, read_float_const_call, read_icmp_call,
-    read_iconcat_call, read_isplit_call, read_load_call, read_select_call, read_store_call,
-    read_unary_call, unary_named,
+    read_iconcat_call, read_isplit_call, read_load_call, read_select_call, read_stack_call,
+    read_stack_store_call, read_store_call, read_unary_call, stack_named, unary_named,
 };
 use crate::scope::Scope;
 use clif_calls::{Call, PlainInstruction};
@@ -20,14 +20,13 @@ use clif_words::types::type_named;
 use std::alloc::Global;
 
 // The calls of the format that aren't understood so far, without the type that may follow their name.
-const NOT_SUPPORTED: [&str; 37] = [
+const NOT_SUPPORTED: [&str; 33] = [
     "declare_var_needs_stack_map",
     "declare_value_needs_stack_map",
     "try_use_var",
     "try_def_var",
     "import_signature",
     "import_function",
-    "create_sized_stack_slot",
     "create_dynamic_stack_slot",
     "create_global_value",
     "block_call",
@@ -50,9 +49,6 @@ const NOT_SUPPORTED: [&str; 37] = [
     "cursor",
     "f128const",
     "vconst",
-    "stack_addr",
-    "stack_load",
-    "stack_store",
     "call",
     "call_indirect",
     "br_table",
@@ -69,6 +65,10 @@ fn read_call<'a>(
     ensures { IfOk result (ReadsCall args.old args.new head.now) }
 {
     match head {
+        "create_sized_stack_slot" => Ok(Call::CreateSizedStackSlot {
+            size: args.slot_size()?,
+            align_shift: args.align_shift()?,
+        }),
         "declare_var" => Ok(Call::DeclareVar { ty: args.ty()? }),
         "def_var" => Ok(Call::DefVar {
             variable: args.variable()?,
@@ -127,6 +127,7 @@ fn read_single_instruction<'a>(
         "icmp" => read_icmp_call(head, args),
         "select" => read_select_call(head, args),
         "store" => read_store_call(head, args),
+        "stack_store" => read_stack_store_call(head, args),
         _ => read_block_call(head, args),
     }
 }
@@ -193,10 +194,15 @@ fn read_typed_call<'a>(head: &'a str, args: &mut Args<'_, 'a>) -> Result<Call, L
             Ok(Call::Plain(PlainInstruction::Iconst { ty, imm }))
         }
         "load" => read_load_call(head, suffix, args),
-        _ => match convert_named(name) {
-            Some(opcode) => read_convert_call(head, opcode, suffix, args),
-            None => Err(not_understood(head, name)),
-        },
+        _ => {
+            if let Some(opcode) = convert_named(name) {
+                return read_convert_call(head, opcode, suffix, args);
+            }
+            match stack_named(name) {
+                Some(opcode) => read_stack_call(head, opcode, suffix, args),
+                None => Err(not_understood(head, name)),
+            }
+        }
     }
 }
 
@@ -209,7 +215,10 @@ fn name_and_type(head: &str) -> Option<(&str, &str)>
 
 // No call is read that has this name, in front of the type that may follow.
 fn not_understood<'a>(head: &'a str, name: &'a str) -> LineError<'a> {
-    if matches!(name, "iconst" | "load") || convert_named(name).is_some() {
+    let wants_type = matches!(name, "iconst" | "load")
+        || convert_named(name).is_some()
+        || stack_named(name).is_some();
+    if wants_type {
         LineError::wanted(Expected::Type)
     } else if NOT_SUPPORTED.contains(&name) {
         LineError::Fault(Fault::NotSupported(name))
@@ -250,6 +259,7 @@ pub(crate) fn answers_of(call: &Call) -> Answers
     let (instruction, names) = match call {
         Call::CreateBlock
         | Call::AppendBlockParam { .. }
+        | Call::CreateSizedStackSlot { .. }
         | Call::DeclareVar { .. }
         | Call::UseVar { .. } => (false, 1),
         Call::AppendBlockParamsForFunctionParams { .. }
@@ -263,6 +273,7 @@ pub(crate) fn answers_of(call: &Call) -> Answers
         | Call::DefVar { .. } => (false, 0),
         Call::Plain(
             PlainInstruction::Store { .. }
+            | PlainInstruction::StackStore { .. }
             | PlainInstruction::Trapz { .. }
             | PlainInstruction::Trapnz { .. },
         )

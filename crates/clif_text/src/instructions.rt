@@ -1,11 +1,13 @@
 //! Instructions that neither branch nor end their block: their names, and what follows these, by format.
 ghost use Rattle.std.specs.Prelude.{◌≡◌, ◌++◌, IfOk, IfSome, codes};
-ghost use Rattle.clif_opcodes.specs.Names.{binary_name, cond_trap_name, convert_name, float_const_name, unary_name};
+ghost use Rattle.clif_opcodes.specs.Names.{binary_name, cond_trap_name, convert_name, float_const_name, stack_name, unary_name};
 ghost use Rattle.clif_text.specs.Reading.{ReadsCall};
 
 use crate::args::Args;
 use clif_calls::{Call, PlainInstruction};
-use clif_opcodes::{BinaryOpcode, CondTrapOpcode, ConvertOpcode, FloatConstOpcode, UnaryOpcode};
+use clif_opcodes::{
+    BinaryOpcode, CondTrapOpcode, ConvertOpcode, FloatConstOpcode, StackOpcode, UnaryOpcode,
+};
 use clif_words::error::{Expected, LineError};
 use clif_words::types::type_named;
 
@@ -63,6 +65,17 @@ pub(crate) fn float_const_named(name: &str) -> Option<FloatConstOpcode>
         "f16const" => Some(FloatConstOpcode::F16const),
         "f32const" => Some(FloatConstOpcode::F32const),
         "f64const" => Some(FloatConstOpcode::F64const),
+        _ => None,
+    }
+}
+
+/// The operation of this name, at a place in a stack slot: one row per instruction.
+pub(crate) fn stack_named(name: &str) -> Option<StackOpcode>
+    ensures { IfSome result (λ opcode. name.now ≡ stack_name opcode) }
+{
+    match name {
+        "stack_addr" => Some(StackOpcode::StackAddr),
+        "stack_load" => Some(StackOpcode::StackLoad),
         _ => None,
     }
 }
@@ -237,6 +250,38 @@ pub(crate) fn read_store_call<'a>(
         p,
         offset,
     }))
+}
+
+/// The same for an instruction at a place in a stack slot, whose name is followed by its result type.
+pub(crate) fn read_stack_call<'a>(
+    head: &'a str,
+    opcode: StackOpcode,
+    suffix: &'a str,
+    args: &mut Args<'_, 'a>,
+) -> Result<Call, LineError<'a>>
+    requires { head.now ≡ stack_name opcode ++ (codes "." ++ suffix.now) }
+    ensures { IfOk result (ReadsCall args.old args.new head.now) }
+{
+    let Some(ty) = type_named(suffix) else {
+        return Err(LineError::wanted(Expected::Type));
+    };
+    let slot = args.slot()?;
+    let offset = args.last_offset()?;
+    Ok(Call::Plain(PlainInstruction::stack(opcode, ty, slot, offset)))
+}
+
+/// The same for `stack_store`.
+pub(crate) fn read_stack_store_call<'a>(
+    head: &'a str,
+    args: &mut Args<'_, 'a>,
+) -> Result<Call, LineError<'a>>
+    requires { head.now ≡ codes "stack_store" }
+    ensures { IfOk result (ReadsCall args.old args.new head.now) }
+{
+    let x = args.value()?;
+    let slot = args.slot()?;
+    let offset = args.last_offset()?;
+    Ok(Call::Plain(PlainInstruction::StackStore { x, slot, offset }))
 }
 
 /// The same for a trap under a condition.

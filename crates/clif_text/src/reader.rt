@@ -2,13 +2,13 @@
 ghost use Rattle.std.specs.Prelude.{◌≡◌, ◌≢◌, ◌++◌, ◌∷◌, [], ℕ, List, IfOk, IfErr, IfNone, IfSome, OnOk, codes, true};
 ghost use Rattle.std.specs.List.{All};
 ghost use Rattle.clif_words.specs.Cursor.{texts};
-ghost use Rattle.clif_text.specs.Given.{declares};
+ghost use Rattle.clif_text.specs.Given.{numbered_kind};
 ghost use Rattle.clif_text.specs.Reader.{NamesAnswers};
 ghost use Rattle.clif_text.specs.Script as script;
 
 use crate::calls::{Answers, answers_of, call_of};
 use crate::header::{Header, is_header};
-use crate::scope::{Scope, is_name};
+use crate::scope::{Kind, Scope, is_name};
 use clif_calls::{Call, Name};
 use clif_types::{Signature, TargetFrontendConfig, UserFuncName};
 use clif_words::error::{Expected, Fault, LineError, ReadError};
@@ -110,7 +110,7 @@ impl<'a> Reader<'a> {
     {
         let call = call_of(self.alloc, words, &self.scope)?;
         let answers = answers_of(&call);
-        self.scope.count(declares_variable(&call))?;
+        self.scope.count(kind_answered(&call))?;
         give_names(&mut self.scope, self.calls.len(), names, answers)?;
         self.calls.push(call)?;
         self.lines.push(number)?;
@@ -118,10 +118,15 @@ impl<'a> Reader<'a> {
     }
 }
 
-fn declares_variable(call: &Call) -> bool
-    ensures { result ≡ declares call.now }
+// Of what kind the call answers one, if it answers any by number.
+fn kind_answered(call: &Call) -> Option<Kind>
+    ensures { result ≡ numbered_kind call.now }
 {
-    matches!(call, Call::DeclareVar { .. })
+    match call {
+        Call::DeclareVar { .. } => Some(Kind::Variable),
+        Call::CreateSizedStackSlot { .. } => Some(Kind::StackSlot),
+        _ => None,
+    }
 }
 
 // The name that the word gives to an instruction, if it has an `@` before it and the call makes one.

@@ -1,5 +1,6 @@
 //! What names stand for.
-ghost use Rattle.std.specs.Prelude.{◌≤◌, IfSome, vec_len};
+ghost use Rattle.std.specs.Prelude.{◌≡◌, ◌≤◌, IfSome, vec_len};
+ghost use Rattle.clif_text.specs.Given.{number_as, total_of};
 ghost use Rattle.clif_text.specs.Grammar.{IsPlaceName};
 
 use clif_calls::Name;
@@ -7,14 +8,64 @@ use clif_words::number::decimal;
 use std::alloc::{AllocError, Global};
 use std::collections::BTreeMap;
 
-/// The names that the lines so far gave, and the variables that their calls declared.
+/// What is named by its number. Each kind is numbered from 0 on, in the order of the calls.
+#[derive(Clone, Copy)]
+pub(crate) enum Kind {
+    /// A variable.
+    Variable,
+    /// A stack slot.
+    StackSlot,
+}
+
+// What a call answers by number.
+#[derive(Clone, Copy)]
+enum Numbered {
+    Variable(usize),
+    StackSlot(usize),
+    Nothing,
+}
+
+// How many there are of each kind.
+#[derive(Clone, Copy)]
+struct Totals {
+    variables: usize,
+    stack_slots: usize,
+}
+
+/// The names that the lines so far gave, and what their calls answered by number.
 #[derive(Drop)]
 pub(crate) struct Scope<'a> {
     names: BTreeMap<&'a str, Name>,
-    // for each call, the number of the variable that it answers
-    variables: Vec<Option<usize>>,
-    declared: usize,
-    ghost counted: { declared ≤ vec_len variables },
+    // for each call, what it answers by number
+    numbered: Vec<Numbered>,
+    totals: Totals,
+    ghost variables_counted: { totals.variables ≤ vec_len numbered },
+    ghost slots_counted: { totals.stack_slots ≤ vec_len numbered },
+}
+
+impl Numbered {
+    // The number, if it is one of this kind.
+    fn number_as(self, kind: Kind) -> Option<usize>
+        ensures { result ≡ number_as kind self }
+    {
+        match (self, kind) {
+            (Numbered::Variable(number), Kind::Variable)
+            | (Numbered::StackSlot(number), Kind::StackSlot) => Some(number),
+            _ => None,
+        }
+    }
+}
+
+impl Totals {
+    // How many there are of this kind.
+    fn of(self, kind: Kind) -> usize
+        ensures { result ≡ total_of kind self }
+    {
+        match kind {
+            Kind::Variable => self.variables,
+            Kind::StackSlot => self.stack_slots,
+        }
+    }
 }
 
 // The answer that `$P.K` names.
@@ -42,19 +93,23 @@ fn may_be_named(byte: u8) -> bool {
 }
 
 impl<'a> Scope<'a> {
-    ghost use Rattle.std.specs.Prelude.{◌≡◌, [], IfNone, OnOk};
+    ghost use Rattle.std.specs.Prelude.{[], IfNone, OnOk};
+    ghost use Rattle.clif_text.specs.Given.{no_totals};
     ghost use Rattle.clif_text.specs.Grammar.{IsAnswer};
-    ghost use Rattle.clif_text.specs.Scope.{Counts, Gives, given_in, names_of, variable_of};
+    ghost use Rattle.clif_text.specs.Scope.{Counts, Gives, given_in, names_of, number_of};
 
     pub(crate) fn new(alloc: Global) -> Scope<'a>
         ensures names { result.names.entries ≡ [] }
-        ensures variables { result.variables.items ≡ [] }
-        ensures declared { result.declared ≡ 0 }
+        ensures numbered { result.numbered.items ≡ [] }
+        ensures totals { result.totals ≡ no_totals }
     {
         Scope {
             names: BTreeMap::new(alloc),
-            variables: Vec::new(alloc),
-            declared: 0,
+            numbered: Vec::new(alloc),
+            totals: Totals {
+                variables: 0,
+                stack_slots: 0,
+            },
         }
     }
 
@@ -69,14 +124,15 @@ impl<'a> Scope<'a> {
         }
     }
 
-    /// The number of the variable that is this answer. Where it is none, the number that the next variable
-    /// gets, which isn't declared.
-    pub(crate) fn variable(&self, name: Name) -> usize
-        ensures { result ≡ variable_of self.now name }
+    /// The number of the one of this kind that is this answer. Where it is none, the number that the next
+    /// one gets, which isn't there.
+    pub(crate) fn number(&self, kind: Kind, name: Name) -> usize
+        ensures { result ≡ number_of kind self.now name }
     {
-        match self.variables.get(name.place) {
-            Some(Some(number)) if name.answer == 0 => *number,
-            _ => self.declared,
+        let next = self.totals.of(kind);
+        match self.numbered.get(name.place) {
+            Some(numbered) if name.answer == 0 => numbered.number_as(kind).unwrap_or(next),
+            _ => next,
         }
     }
 
@@ -88,15 +144,22 @@ impl<'a> Scope<'a> {
         Ok(())
     }
 
-    /// One more call was read, which declares a variable or doesn't.
-    pub(crate) fn count(&mut self, declares: bool) -> Result<(), AllocError>
-        ensures { OnOk result (Counts declares self.old self.new) }
+    /// One more call was read, which answers one of this kind or none.
+    pub(crate) fn count(&mut self, answered: Option<Kind>) -> Result<(), AllocError>
+        ensures { OnOk result (Counts answered self.old self.new) }
     {
-        if declares {
-            self.variables.push(Some(self.declared))?;
-            self.declared += 1;
-        } else {
-            self.variables.push(None)?;
+        match answered {
+            Some(Kind::Variable) => {
+                let number = self.totals.variables;
+                self.numbered.push(Numbered::Variable(number))?;
+                self.totals.variables += 1;
+            }
+            Some(Kind::StackSlot) => {
+                let number = self.totals.stack_slots;
+                self.numbered.push(Numbered::StackSlot(number))?;
+                self.totals.stack_slots += 1;
+            }
+            None => self.numbered.push(Numbered::Nothing)?,
         }
         Ok(())
     }

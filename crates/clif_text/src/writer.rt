@@ -105,6 +105,19 @@ impl fmt::Display for PlanText<'_, '_> {
                 let (args, offset) = (AnswersText(args), OffsetText(*offset));
                 write!(f, "store{flags}{args}{offset}")
             }
+            Plan::StackLoad {
+                opcode,
+                ty,
+                slot,
+                offset,
+            } => {
+                let (name, offset) = (opcode.name(), OffsetText(*offset));
+                write!(f, "{name}.{ty} {slot}{offset}")
+            }
+            Plan::StackStore { arg, slot, offset } => {
+                let (x, offset) = (AnswerText(*arg), OffsetText(*offset));
+                write!(f, "stack_store {x} {slot}{offset}")
+            }
             Plan::Trap { code } => write!(f, "trap {code}"),
             Plan::CondTrap { opcode, arg, code } => {
                 write!(f, "{} {} {code}", opcode.name(), AnswerText(*arg))
@@ -132,6 +145,7 @@ enum Operands<'a> {
     Answers(Name, Name),
     Param(Name, Type),
     Type(Type),
+    Slot(u32, u8),
     Definition(Variable, Name),
     Variable(Variable),
     Instruction(Plan<'a>),
@@ -147,6 +161,7 @@ impl fmt::Display for Operands<'_> {
             Operands::Answers(x, y) => write!(f, " {} {}", AnswerText(*x), AnswerText(*y)),
             Operands::Param(block, ty) => write!(f, " {} {ty}", AnswerText(*block)),
             Operands::Type(ty) => write!(f, " {ty}"),
+            Operands::Slot(size, align_shift) => write!(f, " {size} {align_shift}"),
             Operands::Definition(variable, x) => write!(f, " {variable} {}", AnswerText(*x)),
             Operands::Variable(variable) => write!(f, " {variable}"),
             Operands::Instruction(plan) => write!(f, "{}", PlanText(plan)),
@@ -180,6 +195,10 @@ fn parts(call: &Call) -> (&'static str, Operands<'_>)
         ),
         Call::AppendBlockParamsForFunctionParams { block } => (PARAMS, Operands::Answer(*block)),
         Call::AppendBlockParamsForFunctionReturns { block } => (RETURNS, Operands::Answer(*block)),
+        Call::CreateSizedStackSlot { size, align_shift } => (
+            "create_sized_stack_slot",
+            Operands::Slot(*size, *align_shift),
+        ),
         Call::DeclareVar { ty } => ("declare_var", Operands::Type(*ty)),
         Call::DefVar { variable, value } => ("def_var", Operands::Definition(*variable, *value)),
         Call::UseVar { variable } => ("use_var", Operands::Variable(*variable)),
@@ -206,9 +225,9 @@ fn parts(call: &Call) -> (&'static str, Operands<'_>)
     }
 }
 
-/// A call as a line of a script, without the line's end. It is printed with `$P.K` for each answer and `varN`
-/// for each variable, so it needs no names. The region of a load or a store is written as it is printed, though no
-/// script can name it.
+/// A call as a line of a script, without the line's end. It is printed with `$P.K` for each answer, `varN` for
+/// each variable and `ssN` for each stack slot, so it needs no names. The region of a load or a store is written
+/// as it is printed, though no script can name it.
 #[derive(Clone, Copy)]
 pub struct CallText<'a>(pub &'a Call);
 

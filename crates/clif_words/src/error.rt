@@ -22,6 +22,12 @@ pub enum Expected {
     Value,
     /// A variable.
     Variable,
+    /// A stack slot.
+    StackSlot,
+    /// The size of a stack slot, in 32 bits.
+    SlotSize,
+    /// The shift that makes the alignment of a stack slot, in 8 bits.
+    AlignShift,
     /// A type.
     Type,
     /// A number of 64 bits.
@@ -69,6 +75,9 @@ impl fmt::Display for Expected {
             Expected::Block => "a block",
             Expected::Value => "a value",
             Expected::Variable => "a variable",
+            Expected::StackSlot => "a stack slot",
+            Expected::SlotSize => "a size of 32 bits",
+            Expected::AlignShift => "a shift of 8 bits",
             Expected::Type => "a type",
             Expected::Number => "a number of 64 bits",
             Expected::F16Bits => "the bits of an f16",

@@ -1,12 +1,13 @@
 -- An entry is put into a table of the function: the agreement with the ledger is kept, and the builder stands for the calls.
 use Rattle.std.proofs.Common.{◌≡◌, ◌≢◌, ◌<◌, ℕ, List, [], ◌∷◌, ◌++◌, length, refl, sym, ◌∙◌, ap, subst, arith, Bool, false, inl, inr}
-use Rattle.std.specs.Prelude.{◌-◌, ◌^◌, Option, true, is_err, Result, Ok, Err, IfOk, OnOk, OnErr}
+use Rattle.std.proofs.lemmas.Grind.{common_steps}
+use Rattle.std.specs.Prelude.{◌≤◌, Option, true, is_err, Result, Ok, Err, IfOk, OnOk, OnErr}
 use Rattle.clif_types.specs.declared.error.BuildError.{BuildError}
-use Rattle.clif_types.specs.declared.error.BuildError.TheVariants.{Full, Failed}
+use Rattle.clif_types.specs.declared.error.BuildError.TheVariants.{Failed}
 use Rattle.clif_types.specs.Signature.{SignatureShape}
-use Rattle.clif_tables.specs.Entries.{TableEntry, count_for, with_entry}
+use Rattle.clif_tables.specs.Entries.{TableEntry, AStackSlot, count_for, with_entry}
 use Rattle.clif_tables.specs.Lists.{TableLists}
-use Rattle.clif_ir.specs.Body.{Body, value_at}
+use Rattle.clif_ir.specs.Body.{Body}
 use Rattle.clif_ir.specs.Changes.{with_tables}
 use Rattle.clif_ir.specs.Entries.{MakesIn}
 use Rattle.clif_meaning.specs.Request.{AnsweredCall, MakeEntry}
@@ -142,7 +143,11 @@ module _ (entry : TableEntry) (f g : Body) where
 
   grows_made : (r : Result ℕ BuildError) → OnOk r (g ≡ with_more f entry) → OnOk r (Grows f g)
   grows_made (Err e) is = tt
-  grows_made (Ok n) is = subst (Grows f) (sym is) (omega arith, omega arith, omega arith, refl, refl)
+  grows_made (Ok n) is = subst (Grows f) (sym is) (omega arith, omega arith, omega arith, refl, refl, slots entry)
+    where
+      slots : (e : TableEntry) → length f.tables.stack_slots ≤ length (with_entry f.tables e).stack_slots
+      slots (AStackSlot slot) = grind (arith, common_steps)
+      slots _ = omega arith
 
   remembers_made : (r : Result ℕ BuildError) (x b : ℕ) (s t : SsaState) → OnOk r (g ≡ with_more f entry) → t ≡ s → OnOk r (Remembers x b f s g t)
   remembers_made (Err e) x b s t is same = tt

@@ -20,9 +20,11 @@ use Rattle.clif_opcodes.specs.declared.opcodes.CondTrapOpcode.{CondTrapOpcode}
 use Rattle.clif_opcodes.specs.declared.opcodes.FloatConstOpcode.{FloatConstOpcode}
 use Rattle.clif_opcodes.specs.declared.opcodes.FloatConstOpcode.TheVariants.{F16const, F32const, F64const}
 use Rattle.clif_opcodes.specs.declared.opcodes.ConvertOpcode.{ConvertOpcode}
+use Rattle.clif_opcodes.specs.declared.opcodes.StackOpcode.{StackOpcode}
+use Rattle.clif_opcodes.specs.declared.opcodes.StackOpcode.TheVariants as stack
 use Rattle.clif_opcodes.specs.declared.opcodes.UnaryOpcode.{UnaryOpcode}
 use Rattle.clif_instructions.specs.declared.instructions.InstructionData.{InstructionData}
-use Rattle.clif_instructions.specs.declared.instructions.InstructionData.TheVariants.{UnaryImm, UnaryIeee, Unary, Binary, IntCompare, Concat, Convert, Ternary, Load, Store, Jump, Brif, MultiAry, Trap, CondTrap}
+use Rattle.clif_instructions.specs.declared.instructions.InstructionData.TheVariants.{UnaryImm, UnaryIeee, Unary, Binary, IntCompare, Concat, Convert, Ternary, Load, Store, StackLoad, StackStore, Jump, Brif, MultiAry, Trap, CondTrap}
 use Rattle.clif_ir.specs.Body.{Body, inst_at, no_inst, no_value, value_at}
 use Rattle.clif_ir.specs.Changes.{inserted_in, with_inst, inst_node}
 use Rattle.clif_ir.specs.Consistent.{IsConsistent}
@@ -250,6 +252,22 @@ pub store-shape : (calls : List AnsweredCall) (f : Body) (c : ContextState) (p :
     → HasShape calls f (plain (operation.Store flags offset) (or_invalid (type_of (ledger_of calls) a)) (a ∷ b ∷ [])) (Store flags (x ∷ y ∷ []) offset) type.Invalid
 store-shape calls f c p agrees flags a b x y offset first second =
     record { operation = refl; controlling = named-type calls f c p agrees a x first; typed = refl; operands_numbered = two-operands calls a b x y first second; edges = tt }
+
+pub stack-shape : (calls : List AnsweredCall) (f : Body) (opcode : StackOpcode) (ty : «Type») (slot : ℕ) (offset : ℤ)
+    → HasShape calls f (plain (operation.Stack opcode slot offset) ty []) (StackLoad opcode slot offset) ty
+stack-shape calls f stack.StackAddr ty slot offset = record { operation = refl; controlling = refl; typed = refl; operands_numbered = refl; edges = tt }
+stack-shape calls f stack.StackLoad ty slot offset = record { operation = refl; controlling = refl; typed = refl; operands_numbered = refl; edges = tt }
+
+pub stack_store-shape : (calls : List AnsweredCall) (f : Body) (c : ContextState) (p : Option ℕ) → LedgerAgrees calls (ledger_of calls) f c p
+    → (a : Name) (x slot : ℕ) (offset : ℤ) → NamesValue calls a x
+    → HasShape calls f (plain (operation.StackStore slot offset) (or_invalid (type_of (ledger_of calls) a)) (a ∷ [])) (StackStore x slot offset) type.Invalid
+stack_store-shape calls f c p agrees a x slot offset names = record {
+  operation = refl;
+  controlling = named-type calls f c p agrees a x names;
+  typed = refl;
+  operands_numbered = ap (λ (o : Option ℕ). o ∷ []) names.number;
+  edges = tt;
+}
 
 pub trap-shape : (calls : List AnsweredCall) (f : Body) (code : TrapCode) → HasShape calls f (plain (operation.Trap code) type.Invalid []) (Trap code) type.Invalid
 trap-shape calls f code = record { operation = refl; controlling = refl; typed = refl; operands_numbered = refl; edges = tt }

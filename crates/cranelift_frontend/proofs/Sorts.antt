@@ -3,8 +3,9 @@ use Rattle.std.proofs.Common.{◌≡◌, [], refl, ◌⊎◌, inl, inr}
 use Rattle.std.specs.Prelude.{true, false}
 use Rattle.clif_types.specs.declared.types.«Type».{«Type»}
 use Rattle.clif_opcodes.specs.declared.opcodes.FloatConstOpcode.TheVariants.{F16const, F32const, F64const}
+use Rattle.clif_opcodes.specs.declared.opcodes.StackOpcode.TheVariants as stack
 use Rattle.clif_instructions.specs.declared.instructions.InstructionData.{InstructionData}
-use Rattle.clif_instructions.specs.declared.instructions.InstructionData.TheVariants.{UnaryIeee, Jump, Brif, MultiAry, Trap}
+use Rattle.clif_instructions.specs.declared.instructions.InstructionData.TheVariants.{UnaryIeee, StackLoad, Jump, Brif, MultiAry, Trap}
 use Rattle.clif_instructions.specs.Instruction.{destinations, is_branch, is_terminator, opcode_of, result_types}
 use Rattle.clif_meaning.specs.Instruction.{operation_opcode}
 use Rattle.clif_meaning.specs.View.{operation_of}
@@ -28,6 +29,8 @@ sort_of (Trap code) ty = inr (record { ends = refl; none = refl })
 sort_of (UnaryIeee F16const bits) ty = inl (record { no_edges = refl; no_branch = refl; goes_on = refl })
 sort_of (UnaryIeee F32const bits) ty = inl (record { no_edges = refl; no_branch = refl; goes_on = refl })
 sort_of (UnaryIeee F64const bits) ty = inl (record { no_edges = refl; no_branch = refl; goes_on = refl })
+sort_of (StackLoad stack.StackAddr slot offset) ty = inl (record { no_edges = refl; no_branch = refl; goes_on = refl })
+sort_of (StackLoad stack.StackLoad slot offset) ty = inl (record { no_edges = refl; no_branch = refl; goes_on = refl })
 sort_of _ ty = inl (record { no_edges = refl; no_branch = refl; goes_on = refl })
 
 -- a shape and its operation have one opcode

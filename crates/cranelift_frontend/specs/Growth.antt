@@ -8,7 +8,7 @@ use Rattle.cranelift_frontend.specs.declared.builder.FunctionBuilder.{FunctionBu
 abbrev pub Grows : Body → Body → Type 0
 Grows f g =
     (length f.values ≤ length g.values) × (length f.insts ≤ length g.insts) × (length f.blocks ≤ length g.blocks)
-    × (g.name ≡ f.name) × (g.signature ≡ f.signature)
+    × (g.name ≡ f.name) × (g.signature ≡ f.signature) × (length f.tables.stack_slots ≤ length g.tables.stack_slots)
 
 -- each value keeps its type
 abbrev pub TypesStay : Body → Body → Type 0

@@ -7,6 +7,7 @@ use Rattle.clif_opcodes.specs.declared.opcodes.BinaryOpcode.{BinaryOpcode}
 use Rattle.clif_opcodes.specs.declared.opcodes.CondTrapOpcode.{CondTrapOpcode}
 use Rattle.clif_opcodes.specs.declared.opcodes.FloatConstOpcode.{FloatConstOpcode}
 use Rattle.clif_opcodes.specs.declared.opcodes.ConvertOpcode.{ConvertOpcode}
+use Rattle.clif_opcodes.specs.declared.opcodes.StackOpcode.{StackOpcode}
 use Rattle.clif_opcodes.specs.declared.opcodes.UnaryOpcode.{UnaryOpcode}
 use Rattle.clif_types.specs.declared.types.«Type».TheVariants.{Invalid}
 use Rattle.clif_instructions.specs.declared.block_call.BlockArg.{BlockArg}
@@ -50,6 +51,10 @@ pub record AskForTheirShapes (calls : List AnsweredCall) (f : Body) : Type 0 whe
       → AsksForShape calls f (request.load flags ty a offset) (shape.load flags x offset) ty
   pub store : (flags : MemFlagsShape) (a b : Name) (x y : ℕ) (offset : ℤ) → NamesValue calls a x → NamesValue calls b y
       → AsksForShape calls f (request.store (ledger_of calls) flags a b offset) (shape.store flags x y offset) Invalid
+  pub stack : (opcode : StackOpcode) (ty : «Type») (slot : ℕ) (offset : ℤ)
+      → AsksForShape calls f (request.stack opcode ty slot offset) (shape.stack opcode slot offset) ty
+  pub stack_store : (a : Name) (x slot : ℕ) (offset : ℤ) → NamesValue calls a x
+      → AsksForShape calls f (request.stack_store (ledger_of calls) a slot offset) (shape.stack_store x slot offset) Invalid
   pub trap : (code : TrapCode) → AsksForShape calls f (request.trap code) (shape.trap code) Invalid
   pub cond_trap : (opcode : CondTrapOpcode) (a : Name) (x : ℕ) (code : TrapCode) → NamesValue calls a x
       → AsksForShape calls f (request.cond_trap (ledger_of calls) opcode a code) (shape.cond_trap opcode x code) Invalid

@@ -3,7 +3,8 @@ ghost use Rattle.std.specs.Prelude.{◌≡◌, ◌≢◌, ◌<◌, ◌∷◌, []
 ghost use Rattle.std.proofs.Math.Nat.{lt_of_lt_of_le};
 ghost use Rattle.clif_ir.specs.Body.{value_at};
 ghost use Rattle.clif_ir.specs.Changes.{HasNoRoom};
-ghost use Rattle.clif_instructions.specs.Instruction.{operands, destinations, is_branch, result_count};
+ghost use Rattle.clif_ir.specs.Consistent.{EntryExists};
+ghost use Rattle.clif_instructions.specs.Instruction.{entries_of, operands, destinations, is_branch, result_count};
 ghost use Rattle.clif_instructions.specs.Edges.{targets};
 ghost use Rattle.clif_ssa.specs.Ssa.{NamesExist};
 ghost use Rattle.clif_ssa.specs.Structure.{LooksOnce};
@@ -42,6 +43,8 @@ impl<'a> InstBuilderBase for FunctionBuilder<'a> {
 
     ghost has_value = { λ b value. value < length b.func.now.values };
 
+    ghost has_entry = { λ b entry. EntryExists b.func.now.tables entry };
+
     ghost can_lead = { CanLead };
 
     ghost type_of = { λ b value. (value_at b.func.now value).ty };
@@ -64,6 +67,9 @@ impl<'a> InstBuilderBase for FunctionBuilder<'a> {
 
     ghost others_exist = { λ old new shape ty value built other here.
         lt_of_lt_of_le here built.grows.0 };
+
+    ghost slots_stay = { λ old new shape ty value built slot here.
+        lt_of_lt_of_le here built.grows.5 };
 
     fn value_type(&self, value: Value) -> Type {
         self.func.value_type(value)
@@ -140,6 +146,7 @@ fn append(
     requires named { NamesExist func.old ctx.old.ssa }
     requires operands_exist { EachIndex (operands shape) (λ k. slice_index (operands shape) k < length func.old.values) }
     requires edges { All (CanLeadIn func.old ctx.old) (destinations shape) }
+    requires entries_exist { All (EntryExists func.old.tables) (entries_of shape) }
     ensures appends { IfOk result (AppendsIn func.old ctx.old func.new ctx.new block shape ctrl_type) }
     ensures declares { IfOk result (λ inst. IsDeclared ctx.old.ssa inst (targets (destinations shape)) ctx.new.ssa) }
     ensures ssa { is_branch shape ≡ false → ctx.new.ssa ≡ ctx.old.ssa }

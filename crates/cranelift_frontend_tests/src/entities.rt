@@ -3,11 +3,13 @@
 
 ghost use Rattle.std.specs.Prelude.{◌<◌, length};
 
+use crate::front_end::{asserts_current, enter, seal};
 use crate::steps::{CONFIG, function};
-use clif_types::types::I32;
+use clif_types::types::{I32, I64};
 use cranelift_frontend::{
     AbiParam, CallConv, DynamicStackSlotData, EntityRef, ExtFuncData, ExternalName,
-    FunctionBuilder, FunctionBuilderContext, GlobalValueData, SigRef, Signature, StackSlotData,
+    FunctionBuilder, FunctionBuilderContext, GlobalValueData, InstBuilder, SigRef, Signature,
+    StackSlot, StackSlotData,
 };
 use std::alloc::Global;
 use std::process::Abort;
@@ -58,6 +60,49 @@ fn lines_of_tables(rt: HostRuntime) -> Result<(), Fail> {
     assert!(rt; builder.finalize(CONFIG).is_ok());
     let text =
         "function %tables() -> i32 system_v {\n    ss0 = explicit_slot 4, align = 4\n    dss0 = explicit_dynamic_slot dt0\n    gv0 = vmctx\n    sig0 = (i32) system_v\n    fn0 = %g sig0\n\n}\n";
+    assert_eq!(rt; format!(in alloc; "{}", func.display())?.as_str(), text);
+    Ok(())
+}
+
+// Asserts that a stack slot was made.
+fn asserts_slot(rt: &impl Abort, builder: &FunctionBuilder<'_>, slot: StackSlot)
+    ensures { slot < length builder.now.func.now.tables.stack_slots }
+{
+    assert!(rt; builder.func().tables().stack_slot(slot).is_some());
+    assert!(rt; slot.index() < builder.func().tables().stack_slot_count());
+}
+
+// Stores a number into a stack slot, and returns what is read from there.
+fn uses_slot(
+    rt: &impl Abort,
+    builder: &mut FunctionBuilder<'_>,
+    slot: StackSlot,
+) -> Result<(), Fail> {
+    asserts_current(rt, builder);
+    asserts_slot(rt, builder, slot);
+    let number = builder.ins().iconst(I32, 7)?;
+    builder.ins().stack_store(number, slot, 0)?;
+    let read = builder.ins().stack_load(I32, slot, 4)?;
+    builder.ins().stack_addr(I64, slot, -4)?;
+    builder.ins().return_(&[read])?;
+    Ok(())
+}
+
+/// A stack slot is stored into, read, and its address taken: that it exists is known from call to call.
+#[test]
+fn slot_used(rt: HostRuntime) -> Result<(), Fail> {
+    let alloc = rt.alloc();
+    let mut ctx = FunctionBuilderContext::new(alloc);
+    let mut func = function(alloc, "slot", 0)?;
+    let mut builder = FunctionBuilder::new(&mut func, &mut ctx);
+    let block = builder.create_block()?;
+    enter(&rt, &mut builder, block);
+    seal(&rt, &mut builder, block);
+    let slot = builder.create_sized_stack_slot(StackSlotData::new(8, 3))?;
+    uses_slot(&rt, &mut builder, slot)?;
+    assert!(rt; builder.finalize(CONFIG).is_ok());
+    let text =
+        "function %slot() -> i32 system_v {\n    ss0 = explicit_slot 8, align = 8\n\nblock0:\n    v0 = iconst.i32 7\n    stack_store v0, ss0  ; v0 = 7\n    v1 = stack_load.i32 ss0+4\n    v2 = stack_addr.i64 ss0-4\n    return v1\n}\n";
     assert_eq!(rt; format!(in alloc; "{}", func.display())?.as_str(), text);
     Ok(())
 }

@@ -1,7 +1,7 @@
 //! The interpreter of functions. It has the bits of all values, and follows aliases.
 #![tactic(auto)]
 
-use crate::interpreters::memory::{Access, Fault, Memory};
+use crate::interpreters::memory::{Access, Fault, Memory, slot_access};
 use crate::interpreters::{
     End, Ending, STEPS, binary, compares, concat, constant, convert, end_by, split, traps, unary,
 };
@@ -134,6 +134,11 @@ impl<'a> State<'a> {
             InstructionData::Load { flags, arg, offset } => {
                 self.memory.load(&self.access(ty, *flags, *arg, *offset))?
             }
+            InstructionData::StackLoad {
+                opcode,
+                slot,
+                offset,
+            } => self.memory.at_slot(*opcode, ty, *slot, *offset)?,
             _ => 0,
         };
         Ok(bits)
@@ -156,8 +161,12 @@ impl<'a> State<'a> {
     fn store(&mut self, flags: MemFlagsData, args: [Value; 2], offset: i32) -> Next {
         let [x, p] = args;
         let access = self.access(self.type_of(x), flags, p, offset);
+        self.put(&access, x)
+    }
+
+    fn put(&mut self, access: &Access, x: Value) -> Next {
         let bits = self.bits(x);
-        match self.memory.store(&access, bits) {
+        match self.memory.store(access, bits) {
             Ok(()) => Next::InBlock,
             Err(fault) => Next::Faulted(fault),
         }
@@ -171,6 +180,10 @@ impl<'a> State<'a> {
                 args,
                 offset,
             } => Ok(self.store(*flags, *args, *offset)),
+            InstructionData::StackStore { arg, slot, offset } => {
+                let access = slot_access(self.type_of(*arg), *slot, *offset);
+                Ok(self.put(&access, *arg))
+            }
             InstructionData::CondTrap { opcode, arg, code } => {
                 if traps(*opcode, self.bits(*arg)) {
                     Ok(Next::Faulted(Fault::Trapped(*code)))

@@ -2,7 +2,9 @@
 #![tactic(auto)]
 
 use crate::interpreters::{constant, greatest};
-use clif_types::{MemFlagsData, TrapCode, Type};
+use clif_opcodes::StackOpcode;
+use clif_types::types::I64;
+use clif_types::{EntityRef, MemFlagsData, StackSlot, TrapCode, Type};
 
 /// How many bytes are accessible.
 pub const SIZE: usize = 32;
@@ -22,6 +24,17 @@ pub struct Access {
     pub address: u128,
     pub offset: i32,
     pub flags: MemFlagsData,
+}
+
+/// An access to a stack slot. The slots lie eight bytes from one another, from address 4096 on, and pointers have 64 bits.
+pub fn slot_access(ty: Type, slot: StackSlot, offset: i32) -> Access {
+    Access {
+        ty,
+        address_type: I64,
+        address: (slot.index() as u128).wrapping_mul(8).wrapping_add(4096),
+        offset,
+        flags: MemFlagsData::new(),
+    }
 }
 
 /// Why an instruction gives nothing.
@@ -67,6 +80,21 @@ impl Memory {
     pub fn put(&mut self, place: usize, byte: u8) {
         if let Some(held) = self.bytes.get_mut(place) {
             *held = byte;
+        }
+    }
+
+    /// What an instruction gives that reads a stack slot, or its address.
+    pub fn at_slot(
+        &self,
+        opcode: StackOpcode,
+        ty: Type,
+        slot: StackSlot,
+        offset: i32,
+    ) -> Result<u128, Fault> {
+        let access = slot_access(ty, slot, offset);
+        match opcode {
+            StackOpcode::StackAddr => Ok(access.byte_address(0) & greatest(ty)),
+            StackOpcode::StackLoad => self.load(&access),
         }
     }
 

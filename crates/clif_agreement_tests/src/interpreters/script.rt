@@ -1,13 +1,13 @@
 //! The interpreter of scripts. It has variables and names of answers, and no aliases, slots or parameters of its own.
 #![tactic(auto)]
 
-use crate::interpreters::memory::{Access, Fault, Memory};
+use crate::interpreters::memory::{Access, Fault, Memory, slot_access};
 use crate::interpreters::{
     End, Ending, STEPS, binary, compares, concat, constant, convert, end_by, split, traps, unary,
 };
 use clif_opcodes::FloatConstOpcode;
 use clif_script::{Call, Edge, Name, Plan};
-use clif_types::{AbiParam, EntityRef, MemFlagsData, Signature, Type, types};
+use clif_types::{AbiParam, EntityRef, MemFlagsData, Signature, StackSlot, Type, types};
 use std::alloc::{AllocError, Global};
 use std::slice;
 
@@ -141,6 +141,12 @@ impl<'a> State<'a> {
                 let access = self.access(*ty, *flags, *arg, *offset);
                 of_type(*ty, self.memory.load(&access)?)
             }
+            Plan::StackLoad {
+                opcode,
+                ty,
+                slot,
+                offset,
+            } => of_type(*ty, self.memory.at_slot(*opcode, *ty, *slot, *offset)?),
             _ => NOTHING,
         };
         Ok(value)
@@ -151,6 +157,11 @@ impl<'a> State<'a> {
         let Typed { ty, bits } = self.name(x);
         let access = self.access(ty, flags, p, offset);
         self.memory.store(&access, bits)
+    }
+
+    fn stack_store(&mut self, x: Name, slot: StackSlot, offset: i32) -> Result<(), Fault> {
+        let Typed { ty, bits } = self.name(x);
+        self.memory.store(&slot_access(ty, slot, offset), bits)
     }
 
     /// Gives the halves of an integer to the answers of a place.
@@ -169,6 +180,7 @@ impl<'a> State<'a> {
                 args,
                 offset,
             } => self.store(*flags, *args, *offset),
+            Plan::StackStore { arg, slot, offset } => self.stack_store(*arg, *slot, *offset),
             Plan::CondTrap { opcode, arg, code } => {
                 if traps(*opcode, self.name(*arg).bits) {
                     Err(Fault::Trapped(*code))

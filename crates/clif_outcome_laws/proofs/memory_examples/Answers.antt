@@ -36,6 +36,18 @@ returns c = record {
     trusted_stuck = refl;
     odd_stuck = refl;
   };
+  slots = λ world memory. record {
+    address = refl;
+    offset_counts = refl;
+    wraps = refl;
+    low_bits = refl;
+    not_other = MemoryRows.not_greater 100 104 _ _ refl (omega arith);
+    loads = refl;
+    loads_before = refl;
+    load_traps = refl;
+    stores = refl;
+    store_traps = refl;
+  };
   traps = λ world memory. record {
     trap = refl;
     not_other = λ h. cc;

@@ -5,7 +5,7 @@ use Rattle.clif_replay.proofs.Making.{answered-sound, made-answer, made-misused,
 use Rattle.std.specs.Prelude.{Err}
 use Rattle.clif_replay.proofs.ReadyLaws.{answers-exist, ready-more, value-exists}
 use Rattle.clif_replay.proofs.Conditions.{has-current}
-use Rattle.clif_replay.proofs.Planning.{destinations-lead, instruction-named, operands-exist, opens-planned, plan-same, planned-full}
+use Rattle.clif_replay.proofs.Planning.{destinations-lead, entries-exist, instruction-named, operands-exist, opens-planned, plan-same, planned-full}
 use Rattle.clif_replay.proofs.make_instructions.make_instruction.Goals as goal
 
 pub checked-requires : goal.checked-requires
@@ -28,6 +28,9 @@ append-requires-clause-operands_exist c = operands-exist c.requires.calls c.args
 
 pub append-requires-clause-edges : goal.append-requires-clause-edges
 append-requires-clause-edges c = destinations-lead c.requires.calls c.args.builder.now c.args.answers.now c.requires.ready c.args.plan.now _ _ c.in_ok-planned.ensures.found
+
+pub append-requires-clause-entries_exist : goal.append-requires-clause-entries_exist
+append-requires-clause-entries_exist c = entries-exist c.args.builder.now c.args.answers.now c.args.plan.now _ _ c.in_ok-planned.ensures.found c.in_ok-planned.ensures.may
 
 pub returns-in_err-inst : goal.returns-in_err-inst
 returns-in_err-inst c =

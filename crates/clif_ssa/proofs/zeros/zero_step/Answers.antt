@@ -6,7 +6,6 @@ use Rattle.clif_types.specs.declared.types.«Type».TheVariants as type
 use Rattle.clif_opcodes.specs.declared.opcodes.ConvertOpcode.TheVariants.{Splat, Uextend}
 use Rattle.clif_opcodes.specs.declared.opcodes.FloatConstOpcode.{FloatConstOpcode}
 use Rattle.clif_instructions.specs.declared.instructions.InstructionData.TheVariants.{UnaryImm, UnaryIeee, Convert}
-use Rattle.clif_ssa.specs.declared.zeros.ZeroKind.{ZeroKind}
 use Rattle.clif_ssa.specs.declared.zeros.ZeroKind.TheVariants as made
 use Rattle.clif_ssa.specs.Zeros.{IsStepAt, first_or_last_step, float_type, kind_of_zero, only_step, zero_row}
 use Rattle.clif_ssa.proofs.zeros.zero_step.Goals as goal

@@ -1,6 +1,6 @@
 use Rattle.std.proofs.Common.{refl}
 use Rattle.clif_inst_builder.specs.Shapes.{edge_to}
-use Rattle.cranelift_frontend.proofs.LedgerShaped.{binary-shape, brif-shape, compare-shape, concat-shape, cond_trap-shape, convert-shape, float-shape, iconst-shape, jump-shape, load-shape, return-shape, select-shape, store-shape, trap-shape, unary-shape}
+use Rattle.cranelift_frontend.proofs.LedgerShaped.{binary-shape, brif-shape, compare-shape, concat-shape, cond_trap-shape, convert-shape, float-shape, iconst-shape, jump-shape, load-shape, return-shape, select-shape, stack-shape, stack_store-shape, store-shape, trap-shape, unary-shape}
 use Rattle.cranelift_frontend.proofs.laws.requests_ask_for_their_shapes.Goals as goal
 
 pub returns : goal.returns
@@ -15,6 +15,8 @@ returns c = λ calls f d p agrees. record {
   concat = λ a b x y first second. (_, refl, concat-shape calls f d p agrees a b x y first second);
   load = λ flags ty a x offset names. (_, refl, load-shape calls f flags ty a x offset names);
   store = λ flags a b x y offset first second. (_, refl, store-shape calls f d p agrees flags a b x y offset first second);
+  stack = λ opcode ty slot offset. (_, refl, stack-shape calls f opcode ty slot offset);
+  stack_store = λ a x slot offset names. (_, refl, stack_store-shape calls f d p agrees a x slot offset names);
   trap = λ code. (_, refl, trap-shape calls f code);
   cond_trap = λ opcode a x code names. (_, refl, cond_trap-shape calls f d p agrees opcode a x code names);
   jump = λ edge block args names. (_, refl, jump-shape calls f edge (edge_to block args) names);

@@ -1,6 +1,7 @@
 -- Each block that was made stays, unsealed and unfilled, until its own call; each variable keeps the type I32.
 use Rattle.std.proofs.Common.{◌≡◌, ◌<◌, ℕ, length, refl, sym, subst, ap, ◌∙◌, arith}
 use Rattle.std.specs.Prelude.{Some}
+use Rattle.cranelift_frontend.specs.Builder.{HasCurrent}
 use Rattle.cranelift_frontend.specs.declared.builder.FunctionBuilder.{FunctionBuilder}
 use Rattle.uses.proofs.Lasting.{Keeps, IsOpen, IsUnfilled, and_then, called, carries_kept, created, same_context, assigned, valued, lent_on, made_open, made_unfilled, open_kept, unfilled_kept, open_sealed, unfilled_called, open_ended, unfilled_ended, open_moved, unfilled_moved, leads, made_before, not_above, not_below, one_exists, left_ended, typed_alike, declared}
 use Rattle.uses.proofs.count_down.count_down.Goals as goal
@@ -154,6 +155,15 @@ def_var-requires-4-clause-same_type c =
     typed_alike c.in_ok-n.n c.in_ok-count.count count.typed count.variables count.exists
     (carries_kept (lent_on (and_then after (and_then (assigned sum.call sum.grows sum.sealed sum.variables) one)) c.ins-6.ensures.builder))
     c.in_ok-less.ensures.built (c.builder-31-1.given.1 (sym c.ins-6.ensures.same)) refl
+
+pub isub-requires-clause-current : goal.isub-requires-clause-current
+isub-requires-clause-current c =
+    subst HasCurrent (sym (c.ins-6.ensures.builder ∙ c.builder-29-1.given.1 (sym c.ins-5.ensures.same))) c.in_ok-one.ensures.built.current
+
+pub def_var-requires-4-clause-value_exists : goal.def_var-requires-4-clause-value_exists
+def_var-requires-4-clause-value_exists c =
+    subst (λ (b : FunctionBuilder). c.in_ok-less.less < length b.func.now.values) (sym (c.builder-31-1.given.1 (sym c.ins-6.ensures.same)))
+    c.in_ok-less.ensures.built.exists
 
 body_kept : (c : After-ins-7) → Keeps c.switch_to_block-3.new.self c.ins-7.result.now
 body_kept c =
