@@ -205,6 +205,7 @@ fn put(
     let shape = shape_of(rt, func.allocator(), plain)?;
     assert!(rt; has_operands(func, shape.arguments()));
     assert!(rt; has_edges(func, shape.branch_destination()));
+    assert!(rt; func.has_entries(&shape));
     func.insert_inst(block, InsertAt::Back, shape, ty, SourceLoc::new(0))?;
     Ok(())
 }

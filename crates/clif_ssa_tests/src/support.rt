@@ -142,6 +142,7 @@ impl Fixture {
         let block = self.block(rt, block);
         assert!(rt; has_operands(&self.func, shape.arguments()));
         assert!(rt; has_edges(&self.func, shape.branch_destination()));
+        assert!(rt; self.func.has_entries(&shape));
         let inst = self
             .func
             .insert_inst(block, InsertAt::Back, shape, ty, SourceLoc::new(PLACE))?;
