@@ -1,8 +1,8 @@
 //! What each instruction without memory answers, on both interpreters.
 #![tactic(auto)]
 
-use crate::interpreters::End;
-use crate::support::{ZEROS, text_answers, text_ends};
+use crate::support::{text_answers, text_ends_in_zeros};
+use clif_interpreter::End;
 use clif_types::TrapCode;
 use std::alloc::Global;
 use std::process::Abort;
@@ -52,7 +52,7 @@ fn operation_ends(
     end: End,
 ) -> Result<(), Fail> {
     let text = format!(in alloc; "{OPERATION}c = {name} a b\nreturn c\nseal_block block0\n")?;
-    text_ends(rt, alloc, text.as_str(), args, ZEROS, end, ZEROS)
+    text_ends_in_zeros(rt, alloc, text.as_str(), args, end)
 }
 
 /// Shifts, by amounts modulo eight, and quotients and remainders, of which signed ones are rounded toward zero.
@@ -181,7 +181,7 @@ seal_block block0
 fn wide_numbers(rt: HostRuntime) -> Result<(), Fail> {
     let alloc = rt.alloc();
     let end = End::Returned(vec![in alloc; 2, 192, 44]?);
-    text_ends(&rt, alloc, WIDE_AMOUNTS, &[1, 128, 9], ZEROS, end, ZEROS)
+    text_ends_in_zeros(&rt, alloc, WIDE_AMOUNTS, &[1, 128, 9], end)
 }
 
 const HALVES: &str = "\
@@ -239,10 +239,10 @@ seal_block block0
 fn parts(rt: HostRuntime) -> Result<(), Fail> {
     let alloc = rt.alloc();
     let end = End::Returned(vec![in alloc; 52, 18]?);
-    text_ends(&rt, alloc, SPLIT, &[4660], ZEROS, end, ZEROS)?;
+    text_ends_in_zeros(&rt, alloc, SPLIT, &[4660], end)?;
     let args = [1, 0x0000_0002_0000_0003];
     let end = End::Returned(vec![in alloc; 1, 0x0000_0002_0000_0003, 3, 2]?);
-    text_ends(&rt, alloc, WIDE_SPLIT, &args, ZEROS, end, ZEROS)
+    text_ends_in_zeros(&rt, alloc, WIDE_SPLIT, &args, end)
 }
 
 const SIGNED: &str = "\
@@ -278,7 +278,7 @@ fn guard_ends(
     let head =
         "function %guard (i32) -> i32 system_v\nb = create_block\nn = append_block_param b i32\nswitch_to_block b\n";
     let text = format!(in alloc; "{head}{line}\nseal_block b\n")?;
-    text_ends(rt, alloc, text.as_str(), &[number], ZEROS, end, ZEROS)
+    text_ends_in_zeros(rt, alloc, text.as_str(), &[number], end)
 }
 
 /// A trap under a condition comes or doesn't, and any other one comes.

@@ -1,4 +1,5 @@
-//! Tests of what scripts and the functions that are built of them answer when they run, on two plain interpreters. The
+//! Tests of what scripts and the functions that are built of them answer when they run, on the two interpreters of
+//! `clif_interpreter`. The
 //! expected answers are those of the documented meanings of instructions.
 #![tactic(auto)]
 
@@ -7,8 +8,8 @@ mod agreement;
 #[cfg(test)]
 mod instructions;
 #[cfg(test)]
-mod interpreters;
-#[cfg(test)]
 mod memory;
+#[cfg(test)]
+mod refusals;
 #[cfg(test)]
 mod support;

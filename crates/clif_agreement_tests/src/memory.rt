@@ -1,24 +1,20 @@
 //! Loads and stores: what they answer, what is in memory then, and when they trap.
 #![tactic(auto)]
 
-use crate::interpreters::End;
-use crate::interpreters::memory::{Memory, SIZE};
-use crate::support::{ZEROS, text_ends};
+use crate::support::{SIZE, text_ends, zeros};
+use clif_interpreter::{End, Memory};
 use clif_types::TrapCode;
 use std::alloc::Global;
 use std::process::Abort;
 use std::test::Fail;
 
 // Memory whose accessible bytes begin with these, and are zero behind them.
-fn beginning(start: u64, bytes: &[u8]) -> Memory {
-    let mut memory = Memory {
-        start,
-        bytes: [0; SIZE],
-    };
+fn beginning(alloc: Global, start: u64, bytes: &[u8]) -> Result<Memory, Fail> {
+    let mut memory = Memory::zeros(alloc, start, SIZE)?;
     for (place, byte) in bytes.iter().enumerate() {
         memory.put(place, *byte);
     }
-    memory
+    Ok(memory)
 }
 
 // A function of an address, whose lines these are, returns a number of this type, or traps.
@@ -28,7 +24,7 @@ fn lines_end(
     types: (&str, &str),
     lines: &str,
     address: u128,
-    memories: (Memory, Memory),
+    memories: (&Memory, &Memory),
     end: End,
 ) -> Result<(), Fail> {
     let (address_type, ty) = types;
@@ -46,7 +42,7 @@ fn loads(
     types: (&str, &str),
     line: &str,
     address: u128,
-    memory: Memory,
+    memory: &Memory,
     number: u128,
 ) -> Result<(), Fail> {
     let (_, ty) = types;
@@ -60,39 +56,47 @@ fn loads(
 #[test]
 fn little_endian(rt: HostRuntime) -> Result<(), Fail> {
     let alloc = rt.alloc();
-    let memory = beginning(4096, &[0x34, 0x12, 0, 0, 0x78]);
+    let memory = beginning(alloc, 4096, &[0x34, 0x12, 0, 0, 0x78])?;
     let types = ("i64", "i16");
-    loads(&rt, alloc, types, "p", 4096, memory, 4660)?;
-    loads(&rt, alloc, types, "p 1", 4095, memory, 4660)?;
-    loads(&rt, alloc, types, "notrap aligned p -4", 4100, memory, 4660)?;
+    loads(&rt, alloc, types, "p", 4096, &memory, 4660)?;
+    loads(&rt, alloc, types, "p 1", 4095, &memory, 4660)?;
+    loads(
+        &rt,
+        alloc,
+        types,
+        "notrap aligned p -4",
+        4100,
+        &memory,
+        4660,
+    )?;
     let wide = 0x78_0000_1234;
-    loads(&rt, alloc, ("i32", "i64"), "p -8", 4104, memory, wide)?;
-    loads(&rt, alloc, ("i32", "i128"), "p", 4096, memory, wide)
+    loads(&rt, alloc, ("i32", "i64"), "p -8", 4104, &memory, wide)?;
+    loads(&rt, alloc, ("i32", "i128"), "p", 4096, &memory, wide)
 }
 
 /// The address and the place of each byte from there count modulo the address's width.
 #[test]
 fn around_the_end(rt: HostRuntime) -> Result<(), Fail> {
     let alloc = rt.alloc();
-    let memory = beginning(0, &[0x34, 0x12]);
+    let memory = beginning(alloc, 0, &[0x34, 0x12])?;
     let types = ("i16", "i16");
-    loads(&rt, alloc, types, "p 4", 65532, memory, 4660)?;
-    loads(&rt, alloc, types, "p -7", 7, memory, 4660)?;
-    let memory = beginning(u64::MAX - 31, &[7]);
+    loads(&rt, alloc, types, "p 4", 65532, &memory, 4660)?;
+    loads(&rt, alloc, types, "p -7", 7, &memory, 4660)?;
+    let memory = beginning(alloc, u64::MAX - 31, &[7])?;
     let types = ("i64", "i8");
-    loads(&rt, alloc, types, "p -32", 0, memory, 7)
+    loads(&rt, alloc, types, "p -32", 0, &memory, 7)
 }
 
 /// A store changes the bytes of its own type, and no others.
 #[test]
 fn stores(rt: HostRuntime) -> Result<(), Fail> {
     let alloc = rt.alloc();
-    let before = beginning(4096, &[1, 2, 3, 4, 5, 6, 7, 8]);
-    let after = beginning(4096, &[1, 2, 0xd8, 0xff, 5, 6, 7, 8]);
+    let before = beginning(alloc, 4096, &[1, 2, 3, 4, 5, 6, 7, 8])?;
+    let after = beginning(alloc, 4096, &[1, 2, 0xd8, 0xff, 5, 6, 7, 8])?;
     let lines = "x = iconst.i16 -40\nstore x p 2\ny = load.i16 p 2\nreturn y";
     let types = ("i64", "i16");
     let end = End::Returned(vec![in alloc; 65496]?);
-    lines_end(&rt, alloc, types, lines, 4096, (before, after), end)
+    lines_end(&rt, alloc, types, lines, 4096, (&before, &after), end)
 }
 
 /// An access of which a byte isn't accessible traps, and a store changes no byte then.
@@ -100,6 +104,7 @@ fn stores(rt: HostRuntime) -> Result<(), Fail> {
 fn out_of_bounds(rt: HostRuntime) -> Result<(), Fail> {
     let alloc = rt.alloc();
     let types = ("i64", "i16");
+    let nothing = zeros(alloc)?;
     for (address, lines) in [
         (4127, "x = load.i16 p\nreturn x"),
         (4127, "x = load.i16 aligned p 1\nreturn x"),
@@ -109,9 +114,9 @@ fn out_of_bounds(rt: HostRuntime) -> Result<(), Fail> {
         (0, "x = iconst.i16 -1\nstore x p\nreturn x"),
     ] {
         let end = End::Trapped(TrapCode::HeapOutOfBounds);
-        lines_end(&rt, alloc, types, lines, address, (ZEROS, ZEROS), end)?;
+        lines_end(&rt, alloc, types, lines, address, (&nothing, &nothing), end)?;
     }
-    loads(&rt, alloc, types, "p", 4126, ZEROS, 0)
+    loads(&rt, alloc, types, "p", 4126, &nothing, 0)
 }
 
 /// The bits of floats, as they are stored: 1.0 in each type.
@@ -134,7 +139,8 @@ fn float_bits(rt: HostRuntime) -> Result<(), Fail> {
         ),
     ] {
         let lines = format!(in alloc; "x = {line}\nstore x p\ny = load.{ty} p\nreturn y")?;
-        let memories = (ZEROS, beginning(4096, &bytes));
+        let (nothing, after) = (zeros(alloc)?, beginning(alloc, 4096, &bytes)?);
+        let memories = (&nothing, &after);
         let end = End::Returned(vec![in alloc; number]?);
         lines_end(&rt, alloc, ("i64", ty), lines.as_str(), 4096, memories, end)?;
     }
@@ -145,7 +151,7 @@ fn float_bits(rt: HostRuntime) -> Result<(), Fail> {
 #[test]
 fn undefined_variables(rt: HostRuntime) -> Result<(), Fail> {
     let alloc = rt.alloc();
-    let before = beginning(4096, &[255; SIZE]);
+    let before = beginning(alloc, 4096, &[255; SIZE])?;
     for (ty, end_of_zeros) in [
         ("f16", 10),
         ("f32", 12),
@@ -157,7 +163,7 @@ fn undefined_variables(rt: HostRuntime) -> Result<(), Fail> {
         let lines = format!(in alloc;
             "x = declare_var {ty}\nu = use_var x\nstore u p 8\ny = load.i8 p 8\nreturn y"
         )?;
-        let mut after = before;
+        let mut after = before.clone()?;
         for place in 8..end_of_zeros {
             after.put(place, 0);
         }
@@ -168,7 +174,7 @@ fn undefined_variables(rt: HostRuntime) -> Result<(), Fail> {
             ("i64", "i8"),
             lines.as_str(),
             4096,
-            (before, after),
+            (&before, &after),
             end,
         )?;
     }
@@ -219,12 +225,12 @@ return result
 fn sum_of_an_array(rt: HostRuntime) -> Result<(), Fail> {
     let alloc = rt.alloc();
     let bytes = [3, 1, 4, 1, 5, 9, 2, 6, 5, 3, 5, 8, 9, 7, 9, 250];
-    let before = beginning(4096, &bytes);
-    let mut after = before;
+    let before = beginning(alloc, 4096, &bytes)?;
+    let mut after = before.clone()?;
     after.put(16, 71);
     after.put(17, 1);
     let end = End::Returned(vec![in alloc; 327]?);
-    text_ends(&rt, alloc, SUM, &[4096], before, end, after)
+    text_ends(&rt, alloc, SUM, &[4096], &before, end, &after)
 }
 
 // A function without operands of its own, whose lines these are behind two stack slots of eight bytes, ends so.
@@ -233,7 +239,7 @@ fn slots_end(
     alloc: Global,
     ty: &str,
     lines: &str,
-    memories: (Memory, Memory),
+    memories: (&Memory, &Memory),
     end: End,
 ) -> Result<(), Fail> {
     let lines = format!(in alloc;
@@ -246,8 +252,8 @@ fn slots_end(
 #[test]
 fn stack_slots(rt: HostRuntime) -> Result<(), Fail> {
     let alloc = rt.alloc();
-    let before = beginning(4096, &[1, 2, 3, 4, 5, 6, 7, 8, 9]);
-    let after = beginning(4096, &[1, 2, 0xd8, 0xff, 5, 6, 7, 8, 9]);
+    let before = beginning(alloc, 4096, &[1, 2, 3, 4, 5, 6, 7, 8, 9])?;
+    let after = beginning(alloc, 4096, &[1, 2, 0xd8, 0xff, 5, 6, 7, 8, 9])?;
     for lines in [
         "x = iconst.i16 -40\nstack_store x s 2\ny = stack_load.i16 s 2\nreturn y",
         "x = iconst.i16 -40\nstack_store x t -6\ny = stack_load.i16 ss0 +2\nreturn y",
@@ -255,7 +261,7 @@ fn stack_slots(rt: HostRuntime) -> Result<(), Fail> {
         "x = iconst.i16 -40\na = stack_addr.i32 s 2\nstore x a\ny = stack_load.i16 s 2\nreturn y",
     ] {
         let end = End::Returned(vec![in alloc; 65496]?);
-        slots_end(&rt, alloc, "i16", lines, (before, after), end)?;
+        slots_end(&rt, alloc, "i16", lines, (&before, &after), end)?;
     }
     let end = End::Returned(vec![in alloc; 9]?);
     slots_end(
@@ -263,7 +269,7 @@ fn stack_slots(rt: HostRuntime) -> Result<(), Fail> {
         alloc,
         "i8",
         "y = stack_load.i8 t\nreturn y",
-        (before, before),
+        (&before, &before),
         end,
     )
 }
@@ -272,6 +278,7 @@ fn stack_slots(rt: HostRuntime) -> Result<(), Fail> {
 #[test]
 fn slot_addresses(rt: HostRuntime) -> Result<(), Fail> {
     let alloc = rt.alloc();
+    let nothing = zeros(alloc)?;
     for (ty, place, number) in [
         ("i64", "t", 4104),
         ("i64", "s -4096", 0),
@@ -282,7 +289,7 @@ fn slot_addresses(rt: HostRuntime) -> Result<(), Fail> {
     ] {
         let lines = format!(in alloc; "a = stack_addr.{ty} {place}\nreturn a")?;
         let end = End::Returned(vec![in alloc; number]?);
-        slots_end(&rt, alloc, ty, lines.as_str(), (ZEROS, ZEROS), end)?;
+        slots_end(&rt, alloc, ty, lines.as_str(), (&nothing, &nothing), end)?;
     }
     Ok(())
 }
@@ -291,13 +298,14 @@ fn slot_addresses(rt: HostRuntime) -> Result<(), Fail> {
 #[test]
 fn out_of_slots(rt: HostRuntime) -> Result<(), Fail> {
     let alloc = rt.alloc();
+    let nothing = zeros(alloc)?;
     for lines in [
         "x = stack_load.i16 s -1\nreturn x",
         "x = stack_load.i16 t 23\nreturn x",
         "x = iconst.i16 -1\nstack_store x s -1\nreturn x",
     ] {
         let end = End::Trapped(TrapCode::HeapOutOfBounds);
-        slots_end(&rt, alloc, "i16", lines, (ZEROS, ZEROS), end)?;
+        slots_end(&rt, alloc, "i16", lines, (&nothing, &nothing), end)?;
     }
     Ok(())
 }

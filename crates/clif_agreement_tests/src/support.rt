@@ -4,8 +4,7 @@
 ghost use Rattle.std.specs.Prelude.{◌≡◌};
 ghost use Rattle.cranelift_frontend.specs.Context.{empty_context};
 
-use crate::interpreters::memory::{Memory, SIZE};
-use crate::interpreters::{End, Ending, function, script};
+use clif_interpreter::{End, Ending, Memory, World, function, script};
 use clif_ir::Function;
 use clif_script::replay;
 use clif_text::{Script, read};
@@ -14,11 +13,16 @@ use std::alloc::Global;
 use std::process::Abort;
 use std::test::Fail;
 
+/// How many bytes are accessible, from address 4096 on.
+pub const SIZE: usize = 32;
+
+/// How many steps a run has at most.
+pub const STEPS: u64 = 1000;
+
 /// Memory whose accessible bytes are all zero.
-pub const ZEROS: Memory = Memory {
-    start: 4096,
-    bytes: [0; SIZE],
-};
+pub fn zeros(alloc: Global) -> Result<Memory, Fail> {
+    Ok(Memory::zeros(alloc, 4096, SIZE)?)
+}
 
 /// A text that is a script.
 pub fn script_of(alloc: Global, text: &str) -> Result<Script, Fail> {
@@ -28,8 +32,12 @@ pub fn script_of(alloc: Global, text: &str) -> Result<Script, Fail> {
     }
 }
 
-// The function that a script builds.
-fn built(alloc: Global, text: &Script, ctx: &mut FunctionBuilderContext) -> Result<Function, Fail>
+/// The function that a script builds.
+pub fn built(
+    alloc: Global,
+    text: &Script,
+    ctx: &mut FunctionBuilderContext,
+) -> Result<Function, Fail>
     requires { ctx.old ≡ empty_context }
     ensures { ctx.new ≡ empty_context }
 {
@@ -39,19 +47,27 @@ fn built(alloc: Global, text: &Script, ctx: &mut FunctionBuilderContext) -> Resu
     Ok(replay(alloc, calls, name, signature, ctx, text.config)?)
 }
 
-// A script and its function end so where they get these arguments and this memory.
+// A script and its function end so where they get these arguments and this memory. Stack slots lie in memory, too.
 fn both_end(
     rt: &impl Abort,
     alloc: Global,
     text: &Script,
     func: &Function,
-    args: &[u128],
-    memory: Memory,
+    arguments: &[u128],
+    memory: &Memory,
     ending: &Ending,
 ) -> Result<(), Fail> {
+    let world = World {
+        arguments,
+        memory,
+        pointer_width: text.config.pointer_width,
+        slots: memory.start(),
+    };
     let calls = text.calls.as_slice();
-    assert!(rt; script::run(alloc, calls, &text.signature, args, memory)? == *ending);
-    assert!(rt; function::run(alloc, func, args, memory)? == *ending);
+    let shown = script::run(alloc, calls, &text.signature, &world, STEPS)?;
+    assert!(rt; shown == *ending);
+    let shown = function::run(alloc, func, &world, STEPS)?;
+    assert!(rt; shown == *ending);
     Ok(())
 }
 
@@ -67,10 +83,10 @@ pub fn answers(
     let func = built(alloc, text, &mut ctx)?;
     let ending = Ending {
         end: End::Returned(vec![in alloc; number]?),
-        memory: ZEROS,
+        memory: zeros(alloc)?,
     };
-    for args in rows {
-        both_end(rt, alloc, text, &func, args, ZEROS, &ending)?;
+    for arguments in rows {
+        both_end(rt, alloc, text, &func, arguments, &zeros(alloc)?, &ending)?;
     }
     Ok(())
 }
@@ -91,14 +107,34 @@ pub fn text_ends(
     rt: &impl Abort,
     alloc: Global,
     text: &str,
-    args: &[u128],
-    before: Memory,
+    arguments: &[u128],
+    before: &Memory,
     end: End,
-    after: Memory,
+    after: &Memory,
 ) -> Result<(), Fail> {
     let text = script_of(alloc, text)?;
     let mut ctx = FunctionBuilderContext::new(alloc);
     let func = built(alloc, &text, &mut ctx)?;
-    let ending = Ending { end, memory: after };
-    both_end(rt, alloc, &text, &func, args, before, &ending)
+    let memory = after.clone()?;
+    both_end(
+        rt,
+        alloc,
+        &text,
+        &func,
+        arguments,
+        before,
+        &Ending { end, memory },
+    )
+}
+
+/// The same where memory is zero and stays so.
+pub fn text_ends_in_zeros(
+    rt: &impl Abort,
+    alloc: Global,
+    text: &str,
+    arguments: &[u128],
+    end: End,
+) -> Result<(), Fail> {
+    let memory = zeros(alloc)?;
+    text_ends(rt, alloc, text, arguments, &memory, end, &memory)
 }

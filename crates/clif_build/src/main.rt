@@ -1,38 +1,53 @@
-//! `clif_build FILE` builds the function of a script and prints it; `clif_build -` reads the script from
-//! standard input.
+//! `clif_build FILE` builds the function of a script and prints it; `clif_build --run FILE ARGUMENTS` builds it and runs
+//! the script and the function. Where the file is `-`, the script is read from standard input.
 #![tactic(auto)]
 
+use clif_script::{Command, USAGE, build, execute};
 use std::io::Read;
 use std::process::ExitCode;
 use std::rt::{Env, Files};
 use std::{env, fs, io};
 
 fn main(rt: HostRuntime) -> ExitCode {
-    let Some(path) = file_argument(&rt) else {
-        let _ = rt.eprintln("usage: clif_build FILE");
+    let mut words = Vec::new(rt.alloc());
+    if !collect_words(&rt, &mut words) {
+        let _ = rt.eprintln("no memory");
+        return ExitCode::from(1);
+    }
+    let Some(command) = Command::of(words.as_slice()) else {
+        let _ = rt.eprintln(USAGE);
         return ExitCode::from(2);
     };
-    match bytes_of(&rt, path.as_str()) {
-        Ok(bytes) => {
-            let mut out = io::writer(&rt);
-            let mut err = rt.stderr();
-            ExitCode::from(clif_script::build(rt.alloc(), bytes.as_slice(), &mut out, &mut err))
-        }
+    match bytes_of(&rt, command.path()) {
+        Ok(bytes) => ExitCode::from(carry_out(&rt, &command, bytes.as_slice())),
         Err(error) => {
-            let _ = eprintln!(rt; "{}: {error}", path.as_str());
+            let _ = eprintln!(rt; "{}: {error}", command.path());
             ExitCode::from(2)
         }
     }
 }
 
-// The argument, if there is exactly one.
-fn file_argument<R: Env + AllocGlobal>(rt: &R) -> Option<String> {
-    let mut args = env::args(rt).ok()?.skip(1);
-    let path = args.next()?;
-    match args.next() {
-        None => Some(path),
-        Some(_) => None,
+// Does what is asked for, for the bytes of the file; answers the exit status.
+fn carry_out(rt: &HostRuntime, command: &Command<'_>, bytes: &[u8]) -> u8 {
+    let mut out = io::writer(rt);
+    let mut err = rt.stderr();
+    match command {
+        Command::Build { .. } => build(rt.alloc(), bytes, &mut out, &mut err),
+        Command::Run { run, .. } => execute(rt.alloc(), bytes, run, &mut out, &mut err),
     }
+}
+
+// The words after the program's name; answers whether there was memory for them.
+fn collect_words<R: Env + AllocGlobal>(rt: &R, words: &mut Vec<String>) -> bool {
+    let Ok(all) = env::args(rt) else {
+        return false;
+    };
+    for word in all.skip(1) {
+        if words.push(word).is_err() {
+            return false;
+        }
+    }
+    true
 }
 
 // The bytes of a file, or of standard input where the path is `-`.

@@ -258,8 +258,7 @@ pub enum Call {
         size: u32,
         align_shift: u8,
     },
-    /// `declare_var(ty)`: answers the variable, which is numbered from 0 on. The type is any but F128 and those of vectors
-    /// of integers, so far.
+    /// `declare_var(ty)`: answers the variable, which is numbered from 0 on. The type is any but `Invalid`.
     DeclareVar {
         ty: Type,
     },
@@ -274,9 +273,30 @@ pub enum Call {
     UseVar {
         variable: Variable,
     },
+    /// `try_def_var(variable, value)`: answers nothing. There is a current block that isn't filled. Refused where the
+    /// variable isn't declared, or has another type than the value.
+    TryDefVar {
+        variable: Variable,
+        value: Name,
+    },
+    /// `try_use_var(variable)`: answers the value. There is a current block that isn't filled. Refused where the
+    /// variable isn't declared.
+    TryUseVar {
+        variable: Variable,
+    },
     /// An instruction that neither branches nor ends a block. There is a current block that isn't filled, as for each
     /// instruction.
     Plain(PlainInstruction),
+    /// `f128const bytes`: the float with the bits that these 16 bytes make, the lowest first. It has one result.
+    F128const {
+        bytes: Vec<u8>,
+    },
+    /// `vconst.ty bytes`, at a type of vectors: the vector that these bytes make, the lowest first; there are as many as the
+    /// type has. It has one result.
+    Vconst {
+        ty: Type,
+        bytes: Vec<u8>,
+    },
     /// `jump destination`, an instruction without results, which fills the block.
     Jump {
         destination: Edge,

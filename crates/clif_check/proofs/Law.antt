@@ -7,12 +7,14 @@ use Rattle.clif_opcodes.specs.declared.kinds.OperandKind.{OperandKind}
 use Rattle.clif_opcodes.specs.declared.kinds.OtherOperands.{OtherOperands}
 use Rattle.clif_opcodes.specs.declared.kinds.OtherOperands.TheVariants as others
 use Rattle.clif_opcodes.specs.declared.opcodes.FloatConstOpcode.TheVariants as float
+use Rattle.clif_opcodes.specs.declared.opcodes.PooledConstOpcode.TheVariants as pooled
 use Rattle.clif_opcodes.specs.declared.opcodes.StackOpcode.TheVariants as stack
 use Rattle.clif_opcodes.specs.Kinds.{is_met}
 use Rattle.clif_opcodes.specs.Typing.{AreOfKinds, FitOperands, Row}
 use Rattle.clif_instructions.specs.declared.instructions.InstructionData.{InstructionData}
-use Rattle.clif_instructions.specs.declared.instructions.InstructionData.TheVariants.{UnaryImm, UnaryIeee, Unary, Binary, IntCompare, Concat, Split, Convert, Ternary, Load, Store, StackLoad, StackStore, Jump, Brif, MultiAry, Trap, CondTrap}
+use Rattle.clif_instructions.specs.declared.instructions.InstructionData.TheVariants.{UnaryImm, UnaryIeee, UnaryConst, Unary, Binary, IntCompare, Concat, Split, Convert, Ternary, Load, Store, StackLoad, StackStore, Jump, Brif, BranchTable, MultiAry, Trap, CondTrap}
 use Rattle.clif_instructions.specs.Instruction.{operands, typing_of}
+use Rattle.clif_tables.specs.Lists.{TableLists}
 use Rattle.clif_ir.specs.declared.function.InstNode.{InstNode}
 use Rattle.clif_ir.specs.Body.{Body, inst_at, block_at}
 use Rattle.clif_meaning.specs.Event.{types_of}
@@ -24,25 +26,27 @@ use Rattle.clif_check.specs.declared.error.CheckErrorKind.TheVariants as kind
 use Rattle.clif_check.specs.WellTyped.{AgreesWithPremise, FitCallee, FitReturns, HasOperands, IsRight, callee_types, controlling_type, fixed_operands, type_at, types_at}
 
 -- an instruction and its operation have one row of the typing table
-same_row : (shape : InstructionData) → operation_typing (operation_of shape) ≡ typing_of shape
-same_row (UnaryImm imm) = refl
-same_row (UnaryIeee opcode bits) = refl
-same_row (Unary opcode arg) = refl
-same_row (Binary opcode args) = refl
-same_row (IntCompare cond args) = refl
-same_row (Concat args) = refl
-same_row (Split arg) = refl
-same_row (Convert opcode arg) = refl
-same_row (Ternary args) = refl
-same_row (Load flags arg offset) = refl
-same_row (Store flags args offset) = refl
-same_row (StackLoad opcode slot offset) = refl
-same_row (StackStore arg slot offset) = refl
-same_row (Jump destination) = refl
-same_row (Brif arg blocks) = refl
-same_row (MultiAry args) = refl
-same_row (Trap code) = refl
-same_row (CondTrap opcode arg code) = refl
+same_row : (tables : TableLists) (shape : InstructionData) → operation_typing (operation_of tables shape) ≡ typing_of shape
+same_row tables (UnaryImm imm) = refl
+same_row tables (UnaryIeee opcode bits) = refl
+same_row tables (UnaryConst opcode constant) = refl
+same_row tables (Unary opcode arg) = refl
+same_row tables (Binary opcode args) = refl
+same_row tables (IntCompare cond args) = refl
+same_row tables (Concat args) = refl
+same_row tables (Split arg) = refl
+same_row tables (Convert opcode arg) = refl
+same_row tables (Ternary args) = refl
+same_row tables (Load flags arg offset) = refl
+same_row tables (Store flags args offset) = refl
+same_row tables (StackLoad opcode slot offset) = refl
+same_row tables (StackStore arg slot offset) = refl
+same_row tables (Jump destination) = refl
+same_row tables (Brif arg blocks) = refl
+same_row tables (BranchTable arg table) = refl
+same_row tables (MultiAry args) = refl
+same_row tables (Trap code) = refl
+same_row tables (CondTrap opcode arg code) = refl
 
 -- what returns has no operands but those that it returns
 no_others : {X : Type 0} → others.Nothing ≡ others.Returned → X
@@ -56,6 +60,8 @@ returns_alone (UnaryImm imm) is = no_others is
 returns_alone (UnaryIeee float.F16const bits) is = no_others is
 returns_alone (UnaryIeee float.F32const bits) is = no_others is
 returns_alone (UnaryIeee float.F64const bits) is = no_others is
+returns_alone (UnaryConst pooled.F128const constant) is = no_others is
+returns_alone (UnaryConst pooled.Vconst constant) is = no_others is
 returns_alone (Unary opcode arg) is = no_others is
 returns_alone (Binary opcode args) is = no_others is
 returns_alone (IntCompare cond args) is = no_others is
@@ -70,6 +76,7 @@ returns_alone (StackLoad stack.StackLoad slot offset) is = no_others is
 returns_alone (StackStore arg slot offset) is = no_others is
 returns_alone (Jump destination) is = no_others is
 returns_alone (Brif arg blocks) is = no_others is
+returns_alone (BranchTable arg table) is = no_others is
 returns_alone (MultiAry args) is = refl
 returns_alone (Trap code) is = no_others is
 returns_alone (CondTrap opcode arg code) is = no_others is
@@ -106,7 +113,7 @@ fit_returns f returns arguments ty others.Arguments kinds found fit = tt
 
 abbrev Takes : Body → InstNode → Row → Type 0
 Takes f node row =
-    FitOperands (types_of f.signature.returns) (callee_types node.shape) (controlling_type f node) row.others row.operands (types_at f (operands node.shape))
+    FitOperands (types_of f.signature.returns) (callee_types f.tables node.shape) (controlling_type f node) row.others row.operands (types_at f (operands node.shape))
 
 abbrev IsMade : Body → InstNode → Row → Type 0
 IsMade f node row = IsTrue (is_met row.demand (controlling_type f node))
@@ -119,11 +126,11 @@ premised : (f : Body) (node : InstNode) → ((kind : CheckErrorKind) → IsRight
 premised f node right =
     let has : HasOperands f node = right kind.Operand in
     let takes : Takes f node (typing_of node.shape) =
-    fits f (types_of f.signature.returns) (callee_types node.shape) (controlling_type f node) (typing_of node.shape).others (typing_of node.shape).operands
+    fits f (types_of f.signature.returns) (callee_types f.tables node.shape) (controlling_type f node) (typing_of node.shape).others (typing_of node.shape).operands
     (operands node.shape) has.kinds (right kind.Arguments) (right kind.Return) in
     record {
-      made_at = subst (λ (row : Row). IsMade f node row) (sym (same_row node.shape)) has.made_at;
-      operands = subst (λ (row : Row). Takes f node row) (sym (same_row node.shape)) takes;
+      made_at = subst (λ (row : Row). IsMade f node row) (sym (same_row f.tables node.shape)) has.made_at;
+      operands = subst (λ (row : Row). Takes f node row) (sym (same_row f.tables node.shape)) takes;
       edges = right kind.Edge;
     }
 
@@ -131,19 +138,19 @@ checked : (f : Body) (node : InstNode) → Premise f node → (kind : CheckError
 checked f node holds = by
   where
     takes : Takes f node (typing_of node.shape)
-    takes = subst (λ (row : Row). Takes f node row) (same_row node.shape) holds.operands
+    takes = subst (λ (row : Row). Takes f node row) (same_row f.tables node.shape) holds.operands
 
     by : (kind : CheckErrorKind) → IsRight f node kind
     by kind.Operand = record {
-      made_at = subst (λ (row : Row). IsMade f node row) (same_row node.shape) holds.made_at;
-      kinds = fit_fixed f (types_of f.signature.returns) (callee_types node.shape) (controlling_type f node) (typing_of node.shape).others
+      made_at = subst (λ (row : Row). IsMade f node row) (same_row f.tables node.shape) holds.made_at;
+      kinds = fit_fixed f (types_of f.signature.returns) (callee_types f.tables node.shape) (controlling_type f node) (typing_of node.shape).others
           (typing_of node.shape).operands (operands node.shape) (returns_alone node.shape) takes;
     }
     by kind.Arguments =
-        fit_callee f (types_of f.signature.returns) (callee_types node.shape) (controlling_type f node) (typing_of node.shape).others
+        fit_callee f (types_of f.signature.returns) (callee_types f.tables node.shape) (controlling_type f node) (typing_of node.shape).others
         (typing_of node.shape).operands (operands node.shape) takes
     by kind.Return =
-        fit_returns f (types_of f.signature.returns) (callee_types node.shape) (controlling_type f node) (typing_of node.shape).others
+        fit_returns f (types_of f.signature.returns) (callee_types f.tables node.shape) (controlling_type f node) (typing_of node.shape).others
         (typing_of node.shape).operands (operands node.shape) takes
     by kind.Edge = holds.edges
 

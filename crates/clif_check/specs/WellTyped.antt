@@ -12,6 +12,7 @@ use Rattle.clif_instructions.specs.declared.block_call.BlockArg.{BlockArg}
 use Rattle.clif_instructions.specs.declared.block_call.BlockCall.{BlockCall}
 use Rattle.clif_instructions.specs.declared.instructions.InstructionData.{InstructionData}
 use Rattle.clif_instructions.specs.Instruction.{operands, typing_of}
+use Rattle.clif_tables.specs.Lists.{TableLists}
 use Rattle.clif_ir.specs.declared.function.InstNode.{InstNode}
 use Rattle.clif_ir.specs.Body.{Body, value_at, inst_at, block_at}
 use Rattle.clif_meaning.specs.Event.{types_of}
@@ -51,13 +52,13 @@ FitCallee others.Arguments found expected = found ≡ expected
 FitCallee _ found expected = Unit {0}
 
 -- the types of the parameters of what an instruction calls; none where it calls nothing
-abbrev pub callee_types : InstructionData → List «Type»
-callee_types shape = argument_types (call_shape (operation_of shape))
+abbrev pub callee_types : TableLists → InstructionData → List «Type»
+callee_types tables shape = argument_types (call_shape (operation_of tables shape))
 
 abbrev pub HasArguments : Body → InstNode → Type 0
 HasArguments f node =
     FitCallee (typing_of node.shape).others (types_at f (drop (length (typing_of node.shape).operands) (operands node.shape)))
-    (callee_types node.shape)
+    (callee_types f.tables node.shape)
 
 -- The operands have the types that the function returns.
 abbrev pub FitReturns : OtherOperands → (found expected : List «Type») → Type 0
@@ -70,7 +71,7 @@ HasReturned f node = FitReturns (typing_of node.shape).others (types_at f (opera
 -- The arguments of each edge and the parameters of its target agree in number, order and type.
 abbrev pub HasEdges : Body → InstNode → Type 0
 HasEdges f node =
-    EachEdgeMatches (type_at f) (λ block. types_at f (block_at f block).params) (call_shape (operation_of node.shape)) (edges_of node.shape)
+    EachEdgeMatches (type_at f) (λ block. types_at f (block_at f block).params) (call_shape (operation_of f.tables node.shape)) (edges_of node.shape)
 
 -- the same of one edge that starts at no call, and of one argument of it
 abbrev pub Matches : Body → BlockCall → Type 0

@@ -132,15 +132,15 @@ fn has_arguments(func: &Function, inst: Inst) -> bool
     match typing.others {
         OtherOperands::Arguments => {
             let arguments = values_from(shape.arguments(), typing.operands.len());
-            have_types(func, arguments, callee_params(shape))
+            have_types(func, arguments, callee_params(func, shape))
         }
         OtherOperands::Nothing | OtherOperands::Returned => true,
     }
 }
 
 // The parameters of what an instruction calls. No instruction calls anything so far.
-fn callee_params(_shape: &InstructionData) -> &[AbiParam]
-    ensures { types_of result.now ≡ callee_types _shape.now }
+fn callee_params<'a>(_func: &'a Function, _shape: &InstructionData) -> &'a [AbiParam]
+    ensures { types_of result.now ≡ callee_types _func.now.tables _shape.now }
 {
     &[]
 }

@@ -1,6 +1,6 @@
 -- Shapes of instructions as the methods of `InstBuilder` make them, and what a generic caller knows of them.
 -- Source: own, after the crate's formats of instructions.
-use Rattle.std.specs.Prelude.{◌≡◌, ℕ, List, [], ◌∷◌, false, Result, Ok, ℤ}
+use Rattle.std.specs.Prelude.{◌≡◌, ◌⊎◌, ℕ, List, [], ◌∷◌, false, Result, Ok, Err, ℤ}
 use Rattle.clif_types.specs.declared.error.BuildError.{BuildError}
 use Rattle.clif_types.specs.declared.types.«Type».{«Type»}
 use Rattle.clif_instructions.specs.declared.block_call.BlockArg.{BlockArg}
@@ -12,10 +12,11 @@ use Rattle.clif_opcodes.specs.declared.opcodes.BinaryOpcode.{BinaryOpcode}
 use Rattle.clif_opcodes.specs.declared.opcodes.CondTrapOpcode.{CondTrapOpcode}
 use Rattle.clif_opcodes.specs.declared.opcodes.FloatConstOpcode.{FloatConstOpcode}
 use Rattle.clif_opcodes.specs.declared.opcodes.ConvertOpcode.{ConvertOpcode}
+use Rattle.clif_opcodes.specs.declared.opcodes.PooledConstOpcode.{PooledConstOpcode}
 use Rattle.clif_opcodes.specs.declared.opcodes.StackOpcode.{StackOpcode}
 use Rattle.clif_opcodes.specs.declared.opcodes.UnaryOpcode.{UnaryOpcode}
 use Rattle.clif_instructions.specs.declared.instructions.InstructionData.{InstructionData}
-use Rattle.clif_instructions.specs.declared.instructions.InstructionData.TheVariants.{UnaryImm, UnaryIeee, Unary, Binary, IntCompare, Concat, Split, Convert, Ternary, Load, Store, StackLoad, StackStore, Jump, Brif, MultiAry, Trap, CondTrap}
+use Rattle.clif_instructions.specs.declared.instructions.InstructionData.TheVariants.{UnaryImm, UnaryIeee, UnaryConst, Unary, Binary, IntCompare, Concat, Split, Convert, Ternary, Load, Store, StackLoad, StackStore, Jump, Brif, BranchTable, MultiAry, Trap, CondTrap}
 use Rattle.clif_instructions.specs.Instruction.{destinations, is_branch, is_terminator, result_count, result_type_of, result_types}
 
 -- an edge to a block that passes these arguments
@@ -53,6 +54,12 @@ multi_ary values = MultiAry values
 
 abbrev pub unary_ieee : FloatConstOpcode → ℕ → InstructionData
 unary_ieee opcode bits = UnaryIeee opcode bits
+
+abbrev pub unary_const : PooledConstOpcode → ℕ → InstructionData
+unary_const opcode constant = UnaryConst opcode constant
+
+abbrev pub branch_table : ℕ → List BlockCall → InstructionData
+branch_table x table = BranchTable x table
 
 abbrev pub int_compare : IntCC → ℕ → ℕ → InstructionData
 int_compare condition x y = IntCompare condition (x ∷ y ∷ [])
@@ -106,3 +113,15 @@ abbrev pub LikeIsValue : {B : Type 0} → (B → B → InstructionData → ℕ �
 LikeIsValue {B} builds_like builds_value type_of =
     (old new : B) (shape : InstructionData) (x : ℕ) (answer : Result ℕ BuildError)
     → builds_like old new shape x answer → builds_value old new shape (type_of old x) answer
+
+-- A constant is pooled, and then the value of an instruction of its shape is built; or pooling fails with the error that is
+-- answered.
+abbrev pub PoolsThenBuilds : {B : Type 0} → (B → B → List ℕ → Result ℕ BuildError → Type 0) → (B → B → InstructionData → «Type» → Result ℕ BuildError → Type 0)
+    → (old new : B) → (ℕ → InstructionData) → List ℕ → «Type» → Result ℕ BuildError → Type 0
+PoolsThenBuilds {B} pools builds_value old new shape bytes ty answer =
+    ((between : B) × (constant : ℕ) × pools old between bytes (Ok constant) × builds_value between new (shape constant) ty answer)
+    ⊎ ((error : BuildError) × pools old new bytes (Err error) × (answer ≡ Err error))
+
+-- this holds of any builders and any constant between which the constant was pooled
+abbrev pub AfterPooling : {B : Type 0} → (B → B → List ℕ → Result ℕ BuildError → Type 0) → (B → B → ℕ → Type 0) → Type 0
+AfterPooling {B} pools P = (old new : B) (bytes : List ℕ) (constant : ℕ) → pools old new bytes (Ok constant) → P old new constant

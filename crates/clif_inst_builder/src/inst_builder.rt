@@ -1,28 +1,31 @@
 //! The instructions by name, over anything that makes an instruction of any shape: `builder.ins().iadd(x, y)?`.
-ghost use Rattle.std.specs.Prelude.{◌≡◌, ◌∷◌, [], IsTrue, IfOk, OnErr, Err, All};
-ghost use Rattle.clif_types.specs.Types.{is_int, is_type};
-ghost use Rattle.clif_instructions.specs.Instruction.{ASlot, entries_of, operands, destinations};
+ghost use Rattle.std.specs.Prelude.{◌≡◌, ◌∷◌, [], length, IsTrue, IfOk, OnErr, Err, All};
+ghost use Rattle.clif_types.specs.Types.{bytes_of, is_int, is_type};
+ghost use Rattle.clif_instructions.specs.Instruction.{ASlot, AConstant, entries_of, operands, destinations};
 ghost use Rattle.clif_opcodes.specs.Kinds.{is_met};
 ghost use Rattle.clif_opcodes.specs.declared.kinds.Demand.{Demand};
-ghost use Rattle.clif_inst_builder.specs.Shapes.{GivesPair, GivesValue, AfterValue, LikeIsValue, binary, brif_to, concat, cond_trap, convert, edge_to, int_compare, jump, load, multi_ary, split, stack, stack_store, store, ternary, trap, unary, unary_ieee, unary_imm};
+ghost use Rattle.clif_inst_builder.specs.Shapes.{AfterPooling, GivesPair, GivesValue, AfterValue, LikeIsValue, PoolsThenBuilds, binary, branch_table, brif_to, concat, cond_trap, convert, edge_to, int_compare, jump, load, multi_ary, split, stack, stack_store, store, ternary, trap, unary, unary_const, unary_ieee, unary_imm};
 
 use clif_instructions::block_call::{BlockArg, BlockCall};
 use clif_instructions::instructions::InstructionData;
 use clif_instructions::value_list::ValueList;
 use clif_opcodes::{
-    BinaryOpcode, CondTrapOpcode, ConvertOpcode, FloatConstOpcode, StackOpcode, UnaryOpcode,
+    BinaryOpcode, CondTrapOpcode, ConvertOpcode, FloatConstOpcode, PooledConstOpcode, StackOpcode,
+    UnaryOpcode,
 };
-use clif_types::{Block, BuildError, Inst, IntCC, MemFlagsData, StackSlot, TrapCode, Type, Value};
+use clif_types::{
+    Block, BuildError, Constant, Inst, IntCC, MemFlagsData, StackSlot, TrapCode, Type, Value,
+};
 use std::alloc::Global;
 
 /// What makes an instruction of any shape at the end of the current block.
 pub trait InstBuilderBase {
-    ghost use Rattle.std.specs.Prelude.{ℕ, Result, Err};
+    ghost use Rattle.std.specs.Prelude.{ℕ, List, Result, Err};
     ghost use Rattle.clif_types.specs.declared.error.BuildError.{BuildError};
     ghost use Rattle.clif_types.specs.declared.types.«Type».{«Type»};
     ghost use Rattle.clif_instructions.specs.declared.block_call.BlockCall.{BlockCall};
     ghost use Rattle.clif_instructions.specs.declared.instructions.InstructionData.{InstructionData};
-    ghost use Rattle.clif_instructions.specs.Instruction.{EntryRef, ASlot};
+    ghost use Rattle.clif_instructions.specs.Instruction.{EntryRef, ASlot, AConstant};
 
     // there is a current block, which may get an instruction
     ghost can_build: { Self → Type 0 };
@@ -38,6 +41,9 @@ pub trait InstBuilderBase {
 
     // the type of a value
     ghost type_of: { Self → ℕ → «Type» };
+
+    // what `pool_constant` makes of the builder, by the bytes and its result
+    ghost pools: { Self → Self → List ℕ → Result ℕ BuildError → Type 0 };
 
     // what `build` makes of the builder, by its result
     ghost builds: { Self → Self → InstructionData → «Type» → Result ℕ BuildError → Type 0 };
@@ -58,6 +64,10 @@ pub trait InstBuilderBase {
 
     /// The allocator of what an instruction holds.
     fn allocator(&self) -> Global;
+
+    /// The constant of these bytes, the lowest first. It is made if there is none: equal bytes are one constant.
+    fn pool_constant(&mut self, bytes: &[u8]) -> Result<Constant, BuildError>
+        ensures pooled { pools self.old self.new bytes.now result };
 
     /// Appends an instruction; `ctrl_type` is its controlling type.
     ///
@@ -115,6 +125,12 @@ pub trait InstBuilderBase {
 
     ghost slots_stay: { AfterValue builds_value
         (λ old new value. (s : ℕ) → has_entry old (ASlot s) → has_entry new (ASlot s)) };
+
+    // after a constant was pooled it is there, and one can build as before
+    ghost pooled_exists: { AfterPooling pools
+        (λ old new constant. has_entry new (AConstant constant)) };
+
+    ghost pooled_builds: { AfterPooling pools (λ old new constant. can_build old → can_build new) };
 
     ghost like_is_value: { LikeIsValue builds_like builds_value type_of };
 }
@@ -362,6 +378,28 @@ pub trait InstBuilder: InstBuilderBase {
         self.build_value(InstructionData::UnaryIeee { opcode, bits }, Type::Invalid)
     }
 
+    /// `f128const constant`: the float with the bits that these bytes make, the lowest first. They are pooled.
+    final fn f128const(&mut self, bytes: &[u8]) -> Result<Value, BuildError>
+        requires current { Self.can_build self.old }
+        requires fits { length bytes.now ≡ 16 }
+        ensures built { PoolsThenBuilds Self.pools Self.builds_value self.old self.new
+            (unary_const PooledConstOpcode.F128const) bytes.now Type.Invalid result }
+    {
+        self.pooled(PooledConstOpcode::F128const, Type::Invalid, bytes)
+    }
+
+    /// `vconst.ty constant`: the vector of type `ty` that these bytes make, the lowest first; there are as many as `ty` has.
+    /// They are pooled.
+    final fn vconst(&mut self, ty: Type, bytes: &[u8]) -> Result<Value, BuildError>
+        requires current { Self.can_build self.old }
+        requires vector { IsTrue (is_met Demand.AVector ty) }
+        requires fits { length bytes.now ≡ bytes_of ty }
+        ensures built { PoolsThenBuilds Self.pools Self.builds_value self.old self.new
+            (unary_const PooledConstOpcode.Vconst) bytes.now ty result }
+    {
+        self.pooled(PooledConstOpcode::Vconst, ty, bytes)
+    }
+
     /// `sextend.ty x`: a wider integer, with copies of the sign bit of `x` above its bits. That `x` is narrower isn't
     /// checked here.
     final fn sextend(&mut self, ty: Type, x: Value) -> Result<Value, BuildError>
@@ -606,6 +644,21 @@ pub trait InstBuilder: InstBuilderBase {
         ensures built { Self.builds_value self.old self.new (unary_imm imm) ty result }
     {
         self.build_value(InstructionData::UnaryImm { imm }, ty)
+    }
+
+    /// An instruction of a pooled constant alone.
+    final fn pooled(
+        &mut self,
+        opcode: PooledConstOpcode,
+        ty: Type,
+        bytes: &[u8],
+    ) -> Result<Value, BuildError>
+        requires current { Self.can_build self.old }
+        ensures built { PoolsThenBuilds Self.pools Self.builds_value self.old self.new
+            (unary_const opcode) bytes.now ty result }
+    {
+        let constant = self.pool_constant(bytes)?;
+        self.build_value(InstructionData::UnaryConst { opcode, constant }, ty)
     }
 
     /// An instruction of one operand, whose result has its type.

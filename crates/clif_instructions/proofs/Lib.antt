@@ -1,4 +1,4 @@
 pub mod Lists
 pub mod Members
-pub mod Edges
+pub mod EdgeLoops
 pub mod Runs

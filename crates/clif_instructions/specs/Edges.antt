@@ -21,6 +21,14 @@ taken_from block edge = if edge.block == block then record edge { args = take (l
 abbrev pub taken_back : ℕ → ℕ → List BlockCall → List BlockCall
 taken_back block count edges = map (taken_from block) (take count edges) ++ drop count edges
 
+-- an edge that goes to the second block, if it went to the first; what it passes stays
+abbrev pub redirected : ℕ → ℕ → BlockCall → BlockCall
+redirected from to edge = if edge.block == from then record edge { block = to } else edge
+
+-- edges, of which each that went to the first block goes to the second
+abbrev pub with_target_changed : ℕ → ℕ → List BlockCall → List BlockCall
+with_target_changed from to edges = map (redirected from to) edges
+
 -- what an argument of an edge prints
 abbrev pub argument_text : BlockArg → List ℕ
 argument_text (Value v) = codes "v" ++ decimal v

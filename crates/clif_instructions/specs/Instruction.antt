@@ -10,12 +10,13 @@ use Rattle.clif_opcodes.specs.Typing.{Row, row_of}
 use Rattle.clif_instructions.specs.declared.block_call.BlockCall.{BlockCall}
 use Rattle.clif_instructions.specs.Edges.{appended_to, with_argument_to}
 use Rattle.clif_instructions.specs.declared.instructions.InstructionData.{InstructionData}
-use Rattle.clif_instructions.specs.declared.instructions.InstructionData.TheVariants.{UnaryImm, UnaryIeee, Unary, Binary, IntCompare, Concat, Split, Convert, Ternary, Load, Store, StackLoad, StackStore, Jump, Brif, MultiAry, Trap, CondTrap}
+use Rattle.clif_instructions.specs.declared.instructions.InstructionData.TheVariants.{UnaryImm, UnaryIeee, UnaryConst, Unary, Binary, IntCompare, Concat, Split, Convert, Ternary, Load, Store, StackLoad, StackStore, Jump, Brif, BranchTable, MultiAry, Trap, CondTrap}
 
 -- the operands, as they are printed
 abbrev pub operands : InstructionData → List ℕ
 operands (UnaryImm imm) = []
 operands (UnaryIeee opcode bits) = []
+operands (UnaryConst opcode constant) = []
 operands (Unary opcode arg) = arg ∷ []
 operands (Binary opcode args) = args
 operands (IntCompare cond args) = args
@@ -29,6 +30,7 @@ operands (StackLoad opcode slot offset) = []
 operands (StackStore arg slot offset) = arg ∷ []
 operands (Jump destination) = []
 operands (Brif arg blocks) = arg ∷ []
+operands (BranchTable arg table) = arg ∷ []
 operands (MultiAry args) = args
 operands (Trap code) = []
 operands (CondTrap opcode arg code) = arg ∷ []
@@ -37,24 +39,28 @@ operands (CondTrap opcode arg code) = arg ∷ []
 abbrev pub destinations : InstructionData → List BlockCall
 destinations (Jump destination) = destination ∷ []
 destinations (Brif arg blocks) = blocks
+destinations (BranchTable arg table) = table
 destinations _ = []
 
 -- an instruction, of whose edges each that goes to the block passes this value as well, at the end
 abbrev pub with_argument : ℕ → ℕ → InstructionData → InstructionData
 with_argument block value (Jump destination) = Jump (appended_to block value destination)
 with_argument block value (Brif arg blocks) = Brif arg (with_argument_to block value blocks)
+with_argument block value (BranchTable arg table) = BranchTable arg (with_argument_to block value table)
 with_argument block value shape = shape
 
 -- whether the instruction has edges
 abbrev pub is_branch : InstructionData → Bool
 is_branch (Jump destination) = true
 is_branch (Brif arg blocks) = true
+is_branch (BranchTable arg table) = true
 is_branch _ = false
 
 -- the opcode
 abbrev pub opcode_of : InstructionData → Opcode
 opcode_of (UnaryImm imm) = opcode.Iconst
 opcode_of (UnaryIeee name bits) = opcode.FloatConst name
+opcode_of (UnaryConst name constant) = opcode.PooledConst name
 opcode_of (Unary name arg) = opcode.Unary name
 opcode_of (Binary name args) = opcode.Binary name
 opcode_of (IntCompare cond args) = opcode.Icmp
@@ -68,6 +74,7 @@ opcode_of (StackLoad name slot offset) = opcode.Stack name
 opcode_of (StackStore arg slot offset) = opcode.StackStore
 opcode_of (Jump destination) = opcode.Jump
 opcode_of (Brif arg blocks) = opcode.Brif
+opcode_of (BranchTable arg table) = opcode.BrTable
 opcode_of (MultiAry args) = opcode.Return
 opcode_of (Trap code) = opcode.Trap
 opcode_of (CondTrap name arg code) = opcode.CondTrap name
@@ -99,9 +106,11 @@ result_type_of shape ty = slice_index_or (result_types shape ty) 0 Invalid
 -- an entry of a table of the function, by its number there
 pub data EntryRef : Type 0 where
   ASlot : (number : ℕ) → EntryRef
+  AConstant : (number : ℕ) → EntryRef
 
 -- the entries of tables that it names
 abbrev pub entries_of : InstructionData → List EntryRef
+entries_of (UnaryConst opcode constant) = AConstant constant ∷ []
 entries_of (StackLoad opcode slot offset) = ASlot slot ∷ []
 entries_of (StackStore arg slot offset) = ASlot slot ∷ []
 entries_of _ = []

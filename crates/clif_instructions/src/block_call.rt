@@ -1,6 +1,6 @@
 //! Edges: the target of a branch, and what it passes to the target's parameters.
-ghost use Rattle.std.specs.Prelude.{◌≡◌, ◌≤◌, ◌-◌, [], ◌∷◌, ◌++◌, length, take, Some, OnOk, OnErr, IfOk};
-ghost use Rattle.clif_instructions.specs.Edges.{appended_to, with_argument_to, taken_from, taken_back, argument_text};
+ghost use Rattle.std.specs.Prelude.{◌≡◌, ◌-◌, [], ◌∷◌, ◌++◌, length, take, Some, OnOk, OnErr, IfOk};
+ghost use Rattle.clif_instructions.specs.Edges.{argument_text};
 ghost use Rattle.clif_instructions.specs.Kept.{args_of};
 
 use clif_types::{Block, BuildError, Value};
@@ -156,61 +156,5 @@ impl BlockCall {
     {
         let args = BlockArgs::from_slice(alloc, args)?;
         Ok(BlockCall { block, args })
-    }
-}
-
-// Puts a value at the end of what each edge passes that goes to `block`. The only error is `Memory`, and the
-// edges are then as they were.
-pub(crate) fn append_to_edges(
-    edges: &mut [BlockCall],
-    block: Block,
-    value: Value,
-) -> Result<(), BuildError>
-    ensures ok { OnOk result (edges.new ≡ with_argument_to block value edges.old) }
-    ensures err { OnErr result (edges.new ≡ edges.old) }
-    ensures only_memory { OnErr result (result ≡ Err BuildError.Memory) }
-{
-    for place in 0..edges.len() {
-        if let Err(error) = append_to_edge(&mut edges[place], block, value) {
-            take_back(edges, place, block);
-            return Err(error);
-        }
-    }
-    Ok(())
-}
-
-// Puts a value at the end of what an edge passes, if it goes to `block`. The only error is `Memory`, and the edge
-// is then as it was.
-pub(crate) fn append_to_edge(
-    edge: &mut BlockCall,
-    block: Block,
-    value: Value,
-) -> Result<(), BuildError>
-    ensures ok { OnOk result (edge.new ≡ appended_to block value edge.old) }
-    ensures err { OnErr result (edge.new ≡ edge.old) }
-    ensures only_memory { OnErr result (result ≡ Err BuildError.Memory) }
-{
-    if edge.block == block {
-        edge.args.push(BlockArg::Value(value))?;
-    }
-    Ok(())
-}
-
-// Takes the last argument from each of the first `count` edges that goes to `block`.
-fn take_back(edges: &mut [BlockCall], count: usize, block: Block)
-    requires { count ≤ length edges.old }
-    ensures { edges.new ≡ taken_back block count edges.old }
-{
-    for place in 0..count {
-        take_from_edge(&mut edges[place], block);
-    }
-}
-
-// Takes the last argument from an edge, if it goes to `block`.
-fn take_from_edge(edge: &mut BlockCall, block: Block)
-    ensures { edge.new ≡ taken_from block edge.old }
-{
-    if edge.block == block {
-        edge.args.pop();
     }
 }

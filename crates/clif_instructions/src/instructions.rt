@@ -1,16 +1,18 @@
 //! Instructions: their shapes, operands and results.
 ghost use Rattle.std.specs.Prelude.{◌≡◌, OnOk, OnErr};
-ghost use Rattle.clif_opcodes.specs.Typing.{float_const_row};
+ghost use Rattle.clif_opcodes.specs.Typing.{float_const_row, pooled_const_row};
 ghost use Rattle.clif_instructions.specs.Instruction.{operands, destinations, with_argument, has_result, is_branch, is_terminator, opcode_of, typing_of};
 
-use crate::block_call::{BlockCall, append_to_edge, append_to_edges};
+use crate::block_call::BlockCall;
+use crate::edges::{append_to_edge, append_to_edges};
+use crate::jump_table::JumpTableData;
 use crate::value_list::ValueList;
 use clif_opcodes::{
-    BinaryOpcode, CondTrapOpcode, Control, ConvertOpcode, FloatConstOpcode, Opcode, ResultKind,
-    StackOpcode, UnaryOpcode,
+    BinaryOpcode, CondTrapOpcode, Control, ConvertOpcode, FloatConstOpcode, Opcode,
+    PooledConstOpcode, ResultKind, StackOpcode, UnaryOpcode,
 };
-use clif_types::types::{F16, F32, F64, I8};
-use clif_types::{Block, BuildError, IntCC, MemFlagsData, StackSlot, TrapCode, Value};
+use clif_types::types::{F16, F32, F64, F128, I8};
+use clif_types::{Block, BuildError, Constant, IntCC, MemFlagsData, StackSlot, TrapCode, Value};
 use std::slice;
 
 /// An instruction without its results and its place: what it does, and with which operands.
@@ -26,6 +28,11 @@ pub enum InstructionData {
     UnaryIeee {
         opcode: FloatConstOpcode,
         bits: u64,
+    },
+    /// `vconst.T constant` and `f128const constant`: the bytes of a pooled constant, the lowest first.
+    UnaryConst {
+        opcode: PooledConstOpcode,
+        constant: Constant,
     },
     /// `ineg x` and the like.
     Unary {
@@ -93,6 +100,12 @@ pub enum InstructionData {
         arg: Value,
         blocks: [BlockCall; 2],
     },
+    /// `br_table x, default, [block(y, ..), ..]`: goes along the entry with the number `x`, counted from 0, or along the
+    /// default if there is no such entry.
+    BranchTable {
+        arg: Value,
+        table: JumpTableData,
+    },
     /// `return x, ..`: ends the function with these values.
     MultiAry {
         args: ValueList,
@@ -117,6 +130,7 @@ impl InstructionData {
         match self {
             InstructionData::UnaryImm { .. }
             | InstructionData::UnaryIeee { .. }
+            | InstructionData::UnaryConst { .. }
             | InstructionData::StackLoad { .. }
             | InstructionData::Jump { .. }
             | InstructionData::Trap { .. } => &[],
@@ -131,6 +145,7 @@ impl InstructionData {
             InstructionData::Store { args, .. } => args,
             InstructionData::StackStore { arg, .. } => slice::from_ref(arg),
             InstructionData::Brif { arg, .. } => slice::from_ref(arg),
+            InstructionData::BranchTable { arg, .. } => slice::from_ref(arg),
             InstructionData::MultiAry { args } => args.as_slice(),
             InstructionData::CondTrap { arg, .. } => slice::from_ref(arg),
         }
@@ -143,6 +158,7 @@ impl InstructionData {
         match self {
             InstructionData::Jump { destination } => slice::from_ref(destination),
             InstructionData::Brif { blocks, .. } => blocks,
+            InstructionData::BranchTable { table, .. } => table.all_branches(),
             _ => &[],
         }
     }
@@ -157,6 +173,7 @@ impl InstructionData {
         match self {
             InstructionData::Jump { destination } => append_to_edge(destination, block, value),
             InstructionData::Brif { blocks, .. } => append_to_edges(blocks, block, value),
+            InstructionData::BranchTable { table, .. } => table.append_argument(block, value),
             _ => Ok(()),
         }
     }
@@ -168,6 +185,7 @@ impl InstructionData {
         match self {
             InstructionData::UnaryImm { .. } => Opcode::Iconst,
             InstructionData::UnaryIeee { opcode, .. } => Opcode::FloatConst(*opcode),
+            InstructionData::UnaryConst { opcode, .. } => Opcode::PooledConst(*opcode),
             InstructionData::Unary { opcode, .. } => Opcode::Unary(*opcode),
             InstructionData::Binary { opcode, .. } => Opcode::Binary(*opcode),
             InstructionData::IntCompare { .. } => Opcode::Icmp,
@@ -181,6 +199,7 @@ impl InstructionData {
             InstructionData::StackStore { .. } => Opcode::StackStore,
             InstructionData::Jump { .. } => Opcode::Jump,
             InstructionData::Brif { .. } => Opcode::Brif,
+            InstructionData::BranchTable { .. } => Opcode::BrTable,
             InstructionData::MultiAry { .. } => Opcode::Return,
             InstructionData::Trap { .. } => Opcode::Trap,
             InstructionData::CondTrap { opcode, .. } => Opcode::CondTrap(*opcode),
@@ -193,6 +212,7 @@ impl InstructionData {
     {
         match self {
             InstructionData::UnaryIeee { opcode, .. } => float_kinds(*opcode),
+            InstructionData::UnaryConst { opcode, .. } => pooled_kinds(*opcode),
             InstructionData::IntCompare { .. } => &[ResultKind::Exactly(I8)],
             InstructionData::Concat { .. } => &[ResultKind::Double],
             InstructionData::Split { .. } => &[ResultKind::Half, ResultKind::Half],
@@ -207,6 +227,7 @@ impl InstructionData {
             | InstructionData::StackStore { .. }
             | InstructionData::Jump { .. }
             | InstructionData::Brif { .. }
+            | InstructionData::BranchTable { .. }
             | InstructionData::MultiAry { .. }
             | InstructionData::Trap { .. }
             | InstructionData::CondTrap { .. } => &[],
@@ -233,7 +254,9 @@ impl InstructionData {
     {
         matches!(
             self,
-            InstructionData::Jump { .. } | InstructionData::Brif { .. }
+            InstructionData::Jump { .. }
+                | InstructionData::Brif { .. }
+                | InstructionData::BranchTable { .. }
         )
     }
 
@@ -241,13 +264,11 @@ impl InstructionData {
     pub fn is_terminator(&self) -> bool
         ensures { result ≡ is_terminator self.now }
     {
-        matches!(
-            self,
-            InstructionData::Jump { .. }
-                | InstructionData::Brif { .. }
-                | InstructionData::MultiAry { .. }
-                | InstructionData::Trap { .. }
-        )
+        self.is_branch()
+            || matches!(
+                self,
+                InstructionData::MultiAry { .. } | InstructionData::Trap { .. }
+            )
     }
 }
 
@@ -259,5 +280,15 @@ fn float_kinds(opcode: FloatConstOpcode) -> &'static [ResultKind]
         FloatConstOpcode::F16const => &[ResultKind::Exactly(F16)],
         FloatConstOpcode::F32const => &[ResultKind::Exactly(F32)],
         FloatConstOpcode::F64const => &[ResultKind::Exactly(F64)],
+    }
+}
+
+// The kind of the result of a pooled constant.
+fn pooled_kinds(opcode: PooledConstOpcode) -> &'static [ResultKind]
+    ensures { result.now ≡ (pooled_const_row opcode).results }
+{
+    match opcode {
+        PooledConstOpcode::F128const => &[ResultKind::Exactly(F128)],
+        PooledConstOpcode::Vconst => &[ResultKind::Controlling],
     }
 }

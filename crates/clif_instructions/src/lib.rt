@@ -7,7 +7,9 @@
 #![tactic(auto)]
 
 pub mod block_call;
+pub mod edges;
 pub mod immediates;
 pub mod inst_list;
 pub mod instructions;
+pub mod jump_table;
 pub mod value_list;

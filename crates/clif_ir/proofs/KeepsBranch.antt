@@ -9,7 +9,7 @@ use Rattle.clif_ir.specs.declared.function.BlockPlace.{BlockPlace}
 use Rattle.clif_ir.specs.declared.function.InstNode.{InstNode}
 use Rattle.clif_ir.specs.declared.function.ValueOrigin.TheVariants.{Result}
 use Rattle.clif_instructions.specs.declared.instructions.InstructionData.{InstructionData}
-use Rattle.clif_instructions.specs.declared.instructions.InstructionData.TheVariants.{Jump, Brif}
+use Rattle.clif_instructions.specs.declared.instructions.InstructionData.TheVariants.{Jump, Brif, BranchTable}
 use Rattle.clif_instructions.specs.Edges.{appended_to, with_argument_to}
 use Rattle.clif_instructions.specs.Instruction.{entries_of, operands, destinations, with_argument}
 use Rattle.clif_ir.specs.Body.{Body, inst_at, value_at, block_at, no_inst}
@@ -23,16 +23,19 @@ use Rattle.clif_ir.proofs.Keeps.{larger_origin}
 pub operands-with_argument : (b v : ℕ) (shape : InstructionData) → operands (with_argument b v shape) ≡ operands shape
 operands-with_argument b v (Jump destination) = refl
 operands-with_argument b v (Brif arg blocks) = refl
+operands-with_argument b v (BranchTable arg table) = refl
 operands-with_argument b v _ = refl
 
 pub destinations-with_argument : (b v : ℕ) (shape : InstructionData) → destinations (with_argument b v shape) ≡ with_argument_to b v (destinations shape)
 destinations-with_argument b v (Jump destination) = refl
 destinations-with_argument b v (Brif arg blocks) = refl
+destinations-with_argument b v (BranchTable arg table) = refl
 destinations-with_argument b v _ = refl
 
 entries-with_argument : (b v : ℕ) (shape : InstructionData) → entries_of (with_argument b v shape) ≡ entries_of shape
 entries-with_argument b v (Jump destination) = refl
 entries-with_argument b v (Brif arg blocks) = refl
+entries-with_argument b v (BranchTable arg table) = refl
 entries-with_argument b v _ = refl
 
 -- an edge that passes an existing value more names what exists, by whether it goes to the block

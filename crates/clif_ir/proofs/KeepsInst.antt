@@ -13,7 +13,7 @@ use Rattle.clif_ir.specs.declared.function.ValueNode.{ValueNode}
 use Rattle.clif_ir.specs.declared.function.ValueOrigin.TheVariants.{Result, Param}
 use Rattle.clif_instructions.specs.declared.inst_list.InsertAt.{InsertAt}
 use Rattle.clif_instructions.specs.declared.instructions.InstructionData.{InstructionData}
-use Rattle.clif_instructions.specs.declared.instructions.InstructionData.TheVariants.{Jump, Brif}
+use Rattle.clif_instructions.specs.declared.instructions.InstructionData.TheVariants.{Jump, Brif, BranchTable}
 use Rattle.clif_instructions.specs.Instruction.{entries_of, operands, destinations, result_count, result_types}
 use Rattle.clif_ir.specs.Body.{Body, value_at, inst_at, block_at, empty_block, no_value, no_inst, alias_of_origin, resolved}
 use Rattle.clif_instructions.specs.Members.{IsPlaceOf, put_at, Stands, Once}
@@ -32,6 +32,7 @@ length-result_types shape ty = grind (arith, common_steps)
 pub branch-result_types : (shape : InstructionData) (ty : «Type») → destinations shape ≢ [] → result_types shape ty ≡ []
 branch-result_types (Jump destination) ty branch = refl
 branch-result_types (Brif arg blocks) ty branch = refl
+branch-result_types (BranchTable arg table) ty branch = refl
 branch-result_types _ ty branch = absurd (branch refl)
 
 length-result_nodes : (i k : ℕ) (types : List «Type») → length (result_nodes i k types) ≡ length types

@@ -10,7 +10,7 @@ use Rattle.clif_ir.specs.Body.{Body, value_at, inst_at, block_at, alias_of, alia
 use Rattle.clif_instructions.specs.declared.block_call.BlockCall.{BlockCall}
 use Rattle.clif_instructions.specs.declared.block_call.BlockArg.{BlockArg}
 use Rattle.clif_instructions.specs.declared.block_call.BlockArg.TheVariants as arg
-use Rattle.clif_instructions.specs.Instruction.{EntryRef, ASlot, entries_of, operands, destinations}
+use Rattle.clif_instructions.specs.Instruction.{EntryRef, ASlot, AConstant, entries_of, operands, destinations}
 use Rattle.clif_instructions.specs.Members.{Stands, Once}
 
 -- where value `v` comes from exists and knows `v`
@@ -36,6 +36,7 @@ EdgeExists f edge = (edge.block < length f.blocks) × All (PassedExists f) edge.
 -- an entry that an instruction names exists
 abbrev pub EntryExists : TableLists → EntryRef → Type 0
 EntryExists tables (ASlot number) = number < length tables.stack_slots
+EntryExists tables (AConstant number) = number < length tables.constants
 
 pub record IsConsistent (f : Body) : Type 0 where
   -- no table has more than 2^32 - 1 entries

@@ -3,10 +3,10 @@
 //!
 //! Each call that makes an entry gives it the next number of its table. Its errors are `Memory`, and `Full`
 //! exactly where the table holds 2^32 - 1 entries; the function is then as it was.
-ghost use Rattle.std.specs.Prelude.{◌≡◌, ◌<◌, ◌↔◌, length, All, IsTrue};
+ghost use Rattle.std.specs.Prelude.{◌≡◌, ◌<◌, ◌↔◌, length, slice_get, All, IsTrue};
 ghost use Rattle.clif_tables.specs.Entries.{AStackSlot, ADynamicStackSlot, AGlobalValue, ASignature, AFunction};
-ghost use Rattle.clif_tables.specs.Lists.{with_constant};
-ghost use Rattle.clif_tables.specs.Makes.{Pools};
+ghost use Rattle.clif_tables.specs.Lists.{unserved, with_constant, with_jump_table, with_table_served};
+ghost use Rattle.clif_tables.specs.Makes.{MakesEntry, Pools};
 ghost use Rattle.clif_instructions.specs.Instruction.{entries_of};
 ghost use Rattle.clif_ir.specs.Changes.{with_tables};
 ghost use Rattle.clif_ir.specs.Consistent.{EntryExists};
@@ -14,10 +14,10 @@ ghost use Rattle.clif_ir.specs.Entries.{MakesIn};
 
 use crate::function::Function;
 use clif_instructions::instructions::InstructionData;
-use clif_tables::Tables;
+use clif_tables::{JumpTableData, Tables};
 use clif_types::{
     BuildError, Constant, DynamicStackSlot, DynamicStackSlotData, EntityRef, ExtFuncData, FuncRef,
-    GlobalValue, GlobalValueData, SigRef, Signature, StackSlot, StackSlotData,
+    GlobalValue, GlobalValueData, JumpTable, SigRef, Signature, StackSlot, StackSlotData,
 };
 
 impl Function {
@@ -35,6 +35,9 @@ impl Function {
         match shape {
             InstructionData::StackLoad { slot, .. } | InstructionData::StackStore { slot, .. } => {
                 slot.index() < self.tables.stack_slot_count()
+            }
+            InstructionData::UnaryConst { constant, .. } => {
+                constant.index() < self.tables.constant_count()
             }
             _ => true,
         }
@@ -86,5 +89,22 @@ impl Function {
             (with_tables self.old (with_constant self.old.tables bytes.now)) result }
     {
         self.tables.pool_constant(bytes)
+    }
+
+    /// Makes a jump table, which serves no instruction so far.
+    pub fn create_jump_table(&mut self, table: JumpTableData) -> Result<JumpTable, BuildError>
+        ensures { MakesEntry (λ number. number) (length self.old.tables.jump_tables) self.old self.new
+            (with_tables self.old (with_jump_table self.old.tables table)) result }
+    {
+        self.tables.create_jump_table(table)
+    }
+
+    /// Takes the edges of a jump table for the instruction that it serves from now on, if there is a table of this
+    /// number that serves none so far.
+    pub fn take_jump_table(&mut self, table: JumpTable) -> Option<JumpTableData>
+        ensures taken { result ≡ unserved (slice_get self.old.tables.jump_tables table) }
+        ensures served { self.new ≡ with_tables self.old (with_table_served self.old.tables table) }
+    {
+        self.tables.take_jump_table(table)
     }
 }

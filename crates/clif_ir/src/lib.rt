@@ -17,9 +17,10 @@ pub mod write;
 
 pub use clif_instructions::block_call::{BlockArg, BlockArgs, BlockCall};
 pub use clif_instructions::instructions::InstructionData;
+pub use clif_instructions::jump_table::JumpTableData;
 pub use clif_instructions::value_list::ValueList;
 pub use clif_opcodes::{
-    BinaryOpcode, CondTrapOpcode, ConvertOpcode, FloatConstOpcode, UnaryOpcode,
+    BinaryOpcode, CondTrapOpcode, ConvertOpcode, FloatConstOpcode, PooledConstOpcode, UnaryOpcode,
 };
 pub use function::{BlockNode, Function, InstNode, ValueDef, ValueNode, ValueOrigin};
 pub use successors::Successors;

@@ -15,6 +15,7 @@ use crate::function::{Function, ValueDef};
 use clif_instructions::block_call::{BlockArg, BlockCall};
 use clif_instructions::immediates::{FloatBits, Imm64, Offset32, signed_at};
 use clif_instructions::instructions::InstructionData;
+use clif_instructions::jump_table::JumpTableData;
 use clif_opcodes::{Control, FloatConstOpcode};
 use clif_types::{Block, EntityRef, Inst, StackSlot, Type, Value};
 use std::fmt;
@@ -150,6 +151,7 @@ fn write_operation<W: fmt::Write>(
             let float = float_bits(*opcode, *bits);
             return write!(f, " {float}");
         }
+        InstructionData::BranchTable { arg, table } => return write_table(f, *arg, table),
         InstructionData::IntCompare { cond, .. } => write!(f, " {cond}")?,
         InstructionData::Load { flags, .. } => write!(f, "{flags}")?,
         InstructionData::Store { flags, .. } => write!(f, "{flags}")?,
@@ -157,6 +159,7 @@ fn write_operation<W: fmt::Write>(
     }
     write_operands(f, shape)?;
     match shape {
+        InstructionData::UnaryConst { constant, .. } => write!(f, " {constant}"),
         InstructionData::Load { offset, .. } => write_offset(f, *offset),
         InstructionData::Store { offset, .. } => write_offset(f, *offset),
         InstructionData::StackLoad { slot, offset, .. } => write_place(f, " ", *slot, *offset),
@@ -165,6 +168,19 @@ fn write_operation<W: fmt::Write>(
         InstructionData::CondTrap { code, .. } => write!(f, ", {code}"),
         _ => Ok(()),
     }
+}
+
+// The index of a `br_table`, its default edge, and in brackets its entries.
+fn write_table<W: fmt::Write>(
+    f: &mut fmt::Formatter<W>,
+    index: Value,
+    table: &JumpTableData,
+) -> fmt::Result {
+    write!(f, " {index}, ")?;
+    write_edge(f, table.default_block())?;
+    f.write_str(", [")?;
+    write_edges(f, table.as_slice())?;
+    f.write_str("]")
 }
 
 fn float_bits(opcode: FloatConstOpcode, bits: u64) -> FloatBits {
@@ -329,7 +345,8 @@ fn write_edge_constants<'a, W: fmt::Write>(
     Ok(separator)
 }
 
-// The part of a comment on one value, if an `iconst` or a float constant makes it; answers what goes before the next part.
+// The part of a comment on one value, if an `iconst`, a float constant or a pooled constant makes it; answers what goes before
+// the next part.
 fn write_constant<'a, W: fmt::Write>(
     f: &mut fmt::Formatter<W>,
     func: &Function,
@@ -349,6 +366,9 @@ fn write_constant<'a, W: fmt::Write>(
         InstructionData::UnaryIeee { opcode, bits } => {
             let float = float_bits(*opcode, *bits);
             write!(f, "{separator}{value} = {float}")?;
+        }
+        InstructionData::UnaryConst { constant, .. } => {
+            write!(f, "{separator}{value} = {constant}")?;
         }
         _ => return Ok(separator),
     }

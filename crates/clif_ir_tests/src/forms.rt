@@ -3,10 +3,11 @@
 
 use crate::facts::Fact::{HasType, ResultAt};
 use crate::instructions::Plain::{
-    Concat, CondTrap, Float, Icmp, Load, Split, Stack, StackStore, Store, Trap,
+    Concat, CondTrap, Constant, Float, Icmp, Load, Split, Stack, StackStore, Store, Trap,
 };
 use crate::steps::Step::{
-    Binary, Convert, Create, Iconst, Is, Jump, LayOut, Param, Put, Return, ReturnFour, Slot,
+    Append, Binary, BranchTable, Convert, Create, Iconst, Is, Jump, LayOut, Param, Pool, Put,
+    Return, ReturnFour, ReturnTwo, Slot,
 };
 use crate::steps::makes;
 use clif_instructions::inst_list::InsertAt::Back;
@@ -14,6 +15,7 @@ use clif_opcodes::BinaryOpcode::Isub;
 use clif_opcodes::CondTrapOpcode::{Trapnz, Trapz};
 use clif_opcodes::ConvertOpcode::{Sextend, Splat};
 use clif_opcodes::FloatConstOpcode::{F16const, F32const, F64const};
+use clif_opcodes::PooledConstOpcode::{F128const, Vconst};
 use clif_opcodes::StackOpcode::{StackAddr, StackLoad};
 use clif_types::IntCC::{
     Equal, NotEqual, SignedGreaterThan, SignedGreaterThanOrEqual, SignedLessThan,
@@ -21,7 +23,7 @@ use clif_types::IntCC::{
     UnsignedLessThanOrEqual,
 };
 use clif_types::TrapCode::{DivisionByZero, HeapOutOfBounds, IntegerOverflow, User};
-use clif_types::types::{F16, F32, F32X4, F64, I8, I8X16, I16, I32, I64, I128, INVALID};
+use clif_types::types::{F16, F32, F32X4, F64, F128, I8, I8X16, I16, I32, I64, I128, INVALID};
 use clif_types::{AliasRegion, EntityRef, MemFlagsData};
 use std::test::Fail;
 
@@ -254,6 +256,48 @@ fn stack_slots(rt: HostRuntime) -> Result<(), Fail> {
     ];
     let text =
         "function %sample() system_v {\n    ss0 = explicit_slot 4, align = 4\n    ss1 = explicit_slot 8\n\nblock0:\n    v0 = iconst.i32 0\n    v1 = stack_addr.i64 ss0\n    store notrap aligned v0, v1  ; v0 = 0\n    v2 = stack_load.i32 ss0\n    stack_store v2, ss1+4\n    jump block1\n\nblock1:\n    stack_store.i32 v0, ss1-4  ; v0 = 0\n    v3 = stack_load.i8 ss1+7\n    v4 = stack_addr.i128 ss1-0x0001_0000\n    stack_store v3, ss1+7\n    return\n}\n";
+    makes(&rt, rt.alloc(), &steps, text)
+}
+
+// Constants stand in the preamble with their bytes from last to first; those of equal bytes are one. Comments name them.
+#[test]
+fn constants(rt: HostRuntime) -> Result<(), Fail> {
+    let steps = [
+        Pool(0, 16),
+        Pool(0xab, 2),
+        Pool(0, 16),
+        Create,
+        LayOut(0),
+        Put(0, I8X16, Constant(Vconst, 0)),
+        Put(0, INVALID, Constant(F128const, 0)),
+        Put(0, INVALID, Constant(F128const, 1)),
+        ReturnTwo(0, 0, 2),
+        Is(HasType(0, I8X16)),
+        Is(HasType(1, F128)),
+    ];
+    let text =
+        "function %sample() system_v {\n    const0 = 0x00000000000000000000000000000000\n    const1 = 0xabab\n\nblock0:\n    v0 = vconst.i8x16 const0\n    v1 = f128const const0\n    v2 = f128const const1\n    return v0, v2  ; v0 = const0, v2 = const1\n}\n";
+    makes(&rt, rt.alloc(), &steps, text)
+}
+
+// The default stands before the entries. What is passed to a block goes along each edge to it.
+#[test]
+fn branch_tables(rt: HostRuntime) -> Result<(), Fail> {
+    let steps = [
+        Create,
+        Create,
+        Create,
+        LayOut(0),
+        LayOut(1),
+        LayOut(2),
+        Iconst(0, Back, I32, 7),
+        BranchTable(0, 0, [1, 2, 1]),
+        Append(1, 1, 0),
+        Return(1),
+        Return(2),
+    ];
+    let text =
+        "function %sample() system_v {\nblock0:\n    v0 = iconst.i32 7\n    br_table v0, block1(v0), [block2, block1(v0)]  ; v0 = 7, v0 = 7, v0 = 7\n\nblock1:\n    return\n\nblock2:\n    return\n}\n";
     makes(&rt, rt.alloc(), &steps, text)
 }
 

@@ -3,8 +3,8 @@
 
 use crate::support::v;
 use clif_instructions::instructions::InstructionData;
-use clif_opcodes::{CondTrapOpcode, FloatConstOpcode, StackOpcode};
-use clif_types::{EntityRef, IntCC, MemFlagsData, StackSlot, TrapCode};
+use clif_opcodes::{CondTrapOpcode, FloatConstOpcode, PooledConstOpcode, StackOpcode};
+use clif_types::{Constant, EntityRef, IntCC, MemFlagsData, StackSlot, TrapCode};
 use std::process::Abort;
 
 /// An instruction.
@@ -12,6 +12,8 @@ use std::process::Abort;
 pub enum Plain {
     /// The bits of a float.
     Float(FloatConstOpcode, u64),
+    /// A pooled constant.
+    Constant(PooledConstOpcode, u32),
     /// A comparison of two values.
     Icmp(IntCC, u32, u32),
     /// The low half and the high half of an integer.
@@ -36,6 +38,10 @@ pub enum Plain {
 pub fn shape_of(rt: &impl Abort, plain: Plain) -> InstructionData {
     match plain {
         Plain::Float(opcode, bits) => InstructionData::UnaryIeee { opcode, bits },
+        Plain::Constant(opcode, number) => InstructionData::UnaryConst {
+            opcode,
+            constant: constant_of(rt, number),
+        },
         Plain::Icmp(cond, x, y) => InstructionData::IntCompare {
             cond,
             args: [v(rt, x), v(rt, y)],
@@ -71,6 +77,12 @@ pub fn shape_of(rt: &impl Abort, plain: Plain) -> InstructionData {
             code,
         },
     }
+}
+
+// The constant with this number.
+fn constant_of(rt: &impl Abort, number: u32) -> Constant {
+    assert!(rt; number < 0xffff_ffff);
+    Constant::from_u32(number)
 }
 
 // The stack slot with this number.

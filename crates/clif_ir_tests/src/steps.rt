@@ -10,6 +10,7 @@ use crate::support::{
 use clif_instructions::block_call::BlockCall;
 use clif_instructions::inst_list::InsertAt;
 use clif_instructions::instructions::InstructionData;
+use clif_instructions::jump_table::JumpTableData;
 use clif_instructions::value_list::ValueList;
 use clif_ir::function::Function;
 use clif_opcodes::{BinaryOpcode, ConvertOpcode, UnaryOpcode};
@@ -33,6 +34,10 @@ pub enum Step {
     Cold(u32),
     /// Makes a stack slot of a size and the shift of an alignment.
     Slot(u32, u8),
+    /// Pools so many bytes, each of which is this one.
+    Pool(u8, u8),
+    /// Makes a jump table with a default and two entries, and puts the branch by it at the end of a block.
+    BranchTable(u32, u32, [u32; 3]),
     /// Puts a parameter at the end of those of a block.
     Param(u32, Type),
     /// Puts a constant into a block.
@@ -113,6 +118,15 @@ fn slot(rt: &impl Abort, func: &mut Function, size: u32, align_shift: u8) -> Res
     Ok(())
 }
 
+fn pool(func: &mut Function, byte: u8, count: u8) -> Result<(), Fail> {
+    let mut bytes = Vec::new(func.allocator());
+    for _ in 0..count {
+        bytes.push(byte)?;
+    }
+    func.pool_constant(bytes.as_slice())?;
+    Ok(())
+}
+
 fn insert(
     rt: &impl Abort,
     func: &mut Function,
@@ -152,6 +166,26 @@ fn brif(
     insert(rt, func, block, InsertAt::Back, shape, Type::Invalid)
 }
 
+fn branch_table(
+    rt: &impl Abort,
+    func: &mut Function,
+    block: u32,
+    arg: u32,
+    targets: [u32; 3],
+) -> Result<(), Fail> {
+    let alloc = func.allocator();
+    let default = BlockCall::new(alloc, b(rt, targets[0]), &[])?;
+    let mut entries = Vec::new(alloc);
+    entries.push(BlockCall::new(alloc, b(rt, targets[1]), &[])?)?;
+    entries.push(BlockCall::new(alloc, b(rt, targets[2]), &[])?)?;
+    let number = func.create_jump_table(JumpTableData::new(default, entries)?)?;
+    let table = func.take_jump_table(number).expect(rt, "a table");
+    assert!(rt; func.take_jump_table(number).is_none());
+    let arg = v(rt, arg);
+    let shape = InstructionData::BranchTable { arg, table };
+    insert(rt, func, block, InsertAt::Back, shape, Type::Invalid)
+}
+
 fn append(
     rt: &impl Abort,
     func: &mut Function,
@@ -188,6 +222,8 @@ fn make(rt: &impl Abort, func: &mut Function, step: Step) -> Result<(), Fail> {
         Step::Ensure(block) => ensure(rt, func, block),
         Step::Cold(block) => cold(rt, func, block),
         Step::Slot(size, align_shift) => slot(rt, func, size, align_shift),
+        Step::Pool(byte, count) => pool(func, byte, count),
+        Step::BranchTable(block, x, targets) => branch_table(rt, func, block, x, targets),
         Step::Param(block, ty) => param(rt, func, block, ty),
         Step::Iconst(block, at, ty, imm) => {
             insert(rt, func, block, at, InstructionData::UnaryImm { imm }, ty)

@@ -4,19 +4,22 @@ use Rattle.std.specs.Prelude.{ℤ, pos, negsuc, Option, Some, None, Bool, true, 
 use Rattle.std.specs.List.{AllByRecursion}
 use Rattle.std.proofs.Math.Nat.{mod-lt}
 use Rattle.std.proofs.lemmas.Bool.{eq-eqb}
+use Rattle.clif_types.specs.declared.types.LaneType.TheVariants as lane
 use Rattle.clif_types.specs.declared.types.«Type».{«Type»}
+use Rattle.clif_types.specs.declared.types.«Type».TheVariants as type
 use Rattle.clif_types.specs.Types.{bits_of}
 use Rattle.clif_types.specs.declared.trapcode.TrapCode.{TrapCode}
 use Rattle.clif_types.specs.declared.trapcode.TrapCode.TheVariants.{HeapOutOfBounds}
 use Rattle.clif_types.specs.MemFlags.{MemFlagsShape}
 use Rattle.clif_opcodes.specs.declared.opcodes.FloatConstOpcode.TheVariants.{F16const, F32const, F64const}
+use Rattle.clif_opcodes.specs.declared.opcodes.PooledConstOpcode.TheVariants.{F128const, Vconst}
 use Rattle.clif_opcodes.specs.declared.kinds.OperandKind.{OperandKind}
 use Rattle.clif_opcodes.specs.Kinds.{IsOfKind, double_of, half_of}
 use Rattle.clif_opcodes.specs.declared.kinds.OperandKind.TheVariants as kind
 use Rattle.clif_opcodes.specs.Typing.{AreOfKinds, binary_second, convert_operand}
 use Rattle.clif_meaning.specs.Bits.{Bits, HasWidth, IsValue, AreValues, value_bytes, value_of_bytes, wrapped}
 use Rattle.clif_opcodes.specs.declared.opcodes.StackOpcode.TheVariants.{StackAddr, StackLoad}
-use Rattle.clif_meaning.specs.Instruction.{Iconst, FloatConst, Unary, Binary, Compare, Concat, Split, Convert, Select, Operation, Compute, Load, Store, Stack, StackStore, Trap, CondTrap, Jump, Brif, Return}
+use Rattle.clif_meaning.specs.Instruction.{Iconst, FloatConst, PooledConst, Unary, Binary, Compare, Concat, Split, Convert, Select, Operation, Compute, Load, Store, Stack, StackStore, Trap, CondTrap, Jump, Brif, BrTable, Return}
 use Rattle.clif_meaning.specs.Memory.{Memory, Range, address_in, bytes_in, written}
 use Rattle.clif_meaning.specs.Access.{Accessible, Aligned, Holds, access_claims, claims_if, claims_of}
 use Rattle.clif_meaning.specs.Outcome.{Outcome, Gives, NoStep, Traps, access_outcome, accessed, are_accessible, compares, converted_number, low_bits_at, no_claim, slot_accessed, slot_address, traps_on, unary_number, binary_fault, binary_number, outcome_of, outcome_of_computed, unless_fault}
@@ -152,6 +155,10 @@ outcomes_fit world (Compute (FloatConst F32const bits)) ty returns types operand
     no_operand (Fits world (Compute (FloatConst F32const bits)) ty returns memory) ty types operands fits values (λ claims. (mod-lt bits (pow_pos 32), tt))
 outcomes_fit world (Compute (FloatConst F64const bits)) ty returns types operands memory at fits values =
     no_operand (Fits world (Compute (FloatConst F64const bits)) ty returns memory) ty types operands fits values (λ claims. (mod-lt bits (pow_pos 64), tt))
+outcomes_fit world (Compute (PooledConst F128const bytes)) ty returns types operands memory at fits values =
+    no_operand (Fits world (Compute (PooledConst F128const bytes)) ty returns memory) ty types operands fits values (λ claims. (mod-lt (value_of_bytes bytes) (pow_pos 128), tt))
+outcomes_fit world (Compute (PooledConst Vconst bytes)) ty returns types operands memory at fits values =
+    no_operand (Fits world (Compute (PooledConst Vconst bytes)) ty returns memory) ty types operands fits values (λ claims. (low_fits ty (value_of_bytes bytes), tt))
 outcomes_fit world (Compute (Unary opcode)) ty returns types operands memory at fits values =
     one_operand (Fits world (Compute (Unary opcode)) ty returns memory) ty kind.Controlling types operands fits values
     (λ t x is_kind is_value claims. (low_fits ty (unary_number opcode (bits_of ty) x), tt))
@@ -207,5 +214,7 @@ outcomes_fit world Jump ty returns types operands memory at fits values =
     no_operand (Fits world Jump ty returns memory) ty types operands fits values (λ claims. tt)
 outcomes_fit world Brif ty returns types operands memory at fits values =
     one_operand (Fits world Brif ty returns memory) ty kind.Controlling types operands fits values (λ t x is_kind is_value claims. tt)
+outcomes_fit world (BrTable entries) ty returns types operands memory at fits values =
+    one_operand (Fits world (BrTable entries) ty returns memory) ty (kind.Exactly (type.Lane lane.I32)) types operands fits values (λ t x is_kind is_value claims. tt)
 outcomes_fit world Return ty returns types operands memory at fits values =
     λ claims. subst (λ (ts : List «Type»). AreValues ts operands) fits values

@@ -1,31 +1,32 @@
 -- Which calls a script may make, and which of them are refused. A call outside its condition is a misuse. After the
 -- documentation of Cranelift's `FunctionBuilder`.
-use Rattle.std.specs.Prelude.{ℕ, suc, not, ◌&&◌, ◌||◌, if◌then◌else◌, Bool, true, false, List, [], ◌∷◌, ◌++◌, Option, Some, None, is_some, find, length, nat_lt, ℤ}
+use Rattle.std.specs.Prelude.{ℕ, suc, not, ◌==◌, ◌&&◌, ◌||◌, if◌then◌else◌, Bool, true, false, List, [], ◌∷◌, ◌++◌, Option, Some, None, is_some, find, length, map, nat_lt, ℤ}
 use Rattle.std.specs.List.{list_all}
 use Rattle.clif_opcodes.specs.declared.opcodes.UnaryOpcode.{UnaryOpcode}
 use Rattle.clif_opcodes.specs.declared.opcodes.BinaryOpcode.{BinaryOpcode}
 use Rattle.clif_opcodes.specs.declared.opcodes.ConvertOpcode.{ConvertOpcode}
 use Rattle.clif_opcodes.specs.declared.opcodes.CondTrapOpcode.{CondTrapOpcode}
 use Rattle.clif_opcodes.specs.declared.opcodes.FloatConstOpcode.{FloatConstOpcode}
+use Rattle.clif_opcodes.specs.declared.opcodes.PooledConstOpcode.{PooledConstOpcode}
+use Rattle.clif_opcodes.specs.declared.opcodes.PooledConstOpcode.TheVariants.{F128const, Vconst}
 use Rattle.clif_opcodes.specs.declared.opcodes.StackOpcode.{StackOpcode}
 use Rattle.clif_opcodes.specs.declared.opcodes.StackOpcode.TheVariants.{StackAddr, StackLoad}
-use Rattle.clif_instructions.specs.Instruction.{EntryRef, ASlot}
-use Rattle.clif_opcodes.specs.declared.kinds.Demand.TheVariants.{ADoubled, AHalved}
+use Rattle.clif_instructions.specs.Instruction.{EntryRef, ASlot, AConstant}
+use Rattle.clif_opcodes.specs.declared.kinds.Demand.TheVariants.{ADoubled, AHalved, AVector}
 use Rattle.clif_opcodes.specs.Kinds.{is_met}
 use Rattle.clif_opcodes.specs.Typing.{convert_demand}
 use Rattle.clif_types.specs.declared.condcodes.IntCC.{IntCC}
 use Rattle.clif_types.specs.declared.trapcode.TrapCode.{TrapCode}
 use Rattle.clif_types.specs.declared.types.«Type».{«Type»}
 use Rattle.clif_types.specs.declared.types.«Type».TheVariants as type
-use Rattle.clif_types.specs.declared.types.LaneType.TheVariants as lane
 use Rattle.clif_types.specs.MemFlags.{MemFlagsShape}
-use Rattle.clif_types.specs.Types.{is_int, is_type}
+use Rattle.clif_types.specs.Types.{bytes_of, is_int, is_type}
 use Rattle.clif_tables.specs.Entries.{TableEntry, AStackSlot, AFunction}
 use Rattle.clif_tables.specs.Lists.{TableLists}
 use Rattle.clif_meaning.specs.SameType.{same_type}
-use Rattle.clif_meaning.specs.Instruction.{Iconst, FloatConst, Unary, Binary, Compare, Concat, Split, Convert, Select, Operation, operation_entries, Compute, Load, Store, Stack, StackStore, Trap, CondTrap, Jump, Brif, Return, Argument, Known, CallResult, CallPayload, Edge}
+use Rattle.clif_meaning.specs.Instruction.{Iconst, FloatConst, PooledConst, Unary, Binary, Compare, Concat, Split, Convert, Select, Operation, operation_entries, Compute, Load, Store, Stack, StackStore, Trap, CondTrap, Jump, Brif, Return, Argument, Known, CallResult, CallPayload, Edge}
 use Rattle.clif_meaning.specs.Name.{Name}
-use Rattle.clif_meaning.specs.Request.{Request, CreateBlock, SwitchToBlock, SealBlock, SealAllBlocks, InsertBlockAfter, SetColdBlock, EnsureInsertedBlock, AppendBlockParams, AppendFunctionParams, DeclareVar, DefVar, UseVar, MakeEntry, Build, Finalize, Script}
+use Rattle.clif_meaning.specs.Request.{Request, CreateBlock, SwitchToBlock, SealBlock, SealAllBlocks, InsertBlockAfter, SetColdBlock, EnsureInsertedBlock, AppendBlockParams, AppendFunctionParams, DeclareVar, DefVar, UseVar, MakeEntry, Build, Finalize, Script, Attempt, outright}
 use Rattle.clif_meaning.specs.Ledger.{BlockState, Ledger, empty_ledger, type_of, or_invalid, has_value, has_block, is_filled, is_sealed, is_inserted, is_pristine, has_predecessors, is_unreachable, variable_type, ledger_with}
 
 -- there is a current block, and it isn't filled
@@ -37,19 +38,6 @@ is_open ledger (Some block) = not (is_filled ledger block)
 abbrev pub can_leave : Ledger → Option Name → Bool
 can_leave ledger None = true
 can_leave ledger (Some block) = is_unreachable ledger block || is_pristine ledger block || is_filled ledger block
-
--- the zero of the type can be made so far: it is no pooled constant, as those of F128 and of vectors of integers are
-abbrev pub has_zero : «Type» → Bool
-has_zero (type.Lane lane.F128) = false
-has_zero (type.Lane l) = true
-has_zero (type.Vector lane.F16 count) = true
-has_zero (type.Vector lane.F32 count) = true
-has_zero (type.Vector lane.F64 count) = true
-has_zero _ = false
-
--- the types of which a variable may be so far
-abbrev pub is_variable_type : «Type» → Bool
-is_variable_type ty = is_type ty && has_zero ty
 
 -- a value of the variable's type
 abbrev pub can_assign : Option «Type» → Option «Type» → Bool
@@ -66,9 +54,15 @@ has_argument ledger (CallPayload index) = true
 abbrev pub can_lead : Ledger → Edge Name Name → Bool
 can_lead ledger edge = has_block ledger edge.target && not (is_sealed ledger edge.target) && list_all (has_argument ledger) edge.arguments
 
+-- a pooled constant has as many bytes as its type
+abbrev pub has_bytes : PooledConstOpcode → «Type» → List ℕ → Bool
+has_bytes F128const ty bytes = length bytes == 16
+has_bytes Vconst ty bytes = is_met AVector ty && (length bytes == bytes_of ty)
+
 -- what an operation asks beside its operands: the table of operations
 abbrev pub can_operate : Operation → «Type» → Bool
 can_operate (Compute (Iconst number)) ty = is_int ty
+can_operate (Compute (PooledConst opcode bytes)) ty = has_bytes opcode ty bytes
 can_operate (Compute (Convert opcode)) ty = is_met (convert_demand opcode) ty
 can_operate (Compute Concat) ty = is_met ADoubled ty
 can_operate (Compute Split) ty = is_met AHalved ty
@@ -80,6 +74,7 @@ can_operate _ ty = true
 -- an entry that an operation names was made
 abbrev pub has_entry : TableLists → EntryRef → Bool
 has_entry tables (ASlot number) = nat_lt number (length tables.stack_slots)
+has_entry tables (AConstant number) = nat_lt number (length tables.constants)
 
 -- an entry may be made: a stack slot is aligned to at most 2^31 bytes, and the signature of a function was imported
 abbrev pub can_make : TableLists → TableEntry → Bool
@@ -98,7 +93,7 @@ allows ledger (SetColdBlock block) = has_block ledger block
 allows ledger EnsureInsertedBlock = is_open ledger ledger.current
 allows ledger (AppendBlockParams block types) = is_pristine ledger block
 allows ledger (AppendFunctionParams block types) = is_pristine ledger block && not (has_predecessors ledger block)
-allows ledger (DeclareVar ty) = is_variable_type ty
+allows ledger (DeclareVar ty) = is_type ty
 allows ledger (DefVar variable value) = is_open ledger ledger.current && can_assign (variable_type ledger variable) (type_of ledger value)
 allows ledger (UseVar variable) = is_open ledger ledger.current && is_some (variable_type ledger variable)
 allows ledger (MakeEntry entry) = can_make ledger.tables entry
@@ -126,6 +121,18 @@ abbrev pub refusal_of : Ledger → Request → Option Refusal
 refusal_of ledger Finalize = unfinished (find is_unfinished ledger.blocks)
 refusal_of ledger _ = None
 
+-- The variable of a request is to blame that isn't allowed: it isn't declared, or has another type than the value. All
+-- else that the request asks is there.
+abbrev pub blames_variable : Ledger → Request → Bool
+blames_variable ledger (UseVar variable) = is_open ledger ledger.current && not (is_some (variable_type ledger variable))
+blames_variable ledger (DefVar variable value) =
+    is_open ledger ledger.current && has_value ledger value && not (can_assign (variable_type ledger variable) (type_of ledger value))
+blames_variable ledger _ = false
+
+-- a call that isn't allowed is refused, and no misuse
+abbrev pub is_refused : Ledger → Attempt → Bool
+is_refused ledger attempt = attempt.is_tried && blames_variable ledger attempt.request
+
 -- what comes of a script, memory and full tables aside
 pub data Verdict : Type 0 where
   Accepted : Verdict
@@ -133,15 +140,20 @@ pub data Verdict : Type 0 where
   Refused : (place : ℕ) → Verdict
 
 -- A misuse goes before a refusal, and the first call that is either decides.
-abbrev pub verdict_from : ℕ → Ledger → Script → Verdict
+abbrev pub verdict_from : ℕ → Ledger → List Attempt → Verdict
 verdict_from place ledger [] = Accepted
-verdict_from place ledger (request ∷ script) =
-    if not (allows ledger request) then Misuse place
-    else (if is_some (refusal_of ledger request) then Refused place else verdict_from (suc place) (ledger_with ledger request) script)
+verdict_from place ledger (attempt ∷ attempts) =
+    if not (allows ledger attempt.request) then (if is_refused ledger attempt then Refused place else Misuse place)
+    else (if is_some (refusal_of ledger attempt.request) then Refused place
+    else verdict_from (suc place) (ledger_with ledger attempt.request) attempts)
 
--- the verdict on a script's calls, with `finalize` behind them
+-- the verdict on calls, with `finalize` behind them
+abbrev pub verdict_on_attempts : List Attempt → Verdict
+verdict_on_attempts attempts = verdict_from 0 empty_ledger (attempts ++ outright Finalize ∷ [])
+
+-- the verdict on a script of which no call is only tried
 abbrev pub verdict_on : Script → Verdict
-verdict_on script = verdict_from 0 empty_ledger (script ++ Finalize ∷ [])
+verdict_on script = verdict_on_attempts (map outright script)
 
 -- The instruction calls. Operations on operands and `brif` are made at the type of their first operand.
 abbrev pub iconst : «Type» → ℤ → Request
@@ -158,6 +170,9 @@ convert opcode ty a = Build (record { operation = Compute (Convert opcode); cont
 
 abbrev pub float_const : FloatConstOpcode → ℕ → Request
 float_const opcode bits = Build (record { operation = Compute (FloatConst opcode bits); controlling = type.Invalid; operands = []; edges = [] })
+
+abbrev pub pooled_const : PooledConstOpcode → «Type» → List ℕ → Request
+pooled_const opcode ty bytes = Build (record { operation = Compute (PooledConst opcode bytes); controlling = ty; operands = []; edges = [] })
 
 abbrev pub compare : Ledger → IntCC → Name → Name → Request
 compare ledger condition a b =

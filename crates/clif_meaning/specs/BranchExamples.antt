@@ -1,11 +1,11 @@
 -- Branches, by computation: differences, the edge that a condition takes, and the row `both_arms` on both machines.
 -- Own; the row is from the project's worked examples.
-use Rattle.std.specs.Prelude.{◌≡◌, ℕ, zero, suc, List, [], ◌∷◌, Some, pos, negsuc}
+use Rattle.std.specs.Prelude.{◌≡◌, ◌≢◌, ◌-◌, ◌^◌, ℕ, zero, suc, List, [], ◌∷◌, Some, pos, negsuc}
 use Rattle.clif_types.specs.declared.types.«Type».TheVariants as type
 use Rattle.clif_types.specs.declared.call_conv.CallConv.TheVariants.{SystemV}
 use Rattle.clif_types.specs.Signature.{SignatureShape}
 use Rattle.clif_meaning.specs.World.{World}
-use Rattle.clif_meaning.specs.Instruction.{Iconst, Binary, Compute, Jump, Brif, Return, Known, Edge}
+use Rattle.clif_meaning.specs.Instruction.{Iconst, Binary, Compute, Jump, Brif, BrTable, Return, Known, Edge}
 use Rattle.clif_opcodes.specs.declared.opcodes.BinaryOpcode.TheVariants.{Iadd, Isub}
 use Rattle.clif_meaning.specs.Outcome.{Goes, Values, computed, outcome_of}
 use Rattle.clif_meaning.specs.Name.{Name, answer_of}
@@ -15,7 +15,7 @@ use Rattle.clif_meaning.specs.FunctionView.{Placed, BlockView, FunctionView}
 use Rattle.clif_meaning.specs.Typing.{EdgesMatch}
 use Rattle.clif_meaning.specs.SameMeaning.{SameMeaning}
 use Rattle.clif_meaning.specs.Headline.{script_behaviour, function_behaviour}
-use Rattle.clif_meaning.specs.Examples.{i8, i32, placed, ended_with}
+use Rattle.clif_meaning.specs.Examples.{i8, i32, invalid, placed, ended_with}
 
 -- an edge that passes nothing
 abbrev pub plain : {Block Operand : Type 0} → Block → Edge Block Operand
@@ -103,6 +103,12 @@ pub record BranchExamples : Type 0 where
   pub no_difference : computed (Binary Isub) i8 [] (200 ∷ 200 ∷ []) ≡ Values (0 ∷ [])
   pub taken : (world : World) → outcome_of world Brif i8 (i8 ∷ []) (7 ∷ []) world.memory ≡ Goes 0 [] world.memory
   pub other : (world : World) → outcome_of world Brif i8 (i8 ∷ []) (0 ∷ []) world.memory ≡ Goes 1 [] world.memory
+  -- a table of two entries: index 1 takes the second of them, and 2 and -1 the default
+  pub entry : (world : World) → outcome_of world (BrTable 2) invalid (i32 ∷ []) (1 ∷ []) world.memory ≡ Goes 2 [] world.memory
+  pub past : (world : World) → outcome_of world (BrTable 2) invalid (i32 ∷ []) (2 ∷ []) world.memory ≡ Goes 0 [] world.memory
+  pub greatest : (world : World) → outcome_of world (BrTable 2) invalid (i32 ∷ []) ((2 ^ 32 - 1) ∷ []) world.memory ≡ Goes 0 [] world.memory
+  -- an index isn't the number of its edge
+  pub not_default : (world : World) → outcome_of world (BrTable 2) invalid (i32 ∷ []) (0 ∷ []) world.memory ≢ Goes 0 [] world.memory
   -- the row answers 0 on both machines, in every world
   pub script : (world : World) → script_behaviour both_arms_script both_arms_function world 42 ≡ ended_with (0 ∷ []) world
   pub function : (world : World) → function_behaviour both_arms_script both_arms_function world 24 ≡ ended_with (0 ∷ []) world

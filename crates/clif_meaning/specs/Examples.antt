@@ -15,9 +15,10 @@ use Rattle.clif_types.specs.Target.{pointer_type_of}
 use Rattle.clif_meaning.specs.Bits.{value_bytes, value_of_bytes}
 use Rattle.clif_meaning.specs.Memory.{Memory, bytes_in, copied, filled, written, byte_order}
 use Rattle.clif_meaning.specs.Switch.{switch_target}
-use Rattle.clif_meaning.specs.Instruction.{Iconst, FloatConst, Unary, Binary, Compare, Concat, Split, Convert, Select, Operation, Compute, Return}
+use Rattle.clif_meaning.specs.Instruction.{Iconst, FloatConst, PooledConst, Unary, Binary, Compare, Concat, Split, Convert, Select, Operation, Compute, Return}
 use Rattle.clif_types.specs.declared.condcodes.IntCC.TheVariants.{SignedLessThan, SignedGreaterThanOrEqual, UnsignedLessThan}
 use Rattle.clif_types.specs.declared.condcodes.IntCC.TheVariants as cc
+use Rattle.clif_opcodes.specs.declared.opcodes.PooledConstOpcode.TheVariants.{F128const, Vconst}
 use Rattle.clif_opcodes.specs.declared.opcodes.FloatConstOpcode.TheVariants.{F32const}
 use Rattle.clif_opcodes.specs.declared.opcodes.BinaryOpcode.TheVariants.{Iadd, Imul, Band, Bor, Bxor, Ishl, Ushr, Sshr, Udiv, Sdiv, Urem, Srem}
 use Rattle.clif_opcodes.specs.declared.opcodes.UnaryOpcode.TheVariants.{Ineg, Bnot}
@@ -29,9 +30,9 @@ use Rattle.clif_meaning.specs.Outcome.{Values, Fault, Undefined, computed}
 use Rattle.clif_meaning.specs.Machine.{Observation, Returned, Stuck}
 use Rattle.clif_meaning.specs.SameMeaning.{SameMeaning}
 use Rattle.clif_meaning.specs.Name.{Name, answer_of}
-use Rattle.clif_meaning.specs.Request.{CreateBlock, SwitchToBlock, SealBlock, DeclareVar, DefVar, UseVar, Finalize, Script}
+use Rattle.clif_meaning.specs.Request.{CreateBlock, SwitchToBlock, SealBlock, DeclareVar, DefVar, UseVar, Finalize, Script, outright, tried}
 use Rattle.clif_meaning.specs.Ledger.{ledger_after}
-use Rattle.clif_meaning.specs.Acceptance.{iconst, binary, return_, Accepted, Misuse, Refused, verdict_on, Unsealed, Unfilled, refusal_of}
+use Rattle.clif_meaning.specs.Acceptance.{iconst, binary, return_, Accepted, Misuse, Refused, verdict_on, verdict_on_attempts, Unsealed, Unfilled, refusal_of}
 use Rattle.clif_meaning.specs.FunctionView.{Placed, BlockView, FunctionView}
 use Rattle.clif_meaning.specs.WellPlaced.{WellPlaced, Records, RecordsWellPlaced}
 use Rattle.clif_meaning.specs.Typing.{EdgesMatch}
@@ -106,6 +107,9 @@ pub record ArithmeticExamples : Type 0 where
   pub halves_of_128 : computed Split i128 [] ((2 ^ 64 * 5 + 7) ∷ []) ≡ Values (7 ∷ 5 ∷ [])
   -- the bits of 1.0
   pub float_bits : computed (FloatConst F32const 0x3f80_0000) invalid [] [] ≡ Values (1065353216 ∷ [])
+  -- the bytes 1, 2, 3, 4 are 04030201 in hexadecimal
+  pub pooled_bytes : computed (PooledConst Vconst (1 ∷ 2 ∷ 3 ∷ 4 ∷ [])) i8x4 [] [] ≡ Values (0x0403_0201 ∷ [])
+  pub pooled_float : computed (PooledConst F128const (1 ∷ 2 ∷ [])) invalid [] [] ≡ Values (0x0201 ∷ [])
   pub chosen : computed Select i8 [] (7 ∷ 1 ∷ 2 ∷ []) ≡ Values (1 ∷ [])
   pub other_chosen : computed Select i8 [] (0 ∷ 1 ∷ 2 ∷ []) ≡ Values (2 ∷ [])
   -- wrong rows
@@ -115,6 +119,7 @@ pub record ArithmeticExamples : Type 0 where
   pub not_unsigned : computed (Compare SignedLessThan) i8 [] (200 ∷ 5 ∷ []) ≢ Values (0 ∷ [])
   pub not_halves_swapped : computed Concat i8 [] (52 ∷ 18 ∷ []) ≢ Values (13330 ∷ [])
   pub not_parts_swapped : computed Split i16 [] (4660 ∷ []) ≢ Values (18 ∷ 52 ∷ [])
+  pub not_bytes_reversed : computed (PooledConst Vconst (1 ∷ 2 ∷ 3 ∷ 4 ∷ [])) i8x4 [] [] ≢ Values (0x0102_0304 ∷ [])
   pub not_rounded_down : computed (Binary Sdiv) i8 [] (249 ∷ 2 ∷ []) ≢ Values (252 ∷ [])
 
 -- the byte at an address of a memory that holds 1, 2, 3 .. from an address on
@@ -270,8 +275,14 @@ pub record VerdictExamples : Type 0 where
   pub no_answer : verdict_on (CreateBlock ∷ SwitchToBlock (answer_of 0 1) ∷ []) ≡ Misuse 1
   -- an instruction in a block that is filled
   pub filled : verdict_on (CreateBlock ∷ SwitchToBlock block0 ∷ iconst i32 (pos 1) ∷ return_ (answer_of 2 1 ∷ []) ∷ iconst i32 (pos 1) ∷ []) ≡ Misuse 4
+  -- the same where it is only tried; a misuse goes before that
+  pub undeclared_tried : verdict_on_attempts (outright CreateBlock ∷ outright (SwitchToBlock block0) ∷ tried (UseVar 0) ∷ []) ≡ Refused 2
+  pub no_block_tried : verdict_on_attempts (tried (UseVar 0) ∷ []) ≡ Misuse 0
   -- a value of another type
   pub other_type : verdict_on (CreateBlock ∷ SwitchToBlock block0 ∷ DeclareVar i32 ∷ iconst i8 (pos 1) ∷ DefVar 0 (answer_of 3 1) ∷ []) ≡ Misuse 4
+  pub other_type_tried : verdict_on_attempts (outright CreateBlock ∷ outright (SwitchToBlock block0) ∷ outright (DeclareVar i32)
+      ∷ outright (iconst i8 (pos 1)) ∷ tried (DefVar 0 (answer_of 3 1)) ∷ []) ≡ Refused 4
+  pub no_value_tried : verdict_on_attempts (outright CreateBlock ∷ outright (SwitchToBlock block0) ∷ tried (DefVar 0 (answer_of 3 1)) ∷ []) ≡ Misuse 2
   -- a block that was sealed before
   pub sealed : verdict_on (CreateBlock ∷ SealBlock block0 ∷ SealBlock block0 ∷ []) ≡ Misuse 2
   -- a value where a block is asked for, and an instruction's number where a value is

@@ -3,6 +3,7 @@
 use Rattle.std.specs.Prelude.{ℕ, List, [], ◌∷◌, ℤ}
 use Rattle.clif_opcodes.specs.declared.opcodes.CondTrapOpcode.{CondTrapOpcode}
 use Rattle.clif_opcodes.specs.declared.opcodes.FloatConstOpcode.{FloatConstOpcode}
+use Rattle.clif_opcodes.specs.declared.opcodes.PooledConstOpcode.{PooledConstOpcode}
 use Rattle.clif_opcodes.specs.declared.opcodes.UnaryOpcode.{UnaryOpcode}
 use Rattle.clif_opcodes.specs.declared.opcodes.BinaryOpcode.{BinaryOpcode}
 use Rattle.clif_opcodes.specs.declared.opcodes.ConvertOpcode.{ConvertOpcode}
@@ -22,6 +23,8 @@ pub data Arithmetic : Type 0 where
   Iconst : (number : ℤ) → Arithmetic
   -- the bits of a float
   FloatConst : FloatConstOpcode → (bits : ℕ) → Arithmetic
+  -- the bytes of a pooled constant, the lowest first
+  PooledConst : PooledConstOpcode → (bytes : List ℕ) → Arithmetic
   -- an operation on one operand
   Unary : UnaryOpcode → Arithmetic
   -- an operation on two operands
@@ -57,6 +60,8 @@ pub data Operation : Type 0 where
   Jump : Operation
   -- goes along its first edge where its operand isn't zero, and else along its second
   Brif : Operation
+  -- goes along the entry whose number its operand is, of so many, and else along the default
+  BrTable : (entries : ℕ) → Operation
   -- ends the run with the operands
   Return : Operation
 
@@ -64,6 +69,7 @@ pub data Operation : Type 0 where
 abbrev pub operation_opcode : Operation → Opcode
 operation_opcode (Compute (Iconst number)) = opcode.Iconst
 operation_opcode (Compute (FloatConst name bits)) = opcode.FloatConst name
+operation_opcode (Compute (PooledConst name bytes)) = opcode.PooledConst name
 operation_opcode (Compute (Unary name)) = opcode.Unary name
 operation_opcode (Compute (Binary name)) = opcode.Binary name
 operation_opcode (Compute (Compare condition)) = opcode.Icmp
@@ -79,13 +85,14 @@ operation_opcode (Trap reason) = opcode.Trap
 operation_opcode (CondTrap name reason) = opcode.CondTrap name
 operation_opcode Jump = opcode.Jump
 operation_opcode Brif = opcode.Brif
+operation_opcode (BrTable entries) = opcode.BrTable
 operation_opcode Return = opcode.Return
 
 -- its row of the typing table
 abbrev pub operation_typing : Operation → Row
 operation_typing operation = row_of (operation_opcode operation)
 
--- the entries of tables that it names
+-- the entries of tables that it names. The bytes of a constant, which it has itself, are none.
 abbrev pub operation_entries : Operation → List EntryRef
 operation_entries (Stack name slot offset) = ASlot slot ∷ []
 operation_entries (StackStore slot offset) = ASlot slot ∷ []
@@ -106,7 +113,7 @@ pub record Edge (Block Operand : Type 0) : Type 0 where
   pub arguments : List (Argument Operand)
 
 -- an instruction. `controlling` is the type that an operation over several types is made at. The edges of `brif` are
--- the one where the condition holds and the other; of `br_table` its entries in order and then the default; of a try
+-- the one where the condition holds and the other; of `br_table` the default and then its entries in order; of a try
 -- call the normal edge and then those of its items.
 pub record Instruction (Block Operand : Type 0) : Type 0 where
   pub operation : Operation

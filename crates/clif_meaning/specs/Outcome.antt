@@ -10,6 +10,8 @@ use Rattle.clif_opcodes.specs.declared.opcodes.CondTrapOpcode.{CondTrapOpcode}
 use Rattle.clif_opcodes.specs.declared.opcodes.CondTrapOpcode.TheVariants.{Trapz, Trapnz}
 use Rattle.clif_opcodes.specs.declared.opcodes.FloatConstOpcode.{FloatConstOpcode}
 use Rattle.clif_opcodes.specs.declared.opcodes.FloatConstOpcode.TheVariants.{F16const, F32const, F64const}
+use Rattle.clif_opcodes.specs.declared.opcodes.PooledConstOpcode.{PooledConstOpcode}
+use Rattle.clif_opcodes.specs.declared.opcodes.PooledConstOpcode.TheVariants.{F128const, Vconst}
 use Rattle.clif_opcodes.specs.Kinds.{double_of, half_of}
 use Rattle.clif_types.specs.declared.condcodes.IntCC.{IntCC}
 use Rattle.clif_types.specs.declared.condcodes.IntCC.TheVariants as cc
@@ -25,7 +27,7 @@ use Rattle.clif_opcodes.specs.declared.opcodes.ConvertOpcode.TheVariants.{Splat,
 use Rattle.clif_types.specs.Types.{bits_of, bytes_of, lane_count_of, lane_type_of}
 use Rattle.clif_meaning.specs.Bits.{Bits, value_bytes, value_of_bytes, wrapped}
 use Rattle.clif_meaning.specs.Memory.{Memory, Range, address_in, bytes_in, written}
-use Rattle.clif_meaning.specs.Instruction.{Arithmetic, Iconst, FloatConst, Unary, Binary, Compare, Concat, Split, Convert, Select, Operation, Compute, Load, Store, Stack, StackStore, Trap, CondTrap, Jump, Brif, Return}
+use Rattle.clif_meaning.specs.Instruction.{Arithmetic, Iconst, FloatConst, PooledConst, Unary, Binary, Compare, Concat, Split, Convert, Select, Operation, Compute, Load, Store, Stack, StackStore, Trap, CondTrap, Jump, Brif, BrTable, Return}
 use Rattle.clif_meaning.specs.Event.{Callee, CallShape}
 use Rattle.clif_meaning.specs.World.{World}
 
@@ -146,6 +148,11 @@ float_type F16const = type.Lane lane.F16
 float_type F32const = type.Lane lane.F32
 float_type F64const = type.Lane lane.F64
 
+-- the type of a pooled constant, at a controlling type
+abbrev pub pooled_type : PooledConstOpcode → «Type» → «Type»
+pooled_type F128const ty = type.Lane lane.F128
+pooled_type Vconst ty = ty
+
 -- the type of the operand at a place; the invalid type where there is none
 abbrev pub operand_type : List «Type» → ℕ → «Type»
 operand_type types place = slice_index_or types place type.Invalid
@@ -161,6 +168,7 @@ abbrev pub computed : Arithmetic → «Type» → List «Type» → List Bits �
 -- the low bits of the constant, or its sign repeated
 computed (Iconst number) ty types [] = Values (wrapped (bits_of ty) number ∷ [])
 computed (FloatConst opcode bits) ty types [] = Values (low_bits_at (float_type opcode) bits ∷ [])
+computed (PooledConst opcode bytes) ty types [] = Values (low_bits_at (pooled_type opcode ty) (value_of_bytes bytes) ∷ [])
 computed (Unary opcode) ty types (x ∷ []) = Values (low_bits_at ty (unary_number opcode (bits_of ty) x) ∷ [])
 computed (Binary opcode) ty types (x ∷ y ∷ []) =
     unless_fault (binary_fault opcode (bits_of ty) x y) (low_bits_at ty (binary_number opcode (bits_of ty) x y))
@@ -217,6 +225,10 @@ traps_on Trapnz condition = not (condition == 0)
 abbrev pub edge_by : Bits → ℕ
 edge_by condition = if condition == 0 then 1 else 0
 
+-- the edge that an index takes in a table of so many entries: the default is the first edge, and the entries follow it
+abbrev pub edge_in_table : ℕ → Bits → ℕ
+edge_in_table entries index = if nat_lt index entries then suc index else 0
+
 -- the table of operations: world, controlling type, the operands' types and bits, memory
 abbrev pub outcome_of : World → Operation → «Type» → List «Type» → List Bits → Memory → Outcome
 outcome_of world (Compute arithmetic) ty types operands memory = outcome_of_computed (computed arithmetic ty types operands) memory
@@ -238,5 +250,6 @@ outcome_of world (CondTrap opcode reason) ty types (condition ∷ []) memory =
     if traps_on opcode condition then Traps reason else Gives [] memory
 outcome_of world Jump ty types [] memory = Goes 0 [] memory
 outcome_of world Brif ty types (condition ∷ []) memory = Goes (edge_by condition) [] memory
+outcome_of world (BrTable entries) ty types (index ∷ []) memory = Goes (edge_in_table entries index) [] memory
 outcome_of world Return ty types operands memory = Returns operands
 outcome_of world _ ty types _ memory = NoStep

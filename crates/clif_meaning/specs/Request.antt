@@ -1,6 +1,6 @@
 -- The calls of a script, as the builder sees them: what is asked, with earlier answers by their names. After the
 -- methods of Cranelift's `FunctionBuilder`. A variable is known by its number, and by nothing else.
-use Rattle.std.specs.Prelude.{ℕ, List, map, Option, slice_get, option_and_then}
+use Rattle.std.specs.Prelude.{ℕ, List, map, Option, slice_get, option_and_then, Bool, true, false}
 use Rattle.clif_types.specs.declared.types.«Type».{«Type»}
 use Rattle.clif_tables.specs.Entries.{TableEntry}
 use Rattle.clif_meaning.specs.Instruction.{Instruction}
@@ -32,6 +32,18 @@ pub data Request : Type 0 where
 -- a script: calls in their order
 abbrev pub Script : Type 0
 Script = List Request
+
+-- A call as it is made: a request, and whether it is only tried, as by `try_use_var` and `try_def_var`. One that is only
+-- tried is refused where its variable is to blame, and the request itself would be a misuse; else the two are the same.
+pub record Attempt : Type 0 where
+  pub request : Request
+  pub is_tried : Bool
+
+abbrev pub outright : Request → Attempt
+outright request = record { request = request; is_tried = false }
+
+abbrev pub tried : Request → Attempt
+tried request = record { request = request; is_tried = true }
 
 -- a call together with the numbers that the builder answered
 pub record AnsweredCall : Type 0 where

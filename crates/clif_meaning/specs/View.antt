@@ -1,10 +1,10 @@
 -- A function of `clif_ir` as the machines see it: its instructions in the one shape. Own.
-use Rattle.std.specs.Prelude.{ℕ, ◌==◌, if◌then◌else◌, List, [], ◌∷◌, drop, map, slice_get}
+use Rattle.std.specs.Prelude.{ℕ, ◌==◌, ◌-◌, if◌then◌else◌, List, [], ◌∷◌, drop, length, map, slice_get, slice_index_or}
 use Rattle.std.specs.List.{list_any}
 use Rattle.clif_types.specs.declared.types.«Type».{«Type»}
 use Rattle.clif_types.specs.declared.types.«Type».TheVariants as type
 use Rattle.clif_instructions.specs.declared.instructions.InstructionData.{InstructionData}
-use Rattle.clif_instructions.specs.declared.instructions.InstructionData.TheVariants.{UnaryImm, UnaryIeee, Unary, Binary, IntCompare, Concat, Split, Convert, Ternary, Load, Store, StackLoad, StackStore, Jump, Brif, MultiAry, Trap, CondTrap}
+use Rattle.clif_instructions.specs.declared.instructions.InstructionData.TheVariants.{UnaryImm, UnaryIeee, UnaryConst, Unary, Binary, IntCompare, Concat, Split, Convert, Ternary, Load, Store, StackLoad, StackStore, Jump, Brif, BranchTable, MultiAry, Trap, CondTrap}
 use Rattle.clif_ir.specs.declared.function.InstNode.{InstNode}
 use Rattle.clif_instructions.specs.declared.block_call.BlockArg.{BlockArg}
 use Rattle.clif_instructions.specs.declared.block_call.BlockArg.TheVariants as arg
@@ -14,31 +14,38 @@ use Rattle.clif_opcodes.specs.declared.kinds.Control.{Control}
 use Rattle.clif_opcodes.specs.declared.kinds.Control.TheVariants as control
 use Rattle.clif_opcodes.specs.declared.kinds.ResultKind.{ResultKind}
 use Rattle.clif_opcodes.specs.declared.kinds.ResultKind.TheVariants as kind
+use Rattle.clif_tables.specs.Lists.{TableLists}
 use Rattle.clif_ir.specs.Body.{Body, value_at, inst_at, block_at, resolved}
 use Rattle.clif_meaning.specs.Instruction.{Operation, Compute, Iconst, Return, Edge, Argument, Known, CallResult, CallPayload}
 use Rattle.clif_meaning.specs.Instruction as operation
 use Rattle.clif_meaning.specs.FunctionView.{Placed, BlockView, FunctionView}
 
--- The table of instructions: what each one does,
-abbrev pub operation_of : InstructionData → Operation
-operation_of (UnaryImm imm) = Compute (Iconst imm)
-operation_of (UnaryIeee opcode bits) = Compute (operation.FloatConst opcode bits)
-operation_of (Unary opcode arg) = Compute (operation.Unary opcode)
-operation_of (Binary opcode args) = Compute (operation.Binary opcode)
-operation_of (IntCompare condition args) = Compute (operation.Compare condition)
-operation_of (Concat args) = Compute operation.Concat
-operation_of (Split arg) = Compute operation.Split
-operation_of (Convert opcode arg) = Compute (operation.Convert opcode)
-operation_of (Ternary args) = Compute operation.Select
-operation_of (Load flags arg offset) = operation.Load flags offset
-operation_of (Store flags args offset) = operation.Store flags offset
-operation_of (StackLoad opcode slot offset) = operation.Stack opcode slot offset
-operation_of (StackStore arg slot offset) = operation.StackStore slot offset
-operation_of (Jump destination) = operation.Jump
-operation_of (Brif arg blocks) = operation.Brif
-operation_of (MultiAry args) = Return
-operation_of (Trap reason) = operation.Trap reason
-operation_of (CondTrap opcode arg reason) = operation.CondTrap opcode reason
+-- the bytes of a pooled constant
+abbrev pub constant_at : TableLists → ℕ → List ℕ
+constant_at tables constant = slice_index_or tables.constants constant []
+
+-- The table of instructions: what each one does, in a function with these tables,
+abbrev pub operation_of : TableLists → InstructionData → Operation
+operation_of tables (UnaryImm imm) = Compute (Iconst imm)
+operation_of tables (UnaryIeee opcode bits) = Compute (operation.FloatConst opcode bits)
+operation_of tables (UnaryConst opcode constant) = Compute (operation.PooledConst opcode (constant_at tables constant))
+operation_of tables (Unary opcode arg) = Compute (operation.Unary opcode)
+operation_of tables (Binary opcode args) = Compute (operation.Binary opcode)
+operation_of tables (IntCompare condition args) = Compute (operation.Compare condition)
+operation_of tables (Concat args) = Compute operation.Concat
+operation_of tables (Split arg) = Compute operation.Split
+operation_of tables (Convert opcode arg) = Compute (operation.Convert opcode)
+operation_of tables (Ternary args) = Compute operation.Select
+operation_of tables (Load flags arg offset) = operation.Load flags offset
+operation_of tables (Store flags args offset) = operation.Store flags offset
+operation_of tables (StackLoad opcode slot offset) = operation.Stack opcode slot offset
+operation_of tables (StackStore arg slot offset) = operation.StackStore slot offset
+operation_of tables (Jump destination) = operation.Jump
+operation_of tables (Brif arg blocks) = operation.Brif
+operation_of tables (BranchTable arg table) = operation.BrTable (length table - 1)
+operation_of tables (MultiAry args) = Return
+operation_of tables (Trap reason) = operation.Trap reason
+operation_of tables (CondTrap opcode arg reason) = operation.CondTrap opcode reason
 
 -- what an edge passes,
 abbrev pub argument_of : BlockArg → Argument ℕ
@@ -82,7 +89,7 @@ made_at body shape ty = made_with body (typing_of shape).results (typing_of shap
 abbrev pub placed_of : Body → InstNode → Placed
 placed_of body node = record {
   instruction = record {
-    operation = operation_of node.shape;
+    operation = operation_of body.tables node.shape;
     controlling = controlling_of body node.shape node.results;
     operands = operands node.shape;
     edges = edges_of node.shape;

@@ -3,3 +3,4 @@ pub mod Local
 pub mod Widths
 pub mod Order
 pub mod Division
+pub mod VectorLanes

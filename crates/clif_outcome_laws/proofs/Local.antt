@@ -10,7 +10,7 @@ use Rattle.clif_types.specs.declared.trapcode.TrapCode.TheVariants.{HeapOutOfBou
 use Rattle.clif_meaning.specs.Bits.{Bits, value_bytes, value_of_bytes}
 use Rattle.clif_meaning.specs.Memory.{Memory, Range, address_in, index_in, lies_in, bytes_from, bytes_in, written}
 use Rattle.clif_opcodes.specs.declared.opcodes.StackOpcode.TheVariants.{StackAddr, StackLoad}
-use Rattle.clif_meaning.specs.Instruction.{Compute, Load, Store, Stack, StackStore, Trap, CondTrap, Jump, Brif, Return}
+use Rattle.clif_meaning.specs.Instruction.{Compute, Load, Store, Stack, StackStore, Trap, CondTrap, Jump, Brif, BrTable, Return}
 use Rattle.clif_meaning.specs.Outcome.{Outcome, Computed, Values, Fault, Undefined, Gives, Traps, NoStep, access_outcome, accessed, no_claim, slot_accessed, are_accessible, computed, outcome_of_computed, low_bits_at, operand_type}
 use Rattle.clif_meaning.specs.World.{World}
 use Rattle.clif_outcome_laws.specs.Locality.{ChangeAlike, SameInside, Agree, OutcomesAreLocal, lies_in_one}
@@ -139,4 +139,7 @@ outcomes_are_local world Jump ty types (x ∷ operands) left right same = tt
 outcomes_are_local world Brif ty types [] left right same = tt
 outcomes_are_local world Brif ty types (condition ∷ []) left right same = (refl, refl, stays [] left right same)
 outcomes_are_local world Brif ty types (condition ∷ x ∷ operands) left right same = tt
+outcomes_are_local world (BrTable entries) ty types [] left right same = tt
+outcomes_are_local world (BrTable entries) ty types (index ∷ []) left right same = (refl, refl, stays [] left right same)
+outcomes_are_local world (BrTable entries) ty types (index ∷ x ∷ operands) left right same = tt
 outcomes_are_local world Return ty types operands left right same = refl

@@ -3,3 +3,4 @@ pub mod Locality
 pub mod Integers
 pub mod Orders
 pub mod Divisions
+pub mod Lanes

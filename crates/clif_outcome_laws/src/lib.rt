@@ -4,6 +4,7 @@
 
 ghost use Rattle.clif_outcome_laws.specs.Divisions.{SignedDivisionIsMathematical};
 ghost use Rattle.clif_outcome_laws.specs.Integers.{ConversionsKeepNumbers, HalvesAreParts, PartsMakeWhole};
+ghost use Rattle.clif_outcome_laws.specs.Lanes.{LaneExamples, VectorsAreLanes};
 ghost use Rattle.clif_outcome_laws.specs.Locality.{OutcomesAreLocal};
 ghost use Rattle.clif_outcome_laws.specs.MemoryExamples.{MemoryExamples};
 ghost use Rattle.clif_outcome_laws.specs.Orders.{SignedOrderIsMathematical};
@@ -41,4 +42,14 @@ pub fn signed_order_is_mathematical()
 /// Quotients and remainders are those of the signed and of the unsigned numbers, rounded toward zero.
 pub fn signed_division_is_mathematical()
     ensures { SignedDivisionIsMathematical }
+{}
+
+/// A value of a vector is the list of its lanes, lowest first, also in memory, and `splat` fills each of them.
+pub fn vectors_are_lanes()
+    ensures { VectorsAreLanes }
+{}
+
+/// Lanes and `splat`, worked out.
+pub fn lane_examples()
+    ensures { LaneExamples }
 {}

@@ -9,6 +9,7 @@ use Rattle.clif_types.specs.declared.types.LaneType.{LaneType}
 use Rattle.clif_types.specs.declared.types.LaneType.TheVariants as lane
 use Rattle.clif_types.specs.declared.types.LaneCount.{LaneCount}
 use Rattle.clif_types.specs.declared.types.LaneCount.TheVariants as count
+use Rattle.clif_opcodes.specs.declared.opcodes.PooledConstOpcode.{PooledConstOpcode}
 use Rattle.clif_types.specs.declared.types.«Type».{«Type»}
 use Rattle.clif_types.specs.Signature.{SignatureShape}
 use Rattle.clif_types.specs.declared.types.«Type».TheVariants as type
@@ -24,7 +25,7 @@ use Rattle.clif_meaning.specs.Instruction.{Known}
 use Rattle.clif_meaning.specs.SameType.{lane_number, same_lane, same_type}
 use Rattle.clif_meaning.specs.Request.{AnsweredCall, number_of, AppendBlockParams, AppendFunctionParams, SwitchToBlock, SealBlock, DefVar, UseVar}
 use Rattle.clif_meaning.specs.Ledger.{BlockState, Ledger, begins_with, block_state, has_block, has_predecessors, has_value, is_empty, is_filled, is_pristine, is_sealed, state_has, type_of, variable_type}
-use Rattle.clif_meaning.specs.Acceptance.{allows, can_assign, can_lead, can_leave, has_argument, is_variable_type}
+use Rattle.clif_meaning.specs.Acceptance.{allows, blames_variable, can_assign, can_lead, can_leave, has_argument, has_bytes, pooled_const}
 use Rattle.clif_meaning.specs.Acceptance as acceptance
 use Rattle.clif_records.specs.Tables.{is_yes}
 use Rattle.clif_ssa.specs.Ssa.{predecessors_of, sealed_of}
@@ -32,14 +33,14 @@ use Rattle.cranelift_frontend.specs.declared.context.BlockStatus.{BlockStatus}
 use Rattle.cranelift_frontend.specs.declared.context.BlockStatus.TheVariants.{Empty, Partial, Filled}
 use Rattle.cranelift_frontend.specs.declared.builder.FunctionBuilder.{FunctionBuilder}
 use Rattle.cranelift_frontend.specs.Context.{status_of}
-use Rattle.cranelift_frontend.specs.Builder.{CanLead, HasCurrent, is_declarable, is_elsewhere, is_empty_status, is_filled_status, is_free, is_free_at, is_nothing, may_be_left}
+use Rattle.cranelift_frontend.specs.Builder.{CanLead, HasCurrent, is_elsewhere, is_empty_status, is_filled_status, is_free, is_free_at, is_nothing, may_be_left}
 use Rattle.cranelift_frontend.specs.Ledger.{NamesArguments, NamesEdge, block_name, ledger_of}
 use Rattle.clif_calls.specs.declared.call.Edge.{Edge}
 use Rattle.clif_calls.specs.declared.call.Name.{Name}
 use Rattle.clif_replay.specs.declared.script.Answer.{Answer}
 use Rattle.clif_replay.specs.Requests.{edge_of, name_of}
 use Rattle.clif_replay.specs.Ready.{IsReady, IsFound, all_values, argument_of, block_of, can_append, can_append_function_params, can_define, can_seal, can_switch, can_use, is_open, is_open_at, is_target, may_lead, value_of}
-use Rattle.clif_replay.proofs.Options.{map-some, name-of-none, name-of-some, some-is}
+use Rattle.clif_replay.proofs.Options.{get-below, map-some, name-of-none, name-of-some, some-is}
 use Rattle.clif_replay.proofs.ReadyLaws.{block-found, block-missing, block-there, read, value-exists, value-found, value-missing}
 
 filled-same : {declared : SignatureShape} (calls : List AnsweredCall) (b : FunctionBuilder) (answers : List Answer) → IsReady declared calls b answers
@@ -212,9 +213,17 @@ function-params-some calls b answers ready name block types found =
     ∙ ap (λ (test : Bool). can_append b block && not test) (predecessors-same calls b answers ready (name_of name) block named)
     ∙ ap (λ (test : Bool). can_append b block && test) (not-not (is_nothing (predecessors_of b.ctx.now.ssa block)))
 
--- `declare_var`
-pub declare-same : (ty : «Type») → is_variable_type ty ≡ is_declarable ty
-declare-same ty = refl
+-- an instruction of a pooled constant
+pub pooled-same : {declared : SignatureShape} (calls : List AnsweredCall) (b : FunctionBuilder) (answers : List Answer) → IsReady declared calls b answers
+    → (opcode : PooledConstOpcode) (ty : «Type») (bytes : List ℕ) → allows (ledger_of calls) (pooled_const opcode ty bytes) ≡ is_open b && has_bytes opcode ty bytes
+pooled-same calls b answers ready opcode ty bytes =
+    let opens = open-same calls b answers ready in
+    rw opens (by (is_open b) (has_bytes opcode ty bytes))
+  where
+    by : (first second : Bool) → ((((first && true) && true) && second) && true) ≡ (first && second)
+    by true true = refl
+    by true false = refl
+    by false second = refl
 
 -- `def_var`
 no-value-assigned : (ty : Option «Type») → can_assign ty None ≡ false
@@ -404,6 +413,84 @@ same-type-refl (type.Vector l n) = and_from (same_lane l l) (lanes_of n == lanes
 pub same_from_iff : (r : Bool) (a b : «Type») → ((r ≡ true) ↔ (a ≡ b)) → r ≡ same_type a b
 same_from_iff true a b tells = sym (subst (λ (x : «Type»). same_type a x ≡ true) (tells.0 refl) (same-type-refl a))
 same_from_iff false a b tells = sym (false_from_ne_true (same_type a b) (λ same. false≢true (tells.1 (same-type a b same))))
+
+-- TRYING ----------------------------------------------------------------------------------------------------------
+
+-- `try_use_var`
+pub try-use-closed : {declared : SignatureShape} (calls : List AnsweredCall) (b : FunctionBuilder) (answers : List Answer) → IsReady declared calls b answers
+    → (variable : ℕ) → is_open b ≡ false → (allows (ledger_of calls) (UseVar variable) ≡ false) × (blames_variable (ledger_of calls) (UseVar variable) ≡ false)
+try-use-closed calls b answers ready variable closed =
+    let opens = open-same calls b answers ready ∙ closed in (
+      ap (λ (test : Bool). test && is_some (variable_type (ledger_of calls) variable)) opens,
+      ap (λ (test : Bool). test && not (is_some (variable_type (ledger_of calls) variable))) opens,
+    )
+
+pub try-use-undeclared : {declared : SignatureShape} (calls : List AnsweredCall) (b : FunctionBuilder) (answers : List Answer) → IsReady declared calls b answers
+    → (variable : ℕ) → is_open b ≡ true → slice_get b.ctx.now.variables variable ≡ None
+    → (allows (ledger_of calls) (UseVar variable) ≡ false) × (blames_variable (ledger_of calls) (UseVar variable) ≡ true)
+try-use-undeclared calls b answers ready variable here none =
+    let opens = open-same calls b answers ready ∙ here in
+    let undeclared : variable_type (ledger_of calls) variable ≡ None = (read calls b answers ready).variable variable ∙ none in (
+      ap (λ (test : Bool). test && is_some (variable_type (ledger_of calls) variable)) opens ∙ ap is_some undeclared,
+      ap (λ (test : Bool). test && not (is_some (variable_type (ledger_of calls) variable))) opens ∙ ap (λ (o : Option «Type»). not (is_some o)) undeclared,
+    )
+
+-- a variable that is declared may be used
+pub use-declared : {declared : SignatureShape} (calls : List AnsweredCall) (b : FunctionBuilder) (answers : List Answer) → IsReady declared calls b answers
+    → (variable : ℕ) → is_open b ≡ true → variable < length b.ctx.now.variables → allows (ledger_of calls) (UseVar variable) ≡ true
+use-declared calls b answers ready variable here declared =
+    let ty = get-below b.ctx.now.variables variable declared in
+    use-same calls b answers ready variable ∙ and_from (is_open b) (is_some (slice_get b.ctx.now.variables variable)) here (ap is_some ty.1)
+
+-- `try_def_var`
+pub try-define-none : {declared : SignatureShape} (calls : List AnsweredCall) (b : FunctionBuilder) (answers : List Answer) → IsReady declared calls b answers
+    → (variable : ℕ) (name : Name) → value_of b.func.now answers name ≡ None
+    → (allows (ledger_of calls) (DefVar variable (name_of name)) ≡ false) × (blames_variable (ledger_of calls) (DefVar variable (name_of name)) ≡ false)
+try-define-none calls b answers ready variable name missing =
+    let none = value-missing calls b answers ready name missing in (
+      define-none calls b answers ready variable name missing,
+      ap (λ (test : Bool). test && not (can_assign (variable_type (ledger_of calls) variable) (type_of (ledger_of calls) (name_of name))))
+          (and_right (acceptance.is_open (ledger_of calls) (ledger_of calls).current) (has_value (ledger_of calls) (name_of name)) none),
+    )
+
+pub try-define-closed : {declared : SignatureShape} (calls : List AnsweredCall) (b : FunctionBuilder) (answers : List Answer) → IsReady declared calls b answers
+    → (variable : ℕ) (name : Name) → is_open b ≡ false
+    → (allows (ledger_of calls) (DefVar variable (name_of name)) ≡ false) × (blames_variable (ledger_of calls) (DefVar variable (name_of name)) ≡ false)
+try-define-closed calls b answers ready variable name closed =
+    let opens = open-same calls b answers ready ∙ closed in
+    let assigns : Bool = can_assign (variable_type (ledger_of calls) variable) (type_of (ledger_of calls) (name_of name)) in (
+      ap (λ (test : Bool). test && assigns) opens,
+      ap (λ (test : Bool). test && has_value (ledger_of calls) (name_of name) && not assigns) opens,
+    )
+
+-- a value of another type can't be assigned
+mistyped-assigned : (o : Option «Type») (ty : «Type») → o ≢ Some ty → can_assign o (Some ty) ≡ false
+mistyped-assigned None ty other = refl
+mistyped-assigned (Some own) ty other = false_from_ne_true (same_type own ty) (λ same. other (ap Some (same-type own ty same)))
+
+pub try-define-mistyped : {declared : SignatureShape} (calls : List AnsweredCall) (b : FunctionBuilder) (answers : List Answer) → IsReady declared calls b answers
+    → (variable : ℕ) (name : Name) (value : ℕ) → is_open b ≡ true → value_of b.func.now answers name ≡ Some value → slice_get b.ctx.now.variables variable ≢ Some (value_at b.func.now value).ty
+    → (allows (ledger_of calls) (DefVar variable (name_of name)) ≡ false) × (blames_variable (ledger_of calls) (DefVar variable (name_of name)) ≡ true)
+try-define-mistyped calls b answers ready variable name value here found other =
+    let opens = open-same calls b answers ready ∙ here in
+    let of_value = value-type-same calls b answers ready name value found in
+    let of_variable = (read calls b answers ready).variable variable in
+    let denied : can_assign (variable_type (ledger_of calls) variable) (type_of (ledger_of calls) (name_of name)) ≡ false =
+    ap (λ (o : Option «Type»). can_assign o (type_of (ledger_of calls) (name_of name))) of_variable
+    ∙ ap (can_assign (slice_get b.ctx.now.variables variable)) of_value ∙ mistyped-assigned (slice_get b.ctx.now.variables variable) (value_at b.func.now value).ty other in (
+      ap (λ (test : Bool). test && can_assign (variable_type (ledger_of calls) variable) (type_of (ledger_of calls) (name_of name))) opens ∙ denied,
+      ap (λ (test : Bool). test && has_value (ledger_of calls) (name_of name) && not (can_assign (variable_type (ledger_of calls) variable) (type_of (ledger_of calls) (name_of name)))) opens
+          ∙ ap (λ (test : Bool). test && not (can_assign (variable_type (ledger_of calls) variable) (type_of (ledger_of calls) (name_of name)))) (ap is_some of_value)
+          ∙ ap not denied,
+    )
+
+-- a value of the variable's type may be assigned
+pub define-typed : {declared : SignatureShape} (calls : List AnsweredCall) (b : FunctionBuilder) (answers : List Answer) → IsReady declared calls b answers
+    → (variable : ℕ) (name : Name) (value : ℕ) → is_open b ≡ true → value_of b.func.now answers name ≡ Some value → slice_get b.ctx.now.variables variable ≡ Some (value_at b.func.now value).ty
+    → allows (ledger_of calls) (DefVar variable (name_of name)) ≡ true
+define-typed calls b answers ready variable name value here found typed =
+    let ty : «Type» = (value_at b.func.now value).ty in
+    define-some calls b answers ready variable name value ty found typed ∙ and_from (is_open b) (same_type ty ty) here (same-type-refl ty)
 
 -- EDGES -----------------------------------------------------------------------------------------------------------
 

@@ -5,5 +5,6 @@ pub mod Conditions
 pub mod Planning
 pub mod Verdicts
 pub mod Placements
+pub mod Constants
 pub mod Making
 pub mod Replays

@@ -1,6 +1,6 @@
 -- What is known once a call was made, or wasn't.
 use Rattle.std.proofs.Common.{◌≡◌, ℕ, ◌-◌, ◌^◌, List, [], ◌∷◌, length, refl, ap, sym, ◌∙◌, subst, append_assoc, ◌⊎◌, inl, inr}
-use Rattle.std.specs.Prelude.{◌≢◌, ◌↔◌, Option, IfSome, IsTrue, Bool, true, false, if◌then◌else◌, is_err, Err, Ok, Result}
+use Rattle.std.specs.Prelude.{◌≢◌, ◌↔◌, ◌&&◌, Option, IfSome, IsTrue, Bool, true, false, if◌then◌else◌, is_err, Err, OnOk, Ok, Result}
 use Rattle.clif_types.specs.declared.error.BuildError.{BuildError}
 use Rattle.clif_types.specs.declared.error.BuildError.TheVariants as build
 use Rattle.clif_types.specs.declared.types.«Type».{«Type»}
@@ -9,10 +9,10 @@ use Rattle.clif_ir.specs.Body.{Body}
 use Rattle.clif_ir.specs.Changes.{inserted_in, with_layout}
 use Rattle.clif_instructions.specs.Members.{stands_in}
 use Rattle.clif_ssa.specs.Constructs.{OnlyConstructs}
-use Rattle.clif_ssa.specs.Limits.{IsFull}
+use Rattle.clif_ssa.specs.Limits.{ConstructionIsFull, IsFull}
 use Rattle.clif_meaning.specs.Ledger.{Ledger}
 use Rattle.clif_meaning.specs.Request.{AnsweredCall, Request}
-use Rattle.clif_meaning.specs.Acceptance.{allows}
+use Rattle.clif_meaning.specs.Acceptance.{allows, blames_variable}
 use Rattle.cranelift_frontend.specs.declared.builder.FunctionBuilder.{FunctionBuilder}
 use Rattle.cranelift_frontend.specs.Builder.{HasCurrent, SameLoans}
 use Rattle.cranelift_frontend.specs.Ledger.{ledger_of}
@@ -32,21 +32,52 @@ Judges asks b answers allowed =
 pub loans-stay : (b : FunctionBuilder) → SameLoans b b
 loans-stay b = record { func = refl; ctx = refl }
 
--- it isn't allowed
-pub made-misuse : {asks : SignatureShape → Ledger → Request} {Meets : Type 0} {types : List «Type»} (b : FunctionBuilder) (answers : List Answer) → Judges asks b answers false
-    → Makes asks Meets types b b answers (Err error.Misuse)
-made-misuse b answers judges = record {
+-- the request isn't allowed, and its variable is to blame for that, or isn't
+abbrev pub Denies : (SignatureShape → Ledger → Request) → Bool → FunctionBuilder → List Answer → Bool → Type 0
+Denies asks tried b answers blamed =
+    (declared : SignatureShape) (calls : List AnsweredCall) → IsReady declared calls b answers
+    → (allows (ledger_of calls) (asks declared (ledger_of calls)) ≡ false) × ((tried && blames_variable (ledger_of calls) (asks declared (ledger_of calls))) ≡ blamed)
+
+-- it isn't allowed, and isn't refused either
+pub made-denied : {asks : SignatureShape → Ledger → Request} {tried : Bool} {Meets : Type 0} {types : List «Type»} (b : FunctionBuilder) (answers : List Answer) → Denies asks tried b answers false
+    → Makes asks tried Meets types b b answers (Err error.Misuse)
+made-denied b answers denies = record {
   loans = loans-stay b;
   name = tt;
   ready = λ declared calls ready. tt;
-  judged = judges;
+  judged = denies;
   sound = tt;
-  never_refused = λ same. cc;
+  refused = λ same. absurd (no-refusal same);
   full = λ same. absurd (no-full same);
   variables = tt;
 }
   where
+    no-refusal : ◌≡◌ {A = Result Answer CallError} (Err error.Misuse) (Err error.Refused) → ⊥
+    no-refusal same = cc
+
     no-full : ◌≡◌ {A = Result Answer CallError} (Err error.Misuse) (Err error.Full) → ⊥
+    no-full same = cc
+
+-- it isn't allowed, and isn't only tried
+pub made-misuse : {asks : SignatureShape → Ledger → Request} {Meets : Type 0} {types : List «Type»} (b : FunctionBuilder) (answers : List Answer) → Judges asks b answers false
+    → Makes asks false Meets types b b answers (Err error.Misuse)
+made-misuse b answers judges = made-denied b answers (λ declared calls ready. (judges declared calls ready, refl))
+
+-- it was tried, and the builder refused it because of its variable
+pub made-refusal : {asks : SignatureShape → Ledger → Request} {Meets : Type 0} {types : List «Type»} (old new : FunctionBuilder) (answers : List Answer) → SameLoans old new → Denies asks true old answers true
+    → Makes asks true Meets types old new answers (Err error.Refused)
+made-refusal old new answers loans denies = record {
+  loans = loans;
+  name = tt;
+  ready = λ declared calls ready. tt;
+  judged = denies;
+  sound = tt;
+  refused = λ same. refl;
+  full = λ same. absurd (no-full same);
+  variables = tt;
+}
+  where
+    no-full : ◌≡◌ {A = Result Answer CallError} (Err error.Refused) (Err error.Full) → ⊥
     no-full same = cc
 
 -- a builder that answered hasn't failed
@@ -54,17 +85,17 @@ pub answered-sound : {T : Type 0} (failed : Bool) (told : Result T BuildError) (
 answered-sound failed told x fails was = fails ∙ ap is_err was
 
 -- it was made
-pub made-answer : {asks : SignatureShape → Ledger → Request} {Meets : Type 0} {types : List «Type»} (old new : FunctionBuilder) (answers : List Answer) (a : Answer)
+pub made-answer : {asks : SignatureShape → Ledger → Request} {tried : Bool} {Meets : Type 0} {types : List «Type»} (old new : FunctionBuilder) (answers : List Answer) (a : Answer)
     → SameLoans old new → new.func.now.name ≡ old.func.now.name → new.failed ≡ false → new.ctx.now.variables ≡ types → Judges asks old answers true
     → ((declared : SignatureShape) (calls : List AnsweredCall) → IsReady declared calls old answers → IsReadyAfter declared calls (asks declared (ledger_of calls)) new answers a)
-    → Makes asks Meets types old new answers (Ok a)
+    → Makes asks tried Meets types old new answers (Ok a)
 made-answer old new answers a loans name sound variables judges ready = record {
   loans = loans;
   name = name;
   ready = ready;
   judged = judges;
   sound = sound;
-  never_refused = λ same. cc;
+  refused = λ same. absurd (no-error error.Refused same);
   full = λ same. absurd (no-error error.Full same);
   variables = variables;
 }
@@ -83,24 +114,24 @@ told-refused build.Memory same = let no_way : ⊥ = cc in absurd no_way
 told-refused build.Full same = let no_way : ⊥ = cc in absurd no_way
 told-refused build.Failed same = refl
 
-judged-from : (allowed : Bool) (e : BuildError) → allowed ≡ true → IsJudged allowed (Err (call_error_of e))
-judged-from allowed build.Memory is = tt
-judged-from allowed build.Full is = is
-judged-from allowed build.Failed is = is
+judged-from : (allowed refused : Bool) (e : BuildError) → (e ≡ build.Full → allowed ≡ true) → e ≢ build.Failed → IsJudged allowed refused (Err (call_error_of e))
+judged-from allowed refused build.Memory is sound = tt
+judged-from allowed refused build.Full is sound = is refl
+judged-from allowed refused build.Failed is sound = absurd (sound refl)
 
--- the builder refused it, which hadn't failed
-pub made-refused : {T : Type 0} {asks : SignatureShape → Ledger → Request} {Meets : Type 0} {types : List «Type»} (old new : FunctionBuilder) (answers : List Answer) (told : Result T BuildError)
+-- the builder refused it, which hadn't failed; where a table was full it may be made
+pub made-failed : {T : Type 0} {asks : SignatureShape → Ledger → Request} {tried : Bool} {Meets : Type 0} {types : List «Type»} (old new : FunctionBuilder) (answers : List Answer) (told : Result T BuildError)
     (e : BuildError) (y : CallError) (r : Result Answer CallError) → told ≡ Err e → r ≡ Err y → y ≡ call_error_of e → SameLoans old new → old.failed ≡ false
-    → ((told ≡ Err build.Failed) ↔ IsTrue old.failed) → Judges asks old answers true → (told ≡ Err build.Full → Meets)
-    → Makes asks Meets types old new answers r
-made-refused {asks = asks} {Meets = Meets} {types = types} old new answers told e y r was is gives loans sound failed judges full =
-    subst (λ (x : Result Answer CallError). Makes asks Meets types old new answers x) (sym (is ∙ ap Err gives)) (record {
+    → ((told ≡ Err build.Failed) ↔ IsTrue old.failed) → (told ≡ Err build.Full → Judges asks old answers true) → (told ≡ Err build.Full → Meets)
+    → Makes asks tried Meets types old new answers r
+made-failed {asks = asks} {tried = tried} {Meets = Meets} {types = types} old new answers told e y r was is gives loans sound failed judges full =
+    subst (λ (x : Result Answer CallError). Makes asks tried Meets types old new answers x) (sym (is ∙ ap Err gives)) (record {
       loans = loans;
       name = tt;
       ready = λ declared calls ready. tt;
-      judged = λ declared calls ready. judged-from _ e (judges declared calls ready);
+      judged = λ declared calls ready. judged-from _ _ e (λ same. judges (was ∙ ap Err same) declared calls ready) (λ same. not-failed (was ∙ ap Err same));
       sound = tt;
-      never_refused = λ same. not-failed (was ∙ ap Err (told-refused e same));
+      refused = λ same. absurd (not-failed (was ∙ ap Err (told-refused e same)));
       full = λ same. full (was ∙ ap Err (told-full e same));
       variables = tt;
     })
@@ -108,17 +139,28 @@ made-refused {asks = asks} {Meets = Meets} {types = types} old new answers told 
     not-failed : told ≡ Err build.Failed → ⊥
     not-failed same = let has : old.failed ≡ true = failed.0 same in cc
 
+-- the same of one that may be made
+pub made-refused : {T : Type 0} {asks : SignatureShape → Ledger → Request} {tried : Bool} {Meets : Type 0} {types : List «Type»} (old new : FunctionBuilder) (answers : List Answer) (told : Result T BuildError)
+    (e : BuildError) (y : CallError) (r : Result Answer CallError) → told ≡ Err e → r ≡ Err y → y ≡ call_error_of e → SameLoans old new → old.failed ≡ false
+    → ((told ≡ Err build.Failed) ↔ IsTrue old.failed) → Judges asks old answers true → (told ≡ Err build.Full → Meets)
+    → Makes asks tried Meets types old new answers r
+made-refused old new answers told e y r was is gives loans sound failed judges full =
+    made-failed old new answers told e y r was is gives loans sound failed (λ same. judges) full
+
 -- what it names isn't there, or memory was refused
 pub made-misused : {X : Type 0} {Found : X → Type 0} {there : Bool} {asks : SignatureShape → Ledger → Request} {Meets : Type 0} {types : List «Type»} (b : FunctionBuilder) (answers : List Answer)
     (v : Result X CallError) (r : Result Answer CallError) (e : CallError) → v ≡ Err e → r ≡ Err e → Finds Found there v → (there ≡ false → Judges asks b answers false)
-    → Makes asks Meets types b b answers r
+    → Makes asks false Meets types b b answers r
 made-misused {asks = asks} {Meets = Meets} {types = types} b answers v r e was is finds judges =
-    subst (λ (x : Result Answer CallError). Makes asks Meets types b b answers x) (sym is) (by e was)
+    subst (λ (x : Result Answer CallError). Makes asks false Meets types b b answers x) (sym is) (by e was)
   where
     no-full : ◌≡◌ {A = Result Answer CallError} (Err error.Memory) (Err error.Full) → ⊥
     no-full same = cc
 
-    by : (e : CallError) → v ≡ Err e → Makes asks Meets types b b answers (Err e)
+    no-refusal : ◌≡◌ {A = Result Answer CallError} (Err error.Memory) (Err error.Refused) → ⊥
+    no-refusal same = cc
+
+    by : (e : CallError) → v ≡ Err e → Makes asks false Meets types b b answers (Err e)
     by error.Misuse was = made-misuse b answers (judges (finds.misuse was))
     by error.Refused was = absurd (finds.never_refused was)
     by error.Full was = absurd (finds.never_full was)
@@ -128,7 +170,7 @@ made-misused {asks = asks} {Meets = Meets} {types = types} b answers v r e was i
       ready = λ declared calls ready. tt;
       judged = λ declared calls ready. tt;
       sound = tt;
-      never_refused = λ same. cc;
+      refused = λ same. absurd (no-refusal same);
       full = λ same. absurd (no-full same);
       variables = tt;
     }
@@ -137,6 +179,26 @@ made-misused {asks = asks} {Meets = Meets} {types = types} b answers v r e was i
 pub full-either : (f : Body) → (length f.insts ≡ 2 ^ 32 - 1) ⊎ (length f.values ≡ 2 ^ 32 - 1) → IsFull f
 full-either f (inl insts) = inr insts
 full-either f (inr values) = inl values
+
+-- A builder that was changed before its call was made, but stands for the same calls, made the call.
+pub made-between : {asks : SignatureShape → Ledger → Request} {tried : Bool} {Meets Met : Type 0} {types : List «Type»} (old between new : FunctionBuilder) (answers : List Answer) (r : Result Answer CallError)
+    → SameLoans old between → between.func.now.name ≡ old.func.now.name
+    → ((declared : SignatureShape) (calls : List AnsweredCall) → IsReady declared calls old answers → IsReady declared calls between answers)
+    → (Met → Meets) → Makes asks tried Met types between new answers r → Makes asks tried Meets types old new answers r
+made-between old between new answers r loans name goes_on meets made = record {
+  loans = record { func = made.loans.func ∙ loans.func; ctx = made.loans.ctx ∙ loans.ctx };
+  name = named r made.name;
+  ready = λ declared calls ready. made.ready declared calls (goes_on declared calls ready);
+  judged = λ declared calls ready. made.judged declared calls (goes_on declared calls ready);
+  sound = made.sound;
+  refused = made.refused;
+  full = λ same. meets (made.full same);
+  variables = made.variables;
+}
+  where
+    named : (x : Result Answer CallError) → OnOk x (new.func.now.name ≡ between.func.now.name) → OnOk x (new.func.now.name ≡ old.func.now.name)
+    named (Ok a) same = same ∙ name
+    named (Err e) same = tt
 
 -- FINDING -----------------------------------------------------------------------------------------------------------
 
@@ -175,11 +237,12 @@ constructs-inserted f g block = by (stands_in block f.layout)
     by true made = made
     by false made = record {
       same = made.same;
+      tables = made.tables;
       values = made.values;
       same_values = made.same_values;
       insts = made.insts;
       same_insts = made.same_insts;
-      zeros = λ i old new. let zero = made.zeros i old new in record { ty = zero.ty; place = zero.place; step = zero.step; is_step = zero.is_step; value = zero.value; is_new = zero.is_new; shape = zero.shape; results = zero.results; srcloc = zero.srcloc };
+      zeros = λ i old new. let zero = made.zeros i old new in record { ty = zero.ty; place = zero.place; step = zero.step; is_step = zero.is_step; value = zero.value; is_new = zero.is_new; constant = zero.constant; zeros = zero.zeros; shape = zero.shape; results = zero.results; srcloc = zero.srcloc };
       block_count = made.block_count;
       blocks = λ b. let node = made.blocks b in record { zeros = node.zeros; stays = node.stays; added = node.added; node = node.node; zeros_fit = node.zeros_fit; zeros_new = node.zeros_new; added_new = node.added_new };
       layout = (block ∷ made.layout.0, made.layout.1 ∙ append_assoc f.layout (block ∷ []) made.layout.0);
@@ -187,7 +250,7 @@ constructs-inserted f g block = by (stands_in block f.layout)
 
 -- a use of a variable did, in the current block
 pub constructs-met : {T : Type 0} (b : FunctionBuilder) (g : Body) (told : Result T BuildError) → HasCurrent b
-    → IfSome b.position (λ block. told ≡ Err build.Full → OnlyConstructs (inserted_in b.func.now block) g) → told ≡ Err build.Full → IsFull g
+    → IfSome b.position (λ block. told ≡ Err build.Full → OnlyConstructs (inserted_in b.func.now block) g) → told ≡ Err build.Full → ConstructionIsFull g
     → ConstructsUntilFull b.func.now
 constructs-met b g told current made full is_full =
     (g, constructs-inserted b.func.now g current.0 (subst (λ (o : Option ℕ). IfSome o (λ block. told ≡ Err build.Full → OnlyConstructs (inserted_in b.func.now block) g)) current.1 made full), is_full)

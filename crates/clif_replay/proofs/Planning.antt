@@ -8,7 +8,7 @@ use Rattle.clif_types.specs.declared.types.«Type».{«Type»}
 use Rattle.clif_types.specs.declared.types.«Type».TheVariants.{Invalid}
 use Rattle.clif_types.specs.Signature.{SignatureShape}
 use Rattle.clif_ir.specs.Body.{Body}
-use Rattle.clif_instructions.specs.Instruction.{EntryRef, ASlot, destinations, entries_of, operands}
+use Rattle.clif_instructions.specs.Instruction.{EntryRef, AConstant, ASlot, destinations, entries_of, operands}
 use Rattle.clif_tables.specs.Lists.{TableLists}
 use Rattle.clif_ir.specs.Consistent.{EntryExists}
 use Rattle.clif_instructions.specs.declared.block_call.BlockCall.{BlockCall}
@@ -21,7 +21,7 @@ use Rattle.clif_meaning.specs.Ledger.{or_invalid, type_of}
 use Rattle.clif_meaning.specs.Request.{AnsweredCall}
 use Rattle.cranelift_frontend.specs.declared.builder.FunctionBuilder.{FunctionBuilder}
 use Rattle.cranelift_frontend.specs.Builder.{CanLead}
-use Rattle.cranelift_frontend.specs.Ledger.{HasShape, NamesEdges, ledger_of}
+use Rattle.cranelift_frontend.specs.Ledger.{HasShape, NamesEdges, ledger_of, without_constants}
 use Rattle.clif_calls.specs.Plan.{edges_in, operands_in}
 use Rattle.clif_calls.specs.declared.call.Edge.{Edge}
 use Rattle.clif_calls.specs.declared.call.Name.{Name}
@@ -32,7 +32,7 @@ use Rattle.clif_ir.specs.Changes.{HasNoRoom}
 use Rattle.clif_instructions.specs.Instruction.{result_count}
 use Rattle.clif_opcodes.specs.declared.opcodes.Opcode.{Opcode}
 use Rattle.clif_opcodes.specs.Typing.{row_of}
-use Rattle.clif_meaning.specs.Instruction.{Operation, operation_entries, operation_typing}
+use Rattle.clif_meaning.specs.Instruction.{Compute, Operation, PooledConst, operation_entries, operation_typing}
 use Rattle.clif_meaning.specs.View.{operation_of}
 use Rattle.clif_ssa.specs.Limits.{IsFull}
 use Rattle.cranelift_frontend.specs.Built.{HasFullTable}
@@ -85,6 +85,12 @@ controlling-same first second same (plan.CondTrap opcode arg code) = same arg
 controlling-same first second same (plan.Brif condition block_then block_else) = same condition
 controlling-same first second same _ = refl
 
+-- what a plan names is no constant
+entries-kept : (tables : TableLists) (p : Plan)
+    → list_all (has_entry (without_constants tables)) (operation_entries (operation_in p)) ≡ list_all (has_entry tables) (operation_entries (operation_in p))
+entries-kept tables (plan.Jump destination) = refl
+entries-kept tables _ = refl
+
 -- an instruction is allowed where it may be made
 pub plan-same : {declared : SignatureShape} (calls : List AnsweredCall) (b : FunctionBuilder) (answers : List Answer) → IsReady declared calls b answers
     → (p : Plan) → allows (ledger_of calls) (request_in (ledger_of calls) p) ≡ can_make b answers p
@@ -94,7 +100,8 @@ plan-same calls b answers ready p =
     let opens = open-same calls b answers ready in
     let typed = controlling-same (λ name. or_invalid (type_of (ledger_of calls) (name_of name))) (λ name. type_in b.func.now (value_of b.func.now answers name)) (type-same calls b answers ready) p in
     let tables = ready.stands.ledger.tables in
-    rw (values, edges, opens, typed, tables) (by (is_open b) (all_values b.func.now answers (operands_in p)) (list_all (may_lead b answers) (edges_in p)) _ _)
+    let named = entries-kept b.func.now.tables p in
+    rw (values, edges, opens, typed, tables, named) (by (is_open b) (all_values b.func.now answers (operands_in p)) (list_all (may_lead b answers) (edges_in p)) _ _)
   where
     by : (first second third fourth last : Bool) → ((((first && second) && third) && fourth) && last) ≡ (((first && (second && third)) && fourth) && last)
     by true second third fourth last = refl
@@ -145,12 +152,24 @@ pub destinations-lead : {declared : SignatureShape} (calls : List AnsweredCall) 
 destinations-lead calls b answers ready p s ty planned = edges-lead calls b answers ready (edges_in p) (destinations s) planned.edges
 
 -- the entries that it names exist
-entries-alike : (s : InstructionData) → operation_entries (operation_of s) ≡ entries_of s
-entries-alike (shape.UnaryIeee code bits) = refl
-entries-alike _ = refl
+abbrev is-pooled : Operation → Bool
+is-pooled (Compute (PooledConst opcode bytes)) = true
+is-pooled _ = false
+
+-- no plan asks for a pooled constant
+never-pooled : (p : Plan) → is-pooled (operation_in p) ≡ false
+never-pooled (plan.Jump destination) = refl
+never-pooled _ = refl
+
+entries-alike : (tables : TableLists) (p : Plan) (s : InstructionData) → operation_in p ≡ operation_of tables s → operation_entries (operation_in p) ≡ entries_of s
+entries-alike tables p (shape.UnaryConst opcode constant) same =
+    let no_way : false ≡ true = sym (never-pooled p) ∙ ap is-pooled same in absurd (false≢true no_way)
+entries-alike tables p (shape.UnaryIeee opcode bits) same = ap operation_entries same
+entries-alike tables p _ same = ap operation_entries same
 
 entry-exists : (tables : TableLists) (entry : EntryRef) → has_entry tables entry ≡ true → EntryExists tables entry
 entry-exists tables (ASlot number) there = ltb-true number (length tables.stack_slots) there
+entry-exists tables (AConstant number) there = ltb-true number (length tables.constants) there
 
 all-entries-exist : (tables : TableLists) (entries : List EntryRef) → list_all (has_entry tables) entries ≡ true → All (EntryExists tables) entries
 all-entries-exist tables [] there k d inside = absurd (omega (arith, inside))
@@ -166,12 +185,13 @@ entries-found tables (entry ∷ entries) exist =
   where
     entry-found : (e : EntryRef) → EntryExists tables e → has_entry tables e ≡ true
     entry-found (ASlot number) below = lt-ltb number (length tables.stack_slots) below
+    entry-found (AConstant number) below = lt-ltb number (length tables.constants) below
 
 -- a test of what the shape names is one of what the plan names
 pub entries-same : (b : FunctionBuilder) (answers : List Answer) (p : Plan) (s : InstructionData) (ty : «Type») (test : Bool) → IsPlanned b answers p s ty
     → IsTrue test ↔ All (EntryExists b.func.now.tables) (entries_of s) → has_entries b.func.now p ≡ test
 entries-same b answers p s ty test planned tells =
-    ap (list_all (has_entry b.func.now.tables)) (ap operation_entries planned.operation ∙ entries-alike s) ∙ by test tells
+    ap (list_all (has_entry b.func.now.tables)) (entries-alike b.func.now.tables p s planned.operation) ∙ by test tells
   where
     by : (test : Bool) → IsTrue test ↔ All (EntryExists b.func.now.tables) (entries_of s) → list_all (has_entry b.func.now.tables) (entries_of s) ≡ test
     by true tells = entries-found b.func.now.tables (entries_of s) (tells.0 refl)
@@ -181,7 +201,7 @@ pub entries-exist : (b : FunctionBuilder) (answers : List Answer) (p : Plan) (s 
     → All (EntryExists b.func.now.tables) (entries_of s)
 entries-exist b answers p s ty planned may =
     all-entries-exist b.func.now.tables (entries_of s)
-    (ap (list_all (has_entry b.func.now.tables)) (sym (ap operation_entries planned.operation ∙ entries-alike s)) ∙ (and_parts _ (has_entries b.func.now p) may).1)
+    (ap (list_all (has_entry b.func.now.tables)) (sym (entries-alike b.func.now.tables p s planned.operation)) ∙ (and_parts _ (has_entries b.func.now p) may).1)
 
 -- FORMATS -------------------------------------------------------------------------------------------------------------
 
@@ -217,7 +237,7 @@ pub planned-full : (b : FunctionBuilder) (answers : List Answer) (p : Plan) (s :
     → HasNoRoom b.func.now (result_count s) → (result_count s ≤ 1 → HasFullTable b) → PlanMeetsFullTable p b.func.now
 planned-full b answers p s ty planned none few =
     let same : plan_count p ≡ result_count s =
-    ap (λ (o : Operation). length (operation_typing o).results) planned.operation ∙ ap (λ (o : Opcode). length (row_of o).results) (same_opcode s) in
+    ap (λ (o : Operation). length (operation_typing o).results) planned.operation ∙ ap (λ (o : Opcode). length (row_of o).results) (same_opcode b.func.now.tables s) in
     plan-met b.func.now p (subst (HasNoRoom b.func.now) (sym same) none) (λ small. full-either b.func.now (few (subst (λ (n : ℕ). n ≤ 1) same small)))
 
 -- what names lead to is there

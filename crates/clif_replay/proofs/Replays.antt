@@ -1,6 +1,6 @@
 -- What a replay answers, from what the calls and `finalize` answered.
-use Rattle.std.proofs.Common.{arith, ◌≡◌, ◌<◌, ◌≤◌, ℕ, List, length, refl, ap, sym, ◌∙◌, subst}
-use Rattle.std.specs.Prelude.{◌≢◌, false, Err, IfOk, Ok, OnOk, Result, Some}
+use Rattle.std.proofs.Common.{arith, ◌≡◌, ◌<◌, ◌≤◌, ℕ, List, length, refl, ap, sym, ◌∙◌, subst, inl, inr}
+use Rattle.std.specs.Prelude.{false, true, Err, IfOk, Ok, OnOk, Result, Some, slice_get}
 use Rattle.clif_types.specs.Signature.{SignatureShape}
 use Rattle.clif_types.specs.declared.extname.UserFuncName.{UserFuncName}
 use Rattle.clif_types.specs.declared.target.PointerWidth.{PointerWidth}
@@ -11,21 +11,20 @@ use Rattle.clif_meaning.specs.Premises.{CallersEdgesMatch, PlacementPremises}
 use Rattle.clif_meaning.specs.Typing.{EdgesMatch}
 use Rattle.clif_meaning.specs.WellPlaced.{WellPlaced}
 use Rattle.clif_meaning.specs.Request.{AnsweredCall, Finalize, Script, script_of}
-use Rattle.clif_meaning.specs.Acceptance.{Accepted, Misuse, Refused, refusal_of, verdict_on}
+use Rattle.clif_meaning.specs.Acceptance.{Accepted, Misuse, Refused, refusal_of, verdict_on_attempts}
 use Rattle.cranelift_frontend.specs.declared.builder.FunctionBuilder.{FunctionBuilder}
 use Rattle.cranelift_frontend.specs.declared.error.FinalizeError.{FinalizeError}
 use Rattle.cranelift_frontend.specs.Builder.{SameLoans}
 use Rattle.cranelift_frontend.specs.Ledger.{RefusalAgrees, ledger_of}
 use Rattle.cranelift_frontend.specs.StandsFor.{LeavesNoParameter, StandsFor, StandsIn}
 use Rattle.clif_calls.specs.declared.call.Call.{Call}
-use Rattle.clif_replay.specs.declared.script.Answer.{Answer}
 use Rattle.clif_replay.specs.declared.script.CallError.{CallError}
 use Rattle.clif_replay.specs.declared.script.CallError.TheVariants as error
 use Rattle.clif_replay.specs.Errors.{replay_error_at}
 use Rattle.clif_replay.specs.declared.script.ReplayError.{ReplayError}
 use Rattle.clif_replay.specs.declared.script.ReplayError.TheVariants as replay
 use Rattle.clif_replay.specs.Replay.{ReplayMakes, ReplayTells}
-use Rattle.clif_replay.specs.Requests.{IsReplayed, IsStoppedByTable, requests_of}
+use Rattle.clif_replay.specs.Requests.{IsReplayed, IsStoppedByTable, MayBeRefused, attempts_of, is_tried}
 use Rattle.clif_replay.proofs.Verdicts.{all-replayed, means-replayed, verdict-accepted}
 
 -- all calls were made, and `finalize` succeeded: `f` is the function that it left
@@ -63,12 +62,12 @@ finished-as calls old width start f g begins ends done =
     (subst (λ (x : Body). ReplayMakes calls start.name start.signature width x) (sym ends) done)
 
 -- `finalize` refused
-pub told-refused : (calls : List Call) (start old : Body) (place : ℕ) → start ≡ old → place ≡ length calls → verdict_on (requests_of start.signature calls) ≡ Refused (length calls)
+pub told-refused : (calls : List Call) (start old : Body) (place : ℕ) → start ≡ old → place ≡ length calls → verdict_on_attempts (attempts_of start.signature calls) ≡ Refused (length calls)
     → ReplayTells calls old.name old.signature (Err (replay.Refused place))
 told-refused calls start old place begins is refused =
     subst (λ (x : Body). ReplayTells calls x.name x.signature (Err (replay.Refused place))) begins (record {
       misuse = λ i told. absurd (no-misuse i told);
-      refused = λ i told. sym (same i told) ∙ is;
+      refused = λ i told. inl (sym (same i told) ∙ is);
       table_full = λ told. absurd (no-full told);
       verdict = λ not_memory not_full. ap (λ (i : ℕ). Some (Refused i)) is ∙ ap Some (sym refused);
     })
@@ -101,7 +100,7 @@ told-memory calls old = record {
     no-full h = cc
 
 -- a function was made
-pub told-answer : (calls : List Call) (name : UserFuncName) (declared : SignatureShape) (f : Body) → verdict_on (requests_of declared calls) ≡ Accepted → ReplayTells calls name declared (Ok f)
+pub told-answer : (calls : List Call) (name : UserFuncName) (declared : SignatureShape) (f : Body) → verdict_on_attempts (attempts_of declared calls) ≡ Accepted → ReplayTells calls name declared (Ok f)
 told-answer calls name declared f accepted = record {
   misuse = λ i told. absurd (no-error (replay.Misuse i) told);
   refused = λ i told. absurd (no-error (replay.Refused i) told);
@@ -130,8 +129,9 @@ pub record AreMade (calls : List Call) (old new : FunctionBuilder) (result : Res
   pub ready : OnOk result ((made : List AnsweredCall) × StandsFor old.func.now.signature made new × IsReplayed old.func.now.signature calls (length calls) made)
   pub sound : OnOk result (new.failed ≡ false)
   pub misuse : (i : ℕ) → result ≡ Err (replay.Misuse i) → i < length calls
-  pub judged : (i : ℕ) → result ≡ Err (replay.Misuse i) → verdict_on (requests_of old.func.now.signature calls) ≡ Misuse i
-  pub never_refused : (i : ℕ) → result ≢ Err (replay.Refused i)
+  pub judged : (i : ℕ) → result ≡ Err (replay.Misuse i) → verdict_on_attempts (attempts_of old.func.now.signature calls) ≡ Misuse i
+  pub tried : (i : ℕ) → result ≡ Err (replay.Refused i) → MayBeRefused calls i
+  pub refused : (i : ℕ) → result ≡ Err (replay.Refused i) → verdict_on_attempts (attempts_of old.func.now.signature calls) ≡ Refused i
   pub table_full : result ≡ Err replay.Full → IsStoppedByTable calls old.func.now.name old.func.now.signature
 
 -- loans are kept over two steps
@@ -147,7 +147,8 @@ made-memory calls old new result is loans = subst (λ (r : Result (Unit {0}) Rep
   sound = tt;
   misuse = λ i told. absurd (no-misuse i told);
   judged = λ i told. absurd (no-misuse i told);
-  never_refused = no-refusal;
+  tried = λ i told. absurd (no-refusal i told);
+  refused = λ i told. absurd (no-refusal i told);
   table_full = λ told. absurd (no-full told);
 })
   where
@@ -170,26 +171,24 @@ made-all calls old new made loans name stands replayed sound = record {
   sound = sound;
   misuse = λ i told. absurd (no-error (replay.Misuse i) told);
   judged = λ i told. absurd (no-error (replay.Misuse i) told);
-  never_refused = λ i told. no-error (replay.Refused i) told;
+  tried = λ i told. absurd (no-error (replay.Refused i) told);
+  refused = λ i told. absurd (no-error (replay.Refused i) told);
   table_full = λ told. absurd (no-error replay.Full told);
 }
   where
     no-error : (e : ReplayError) → ◌≡◌ {A = Result (Unit {0}) ReplayError} (Ok tt) (Err e) → ⊥
     no-error e h = cc
 
--- the error of a call is told at its place, and isn't a refusal
+-- the error of a call is told at its place
 pub misuse-place : (refusal : CallError) (place i : ℕ) (told : ReplayError) → told ≡ replay_error_at refusal place → ◌≡◌ {A = Result (Unit {0}) ReplayError} (Err told) (Err (replay.Misuse i)) → i ≡ place
 misuse-place error.Misuse place i told at is = cc
 misuse-place error.Refused place i told at is = let no_way : ⊥ = cc in absurd no_way
 misuse-place error.Memory place i told at is = let no_way : ⊥ = cc in absurd no_way
 misuse-place error.Full place i told at is = let no_way : ⊥ = cc in absurd no_way
 
-pub no-refusal-told : (refusal : CallError) (place i : ℕ) (told : ReplayError) → told ≡ replay_error_at refusal place → ◌≢◌ {A = Result Answer CallError} (Err refusal) (Err error.Refused)
-    → ◌≢◌ {A = Result (Unit {0}) ReplayError} (Err told) (Err (replay.Refused i))
-no-refusal-told error.Misuse place i told at never is = cc
-no-refusal-told error.Refused place i told at never is = never refl
-no-refusal-told error.Memory place i told at never is = cc
-no-refusal-told error.Full place i told at never is = cc
+-- the call at a place was only tried
+pub refused-there : (calls : List Call) (place i : ℕ) (c : Call) → slice_get calls place ≡ Some c → is_tried c ≡ true → place ≡ i → MayBeRefused calls i
+refused-there calls place i c here tried is = inr (c, ap (slice_get calls) (sym is) ∙ here, tried)
 
 -- a loop ends at the length
 pub last-place : (place end : ℕ) → place ≤ end → end ≤ place → place ≡ end

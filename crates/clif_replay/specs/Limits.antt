@@ -1,8 +1,9 @@
 -- Where a call meets a full table. Source: own.
-use Rattle.std.specs.Prelude.{◌≡◌, ◌-◌, ◌^◌, length}
+use Rattle.std.specs.Prelude.{◌≡◌, ◌-◌, ◌^◌, ◌⊎◌, ℕ, List, false, length}
+use Rattle.clif_tables.specs.Constants.{has_constant}
 use Rattle.clif_ir.specs.Body.{Body}
 use Rattle.clif_ssa.specs.Constructs.{OnlyConstructs}
-use Rattle.clif_ssa.specs.Limits.{IsFull}
+use Rattle.clif_ssa.specs.Limits.{ConstructionIsFull, IsFull}
 use Rattle.clif_ir.specs.Changes.{HasNoRoom}
 use Rattle.clif_calls.specs.Plan.{plan_of}
 use Rattle.clif_calls.specs.declared.plan.Plan.{Plan}
@@ -12,15 +13,21 @@ use Rattle.clif_calls.specs.declared.call.Call.TheVariants as call
 use Rattle.cranelift_frontend.specs.Context.{ContextState}
 use Rattle.cranelift_frontend.specs.Growth.{NoRoomFor}
 
--- the construction of SSA form alone leads from this function to one whose table of values, or that of instructions, is full
+-- the construction of SSA form alone leads from this function to one whose table of values, of instructions or of constants is full
 abbrev pub ConstructsUntilFull : Body → Type 0
-ConstructsUntilFull f = (g : Body) × OnlyConstructs f g × IsFull g
+ConstructsUntilFull f = (g : Body) × OnlyConstructs f g × ConstructionIsFull g
 
 -- An instruction of this plan finds the table of instructions or that of values full; or, of one with two results, the table
 -- of values has a number left for one of them alone.
 abbrev pub PlanMeetsFullTable : Plan → Body → Type 0
 PlanMeetsFullTable (plan.Split arg) f = HasNoRoom f 2
 PlanMeetsFullTable _ f = IsFull f
+
+-- The bytes are no constant so far, and the table of constants is full; or, with the constant there, the table of instructions or
+-- that of values is full.
+abbrev pub ConstantMeetsFullTable : List ℕ → Body → Type 0
+ConstantMeetsFullTable bytes f =
+    ((has_constant f.tables.constants bytes ≡ false) × (length f.tables.constants ≡ 2 ^ 32 - 1)) ⊎ IsFull f
 
 -- A call, made so far as it is made, meets a table that holds 2^32 - 1 entries: a call that lengthens a table finds it full,
 -- one that makes several parameters fills the table of values before it has made them all, and a use of a variable and a
@@ -33,11 +40,14 @@ MeetsFullTable (call.AppendBlockParam block ty) f c = length f.values ≡ 2 ^ 32
 MeetsFullTable (call.AppendBlockParamsForFunctionParams block) f c = NoRoomFor f (length f.signature.params)
 MeetsFullTable (call.AppendBlockParamsForFunctionReturns block) f c = NoRoomFor f (length f.signature.returns)
 MeetsFullTable (call.Plain instruction) f c = PlanMeetsFullTable (plan_of instruction) f
+MeetsFullTable (call.F128const bytes) f c = ConstantMeetsFullTable bytes.items f
+MeetsFullTable (call.Vconst ty bytes) f c = ConstantMeetsFullTable bytes.items f
 MeetsFullTable (call.Jump destination) f c = IsFull f
 MeetsFullTable (call.Brif condition block_then block_else) f c = IsFull f
 MeetsFullTable (call.Return values) f c = IsFull f
 MeetsFullTable (call.Trap code) f c = IsFull f
 MeetsFullTable (call.UseVar variable) f c = ConstructsUntilFull f
+MeetsFullTable (call.TryUseVar variable) f c = ConstructsUntilFull f
 MeetsFullTable (call.SealBlock block) f c = ConstructsUntilFull f
 MeetsFullTable call.SealAllBlocks f c = ConstructsUntilFull f
 MeetsFullTable (call.SwitchToBlock block) f c = ⊥
@@ -45,3 +55,4 @@ MeetsFullTable (call.InsertBlockAfter block after) f c = ⊥
 MeetsFullTable (call.SetColdBlock block) f c = ⊥
 MeetsFullTable call.EnsureInsertedBlock f c = ⊥
 MeetsFullTable (call.DefVar variable value) f c = ⊥
+MeetsFullTable (call.TryDefVar variable value) f c = ⊥

@@ -5,10 +5,11 @@ use Rattle.clif_types.specs.Signature.{SignatureShape}
 use Rattle.clif_types.specs.declared.types.«Type».{«Type»}
 use Rattle.clif_types.specs.declared.types.«Type».TheVariants.{Invalid}
 use Rattle.clif_ir.specs.Body.{Body, value_at}
+use Rattle.clif_opcodes.specs.declared.opcodes.PooledConstOpcode.{PooledConstOpcode}
 use Rattle.clif_instructions.specs.Instruction.{destinations, operands, result_types}
 use Rattle.clif_instructions.specs.declared.block_call.BlockCall.{BlockCall}
 use Rattle.clif_instructions.specs.declared.instructions.InstructionData.{InstructionData}
-use Rattle.clif_meaning.specs.Acceptance.{allows, can_operate, has_entry}
+use Rattle.clif_meaning.specs.Acceptance.{allows, blames_variable, can_operate, has_entry, pooled_const}
 use Rattle.clif_meaning.specs.Instruction.{operation_entries}
 use Rattle.clif_meaning.specs.Ledger.{Ledger}
 use Rattle.clif_meaning.specs.Request.{AnsweredCall, Request}
@@ -25,33 +26,38 @@ use Rattle.clif_replay.specs.declared.make_instructions.Planned.{Planned}
 use Rattle.clif_replay.specs.declared.script.Answer.{Answer}
 use Rattle.clif_replay.specs.declared.script.CallError.{CallError}
 use Rattle.clif_replay.specs.declared.script.CallError.TheVariants as error
-use Rattle.clif_replay.specs.Limits.{MeetsFullTable, PlanMeetsFullTable}
+use Rattle.clif_replay.specs.Limits.{ConstantMeetsFullTable, MeetsFullTable, PlanMeetsFullTable}
 use Rattle.clif_replay.specs.Ready.{IsFound, IsJudged, IsReady, IsReadyAfter, all_values, is_open, may_lead, types_after, value_of}
-use Rattle.clif_replay.specs.Requests.{controlling_in, operation_in, request_in, request_of}
+use Rattle.clif_replay.specs.Requests.{controlling_in, is_tried, operation_in, request_in, request_of}
 
--- A call was made, which asked this, or wasn't. `Full` is told only where `Meets` holds, and variables have these types
--- afterwards.
-pub record Makes (asks : SignatureShape → Ledger → Request) (Meets : Type 0) (types : List «Type») (old new : FunctionBuilder) (answers : List Answer) (result : Result Answer CallError) : Type 0 where
+-- A call was made, which asked this, or wasn't. It is refused only if it is only tried. `Full` is told only where `Meets`
+-- holds, and variables have these types afterwards.
+pub record Makes (asks : SignatureShape → Ledger → Request) (tried : Bool) (Meets : Type 0) (types : List «Type») (old new : FunctionBuilder) (answers : List Answer) (result : Result Answer CallError) : Type 0 where
   pub loans : SameLoans old new
   pub name : OnOk result (new.func.now.name ≡ old.func.now.name)
   pub ready : (declared : SignatureShape) (calls : List AnsweredCall) → IsReady declared calls old answers
       → IfOk result (IsReadyAfter declared calls (asks declared (ledger_of calls)) new answers)
   pub judged : (declared : SignatureShape) (calls : List AnsweredCall) → IsReady declared calls old answers
-      → IsJudged (allows (ledger_of calls) (asks declared (ledger_of calls))) result
+      → IsJudged (allows (ledger_of calls) (asks declared (ledger_of calls))) (tried && blames_variable (ledger_of calls) (asks declared (ledger_of calls))) result
   pub sound : OnOk result (new.failed ≡ false)
-  pub never_refused : result ≢ Err error.Refused
+  pub refused : result ≡ Err error.Refused → tried ≡ true
   pub full : result ≡ Err error.Full → Meets
   pub variables : OnOk result (new.ctx.now.variables ≡ types)
 
 -- for this call
 abbrev pub MakesCall : Call → FunctionBuilder → FunctionBuilder → List Answer → Result Answer CallError → Type 0
 MakesCall call old new answers result =
-    Makes (λ declared ledger. request_of declared ledger call) (MeetsFullTable call old.func.now old.ctx.now) (types_after call old.ctx.now.variables) old new answers result
+    Makes (λ declared ledger. request_of declared ledger call) (is_tried call) (MeetsFullTable call old.func.now old.ctx.now) (types_after call old.ctx.now.variables) old new answers result
 
 -- for an instruction of this plan
 abbrev pub MakesPlan : Plan → FunctionBuilder → FunctionBuilder → List Answer → Result Answer CallError → Type 0
 MakesPlan plan old new answers result =
-    Makes (λ declared ledger. request_in ledger plan) (PlanMeetsFullTable plan old.func.now) old.ctx.now.variables old new answers result
+    Makes (λ declared ledger. request_in ledger plan) false (PlanMeetsFullTable plan old.func.now) old.ctx.now.variables old new answers result
+
+-- for an instruction of a pooled constant
+abbrev pub MakesConstant : PooledConstOpcode → «Type» → List ℕ → FunctionBuilder → FunctionBuilder → List Answer → Result Answer CallError → Type 0
+MakesConstant opcode ty bytes old new answers result =
+    Makes (λ declared ledger. pooled_const opcode ty bytes) false (ConstantMeetsFullTable bytes old.func.now) old.ctx.now.variables old new answers result
 
 -- What is asked is found, where it is there; or memory is refused.
 pub record Finds {X : Type 0} (Found : X → Type 0) (there : Bool) (result : Result X CallError) : Type 0 where
@@ -78,7 +84,7 @@ AreFound b answers _ _ = ⊥
 
 -- an instruction of the plan has this shape and is made at this type
 pub record IsPlanned (b : FunctionBuilder) (answers : List Answer) (plan : Plan) (shape : InstructionData) (ty : «Type») : Type 0 where
-  pub operation : operation_in plan ≡ operation_of shape
+  pub operation : operation_in plan ≡ operation_of b.func.now.tables shape
   pub controlling : controlling_in (λ name. type_in b.func.now (value_of b.func.now answers name)) plan ≡ made_at b.func.now shape ty
   pub typed : result_types shape ty ≡ result_types shape (made_at b.func.now shape ty)
   pub operands : map (value_of b.func.now answers) (operands_in plan) ≡ map Some (operands shape)

@@ -64,13 +64,13 @@ abbrev pub IsReadyAfter : SignatureShape → List AnsweredCall → Request → F
 IsReadyAfter declared calls request b answers answer =
     (numbers : List ℕ) × IsReady declared (calls ++ record { request = request; numbers = numbers } ∷ []) b (answers ++ answer ∷ [])
 
--- a call succeeds only where it is allowed, and is a misuse only where it isn't
-abbrev pub IsJudged : Bool → Result Answer CallError → Type 0
-IsJudged allowed (Ok answer) = allowed ≡ true
-IsJudged allowed (Err error.Misuse) = allowed ≡ false
-IsJudged allowed (Err error.Refused) = allowed ≡ true
-IsJudged allowed (Err error.Memory) = Unit {0}
-IsJudged allowed (Err error.Full) = allowed ≡ true
+-- A call succeeds only where it is allowed, and where it isn't, it is either refused or a misuse.
+abbrev pub IsJudged : Bool → Bool → Result Answer CallError → Type 0
+IsJudged allowed refused (Ok answer) = allowed ≡ true
+IsJudged allowed refused (Err error.Misuse) = (allowed ≡ false) × (refused ≡ false)
+IsJudged allowed refused (Err error.Refused) = (allowed ≡ false) × (refused ≡ true)
+IsJudged allowed refused (Err error.Memory) = Unit {0}
+IsJudged allowed refused (Err error.Full) = allowed ≡ true
 
 -- the block that a name leads to
 abbrev pub block_in : ℕ → Option Answer → Option ℕ

@@ -1,12 +1,13 @@
 -- What a list of calls is as a script, and what comes of it as a verdict on that script. Own.
-use Rattle.std.specs.Prelude.{◌≡◌, ℕ, List, [], ◌∷◌, ◌++◌, map, take, drop, slice_get, Option, Some, None, true, Result, Ok, Err}
+use Rattle.std.specs.Prelude.{◌≡◌, ◌⊎◌, ℕ, List, [], ◌∷◌, ◌++◌, length, map, take, drop, slice_get, Option, Some, None, Bool, true, false, Result, Ok, Err}
 use Rattle.clif_ir.specs.Body.{Body}
 use Rattle.clif_meaning.specs.Event.{types_of}
 use Rattle.clif_meaning.specs.Name.{Name}
 use Rattle.clif_meaning.specs.Instruction.{Binary, Brif, Compare, Compute, Concat, CondTrap, Convert, Edge, FloatConst, Iconst, Jump, Known, Load, Operation, Return, Select, Split, Stack, StackStore, Store, Trap, Unary}
-use Rattle.clif_meaning.specs.Request.{Request, CreateBlock, SwitchToBlock, SealBlock, SealAllBlocks, InsertBlockAfter, SetColdBlock, EnsureInsertedBlock, AppendBlockParams, AppendFunctionParams, DeclareVar, DefVar, UseVar, MakeEntry, Build, Finalize, Script, AnsweredCall, script_of}
+use Rattle.clif_meaning.specs.Request.{Request, CreateBlock, SwitchToBlock, SealBlock, SealAllBlocks, InsertBlockAfter, SetColdBlock, EnsureInsertedBlock, AppendBlockParams, AppendFunctionParams, DeclareVar, DefVar, UseVar, MakeEntry, Build, Finalize, Script, AnsweredCall, script_of, Attempt, outright}
 use Rattle.clif_meaning.specs.Ledger.{Ledger, empty_ledger, ledger_after, ledger_with, or_invalid, type_of}
-use Rattle.clif_meaning.specs.Acceptance.{Verdict, Accepted, Misuse, Refused, jump, brif, return_, trap, allows, verdict_from, verdict_on}
+use Rattle.clif_meaning.specs.Acceptance.{Verdict, Accepted, Misuse, Refused, pooled_const, jump, brif, return_, trap, allows, verdict_from, verdict_on_attempts}
+use Rattle.clif_opcodes.specs.declared.opcodes.PooledConstOpcode.TheVariants.{F128const, Vconst}
 use Rattle.clif_types.specs.declared.types.«Type».{«Type»}
 use Rattle.clif_types.specs.declared.types.«Type».TheVariants.{Invalid}
 use Rattle.clif_types.specs.Signature.{SignatureShape}
@@ -99,11 +100,33 @@ request_of signature ledger (call.CreateSizedStackSlot size align_shift) = MakeE
 request_of signature ledger (call.DeclareVar ty) = DeclareVar ty
 request_of signature ledger (call.DefVar variable value) = DefVar variable (name_of value)
 request_of signature ledger (call.UseVar variable) = UseVar variable
+request_of signature ledger (call.TryDefVar variable value) = DefVar variable (name_of value)
+request_of signature ledger (call.TryUseVar variable) = UseVar variable
 request_of signature ledger (call.Plain instruction) = request_in ledger (plan_of instruction)
+request_of signature ledger (call.F128const bytes) = pooled_const F128const Invalid bytes.items
+request_of signature ledger (call.Vconst ty bytes) = pooled_const Vconst ty bytes.items
 request_of signature ledger (call.Jump destination) = jump (edge_of destination)
 request_of signature ledger (call.Brif condition block_then block_else) = brif ledger (name_of condition) (edge_of block_then) (edge_of block_else)
 request_of signature ledger (call.Return values) = return_ (map name_of values.items)
 request_of signature ledger (call.Trap code) = trap code
+
+-- a call that is only tried
+abbrev pub is_tried : Call → Bool
+is_tried (call.TryDefVar variable value) = true
+is_tried (call.TryUseVar variable) = true
+is_tried _ = false
+
+abbrev pub attempt_of : SignatureShape → Ledger → Call → Attempt
+attempt_of signature ledger call = record { request = request_of signature ledger call; is_tried = is_tried call }
+
+-- the calls as they are made, each at the ledger of the ones before it
+abbrev pub attempts_from : SignatureShape → Ledger → List Call → List Attempt
+attempts_from signature ledger [] = []
+attempts_from signature ledger (call ∷ calls) =
+    attempt_of signature ledger call ∷ attempts_from signature (ledger_with ledger (request_of signature ledger call)) calls
+
+abbrev pub attempts_of : SignatureShape → List Call → List Attempt
+attempts_of signature calls = attempts_from signature empty_ledger calls
 
 -- the requests of calls, each at the ledger of the ones before it
 abbrev pub requests_from : SignatureShape → Ledger → List Call → Script
@@ -117,8 +140,12 @@ requests_of signature calls = requests_from signature empty_ledger calls
 -- the first calls of a list were made, as many as `place` says, and the verdict on the list is that on the rest
 pub record IsReplayed (signature : SignatureShape) (calls : List Call) (place : ℕ) (made : List AnsweredCall) : Type 0 where
   pub script : script_of made ≡ requests_of signature (take place calls)
-  pub rest : verdict_on (requests_of signature calls)
-      ≡ verdict_from place (ledger_after (script_of made)) (requests_from signature (ledger_after (script_of made)) (drop place calls) ++ Finalize ∷ [])
+  pub rest : verdict_on_attempts (attempts_of signature calls)
+      ≡ verdict_from place (ledger_after (script_of made)) (attempts_from signature (ledger_after (script_of made)) (drop place calls) ++ outright Finalize ∷ [])
+
+-- the calls that may be refused: `finalize`, behind the last one, and those that are only tried
+abbrev pub MayBeRefused : List Call → ℕ → Type 0
+MayBeRefused calls place = (place ≡ length calls) ⊎ ((call : Call) × (slice_get calls place ≡ Some call) × (is_tried call ≡ true))
 
 -- the verdict that a replay's answer tells; refused memory and a full table tell none
 abbrev pub verdict_of : Result Body ReplayError → Option Verdict

@@ -3,6 +3,7 @@
 
 mod make;
 mod make_blocks;
+mod make_constants;
 mod make_entities;
 mod make_instructions;
 mod make_parameters;

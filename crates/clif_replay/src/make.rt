@@ -1,7 +1,5 @@
 //! The calls of a script, each made on a builder if its condition holds.
 ghost use Rattle.std.specs.Prelude.{◌≡◌, ◌<◌, length, slice_get, IsTrue, ◌↔◌};
-ghost use Rattle.clif_meaning.specs.Acceptance.{has_zero};
-ghost use Rattle.cranelift_frontend.specs.Builder.{is_declarable};
 ghost use Rattle.clif_replay.specs.Makes.{MakesCall};
 ghost use Rattle.clif_replay.specs.Ready.{IsSound, is_open, can_define, can_use};
 
@@ -9,6 +7,7 @@ use crate::make_blocks::{
     create_block, ensure_inserted_block, insert_block_after, seal_all_blocks, seal_block,
     set_cold_block, switch_to_block,
 };
+use crate::make_constants::make_constant;
 use crate::make_entities::create_sized_stack_slot;
 use crate::make_instructions::make_instruction;
 use crate::make_parameters::{
@@ -18,8 +17,9 @@ use crate::make_parameters::{
 use crate::names::value_named;
 use crate::script::{Answer, CallError};
 use clif_calls::{Call, Name, Plan};
+use clif_opcodes::PooledConstOpcode;
 use clif_records::Variable;
-use clif_types::{EntityRef, LaneType, Type, Value};
+use clif_types::{EntityRef, Type, Value};
 use cranelift_frontend::FunctionBuilder;
 
 // Makes one call, where its conditions hold.
@@ -56,7 +56,17 @@ pub(crate) fn make_call(
         Call::DeclareVar { ty } => declare_var(builder, answers, *ty),
         Call::DefVar { variable, value } => def_var(builder, answers, types, *variable, *value),
         Call::UseVar { variable } => use_var(builder, answers, types, *variable),
+        Call::TryDefVar { variable, value } => try_def_var(builder, answers, *variable, *value),
+        Call::TryUseVar { variable } => try_use_var(builder, answers, *variable),
         Call::Plain(instruction) => make_instruction(builder, answers, &instruction.plan()),
+        Call::F128const { bytes } => {
+            let opcode = PooledConstOpcode::F128const;
+            make_constant(builder, answers, opcode, Type::Invalid, bytes.as_slice())
+        }
+        Call::Vconst { ty, bytes } => {
+            let opcode = PooledConstOpcode::Vconst;
+            make_constant(builder, answers, opcode, *ty, bytes.as_slice())
+        }
         Call::Jump { destination } => {
             make_instruction(builder, answers, &Plan::Jump { destination })
         }
@@ -81,7 +91,7 @@ pub(crate) fn make_call(
     }
 }
 
-// `declare_var(ty)`, for a type that a variable may have so far.
+// `declare_var(ty)`, for a type that a value may have.
 fn declare_var(
     builder: &mut FunctionBuilder<'_>,
     answers: &[Answer],
@@ -90,30 +100,11 @@ fn declare_var(
     requires { IsSound builder.old answers.now }
     ensures { MakesCall (Call.DeclareVar ty) builder.old builder.new answers.now result }
 {
-    if !is_declarable(ty) {
+    if !ty.is_valid() {
         return Err(CallError::Misuse);
     }
     let variable = builder.declare_var(ty)?;
     Ok(Answer::Variable(variable))
-}
-
-// Whether a variable may have this type so far.
-fn is_declarable(ty: Type) -> bool
-    ensures { result ≡ is_declarable ty }
-{
-    ty.is_valid() && has_zero(ty)
-}
-
-// Whether the zero of this type can be made so far.
-fn has_zero(ty: Type) -> bool
-    ensures { result ≡ has_zero ty }
-{
-    match ty {
-        Type::Lane(LaneType::F128) => false,
-        Type::Lane(_) => true,
-        Type::Vector(LaneType::F16 | LaneType::F32 | LaneType::F64, _) => true,
-        Type::Vector(..) | Type::Invalid => false,
-    }
 }
 
 // Whether there is a current block to which no terminator was appended.
@@ -197,6 +188,46 @@ fn use_var(
     }
     let value = builder.use_var(variable)?;
     Ok(one_value(value))
+}
+
+// `try_def_var(variable, value)`, in a current unfilled block.
+fn try_def_var(
+    builder: &mut FunctionBuilder<'_>,
+    answers: &[Answer],
+    variable: Variable,
+    name: Name,
+) -> Result<Answer, CallError>
+    requires { IsSound builder.old answers.now }
+    ensures { MakesCall (Call.TryDefVar variable name) builder.old builder.new answers.now result }
+{
+    let Some(value) = value_named(builder.func(), answers, name) else {
+        return Err(CallError::Misuse);
+    };
+    if !has_current(builder) {
+        return Err(CallError::Misuse);
+    }
+    match builder.try_def_var(variable, value)? {
+        Ok(()) => Ok(Answer::Nothing),
+        Err(_) => Err(CallError::Refused),
+    }
+}
+
+// `try_use_var(variable)`, in a current unfilled block.
+fn try_use_var(
+    builder: &mut FunctionBuilder<'_>,
+    answers: &[Answer],
+    variable: Variable,
+) -> Result<Answer, CallError>
+    requires { IsSound builder.old answers.now }
+    ensures { MakesCall (Call.TryUseVar variable) builder.old builder.new answers.now result }
+{
+    if !has_current(builder) {
+        return Err(CallError::Misuse);
+    }
+    match builder.try_use_var(variable)? {
+        Ok(value) => Ok(one_value(value)),
+        Err(_) => Err(CallError::Refused),
+    }
 }
 
 // The answer of a call that answers this value alone.

@@ -44,7 +44,7 @@ pub(crate) fn make_instruction(
 }
 
 // The one call that makes an instruction.
-fn append(
+pub(crate) fn append(
     builder: &mut FunctionBuilder<'_>,
     shape: InstructionData,
     ty: Type,

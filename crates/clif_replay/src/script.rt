@@ -9,7 +9,7 @@ ghost use Rattle.clif_meaning.specs.Premises.{CallersEdgesMatch, PlacementPremis
 ghost use Rattle.clif_meaning.specs.Typing.{EdgesMatch};
 ghost use Rattle.clif_meaning.specs.WellPlaced.{WellPlaced};
 ghost use Rattle.clif_replay.specs.Replay.{ReplayMakes, ReplayTells};
-ghost use Rattle.clif_replay.specs.Requests.{IsBuiltBy, IsReplayed, IsStoppedByTable, requests_of, verdict_of};
+ghost use Rattle.clif_replay.specs.Requests.{IsBuiltBy, IsReplayed, IsStoppedByTable, MayBeRefused, attempts_of, requests_of, verdict_of};
 ghost use Rattle.clif_ir.specs.Body.{empty_body};
 ghost use Rattle.cranelift_frontend.specs.Builder.{SameLoans};
 ghost use Rattle.cranelift_frontend.specs.Context.{empty_context};
@@ -37,9 +37,8 @@ pub enum ReplayError {
     /// A condition of the call at this place doesn't hold, or a name in it leads to no such answer: the
     /// script is wrong. It prints as `misuse at call 3`.
     Misuse(usize),
-    /// The call at this place was refused, for another cause than memory or a full table; so far only
-    /// `finalize` is, where a block was begun and not sealed or not filled. It prints as
-    /// `refused at call 4`.
+    /// The call at this place was refused, for another cause than memory or a full table: `finalize`, where a block
+    /// was begun and not sealed or not filled, or a call that is only tried. It prints as `refused at call 4`.
     Refused(usize),
     /// Memory was refused. It prints as `no memory`.
     Memory,
@@ -151,9 +150,9 @@ pub fn replay(
     ensures name { IfOk result (λ function. function.name ≡ name) }
     ensures context { ctx.new ≡ empty_context }
     ensures misuse { (i : ℕ) → result ≡ Err (ReplayError.Misuse i) → i < length calls.now }
-    ensures refused { (i : ℕ) → result ≡ Err (ReplayError.Refused i) → i ≡ length calls.now }
+    ensures refused { (i : ℕ) → result ≡ Err (ReplayError.Refused i) → MayBeRefused calls.now i }
     ensures table_full { result ≡ Err ReplayError.Full → IsStoppedByTable calls.now name signature }
-    ensures verdict { result ≢ Err ReplayError.Memory → result ≢ Err ReplayError.Full → verdict_of result ≡ Some (acceptance.verdict_on (requests_of signature calls.now)) }
+    ensures verdict { result ≢ Err ReplayError.Memory → result ≢ Err ReplayError.Full → verdict_of result ≡ Some (acceptance.verdict_on_attempts (attempts_of signature calls.now)) }
 {
     let mut func = Function::with_name_signature(alloc, name, signature);
     build(alloc, calls, &mut func, ctx, config)?;
@@ -200,8 +199,9 @@ fn make_calls(
     ensures ready { OnOk result ((made : List AnsweredCall) × StandsFor builder.old.func.now.signature made builder.new × IsReplayed builder.old.func.now.signature calls.now (length calls.now) made) }
     ensures sound { OnOk result (builder.new.failed ≡ false) }
     ensures misuse { (i : ℕ) → result ≡ Err (ReplayError.Misuse i) → i < length calls.now }
-    ensures judged { (i : ℕ) → result ≡ Err (ReplayError.Misuse i) → acceptance.verdict_on (requests_of builder.old.func.now.signature calls.now) ≡ acceptance.Misuse i }
-    ensures never_refused { (i : ℕ) → result ≢ Err (ReplayError.Refused i) }
+    ensures judged { (i : ℕ) → result ≡ Err (ReplayError.Misuse i) → acceptance.verdict_on_attempts (attempts_of builder.old.func.now.signature calls.now) ≡ acceptance.Misuse i }
+    ensures tried { (i : ℕ) → result ≡ Err (ReplayError.Refused i) → MayBeRefused calls.now i }
+    ensures refused { (i : ℕ) → result ≡ Err (ReplayError.Refused i) → acceptance.verdict_on_attempts (attempts_of builder.old.func.now.signature calls.now) ≡ acceptance.Refused i }
     ensures table_full { result ≡ Err ReplayError.Full → IsStoppedByTable calls.now builder.old.func.now.name builder.old.func.now.signature }
 {
     ledger_is_read_by_number();

@@ -1,11 +1,18 @@
-//! Scripts: `Call` and `replay`, the rows with the program that prints them, and a function from the text of a script.
+//! Scripts: `Call` and `replay`, the rows with the program that prints them, a function from the text of a script, and
+//! runs of both.
 #![tactic(auto)]
 
+mod command;
+mod conditions;
+mod execution;
 mod program;
 mod row_texts;
 mod rows;
 
 pub use clif_calls::{Call, Edge, Name, PlainInstruction, Plan};
 pub use clif_replay::{ReplayError, replay};
+pub use command::{Command, Run, STEPS, USAGE};
+pub use conditions::{Condition, broken_condition};
+pub use execution::execute;
 pub use program::build;
 pub use rows::{row_text, run};

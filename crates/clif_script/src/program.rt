@@ -2,6 +2,7 @@
 ghost use Rattle.std.specs.Prelude.{◌≡◌, ◌<◌, IfOk};
 ghost use Rattle.clif_script.specs.Program.{IsAccepted, MakesFunction};
 
+use crate::conditions::{Condition, broken_condition};
 use clif_replay::{ReplayError, replay};
 use clif_text::{Expected, Fault, ReadError, Script, read};
 use cranelift_frontend::FunctionBuilderContext;
@@ -14,7 +15,7 @@ use std::{io, str};
 /// | Status | When |
 /// |---|---|
 /// | 0 | the function was finished and its text printed to `out`, and nothing to `err` |
-/// | 1 | the function couldn't be built, and `err` has the reason, as `misuse at call 3` and then `line 12: jump b1`, or `at the end`; or memory or a write was refused |
+/// | 1 | the function couldn't be built, and `err` has the reason, as `misuse at call 3` and then `line 12: jump b1: block1 is sealed`, or `refused at call 4` and `at the end`; or memory or a write was refused |
 /// | 2 | the bytes are no script, and `err` has the reason, as `script error at line 12: expected a block` |
 ///
 /// Nothing is printed to `out` unless the function was finished. Where a write fails, what was written before
@@ -45,12 +46,17 @@ fn build_bytes<O: io::Write, E: io::Write>(
 {
     match str::from_utf8(bytes) {
         Ok(text) => build_text(alloc, text, out, err),
-        Err(error) => {
-            let number = lines_to(&bytes[..error.valid_up_to()]);
-            let fault = Fault::Expected(Expected::Text);
-            tell_unread(ReadError::Line { number, fault }, err)
-        }
+        Err(error) => tell_no_text(&bytes[..error.valid_up_to()], err),
     }
+}
+
+// Tells that a file is no text behind these bytes.
+pub(crate) fn tell_no_text<E: io::Write>(before: &[u8], err: &mut E) -> io::Result<u8>
+    ensures { IfOk result (λ status. (0 < status) × (status < 3)) }
+{
+    let number = lines_to(before);
+    let fault = Fault::Expected(Expected::Text);
+    tell_unread(ReadError::Line { number, fault }, err)
 }
 
 // The number of the line on which these bytes end.
@@ -59,7 +65,7 @@ fn lines_to(bytes: &[u8]) -> usize {
 }
 
 // Tells why a text is no script.
-fn tell_unread<E: io::Write>(error: ReadError<'_>, err: &mut E) -> io::Result<u8>
+pub(crate) fn tell_unread<E: io::Write>(error: ReadError<'_>, err: &mut E) -> io::Result<u8>
     ensures { IfOk result (λ status. (0 < status) × (status < 3)) }
 {
     writeln!(err, "{error}")?;
@@ -104,7 +110,7 @@ fn build_script<O: io::Write, E: io::Write>(
     let mut ctx = FunctionBuilderContext::new(alloc);
     let func = match replay(alloc, calls.as_slice(), name, signature, &mut ctx, config) {
         Ok(func) => func,
-        Err(error) => return tell_unbuilt(error, text, lines.as_slice(), err),
+        Err(error) => return tell_unbuilt(alloc, error, text, lines.as_slice(), err),
     };
     let shown = func.display();
     let Ok(printed) = format!(in alloc; "{shown}") else {
@@ -115,7 +121,8 @@ fn build_script<O: io::Write, E: io::Write>(
 }
 
 // Tells why a function couldn't be built, and the line of the call.
-fn tell_unbuilt<E: io::Write>(
+pub(crate) fn tell_unbuilt<E: io::Write>(
+    alloc: Global,
     error: ReplayError,
     text: &str,
     lines: &[usize],
@@ -124,16 +131,58 @@ fn tell_unbuilt<E: io::Write>(
     ensures { IfOk result (λ status. status ≡ 1) }
 {
     writeln!(err, "{error}")?;
-    if let ReplayError::Misuse(place) | ReplayError::Refused(place) = error {
-        match lines.get(place) {
-            Some(number) => {
-                let line = line_of(text, *number);
-                writeln!(err, "line {number}: {line}")?;
-            }
-            None => writeln!(err, "at the end")?,
-        }
+    match error {
+        ReplayError::Misuse(place) => tell_misuse(alloc, place, text, lines, err)?,
+        ReplayError::Refused(place) => tell_call(place, text, lines, err)?,
+        ReplayError::Memory | ReplayError::Full => {}
     }
     Ok(1)
+}
+
+// Tells the line of a misused call, and which of its conditions doesn't hold. The script is read once more for that; if
+// memory is refused, the line alone is told.
+fn tell_misuse<E: io::Write>(
+    alloc: Global,
+    place: usize,
+    text: &str,
+    lines: &[usize],
+    err: &mut E,
+) -> io::Result<()> {
+    let Some(condition) = condition_of(alloc, text, place) else {
+        return tell_call(place, text, lines, err);
+    };
+    let Some(number) = lines.get(place) else {
+        return tell_call(place, text, lines, err);
+    };
+    let line = line_of(text, *number);
+    writeln!(err, "line {number}: {line}: {condition}")
+}
+
+// The condition of a call of a script that doesn't hold.
+fn condition_of(alloc: Global, text: &str, place: usize) -> Option<Condition> {
+    let Ok(script) = read(alloc, text) else {
+        return None;
+    };
+    match broken_condition(alloc, script.calls.as_slice(), &script.signature, place) {
+        Ok(condition) => condition,
+        Err(_) => None,
+    }
+}
+
+// Tells the line of the call at a place.
+pub(crate) fn tell_call<E: io::Write>(
+    place: usize,
+    text: &str,
+    lines: &[usize],
+    err: &mut E,
+) -> io::Result<()> {
+    match lines.get(place) {
+        Some(number) => {
+            let line = line_of(text, *number);
+            writeln!(err, "line {number}: {line}")
+        }
+        None => writeln!(err, "at the end"),
+    }
 }
 
 // The line with this number, without blanks at its ends.

@@ -182,5 +182,21 @@ return value
 seal_block block0
 ";
 
+/// Variables of vectors that are used and never assigned, before their block is sealed.
+pub(crate) const UNDEF_VECTORS: &str = "\
+# Variables that are never assigned are zero. The zeros of a and b are made of one constant.
+function %sample () -> i8x16 i8x16 f32x4 system_v
+block0 = create_block
+a = declare_var i8x16
+b = declare_var i8x16
+c = declare_var f32x4
+switch_to_block block0
+a0 = use_var a
+b0 = use_var b
+c0 = use_var c
+return a0 b0 c0
+seal_all_blocks
+";
+
 /// No calls.
 pub(crate) const EMPTY: &str = "";

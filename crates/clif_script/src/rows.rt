@@ -3,17 +3,18 @@ ghost use Rattle.std.specs.Prelude.{◌≡◌, ◌<◌, ◌↔◌, length, strin
 ghost use Rattle.clif_script.specs.Rows.{IsRowName};
 
 use crate::program::build_text;
-use crate::row_texts::{BOTH_ARMS, EMPTY, FIRST, REORDERING, SAMPLE, SAMPLE_LATE};
+use crate::row_texts::{BOTH_ARMS, EMPTY, FIRST, REORDERING, SAMPLE, SAMPLE_LATE, UNDEF_VECTORS};
 use std::alloc::Global;
 use std::io;
 
 // The names of the rows, in order.
-const NAMES: [&str; 6] = [
+const NAMES: [&str; 7] = [
     "first",
     "reordering",
     "sample",
     "sample_late",
     "both_arms",
+    "undef_vectors",
     "empty",
 ];
 
@@ -27,6 +28,7 @@ pub fn row_text(name: &str) -> Option<&'static str>
         "sample" => Some(SAMPLE),
         "sample_late" => Some(SAMPLE_LATE),
         "both_arms" => Some(BOTH_ARMS),
+        "undef_vectors" => Some(UNDEF_VECTORS),
         "empty" => Some(EMPTY),
         _ => None,
     }

@@ -3,12 +3,13 @@
 #![tactic(auto)]
 
 /// The rows by their names, with the texts of their functions.
-pub const ROWS: [(&str, &str); 6] = [
+pub const ROWS: [(&str, &str); 7] = [
     ("first", FIRST_TEXT),
     ("reordering", REORDERING_TEXT),
     ("sample", SAMPLE_TEXT),
     ("sample_late", SAMPLE_LATE_TEXT),
     ("both_arms", BOTH_ARMS_TEXT),
+    ("undef_vectors", UNDEF_VECTORS_TEXT),
     ("empty", EMPTY_TEXT),
 ];
 
@@ -368,7 +369,7 @@ jump block0
 
 pub const MISUSE_TEXT: &str = "\
 misuse at call 3
-line 5: jump block0
+line 5: jump block0: block0 is sealed
 ";
 
 const BOTH_ARMS_TEXT: &str = "\
@@ -387,6 +388,22 @@ block2:
 
 block3:
     return v1
+}
+";
+
+const UNDEF_VECTORS_TEXT: &str = "\
+function %sample() -> i8x16, i8x16, f32x4 system_v {
+    const0 = 0x00000000000000000000000000000000
+
+block0:
+    v5 = f32const 0.0
+    v6 = splat.f32x4 v5  ; v5 = 0.0
+    v2 -> v6
+    v4 = vconst.i8x16 const0
+    v1 -> v4
+    v3 = vconst.i8x16 const0
+    v0 -> v3
+    return v0, v1, v2  ; v0 = const0, v1 = const0
 }
 ";
 

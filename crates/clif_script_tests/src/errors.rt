@@ -16,7 +16,7 @@ fn faults(rt: &impl Abort, alloc: Global, rows: &[(&str, &str)]) -> Result<(), F
     Ok(())
 }
 
-const CALLS: [(&str, &str); 27] = [
+const CALLS: [(&str, &str); 30] = [
     ("jmp b", "unknown call: jmp"),
     ("iadd.i32 $0.0 $0.0", "unknown call: iadd.i32"),
     ("(", "unknown call: ("),
@@ -35,6 +35,9 @@ const CALLS: [(&str, &str); 27] = [
     ("use_var", "expected a variable"),
     ("use_var var4294967295", "expected a variable"),
     ("use_var y", "unknown name: y"),
+    ("try_use_var", "expected a variable"),
+    ("try_def_var var0", "expected a value"),
+    ("try_def_var var0 $0.0 $0.0", "expected the end of the line"),
     ("iconst 1", "expected a type"),
     ("iconst.i32", "expected a number of 64 bits"),
     (
@@ -57,13 +60,20 @@ fn of_calls(rt: HostRuntime) -> Result<(), Fail> {
     faults(&rt, rt.alloc(), &CALLS)
 }
 
-const INSTRUCTIONS: [(&str, &str); 39] = [
+const INSTRUCTIONS: [(&str, &str); 46] = [
     ("f16const", "expected the bits of an f16"),
     ("f16const 65536", "expected the bits of an f16"),
     ("f32const 4294967296", "expected the bits of an f32"),
     ("f32const -1", "expected the bits of an f32"),
     ("f64const 1.0", "expected the bits of an f64"),
     ("f32const.f32 0", "unknown call: f32const.f32"),
+    ("f128const", "expected the bytes of a constant"),
+    ("f128const 0x0", "expected the bytes of a constant"),
+    ("f128const 0", "expected the bytes of a constant"),
+    ("f128const.f128 0x00", "unknown call: f128const.f128"),
+    ("vconst 0x00", "expected a type"),
+    ("vconst.i8x16 0xFF", "expected the bytes of a constant"),
+    ("vconst.i8x16 0x00 0x00", "expected the end of the line"),
     ("icmp", "expected a condition"),
     ("icmp lt $0.0 $0.0", "expected a condition"),
     ("icmp eq $0.0", "expected a value"),
@@ -160,7 +170,7 @@ fn of_header_lines(rt: HostRuntime) -> Result<(), Fail> {
 
 const CALLS_TO_COME: [(&str, &str); 3] = [
     ("switch x b 1:c", "not supported yet: switch"),
-    ("x = vconst.i8x16 0x00", "not supported yet: vconst"),
+    ("cursor iconst.i8 0", "not supported yet: cursor"),
     ("call f (x)", "not supported yet: call"),
 ];
 

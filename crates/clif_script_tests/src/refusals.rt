@@ -3,11 +3,12 @@
 
 use crate::steps::Step::{
     Brif, Create, Declare, Def, Iadd, Iconst, Isub, Jump, JumpWith, Return, ReturnNone, Seal,
-    Switch, Use,
+    Switch, TryDef, TryUse, Use,
 };
-use crate::steps::{F32, F128, I32, I64, Step, all_refuse};
+use crate::steps::{F32, I32, I64, Step, all_refuse};
 use clif_script::ReplayError;
 use clif_script::ReplayError::{Misuse, Refused};
+use clif_types::Type;
 use std::test::Fail;
 
 const UNFINISHED_BLOCKS: [(&[Step], ReplayError); 3] = [
@@ -31,7 +32,7 @@ const VARIABLES: [(&[Step], ReplayError); 7] = [
     ),
     (&[Declare(I32), Create, Switch(1, 0), Use(1)], Misuse(3)),
     // types that don't fit
-    (&[Declare(F128)], Misuse(0)),
+    (&[Declare(Type::Invalid)], Misuse(0)),
     (&[Create, Switch(0, 0), Iconst(F32)], Misuse(2)),
     (
         &[
@@ -48,6 +49,50 @@ const VARIABLES: [(&[Step], ReplayError); 7] = [
 #[test]
 fn variables(rt: HostRuntime) -> Result<(), Fail> {
     all_refuse(&rt, rt.alloc(), &VARIABLES)
+}
+
+const TRIED_VARIABLES: [(&[Step], ReplayError); 8] = [
+    // where a use is a misuse, a tried one is refused: the variable isn't declared
+    (&[Create, Switch(0, 0), TryUse(0)], Refused(2)),
+    (&[Declare(I32), Create, Switch(1, 0), TryUse(1)], Refused(3)),
+    (
+        &[Create, Switch(0, 0), Iconst(I32), TryDef(0, 2, 1)],
+        Refused(3),
+    ),
+    // types that don't fit
+    (
+        &[
+            Declare(I64),
+            Create,
+            Switch(1, 0),
+            Iconst(I32),
+            TryDef(0, 3, 1),
+        ],
+        Refused(4),
+    ),
+    // no current block, or one that is filled, and a name that leads to no value
+    (&[TryUse(0)], Misuse(0)),
+    (
+        &[
+            Declare(I32),
+            Create,
+            Switch(1, 0),
+            Iconst(I32),
+            ReturnNone,
+            TryDef(1, 3, 1),
+        ],
+        Misuse(5),
+    ),
+    (&[Create, Switch(0, 0), ReturnNone, TryUse(0)], Misuse(3)),
+    (
+        &[Create, Switch(0, 0), Iconst(I32), TryDef(0, 2, 0)],
+        Misuse(3),
+    ),
+];
+
+#[test]
+fn tried_variables(rt: HostRuntime) -> Result<(), Fail> {
+    all_refuse(&rt, rt.alloc(), &TRIED_VARIABLES)
 }
 
 const NAMES_WITHOUT_ANSWER: [(&[Step], ReplayError); 7] = [

@@ -2,7 +2,7 @@
 #![tactic(auto)]
 
 use crate::steps::Step::{
-    Create, Declare, Def, Iadd, Iconst, Return, ReturnNone, Seal, Switch, Use,
+    Create, Declare, Def, Iadd, Iconst, Return, ReturnNone, Seal, Switch, TryDef, TryUse, Use,
 };
 use crate::steps::{I32, I64, builds, call_of, calls_of, replayed};
 use clif_script::ReplayError;
@@ -39,6 +39,24 @@ fn variables(rt: HostRuntime) -> Result<(), Fail> {
         Iconst(I64),
         Def(0, 4, 1),
         Use(0),
+        Return(6, 0),
+    ];
+    let text =
+        "function u0:0() fast {\nblock0:\n    v0 = iconst.i64 1\n    return v0  ; v0 = 1\n}\n";
+    builds(&rt, rt.alloc(), &steps, text)
+}
+
+// The same, where the calls are only tried.
+#[test]
+fn tried_variables(rt: HostRuntime) -> Result<(), Fail> {
+    let steps = [
+        Declare(I64),
+        Create,
+        Seal(1, 0),
+        Switch(1, 0),
+        Iconst(I64),
+        TryDef(0, 4, 1),
+        TryUse(0),
         Return(6, 0),
     ];
     let text =

@@ -25,7 +25,7 @@ fn run_with(
     ended(status, out, err)
 }
 
-const NAMES: &str = "first\nreordering\nsample\nsample_late\nboth_arms\nempty\n";
+const NAMES: &str = "first\nreordering\nsample\nsample_late\nboth_arms\nundef_vectors\nempty\n";
 
 // One run with these arguments gives this status and these texts.
 fn gives(

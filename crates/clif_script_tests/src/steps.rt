@@ -6,7 +6,7 @@ ghost use Rattle.cranelift_frontend.specs.Context.{empty_context};
 
 use clif_ir::Function;
 use clif_records::Variable;
-use clif_script::{Call, Edge, Name, PlainInstruction, ReplayError, replay};
+use clif_script::{Call, Edge, Name, PlainInstruction, ReplayError, broken_condition, replay};
 use clif_types::{
     AbiParam, CallConv, LaneType, PointerWidth, Signature, TargetFrontendConfig, Type, UserFuncName,
 };
@@ -20,8 +20,6 @@ pub const I32: Type = Type::Lane(LaneType::I32);
 pub const I64: Type = Type::Lane(LaneType::I64);
 
 pub const F32: Type = Type::Lane(LaneType::F32);
-
-pub const F128: Type = Type::Lane(LaneType::F128);
 
 /// A call, where (place, answer) is a name; each constant is 1.
 #[derive(Clone, Copy)]
@@ -39,6 +37,8 @@ pub enum Step {
     Declare(Type),
     Def(u8, usize, usize),
     Use(u8),
+    TryDef(u8, usize, usize),
+    TryUse(u8),
     Iconst(Type),
     Iadd((usize, usize), (usize, usize)),
     Isub((usize, usize), (usize, usize)),
@@ -92,6 +92,13 @@ pub fn call_of(alloc: Global, step: Step) -> Result<Call, AllocError> {
             value: name(place, answer),
         },
         Step::Use(number) => Call::UseVar {
+            variable: variable(number),
+        },
+        Step::TryDef(number, place, answer) => Call::TryDefVar {
+            variable: variable(number),
+            value: name(place, answer),
+        },
+        Step::TryUse(number) => Call::TryUseVar {
             variable: variable(number),
         },
         Step::Iconst(ty) => Call::Plain(PlainInstruction::Iconst { ty, imm: 1 }),
@@ -204,9 +211,29 @@ fn gives(
     has_text(rt, alloc, &built?, text)
 }
 
+// By what the calls alone tell, a condition of the call at this place doesn't hold, and all conditions of the calls before
+// it do; where there is no place, all conditions hold.
+fn tells_misuse(
+    rt: &impl Abort,
+    alloc: Global,
+    calls: &[Call],
+    signature: &Signature,
+    misuse: Option<usize>,
+) -> Result<(), Fail> {
+    for place in 0..misuse.unwrap_or(calls.len()) {
+        assert!(rt; broken_condition(alloc, calls, signature, place)?.is_none());
+    }
+    if let Some(place) = misuse {
+        assert!(rt; broken_condition(alloc, calls, signature, place)?.is_some());
+    }
+    Ok(())
+}
+
 /// The steps give a function of this text, and again with the same context.
 pub fn builds(rt: &impl Abort, alloc: Global, steps: &[Step], text: &str) -> Result<(), Fail> {
     let calls = calls_of(alloc, steps)?;
+    let signature = Signature::new(alloc, CallConv::Fast);
+    tells_misuse(rt, alloc, calls.as_slice(), &signature, None)?;
     let mut ctx = FunctionBuilderContext::new(alloc);
     gives(rt, alloc, calls.as_slice(), &mut ctx, text)?;
     gives(rt, alloc, calls.as_slice(), &mut ctx, text)
@@ -235,6 +262,7 @@ pub fn builds_on(
         returns: abi_params(alloc, returns)?,
         call_conv: CallConv::Fast,
     };
+    tells_misuse(rt, alloc, calls.as_slice(), &signature, None)?;
     let mut ctx = FunctionBuilderContext::new(alloc);
     let built = replayed_on(alloc, calls.as_slice(), signature, &mut ctx);
     has_text(rt, alloc, &built?, text)
@@ -262,6 +290,14 @@ fn refused(
     Ok(())
 }
 
+// The place of the call that is misused.
+fn misused(error: ReplayError) -> Option<usize> {
+    match error {
+        ReplayError::Misuse(place) => Some(place),
+        ReplayError::Refused(_) | ReplayError::Memory | ReplayError::Full => None,
+    }
+}
+
 // The steps of this row are answered by this error, and then a script without calls, with the same context, by its
 // text.
 fn refuses(
@@ -272,6 +308,8 @@ fn refuses(
     error: ReplayError,
 ) -> Result<(), Fail> {
     let calls = calls_of(alloc, steps)?;
+    let signature = Signature::new(alloc, CallConv::Fast);
+    tells_misuse(rt, alloc, calls.as_slice(), &signature, misused(error))?;
     let mut ctx = FunctionBuilderContext::new(alloc);
     refused(rt, alloc, row, calls.as_slice(), &mut ctx, error)?;
     gives(rt, alloc, &[], &mut ctx, "function u0:0() fast {\n}\n")

@@ -71,6 +71,8 @@ append_block_params_for_function_params $1.0
 append_block_params_for_function_returns $2.0
 def_var var3 $0.0
 use_var var4294967294
+try_def_var var3 $0.0
+try_use_var var4294967294
 iconst.i128 -0x8000_0000_0000_0000
 iconst.f16 0xffff_ffff_ffff_ffff
 iadd $1.2 $3.4
@@ -97,6 +99,8 @@ append_block_params_for_function_params $1.0
 append_block_params_for_function_returns $2.0
 def_var var3 $0.0
 use_var var4294967294
+try_def_var var3 $0.0
+try_use_var var4294967294
 iconst.i128 -9223372036854775808
 iconst.f16 -1
 iadd $1.2 $3.4
@@ -119,6 +123,8 @@ f16const 65_535
 f32const 1065353216
 f64const 0x3ff0_0000_0000_0000
 f64const 18446744073709551615
+f128const 0x000102030405060708090a0b0c0d0e0f
+x = vconst.i8x4 0xdeadbeef
 sextend.i64 $1.0
 iconcat $1.0 $2.0
 low, high = isplit $1.0
@@ -134,7 +140,7 @@ s = create_sized_stack_slot 4 2
 t = create_sized_stack_slot 0x10, 0
 stack_addr.i64 t 8
 stack_load.f32 s
-stack_load.i8 $17.0 -1
+stack_load.i8 $19.0 -1
 stack_store $1.0, ss7, +4
 trapz $1.0 user7
 trapnz $1.0, int_divz
@@ -150,6 +156,8 @@ f16const 65535
 f32const 1065353216
 f64const 4607182418800017408
 f64const 18446744073709551615
+f128const 0x000102030405060708090a0b0c0d0e0f
+vconst.i8x4 0xdeadbeef
 sextend.i64 $1.0
 iconcat $1.0 $2.0
 isplit $1.0
@@ -254,81 +262,94 @@ block0:
     Ok(())
 }
 
-const MISUSES: [(&str, &str); 19] = [
+const MISUSES: [(&str, &str); 22] = [
     (data::MISUSE, data::MISUSE_TEXT),
     // an answer that isn't there, and one of another kind
     (
         "\n\n  seal_block $0.0 # late  ",
-        "misuse at call 0\nline 3: seal_block $0.0 # late\n",
+        "misuse at call 0\nline 3: seal_block $0.0 # late: $0.0 is no block\n",
     ),
     (
         "b = create_block\nswitch_to_block b\nuse_var b",
-        "misuse at call 2\nline 3: use_var b\n",
+        "misuse at call 2\nline 3: use_var b: var0 isn't declared\n",
     ),
     (
         "b = create_block\nswitch_to_block b\nuse_var $7.0",
-        "misuse at call 2\nline 3: use_var $7.0\n",
+        "misuse at call 2\nline 3: use_var $7.0: var0 isn't declared\n",
     ),
     (
         "b = create_block\nswitch_to_block b\nuse_var var0",
-        "misuse at call 2\nline 3: use_var var0\n",
+        "misuse at call 2\nline 3: use_var var0: var0 isn't declared\n",
     ),
     (
         "b = create_block\nx, y = append_block_params_for_function_returns b\nswitch_to_block b\nreturn y\nfunction %f () -> i8 fast",
-        "misuse at call 3\nline 4: return y\n",
+        "misuse at call 3\nline 4: return y: $1.1 is no value\n",
     ),
-    // types whose zeros can't be made
+    // constants of another length than their type, and a type that is no vector
     (
-        "declare_var f128",
-        "misuse at call 0\nline 1: declare_var f128\n",
+        "b = create_block\nswitch_to_block b\nf128const 0x000102",
+        "misuse at call 2\nline 3: f128const 0x000102: the constant has 3 bytes, and its type 16\n",
     ),
     (
-        "declare_var i8x16",
-        "misuse at call 0\nline 1: declare_var i8x16\n",
+        "b = create_block\nswitch_to_block b\nvconst.i16x2 0x0102030405",
+        "misuse at call 2\nline 3: vconst.i16x2 0x0102030405: the constant has 5 bytes, and its type 4\n",
+    ),
+    (
+        "b = create_block\nswitch_to_block b\nvconst.i32 0x00000000",
+        "misuse at call 2\nline 3: vconst.i32 0x00000000: vconst can't be made at type i32\n",
     ),
     // no integer of twice the width, none of half the width, and a type that is no integer
     (
         "b = create_block\nx = append_block_param b i128\nswitch_to_block b\niconcat x x",
-        "misuse at call 3\nline 4: iconcat x x\n",
+        "misuse at call 3\nline 4: iconcat x x: iconcat can't be made at type i128\n",
     ),
     (
         "b = create_block\nx = append_block_param b i8\nswitch_to_block b\nisplit x",
-        "misuse at call 3\nline 4: isplit x\n",
+        "misuse at call 3\nline 4: isplit x: isplit can't be made at type i8\n",
     ),
     (
         "b = create_block\nx = append_block_param b i8\nswitch_to_block b\nsextend.f32 x",
-        "misuse at call 3\nline 4: sextend.f32 x\n",
+        "misuse at call 3\nline 4: sextend.f32 x: sextend can't be made at type f32\n",
     ),
     // a result that a store hasn't, and a block that a trap filled
     (
         "b = create_block\nx = append_block_param b i64\nswitch_to_block b\nstore x x\ntrapz $3.1 user1",
-        "misuse at call 4\nline 5: trapz $3.1 user1\n",
+        "misuse at call 4\nline 5: trapz $3.1 user1: $3.1 is no value\n",
     ),
     (
         "b = create_block\nswitch_to_block b\ntrap user1\ntrap user1",
-        "misuse at call 3\nline 4: trap user1\n",
+        "misuse at call 3\nline 4: trap user1: block0 is filled\n",
     ),
     // an alignment that is too great, a slot that isn't there, and an address that is no integer
     (
         "create_sized_stack_slot 4 32",
-        "misuse at call 0\nline 1: create_sized_stack_slot 4 32\n",
+        "misuse at call 0\nline 1: create_sized_stack_slot 4 32: the shift 32 is above 31\n",
     ),
     (
         "s = create_sized_stack_slot 4 31\nb = create_block\nswitch_to_block b\nstack_load.i8 ss1",
-        "misuse at call 3\nline 4: stack_load.i8 ss1\n",
+        "misuse at call 3\nline 4: stack_load.i8 ss1: ss1 isn't there\n",
     ),
     (
         "b = create_block\nx = append_block_param b i8\nswitch_to_block b\nstack_store x x",
-        "misuse at call 3\nline 4: stack_store x x\n",
+        "misuse at call 3\nline 4: stack_store x x: ss0 isn't there\n",
     ),
     (
         "s = create_sized_stack_slot 4 0\nb = create_block\nswitch_to_block b\nstack_addr.f32 s",
-        "misuse at call 3\nline 4: stack_addr.f32 s\n",
+        "misuse at call 3\nline 4: stack_addr.f32 s: stack_addr can't be made at type f32\n",
     ),
     // a slot is no value
     (
         "s = create_sized_stack_slot 4 0\nb = create_block\nswitch_to_block b\nreturn s",
-        "misuse at call 3\nline 4: return s\n",
+        "misuse at call 3\nline 4: return s: $0.0 is no value\n",
+    ),
+    // a variable that isn't declared, and one of another type than the value
+    (
+        "b = create_block\nswitch_to_block b\nv = try_use_var var0",
+        "refused at call 2\nline 3: v = try_use_var var0\n",
+    ),
+    (
+        "x = declare_var i32\nb = create_block\nv = append_block_param b i8\nswitch_to_block b\ntry_def_var x v",
+        "refused at call 4\nline 5: try_def_var x v\n",
     ),
     // a block that isn't finished
     (

@@ -18,6 +18,7 @@ use Rattle.clif_instructions.specs.Instruction.{operands, destinations}
 use Rattle.clif_instructions.specs.Instruction as shapes
 use Rattle.clif_opcodes.specs.Kinds.{result_type}
 use Rattle.clif_instructions.specs.Edges.{targets}
+use Rattle.clif_tables.specs.Lists.{TableLists}
 use Rattle.clif_ir.specs.Body.{Body, no_value, inst_at}
 use Rattle.clif_ir.specs.Consistent.{IsConsistent}
 use Rattle.clif_instructions.specs.Members.{Once}
@@ -50,7 +51,7 @@ use Rattle.clif_simulation.proofs.Calls.{inserted_soundly, longer_calls, name_st
 use Rattle.clif_simulation.proofs.Carrying.{all_contained, all_mapped, earlier_name, edge_earlier, edges_kept, holds_item, item_last, leads_kept, numbers_kept, spares_item}
 use Rattle.clif_simulation.proofs.Extending.{extended, one_answer}
 use Rattle.clif_simulation.proofs.Giving.{In, contained_in}
-use Rattle.clif_simulation.proofs.Growing.{GoesOn, KeepsInsts, goes_on-from, goes_on-with_inst, insts_inserted, insts_kept, made_controlled}
+use Rattle.clif_simulation.proofs.Growing.{inserted_constants, GoesOn, KeepsInsts, goes_on-from, goes_on-with_inst, insts_inserted, insts_kept, made_controlled}
 use Rattle.clif_simulation.proofs.ItemCalls.{PutsItem, adds_instruction, last-with_item, number_of_answer}
 use Rattle.clif_simulation.proofs.Layouts.{out_before, never_out}
 use Rattle.clif_simulation.proofs.LedgerValues.{typed_on}
@@ -86,23 +87,24 @@ passed_edges passed n (edge ∷ edges) same =
 
 -- What a shape of the function and an instruction of the program have in common, its results aside: the edges pass what
 -- answered.
-pub record SameBranch (calls : List AnsweredCall) (shape : InstructionData) (instruction : Instruction Name Name) : Type 0 where
-  pub operation : operation_of shape ≡ instruction.operation
+pub record SameBranch (calls : List AnsweredCall) (tables : TableLists) (shape : InstructionData) (instruction : Instruction Name Name) : Type 0 where
+  pub operation : operation_of tables shape ≡ instruction.operation
   pub arguments : operands shape ≡ map (answered calls) instruction.operands
   pub edges : edges_of shape ≡ map (answered_edge calls) instruction.edges
   pub earlier : AllByRecursion (IsEarlier calls) instruction.operands
   pub edges_earlier : AllByRecursion (EdgeEarlier calls) instruction.edges
 
 -- the same of one without edges
-pub record SameInstruction (calls : List AnsweredCall) (shape : InstructionData) (instruction : Instruction Name Name) : Type 0 where
-  pub operation : operation_of shape ≡ instruction.operation
+pub record SameInstruction (calls : List AnsweredCall) (tables : TableLists) (shape : InstructionData) (instruction : Instruction Name Name) : Type 0 where
+  pub operation : operation_of tables shape ≡ instruction.operation
   pub arguments : operands shape ≡ map (answered calls) instruction.operands
   pub no_edges : edges_of shape ≡ []
   pub edges : instruction.edges ≡ []
   pub earlier : AllByRecursion (IsEarlier calls) instruction.operands
 
-same_branch : (calls : List AnsweredCall) (shape : InstructionData) (instruction : Instruction Name Name) → SameInstruction calls shape instruction → SameBranch calls shape instruction
-same_branch calls shape instruction same = record {
+same_branch : (calls : List AnsweredCall) (tables : TableLists) (shape : InstructionData) (instruction : Instruction Name Name)
+    → SameInstruction calls tables shape instruction → SameBranch calls tables shape instruction
+same_branch calls tables shape instruction same = record {
   operation = same.operation;
   arguments = same.arguments;
   edges = same.no_edges ∙ sym (ap (map (answered_edge calls)) same.edges);
@@ -235,7 +237,7 @@ module _ (calls : List AnsweredCall) (f : Body) (s : SsaState) (c : Carries call
     g = with_inst h b Back shape types loc
 
     on : GoesOn f g
-    on = goes_on-from f h g same.insts same.values (goes_on-with_inst h b Back shape types loc)
+    on = goes_on-from f h g same.insts same.values (inserted_constants f b) (goes_on-with_inst h b Back shape types loc)
 
     keeps : KeepsInsts f g
     keeps = insts_kept f g consistent on
@@ -265,14 +267,14 @@ module _ (calls : List AnsweredCall) (f : Body) (s : SsaState) (c : Carries call
         (updated-other c.own.passed i (shape_passes shape) j (λ is. omega (arith, below, is, as_many)))
         ∙ keeps.placed c.own j below
 
-    own_new : (operation : operation_of shape ≡ instruction.operation) (arguments : operands shape ≡ map (answered after) instruction.operands)
+    own_new : (operation : operation_of f.tables shape ≡ instruction.operation) (arguments : operands shape ≡ map (answered after) instruction.operands)
         (edges : edges_of shape ≡ map (answered_edge after) instruction.edges) (results : List Name)
         → controlling_of g shape (inst_node h b shape types loc).results ≡ instruction.controlling → (inst_node h b shape types loc).results ≡ map (answered after) results
         → map (own_placed mine g) (i ∷ []) ≡ carried after (Instruct (length calls) instruction results)
     own_new operation arguments edges results controlling result_is =
         ap (λ (p : Placed). p ∷ [])
-        (ap (λ (node : InstNode). placed_parts (operation_of node.shape) (controlling_of g node.shape node.results) (operands node.shape) (as_passed (mine.passed i) 0 (edges_of node.shape)) node.results) node_is
-        ∙ placed_same _ _ _ _ _ _ _ _ _ _ operation controlling arguments
+        (ap (λ (node : InstNode). placed_parts (operation_of g.tables node.shape) (controlling_of g node.shape node.results) (operands node.shape) (as_passed (mine.passed i) 0 (edges_of node.shape)) node.results) node_is
+        ∙ placed_same _ _ _ _ _ _ _ _ _ _ (ap (λ (t : TableLists). operation_of t shape) same.tables ∙ operation) controlling arguments
         (passed_edges (mine.passed i) 0 (destinations shape)
         (λ k. let plain_k : 0 + k ≡ k = omega arith in
         ap (mine.passed i) plain_k ∙ ap (λ (passes : ℕ → List BlockArg). passes k) (updated-same c.own.passed i (shape_passes shape) i refl))
@@ -332,7 +334,7 @@ module _ (calls : List AnsweredCall) (f : Body) (s : SsaState) (c : Carries call
 
   -- THE INSTRUCTION -----------------------------------------------------------------------------------------------------
 
-  module _ (matches : SameBranch calls shape instruction) (types : List «Type») (typed : result_types instruction.operation instruction.controlling ≡ types)
+  module _ (matches : SameBranch calls f.tables shape instruction) (types : List «Type») (typed : result_types instruction.operation instruction.controlling ≡ types)
       (controlling : controlling_of (with_inst h b Back shape types loc) shape (inst_node h b shape types loc).results ≡ instruction.controlling)
       (numbered : (k : ℕ) → k < length types → slice_get numbers (suc k) ≡ Some (length h.values + k)) where
     abbrev m : Body
@@ -496,14 +498,14 @@ module _ (calls : List AnsweredCall) (f : Body) (s : SsaState) (c : Carries call
           (λ spares T. along_soundly told mine m s t T i (longer_insts types) (inserted_entry f b) once may (no_entry spares) (λ x k to. ap (λ (args : List BlockArg). length args) (passes_made types k)) along)
 
   -- An instruction without edges, with results of these types.
-  pub carries_plain : (matches : SameInstruction calls shape instruction) (types : List «Type») → result_types instruction.operation instruction.controlling ≡ types
+  pub carries_plain : (matches : SameInstruction calls f.tables shape instruction) (types : List «Type») → result_types instruction.operation instruction.controlling ≡ types
       → controlling_of (with_inst h b Back shape types loc) shape (inst_node h b shape types loc).results ≡ instruction.controlling
       → ((k : ℕ) → k < length types → slice_get numbers (suc k) ≡ Some (length h.values + k)) → Carries after (with_inst h b Back shape types loc) s
   carries_plain matches types typed controlling numbered =
-      carries_made (same_branch calls shape instruction matches) types typed controlling numbered s (declared_plain types matches.no_edges) (leads_plain types) (structured_before types) (λ spares T d. d)
+      carries_made (same_branch calls f.tables shape instruction matches) types typed controlling numbered s (declared_plain types matches.no_edges) (leads_plain types) (structured_before types) (λ spares T d. d)
 
   -- A branch: it was declared once at each block to which it leads.
-  pub carries_branch : (matches : SameBranch calls shape instruction) (types : List «Type») → result_types instruction.operation instruction.controlling ≡ types
+  pub carries_branch : (matches : SameBranch calls f.tables shape instruction) (types : List «Type») → result_types instruction.operation instruction.controlling ≡ types
       → controlling_of (with_inst h b Back shape types loc) shape (inst_node h b shape types loc).results ≡ instruction.controlling
       → ((k : ℕ) → k < length types → slice_get numbers (suc k) ≡ Some (length h.values + k)) → (told : List ℕ) (t : SsaState) → is_terminator instruction.operation ≡ true → Once told
       → ((x : ℕ) → (Contains told x → Contains (targets (destinations shape)) x) × (Contains (targets (destinations shape)) x → Contains told x))

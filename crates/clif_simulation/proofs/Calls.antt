@@ -142,7 +142,7 @@ module _ (calls : List AnsweredCall) (f : Body) (s : SsaState) (c : Carries call
             (parameters_on calls call (kept calls call refl) c.own c.own f (with_block f) s t c.holds (λ i below. refl) (omega arith) (λ b out. out) tt (λ b. refl) bare)
             (parameters_values_on calls call (kept calls call refl) c.own c.own f (with_block f) s t c.holds (λ i below. refl) (omega arith) (λ b out. out) tt)
             (typed_on calls call f (with_block f) c.holds.values_typed (λ v ty typed. typed) (λ index ty is. absurd (none_new calls call one_answer_none index ty is))) blocks named items
-            (declared_kept c.own f (with_block f) s t (insts_same f (with_block f) refl refl) leads c.holds.own_exist c.holds.declared)
+            (declared_kept c.own f (with_block f) s t (insts_same f (with_block f) refl refl refl) leads c.holds.own_exist c.holds.declared)
             (leads_kept calls call c.own c.own s t (kept calls call refl) (λ b i h. h) leads c.holds.leads_own)
             (entry_stays calls (calls ++ call ∷ []) f (with_block f) (Requests.entry_left calls call (λ program. refl)) refl (kept calls call refl) c.holds.entry)
             (λ types are.
@@ -320,7 +320,7 @@ module _ (calls : List AnsweredCall) (f : Body) (s : SsaState) (c : Carries call
   carries_switched block numbers =
       let call : AnsweredCall = the_call (SwitchToBlock block) numbers in
       carries_kept call f s tt tt (Requests.items_switched calls call block refl) (Requests.entry_switched calls call block refl) (λ index. refl)
-      (insts_same f f refl refl) refl (λ b. refl) (λ types own h. h) still
+      (insts_same f f refl refl refl) refl (λ b. refl) (λ types own h. h) still
 
   -- a variable is declared
   pub carries_declared : (ty : «Type») (numbers : List ℕ) → Carries (with_answers (DeclareVar ty) numbers) f s
@@ -328,7 +328,7 @@ module _ (calls : List AnsweredCall) (f : Body) (s : SsaState) (c : Carries call
       let call : AnsweredCall = the_call (DeclareVar ty) numbers in
       carries_kept call f s tt tt (Requests.items_left calls call (λ program. refl)) (Requests.entry_left calls call (λ program. refl))
       (one_variable_none (length (ledger_after (script_of calls)).variables))
-      (insts_same f f refl refl) refl (λ b. refl) (λ types own h. h) still
+      (insts_same f f refl refl refl) refl (λ b. refl) (λ types own h. h) still
 
   -- a block is sealed
   pub carries_sealed : (g : Body) (t : SsaState) (block : Name) (numbers : List ℕ) → IsConsistent f
@@ -368,7 +368,7 @@ module _ (calls : List AnsweredCall) (f : Body) (s : SsaState) (c : Carries call
           holds = holds_item calls call (name_stays calls call tt) c.own c.own f f s t c.holds (λ i below. refl) (omega arith) (λ d out. out) b B (Assign x n) current.named puts []
               (sym (append-nil (c.own.insts b))) (λ d other. refl) (λ d. refl) (typed_on calls call f f c.holds.values_typed (λ v ty typed. typed) (λ index a is. absurd (none_new calls call (λ k. refl) index a is)))
               (λ out. refl) refl tt (let l = longer_calls calls call in omega (arith, earlier, l)) plain
-              (declared_kept c.own f f s t (insts_same f f refl refl) leads c.holds.own_exist c.holds.declared)
+              (declared_kept c.own f f s t (insts_same f f refl refl refl) leads c.holds.own_exist c.holds.declared)
               (leads_kept calls call c.own c.own s t (name_stays calls call tt) (λ d i h. h) leads c.holds.leads_own)
               (entry_stays calls (calls ++ call ∷ []) f f entry refl (name_stays calls call tt) c.holds.entry)
               (λ types are.

@@ -11,8 +11,9 @@ use Rattle.clif_meaning.specs.Memory.{Memory, Range}
 use Rattle.clif_meaning.specs.Name.{Name, same_name, answer_of}
 use Rattle.clif_opcodes.specs.declared.opcodes.FloatConstOpcode.TheVariants.{F16const, F32const, F64const}
 use Rattle.clif_types.specs.MemFlags.{MemFlagsShape}
+use Rattle.clif_opcodes.specs.declared.opcodes.PooledConstOpcode.TheVariants.{F128const, Vconst}
 use Rattle.clif_opcodes.specs.declared.opcodes.StackOpcode.TheVariants.{StackAddr, StackLoad}
-use Rattle.clif_meaning.specs.Instruction.{Instruction, Operation, Compute, Load, Store, Stack, StackStore, Trap, CondTrap, Jump, Brif, Return, Arithmetic, Iconst, FloatConst, Unary, Binary, Compare, Concat, Split, Convert, Select}
+use Rattle.clif_meaning.specs.Instruction.{Instruction, Operation, Compute, Load, Store, Stack, StackStore, Trap, CondTrap, Jump, Brif, BrTable, Return, Arithmetic, Iconst, FloatConst, PooledConst, Unary, Binary, Compare, Concat, Split, Convert, Select}
 use Rattle.clif_meaning.specs.Request.{Request, Script}
 use Rattle.clif_meaning.specs.Program.{Program, Item, Instruct, Use, Assign, result_types, result_names, answers_from, with_item_at, with_inserted, extended, with_call, empty_program, program_of}
 use Rattle.clif_meaning.specs.Ledger.{is_terminator}
@@ -109,6 +110,8 @@ counted_arithmetic (Iconst number) ty types [] memory = refl
 counted_arithmetic (Iconst number) ty types (x ∷ operands) memory = tt
 counted_arithmetic (FloatConst opcode bits) ty types [] memory = refl
 counted_arithmetic (FloatConst opcode bits) ty types (x ∷ operands) memory = tt
+counted_arithmetic (PooledConst opcode bytes) ty types [] memory = refl
+counted_arithmetic (PooledConst opcode bytes) ty types (x ∷ operands) memory = tt
 counted_arithmetic (Unary opcode) ty types [] memory = tt
 counted_arithmetic (Unary opcode) ty types (x ∷ []) memory = refl
 counted_arithmetic (Unary opcode) ty types (x ∷ y ∷ operands) memory = tt
@@ -136,6 +139,8 @@ as_many_types : (arithmetic : Arithmetic) (ty : «Type») → length (result_typ
 as_many_types (FloatConst F16const bits) ty = refl
 as_many_types (FloatConst F32const bits) ty = refl
 as_many_types (FloatConst F64const bits) ty = refl
+as_many_types (PooledConst F128const bytes) ty = refl
+as_many_types (PooledConst Vconst bytes) ty = refl
 as_many_types _ ty = refl
 
 counted_access : (count : ℕ) (world : World) (flags : MemFlagsShape) (range : Range) (outcome : Outcome) → GivesCount count outcome
@@ -182,6 +187,9 @@ counted_outcome world Jump ty types (x ∷ operands) memory = tt
 counted_outcome world Brif ty types [] memory = tt
 counted_outcome world Brif ty types (x ∷ []) memory = tt
 counted_outcome world Brif ty types (x ∷ y ∷ operands) memory = tt
+counted_outcome world (BrTable entries) ty types [] memory = tt
+counted_outcome world (BrTable entries) ty types (x ∷ []) memory = tt
+counted_outcome world (BrTable entries) ty types (x ∷ y ∷ operands) memory = tt
 counted_outcome world Return ty types operands memory = tt
 
 -- an instruction that gives bits gives one for each name
@@ -201,6 +209,8 @@ terminator_gives_none place instruction ends = ap (answers_from place 1) (none i
     none (Compute (FloatConst F16const bits)) ends = cc
     none (Compute (FloatConst F32const bits)) ends = cc
     none (Compute (FloatConst F64const bits)) ends = cc
+    none (Compute (PooledConst F128const bytes)) ends = cc
+    none (Compute (PooledConst Vconst bytes)) ends = cc
     none (Compute _) ends = cc
     none (Load flags offset) ends = cc
     none (Store flags offset) ends = refl
@@ -211,4 +221,5 @@ terminator_gives_none place instruction ends = ap (answers_from place 1) (none i
     none (CondTrap opcode reason) ends = refl
     none Jump ends = refl
     none Brif ends = refl
+    none (BrTable entries) ends = refl
     none Return ends = refl

@@ -81,8 +81,8 @@ both_match f first second firsts seconds one other =
 
 zero_matches : (f : Body) (i : ℕ) → LeadsNowhere f i → InstMatches f (placed_at_inst f i)
 zero_matches f i nowhere =
-    subst (EachEdgeMatches (view_of f).value_type (value_types_at (view_of f)) (call_shape (operation_of (inst_at f i).shape)))
-    (sym (ap (map edge_of) nowhere)) (none_match f (call_shape (operation_of (inst_at f i).shape)))
+    subst (EachEdgeMatches (view_of f).value_type (value_types_at (view_of f)) (call_shape (operation_of f.tables (inst_at f i).shape)))
+    (sym (ap (map edge_of) nowhere)) (none_match f (call_shape (operation_of f.tables (inst_at f i).shape)))
 
 module _ (calls : List AnsweredCall) (f : Body) (s : SsaState) (own : Own) (types : VariableTypes) (structured : Structured types own f s [])
     (callers_own : OwnParameters calls own) (parameters_values : (name : Name) → AllByRecursion (IsValue calls) ((program_so_far calls).parameters name))
@@ -171,7 +171,7 @@ module _ (calls : List AnsweredCall) (f : Body) (s : SsaState) (own : Own) (type
 
     own_matches : (b t i : ℕ) (B : Name) → block_name calls b ≡ Some B → slice_get (own.insts b) t ≡ Some i → InstMatches f (placed_at_inst f i)
     own_matches b t i B named there =
-        each_matches (view_of f).value_type (value_types_at (view_of f)) (operation_of (inst_at f i).shape) (edges_of (inst_at f i).shape)
+        each_matches (view_of f).value_type (value_types_at (view_of f)) (operation_of f.tables (inst_at f i).shape) (edges_of (inst_at f i).shape)
         (all_where (EdgeMatches (view_of f).value_type (value_types_at (view_of f)) [] []) (edges_of (inst_at f i).shape) each)
       where
         each : (k : ℕ) (edge : Edge ℕ ℕ) → slice_get (edges_of (inst_at f i).shape) k ≡ Some edge → EdgeMatches (view_of f).value_type (value_types_at (view_of f)) [] [] edge

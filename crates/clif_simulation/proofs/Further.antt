@@ -1,5 +1,5 @@
 -- Calls that seal all blocks, put a block behind another one, make a block cold, or bring the current block into the layout.
-use Rattle.std.proofs.Common.{◌≡◌, ℕ, zero, suc, ◌==◌, List, [], ◌∷◌, ◌++◌, refl, ◌∙◌, ap, Bool, true, false, if◌then◌else◌, slice_get, Option, Some}
+use Rattle.std.proofs.Common.{◌≡◌, ℕ, zero, suc, ◌<◌, ◌==◌, List, [], ◌∷◌, ◌++◌, length, map, refl, ◌∙◌, ap, ap₂, arith, Bool, true, false, if◌then◌else◌, slice_get, Option, Some}
 use Rattle.std.specs.Prelude.{◌||◌, slice_index_or, slice_set}
 use Rattle.clif_tables.specs.Entries.{TableEntry}
 use Rattle.clif_tables.specs.Lists.{TableLists}
@@ -9,12 +9,14 @@ use Rattle.clif_ir.specs.Consistent.{IsConsistent}
 use Rattle.clif_ir.specs.Changes.{inserted_in, put_behind, with_cold, with_layout_after, with_tables}
 use Rattle.clif_instructions.specs.Members.{stands_in}
 use Rattle.clif_paths.specs.Blocks.{Blocks}
+use Rattle.std.specs.List.{AllByRecursion}
 use Rattle.clif_ssa.specs.Own.{Own}
 use Rattle.clif_ssa.specs.Ssa.{SsaState, SamePredecessors}
 use Rattle.clif_ssa.specs.Constructs.{OnlyConstructs}
 use Rattle.clif_ssa.specs.Sound.{Keeps, entry_of}
 use Rattle.clif_ssa.specs.SoundLaws.{DescribesSoundly, with_entry}
 use Rattle.clif_ssa.specs.Structured.{Structured, VariableTypes}
+use Rattle.clif_ssa.proofs.Pooled.{KeepsConstants}
 use Rattle.clif_ssa.proofs.Completing.{entry_same, inserted_same, same_program}
 use Rattle.clif_ssa.proofs.Counting.{blocks_counted}
 use Rattle.clif_ssa.proofs.StructuredLaws.{blocks_structured, inserted_structured}
@@ -23,9 +25,12 @@ use Rattle.clif_meaning.specs.Name.{Name}
 use Rattle.clif_meaning.specs.Ledger.{answers_to, ledger_after}
 use Rattle.clif_meaning.specs.Program.{first_block}
 use Rattle.clif_meaning.specs.Request.{Request, SealAllBlocks, InsertBlockAfter, SetColdBlock, EnsureInsertedBlock, MakeEntry, AnsweredCall, script_of}
-use Rattle.clif_simulation.specs.Carries.{Carries, IsCurrent}
+use Rattle.clif_meaning.specs.FunctionView.{Placed}
+use Rattle.clif_ir.specs.Body.{inst_at}
+use Rattle.clif_ssa.proofs.Constructing.{more_none}
+use Rattle.clif_simulation.specs.Carries.{Carries, Holds, IsCurrent, SoundOnPaths, own_placed}
 use Rattle.clif_simulation.proofs.Calls.{carries_kept, carries_on, inserted_soundly, name_stays}
-use Rattle.clif_simulation.proofs.Growing.{goes_on-constructs, insts_kept, insts_same}
+use Rattle.clif_simulation.proofs.Growing.{GoesOn, KeepsInsts, goes_on-constructs, insts_kept, insts_same}
 use Rattle.clif_simulation.proofs.Layouts as layouts
 use Rattle.clif_simulation.proofs.Values.{is_value_at}
 use Rattle.clif_simulation.proofs.Requests
@@ -81,21 +86,74 @@ cold_insts (node ∷ nodes) (suc b) zero = refl
 cold_insts (node ∷ nodes) (suc b) (suc x) = cold_insts nodes b x
 
 -- other blocks, another layout and other tables, with the same parameters, instructions and entry
-module _ (f : Body) (nodes : List BlockNode) (layout : List ℕ) (lists : TableLists) (s : SsaState)
+module _ (f : Body) (nodes : List BlockNode) (layout : List ℕ) (lists : TableLists) (constants_kept : KeepsConstants f (record f { tables = lists })) (s : SsaState)
     (same_params : (b : ℕ) → (block_at (record f { blocks = nodes; layout = layout; tables = lists }) b).params ≡ (block_at f b).params)
     (same_insts : (b : ℕ) → (block_at (record f { blocks = nodes; layout = layout; tables = lists }) b).insts ≡ (block_at f b).insts)
     (entry : slice_get layout 0 ≡ entry_of f) where
   pub relaid_keeps : (own : Own) (tables : Blocks) → DescribesSoundly own f s tables → Keeps own tables (record f { blocks = nodes; layout = layout; tables = lists }) s
   relaid_keeps own tables before = record {
     tables = tables;
-    describes = blocks_described own f nodes layout lists s tables same_params same_insts entry before.0;
+    describes = blocks_described own f nodes layout lists constants_kept s tables same_params same_insts entry before.0;
     sound = before.1;
     same = same_program tables;
     counts = blocks_counted own f nodes layout lists s tables same_params before.2;
   }
 
   pub relaid_structured : (types : VariableTypes) (own : Own) → Structured types own f s [] → Structured types own (record f { blocks = nodes; layout = layout; tables = lists }) s []
-  relaid_structured types own before = blocks_structured f nodes layout lists types own s [] same_params same_insts before
+  relaid_structured types own before = blocks_structured f nodes layout lists constants_kept types own s [] same_params same_insts before
+
+map_kept : (P Q : ℕ → Placed) (count : ℕ) (xs : List ℕ) → ((i : ℕ) → i < count → P i ≡ Q i) → AllByRecursion (λ i. i < count) xs → map P xs ≡ map Q xs
+map_kept P Q count [] same all = refl
+map_kept P Q count (x ∷ xs) same all = ap₂ (λ (p : Placed) (ps : List Placed). p ∷ ps) (same x all.0) (map_kept P Q count xs same all.1)
+
+-- constants come to those that there are, and nothing is called
+pub carries_pooled : (calls : List AnsweredCall) (f : Body) (s : SsaState) (lists : TableLists) → IsConsistent f → KeepsConstants f (with_tables f lists)
+    → Carries calls f s → Carries calls (with_tables f lists) s
+unfolding relaid_keeps
+carries_pooled calls f s lists consistent keeps c =
+    let g : Body = with_tables f lists in
+    let on : GoesOn f g = record {
+      insts = λ i below. more_none (inst_at f i);
+      types = λ v below. refl;
+      more_insts = omega arith;
+      more_values = omega arith;
+      constants = keeps;
+    } in
+    let kept : KeepsInsts f g = insts_kept f g consistent on in
+    let was : Holds calls c.own f s = c.holds in
+    record {
+      own = c.own;
+      holds = record {
+        blocks = was.blocks;
+        items = λ block name named.
+            map_kept (own_placed c.own g) (own_placed c.own f) (length f.insts) (c.own.insts block) (λ i below. kept.placed c.own i below) (was.own_exist block)
+            ∙ was.items block name named;
+        earlier = was.earlier;
+        edges_end = was.edges_end;
+        own_exist = was.own_exist;
+        own_named = was.own_named;
+        own_inserted = was.own_inserted;
+        declared = was.declared;
+        leads_own = was.leads_own;
+        parameters = was.parameters;
+        parameters_values = was.parameters_values;
+        values_typed = was.values_typed;
+        entry = record { none = was.entry.none; some = was.entry.some };
+        structured = λ types are. relaid_structured f f.blocks f.layout lists keeps s (λ x. refl) (λ x. refl) refl types c.own (was.structured types are);
+      };
+      on_paths = λ spares.
+          let before : SoundOnPaths calls c.own f s = c.on_paths spares in
+          let after : Keeps c.own before.tables g s =
+          relaid_keeps f f.blocks f.layout lists keeps s (λ x. refl) (λ x. refl) refl c.own before.tables (before.describes, before.sound, before.counts) in
+          record {
+            tables = before.tables;
+            program = before.program;
+            values_given = before.values_given;
+            describes = after.describes;
+            sound = after.sound;
+            counts = after.counts;
+          };
+    }
 
 module _ (calls : List AnsweredCall) (f : Body) (s : SsaState) (c : Carries calls f s) where
   abbrev the_call : Request → AnsweredCall
@@ -120,9 +178,9 @@ module _ (calls : List AnsweredCall) (f : Body) (s : SsaState) (c : Carries call
       (λ e is. Requests.entry_left calls call (λ program. refl) ∙ is)
       (Requests.entry_stays calls (calls ++ call ∷ []) f (with_layout_after f b a) (Requests.entry_left calls call (λ program. refl)) (first_stays b a f.layout)
       (name_stays calls call tt) c.holds.entry)
-      (λ index. refl) (insts_same f (with_layout_after f b a) refl refl) (λ x out. out_before b a x f.layout out) (λ x. refl)
-      (relaid_structured f f.blocks (put_behind b a f.layout) f.tables s (λ x. refl) (λ x. refl) (first_stays b a f.layout))
-      (relaid_keeps f f.blocks (put_behind b a f.layout) f.tables s (λ x. refl) (λ x. refl) (first_stays b a f.layout))
+      (λ index. refl) (insts_same f (with_layout_after f b a) refl refl refl) (λ x out. out_before b a x f.layout out) (λ x. refl)
+      (relaid_structured f f.blocks (put_behind b a f.layout) f.tables (λ constant bytes here. here) s (λ x. refl) (λ x. refl) (first_stays b a f.layout))
+      (relaid_keeps f f.blocks (put_behind b a f.layout) f.tables (λ constant bytes here. here) s (λ x. refl) (λ x. refl) (first_stays b a f.layout))
 
   -- a block is made cold
   pub carries_cold : (block : Name) (b : ℕ) → Carries (calls ++ the_call (SetColdBlock block) ∷ []) (with_cold f b) s
@@ -130,19 +188,19 @@ module _ (calls : List AnsweredCall) (f : Body) (s : SsaState) (c : Carries call
       let call : AnsweredCall = the_call (SetColdBlock block) in
       let nodes : List BlockNode = (with_cold f b).blocks in
       carries_kept calls f s c call (with_cold f b) s tt tt (Requests.items_left calls call (λ program. refl)) (Requests.entry_left calls call (λ program. refl)) (λ index. refl)
-      (insts_same f (with_cold f b) refl refl) refl (λ x. refl)
-      (relaid_structured f nodes f.layout f.tables s (cold_params f.blocks b) (cold_insts f.blocks b) refl)
-      (relaid_keeps f nodes f.layout f.tables s (cold_params f.blocks b) (cold_insts f.blocks b) refl)
+      (insts_same f (with_cold f b) refl refl refl) refl (λ x. refl)
+      (relaid_structured f nodes f.layout f.tables (λ constant bytes here. here) s (cold_params f.blocks b) (cold_insts f.blocks b) refl)
+      (relaid_keeps f nodes f.layout f.tables (λ constant bytes here. here) s (cold_params f.blocks b) (cold_insts f.blocks b) refl)
 
   -- an entry is put into its table
-  pub carries_tables : (entry : TableEntry) (number : ℕ) (lists : TableLists)
+  pub carries_tables : (entry : TableEntry) (number : ℕ) (lists : TableLists) → lists.constants ≡ f.tables.constants
       → Carries (calls ++ record { request = MakeEntry entry; numbers = number ∷ [] } ∷ []) (with_tables f lists) s
-  carries_tables entry number lists =
+  carries_tables entry number lists same_constants =
       let call : AnsweredCall = record { request = MakeEntry entry; numbers = number ∷ [] } in
       carries_kept calls f s c call (with_tables f lists) s tt tt (Requests.items_left calls call (λ program. refl)) (Requests.entry_left calls call (λ program. refl)) no_value
-      (insts_same f (with_tables f lists) refl refl) refl (λ x. refl)
-      (relaid_structured f f.blocks f.layout lists s (λ x. refl) (λ x. refl) refl)
-      (relaid_keeps f f.blocks f.layout lists s (λ x. refl) (λ x. refl) refl)
+      (insts_same f (with_tables f lists) refl refl same_constants) refl (λ x. refl)
+      (relaid_structured f f.blocks f.layout lists (λ constant bytes here. ap (λ (cs : List (List ℕ)). slice_get cs constant) same_constants ∙ here) s (λ x. refl) (λ x. refl) refl)
+      (relaid_keeps f f.blocks f.layout lists (λ constant bytes here. ap (λ (cs : List (List ℕ)). slice_get cs constant) same_constants ∙ here) s (λ x. refl) (λ x. refl) refl)
     where
       no_value : (index : ℕ) → is_value_at (answers_to (ledger_after (script_of calls)) (MakeEntry entry)) index ≡ false
       no_value zero = refl
@@ -158,7 +216,7 @@ module _ (calls : List AnsweredCall) (f : Body) (s : SsaState) (c : Carries call
       carries_on calls f s c call g s tt tt (Requests.items_ensured calls call refl)
       (λ e is. entry ∙ ap (λ (o : Option Name). first_block o (Some B)) is)
       (entry_begun calls (calls ++ call ∷ []) f g b B entry refl current.named (name_stays calls call tt) c.holds.entry)
-      (λ index. refl) (insts_same f g same.insts same.values) (λ x out. layouts.out_before f b x out) (λ x. refl)
+      (λ index. refl) (insts_same f g same.insts same.values (ap (λ (t : TableLists). t.constants) same.tables)) (λ x out. layouts.out_before f b x out) (λ x. refl)
       (λ types own before. inserted_structured types own f s b before)
       (λ own tables before.
       let after = inserted_soundly own f s tables b before in

@@ -1,6 +1,8 @@
 -- A function that goes on keeps the caller's instructions, as the machine sees them, though their edges may pass more.
 use Rattle.std.proofs.Common.{◌≡◌, ℕ, zero, suc, ◌<◌, ◌≤◌, ◌==◌, List, [], ◌∷◌, ◌++◌, length, map, refl, sym, ◌∙◌, ap, ap₂, subst, arith, Bool, true, false, inl, inr}
-use Rattle.std.specs.Prelude.{drop, slice_get, slice_index, if◌then◌else◌}
+use Rattle.std.specs.Prelude.{◌-◌, All, drop, slice_get, slice_index, slice_index_or, if◌then◌else◌}
+use Rattle.std.proofs.lemmas.List.{length-map}
+use Rattle.std.proofs.lemmas.Option.{get_or_from_slice_get, slice_get-get_or}
 use Rattle.std.proofs.Math.ListN.{get_or-append}
 use Rattle.std.proofs.lemmas.Grind.{common_steps}
 use Rattle.clif_types.specs.declared.types.«Type».{«Type»}
@@ -11,16 +13,17 @@ use Rattle.clif_ir.specs.declared.function.InstNode.{InstNode}
 use Rattle.clif_ir.specs.declared.function.ValueNode.{ValueNode}
 use Rattle.clif_instructions.specs.declared.inst_list.InsertAt.{InsertAt}
 use Rattle.clif_instructions.specs.declared.instructions.InstructionData.{InstructionData}
-use Rattle.clif_instructions.specs.declared.instructions.InstructionData.TheVariants.{Jump, Brif}
-use Rattle.clif_instructions.specs.Edges.{with_argument_to, targets}
-use Rattle.clif_instructions.specs.Instruction.{operands, destinations, typing_of, with_argument}
+use Rattle.clif_instructions.specs.declared.instructions.InstructionData.TheVariants.{UnaryConst, Jump, Brif, BranchTable}
+use Rattle.clif_instructions.specs.Edges.{appended_to, with_argument_to, targets}
+use Rattle.clif_instructions.specs.Instruction.{AConstant, entries_of, operands, destinations, typing_of, with_argument}
 use Rattle.clif_opcodes.specs.Kinds.{result_type}
 use Rattle.clif_opcodes.specs.declared.kinds.Control.{Control}
 use Rattle.clif_opcodes.specs.declared.kinds.Control.TheVariants as control
 use Rattle.clif_opcodes.specs.declared.kinds.ResultKind.{ResultKind}
 use Rattle.clif_opcodes.specs.declared.kinds.ResultKind.TheVariants as kind
 use Rattle.clif_ir.specs.Body.{Body, no_value, inst_at, value_at}
-use Rattle.clif_ir.specs.Consistent.{IsConsistent}
+use Rattle.clif_tables.specs.Lists.{TableLists}
+use Rattle.clif_ir.specs.Consistent.{EntryExists, IsConsistent}
 use Rattle.clif_ir.specs.Changes.{inserted_in, with_inst}
 use Rattle.clif_ssa.specs.Own.{Own}
 use Rattle.clif_ssa.specs.Constructs.{MayPassMore, OnlyConstructs, StaysOrNames, with_passed}
@@ -28,18 +31,21 @@ use Rattle.clif_ssa.specs.LookUp.{branch_block}
 use Rattle.clif_ssa.specs.Sound.{edge_target}
 use Rattle.clif_ssa.specs.Structured.{HasType}
 use Rattle.clif_ssa.proofs.Completing.{inserted_same}
-use Rattle.clif_ssa.proofs.Constructing.{more_none}
-use Rattle.clif_meaning.specs.Instruction.{Operation, Edge}
+use Rattle.clif_ssa.proofs.Constructing.{more_none, more_then}
+use Rattle.clif_ssa.proofs.Pooled.{KeepsConstants, pools_keep}
+use Rattle.clif_meaning.specs.Instruction.{Operation, Compute, PooledConst, BrTable, Edge}
 use Rattle.clif_meaning.specs.FunctionView.{Placed}
-use Rattle.clif_meaning.specs.View.{argument_of, edge_of, edges_of, first_type, controlling_of, operation_of, controlled, made_with}
+use Rattle.clif_meaning.specs.View.{argument_of, edge_of, edges_of, first_type, constant_at, controlling_of, operation_of, controlled, made_with}
 use Rattle.clif_simulation.specs.Carries.{as_passed, own_placed}
 
--- A function that goes on: its instructions stay, but that their edges may pass more, and its values keep their types.
+-- A function that goes on: its instructions stay, but that their edges may pass more, its values keep their types, and its constants
+-- their numbers.
 pub record GoesOn (f g : Body) : Type 0 where
   pub insts : (i : ℕ) → i < length f.insts → MayPassMore (inst_at f i) (inst_at g i)
   pub types : (v : ℕ) → v < length f.values → (value_at g v).ty ≡ (value_at f v).ty
   pub more_insts : length f.insts ≤ length g.insts
   pub more_values : length f.values ≤ length g.values
+  pub constants : KeepsConstants f g
 
 pub goes_on-constructs : (f g : Body) → OnlyConstructs f g → GoesOn f g
 goes_on-constructs f g constructs = record {
@@ -47,6 +53,7 @@ goes_on-constructs f g constructs = record {
   types = λ v below. of (value_at f v) (value_at g v) (constructs.same_values v below);
   more_insts = constructs.insts;
   more_values = constructs.values;
+  constants = pools_keep f g constructs.tables;
 }
   where
     of : (old new : ValueNode) → StaysOrNames old new → new.ty ≡ old.ty
@@ -60,20 +67,58 @@ goes_on-with_inst f b at shape types loc = record {
   types = λ v below. ap (λ (n : ValueNode). n.ty) (get_or-append f.values _ no_value v below);
   more_insts = grind (arith, common_steps);
   more_values = grind (arith, common_steps);
+  constants = λ constant bytes here. here;
 }
 
 -- the same from a function with the same instructions and values
-pub goes_on-from : (f h g : Body) → h.insts ≡ f.insts → h.values ≡ f.values → GoesOn h g → GoesOn f g
-goes_on-from f h g insts values on = record {
+pub goes_on-from : (f h g : Body) → h.insts ≡ f.insts → h.values ≡ f.values → KeepsConstants f h → GoesOn h g → GoesOn f g
+goes_on-from f h g insts values constants on = record {
   insts = λ i below.
       subst (λ (is : List InstNode). MayPassMore (inst_at (record f { insts = is }) i) (inst_at g i)) insts (on.insts i (subst (λ (is : List InstNode). i < length is) (sym insts) below));
   types = λ v below.
       subst (λ (vs : List ValueNode). (value_at g v).ty ≡ (value_at (record f { values = vs }) v).ty) values (on.types v (subst (λ (vs : List ValueNode). v < length vs) (sym values) below));
   more_insts = subst (λ (is : List InstNode). length is ≤ length g.insts) insts on.more_insts;
   more_values = subst (λ (vs : List ValueNode). length vs ≤ length g.values) values on.more_values;
+  constants = λ constant bytes here. on.constants constant bytes (constants constant bytes here);
 }
 
+pub goes_on-then : (f g h : Body) → GoesOn f g → GoesOn g h → GoesOn f h
+goes_on-then f g h first second = record {
+  insts = λ i below. more_then (inst_at f i) (inst_at g i) (inst_at h i) (first.insts i below) (second.insts i (omega (arith, below, first.more_insts)));
+  types = λ v below. second.types v (omega (arith, below, first.more_values)) ∙ first.types v below;
+  more_insts = omega (arith, first.more_insts, second.more_insts);
+  more_values = omega (arith, first.more_values, second.more_values);
+  constants = λ constant bytes here. second.constants constant bytes (first.constants constant bytes here);
+}
+
+-- a block in the layout
+pub inserted_constants : (f : Body) (b : ℕ) → KeepsConstants f (inserted_in f b)
+inserted_constants f b constant bytes here = ap (λ (t : TableLists). slice_get t.constants constant) (inserted_same f b).tables ∙ here
+
+-- WHAT AN INSTRUCTION DOES ----------------------------------------------------------------------------------------------
+
+-- a shape does what it does where the constants are the same,
+pub operation_same : (t u : TableLists) → u.constants ≡ t.constants → (shape : InstructionData) → operation_of u shape ≡ operation_of t shape
+operation_same t u same (UnaryConst opcode constant) =
+    ap (λ (constants : List (List ℕ)). Compute (PooledConst opcode (slice_index_or constants constant []))) same
+operation_same t u same _ = refl
+
+-- and where the constants that it names keep their numbers
+pub operation_kept : (f g : Body) → KeepsConstants f g → (shape : InstructionData) → All (EntryExists f.tables) (entries_of shape)
+    → operation_of g.tables shape ≡ operation_of f.tables shape
+operation_kept f g keeps (UnaryConst opcode constant) exists =
+    let below : constant < length f.tables.constants = exists 0 (AConstant 0) (omega arith) in
+    let bytes : List ℕ = constant_at f.tables constant in
+    ap (λ (found : List ℕ). Compute (PooledConst opcode found))
+    (get_or_from_slice_get g.tables.constants constant bytes [] (keeps constant bytes (slice_get-get_or f.tables.constants constant [] below)))
+operation_kept f g keeps _ exists = refl
+
 -- THE CALLER'S INSTRUCTIONS ----------------------------------------------------------------------------------------------
+
+-- an instruction by its parts
+abbrev parts : Operation → «Type» → List ℕ → List (Edge ℕ ℕ) → List ℕ → Placed
+parts operation controlling arguments edges results =
+    record { instruction = record { operation = operation; controlling = controlling; operands = arguments; edges = edges }; results = results; stack_map = [] }
 
 -- The second function has the instructions of the first, and maybe more; as the machine sees them they are the caller's.
 pub record KeepsInsts (f g : Body) : Type 0 where
@@ -83,12 +128,14 @@ pub record KeepsInsts (f g : Body) : Type 0 where
   pub more : length f.insts ≤ length g.insts
   pub types : (v : ℕ) (ty : «Type») → HasType f v ty → HasType g v ty
 
--- instructions and values stay
-pub insts_same : (f g : Body) → g.insts ≡ f.insts → g.values ≡ f.values → KeepsInsts f g
-insts_same f g insts values = record {
+-- instructions, values and constants stay
+pub insts_same : (f g : Body) → g.insts ≡ f.insts → g.values ≡ f.values → g.tables.constants ≡ f.tables.constants → KeepsInsts f g
+insts_same f g insts values constants = record {
   placed = λ own i below.
       ap (λ (is : List InstNode). own_placed own (record g { insts = is }) i) insts
-      ∙ ap (λ (vs : List ValueNode). own_placed own (record g { insts = f.insts; values = vs }) i) values;
+      ∙ ap (λ (vs : List ValueNode). own_placed own (record g { insts = f.insts; values = vs }) i) values
+      ∙ ap (λ (operation : Operation). parts operation (controlling_of f (inst_at f i).shape (inst_at f i).results) (operands (inst_at f i).shape)
+      (as_passed (own.passed i) 0 (edges_of (inst_at f i).shape)) (inst_at f i).results) (operation_same f.tables g.tables constants (inst_at f i).shape);
   targets = λ i k below. ap (λ (is : List InstNode). edge_target (record f { insts = is }) i k) insts;
   block = λ i below. ap (λ (is : List InstNode). branch_block (record f { insts = is }) i) insts;
   more = omega (arith, ap (λ (is : List InstNode). length is) insts);
@@ -105,7 +152,8 @@ insts_then f g h first next = record {
 }
 
 pub insts_inserted : (f : Body) (b : ℕ) → KeepsInsts f (inserted_in f b)
-insts_inserted f b = insts_same f (inserted_in f b) (inserted_same f b).insts (inserted_same f b).values
+insts_inserted f b =
+    insts_same f (inserted_in f b) (inserted_same f b).insts (inserted_same f b).values (ap (λ (t : TableLists). t.constants) (inserted_same f b).tables)
 
 -- what an argument more leaves of an instruction
 targets_appended : (b v : ℕ) (edges : List BlockCall) → targets (with_argument_to b v edges) ≡ targets edges
@@ -119,37 +167,41 @@ targets_appended b v (edge ∷ edges) = ap₂ (λ (t : ℕ) (ts : List ℕ). t �
 targets_with : (b v : ℕ) (shape : InstructionData) → targets (destinations (with_argument b v shape)) ≡ targets (destinations shape)
 targets_with b v (Jump destination) = targets_appended b v (destination ∷ [])
 targets_with b v (Brif arg blocks) = targets_appended b v blocks
+targets_with b v (BranchTable arg table) = targets_appended b v table
 targets_with b v _ = refl
 
-operation_with : (b v : ℕ) (shape : InstructionData) → operation_of (with_argument b v shape) ≡ operation_of shape
-operation_with b v (Jump destination) = refl
-operation_with b v (Brif arg blocks) = refl
-operation_with b v _ = refl
+operation_with : (t : TableLists) (b v : ℕ) (shape : InstructionData) → operation_of t (with_argument b v shape) ≡ operation_of t shape
+operation_with t b v (Jump destination) = refl
+operation_with t b v (Brif arg blocks) = refl
+operation_with t b v (BranchTable arg table) = ap (λ (n : ℕ). BrTable (n - 1)) (length-map table (appended_to b v))
+operation_with t b v _ = refl
 
 operands_with : (b v : ℕ) (shape : InstructionData) → operands (with_argument b v shape) ≡ operands shape
 operands_with b v (Jump destination) = refl
 operands_with b v (Brif arg blocks) = refl
+operands_with b v (BranchTable arg table) = refl
 operands_with b v _ = refl
 
 controlling_with : (g : Body) (b v : ℕ) (shape : InstructionData) (values : List ℕ) → controlling_of g (with_argument b v shape) values ≡ controlling_of g shape values
 controlling_with g b v (Jump destination) values = refl
 controlling_with g b v (Brif arg blocks) values = refl
+controlling_with g b v (BranchTable arg table) values = refl
 controlling_with g b v _ values = refl
 
 -- the same for more arguments
 record SameButArguments (g : Body) (old new : InstructionData) : Type 0 where
   pub targets_same : targets (destinations new) ≡ targets (destinations old)
-  pub operation : operation_of new ≡ operation_of old
+  pub operation : (t : TableLists) → operation_of t new ≡ operation_of t old
   pub operands_same : operands new ≡ operands old
   pub controlling : (values : List ℕ) → controlling_of g new values ≡ controlling_of g old values
 
 same_with : (g : Body) (more : List (ℕ × ℕ)) (shape : InstructionData) → SameButArguments g shape (with_passed more shape)
-same_with g [] shape = record { targets_same = refl; operation = refl; operands_same = refl; controlling = λ values. refl }
+same_with g [] shape = record { targets_same = refl; operation = λ t. refl; operands_same = refl; controlling = λ values. refl }
 same_with g (more ∷ others) shape =
     let rest = same_with g others (with_argument more.0 more.1 shape) in
     record {
       targets_same = rest.targets_same ∙ targets_with more.0 more.1 shape;
-      operation = rest.operation ∙ operation_with more.0 more.1 shape;
+      operation = λ t. rest.operation t ∙ operation_with t more.0 more.1 shape;
       operands_same = rest.operands_same ∙ operands_with more.0 more.1 shape;
       controlling = λ values. rest.controlling values ∙ controlling_with g more.0 more.1 shape values;
     }
@@ -207,18 +259,13 @@ made_controlled f g on (kind.Controlling ∷ kinds) how values results ty exist 
 made_controlled f g on _ (control.Operand place) values results ty exist first = first_kept f g on (drop place values) (behind_exist (length f.values) place values exist)
 made_controlled f g on _ _ values results ty exist first = refl
 
--- an instruction by its parts
-abbrev parts : Operation → «Type» → List ℕ → List (Edge ℕ ℕ) → List ℕ → Placed
-parts operation controlling arguments edges results =
-    record { instruction = record { operation = operation; controlling = controlling; operands = arguments; edges = edges }; results = results; stack_map = [] }
-
 pub insts_kept : (f g : Body) → IsConsistent f → GoesOn f g → KeepsInsts f g
 insts_kept f g consistent on = record {
   placed = λ own i below.
       let more = on.insts i below in
       let same = same_with g more.0 (inst_at f i).shape in
-      ap (λ (node : InstNode). parts (operation_of node.shape) (controlling_of g node.shape node.results) (operands node.shape) (as_passed (own.passed i) 0 (edges_of node.shape)) node.results) more.1
-      ∙ parts_same (inst_at f i).results same.operation
+      ap (λ (node : InstNode). parts (operation_of g.tables node.shape) (controlling_of g node.shape node.results) (operands node.shape) (as_passed (own.passed i) 0 (edges_of node.shape)) node.results) more.1
+      ∙ parts_same (inst_at f i).results (same.operation g.tables ∙ operation_kept f g on.constants (inst_at f i).shape (consistent.entries_exist i))
       (same.controlling (inst_at f i).results
       ∙ controlling_kept f g on (inst_at f i).shape (inst_at f i).results (λ k h. (consistent.results_known i k h).0) (consistent.operands_exist i))
       same.operands_same

@@ -12,7 +12,7 @@ use Rattle.clif_meaning.specs.ScriptMachine.{ScriptRun, ScriptState}
 use Rattle.clif_meaning.specs.FunctionMachine as function_machine_of
 use Rattle.clif_meaning.specs.FunctionMachine.{FunctionRun, FunctionState}
 use Rattle.clif_opcodes.specs.declared.opcodes.StackOpcode.TheVariants.{StackAddr, StackLoad}
-use Rattle.clif_meaning.specs.Instruction.{Operation, Compute, Load, Store, Stack, StackStore, Trap, CondTrap, Jump, Brif, Return}
+use Rattle.clif_meaning.specs.Instruction.{Operation, Compute, Load, Store, Stack, StackStore, Trap, CondTrap, Jump, Brif, BrTable, Return}
 use Rattle.clif_types.specs.declared.trapcode.TrapCode.{TrapCode}
 use Rattle.clif_types.specs.declared.trapcode.TrapCode.TheVariants.{HeapOutOfBounds}
 use Rattle.clif_types.specs.MemFlags.{MemFlagsShape}
@@ -172,6 +172,9 @@ outcome_plain world Jump ty types (x ∷ operands) memory = tt
 outcome_plain world Brif ty types [] memory = tt
 outcome_plain world Brif ty types (x ∷ []) memory = tt
 outcome_plain world Brif ty types (x ∷ y ∷ operands) memory = tt
+outcome_plain world (BrTable entries) ty types [] memory = tt
+outcome_plain world (BrTable entries) ty types (x ∷ []) memory = tt
+outcome_plain world (BrTable entries) ty types (x ∷ y ∷ operands) memory = tt
 outcome_plain world Return ty types operands memory = tt
 
 -- the same operation on the same bits, in the same memory, where the operands' types make no difference

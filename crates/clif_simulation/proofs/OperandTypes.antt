@@ -4,6 +4,7 @@ use Rattle.std.specs.Prelude.{IsTrue, true, false, ◌&&◌, Bool}
 use Rattle.std.specs.List.{AllByRecursion}
 use Rattle.clif_types.specs.Signature.{SignatureShape}
 use Rattle.clif_types.specs.declared.types.«Type».{«Type»}
+use Rattle.clif_types.specs.declared.types.LaneType.TheVariants as lane
 use Rattle.clif_types.specs.declared.types.«Type».TheVariants as type
 use Rattle.clif_types.specs.Types.{IsType, is_int, is_type, is_vector, lane_type_of}
 use Rattle.clif_opcodes.specs.declared.kinds.Demand.TheVariants as demand
@@ -13,6 +14,7 @@ use Rattle.clif_opcodes.specs.declared.opcodes.ConvertOpcode.{ConvertOpcode}
 use Rattle.clif_opcodes.specs.declared.opcodes.ConvertOpcode.TheVariants.{Splat, Uextend, Sextend, Ireduce}
 use Rattle.clif_opcodes.specs.declared.opcodes.BinaryOpcode.{BinaryOpcode}
 use Rattle.clif_opcodes.specs.declared.opcodes.BinaryOpcode.TheVariants as binary
+use Rattle.clif_opcodes.specs.declared.opcodes.PooledConstOpcode.TheVariants.{F128const, Vconst}
 use Rattle.clif_opcodes.specs.declared.opcodes.FloatConstOpcode.TheVariants.{F16const, F32const, F64const}
 use Rattle.clif_opcodes.specs.Kinds.{is_address, is_met}
 use Rattle.clif_opcodes.specs.Typing.{AreOfKinds, binary_second, convert_demand, convert_operand}
@@ -20,7 +22,7 @@ use Rattle.clif_ir.specs.Body.{Body}
 use Rattle.clif_meaning.specs.Bits.{Bits}
 use Rattle.clif_meaning.specs.Event.{types_of}
 use Rattle.clif_opcodes.specs.declared.opcodes.StackOpcode.TheVariants.{StackAddr, StackLoad}
-use Rattle.clif_meaning.specs.Instruction.{Iconst, FloatConst, Unary, Binary, Compare, Concat, Split, Convert, Select, Operation, Compute, Load, Store, Stack, StackStore, Trap, CondTrap, Jump, Brif, Return, Instruction, operation_typing}
+use Rattle.clif_meaning.specs.Instruction.{Iconst, FloatConst, PooledConst, Unary, Binary, Compare, Concat, Split, Convert, Select, Operation, Compute, Load, Store, Stack, StackStore, Trap, CondTrap, Jump, Brif, BrTable, Return, Instruction, operation_typing}
 use Rattle.clif_meaning.specs.Ledger.{ledger_after, or_invalid, type_of}
 use Rattle.clif_meaning.specs.Memory.{Memory}
 use Rattle.clif_meaning.specs.Name.{Name}
@@ -80,6 +82,12 @@ none_valid : (ty : «Type») (types : List «Type») → AreOfKinds ty [] types 
 none_valid ty [] fits = tt
 none_valid ty (t ∷ types) fits = absurd fits
 
+-- where there is an index of a table alone
+index_valid : (ty : «Type») (types : List «Type») → AreOfKinds ty (kind.Exactly (type.Lane lane.I32) ∷ []) types → AllByRecursion IsType types
+index_valid ty [] fits = absurd fits
+index_valid ty (t ∷ []) fits = (subst IsType (sym fits.0) refl, tt)
+index_valid ty (t ∷ u ∷ types) fits = absurd fits.1
+
 -- a demand of anything is met by types alone
 doubled_valid : (ty : «Type») → IsTrue (is_met demand.ADoubled ty) → IsType ty
 doubled_valid type.Invalid is = none_is is
@@ -133,6 +141,11 @@ outcome_by_types world operation ty returns types others operands memory at fits
         no_kinds F16const fits = fits
         no_kinds F32const fits = fits
         no_kinds F64const fits = fits
+    by (Compute (PooledConst opcode bytes)) at fits = alike (Compute (PooledConst opcode bytes)) (none_valid ty types (no_kinds opcode fits))
+      where
+        no_kinds : (o : _) → TakesOperands returns (Compute (PooledConst o bytes)) ty types → AreOfKinds ty [] types
+        no_kinds F128const fits = fits
+        no_kinds Vconst fits = fits
     by (Compute (Unary opcode)) at fits = alike (Compute (Unary opcode)) (kinds_valid ty (int_valid ty at) (kind.Controlling ∷ []) tt types fits)
     by (Compute (Binary opcode)) at fits = alike (Compute (Binary opcode)) (kinds_valid ty (int_valid ty at) (kind.Controlling ∷ binary_second opcode ∷ []) (binary_told opcode) types fits)
     by (Compute (Compare condition)) at fits = alike (Compute (Compare condition)) (kinds_valid ty (int_valid ty at) (kind.Controlling ∷ kind.Controlling ∷ []) tt types fits)
@@ -149,6 +162,7 @@ outcome_by_types world operation ty returns types others operands memory at fits
     by (CondTrap opcode reason) at fits = alike (CondTrap opcode reason) (kinds_valid ty (int_valid ty at) (kind.Controlling ∷ []) tt types fits)
     by Jump at fits = alike Jump (none_valid ty types fits)
     by Brif at fits = alike Brif (kinds_valid ty (int_valid ty at) (kind.Controlling ∷ []) tt types fits)
+    by (BrTable entries) at fits = alike (BrTable entries) (index_valid ty types fits)
     by Return at fits = refl
 
 -- Each instruction of the program has one outcome by the types of the names and by those of the values that answered them.

@@ -1,12 +1,13 @@
 -- The instructions of zeros, one by one.
 use Rattle.std.proofs.Common.{◌≡◌, ℕ, zero, suc, ◌+◌, ◌-◌, ◌^◌, ◌<◌, List, [], ◌∷◌, ◌++◌, map, length, ◌⊎◌, inl, inr, refl, ap, arith, sym, ◌∙◌, subst}
-use Rattle.std.specs.Prelude.{Some, ◌*◌, pos, slice_get, slice_index}
+use Rattle.std.specs.Prelude.{Some, ◌*◌, pos, replicate, slice_get, slice_index}
 use Rattle.std.specs.List.{AllByRecursion, range_with_len}
 use Rattle.std.proofs.Math.Nat.{mul-zero, zero-mod}
 use Rattle.std.proofs.lemmas.Bool.{cases_eq}
 use Rattle.std.proofs.lemmas.List.FromFn.{length-range_with_len}
 use Rattle.clif_types.specs.declared.types.«Type».{«Type»}
-use Rattle.clif_types.specs.Types.{bits_of, lane_count_of, lane_type_of}
+use Rattle.clif_types.specs.Types.{bits_of, bytes_of, lane_count_of, lane_type_of}
+use Rattle.clif_tables.specs.Lists.{TableLists}
 use Rattle.clif_ir.specs.Body.{Body, alias_of_origin, inst_at, resolved, value_at}
 use Rattle.clif_ir.specs.Consistent.{IsConsistent}
 use Rattle.clif_instructions.specs.Instruction.{destinations, operands}
@@ -17,16 +18,19 @@ use Rattle.clif_paths.specs.State.{unborn, zero_of}
 use Rattle.clif_paths.specs.Blocks.{Blocks, front}
 use Rattle.clif_ssa.specs.Sound.{IsZero}
 use Rattle.clif_ssa.specs.Structure.{IsNeededZero}
-use Rattle.clif_ssa.specs.Zeros.{row_of_kind, kind_of_zero, ZeroAt, ZeroStep, HasZero, IsStep, insts_of_zero, insts_of_zeros, steps_before, zero_row, zero_steps}
+use Rattle.clif_ssa.specs.Zeros.{HasZeros, kind_of_zero, steps_of_kind, ZeroAt, ZeroStep, HasZero, IsStep, insts_of_zero, insts_of_zeros, steps_before, zero_row, zero_steps}
 use Rattle.clif_ssa.proofs.ZeroTable.{IsPlainStep, first_alone, none_some, plain_step, same_some, step_count, step_there}
+use Rattle.clif_meaning.specs.Bits.{value_of_bytes}
 use Rattle.clif_meaning.specs.Memory.{Memory}
-use Rattle.clif_meaning.specs.Outcome.{Gives, float_type, low_bits_at, outcome_of, repeated}
-use Rattle.clif_instructions.specs.declared.instructions.InstructionData.TheVariants.{UnaryImm, UnaryIeee, Convert}
+use Rattle.clif_meaning.specs.Outcome.{Gives, float_type, low_bits_at, outcome_of, pooled_type, repeated}
+use Rattle.clif_instructions.specs.declared.instructions.InstructionData.TheVariants.{UnaryImm, UnaryIeee, UnaryConst, Convert}
 use Rattle.clif_opcodes.specs.declared.opcodes.ConvertOpcode.TheVariants.{Splat, Uextend}
 use Rattle.clif_opcodes.specs.declared.opcodes.FloatConstOpcode.{FloatConstOpcode}
+use Rattle.clif_opcodes.specs.declared.opcodes.PooledConstOpcode.{PooledConstOpcode}
+use Rattle.clif_opcodes.specs.declared.opcodes.PooledConstOpcode.TheVariants.{F128const}
 use Rattle.clif_ssa.specs.declared.zeros.ZeroKind.{ZeroKind}
 use Rattle.clif_ssa.specs.declared.zeros.ZeroKind.TheVariants as made
-use Rattle.clif_meaning.specs.View.{operation_of}
+use Rattle.clif_meaning.specs.View.{constant_at, operation_of}
 use Rattle.clif_meaning.specs.World.{World}
 use Rattle.std.proofs.lemmas.Option.{get_or_from_slice_get}
 use Rattle.clif_simulation.proofs.Listed.{place_within}
@@ -34,15 +38,15 @@ use Rattle.clif_simulation.proofs.Placing.{at_first, at_second, in_two}
 
 -- THE TABLE -------------------------------------------------------------------------------------------------------
 
--- An instruction whose operands have no bits set gives zero, at all types.
-abbrev pub GivesZero : InstructionData → Type 0
-GivesZero shape =
+-- An instruction whose operands have no bits set gives zero, at all types, in a function with these tables.
+abbrev pub GivesZero : TableLists → InstructionData → Type 0
+GivesZero tables shape =
     (world : World) (ty : «Type») (types : List «Type») (memory : Memory)
-    → outcome_of world (operation_of shape) ty types (map (λ (operand : ℕ). 0) (operands shape)) memory ≡ Gives (0 ∷ []) memory
+    → outcome_of world (operation_of tables shape) ty types (map (λ (operand : ℕ). 0) (operands shape)) memory ≡ Gives (0 ∷ []) memory
 
 -- so does each step of a zero
 abbrev StepGivesZero : ZeroStep → Type 0
-StepGivesZero step = (value : ℕ) → GivesZero (step.shape value)
+StepGivesZero step = (f : Body) (constant value : ℕ) → HasZeros f constant step.size → GivesZero f.tables (step.shape constant value)
 
 repeated_zero : (count width : ℕ) → repeated count width 0 ≡ 0
 repeated_zero zero width = refl
@@ -51,24 +55,38 @@ repeated_zero (suc count) width = ap (λ n. 0 + 2 ^ width * n) (repeated_zero co
 low_zero : (ty : «Type») (number : ℕ) → number ≡ 0 → low_bits_at ty number ≡ 0
 low_zero ty number none = ap (low_bits_at ty) none ∙ zero-mod (2 ^ bits_of ty)
 
-number_gives_zero : (value : ℕ) → GivesZero (UnaryImm (pos 0))
-number_gives_zero value world ty types memory = ap (λ bits. Gives (bits ∷ []) memory) (zero-mod (2 ^ bits_of ty))
+number_gives_zero : (tables : TableLists) → GivesZero tables (UnaryImm (pos 0))
+number_gives_zero tables world ty types memory = ap (λ bits. Gives (bits ∷ []) memory) (zero-mod (2 ^ bits_of ty))
 
-float_gives_zero : (opcode : FloatConstOpcode) → GivesZero (UnaryIeee opcode 0)
-float_gives_zero opcode world ty types memory = ap (λ bits. Gives (bits ∷ []) memory) (zero-mod (2 ^ bits_of (float_type opcode)))
+float_gives_zero : (tables : TableLists) (opcode : FloatConstOpcode) → GivesZero tables (UnaryIeee opcode 0)
+float_gives_zero tables opcode world ty types memory = ap (λ bits. Gives (bits ∷ []) memory) (zero-mod (2 ^ bits_of (float_type opcode)))
 
-extended_gives_zero : (value : ℕ) → GivesZero (Convert Uextend value)
-extended_gives_zero value world ty types memory = ap (λ bits. Gives (bits ∷ []) memory) (zero-mod (2 ^ bits_of ty))
+extended_gives_zero : (tables : TableLists) (value : ℕ) → GivesZero tables (Convert Uextend value)
+extended_gives_zero tables value world ty types memory = ap (λ bits. Gives (bits ∷ []) memory) (zero-mod (2 ^ bits_of ty))
 
-splat_gives_zero : (value : ℕ) → GivesZero (Convert Splat value)
-splat_gives_zero value world ty types memory =
+splat_gives_zero : (tables : TableLists) (value : ℕ) → GivesZero tables (Convert Splat value)
+splat_gives_zero tables value world ty types memory =
     ap (λ bits. Gives (bits ∷ []) memory) (low_zero ty (repeated (lane_count_of ty) (bits_of (lane_type_of ty)) 0) (repeated_zero (lane_count_of ty) (bits_of (lane_type_of ty))))
 
-kind_gives_zero : (kind : ZeroKind) (ty : «Type») → AllByRecursion StepGivesZero ((row_of_kind kind).before ++ record { shape = (row_of_kind kind).last; ty = ty } ∷ [])
-kind_gives_zero made.Number ty = (number_gives_zero, tt)
-kind_gives_zero made.Extended ty = (number_gives_zero, (extended_gives_zero, tt))
-kind_gives_zero (made.Float opcode) ty = ((λ value. float_gives_zero opcode), tt)
-kind_gives_zero (made.Splatted opcode) ty = ((λ value. float_gives_zero opcode), (splat_gives_zero, tt))
+-- bytes that are zero are no number
+no_bytes : (size : ℕ) → value_of_bytes (replicate size 0) ≡ 0
+no_bytes zero = refl
+no_bytes (suc size) = ap (λ n. 0 + 256 * n) (no_bytes size)
+
+pooled_gives_zero : (f : Body) (opcode : PooledConstOpcode) (constant size : ℕ) → HasZeros f constant (Some size) → GivesZero f.tables (UnaryConst opcode constant)
+pooled_gives_zero f opcode constant size has world ty types memory =
+    let bytes : constant_at f.tables constant ≡ replicate size 0 = get_or_from_slice_get f.tables.constants constant (replicate size 0) [] has in
+    ap (λ bits. Gives (bits ∷ []) memory) (low_zero (pooled_type opcode ty) (value_of_bytes (constant_at f.tables constant)) (ap value_of_bytes bytes ∙ no_bytes size))
+
+kind_gives_zero : (kind : ZeroKind) (ty : «Type») → AllByRecursion StepGivesZero (steps_of_kind kind ty)
+kind_gives_zero made.Number ty = ((λ f constant value has. number_gives_zero f.tables), tt)
+kind_gives_zero made.Extended ty = ((λ f constant value has. number_gives_zero f.tables), ((λ f constant value has. extended_gives_zero f.tables value), tt))
+kind_gives_zero (made.Float opcode) ty = ((λ f constant value has. float_gives_zero f.tables opcode), tt)
+kind_gives_zero (made.Splatted opcode) ty =
+    ((λ f constant value has. float_gives_zero f.tables opcode), ((λ f constant value has. splat_gives_zero f.tables value), tt))
+kind_gives_zero (made.Pooled opcode) ty = ((λ f constant value has. pooled_gives_zero f opcode constant (bytes_of ty) has), tt)
+kind_gives_zero made.SplattedPooled ty =
+    ((λ f constant value has. pooled_gives_zero f F128const constant 16 has), ((λ f constant value has. splat_gives_zero f.tables value), tt))
 
 steps_give_zero : (ty : «Type») → AllByRecursion StepGivesZero (zero_steps ty)
 unfolding zero_row
@@ -100,7 +118,8 @@ zero_leads_nowhere f z has =
     all_range (LeadsNowhere f) z.inst (length (zero_steps z.ty))
     (λ k inside.
     let step : (s : ZeroStep) × (slice_get (zero_steps z.ty) k ≡ Some s) = step_there z.ty k inside in
-    ap destinations (has k step.0 step.1).shape ∙ (plain_step z.ty k step.0 step.1).no_edges ((z.value + k) - 1))
+    let at : IsStep f (z.inst + k) (z.value + k) step.0 = has k step.0 step.1 in
+    ap destinations at.shape ∙ (plain_step z.ty k step.0 step.1).no_edges at.constant ((z.value + k) - 1))
 
 -- the instructions of zeros that something needs have no edges
 pub needed_lead_nowhere : (f : Body) (zeros : List ZeroAt) → AllByRecursion (IsNeededZero f) zeros → AllByRecursion (LeadsNowhere f) (insts_of_zeros zeros)
@@ -122,7 +141,7 @@ pub record IsZeroInst (f : Body) (blocks : Blocks) (block inst : ℕ) : Type 0 w
   pub exists : inst < length f.insts
   pub value_exists : value < length f.values
   pub no_edges : LeadsNowhere f inst
-  pub gives : GivesZero (inst_at f inst).shape
+  pub gives : GivesZero f.tables (inst_at f inst).shape
   pub result : (inst_at f inst).results ≡ value ∷ []
   pub defined : IsZeroValue blocks block value
 
@@ -156,8 +175,10 @@ module _ (f : Body) (blocks : Blocks) (b : ℕ) where
         value = z.value + k;
         exists = at.exists;
         value_exists = at.value_exists;
-        no_edges = ap destinations at.shape ∙ (plain_step z.ty k step.0 step.1).no_edges ((z.value + k) - 1);
-        gives = subst GivesZero (sym at.shape) (all_get StepGivesZero (zero_steps z.ty) k step.0 (steps_give_zero z.ty) step.1 ((z.value + k) - 1));
+        no_edges = ap destinations at.shape ∙ (plain_step z.ty k step.0 step.1).no_edges at.constant ((z.value + k) - 1);
+        gives =
+            subst (GivesZero f.tables) (sym at.shape)
+            (all_get StepGivesZero (zero_steps z.ty) k step.0 (steps_give_zero z.ty) step.1 f at.constant ((z.value + k) - 1) at.zeros);
         result = at.result;
         defined =
             elim (cases_eq k (steps_before z.ty)) [
@@ -180,10 +201,10 @@ range_at a (suc n) zero inside = let same : a ≡ a + 0 = omega arith in ap (λ 
 range_at a (suc n) (suc k) inside = let same : (a + 1) + k ≡ a + suc k = omega arith in range_at (a + 1) n k (omega (arith, inside)) ∙ ap (λ m. Some m) same
 
 -- an operand of a step is the value before
-operand_is : (step : ZeroStep) → IsPlainStep step → (before k value : ℕ) → slice_get (operands (step.shape before)) k ≡ Some value → value ≡ before
-operand_is step plain before k value is =
-    let there : slice_index (operands (step.shape before)) k ≡ value = get_or_from_slice_get (operands (step.shape before)) k value 0 is in
-    sym there ∙ plain.operands_before before k 0 (place_within (operands (step.shape before)) k value is)
+operand_is : (step : ZeroStep) → IsPlainStep step → (constant before k value : ℕ) → slice_get (operands (step.shape constant before)) k ≡ Some value → value ≡ before
+operand_is step plain constant before k value is =
+    let there : slice_index (operands (step.shape constant before)) k ≡ value = get_or_from_slice_get (operands (step.shape constant before)) k value 0 is in
+    sym there ∙ plain.operands_before constant before k 0 (place_within (operands (step.shape constant before)) k value is)
 
 module _ (f : Body) (consistent : IsConsistent f) where
   zero_in_turn : (z : ZeroAt) → HasZero f z → InTurn f (insts_of_zero z)
@@ -198,19 +219,22 @@ module _ (f : Body) (consistent : IsConsistent f) where
       step : (s : ZeroStep) × (slice_get (zero_steps z.ty) place ≡ Some s)
       step = step_there z.ty place inside
 
-      shape : (inst_at f inst).shape ≡ step.0.shape ((z.value + place) - 1)
+      constant : ℕ
+      constant = (has place step.0 step.1).constant
+
+      shape : (inst_at f inst).shape ≡ step.0.shape constant ((z.value + place) - 1)
       shape = ap (λ i. (inst_at f i).shape) (sym number) ∙ (has place step.0 step.1).shape
 
-      same_operand : slice_get (operands (step.0.shape ((z.value + place) - 1))) k ≡ Some value
+      same_operand : slice_get (operands (step.0.shape constant ((z.value + place) - 1))) k ≡ Some value
       same_operand = ap (λ s. slice_get (operands s) k) (sym shape) ∙ operand
 
       value_is : value ≡ (z.value + place) - 1
-      value_is = operand_is step.0 (plain_step z.ty place step.0 step.1) ((z.value + place) - 1) k value same_operand
+      value_is = operand_is step.0 (plain_step z.ty place step.0 step.1) constant ((z.value + place) - 1) k value same_operand
 
       by : (n : ℕ) → place ≡ n → IsFromBefore f (insts_of_zero z) place value
       by zero first =
-          let none : operands (step.0.shape ((z.value + place) - 1)) ≡ [] =
-          first_alone z.ty step.0 ((z.value + place) - 1) (ap (slice_get (zero_steps z.ty)) (sym first) ∙ step.1) in
+          let none : operands (step.0.shape constant ((z.value + place) - 1)) ≡ [] =
+          first_alone z.ty step.0 constant ((z.value + place) - 1) (ap (slice_get (zero_steps z.ty)) (sym first) ∙ step.1) in
           absurd (none_some (ap (λ xs. slice_get xs k) (sym none) ∙ same_operand))
       by (suc before) next =
           let earlier : before < length (zero_steps z.ty) = omega (arith, next, inside) in

@@ -127,6 +127,7 @@ parameter_with own f s t listed listed' blocks x b ty recorded firm before there
       values_more = omega (arith, long);
       insts_more = omega arith;
       inst_same = λ i here. refl;
+      constants_kept = λ constant bytes here. here;
       definition_same = old_below;
     } in
     let edges : SameEdges f g s t blocks after = same_edges f g s t blocks after (arms_of own f s listed blocks before) extends same (λ c i here. refl) in

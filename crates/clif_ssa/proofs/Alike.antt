@@ -18,8 +18,8 @@ use Rattle.clif_ssa.proofs.Bodies.{Firm, param_exists, param_origin}
 use Rattle.clif_ssa.proofs.Ordering.{contains_cons, contains_more, contains_first}
 use Rattle.clif_ssa.proofs.Zeroing.{CanAlias, alias_resolved, alias_ends, alias_firm, alias_home_other, alias_home_same}
 use Rattle.clif_ssa.proofs.Completing.{inserted_same, inserted_firm, inserted_param_home}
-use Rattle.clif_ssa.proofs.ZeroSteps.{steps_resolved, steps_param_home, steps_firm, put_zero, zero_count, past_unaliased}
-use Rattle.clif_ssa.specs.Zeros.{zero_steps, steps_before}
+use Rattle.clif_ssa.proofs.ZeroSteps.{put_resolved, put_param_home, put_firm, put_zero, zero_count, past_unaliased}
+use Rattle.clif_ssa.specs.Zeros.{steps_before}
 
 -- a parameter is no alias
 pub unaliased_home : (f : Body) (v b : ℕ) → param_home f v ≡ Some b → resolved f v ≡ v
@@ -41,9 +41,9 @@ pub can_zero : (f : Body) (b v : ℕ) (ty : «Type») → Firm f → param_home 
 can_zero f b v ty firm is =
     let inside : v < length f.values = param_exists f v b is in
     record {
-      firm = steps_firm f b (zero_steps ty) firm;
-      parameter = steps_param_home f b (zero_steps ty) v ∙ is;
-      own_end = steps_resolved f b (zero_steps ty) firm (zero_value f ty) ∙ past_unaliased f (zero_value f ty) (omega arith);
+      firm = put_firm f b ty firm;
+      parameter = put_param_home f b ty v ∙ is;
+      own_end = put_resolved f b ty firm (zero_value f ty) ∙ past_unaliased f (zero_value f ty) (omega arith);
       exists = omega (arith, zero_count f b ty);
       apart = λ same. absurd (omega (arith, inside, same));
     }
@@ -67,7 +67,7 @@ put_leaves f b v ty firm is =
     let g : Body = put_zero f b ty in
     let z : ℕ = zero_value f ty in
     let can : CanAlias g v z b = can_zero f b v ty firm is in
-    let same_end : (u : ℕ) → resolved g u ≡ resolved f u = steps_resolved f b (zero_steps ty) firm in
+    let same_end : (u : ℕ) → resolved g u ≡ resolved f u = put_resolved f b ty firm in
     record {
       firm = alias_firm g v z b can;
       alike = λ u w same.
@@ -75,7 +75,7 @@ put_leaves f b v ty firm is =
           ∙ aliased_alike (λ x. resolved g x) v (resolved g z) u w (same_end u ∙ same ∙ sym (same_end w))
           ∙ sym (alias_resolved g v z b can w);
       gone = alias_home_same g v z b can;
-      others = λ u other. alias_home_other g v z u other ∙ steps_param_home f b (zero_steps ty) u;
+      others = λ u other. alias_home_other g v z u other ∙ put_param_home f b ty u;
     }
 
 pub zeroed_leaves : (f : Body) (b v : ℕ) → Firm f → param_home f v ≡ Some b → Leaves f (zeroed f b v) v

@@ -82,7 +82,7 @@ module _ (own : Own) (f : Body) (s : SsaState) (blocks : Blocks) (b n : ℕ) (ty
   old_below v below = is_old v (λ same. absurd (omega (arith, below, same)))
 
   extends : Extends f g blocks after
-  extends = record { values_more = omega (arith, long); insts_more = omega arith; inst_same = λ i here. refl; definition_same = old_below }
+  extends = record { values_more = omega (arith, long); insts_more = omega arith; inst_same = λ i here. refl; constants_kept = λ constant bytes here. here; definition_same = old_below }
 
   edges : SameEdges f g s s blocks after
   edges = same_edges f g s s blocks after (arms_of own f s [] blocks before) extends (λ c. refl) (λ c i here. refl)

@@ -26,8 +26,8 @@ use Rattle.clif_ssa.proofs.Ordering.{contains_cons, contains_more, contains_firs
 use Rattle.clif_ssa.proofs.Describing.{arms_of}
 use Rattle.clif_ssa.proofs.Entering.{relaid, inserted, inserted_entry}
 use Rattle.clif_ssa.proofs.Zeroing.{zero_described, CanAlias, WaitsSealed, alias_described, alias_firm, alias_home_other}
-use Rattle.clif_ssa.proofs.ZeroSteps.{steps_resolved, steps_param_home, steps_values_more, steps_firm, put_zero, zero_count, past_unaliased}
-use Rattle.clif_ssa.specs.Zeros.{zero_steps, steps_before}
+use Rattle.clif_ssa.proofs.ZeroSteps.{put_resolved, put_param_home, put_values_more, put_firm, put_zero, zero_count, past_unaliased}
+use Rattle.clif_ssa.specs.Zeros.{steps_before}
 
 -- THE SAME BUT FOR THE LAYOUT ---------------------------------------------------------------------------------------
 
@@ -36,13 +36,14 @@ pub record SameButLayout (f g : Body) : Type 0 where
   pub values : g.values ≡ f.values
   pub insts : g.insts ≡ f.insts
   pub blocks : g.blocks ≡ f.blocks
+  pub tables : g.tables ≡ f.tables
 
 pub inserted_same : (f : Body) (b : ℕ) → SameButLayout f (inserted_in f b)
 inserted_same f b = by (stands_in b f.layout)
   where
     by : (test : Bool) → SameButLayout f (cond test f (with_layout f b))
-    by true = record { values = refl; insts = refl; blocks = refl }
-    by false = record { values = refl; insts = refl; blocks = refl }
+    by true = record { values = refl; insts = refl; blocks = refl; tables = refl }
+    by false = record { values = refl; insts = refl; blocks = refl; tables = refl }
 
 pub inserted_firm : (f : Body) (b : ℕ) → Firm f → Firm (inserted_in f b)
 inserted_firm f b firm = by (stands_in b f.layout)
@@ -155,15 +156,15 @@ dropped own f s p ps blocks b ty firm entry before sound is nothing =
     let first : IsWaiting f blocks b p × (is_yes (sealed_of s b) ≡ true) = first_waits own f s p ps blocks b before is in
     let inside : v < length f.values = param_exists f v b is in
     let apart : z ≢ v = λ same. absurd (omega (arith, inside, same)) in
-    let g_firm : Firm g = steps_firm f b (zero_steps ty) firm in
+    let g_firm : Firm g = put_firm f b ty firm in
     let described : Describes own g s (p ∷ ps) with_it = zero_described own f s (p ∷ ps) blocks b p.variable ty firm before there in
-    let z_own : resolved g z ≡ z = steps_resolved f b (zero_steps ty) firm z ∙ past_unaliased f z (omega arith) in
+    let z_own : resolved g z ≡ z = put_resolved f b ty firm z ∙ past_unaliased f z (omega arith) in
     let is_zero : with_it.function.definition z ≡ record { home = front b; kind = zero_of p.variable } = updated-same blocks.function.definition z (record { home = front b; kind = zero_of p.variable }) z refl in
     let still_waits : with_it.function.definition v ≡ record { home = front b; kind = pending p.variable } =
     updated-other blocks.function.definition z (record { home = front b; kind = zero_of p.variable }) v (λ same. apart (sym same)) ∙ first.0.defined in
     let can : CanAlias g v z b = record {
       firm = g_firm;
-      parameter = steps_param_home f b (zero_steps ty) v ∙ is;
+      parameter = put_param_home f b ty v ∙ is;
       own_end = z_own;
       exists = omega (arith, zero_count f b ty);
       apart = apart;
@@ -221,14 +222,14 @@ zeroed_home f b v u c inside is =
     let ty : «Type» = (value_at f v).ty in
     let h : Body = inserted_in f b in
     let g : Body = put_zero h b ty in
-    let more : length h.values ≤ length g.values = steps_values_more h b (zero_steps ty) in
+    let more : length h.values ≤ length g.values = put_values_more h b ty in
     let same_values : length h.values ≡ length f.values = ap length (inserted_same f b).values in
     elim (cases_eq u v) [
       | inl same ↦
           absurd (none_some (sym (home-set_same g.values v (record (value_at g v) { origin = Alias (resolved g (zero_value f ty)) }) (omega (arith, inside, more, same_values)))
           ∙ ap (param_home (zeroed f b v)) (sym same) ∙ is))
       | inr other ↦
-          sym (inserted_param_home f b u) ∙ sym (steps_param_home h b (zero_steps ty) u)
+          sym (inserted_param_home f b u) ∙ sym (put_param_home h b ty u)
           ∙ sym (alias_home_other g v (zero_value f ty) u other) ∙ is
     ]
 

@@ -25,9 +25,10 @@ use Rattle.clif_ssa.proofs.Constructing.{block_kept, more_none, constructs_none,
 use Rattle.clif_ssa.proofs.Bodies.{param_origin}
 use Rattle.clif_ssa.proofs.Completing.{inserted_param_home, inserted_same}
 use Rattle.clif_ssa.proofs.PuttingSteps.{get-take, take_all, take_count}
-use Rattle.clif_ssa.proofs.ZeroSteps.{steps_old, put_zero, steps_param_home, steps_insts_more, steps_values_more, steps_old_value, steps_new, zero_at, put_stands, step_node}
-use Rattle.clif_ssa.specs.Zeros.{zero_steps, ZeroStep}
-use Rattle.clif_ssa.proofs.ZeroTable.{step_there}
+use Rattle.clif_ssa.proofs.Pooled.{pooled_has, pools_none, zeros_pooled, zeros_stay}
+use Rattle.clif_ssa.proofs.ZeroSteps.{steps_old, put_insts_more, put_param_home, put_zero, steps_insts_more, steps_values_more, steps_old_value, steps_new, zero_at, put_stands, step_node}
+use Rattle.clif_ssa.specs.Zeros.{zero_size, zero_steps, zeros_number, with_pooled, ZeroStep}
+use Rattle.clif_ssa.proofs.ZeroTable.{step_names, step_there}
 
 -- an entry of a list in which one was replaced
 at_set : {X : Type 0} (P : X → Type 0) (xs : List X) (i : ℕ) (y : X) (k : ℕ) (d : X) → (k ≡ i → P y) → P (get_or xs k d) → P (get_or (set xs i y) k d)
@@ -47,6 +48,7 @@ param_constructs f b ty =
     let old : (v : ℕ) → v < length f.values → value_at g v ≡ value_at f v = λ v inside. get_or-append f.values (node ∷ []) no_value v inside in
     record {
       same = refl;
+      tables = pools_none f.tables;
       values = omega (arith, long);
       same_values = λ v inside. inl (old v inside);
       insts = omega arith;
@@ -80,6 +82,7 @@ inserted_constructs f b = by (stands_in b f.layout)
     laid : OnlyConstructs f (with_layout f b)
     laid = record {
       same = refl;
+      tables = pools_none f.tables;
       values = omega arith;
       same_values = λ v inside. inl refl;
       insts = omega arith;
@@ -109,14 +112,16 @@ some_steps ty count = take count (zero_steps ty)
 
 -- each new instruction is a step of the zero
 step_new : (f : Body) (b : ℕ) (ty : «Type») (count : ℕ) → count ≤ length (zero_steps ty)
-    → (i : ℕ) → length f.insts ≤ i → i < length (with_steps f b (some_steps ty count)).insts → IsNewStep f (inst_at (with_steps f b (some_steps ty count)) i)
+    → (i : ℕ) → length f.insts ≤ i → i < length (with_steps (with_pooled f ty) b (some_steps ty count)).insts → IsNewStep f (with_steps (with_pooled f ty) b (some_steps ty count)) (inst_at (with_steps (with_pooled f ty) b (some_steps ty count)) i)
 step_new f b ty count fits i from inside =
     let k : ℕ = i - length f.insts in
+    let pooled : Body = with_pooled f ty in
+    let g : Body = with_steps pooled b (some_steps ty count) in
     let at : length f.insts + k ≡ i = omega (arith, from) in
-    let few : k < count = omega (arith, from, inside, steps_insts_more f b (some_steps ty count), take_count (zero_steps ty) count fits) in
+    let few : k < count = omega (arith, from, inside, steps_insts_more pooled b (some_steps ty count), take_count (zero_steps ty) count fits) in
     let step : (s : ZeroStep) × (slice_get (zero_steps ty) k ≡ Some s) = step_there ty k (omega (arith, few, fits)) in
-    let new : inst_at (with_steps f b (some_steps ty count)) i ≡ step_node b (length f.values + k) step.0 =
-    ap (inst_at (with_steps f b (some_steps ty count))) (sym at) ∙ steps_new f b (some_steps ty count) k step.0 (get-take (zero_steps ty) count k few ∙ step.1) in
+    let new : inst_at g i ≡ step_node pooled.tables.constants b (length f.values + k) step.0 =
+    ap (inst_at g) (sym at) ∙ steps_new pooled b (some_steps ty count) k step.0 (get-take (zero_steps ty) count k few ∙ step.1) in
     record {
       ty = ty;
       place = k;
@@ -124,24 +129,27 @@ step_new f b ty count fits i from inside =
       is_step = step.1;
       value = length f.values + k;
       is_new = omega arith;
+      constant = zeros_number pooled.tables.constants step.0.size;
+      zeros = (step_names ty k step.0 step.1).numbered g (zeros_stay pooled g _ (zero_size ty) (λ constant bytes here. here) (pooled_has f ty));
       shape = ap (λ (n : InstNode). n.shape) new;
       results = ap (λ (n : InstNode). n.results) new;
       srcloc = ap (λ (n : InstNode). n.srcloc) new;
     }
 
-steps_construct : (f : Body) (b : ℕ) (ty : «Type») (count : ℕ) → count ≤ length (zero_steps ty) → OnlyConstructs f (with_steps f b (some_steps ty count))
+steps_construct : (f : Body) (b : ℕ) (ty : «Type») (count : ℕ) → count ≤ length (zero_steps ty) → OnlyConstructs f (with_steps (with_pooled f ty) b (some_steps ty count))
 steps_construct f b ty count fits =
-    let g : Body = with_steps f b (some_steps ty count) in
+    let g : Body = with_steps (with_pooled f ty) b (some_steps ty count) in
     let steps : List ZeroStep = some_steps ty count in
-    let values : length f.values ≤ length g.values = steps_values_more f b steps in
-    let insts : length g.insts ≡ length f.insts + length steps = steps_insts_more f b steps in
+    let values : length f.values ≤ length g.values = steps_values_more (with_pooled f ty) b steps in
+    let insts : length g.insts ≡ length f.insts + length steps = steps_insts_more (with_pooled f ty) b steps in
     let node : BlockNode = record (block_at f b) { insts = range_with_len (length f.insts) (length steps) ++ (block_at f b).insts } in
     record {
       same = refl;
+      tables = zeros_pooled f.tables (zero_size ty);
       values = values;
-      same_values = λ v inside. inl (steps_old_value f b steps v inside);
+      same_values = λ v inside. inl (steps_old_value (with_pooled f ty) b steps v inside);
       insts = omega (arith, insts);
-      same_insts = λ i inside. subst (λ n. MayPassMore (inst_at f i) n) (sym (steps_old f b steps i inside)) (more_none (inst_at f i));
+      same_insts = λ i inside. subst (λ n. MayPassMore (inst_at f i) n) (sym (steps_old (with_pooled f ty) b steps i inside)) (more_none (inst_at f i));
       zeros = step_new f b ty count fits;
       block_count = grind (arith, common_steps);
       blocks = λ c.
@@ -151,8 +159,8 @@ steps_construct f b ty count fits =
       layout = ([], sym (append-nil f.layout));
     }
   where
-    here : length f.values ≤ length (with_steps f b (some_steps ty count)).values → length (with_steps f b (some_steps ty count)).insts ≡ length f.insts + length (some_steps ty count)
-        → ConstructsBlock f (with_steps f b (some_steps ty count)) (block_at f b) (record (block_at f b) { insts = range_with_len (length f.insts) (length (some_steps ty count)) ++ (block_at f b).insts })
+    here : length f.values ≤ length (with_steps (with_pooled f ty) b (some_steps ty count)).values → length (with_steps (with_pooled f ty) b (some_steps ty count)).insts ≡ length f.insts + length (some_steps ty count)
+        → ConstructsBlock f (with_steps (with_pooled f ty) b (some_steps ty count)) (block_at f b) (record (block_at f b) { insts = range_with_len (length f.insts) (length (some_steps ty count)) ++ (block_at f b).insts })
     here values insts =
         let made : List ℕ = range_with_len (length f.insts) (length (some_steps ty count)) in
         let made_count : length made ≡ length (some_steps ty count) = length-range_with_len (length f.insts) (length (some_steps ty count)) in
@@ -166,14 +174,14 @@ steps_construct f b ty count fits =
               (sym (filter-all (block_at f b).params) ∙ sym (append-nil (filter (λ v. true) (block_at f b).params)))
               ∙ ap (λ xs. record (block_at f b) { params = filter (λ v. true) (block_at f b).params ++ []; insts = xs ++ (block_at f b).insts }) (sym (append-nil made));
           zeros_new =
-              subst (Rises (length f.insts) (length (with_steps f b (some_steps ty count)).insts)) (sym (append-nil made))
+              subst (Rises (length f.insts) (length (with_steps (with_pooled f ty) b (some_steps ty count)).insts)) (sym (append-nil made))
               (subst (λ bound. Rises (length f.insts) bound made) (sym insts) (rises-range (length f.insts) (length (some_steps ty count))));
           added_new = values;
         }
 
 pub zero_constructs : (f : Body) (b : ℕ) (ty : «Type») → OnlyConstructs f (put_zero f b ty)
 zero_constructs f b ty =
-    subst (λ steps. OnlyConstructs f (with_steps f b steps)) (take_all (zero_steps ty) (length (zero_steps ty)) (omega arith)) (steps_construct f b ty (length (zero_steps ty)) (omega arith))
+    subst (λ steps. OnlyConstructs f (with_steps (with_pooled f ty) b steps)) (take_all (zero_steps ty) (length (zero_steps ty)) (omega arith)) (steps_construct f b ty (length (zero_steps ty)) (omega arith))
 
 -- its block is told
 zero_told : (f : Body) (b : ℕ) (ty : «Type») → TellsZeros f (put_zero f b ty) (b ∷ [])
@@ -185,9 +193,9 @@ zero_told f b ty = record {
       stands = put_stands f b ty;
       blocks = λ k inside.
           let step : (s : ZeroStep) × (slice_get (zero_steps ty) k ≡ Some s) = step_there ty k inside in
-          ap (λ (n : InstNode). n.block) (steps_new f b (zero_steps ty) k step.0 step.1);
+          ap (λ (n : InstNode). n.block) (steps_new (with_pooled f ty) b (zero_steps ty) k step.0 step.1);
     },
-    steps_insts_more f b (zero_steps ty),
+    put_insts_more f b ty,
   );
 }
 
@@ -226,6 +234,7 @@ alias_constructs f v original is once =
     let values : length g.values ≡ length f.values = grind (arith, common_steps) in
     record {
       same = refl;
+      tables = pools_none f.tables;
       values = omega (arith, values);
       same_values = λ u inside.
           at_set (λ (n : ValueNode). StaysOrNames (value_at f u) n) f.values v node u no_value
@@ -265,6 +274,7 @@ argument_constructs f i b v =
     let insts : length g.insts ≡ length f.insts = grind (arith, common_steps) in
     record {
       same = refl;
+      tables = pools_none f.tables;
       values = omega arith;
       same_values = λ u inside. inl refl;
       insts = omega (arith, insts);
@@ -290,9 +300,10 @@ with_zero_made f g h b ty inserted put =
     constructs_then f g h (inserted_made f g b inserted) (subst (λ k. OnlyConstructs g k) (sym put) (zero_constructs g b ty))
 
 -- where it failed, and in any case: some of the steps are there
-pub some_steps_made : (f g h : Body) (b : ℕ) (ty : «Type») → g ≡ inserted_in f b → HasSomeSteps g h b ty → OnlyConstructs f h
-some_steps_made f g h b ty inserted some =
-    constructs_then f g h (inserted_made f g b inserted) (subst (λ k. OnlyConstructs g k) (sym some.2) (steps_construct g b ty some.0 some.1))
+pub some_steps_made : (f g p h : Body) (b : ℕ) (ty : «Type») → g ≡ inserted_in f b → p ≡ with_pooled g ty → HasSomeSteps p h b ty → OnlyConstructs f h
+some_steps_made f g p h b ty inserted pooled some =
+    constructs_then f g h (inserted_made f g b inserted)
+    (subst (λ k. OnlyConstructs g k) (sym (some.2 ∙ ap (λ (k : Body). with_steps k b (take some.0 (zero_steps ty))) pooled)) (steps_construct g b ty some.0 some.1))
 
 pub constructs_more : (f g : Body) → OnlyConstructs f g → HasMore f g
 constructs_more f g made = record { values = made.values; insts = made.insts; blocks = made.block_count }
@@ -319,4 +330,4 @@ param_is f v b is = let at : (value_at f v).origin ≡ Param b = param_origin f 
 -- a parameter is still one once a zero is put
 pub zero_param : (f g : Body) (v b : ℕ) (ty : «Type») → param_home f v ≡ Some b → g ≡ with_zero f b ty → param_home g v ≡ Some b
 zero_param f g v b ty is made =
-    ap (λ h. param_home h v) made ∙ steps_param_home (inserted_in f b) b (zero_steps ty) v ∙ inserted_param_home f b v ∙ is
+    ap (λ h. param_home h v) made ∙ put_param_home (inserted_in f b) b ty v ∙ inserted_param_home f b v ∙ is

@@ -14,6 +14,7 @@ use Rattle.clif_ir.specs.declared.function.ValueOrigin.TheVariants.{Param, Alias
 use Rattle.clif_instructions.specs.declared.instructions.InstructionData.{InstructionData}
 use Rattle.clif_instructions.proofs.Lists.{below_or_not}
 use Rattle.clif_ssa.specs.Constructs.{Rises, StaysOrNames, with_passed, in_turn, AreToldFrom, FitsZero, MayPassMore, IsNewStep, StandsWhole, ConstructsBlock, OnlyConstructs, TellsZeros, TellsMore}
+use Rattle.clif_ssa.proofs.Pooled.{KeepsConstants, pools_keep, pools_none, pools_then, zeros_stay}
 use Rattle.clif_ssa.proofs.ZeroTable.{plain_step, step_there}
 use Rattle.clif_ssa.specs.Zeros.{zero_steps, ZeroAt, ZeroStep, IsStep}
 
@@ -71,35 +72,39 @@ passed_plain (x ∷ more) shape plain = ap (with_passed more) (plain x.0 x.1) �
 pub more_none : (n : InstNode) → MayPassMore n n
 more_none n = ([], refl)
 
-more_then : (a b c : InstNode) → MayPassMore a b → MayPassMore b c → MayPassMore a c
+pub more_then : (a b c : InstNode) → MayPassMore a b → MayPassMore b c → MayPassMore a c
 more_then a b c first second = (
   first.0 ++ second.0,
   second.1 ∙ ap (λ (n : InstNode). record n { shape = with_passed second.0 n.shape }) first.1
       ∙ ap (λ shape. record a { shape = shape }) (sym (passed-append first.0 second.0 a.shape)),
 )
 
-step_then : (f : Body) (b c : InstNode) → IsNewStep f b → MayPassMore b c → IsNewStep f c
-step_then f b c is more = record {
+step_then : (f g h : Body) (b c : InstNode) → KeepsConstants g h → IsNewStep f g b → MayPassMore b c → IsNewStep f h c
+step_then f g h b c keeps is more = record {
   ty = is.ty;
   place = is.place;
   step = is.step;
   is_step = is.is_step;
   value = is.value;
   is_new = is.is_new;
+  constant = is.constant;
+  zeros = zeros_stay g h is.constant is.step.size keeps is.zeros;
   shape = ap (λ (n : InstNode). n.shape) more.1 ∙ ap (with_passed more.0) is.shape
-      ∙ passed_plain more.0 (is.step.shape (is.value - 1)) (λ b v. (plain_step is.ty is.place is.step is.is_step).unchanged b v (is.value - 1));
+      ∙ passed_plain more.0 (is.step.shape is.constant (is.value - 1)) (λ b v. (plain_step is.ty is.place is.step is.is_step).unchanged b v is.constant (is.value - 1));
   results = ap (λ (n : InstNode). n.results) more.1 ∙ is.results;
   srcloc = ap (λ (n : InstNode). n.srcloc) more.1 ∙ is.srcloc;
 }
 
-step_of_more : (f g : Body) (n : InstNode) → length f.values ≤ length g.values → IsNewStep g n → IsNewStep f n
-step_of_more f g n more is = record {
+step_of_more : (f g h : Body) (n : InstNode) → length f.values ≤ length g.values → IsNewStep g h n → IsNewStep f h n
+step_of_more f g h n more is = record {
   ty = is.ty;
   place = is.place;
   step = is.step;
   is_step = is.is_step;
   value = is.value;
   is_new = omega (arith, more, is.is_new);
+  constant = is.constant;
+  zeros = is.zeros;
   shape = is.shape;
   results = is.results;
   srcloc = is.srcloc;
@@ -155,6 +160,7 @@ block_then f g h a b c first second =
 pub constructs_none : (f : Body) → OnlyConstructs f f
 constructs_none f = record {
   same = refl;
+  tables = pools_none f.tables;
   values = omega arith;
   same_values = λ v inside. inl refl;
   insts = omega arith;
@@ -167,7 +173,8 @@ constructs_none f = record {
 
 pub constructs_then : (f g h : Body) → OnlyConstructs f g → OnlyConstructs g h → OnlyConstructs f h
 constructs_then f g h first second = record {
-  same = second.same ∙ ap (λ (k : Body). record k { values = h.values; insts = h.insts; blocks = h.blocks; layout = h.layout }) first.same;
+  same = second.same ∙ ap (λ (k : Body). record k { values = h.values; insts = h.insts; blocks = h.blocks; layout = h.layout; tables = h.tables }) first.same;
+  tables = pools_then f.tables g.tables h.tables first.tables second.tables;
   values = omega (arith, first.values, second.values);
   same_values = λ v inside.
       stays_then (value_at f v) (value_at g v) (value_at h v) (first.same_values v inside) (second.same_values v (omega (arith, inside, first.values)));
@@ -175,8 +182,8 @@ constructs_then f g h first second = record {
   same_insts = λ i inside. more_then (inst_at f i) (inst_at g i) (inst_at h i) (first.same_insts i inside) (second.same_insts i (omega (arith, inside, first.insts)));
   zeros = λ i from inside.
       elim (below_or_not i (length g.insts)) [
-        | inl old ↦ step_then f (inst_at g i) (inst_at h i) (first.zeros i from old) (second.same_insts i old)
-        | inr new ↦ step_of_more f g (inst_at h i) first.values (second.zeros i new inside)
+        | inl old ↦ step_then f g h (inst_at g i) (inst_at h i) (pools_keep g h second.tables) (first.zeros i from old) (second.same_insts i old)
+        | inr new ↦ step_of_more f g h (inst_at h i) first.values (second.zeros i new inside)
       ];
   block_count = second.block_count ∙ first.block_count;
   blocks = λ b. block_then f g h (block_at f b) (block_at g b) (block_at h b) (first.blocks b) (second.blocks b);
@@ -200,8 +207,10 @@ whole_kept g h b z next whole = record {
       record {
         exists = omega (arith, old.exists, next.insts);
         value_exists = omega (arith, old.value_exists, next.values);
+        constant = old.constant;
+        zeros = zeros_stay g h old.constant step.size (pools_keep g h next.tables) old.zeros;
         shape = ap (λ (n : InstNode). n.shape) more.1 ∙ ap (with_passed more.0) old.shape
-            ∙ passed_plain more.0 (step.shape ((z.value + k) - 1)) (λ b v. (plain_step z.ty k step is).unchanged b v ((z.value + k) - 1));
+            ∙ passed_plain more.0 (step.shape old.constant ((z.value + k) - 1)) (λ b v. (plain_step z.ty k step is).unchanged b v old.constant ((z.value + k) - 1));
         result = ap (λ (n : InstNode). n.results) more.1 ∙ old.result;
       };
   blocks = λ k inside.

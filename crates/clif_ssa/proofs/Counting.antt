@@ -35,8 +35,7 @@ use Rattle.clif_ssa.proofs.Entering.{both_true}
 use Rattle.clif_ssa.proofs.Housing.{Housed}
 use Rattle.clif_ssa.proofs.Instructions.{inst_param_home, inst_params, inst_old}
 use Rattle.clif_ssa.proofs.Leading.{contains_without, predecessor_declared, predecessor_removed}
-use Rattle.clif_ssa.proofs.ZeroSteps.{steps_param_home, steps_params, steps_old, put_zero}
-use Rattle.clif_ssa.specs.Zeros.{zero_steps}
+use Rattle.clif_ssa.proofs.ZeroSteps.{put_param_home, put_params, put_old, put_zero}
 
 -- the branches that lead to blocks, the parameters, and how these are defined, are as before
 pub record SameCounts (f g : Body) (s t : SsaState) (blocks blocks' : Blocks) : Type 0 where
@@ -126,16 +125,16 @@ zero_counted own f s completing blocks b x ty before counts =
     counts_same own f (put_zero f b ty) s s blocks (with_zero_in blocks b x (zero_value f ty))
     (record {
       predecessors = λ c. refl;
-      inst_same = λ c i here. steps_old f b (zero_steps ty) i (before.leading c i here).0;
-      params = steps_params f b (zero_steps ty);
-      homes = steps_param_home f b (zero_steps ty);
+      inst_same = λ c i here. put_old f b ty i (before.leading c i here).0;
+      params = put_params f b ty;
+      homes = put_param_home f b ty;
       defined = λ v c is.
           let below : v < length f.values = param_exists f v c is in
           updated-other blocks.function.definition (zero_value f ty) (record { home = front b; kind = zero_of x }) v (λ same. absurd (omega (arith, below, same)));
     }) counts
 
 pub zero_housed : (f : Body) (b : ℕ) (ty : «Type») → Housed f → Housed (put_zero f b ty)
-zero_housed f b ty housed = housed_same f (put_zero f b ty) (steps_params f b (zero_steps ty)) (steps_param_home f b (zero_steps ty)) housed
+zero_housed f b ty housed = housed_same f (put_zero f b ty) (put_params f b ty) (put_param_home f b ty) housed
 
 -- a block enters the layout
 pub inserted_counted : (own : Own) (f : Body) (s : SsaState) (blocks blocks' : Blocks) (b : ℕ) → ((v : ℕ) → blocks'.function.definition v ≡ blocks.function.definition v)

@@ -22,6 +22,7 @@ use Rattle.clif_records.specs.Tables.{is_yes, pending_of}
 use Rattle.clif_ssa.specs.Ssa.{SsaState, sealed_of, predecessors_of, SamePredecessors}
 use Rattle.clif_ssa.specs.LookUp.{branch_block}
 use Rattle.clif_ssa.specs.Zeros.{ZeroAt, value_of_zero}
+use Rattle.clif_ssa.proofs.Pooled.{KeepsConstants}
 use Rattle.clif_ssa.proofs.ZeroTable.{has_zero_kept, zero_exists}
 use Rattle.clif_ssa.specs.Sound.{Describes, IsZero, HasInstructions, IsWaiting, HomeFits, IsEdgeInto, InOrder, parameters_of, is_some_block, has_entry, entry_of, edge_target, args_of, passed_at, BelongsTo}
 use Rattle.clif_ssa.proofs.Bodies.{param_exists}
@@ -32,6 +33,7 @@ pub record Extends (f g : Body) (blocks blocks' : Blocks) : Type 0 where
   pub values_more : length f.values ≤ length g.values
   pub insts_more : length f.insts ≤ length g.insts
   pub inst_same : (i : ℕ) → i < length f.insts → inst_at g i ≡ inst_at f i
+  pub constants_kept : KeepsConstants f g
   pub definition_same : (v : ℕ) → v < length f.values → blocks'.function.definition v ≡ blocks.function.definition v
 
 pub zero_kept : (f g : Body) (blocks blocks' : Blocks) (b : ℕ) (z : ZeroAt) → Extends f g blocks blocks' → IsZero f blocks b z → IsZero g blocks' b z
@@ -39,7 +41,7 @@ zero_kept f g blocks blocks' b z extends zero =
     let exists : value_of_zero z < length f.values = zero_exists f z zero.stands in
     record {
       variable = zero.variable;
-      stands = has_zero_kept f g z extends.values_more extends.insts_more extends.inst_same zero.stands;
+      stands = has_zero_kept f g z extends.values_more extends.insts_more extends.inst_same extends.constants_kept zero.stands;
       defined = extends.definition_same (value_of_zero z) exists ∙ zero.defined;
       others = λ v from below. extends.definition_same v (omega (arith, below, exists)) ∙ zero.others v from below;
     }

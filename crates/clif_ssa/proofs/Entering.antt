@@ -58,7 +58,7 @@ relaid own f layout s t completing completing' blocks sealed joins before same l
     let g : Body = record f { layout = layout } in
     let after : Blocks = record blocks { sealed = sealed; joins = joins } in
     let extends : Extends f g blocks after =
-    record { values_more = omega arith; insts_more = omega arith; inst_same = λ i here. refl; definition_same = λ v here. refl } in
+    record { values_more = omega arith; insts_more = omega arith; inst_same = λ i here. refl; constants_kept = λ constant bytes here. here; definition_same = λ v here. refl } in
     record {
       sealed = arms.sealed;
       joined = arms.joined;

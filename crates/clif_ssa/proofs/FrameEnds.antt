@@ -34,8 +34,8 @@ use Rattle.clif_ssa.proofs.Completing.{SameButLayout, inserted_same, inserted_fi
 use Rattle.clif_ssa.proofs.Aliasing.{drop_described, drop_counted, drop_firm, drop_housed}
 use Rattle.clif_ssa.proofs.Filling.{filled_described, filled_counted, filled_firm, filled_housed}
 use Rattle.clif_ssa.proofs.Counting.{zero_counted, zero_housed, inserted_counted, inserted_housed}
-use Rattle.clif_ssa.proofs.ZeroSteps.{steps_resolved, steps_param_home, steps_insts_more, steps_firm, steps_old, put_zero, zero_count, past_unaliased}
-use Rattle.clif_ssa.specs.Zeros.{zero_steps, steps_before}
+use Rattle.clif_ssa.proofs.ZeroSteps.{put_resolved, put_param_home, put_insts_more, put_firm, put_old, put_zero, zero_count, past_unaliased}
+use Rattle.clif_ssa.specs.Zeros.{steps_before}
 
 -- WHAT STAYS ------------------------------------------------------------------------------------------------------
 
@@ -200,8 +200,8 @@ inserted_since f s b = by (stands_in b f.layout)
 
 zero_since : (g : Body) (s : SsaState) (b : ℕ) (ty : «Type») (v z : ℕ) → Since g s (with_alias (put_zero g b ty) v z) s
 zero_since g s b ty v z = record {
-  insts_more = omega (arith, steps_insts_more g b (zero_steps ty));
-  branches = λ i inside. ap (λ (n : InstNode). n.block) (steps_old g b (zero_steps ty) i inside);
+  insts_more = omega (arith, put_insts_more g b ty);
+  branches = λ i inside. ap (λ (n : InstNode). n.block) (put_old g b ty i inside);
   predecessors = λ c. refl;
   block_count = grind (arith, common_steps);
   stay = λ x c value is. is;
@@ -234,11 +234,11 @@ zeroing c f frames g s tables ty firm housed before counts sound rest none arms 
     let h : Body = put_zero g f.block ty in
     let inside : f.parameter < length g.values = param_exists g f.parameter f.block home in
     let apart : z ≢ f.parameter = λ same. absurd (omega (arith, inside, same)) in
-    let h_firm : Firm h = steps_firm g f.block (zero_steps ty) firm in
-    let h_home : param_home h f.parameter ≡ Some f.block = steps_param_home g f.block (zero_steps ty) f.parameter ∙ home in
+    let h_firm : Firm h = put_firm g f.block ty firm in
+    let h_home : param_home h f.parameter ≡ Some f.block = put_param_home g f.block ty f.parameter ∙ home in
     let long : length h.values ≡ z + 1 = zero_count g f.block ty in
     let exists : z < length h.values = omega (arith, long) in
-    let ends : resolved h z ≡ z = steps_resolved g f.block (zero_steps ty) firm z ∙ past_unaliased g z (omega arith) in
+    let ends : resolved h z ≡ z = put_resolved g f.block ty firm z ∙ past_unaliased g z (omega arith) in
     let there : f.block < length g.blocks = firm.homes_exist f.parameter f.block home in
     let h_housed : Housed h = zero_housed g f.block ty housed in
     let put : Describes c.own h s (completing_of c (f ∷ frames)) (with_zero_in tables f.block c.variable z) =
@@ -281,7 +281,7 @@ zero_ends c f frames tables entered m base before counts sound same rest none ar
           (inserted_since m.function m.state f.block) (zero_since g m.state f.block ty f.parameter (zero_value g ty));
       other_homes = λ u other.
           home-set_other (put_zero g f.block ty).values f.parameter _ u other
-          ∙ steps_param_home g f.block (zero_steps ty) u ∙ home_same u;
+          ∙ put_param_home g f.block ty u ∙ home_same u;
       delivers = done.delivers;
     } in
     subst (λ n. Ended c f frames tables m (with_alias (put_zero g f.block ty) f.parameter (n + steps_before ty)) (n + steps_before ty)) (ap length but.values) ended

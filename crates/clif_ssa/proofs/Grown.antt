@@ -19,8 +19,7 @@ use Rattle.clif_ssa.proofs.Completing.{inserted_param_home}
 use Rattle.clif_ssa.proofs.Constructed.{param_constructs, inserted_constructs, zero_constructs, argument_constructs}
 use Rattle.clif_ssa.proofs.Ordering.{other_number}
 use Rattle.clif_ssa.proofs.Parameters.{param_node}
-use Rattle.clif_ssa.proofs.ZeroSteps.{steps_param_home, put_zero}
-use Rattle.clif_ssa.specs.Zeros.{zero_steps}
+use Rattle.clif_ssa.proofs.ZeroSteps.{put_param_home, put_zero}
 
 -- `f` is the function before, `g` after. New parameters are of blocks of the set, and these alone enter the layout.
 pub record Grown (holds : ℕ → Bool) (f g : Body) : Type 0 where
@@ -101,7 +100,7 @@ module _ (holds : ℕ → Bool) where
   grown_zero : (f : Body) (b : ℕ) (ty : «Type») → Grown holds f (put_zero f b ty)
   grown_zero f b ty =
       constructed f (put_zero f b ty) (zero_constructs f b ty)
-      (λ v home is. inl (sym (steps_param_home f b (zero_steps ty) v) ∙ is)) (λ c here. inl here)
+      (λ v home is. inl (sym (put_param_home f b ty v) ∙ is)) (λ c here. inl here)
 
   pub grown_alias : (f : Body) (v original : ℕ) → Grown holds f (with_alias f v original)
   grown_alias f v original =

@@ -97,5 +97,6 @@ module _ (f : Body) (b : ℕ) (at : InsertAt) (shape : InstructionData) (types :
     values_more = inst_values_more;
     insts_more = omega (arith, inst_insts_more);
     inst_same = inst_old;
+    constants_kept = λ constant bytes here. here;
     definition_same = same;
   }

@@ -19,6 +19,7 @@ pub mod Describing
 pub mod Entering
 pub mod Parameters
 pub mod Instructions
+pub mod Pooled
 pub mod ZeroTable
 pub mod PuttingSteps
 pub mod ZeroSteps

@@ -35,8 +35,8 @@ use Rattle.clif_ssa.proofs.FrameEnds.{own_end}
 use Rattle.clif_ssa.proofs.AllCompleted.{seal_counted, sealing_keeps}
 use Rattle.clif_ssa.proofs.Machine.{uses_keeps}
 use Rattle.clif_ssa.proofs.Sealing.{seal_described}
-use Rattle.clif_ssa.proofs.ZeroSteps.{steps_resolved, steps_param_home, steps_firm, put_zero, zero_count, past_unaliased, param_zero_value}
-use Rattle.clif_ssa.specs.Zeros.{zero_steps, steps_before}
+use Rattle.clif_ssa.proofs.ZeroSteps.{put_resolved, put_param_home, put_firm, put_zero, zero_count, past_unaliased, param_zero_value}
+use Rattle.clif_ssa.specs.Zeros.{steps_before}
 
 -- A ZERO ----------------------------------------------------------------------------------------------------------
 
@@ -61,11 +61,11 @@ zeroed_counts own f s p ps blocks b firm housed before counts sound is =
     let there : b < length g.blocks = g_firm.homes_exist p.param b g_home in
     let inside : p.param < length g.values = param_exists g p.param b g_home in
     let apart : z ≢ p.param = λ same. absurd (omega (arith, inside, same)) in
-    let h_firm : Firm h = steps_firm g b (zero_steps ty) g_firm in
+    let h_firm : Firm h = put_firm g b ty g_firm in
     let h_housed : Housed h = zero_housed g b ty (inserted_housed f b housed) in
-    let h_home : param_home h p.param ≡ Some b = steps_param_home g b (zero_steps ty) p.param ∙ g_home in
+    let h_home : param_home h p.param ≡ Some b = put_param_home g b ty p.param ∙ g_home in
     let exists : z < length h.values = omega (arith, zero_count g b ty) in
-    let ends : resolved h z ≡ z = steps_resolved g b (zero_steps ty) g_firm z ∙ past_unaliased g z (omega arith) in
+    let ends : resolved h z ≡ z = put_resolved g b ty g_firm z ∙ past_unaliased g z (omega arith) in
     let put : Describes own h s (p ∷ ps) (with_zero_in entered b x z) = zero_described own g s (p ∷ ps) entered b x ty g_firm now.0 there in
     let put_counts : CountsArguments own h s (with_zero_in entered b x z) =
     zero_counted own g s (p ∷ ps) entered b x ty now.0 (inserted_counted own f s blocks entered b (entry_same f.layout s b blocks).definition counts) in
@@ -75,7 +75,7 @@ zeroed_counts own f s p ps blocks b firm housed before counts sound is =
           (drop_counted own h s p ps (with_zero_in entered b x z) z b h_firm h_housed put put_counts h_home exists ends apart);
       housed = subst (λ n. Housed (with_alias h p.param (n + steps_before ty))) same (drop_housed h p.param z b h_firm h_housed h_home exists ends apart);
       others = λ u other.
-          home-set_other h.values p.param _ u other ∙ steps_param_home g b (zero_steps ty) u ∙ inserted_param_home f b u;
+          home-set_other h.values p.param _ u other ∙ put_param_home g b ty u ∙ inserted_param_home f b u;
     }
 
 -- SEALING ---------------------------------------------------------------------------------------------------------

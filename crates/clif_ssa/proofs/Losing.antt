@@ -22,8 +22,8 @@ use Rattle.clif_ssa.proofs.Describing.{recorded_here}
 use Rattle.clif_ssa.proofs.Parameters.{param_firm, param_resolved, param_home_new}
 use Rattle.clif_ssa.proofs.Completing.{inserted_same, inserted_firm, inserted_param_home}
 use Rattle.clif_ssa.proofs.Alike.{EndsIn, zeroed_ends, alike_same, alike_then, Leaves, zeroed_leaves, LeavesAll, completed_leaves}
-use Rattle.clif_ssa.proofs.ZeroSteps.{steps_param_home, steps_firm, put_zero, steps_params, param_zero_value}
-use Rattle.clif_ssa.specs.Zeros.{zero_steps, steps_before}
+use Rattle.clif_ssa.proofs.ZeroSteps.{put_param_home, put_firm, put_zero, put_params, param_zero_value}
+use Rattle.clif_ssa.specs.Zeros.{steps_before}
 
 -- PARAMETERS ------------------------------------------------------------------------------------------------------
 
@@ -72,9 +72,6 @@ inserted_params f b c = by (stands_in b f.layout)
     by true = refl
     by false = refl
 
-put_params : (f : Body) (b c : ℕ) (ty : «Type») → b < length f.blocks → params_of (put_zero f b ty) c ≡ params_of f c
-put_params f b c ty there = steps_params f b (zero_steps ty) c
-
 param_params : (f : Body) (b c : ℕ) (ty : «Type») → b < length f.blocks → (c ≢ b → params_of (with_param f b ty) c ≡ params_of f c)
     × (c ≡ b → params_of (with_param f b ty) c ≡ params_of f b ++ length f.values ∷ [])
 param_params f b c ty there =
@@ -107,10 +104,10 @@ zeroes_params f b ty known there c =
     let h_blocks : length h.blocks ≡ length f.blocks = grind (arith, common_steps) in
     let i_blocks : length i.blocks ≡ length h.blocks = ap length (inserted_same h b).blocks in
     let i_there : b < length i.blocks = omega (arith, there, h_blocks, i_blocks) in
-    let k_firm : Firm k = steps_firm i b (zero_steps (value_at h n).ty) (inserted_firm h b (param_firm f b ty (firm_from f known) there)) in
+    let k_firm : Firm k = put_firm i b (value_at h n).ty (inserted_firm h b (param_firm f b ty (firm_from f known) there)) in
     let home : param_home k n ≡ Some b =
-    steps_param_home i b (zero_steps (value_at h n).ty) n ∙ inserted_param_home h b n ∙ param_home_new f b ty in
-    let same : (d : ℕ) → params_of k d ≡ params_of h d = λ d. put_params i b d (value_at h n).ty i_there ∙ inserted_params h b d in
+    put_param_home i b (value_at h n).ty n ∙ inserted_param_home h b n ∙ param_home_new f b ty in
+    let same : (d : ℕ) → params_of k d ≡ params_of h d = λ d. put_params i b (value_at h n).ty d ∙ inserted_params h b d in
     let apart : (j : ℕ) → j < length (params_of f b) → slice_index (params_of f b) j ≢ n = λ j inside at.
     absurd (omega (arith, (known.params_known b j inside).0, at)) in
     elim (cases_eq c b) [

@@ -31,8 +31,9 @@ use Rattle.clif_ssa.proofs.Instructions.{inst_resolved, inst_param_home, inst_ol
 use Rattle.clif_ssa.proofs.Zeroing.{CanAlias, alias_ends, alias_insts, alias_count_same, alias_home_other}
 use Rattle.clif_ssa.proofs.Completing.{inserted_same, inserted_firm, inserted_param_home}
 use Rattle.clif_ssa.proofs.Alike.{can_zero, unaliased_home}
-use Rattle.clif_ssa.proofs.ZeroSteps.{steps_resolved, steps_param_home, steps_insts_more, steps_old, steps_insts_here, steps_insts_other, put_zero, zero_count, steps_old_value, zero_at, put_stands, zero_type}
-use Rattle.clif_ssa.specs.Zeros.{zero_steps, ZeroAt, insts_of_zero, insts_of_zeros, value_of_zero, steps_before}
+use Rattle.clif_ssa.proofs.ZeroSteps.{put_resolved, put_param_home, put_insts_more, put_old, put_insts_here, put_insts_other, put_zero, zero_count, put_old_value, zero_at, put_stands, zero_type, put_constants}
+use Rattle.clif_ssa.specs.Zeros.{ZeroAt, insts_of_zero, insts_of_zeros, value_of_zero, steps_before}
+use Rattle.clif_ssa.proofs.Pooled.{KeepsConstants}
 use Rattle.clif_ssa.proofs.ZeroTable.{zero_exists, has_zero_kept}
 
 -- THE FUNCTION'S PART ---------------------------------------------------------------------------------------------
@@ -47,13 +48,14 @@ pub record Longer (f g : Body) : Type 0 where
   pub values_more : length f.values ≤ length g.values
   pub insts_more : length f.insts ≤ length g.insts
   pub inst_same : (i : ℕ) → i < length f.insts → inst_at g i ≡ inst_at f i
+  pub constants_kept : KeepsConstants f g
   pub types_same : (v : ℕ) → v < length f.values → (value_at g v).ty ≡ (value_at f v).ty
   pub home_same : (v : ℕ) → v < length f.values → param_home f v ≡ None → param_home g v ≡ None
 
 -- a zero that another value still stands for
 pub needed_kept : (f g : Body) (z : ZeroAt) → Longer f g → (old : IsNeededZero f z) → resolved g old.alias ≡ value_of_zero z → IsNeededZero g z
 needed_kept f g z longer old ends = record {
-  stands = has_zero_kept f g z longer.values_more longer.insts_more longer.inst_same old.stands;
+  stands = has_zero_kept f g z longer.values_more longer.insts_more longer.inst_same longer.constants_kept old.stands;
   no_parameter = longer.home_same (value_of_zero z) (zero_exists f z old.stands) old.no_parameter;
   alias = old.alias;
   another = old.another;
@@ -85,6 +87,7 @@ inst_longer f b shape types loc = record {
   values_more = inst_values_more f b Back shape types loc;
   insts_more = omega (arith, inst_insts_more f b Back shape types loc);
   inst_same = inst_old f b Back shape types loc;
+  constants_kept = λ constant bytes here. here;
   types_same = value_old f.values (result_nodes (length f.insts) 0 types);
   home_same = λ v here none. inst_param_home f b Back shape types loc v ∙ none;
 }
@@ -131,7 +134,7 @@ pub inserted_needed : (own : ℕ → List ℕ) (f : Body) (b : ℕ) → OnlyNeed
 inserted_needed own f b before = by (stands_in b f.layout)
   where
     longer : Longer f (with_layout f b)
-    longer = record { values_more = omega arith; insts_more = omega arith; inst_same = λ i here. refl; types_same = λ v here. refl; home_same = λ v here none. none }
+    longer = record { values_more = omega arith; insts_more = omega arith; inst_same = λ i here. refl; constants_kept = λ constant bytes here. here; types_same = λ v here. refl; home_same = λ v here none. none }
 
     by : (test : Bool) → OnlyNeeded own (cond test f (with_layout f b))
     by true = before
@@ -158,6 +161,7 @@ param_longer f b ty = record {
   values_more = omega (arith, param_count f b ty);
   insts_more = omega arith;
   inst_same = λ i here. refl;
+  constants_kept = λ constant bytes here. here;
   types_same = value_old f.values (param_node ty b ∷ []);
   home_same = λ v here none. home-append f.values (param_node ty b ∷ []) v here ∙ none;
 }
@@ -192,7 +196,7 @@ module _ (f : Body) (b p : ℕ) (ty : «Type») (firm : Firm f) (is : param_home
   can = can_zero f b p ty firm is
 
   k_end : (u : ℕ) → resolved k u ≡ resolved f u
-  k_end = steps_resolved f b (zero_steps ty) firm
+  k_end = put_resolved f b ty firm
 
   g_end : (u : ℕ) → ((resolved f u ≡ p) × (resolved g u ≡ z)) ⊎ ((resolved f u ≢ p) × (resolved g u ≡ resolved f u))
   g_end u =
@@ -210,7 +214,7 @@ module _ (f : Body) (b p : ℕ) (ty : «Type») (firm : Firm f) (is : param_home
       (omega (arith, inside, zero_count f b ty)) (λ same. ap (λ v. (value_at k v).ty) (sym same)) (λ other. refl)
 
   old_type : (w : ℕ) → w < length f.values → (value_at g w).ty ≡ (value_at f w).ty
-  old_type w here = alias_type w ∙ ap (λ (n : ValueNode). n.ty) (steps_old_value f b (zero_steps ty) w here)
+  old_type w here = alias_type w ∙ ap (λ (n : ValueNode). n.ty) (put_old_value f b ty w here)
 
   new_type : (value_at g z).ty ≡ ty
   new_type = alias_type z ∙ zero_type f b ty
@@ -218,11 +222,12 @@ module _ (f : Body) (b p : ℕ) (ty : «Type») (firm : Firm f) (is : param_home
   pub longer : Longer f g
   longer = record {
     values_more = omega (arith, alias_count_same k p z, zero_count f b ty);
-    insts_more = omega (arith, steps_insts_more f b (zero_steps ty));
-    inst_same = steps_old f b (zero_steps ty);
+    insts_more = omega (arith, put_insts_more f b ty);
+    inst_same = put_old f b ty;
+    constants_kept = put_constants f b ty;
     types_same = old_type;
     home_same = λ v here none.
-        alias_home_other k p z v (λ same. none_some (sym none ∙ ap (param_home f) same ∙ is)) ∙ steps_param_home f b (zero_steps ty) v ∙ none;
+        alias_home_other k p z v (λ same. none_some (sym none ∙ ap (param_home f) same ∙ is)) ∙ put_param_home f b ty v ∙ none;
   }
 
   put_types : ((v : ℕ) → (value_at f (resolved f v)).ty ≡ (value_at f v).ty) → (v : ℕ) → (value_at g (resolved g v)).ty ≡ (value_at g v).ty
@@ -247,8 +252,8 @@ module _ (f : Body) (b p : ℕ) (ty : «Type») (firm : Firm f) (is : param_home
   new_zero =
       let own_end : resolved f p ≡ p = unaliased_home f p b is in
       record {
-        stands = has_zero_kept k g (zero_at f ty) (omega (arith, alias_count_same k p z)) (omega arith) (λ i here. refl) (put_stands f b ty);
-        no_parameter = alias_home_other k p z z can.apart ∙ steps_param_home f b (zero_steps ty) z ∙ home_past f.values z (omega arith);
+        stands = has_zero_kept k g (zero_at f ty) (omega (arith, alias_count_same k p z)) (omega arith) (λ i here. refl) (λ constant bytes here. here) (put_stands f b ty);
+        no_parameter = alias_home_other k p z z can.apart ∙ put_param_home f b ty z ∙ home_past f.values z (omega arith);
         alias = p;
         another = λ same. can.apart (sym same);
         stands_for = elim (g_end p) [ inl moved ↦ moved.1 | inr stayed ↦ absurd (stayed.0 own_end) ];
@@ -272,7 +277,7 @@ module _ (f : Body) (b p : ℕ) (ty : «Type») (firm : Firm f) (is : param_home
         | inl same ↦ record {
           zeros = zero_at f ty ∷ has.zeros;
           in_order = alias_insts k p z b can c ∙ ap (λ d. (block_at k d).insts) same
-              ∙ steps_insts_here f b (zero_steps ty) (firm.homes_exist p b is)
+              ∙ put_insts_here f b ty (firm.homes_exist p b is)
               ∙ ap (λ d. insts_of_zero (zero_at f ty) ++ (block_at f d).insts) (sym same) ∙ ap (λ xs. insts_of_zero (zero_at f ty) ++ xs) has.in_order
               ∙ sym (append_assoc (insts_of_zero (zero_at f ty)) (insts_of_zeros has.zeros) (own c));
           needed = (new_zero, old_zeros has.zeros has.needed);
@@ -280,7 +285,7 @@ module _ (f : Body) (b p : ℕ) (ty : «Type») (firm : Firm f) (is : param_home
         | inr other ↦ record {
           zeros = has.zeros;
           in_order = alias_insts k p z b can c
-              ∙ steps_insts_other f b (zero_steps ty) c (firm.homes_exist p b is) other ∙ has.in_order;
+              ∙ put_insts_other f b ty c (firm.homes_exist p b is) other ∙ has.in_order;
           needed = old_zeros has.zeros has.needed;
         }
       ]

@@ -195,6 +195,7 @@ parameter_described own f s t completing blocks x b ty firm before there none wr
       values_more = omega (arith, long);
       insts_more = omega arith;
       inst_same = λ i here. refl;
+      constants_kept = λ constant bytes here. here;
       definition_same = old_below;
     } in
     let edges : SameEdges f g s t blocks after = same_edges f g s t blocks after (arms_of own f s [] blocks before) extends same (λ c i here. refl) in

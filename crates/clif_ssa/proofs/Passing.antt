@@ -22,6 +22,7 @@ use Rattle.clif_paths.specs.Blocks.{Blocks, last_place}
 use Rattle.clif_paths.specs.LookUp.{Paired}
 use Rattle.clif_paths.proofs.PathLemmas.{same_place-equal, same_place-other}
 use Rattle.clif_ssa.specs.Zeros.{ZeroAt, HasZero, IsStep}
+use Rattle.clif_ssa.proofs.Pooled.{zeros_stay}
 use Rattle.clif_ssa.proofs.ZeroTable.{plain_step}
 use Rattle.clif_ssa.specs.LookUp.{branch_block, with_arguments}
 use Rattle.clif_ssa.specs.Sound.{edges_at, edge_target, args_of, passed_at, passed_count}
@@ -186,7 +187,9 @@ zero_passed b f g z passing has k step is =
     record {
       exists = let there : z.inst + k < length f.insts = old.exists in omega (arith, there, passing.count);
       value_exists = subst (λ (h : Body). z.value + k < length h.values) (sym passing.same) old.value_exists;
-      shape = passing.plain (z.inst + k) (step.shape ((z.value + k) - 1)) (λ c w. (plain_step z.ty k step is).unchanged c w ((z.value + k) - 1)) old.shape;
+      constant = old.constant;
+      zeros = zeros_stay f g old.constant step.size (λ c bytes here. ap (λ (h : Body). slice_get h.tables.constants c) passing.same ∙ here) old.zeros;
+      shape = passing.plain (z.inst + k) (step.shape old.constant ((z.value + k) - 1)) (λ c w. (plain_step z.ty k step is).unchanged c w old.constant ((z.value + k) - 1)) old.shape;
       result = passing.results (z.inst + k) ∙ old.result;
     }
 

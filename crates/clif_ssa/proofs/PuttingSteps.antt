@@ -17,32 +17,34 @@ use Rattle.clif_ir.proofs.Changes.{no_room_few}
 use Rattle.clif_ir.proofs.KeepsInst.{length-result_types}
 use Rattle.clif_ssa.specs.Limits.{IsFull}
 use Rattle.clif_ssa.specs.Ssa.{no_srcloc, with_steps}
-use Rattle.clif_ssa.specs.Zeros.{IsStepAt, ZeroStep, zero_steps}
+use Rattle.clif_ssa.specs.Zeros.{IsStepAt, IsZeroConstant, ZeroStep, zero_steps, zeros_number}
 use Rattle.clif_ssa.proofs.ZeroSteps.{steps_insts_here, steps_insts_more, steps_push, steps_values_count}
-use Rattle.clif_ssa.proofs.ZeroTable.{IsPlainStep, first_alone, none_some, plain_step, same_some, step_inside}
+use Rattle.clif_ssa.proofs.Pooled.{zeros_stay}
+use Rattle.clif_ssa.proofs.ZeroTable.{IsPlainStep, first_alone, none_some, plain_step, same_some, step_inside, step_names}
 
--- an instruction with a result of this type is the step of a type's zero at a place, in a function of so many values
-pub record IsNextStep (ty : «Type») (place values : ℕ) (shape : InstructionData) (result : «Type») : Type 0 where
+-- an instruction with a result of this type is the step of a type's zero at a place, with this constant, in a function of so many
+-- values
+pub record IsNextStep (ty : «Type») (place constant values : ℕ) (shape : InstructionData) (result : «Type») : Type 0 where
   pub step : ZeroStep
   pub is_step : slice_get (zero_steps ty) place ≡ Some step
-  pub shape_is : shape ≡ step.shape (values - 1)
+  pub shape_is : shape ≡ step.shape constant (values - 1)
   pub result_is : result ≡ step.ty
 
 -- what the table answers is a step of the type's zero, or there are no more
-pub row_some : (ty : «Type») (place values before : ℕ) (r : Option (InstructionData × «Type»)) (shape : InstructionData) (result : «Type»)
-    → IsStepAt ty place before r → r ≡ Some (shape, result)
-    → before ≡ values - 1 → IsNextStep ty place values shape result
-row_some ty place values before r shape result row is latest = by (slice_get (zero_steps ty) place) refl row
+pub row_some : (ty : «Type») (place constant values before : ℕ) (r : Option (InstructionData × «Type»)) (shape : InstructionData) (result : «Type»)
+    → IsStepAt ty place constant before r → r ≡ Some (shape, result)
+    → before ≡ values - 1 → IsNextStep ty place constant values shape result
+row_some ty place constant values before r shape result row is latest = by (slice_get (zero_steps ty) place) refl row
   where
-    by : (o : Option ZeroStep) → slice_get (zero_steps ty) place ≡ o → MatchOption o (r ≡ None) (λ (step : ZeroStep). r ≡ Some (step.shape before, step.ty))
-        → IsNextStep ty place values shape result
+    by : (o : Option ZeroStep) → slice_get (zero_steps ty) place ≡ o
+        → MatchOption o (r ≡ None) (λ (step : ZeroStep). r ≡ Some (step.shape constant before, step.ty)) → IsNextStep ty place constant values shape result
     by None at row = absurd (none_some (sym row ∙ is))
     by (Some step) at row =
-        let same : ◌≡◌ {A = InstructionData × «Type»} (shape, result) (step.shape before, step.ty) = same_some (sym is ∙ row) in
+        let same : ◌≡◌ {A = InstructionData × «Type»} (shape, result) (step.shape constant before, step.ty) = same_some (sym is ∙ row) in
         record {
           step = step;
           is_step = at;
-          shape_is = ap (λ (p : InstructionData × «Type»). p.0) same ∙ ap step.shape latest;
+          shape_is = ap (λ (p : InstructionData × «Type»). p.0) same ∙ ap (step.shape constant) latest;
           result_is = ap (λ (p : InstructionData × «Type»). p.1) same;
         }
 
@@ -51,14 +53,14 @@ get_past [] k none = omega arith
 get_past (x ∷ xs) zero none = absurd (none_some (sym none))
 get_past (x ∷ xs) (suc k) none = let rest : length xs ≤ k = get_past xs k none in omega (arith, rest)
 
-pub row_none : (ty : «Type») (place before : ℕ) (r : Option (InstructionData × «Type»))
-    → IsStepAt ty place before r
+pub row_none : (ty : «Type») (place constant before : ℕ) (r : Option (InstructionData × «Type»))
+    → IsStepAt ty place constant before r
     → ((shape : InstructionData) (t : «Type») → r ≡ Some (shape, t) → ⊥) → length (zero_steps ty) ≤ place
-row_none ty place before r row none = get_past (zero_steps ty) place (by (slice_get (zero_steps ty) place) row)
+row_none ty place constant before r row none = get_past (zero_steps ty) place (by (slice_get (zero_steps ty) place) row)
   where
-    by : (o : Option ZeroStep) → MatchOption o (r ≡ None) (λ (step : ZeroStep). r ≡ Some (step.shape before, step.ty)) → o ≡ None
+    by : (o : Option ZeroStep) → MatchOption o (r ≡ None) (λ (step : ZeroStep). r ≡ Some (step.shape constant before, step.ty)) → o ≡ None
     by None row = refl
-    by (Some step) row = absurd (none (step.shape before) step.ty row)
+    by (Some step) row = absurd (none (step.shape constant before) step.ty row)
 
 pub take_all : {X : Type 0} (xs : List X) (k : ℕ) → length xs ≤ k → take k xs ≡ xs
 take_all xs k past = grind (arith, common_steps, past)
@@ -107,7 +109,7 @@ module _ (f g : Body) (b : ℕ) (ty : «Type») (place : ℕ) (g_is : g ≡ with
       let insts : length g.insts ≡ length f.insts + length (take place (zero_steps ty)) = ap (λ (h : Body). length h.insts) g_is ∙ steps_insts_more f b (take place (zero_steps ty)) in
       omega (arith, count, insts, small)
 
-  module _ (shape : InstructionData) (result : «Type») (next : IsNextStep ty place (length g.values) shape result) where
+  module _ (constant : ℕ) (pooled : IsZeroConstant f ty constant) (shape : InstructionData) (result : «Type») (next : IsNextStep ty place constant (length g.values) shape result) where
     plain : IsPlainStep next.step
     plain = plain_step ty place next.step next.is_step
 
@@ -123,27 +125,31 @@ module _ (f g : Body) (b : ℕ) (ty : «Type») (place : ℕ) (g_is : g ≡ with
       where
         by : (n : ℕ) → slice_get (zero_steps ty) n ≡ Some next.step → place ≡ n → slice_index (operands shape) k < length g.values
         by zero first same =
-            let none : operands shape ≡ [] = ap operands next.shape_is ∙ first_alone ty next.step (length g.values - 1) first in
+            let none : operands shape ≡ [] = ap operands next.shape_is ∙ first_alone ty next.step constant (length g.values - 1) first in
             absurd (omega (arith, subst (λ xs. k < length xs) none inside))
         by (suc n) first same =
             let values : length g.values ≡ length f.values + place = ap (λ (h : Body). length h.values) g_is ∙ steps_values_count f b (take place (zero_steps ty)) ∙ ap (λ m. length f.values + m) count in
             let operand : slice_index (operands shape) k ≡ length g.values - 1 =
             subst (λ (s : InstructionData). k < length (operands s) → slice_index (operands s) k ≡ length g.values - 1) (sym next.shape_is)
-            (λ below. plain.operands_before (length g.values - 1) k 0 below) inside in
+            (λ below. plain.operands_before constant (length g.values - 1) k 0 below) inside in
             omega (arith, operand, values, same)
 
     pub step_edges : All (EdgeExists g) (destinations shape)
-    step_edges = subst (λ edges. All (EdgeExists g) edges) (sym (ap destinations next.shape_is ∙ plain.no_edges (length g.values - 1))) (λ k d inside. absurd (omega (arith, inside)))
+    step_edges = subst (λ edges. All (EdgeExists g) edges) (sym (ap destinations next.shape_is ∙ plain.no_edges constant (length g.values - 1))) (λ k d inside. absurd (omega (arith, inside)))
 
     pub step_entries : All (EntryExists g.tables) (entries_of shape)
-    step_entries = subst (λ entries. All (EntryExists g.tables) entries) (sym (ap entries_of next.shape_is ∙ plain.no_entries (length g.values - 1))) (λ k d inside. absurd (omega (arith, inside)))
+    step_entries =
+        subst (λ (s : InstructionData). All (EntryExists g.tables) (entries_of s)) (sym next.shape_is)
+        (plain.entries g constant (length g.values - 1)
+        (zeros_stay f g constant next.step.size (λ c bytes is. ap (λ (h : Body). slice_get h.tables.constants c) g_is ∙ is)
+        ((step_names ty place next.step next.is_step).has f constant pooled.1)))
 
     pub step_fits : place + 1 ≤ length (zero_steps ty)
     step_fits = omega (arith, fits)
 
     step_types : result_types shape result ≡ next.step.ty ∷ []
     step_types =
-        ap (result_types shape) next.result_is ∙ ap (λ s. result_types s next.step.ty) next.shape_is ∙ plain.one_result (length g.values - 1)
+        ap (result_types shape) next.result_is ∙ ap (λ s. result_types s next.step.ty) next.shape_is ∙ plain.one_result constant (length g.values - 1)
 
     -- it has one result, so that there is room for it unless a table is full
     pub step_full : length g.values < 2 ^ 32 → HasNoRoom g (result_count shape) → IsFull g
@@ -161,13 +167,22 @@ module _ (f g : Body) (b : ℕ) (ty : «Type») (place : ℕ) (g_is : g ≡ with
         → (place + 1 ≤ length (zero_steps ty)) × (h ≡ with_steps f b (take (place + 1) (zero_steps ty)))
     step_more loc h there loc_is made = (step_fits, by)
       where
+        before : ℕ
+        before = length (with_steps f b (take place (zero_steps ty))).values - 1
+
+        shape_same : next.step.shape constant before ≡ next.step.shape (zeros_number f.tables.constants next.step.size) before
+        shape_same =
+            ap (λ (c : ℕ). next.step.shape c before) pooled.0
+            ∙ (step_names ty place next.step next.is_step).same f.tables.constants before
+
         by : h ≡ with_steps f b (take (place + 1) (zero_steps ty))
         by =
             made
             ∙ ap (λ ts. with_inst g b (Behind place) shape ts loc) step_types
             ∙ ap (λ n. with_inst g b (Behind place) shape (next.step.ty ∷ []) n) loc_is
             ∙ ap (λ s. with_inst g b (Behind place) s (next.step.ty ∷ []) no_srcloc) next.shape_is
-            ∙ ap (λ n. with_inst g b (Behind n) (next.step.shape (length g.values - 1)) (next.step.ty ∷ []) no_srcloc) (sym count)
-            ∙ ap (λ (k : Body). with_inst k b (Behind (length (take place (zero_steps ty)))) (next.step.shape (length k.values - 1)) (next.step.ty ∷ []) no_srcloc) g_is
+            ∙ ap (λ n. with_inst g b (Behind n) (next.step.shape constant (length g.values - 1)) (next.step.ty ∷ []) no_srcloc) (sym count)
+            ∙ ap (λ (k : Body). with_inst k b (Behind (length (take place (zero_steps ty)))) (next.step.shape constant (length k.values - 1)) (next.step.ty ∷ []) no_srcloc) g_is
+            ∙ ap (λ s. with_inst (with_steps f b (take place (zero_steps ty))) b (Behind (length (take place (zero_steps ty)))) s (next.step.ty ∷ []) no_srcloc) shape_same
             ∙ steps_push f b (take place (zero_steps ty)) next.step there
             ∙ ap (with_steps f b) (sym (take_get (zero_steps ty) place next.step next.is_step))

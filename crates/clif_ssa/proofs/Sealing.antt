@@ -177,7 +177,7 @@ seal_edges : (own : Own) (f : Body) (s t : SsaState) (blocks : Blocks) (sealed :
     → SameEdges f f s t blocks (record blocks { sealed = sealed; joins = joins })
 seal_edges own f s t blocks sealed joins before same =
     same_edges f f s t blocks (record blocks { sealed = sealed; joins = joins }) (arms_of own f s [] blocks before)
-    (record { values_more = omega arith; insts_more = omega arith; inst_same = λ i here. refl; definition_same = λ v here. refl }) same (λ c i here. refl)
+    (record { values_more = omega arith; insts_more = omega arith; inst_same = λ i here. refl; constants_kept = λ constant bytes here. here; definition_same = λ v here. refl }) same (λ c i here. refl)
 
 -- without an entry no arms are known
 empty_arms : (own : Own) (f : Body) (s t : SsaState) (blocks : Blocks) (b : ℕ) → Describes own f s [] blocks → SamePredecessors s t → Seals s t b → f.layout ≡ [] → Arms f t blocks

@@ -9,7 +9,7 @@ use Rattle.clif_ir.specs.Body.{Body}
 use Rattle.clif_ir.specs.Changes.{with_param}
 use Rattle.clif_records.specs.declared.tables.Sealed.TheVariants.{No}
 use Rattle.clif_ssa.specs.Constructs.{OnlyConstructs}
-use Rattle.clif_ssa.specs.Limits.{IsFull}
+use Rattle.clif_ssa.specs.Limits.{ConstructionIsFull}
 use Rattle.clif_records.specs.Stacks.{LookUpState, calls_for}
 use Rattle.clif_ssa.specs.Running.{stage, CountsOnce, Got}
 use Rattle.clif_ssa.specs.Ssa.{SsaState, record_of, sealed_of, predecessors_of, HasMore, KnowsNoMore, Records, RecordsStay, SameBlocks, SameLookups, SamePredecessors, SameRecords, SealedStays, CountsLookup}
@@ -98,20 +98,20 @@ ends_as g e ends = record {
   never_failed = λ is. ends.never_failed (ap (λ d. Err d) (same_error is));
 }
 
-pub ends_grown : (g : Body) {A B : Type 0} (e : BuildError) → (◌≡◌ {A = Result A BuildError} (Err e) (Err Full) → IsFull g)
+pub ends_grown : (g : Body) {A B : Type 0} (e : BuildError) → (◌≡◌ {A = Result A BuildError} (Err e) (Err Full) → ConstructionIsFull g)
     → ◌≢◌ {A = Result A BuildError} (Err e) (Err Failed) → StepEnds g {A = B} (Err e)
 ends_grown g e full never = record {
   full = λ is. full (ap (λ d. Err d) (same_error is));
   never_failed = λ is. never (ap (λ d. Err d) (same_error is));
 }
 
-pub ends_zeros : (g : Body) {A : Type 0} (answer : Result A BuildError) → (answer ≡ Err Full → IsFull g) → answer ≢ Err Failed → StepEnds g answer
+pub ends_zeros : (g : Body) {A : Type 0} (answer : Result A BuildError) → (answer ≡ Err Full → ConstructionIsFull g) → answer ≢ Err Failed → StepEnds g answer
 ends_zeros g answer full never = record { full = full; never_failed = never }
 
 -- no parameter was made
 pub ends_unmade : (f g : Body) {A B : Type 0} (e : BuildError) → g ≡ f → (◌≡◌ {A = Result A BuildError} (Err e) (Err Full) → length f.values ≡ 2 ^ 32 - 1)
     → ◌≢◌ {A = Result A BuildError} (Err e) (Err Failed) → StepEnds g {A = B} (Err e)
-ends_unmade f g e same full never = ends_grown g e (λ is. inl (ap (λ (h : Body). length h.values) same ∙ full is)) never
+ends_unmade f g e same full never = ends_grown g e (λ is. inl (inl (ap (λ (h : Body). length h.values) same ∙ full is))) never
 
 -- A RECORD --------------------------------------------------------------------------------------------------------
 

@@ -35,8 +35,8 @@ use Rattle.clif_ssa.proofs.Zeroing.{CanAlias, alias_ends, alias_insts, alias_par
 use Rattle.clif_ssa.proofs.NeededZeros.{Longer, OnlyNeeded, needed_kept, longer}
 use Rattle.clif_ssa.proofs.Structuring.{Grows, edge_kept, complete_exist, edges_keep, waiting_homes, block_kept}
 use Rattle.clif_ssa.proofs.StructuredSteps.{TakesAway, params_in, once_behind, waiting_first, waiting_elsewhere}
-use Rattle.clif_ssa.proofs.ZeroSteps.{steps_param_home, steps_params, put_zero}
-use Rattle.clif_ssa.specs.Zeros.{zero_steps, steps_before, ZeroAt}
+use Rattle.clif_ssa.proofs.ZeroSteps.{put_param_home, put_params, put_zero}
+use Rattle.clif_ssa.specs.Zeros.{steps_before, ZeroAt}
 
 none_some : {x : ℕ} → ◌≡◌ {A = Option ℕ} None (Some x) → ⊥
 none_some same = cc
@@ -50,12 +50,12 @@ put_takes f b v ty firm is typed =
     record {
       longer = longer f b v ty firm is typed;
       params = λ c.
-          let same : (block_at k c).params ≡ (block_at f c).params = steps_params f b (zero_steps ty) c in
+          let same : (block_at k c).params ≡ (block_at f c).params = put_params f b ty c in
           elim (alias_params k v (zero_value f ty) b can c) [
             | inl here ↦ inl (here.0, here.1 ∙ ap (without v) same)
             | inr apart ↦ inr (apart.0, apart.1 ∙ same)
           ];
-      others = λ u other. alias_home_other k v (zero_value f ty) u other ∙ steps_param_home f b (zero_steps ty) u;
+      others = λ u other. alias_home_other k v (zero_value f ty) u other ∙ put_param_home f b ty u;
     }
 
 entered_takes : (f g : Body) (b v : ℕ) → TakesAway (inserted_in f b) g v b → TakesAway f g v b
@@ -68,6 +68,7 @@ entered_takes f g b v = by (stands_in b f.layout)
         values_more = takes.longer.values_more;
         insts_more = takes.longer.insts_more;
         inst_same = takes.longer.inst_same;
+        constants_kept = takes.longer.constants_kept;
         types_same = takes.longer.types_same;
         home_same = takes.longer.home_same;
       };
@@ -101,6 +102,7 @@ module _ (f : Body) (b v w : ℕ) (can : CanAlias f v w b) where
     values_more = omega (arith, alias_count_same f v w);
     insts_more = omega arith;
     inst_same = λ i here. refl;
+    constants_kept = λ constant bytes here. here;
     types_same = λ u here. alias_type u;
     home_same = λ u here none. alias_home_other f v w u (λ same. none_some (sym none ∙ ap (param_home f) same ∙ can.parameter)) ∙ none;
   }

@@ -32,6 +32,7 @@ use Rattle.clif_ssa.proofs.Instructions.{inst_params, inst_resolved, inst_param_
 use Rattle.clif_ssa.proofs.Leading.{contains_without}
 use Rattle.clif_ssa.proofs.Ordering.{none_contained, entry_any}
 use Rattle.clif_ssa.proofs.Parameters.{param_params}
+use Rattle.clif_ssa.proofs.Pooled.{KeepsConstants}
 use Rattle.clif_ssa.proofs.NeededZeros.{Longer, OnlyNeeded, all_kept, types_kept, first_needed, new_block_insts, inst_longer, own_zeros, param_longer, param_needed}
 use Rattle.clif_ssa.proofs.Walks.{once-further}
 use Rattle.clif_ssa.proofs.Structuring.{Grows, EdgesKeep, Writes, grows_longer, typed_kept, edges_keep, edges_keep_itself, complete_among, same_edge, waiting_homes, block_kept, written, rewritten, written_typed}
@@ -60,7 +61,7 @@ first_structured types name signature = record {
 
 -- BLOCKS ----------------------------------------------------------------------------------------------------------
 
-module _ (f : Body) (blocks : List BlockNode) (layout : List ℕ) (tables : TableLists) where
+module _ (f : Body) (blocks : List BlockNode) (layout : List ℕ) (tables : TableLists) (keeps : KeepsConstants f (record f { tables = tables })) where
   abbrev g : Body
   g = record f { blocks = blocks; layout = layout; tables = tables }
 
@@ -75,7 +76,7 @@ module _ (f : Body) (blocks : List BlockNode) (layout : List ℕ) (tables : Tabl
       record { values = passes.values; in_order = passes.in_order; are_for = blocks_keep_are passes.values params passes.are_for }
 
   blocks_longer : Longer f g
-  blocks_longer = record { values_more = omega arith; insts_more = omega arith; inst_same = λ i here. refl; types_same = λ v here. refl; home_same = λ v here none. none }
+  blocks_longer = record { values_more = omega arith; insts_more = omega arith; inst_same = λ i here. refl; constants_kept = keeps; types_same = λ v here. refl; home_same = λ v here none. none }
 
   -- the blocks have what they had
   pub blocks_structured : (types : VariableTypes) (own : Own) (s : SsaState) (ps : List Pending)
@@ -100,14 +101,14 @@ module _ (f : Body) (blocks : List BlockNode) (layout : List ℕ) (tables : Tabl
 
 pub block_structured : (types : VariableTypes) (own : Own) (f : Body) (s : SsaState) → Structured types own f s [] → Structured types own (with_block f) s []
 block_structured types own f s before =
-    blocks_structured f (f.blocks ++ empty_block ∷ []) f.layout f.tables types own s [] (block_params f) (new_block_insts f.blocks) before
+    blocks_structured f (f.blocks ++ empty_block ∷ []) f.layout f.tables (λ constant bytes here. here) types own s [] (block_params f) (new_block_insts f.blocks) before
 
 pub inserted_structured : (types : VariableTypes) (own : Own) (f : Body) (s : SsaState) (b : ℕ) → Structured types own f s [] → Structured types own (inserted_in f b) s []
 inserted_structured types own f s b before = by (stands_in b f.layout)
   where
     by : (test : Bool) → Structured types own (cond test f (with_layout f b)) s []
     by true = before
-    by false = blocks_structured f f.blocks (f.layout ++ b ∷ []) f.tables types own s [] (λ c. refl) (λ c. refl) before
+    by false = blocks_structured f f.blocks (f.layout ++ b ∷ []) f.tables (λ constant bytes here. here) types own s [] (λ c. refl) (λ c. refl) before
 
 -- INSTRUCTIONS AND PARAMETERS -------------------------------------------------------------------------------------
 

@@ -127,7 +127,7 @@ pub records_described : (own : Own) (f : Body) (s t : SsaState) (completing : Li
 records_described own f s t completing blocks recorded before same_blocks same_predecessors says exist fewer =
     let after : Blocks = record blocks { recorded = recorded } in
     let extends : Extends f f blocks after =
-    record { values_more = omega arith; insts_more = omega arith; inst_same = λ i here. refl; definition_same = λ v here. refl } in
+    record { values_more = omega arith; insts_more = omega arith; inst_same = λ i here. refl; constants_kept = λ constant bytes here. here; definition_same = λ v here. refl } in
     let edges : SameEdges f f s t blocks after =
     record { predecessors_same = same_predecessors; block_same = λ b i here. refl; target_same = λ b i k here. refl; count_same = λ b i here. refl } in
     let arms : Arms f t after =

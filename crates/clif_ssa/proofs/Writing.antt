@@ -26,6 +26,7 @@ use Rattle.clif_ssa.specs.Sound.{Describes, IsEdgeInto, InOrder, entry_of}
 use Rattle.clif_ssa.specs.SoundLaws.{DescribesSoundly, IsOpen}
 use Rattle.clif_records.proofs.RecordMaps.{record_at-empty}
 use Rattle.clif_ssa.proofs.Ordering.{none_contained, in_order_small}
+use Rattle.clif_ssa.proofs.Pooled.{KeepsConstants}
 use Rattle.clif_ssa.proofs.Describing.{Extends, Arms, arms_of, arms_kept, SameEdges, same_edges, Ordered, ordered_of, ordered_kept, same_passed, same_kinds, instructions_kept, waiting_kept, homes_kept, assigns_not_kept, record_changed, not_recorded, is_recorded}
 use Rattle.clif_ssa.proofs.Entering.{Waiting, relaid, same_leads}
 use Rattle.clif_ssa.proofs.Counts.{counts_kept}
@@ -66,7 +67,7 @@ pub record SameShape (f : Body) (s t : SsaState) (blocks blocks' : Blocks) : Typ
 pub shape_kept : (own : Own) (f : Body) (s t : SsaState) (blocks blocks' : Blocks) → Describes own f s [] blocks → SameShape f s t blocks blocks' → ArmsAndOrder own f t blocks'
 shape_kept own f s t blocks blocks' before same =
     let extends : Extends f f blocks blocks' =
-    record { values_more = omega arith; insts_more = omega arith; inst_same = λ i here. refl; definition_same = λ v here. same.definition v } in
+    record { values_more = omega arith; insts_more = omega arith; inst_same = λ i here. refl; constants_kept = λ constant bytes here. here; definition_same = λ v here. same.definition v } in
     let old : Arms f s blocks = arms_of own f s [] blocks before in
     let edges : SameEdges f f s t blocks blocks' = same_edges f f s t blocks blocks' old extends same.predecessors same.count in
     record {
@@ -122,14 +123,14 @@ block_params f b =
 
 -- a function with other blocks, another layout and other tables: each block has the parameters and instructions that it had, and the entry
 -- is the same
-pub blocks_described : (own : Own) (f : Body) (nodes : List BlockNode) (layout : List ℕ) (lists : TableLists) (s : SsaState) (blocks : Blocks)
+pub blocks_described : (own : Own) (f : Body) (nodes : List BlockNode) (layout : List ℕ) (lists : TableLists) → KeepsConstants f (record f { tables = lists }) → (s : SsaState) (blocks : Blocks)
     → ((b : ℕ) → (block_at (record f { blocks = nodes; layout = layout; tables = lists }) b).params ≡ (block_at f b).params)
     → ((b : ℕ) → (block_at (record f { blocks = nodes; layout = layout; tables = lists }) b).insts ≡ (block_at f b).insts)
     → slice_get layout 0 ≡ entry_of f → Describes own f s [] blocks → Describes own (record f { blocks = nodes; layout = layout; tables = lists }) s [] blocks
-blocks_described own f nodes layout lists s blocks same_params same_insts entry before =
+blocks_described own f nodes layout lists keeps s blocks same_params same_insts entry before =
     let g : Body = record f { blocks = nodes; layout = layout; tables = lists } in
     let extends : Extends f g blocks blocks =
-    record { values_more = omega arith; insts_more = omega arith; inst_same = λ i here. refl; definition_same = λ v here. refl } in
+    record { values_more = omega arith; insts_more = omega arith; inst_same = λ i here. refl; constants_kept = keeps; definition_same = λ v here. refl } in
     let old : Arms f s blocks = arms_of own f s [] blocks before in
     let edges : SameEdges f g s s blocks blocks = same_edges f g s s blocks blocks old extends (λ b. refl) (λ b i here. refl) in
     let arms : Arms g s blocks =
@@ -176,7 +177,7 @@ blocks_described own f nodes layout lists s blocks same_params same_insts entry 
     }
 
 pub block_described : (own : Own) (f : Body) (s : SsaState) (blocks : Blocks) → Describes own f s [] blocks → Describes own (with_block f) s [] blocks
-block_described own f s blocks before = blocks_described own f (f.blocks ++ empty_block ∷ []) f.layout f.tables s blocks (block_params f) (block_insts f) refl before
+block_described own f s blocks before = blocks_described own f (f.blocks ++ empty_block ∷ []) f.layout f.tables (λ constant bytes here. here) s blocks (block_params f) (block_insts f) refl before
 
 -- THE FIRST TABLES ------------------------------------------------------------------------------------------------
 
@@ -269,7 +270,7 @@ item_described own f s blocks b given open_block =
     let before : Describes own f s [] blocks = given.0 in
     let after : Blocks = with_item blocks b in
     let extends : Extends f f blocks after =
-    record { values_more = omega arith; insts_more = omega arith; inst_same = λ i here. refl; definition_same = λ v here. refl } in
+    record { values_more = omega arith; insts_more = omega arith; inst_same = λ i here. refl; constants_kept = λ constant bytes here. here; definition_same = λ v here. refl } in
     let kept : ArmsAndOrder own f s after = shape_kept own f s s blocks after before (item_shape f s blocks b open_block) in (
       record {
         sealed = kept.arms.sealed;
@@ -348,7 +349,7 @@ write_described own f s t blocks b x n both open_block given none written same l
     let v : ℕ = blocks.answer n in
     let kept : (p : Place) (y : ℕ) → (p ≡ last_place blocks b → y ≢ x) → after.assigned p y ≡ blocks.assigned p y = record_other blocks.assigned (last_place blocks b) x n in
     let extends : Extends f f blocks after =
-    record { values_more = omega arith; insts_more = omega arith; inst_same = λ i here. refl; definition_same = λ u here. refl } in
+    record { values_more = omega arith; insts_more = omega arith; inst_same = λ i here. refl; constants_kept = λ constant bytes here. here; definition_same = λ u here. refl } in
     let kept_records : (c : ℕ) (p : Pending) → Contains (pending_of (sealed_of s c)) p → record_of t p.variable c ≢ None =
     λ c p here is. before.waiting_recorded c p here (not_recorded (p.variable == x && c == b) v (record_of s p.variable c) (sym (written p.variable c) ∙ is)).1 in
     let waits : Waiting f t [] blocks = same_waiting own f s t blocks before same kept_records in
@@ -448,7 +449,7 @@ read_described own f s blocks b n x v both name none known exists =
     let cases : (m : ℕ) → ((m ≡ n) × (after.naming m ≡ new) × (after.answer m ≡ v)) ⊎ ((m ≢ n) × (after.naming m ≡ blocks.naming m) × (after.answer m ≡ blocks.answer m)) =
     name_cases blocks.naming blocks.answer n v new in
     let extends : Extends f f blocks after =
-    record { values_more = omega arith; insts_more = omega arith; inst_same = λ i here. refl; definition_same = λ u here. refl } in
+    record { values_more = omega arith; insts_more = omega arith; inst_same = λ i here. refl; constants_kept = λ constant bytes here. here; definition_same = λ u here. refl } in
     let kept : ArmsAndOrder own f s after =
     shape_kept own f s s blocks after before
     (record {

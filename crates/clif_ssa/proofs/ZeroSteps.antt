@@ -25,11 +25,12 @@ use Rattle.clif_instructions.proofs.Lists.{at_set}
 use Rattle.clif_ir.proofs.Aliases.{ways_end-append, follow_end}
 use Rattle.clif_paths.specs.Blocks.{Blocks}
 use Rattle.clif_ssa.specs.Ssa.{no_srcloc, step_insts, step_values, with_steps, zero_value}
-use Rattle.clif_ssa.specs.Zeros.{ZeroAt, ZeroStep, HasZero, steps_before, zero_row, zero_steps}
+use Rattle.clif_ssa.specs.Zeros.{ZeroAt, ZeroStep, HasZero, steps_before, with_pooled, zero_size, zero_steps, zeros_number}
 use Rattle.clif_ssa.proofs.Bodies.{Firm, no_alias_behind, past_alias, resolved-append, leads_inside-append, home-append_none}
 use Rattle.clif_ssa.proofs.Describing.{Extends}
 use Rattle.clif_ssa.proofs.Parameters.{param_count}
-use Rattle.clif_ssa.proofs.ZeroTable.{get_inside, last_step, none_some, same_some, step_count}
+use Rattle.clif_ssa.proofs.Pooled.{KeepsConstants, pooled_firm, pooled_has, pooled_keeps, zeros_stay}
+use Rattle.clif_ssa.proofs.ZeroTable.{get_inside, last_of, last_step, none_some, same_some, step_count, step_names}
 
 -- THE NODES OF STEPS ----------------------------------------------------------------------------------------------
 
@@ -55,25 +56,27 @@ length-step_values : (i : ℕ) (steps : List ZeroStep) → length (step_values i
 length-step_values i [] = refl
 length-step_values i (step ∷ steps) = ap suc (length-step_values (suc i) steps)
 
-length-step_insts : (b v : ℕ) (steps : List ZeroStep) → length (step_insts b v steps) ≡ length steps
-length-step_insts b v [] = refl
-length-step_insts b v (step ∷ steps) = ap suc (length-step_insts b (suc v) steps)
+length-step_insts : (cs : List (List ℕ)) (b v : ℕ) (steps : List ZeroStep) → length (step_insts cs b v steps) ≡ length steps
+length-step_insts cs b v [] = refl
+length-step_insts cs b v (step ∷ steps) = ap suc (length-step_insts cs b (suc v) steps)
 
 pub step_type : (i : ℕ) (steps : List ZeroStep) (k : ℕ) (step : ZeroStep) → slice_get steps k ≡ Some step → (get_or (step_values i steps) k no_value).ty ≡ step.ty
 step_type i [] k step is = absurd (none_some is)
 step_type i (s ∷ steps) zero step is = ap (λ (t : ZeroStep). t.ty) (same_some is)
 step_type i (s ∷ steps) (suc k) step is = step_type (suc i) steps k step is
 
--- the instruction that a step is, whose result is this value
-abbrev pub step_node : ℕ → ℕ → ZeroStep → InstNode
-step_node b value step = record { shape = step.shape (value - 1); results = value ∷ []; block = b; srcloc = no_srcloc }
+-- the instruction that a step is, among these constants, whose result is this value
+abbrev pub step_node : List (List ℕ) → ℕ → ℕ → ZeroStep → InstNode
+step_node cs b value step =
+    record { shape = step.shape (zeros_number cs step.size) (value - 1); results = value ∷ []; block = b; srcloc = no_srcloc }
 
-step_inst : (b v : ℕ) (steps : List ZeroStep) (k : ℕ) (step : ZeroStep) → slice_get steps k ≡ Some step → get_or (step_insts b v steps) k no_inst ≡ step_node b (v + k) step
-step_inst b v [] k step is = absurd (none_some is)
-step_inst b v (s ∷ steps) zero step is =
-    let same : v ≡ v + 0 = omega arith in ap (step_node b v) (same_some is) ∙ ap (λ w. step_node b w step) same
-step_inst b v (s ∷ steps) (suc k) step is =
-    let same : suc v + k ≡ v + suc k = omega arith in step_inst b (suc v) steps k step is ∙ ap (λ w. step_node b w step) same
+step_inst : (cs : List (List ℕ)) (b v : ℕ) (steps : List ZeroStep) (k : ℕ) (step : ZeroStep) → slice_get steps k ≡ Some step
+    → get_or (step_insts cs b v steps) k no_inst ≡ step_node cs b (v + k) step
+step_inst cs b v [] k step is = absurd (none_some is)
+step_inst cs b v (s ∷ steps) zero step is =
+    let same : v ≡ v + 0 = omega arith in ap (step_node cs b v) (same_some is) ∙ ap (λ w. step_node cs b w step) same
+step_inst cs b v (s ∷ steps) (suc k) step is =
+    let same : suc v + k ≡ v + suc k = omega arith in step_inst cs b (suc v) steps k step is ∙ ap (λ w. step_node cs b w step) same
 
 -- an entry of a list in which one was replaced by one with the same parameters
 params_set : (xs : List BlockNode) (i : ℕ) (y : BlockNode) (k : ℕ) → y.params ≡ (get_or xs i empty_block).params → (get_or (set xs i y) k empty_block).params ≡ (get_or xs k empty_block).params
@@ -100,7 +103,7 @@ module _ (f : Body) (b : ℕ) (steps : List ZeroStep) where
   steps_blocks = grind (arith, common_steps)
 
   pub steps_insts_more : length (with_steps f b steps).insts ≡ length f.insts + length steps
-  steps_insts_more = grind (arith, common_steps, length-step_insts b (length f.values) steps)
+  steps_insts_more = grind (arith, common_steps, length-step_insts f.tables.constants b (length f.values) steps)
 
   pub steps_values_count : length (with_steps f b steps).values ≡ length f.values + length steps
   steps_values_count = grind (arith, common_steps, length-step_values (length f.insts) steps)
@@ -124,16 +127,16 @@ module _ (f : Body) (b : ℕ) (steps : List ZeroStep) where
   }
 
   pub steps_old : (i : ℕ) → i < length f.insts → inst_at (with_steps f b steps) i ≡ inst_at f i
-  steps_old i inside = get_or-append f.insts (step_insts b (length f.values) steps) no_inst i inside
+  steps_old i inside = get_or-append f.insts (step_insts f.tables.constants b (length f.values) steps) no_inst i inside
 
   pub steps_old_value : (v : ℕ) → v < length f.values → value_at (with_steps f b steps) v ≡ value_at f v
   steps_old_value v inside = get_or-append f.values (step_values (length f.insts) steps) no_value v inside
 
-  pub steps_new : (k : ℕ) (step : ZeroStep) → slice_get steps k ≡ Some step → inst_at (with_steps f b steps) (length f.insts + k) ≡ step_node b (length f.values + k) step
+  pub steps_new : (k : ℕ) (step : ZeroStep) → slice_get steps k ≡ Some step → inst_at (with_steps f b steps) (length f.insts + k) ≡ step_node f.tables.constants b (length f.values + k) step
   steps_new k step is =
       let there : (length f.insts + k) - length f.insts ≡ k = omega arith in
-      get_or-append_right f.insts (step_insts b (length f.values) steps) (length f.insts + k) no_inst (omega arith)
-      ∙ ap (λ j. get_or (step_insts b (length f.values) steps) j no_inst) there ∙ step_inst b (length f.values) steps k step is
+      get_or-append_right f.insts (step_insts f.tables.constants b (length f.values) steps) (length f.insts + k) no_inst (omega arith)
+      ∙ ap (λ j. get_or (step_insts f.tables.constants b (length f.values) steps) j no_inst) there ∙ step_inst f.tables.constants b (length f.values) steps k step is
 
   pub steps_new_type : (k : ℕ) (step : ZeroStep) → slice_get steps k ≡ Some step → (value_at (with_steps f b steps) (length f.values + k)).ty ≡ step.ty
   steps_new_type k step is =
@@ -159,34 +162,85 @@ module _ (f : Body) (b : ℕ) (steps : List ZeroStep) where
     values_more = steps_values_more;
     insts_more = omega (arith, steps_insts_more);
     inst_same = steps_old;
+    constants_kept = λ constant bytes is. is;
     definition_same = same;
   }
 
 -- A ZERO ----------------------------------------------------------------------------------------------------------
 
 abbrev pub put_zero : Body → ℕ → «Type» → Body
-put_zero f b ty = with_steps f b (zero_steps ty)
+put_zero f b ty = with_steps (with_pooled f ty) b (zero_steps ty)
 
 -- where it stands
 abbrev pub zero_at : Body → «Type» → ZeroAt
 zero_at f ty = record { inst = length f.insts; value = length f.values; ty = ty }
 
+module _ (f : Body) (b : ℕ) (ty : «Type») where
+  pub put_resolved : Firm f → (v : ℕ) → resolved (put_zero f b ty) v ≡ resolved f v
+  put_resolved firm v = steps_resolved (with_pooled f ty) b (zero_steps ty) (pooled_firm f ty firm) v
+
+  pub put_param_home : (v : ℕ) → param_home (put_zero f b ty) v ≡ param_home f v
+  put_param_home v = steps_param_home (with_pooled f ty) b (zero_steps ty) v
+
+  pub put_insts_more : length (put_zero f b ty).insts ≡ length f.insts + length (zero_steps ty)
+  put_insts_more = steps_insts_more (with_pooled f ty) b (zero_steps ty)
+
+  pub put_values_count : length (put_zero f b ty).values ≡ length f.values + length (zero_steps ty)
+  put_values_count = steps_values_count (with_pooled f ty) b (zero_steps ty)
+
+  pub put_values_more : length f.values ≤ length (put_zero f b ty).values
+  put_values_more = steps_values_more (with_pooled f ty) b (zero_steps ty)
+
+  pub put_params : (c : ℕ) → (block_at (put_zero f b ty) c).params ≡ (block_at f c).params
+  put_params c = steps_params (with_pooled f ty) b (zero_steps ty) c
+
+  pub put_firm : Firm f → Firm (put_zero f b ty)
+  put_firm firm = steps_firm (with_pooled f ty) b (zero_steps ty) (pooled_firm f ty firm)
+
+  pub put_old : (i : ℕ) → i < length f.insts → inst_at (put_zero f b ty) i ≡ inst_at f i
+  put_old i inside = steps_old (with_pooled f ty) b (zero_steps ty) i inside
+
+  pub put_old_value : (v : ℕ) → v < length f.values → value_at (put_zero f b ty) v ≡ value_at f v
+  put_old_value v inside = steps_old_value (with_pooled f ty) b (zero_steps ty) v inside
+
+  pub put_insts_here : b < length f.blocks → (block_at (put_zero f b ty) b).insts ≡ range_with_len (length f.insts) (length (zero_steps ty)) ++ (block_at f b).insts
+  put_insts_here there = steps_insts_here (with_pooled f ty) b (zero_steps ty) there
+
+  pub put_insts_other : (c : ℕ) → b < length f.blocks → c ≢ b → (block_at (put_zero f b ty) c).insts ≡ (block_at f c).insts
+  put_insts_other c there apart = steps_insts_other (with_pooled f ty) b (zero_steps ty) c there apart
+
+  pub put_constants : KeepsConstants f (put_zero f b ty)
+  put_constants = pooled_keeps f ty
+
+  pub put_extends : (blocks blocks' : Blocks) → ((v : ℕ) → v < length f.values → blocks'.function.definition v ≡ blocks.function.definition v)
+      → Extends f (put_zero f b ty) blocks blocks'
+  put_extends blocks blocks' same = record {
+    values_more = put_values_more;
+    insts_more = omega (arith, put_insts_more);
+    inst_same = put_old;
+    constants_kept = put_constants;
+    definition_same = same;
+  }
+
 pub zero_count : (f : Body) (b : ℕ) (ty : «Type») → length (put_zero f b ty).values ≡ zero_value f ty + 1
-zero_count f b ty = omega (arith, steps_values_count f b (zero_steps ty), step_count ty)
+zero_count f b ty = omega (arith, put_values_count f b ty, step_count ty)
 
 pub put_stands : (f : Body) (b : ℕ) (ty : «Type») → HasZero (put_zero f b ty) (zero_at f ty)
 put_stands f b ty k step is =
-    let new : inst_at (put_zero f b ty) (length f.insts + k) ≡ step_node b (length f.values + k) step = steps_new f b (zero_steps ty) k step is in
+    let pooled : Body = with_pooled f ty in
+    let new : inst_at (put_zero f b ty) (length f.insts + k) ≡ step_node pooled.tables.constants b (length f.values + k) step = steps_new pooled b (zero_steps ty) k step is in
     let inside : k < length (zero_steps ty) = get_inside (zero_steps ty) k step is in
     record {
-      exists = omega (arith, inside, steps_insts_more f b (zero_steps ty));
-      value_exists = omega (arith, inside, steps_values_count f b (zero_steps ty));
+      exists = omega (arith, inside, put_insts_more f b ty);
+      value_exists = omega (arith, inside, put_values_count f b ty);
+      constant = zeros_number pooled.tables.constants step.size;
+      zeros = (step_names ty k step is).numbered (put_zero f b ty) (zeros_stay pooled (put_zero f b ty) _ (zero_size ty) (λ constant bytes here. here) (pooled_has f ty));
       shape = ap (λ (n : InstNode). n.shape) new;
       result = ap (λ (n : InstNode). n.results) new;
     }
 
 pub zero_type : (f : Body) (b : ℕ) (ty : «Type») → (value_at (put_zero f b ty) (zero_value f ty)).ty ≡ ty
-zero_type f b ty = steps_new_type f b (zero_steps ty) (steps_before ty) (record { shape = (zero_row ty).last; ty = ty }) (last_step ty)
+zero_type f b ty = steps_new_type (with_pooled f ty) b (zero_steps ty) (steps_before ty) (last_of ty) (last_step ty)
 
 -- a new parameter has its type, and the next zero of that is so many values behind it
 pub param_type : (f : Body) (b : ℕ) (ty : «Type») → (value_at (with_param f b ty) (length f.values)).ty ≡ ty
@@ -211,11 +265,12 @@ step_values-push i (s ∷ steps) step =
     ap (λ nodes. record { ty = s.ty; origin = Result i 0 } ∷ nodes)
     (step_values-push (suc i) steps step ∙ ap (λ j. step_values (suc i) steps ++ record { ty = step.ty; origin = Result j 0 } ∷ []) same)
 
-step_insts-push : (b v : ℕ) (steps : List ZeroStep) (step : ZeroStep) → step_insts b v (steps ++ step ∷ []) ≡ step_insts b v steps ++ step_node b (v + length steps) step ∷ []
-step_insts-push b v [] step = let same : v ≡ v + 0 = omega arith in ap (λ w. step_node b w step ∷ []) same
-step_insts-push b v (s ∷ steps) step =
+step_insts-push : (cs : List (List ℕ)) (b v : ℕ) (steps : List ZeroStep) (step : ZeroStep)
+    → step_insts cs b v (steps ++ step ∷ []) ≡ step_insts cs b v steps ++ step_node cs b (v + length steps) step ∷ []
+step_insts-push cs b v [] step = let same : v ≡ v + 0 = omega arith in ap (λ w. step_node cs b w step ∷ []) same
+step_insts-push cs b v (s ∷ steps) step =
     let same : suc v + length steps ≡ v + suc (length steps) = omega arith in
-    ap (λ nodes. step_node b v s ∷ nodes) (step_insts-push b (suc v) steps step ∙ ap (λ w. step_insts b (suc v) steps ++ step_node b w step ∷ []) same)
+    ap (λ nodes. step_node cs b v s ∷ nodes) (step_insts-push cs b (suc v) steps step ∙ ap (λ w. step_insts cs b (suc v) steps ++ step_node cs b w step ∷ []) same)
 
 -- no step yet, and one step more, behind the others
 pub steps_none : (f : Body) (b : ℕ) → b < length f.blocks → with_steps f b [] ≡ f
@@ -233,7 +288,7 @@ set_twice (z ∷ xs) zero x y = refl
 set_twice (z ∷ xs) (suc k) x y = ap (λ ys. z ∷ ys) (set_twice xs k x y)
 
 pub steps_push : (f : Body) (b : ℕ) (steps : List ZeroStep) (step : ZeroStep) → b < length f.blocks
-    → with_inst (with_steps f b steps) b (Behind (length steps)) (step.shape (length (with_steps f b steps).values - 1)) (step.ty ∷ []) no_srcloc
+    → with_inst (with_steps f b steps) b (Behind (length steps)) (step.shape (zeros_number f.tables.constants step.size) (length (with_steps f b steps).values - 1)) (step.ty ∷ []) no_srcloc
     ≡ with_steps f b (steps ++ step ∷ [])
 steps_push f b steps step there =
     let g : Body = with_steps f b steps in
@@ -257,19 +312,19 @@ steps_push f b steps step there =
     append_assoc f.values (step_values (length f.insts) steps) _
     ∙ ap (λ i. f.values ++ (step_values (length f.insts) steps ++ record { ty = step.ty; origin = Result i 0 } ∷ [])) inst_is
     ∙ ap (λ vs. f.values ++ vs) (sym (step_values-push (length f.insts) steps step)) in
-    let insts : g.insts ++ step_node b value step ∷ [] ≡ f.insts ++ step_insts b (length f.values) (steps ++ step ∷ []) =
-    append_assoc f.insts (step_insts b (length f.values) steps) _
-    ∙ ap (λ v. f.insts ++ (step_insts b (length f.values) steps ++ step_node b v step ∷ [])) value_is
-    ∙ ap (λ is. f.insts ++ is) (sym (step_insts-push b (length f.values) steps step)) in
+    let insts : g.insts ++ step_node f.tables.constants b value step ∷ [] ≡ f.insts ++ step_insts f.tables.constants b (length f.values) (steps ++ step ∷ []) =
+    append_assoc f.insts (step_insts f.tables.constants b (length f.values) steps) _
+    ∙ ap (λ v. f.insts ++ (step_insts f.tables.constants b (length f.values) steps ++ step_node f.tables.constants b v step ∷ [])) value_is
+    ∙ ap (λ is. f.insts ++ is) (sym (step_insts-push f.tables.constants b (length f.values) steps step)) in
     let node : BlockNode = record (block_at f b) { insts = range_with_len (length f.insts) (length (steps ++ step ∷ [])) ++ old } in
     let block : record (block_at g b) { insts = insert (block_at g b).insts (length steps) inst } ≡ node =
     ap (λ (n : BlockNode). record n { insts = insert n.insts (length steps) inst }) here
     ∙ ap (λ is. record (block_at f b) { insts = is }) at_end in
     let blocks : set g.blocks b (record (block_at g b) { insts = insert (block_at g b).insts (length steps) inst }) ≡ set f.blocks b node =
     ap (λ n. set g.blocks b n) block ∙ set_twice f.blocks b _ node in
-    ap (λ vs. record f { values = vs; insts = g.insts ++ step_node b value step ∷ []; blocks = set g.blocks b (record (block_at g b) { insts = insert (block_at g b).insts (length steps) inst }) }) values
+    ap (λ vs. record f { values = vs; insts = g.insts ++ step_node f.tables.constants b value step ∷ []; blocks = set g.blocks b (record (block_at g b) { insts = insert (block_at g b).insts (length steps) inst }) }) values
     ∙ ap (λ is. record f { values = f.values ++ step_values (length f.insts) (steps ++ step ∷ []); insts = is; blocks = set g.blocks b (record (block_at g b) { insts = insert (block_at g b).insts (length steps) inst }) }) insts
-    ∙ ap (λ bs. record f { values = f.values ++ step_values (length f.insts) (steps ++ step ∷ []); insts = f.insts ++ step_insts b (length f.values) (steps ++ step ∷ []); blocks = bs }) blocks
+    ∙ ap (λ bs. record f { values = f.values ++ step_values (length f.insts) (steps ++ step ∷ []); insts = f.insts ++ step_insts f.tables.constants b (length f.values) (steps ++ step ∷ []); blocks = bs }) blocks
 
 -- THE LAST VALUE --------------------------------------------------------------------------------------------------
 
@@ -290,5 +345,5 @@ latest_zero f g h b v ty same is latest =
     record {
       number = omega (arith, count, latest, same);
       exists = omega (arith, count, latest);
-      unaliased = subst (λ k. resolved k v ≡ v) (sym is) (step_unaliased g b (zero_steps ty) v (omega (arith, count, latest)));
+      unaliased = subst (λ k. resolved k v ≡ v) (sym is) (step_unaliased (with_pooled g ty) b (zero_steps ty) v (omega (arith, count, latest)));
     }

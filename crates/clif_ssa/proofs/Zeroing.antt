@@ -23,14 +23,14 @@ use Rattle.clif_records.specs.declared.tables.Sealed.TheVariants.{No, Yes}
 use Rattle.clif_ssa.specs.Own.{Own}
 use Rattle.clif_records.specs.Tables.{is_yes, pending_of}
 use Rattle.clif_ssa.specs.Ssa.{SsaState, sealed_of, zero_value}
-use Rattle.clif_ssa.specs.Zeros.{insts_of_zero, insts_of_zeros, zero_steps}
+use Rattle.clif_ssa.specs.Zeros.{insts_of_zero, insts_of_zeros}
 use Rattle.std.proofs.lemmas.List.{append_assoc}
 use Rattle.clif_paths.specs.Places.{start}
 use Rattle.clif_ssa.specs.Sound.{Describes, HomeFits, IsWaiting, IsZero, HasInstructions, InOrder, parameters_of, is_parameter_of, is_some_block, BelongsTo}
 use Rattle.clif_ssa.proofs.Bodies.{Firm, resolved-set, leads_inside-set, home-set_other, home-set_same, param_exists, param_origin}
 use Rattle.clif_ssa.proofs.Ordering.{contains_cons, contains_more, none_contained, parameters_same, parameters_first, parameters_skip, parameters_contain, is_parameter, is_no_parameter, is_parameter_elsewhere, place_without_before, order_without, stands_without, below_without, in_order_small, in_order_moved, in_order_tail, in_order_first}
 use Rattle.clif_ssa.proofs.Describing.{Extends, Arms, arms_of, arms_kept, SameEdges, same_edges, edge_before, Ordered, ordered_of, ordered_kept, same_passed, new_kinds, zeros_kept, instructions_kept, waiting_kept, waiting_exists, homes_kept, assigns_not_kept}
-use Rattle.clif_ssa.proofs.ZeroSteps.{steps_resolved, steps_param_home, steps_params, steps_insts_here, steps_insts_other, steps_extends, put_zero, zero_at, zero_count, put_stands}
+use Rattle.clif_ssa.proofs.ZeroSteps.{put_resolved, put_param_home, put_params, put_insts_here, put_insts_other, put_extends, put_zero, zero_at, zero_count, put_stands}
 
 -- THE ZERO --------------------------------------------------------------------------------------------------------
 
@@ -58,14 +58,14 @@ zero_instructions own f blocks b x ty there absent extends c has =
           let here : HasInstructions f blocks b (own.insts b) = subst (λ d. HasInstructions f blocks d (own.insts d)) same has in
           let now : HasInstructions g after b (own.insts b) = record {
             zeros = zero_at f ty ∷ here.zeros;
-            in_order = steps_insts_here f b (zero_steps ty) there ∙ ap (λ xs. insts_of_zero (zero_at f ty) ++ xs) here.in_order
+            in_order = put_insts_here f b ty there ∙ ap (λ xs. insts_of_zero (zero_at f ty) ++ xs) here.in_order
                 ∙ sym (append_assoc (insts_of_zero (zero_at f ty)) (insts_of_zeros here.zeros) (own.insts b));
             are_zeros = (new_zero f blocks b x ty absent, zeros_kept f g blocks after b here.zeros extends here.are_zeros);
           } in
           subst (λ d. HasInstructions g after d (own.insts d)) (sym same) now
       | inr apart ↦
           instructions_kept f (put_zero f b ty) blocks (with_zero_in blocks b x (zero_value f ty)) c (own.insts c) extends
-          (steps_insts_other f b (zero_steps ty) c there apart) has
+          (put_insts_other f b ty c there apart) has
     ]
 
 pub zero_described : (own : Own) (f : Body) (s : SsaState) (completing : List Pending) (blocks : Blocks) (b x : ℕ) (ty : «Type»)
@@ -80,9 +80,9 @@ zero_described own f s completing blocks b x ty firm before there =
     let is_new : after.function.definition z ≡ new = updated-same blocks.function.definition z new z refl in
     let is_old : (v : ℕ) → v ≢ z → after.function.definition v ≡ blocks.function.definition v = λ v other. updated-other blocks.function.definition z new v other in
     let old_below : (v : ℕ) → v < length f.values → after.function.definition v ≡ blocks.function.definition v = λ v below. is_old v (λ same. absurd (omega (arith, below, same))) in
-    let extends : Extends f g blocks after = steps_extends f b (zero_steps ty) blocks after old_below in
-    let same_end : (v : ℕ) → resolved g v ≡ resolved f v = steps_resolved f b (zero_steps ty) firm in
-    let same_home : (v : ℕ) → param_home g v ≡ param_home f v = steps_param_home f b (zero_steps ty) in
+    let extends : Extends f g blocks after = put_extends f b ty blocks after old_below in
+    let same_end : (v : ℕ) → resolved g v ≡ resolved f v = put_resolved f b ty firm in
+    let same_home : (v : ℕ) → param_home g v ≡ param_home f v = put_param_home f b ty in
     let waits_still : (c : ℕ) (p : Pending) → IsWaiting f blocks c p → IsWaiting g after c p =
     λ c p is. waiting_kept f g blocks after c p (same_home p.param) (old_below p.param (waiting_exists f blocks c p is)) is in
     let old_arms : Arms f s blocks = arms_of own f s completing blocks before in
@@ -95,7 +95,7 @@ zero_described own f s completing blocks b x ty firm before there =
       edges = edges;
       passed = same_passed f g s blocks after old_arms extends;
       kinds = new_kinds blocks after z new is_new is_old (λ is. zero_or_complete is) (λ y is. zero_or_pending is);
-      params = steps_params f b (zero_steps ty);
+      params = put_params f b ty;
       homes = same_home;
       entries = λ c. refl;
       arguments = λ v arm. refl;
@@ -433,7 +433,7 @@ alias_described own f s p ps blocks z b can sealed before =
     let after : Blocks = with_dropped blocks v z in
     let count : length g.values ≡ length f.values = alias_count_same f v z in
     let extends : Extends f g blocks after =
-    record { values_more = omega (arith, count); insts_more = omega arith; inst_same = λ i here. refl; definition_same = λ u here. refl } in
+    record { values_more = omega (arith, count); insts_more = omega arith; inst_same = λ i here. refl; constants_kept = λ constant bytes here. here; definition_same = λ u here. refl } in
     let old_arms : Arms f s blocks = arms_of own f s (p ∷ ps) blocks before in
     let edges : SameEdges f g s s blocks after = same_edges f g s s blocks after old_arms extends (λ c. refl) (λ c i here. refl) in
     let arms : Arms g s after =

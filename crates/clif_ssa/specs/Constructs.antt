@@ -1,5 +1,5 @@
--- What the construction of SSA form changes in a function: zeros come to the front of blocks, parameters come and go, edges
--- pass more at their end, and parameters become names of other values. All else stays.
+-- What the construction of SSA form changes in a function: zeros come to the front of blocks, with their constants, parameters
+-- come and go, edges pass more at their end, and parameters become names of other values. All else stays.
 -- Source: own, after Braun et al. 2013 (the construction adds operands and parameters, and removes trivial ones).
 use Rattle.std.specs.Prelude.{◌≡◌, ◌<◌, ◌≤◌, ◌+◌, ◌-◌, ◌⊎◌, ℕ, suc, Bool, List, [], ◌∷◌, ◌++◌, length, slice_get, Some, reverse}
 use Rattle.std.specs.List.{filter, AllByRecursion}
@@ -12,7 +12,8 @@ use Rattle.clif_ir.specs.declared.function.ValueOrigin.TheVariants.{Param, Alias
 use Rattle.clif_instructions.specs.declared.instructions.InstructionData.{InstructionData}
 use Rattle.clif_types.specs.declared.types.«Type».{«Type»}
 use Rattle.clif_ssa.specs.Ssa.{no_srcloc}
-use Rattle.clif_ssa.specs.Zeros.{ZeroAt, ZeroStep, HasZero, zero_steps}
+use Rattle.clif_tables.specs.Lists.{TableLists}
+use Rattle.clif_ssa.specs.Zeros.{ZeroAt, ZeroStep, HasZero, HasZeros, zero_steps}
 
 -- numbers that rise, none below `least` and each below `bound`
 abbrev pub Rises : ℕ → ℕ → List ℕ → Type 0
@@ -34,15 +35,17 @@ abbrev pub MayPassMore : InstNode → InstNode → Type 0
 MayPassMore old new = (more : List (ℕ × ℕ)) × (new ≡ record old { shape = with_passed more old.shape })
 
 -- The instruction is the step of a zero at a place. The first step's result, and so those of all, are values that `f` doesn't
--- have.
-pub record IsNewStep (f : Body) (inst : InstNode) : Type 0 where
+-- have; its constant, if it names one, has zero bytes in `g`.
+pub record IsNewStep (f g : Body) (inst : InstNode) : Type 0 where
   pub ty : «Type»
   pub place : ℕ
   pub step : ZeroStep
   pub is_step : slice_get (zero_steps ty) place ≡ Some step
   pub value : ℕ
   pub is_new : length f.values + place ≤ value
-  pub shape : inst.shape ≡ step.shape (value - 1)
+  pub constant : ℕ
+  pub zeros : HasZeros g constant step.size
+  pub shape : inst.shape ≡ step.shape constant (value - 1)
   pub results : inst.results ≡ value ∷ []
   pub srcloc : inst.srcloc ≡ no_srcloc
 
@@ -67,17 +70,29 @@ pub record ConstructsBlock (f g : Body) (old new : BlockNode) : Type 0 where
   pub zeros_new : Rises (length f.insts) (length g.insts) (in_turn zeros)
   pub added_new : Rises (length f.values) (length g.values) added
 
+-- each of the bytes is zero
+abbrev pub AreZeros : List ℕ → Type 0
+AreZeros bytes = AllByRecursion (λ byte. byte ≡ 0) bytes
+
+-- there may be more constants, behind those that there were, whose bytes are zero; nothing else changes in the tables
+pub record PoolsZeros (t u : TableLists) : Type 0 where
+  pub same : u ≡ record t { constants = u.constants }
+  pub more : List (List ℕ)
+  pub behind : u.constants ≡ t.constants ++ more
+  pub zeros : AllByRecursion AreZeros more
+
 -- `f` is the function before, `g` after. As each function is consistent, a parameter that its block lost is a name, and each
 -- new value is a parameter, a name or the result of a step of a new zero.
 pub record OnlyConstructs (f g : Body) : Type 0 where
-  -- beside the values, the instructions, the blocks and the layout nothing changes
-  pub same : g ≡ record f { values = g.values; insts = g.insts; blocks = g.blocks; layout = g.layout }
+  -- beside the values, the instructions, the blocks, the layout and the constants nothing changes
+  pub same : g ≡ record f { values = g.values; insts = g.insts; blocks = g.blocks; layout = g.layout; tables = g.tables }
+  pub tables : PoolsZeros f.tables g.tables
   pub values : length f.values ≤ length g.values
   pub same_values : (v : ℕ) → v < length f.values → StaysOrNames (value_at f v) (value_at g v)
   -- each instruction that was there keeps its block, results and source place, and each new one is a step of a zero
   pub insts : length f.insts ≤ length g.insts
   pub same_insts : (i : ℕ) → i < length f.insts → MayPassMore (inst_at f i) (inst_at g i)
-  pub zeros : (i : ℕ) → length f.insts ≤ i → i < length g.insts → IsNewStep f (inst_at g i)
+  pub zeros : (i : ℕ) → length f.insts ≤ i → i < length g.insts → IsNewStep f g (inst_at g i)
   -- no block comes or goes
   pub block_count : length g.blocks ≡ length f.blocks
   pub blocks : (b : ℕ) → ConstructsBlock f g (block_at f b) (block_at g b)

@@ -8,7 +8,7 @@ use Rattle.clif_ir.specs.declared.function.InstNode.{InstNode}
 use Rattle.clif_ir.specs.declared.function.ValueNode.{ValueNode}
 use Rattle.clif_ir.specs.declared.function.ValueOrigin.TheVariants.{Result}
 use Rattle.std.specs.List.{range_with_len}
-use Rattle.clif_ssa.specs.Zeros.{ZeroStep, zero_steps, steps_before}
+use Rattle.clif_ssa.specs.Zeros.{ZeroStep, zero_steps, steps_before, with_pooled, zeros_number}
 use Rattle.std.specs.Option.{option_to_list}
 use Rattle.clif_ir.specs.Reading.{param_home}
 use Rattle.clif_instructions.specs.Members.{without}
@@ -139,18 +139,20 @@ abbrev pub step_values : ℕ → List ZeroStep → List ValueNode
 step_values inst [] = []
 step_values inst (step ∷ steps) = record { ty = step.ty; origin = Result inst 0 } ∷ step_values (suc inst) steps
 
--- the instructions of block `b` that steps are, whose results are the values from `value` on
-abbrev pub step_insts : ℕ → ℕ → List ZeroStep → List InstNode
-step_insts b value [] = []
-step_insts b value (step ∷ steps) =
-    record { shape = step.shape (value - 1); results = value ∷ []; block = b; srcloc = no_srcloc } ∷ step_insts b (suc value) steps
+-- the instructions of block `b` that steps are, in a function with these constants; their results are the values from `value`
+-- on
+abbrev pub step_insts : List (List ℕ) → ℕ → ℕ → List ZeroStep → List InstNode
+step_insts constants b value [] = []
+step_insts constants b value (step ∷ steps) =
+    record { shape = step.shape (zeros_number constants step.size) (value - 1); results = value ∷ []; block = b; srcloc = no_srcloc }
+    ∷ step_insts constants b (suc value) steps
 
 -- the function with these steps before the first instruction of block `b`, in order
 abbrev pub with_steps : Body → ℕ → List ZeroStep → Body
 with_steps f b steps =
     record f {
       values = f.values ++ step_values (length f.insts) steps;
-      insts = f.insts ++ step_insts b (length f.values) steps;
+      insts = f.insts ++ step_insts f.tables.constants b (length f.values) steps;
       blocks = slice_set f.blocks b (record (block_at f b) { insts = range_with_len (length f.insts) (length steps) ++ (block_at f b).insts });
     }
 
@@ -158,13 +160,14 @@ with_steps f b steps =
 abbrev pub HasSomeSteps : Body → Body → ℕ → «Type» → Type 0
 HasSomeSteps f g b ty = (count : ℕ) × (count ≤ length (zero_steps ty)) × (g ≡ with_steps f b (take count (zero_steps ty)))
 
--- what a call leaves that failed to put a zero: nothing has changed, or the block is in the layout, with some of the steps
+-- what a call leaves that failed to put a zero: nothing has changed, or the block is in the layout, with the zero's constant and
+-- some of the steps, or without
 abbrev pub MayHaveSomeSteps : Body → Body → ℕ → «Type» → Type 0
-MayHaveSomeSteps f g b ty = (g ≡ f) ⊎ HasSomeSteps (inserted_in f b) g b ty
+MayHaveSomeSteps f g b ty = (g ≡ f) ⊎ ((g ≡ inserted_in f b) ⊎ HasSomeSteps (with_pooled (inserted_in f b) ty) g b ty)
 
 -- the function with a zero before the first instruction of block `b`, which is in the layout then
 abbrev pub with_zero : Body → ℕ → «Type» → Body
-with_zero f b ty = with_steps (inserted_in f b) b (zero_steps ty)
+with_zero f b ty = with_steps (with_pooled (inserted_in f b) ty) b (zero_steps ty)
 
 -- the next zero of a type that is put
 abbrev pub zero_value : Body → «Type» → ℕ

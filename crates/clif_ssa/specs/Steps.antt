@@ -6,7 +6,7 @@ use Rattle.clif_types.specs.declared.types.«Type».{«Type»}
 use Rattle.clif_ir.specs.Body.{Body}
 use Rattle.clif_records.specs.declared.side_effects.SideEffects.{SideEffects}
 use Rattle.clif_ssa.specs.Constructs.{OnlyConstructs, TellsZeros}
-use Rattle.clif_ssa.specs.Limits.{IsFull}
+use Rattle.clif_ssa.specs.Limits.{ConstructionIsFull}
 use Rattle.clif_ssa.specs.Running.{CountsOnce}
 use Rattle.clif_ssa.specs.Ssa.{SsaState, predecessors_of, sealed_of, CountsLookup, HasMore, KnowsNoMore, NamesExist, RecordsStay, SameBlocks, SameLookups, SamePredecessors, SealedStays, Waits, Zeroes}
 use Rattle.clif_ssa.specs.Sealing.{SealsByLookUp, SealsLocally, SealsOne}
@@ -38,7 +38,7 @@ pub record StepKeeps (x : ℕ) (f : Body) (s : SsaState) (g : Body) (t : SsaStat
 
 -- How a step ends: it fails for want of room alone.
 pub record StepEnds (g : Body) {A : Type 0} (answer : Result A BuildError) : Type 0 where
-  pub full : answer ≡ Err Full → IsFull g
+  pub full : answer ≡ Err Full → ConstructionIsFull g
   pub never_failed : answer ≢ Err Failed
 
 -- A use of a variable that isn't recorded in a block which is unsealed, or to which nothing leads.

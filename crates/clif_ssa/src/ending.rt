@@ -3,7 +3,7 @@ ghost use Rattle.std.specs.Prelude.{◌≡◌, ◌≢◌, ◌<◌, ◌≤◌, �
 ghost use Rattle.std.specs.Option.{option_to_list};
 ghost use Rattle.clif_ir.specs.Reading.{param_home};
 ghost use Rattle.clif_ssa.specs.Constructs.{OnlyConstructs, TellsZeros, TellsMore};
-ghost use Rattle.clif_ssa.specs.Limits.{IsFull};
+ghost use Rattle.clif_ssa.specs.Limits.{ConstructionIsFull};
 ghost use Rattle.clif_ssa.specs.Ssa.{SsaState, predecessors_of, HasMore};
 ghost use Rattle.clif_ssa.specs.LookUp.{EndsLookUp, IsNoParameter, FinishesLookUp, with_arguments};
 ghost use Rattle.clif_ssa.specs.Incoming.{IncomingExists, IsIncoming};
@@ -95,7 +95,7 @@ pub(crate) fn end_look_up(
     ensures more { HasMore func.old func.new }
     ensures constructs { OnlyConstructs func.old func.new }
     ensures tells { IfOk result (λ e. TellsZeros func.old func.new (option_to_list e.zero)) }
-    ensures full { result ≡ Err BuildError.Full → IsFull func.new }
+    ensures full { result ≡ Err BuildError.Full → ConstructionIsFull func.new }
     ensures never_failed { result ≢ Err BuildError.Failed }
 {
     func.law_consistent();
@@ -132,7 +132,7 @@ fn end_or_stay(
     ensures more { HasMore func.old func.new }
     ensures constructs { OnlyConstructs func.old func.new }
     ensures tells { IfOk result (λ e. TellsZeros func.old func.new (option_to_list e.zero)) }
-    ensures full { result ≡ Err BuildError.Full → IsFull func.new }
+    ensures full { result ≡ Err BuildError.Full → ConstructionIsFull func.new }
     ensures never_failed { result ≢ Err BuildError.Failed }
 {
     match func.param_home(param) {
@@ -162,7 +162,7 @@ pub(crate) fn finish_look_up(
     ensures more { HasMore func.old func.new }
     ensures constructs { OnlyConstructs func.old func.new }
     ensures tells { OnOk result (TellsMore func.old func.new look_up.old.zeros look_up.new.zeros) }
-    ensures full { result ≡ Err BuildError.Full → IsFull func.new }
+    ensures full { result ≡ Err BuildError.Full → ConstructionIsFull func.new }
     ensures never_failed { result ≢ Err BuildError.Failed }
 {
     let count = predecessors.len();

@@ -1,20 +1,20 @@
 //! Zeros, which stand for variables that are never assigned.
-ghost use Rattle.std.specs.Prelude.{◌≡◌, ◌≢◌, ◌<◌, ◌+◌, ◌++◌, ◌∷◌, [], length, ◌-◌, MatchOption, OnOk, OnErr, IfOk, Some};
+ghost use Rattle.std.specs.Prelude.{◌≡◌, ◌≢◌, ◌<◌, ◌^◌, ◌+◌, ◌++◌, ◌∷◌, [], length, ◌-◌, MatchOption, OnOk, OnErr, IfOk, Some};
 ghost use Rattle.std.specs.Option.{option_to_list};
 ghost use Rattle.clif_ir.specs.Body.{resolved, value_at};
 ghost use Rattle.clif_ir.specs.Reading.{param_home};
 ghost use Rattle.clif_ssa.specs.Constructs.{OnlyConstructs, TellsZeros};
-ghost use Rattle.clif_ssa.specs.Limits.{IsFull};
+ghost use Rattle.clif_ssa.specs.Limits.{ConstructionIsFull};
 ghost use Rattle.clif_ssa.specs.Ssa.{with_steps, with_zero, zero_value, zeroed_in, HasMore};
 ghost use Rattle.clif_ssa.specs.Ssa.{HasSomeSteps, MayHaveSomeSteps};
-ghost use Rattle.clif_ssa.specs.Zeros.{float_type, kind_of_zero, zero_steps, IsStepAt, only_step, first_or_last_step};
+ghost use Rattle.clif_ssa.specs.Zeros.{float_type, kind_of_zero, zero_size, zero_steps, zeros_number, with_pooled, IsStepAt, IsZeroConstant, only_step, first_or_last_step};
 
 use clif_instructions::inst_list::InsertAt;
 use clif_ir::{Function, InstructionData};
-use clif_opcodes::{ConvertOpcode, FloatConstOpcode};
+use clif_opcodes::{ConvertOpcode, FloatConstOpcode, PooledConstOpcode};
 use clif_records::SideEffects;
-use clif_types::types::{F16, F32, F64, I64};
-use clif_types::{Block, BuildError, EntityRef, LaneType, SourceLoc, Type, Value};
+use clif_types::types::{F16, F32, F64, F128, I64};
+use clif_types::{Block, BuildError, Constant, EntityRef, LaneType, SourceLoc, Type, Value};
 
 // Makes a parameter to which nothing comes a name of a new zero, and tells of the zero. What is no
 // parameter stays.
@@ -31,7 +31,7 @@ pub(crate) fn replace_by_zero(
     ensures more { HasMore func.old func.new }
     ensures constructs { OnlyConstructs func.old func.new }
     ensures tells { OnOk result (TellsZeros func.old func.new (option_to_list (param_home func.old param))) }
-    ensures full { result ≡ Err BuildError.Full → IsFull func.new }
+    ensures full { result ≡ Err BuildError.Full → ConstructionIsFull func.new }
     ensures never_failed { result ≢ Err BuildError.Failed }
 {
     let ending = become_zero(func, param)?;
@@ -59,7 +59,7 @@ pub(crate) fn become_zero(func: &mut Function, param: Value) -> Result<Ending, B
     ensures more { HasMore func.old func.new }
     ensures constructs { OnlyConstructs func.old func.new }
     ensures tells { IfOk result (λ e. TellsZeros func.old func.new (option_to_list e.zero)) }
-    ensures full { result ≡ Err BuildError.Full → IsFull func.new }
+    ensures full { result ≡ Err BuildError.Full → ConstructionIsFull func.new }
     ensures never_failed { result ≢ Err BuildError.Failed }
 {
     let Some(block) = func.param_home(param) else {
@@ -83,7 +83,7 @@ fn put_zero(func: &mut Function, block: Block, ty: Type) -> Result<Value, BuildE
     ensures number { IfOk result (λ v. v ≡ zero_value func.old ty) }
     ensures exists { IfOk result (λ v. v < length func.new.values) }
     ensures unaliased { IfOk result (λ v. resolved func.new v ≡ v) }
-    ensures full { result ≡ Err BuildError.Full → IsFull func.new }
+    ensures full { result ≡ Err BuildError.Full → ConstructionIsFull func.new }
     ensures err { OnErr result (MayHaveSomeSteps func.old func.new block ty) }
     ensures more { HasMore func.old func.new }
     ensures constructs { OnlyConstructs func.old func.new }
@@ -91,20 +91,45 @@ fn put_zero(func: &mut Function, block: Block, ty: Type) -> Result<Value, BuildE
     ensures never_failed { result ≢ Err BuildError.Failed }
 {
     func.ensure_block_inserted(block)?;
-    put_steps(func, block, ty)?;
+    let constant = pool_zeros(func, ty)?;
+    put_steps(func, block, ty, constant)?;
     Ok(latest_value(func))
 }
 
-// Puts the steps of a zero before the first instruction of a block, in order.
-fn put_steps(func: &mut Function, block: Block, ty: Type) -> Result<(), BuildError>
-    requires { block < length func.old.blocks }
+// Pools the constant of a type's zero, if it has one.
+fn pool_zeros(func: &mut Function, ty: Type) -> Result<Constant, BuildError>
+    ensures ok { OnOk result (func.new ≡ with_pooled func.old ty) }
+    ensures number { IfOk result (λ constant. constant ≡ zeros_number func.old.tables.constants (zero_size ty)) }
+    ensures err { OnErr result (func.new ≡ func.old) }
+    ensures full { result ≡ Err BuildError.Full → length func.old.tables.constants ≡ 2 ^ 32 - 1 }
+    ensures never_failed { result ≢ Err BuildError.Failed }
+{
+    match zero_size(ty) {
+        Some(size) => {
+            let bytes = vec![in func.allocator(); 0; size as usize]?;
+            func.pool_constant(bytes.as_slice())
+        }
+        None => Ok(Constant::from_u32(0)),
+    }
+}
+
+// Puts the steps of a zero before the first instruction of a block, in order. `constant` is the zero's constant, if it has
+// one.
+fn put_steps(
+    func: &mut Function,
+    block: Block,
+    ty: Type,
+    constant: Constant,
+) -> Result<(), BuildError>
+    requires block_exists { block < length func.old.blocks }
+    requires pooled { IsZeroConstant func.old ty constant }
     ensures ok { OnOk result (func.new ≡ with_steps func.old block (zero_steps ty)) }
     ensures err { OnErr result (HasSomeSteps func.old func.new block ty) }
-    ensures full { result ≡ Err BuildError.Full → IsFull func.new }
+    ensures full { result ≡ Err BuildError.Full → ConstructionIsFull func.new }
     ensures never_failed { result ≢ Err BuildError.Failed }
 {
     let mut place = 0;
-    while let Some((shape, result)) = zero_step(ty, place, latest_value(func)) {
+    while let Some((shape, result)) = zero_step(ty, place, constant, latest_value(func)) {
         func.law_consistent();
         let at = InsertAt::Behind(place);
         func.insert_inst(block, at, shape, result, SourceLoc::new(u32::MAX))?;
@@ -131,6 +156,10 @@ pub enum ZeroKind {
     Float(FloatConstOpcode),
     /// By a constant of a float in every lane.
     Splatted(FloatConstOpcode),
+    /// By a pooled constant.
+    Pooled(PooledConstOpcode),
+    /// By a pooled constant, which is a float, in every lane.
+    SplattedPooled,
 }
 
 // How the zero of this type is made.
@@ -142,10 +171,24 @@ fn kind_of_zero(ty: Type) -> ZeroKind
         Type::Lane(LaneType::F16) => ZeroKind::Float(FloatConstOpcode::F16const),
         Type::Lane(LaneType::F32) => ZeroKind::Float(FloatConstOpcode::F32const),
         Type::Lane(LaneType::F64) => ZeroKind::Float(FloatConstOpcode::F64const),
+        Type::Lane(LaneType::F128) => ZeroKind::Pooled(PooledConstOpcode::F128const),
         Type::Vector(LaneType::F16, _) => ZeroKind::Splatted(FloatConstOpcode::F16const),
         Type::Vector(LaneType::F32, _) => ZeroKind::Splatted(FloatConstOpcode::F32const),
         Type::Vector(LaneType::F64, _) => ZeroKind::Splatted(FloatConstOpcode::F64const),
+        Type::Vector(LaneType::F128, _) => ZeroKind::SplattedPooled,
+        Type::Vector(..) => ZeroKind::Pooled(PooledConstOpcode::Vconst),
         _ => ZeroKind::Number,
+    }
+}
+
+// How many zero bytes the constant of a type's zero has, if it has one.
+fn zero_size(ty: Type) -> Option<u32>
+    ensures { result ≡ zero_size ty }
+{
+    match kind_of_zero(ty) {
+        ZeroKind::Pooled(_) => Some(ty.bytes()),
+        ZeroKind::SplattedPooled => Some(F128.bytes()),
+        ZeroKind::Number | ZeroKind::Extended | ZeroKind::Float(_) | ZeroKind::Splatted(_) => None,
     }
 }
 
@@ -160,10 +203,15 @@ fn float_type(opcode: FloatConstOpcode) -> Type
     }
 }
 
-// The instruction of a type's zero at a place among its steps, if it has so many, and the type of its result. `before`
-// is the result of the step before it.
-fn zero_step(ty: Type, place: usize, before: Value) -> Option<(InstructionData, Type)>
-    ensures { IsStepAt ty place before result }
+// The instruction of a type's zero at a place among its steps, if it has so many, and the type of its result. `constant` is
+// the zero's constant, if it has one, and `before` the result of the step before it.
+fn zero_step(
+    ty: Type,
+    place: usize,
+    constant: Constant,
+    before: Value,
+) -> Option<(InstructionData, Type)>
+    ensures { IsStepAt ty place constant before result }
 {
     match kind_of_zero(ty) {
         ZeroKind::Number => only(place, InstructionData::UnaryImm { imm: 0 }, ty),
@@ -177,19 +225,27 @@ fn zero_step(ty: Type, place: usize, before: Value) -> Option<(InstructionData, 
             first_or_last(place, first, I64, last, ty)
         }
         ZeroKind::Float(opcode) => only(place, InstructionData::UnaryIeee { opcode, bits: 0 }, ty),
-        ZeroKind::Splatted(float) => {
-            let first = InstructionData::UnaryIeee {
-                opcode: float,
-                bits: 0,
-            };
-            let opcode = ConvertOpcode::Splat;
-            let last = InstructionData::Convert {
-                opcode,
-                arg: before,
-            };
-            first_or_last(place, first, float_type(float), last, ty)
+        ZeroKind::Splatted(opcode) => {
+            let first = InstructionData::UnaryIeee { opcode, bits: 0 };
+            first_or_last(place, first, float_type(opcode), splat(before), ty)
+        }
+        ZeroKind::Pooled(opcode) => {
+            only(place, InstructionData::UnaryConst { opcode, constant }, ty)
+        }
+        ZeroKind::SplattedPooled => {
+            let opcode = PooledConstOpcode::F128const;
+            let first = InstructionData::UnaryConst { opcode, constant };
+            first_or_last(place, first, F128, splat(before), ty)
         }
     }
+}
+
+// A value in every lane.
+fn splat(arg: Value) -> InstructionData
+    ensures { result ≡ InstructionData.Convert ConvertOpcode.Splat arg }
+{
+    let opcode = ConvertOpcode::Splat;
+    InstructionData::Convert { opcode, arg }
 }
 
 // The step of a zero that has one.

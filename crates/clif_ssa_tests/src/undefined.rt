@@ -7,7 +7,7 @@ use super::steps::Step::{
     SealAll, Use,
 };
 use super::steps::makes;
-use clif_types::types::{F16X2, F32X4, F64, I8, I32, I64, I128};
+use clif_types::types::{F16X2, F32X4, F64, F128, F128X2, I8, I8X16, I32, I64, I64X4, I128};
 use std::test::Fail;
 
 /// Variables of several types: a zero of each type is put, before those that are there.
@@ -51,6 +51,30 @@ fn undef_wide_and_floats(rt: HostRuntime) -> Result<(), Fail> {
     ];
     let text =
         "function u0:0() fast {\nblock0:\n    v9 = f16const 0.0\n    v10 = splat.f16x2 v9  ; v9 = 0.0\n    v8 -> v10\n    v7 = f64const 0.0\n    v6 -> v7\n    v4 = f32const 0.0\n    v5 = splat.f32x4 v4  ; v4 = 0.0\n    v3 -> v5\n    v1 = iconst.i64 0\n    v2 = uextend.i128 v1  ; v1 = 0\n    v0 -> v2\n}\n";
+    makes(&rt, rt.alloc(), &steps, text)
+}
+
+/// Zeros of pooled constants: those of equal bytes are one constant.
+#[test]
+fn undef_pooled(rt: HostRuntime) -> Result<(), Fail> {
+    let steps = [
+        Declare,
+        Seal(0, 0),
+        Ask(0, 0, I8X16),
+        Is(Told(1)),
+        Is(ToldAt(0, 0)),
+        Ask(0, 1, I8X16),
+        Is(Told(1)),
+        Ask(0, 2, F128),
+        Is(Told(1)),
+        Ask(0, 3, F128X2),
+        Is(Told(1)),
+        Ask(0, 4, I64X4),
+        Is(Told(1)),
+        Is(Params(0, 0)),
+    ];
+    let text =
+        "function u0:0() fast {\n    const0 = 0x00000000000000000000000000000000\n    const1 = 0x0000000000000000000000000000000000000000000000000000000000000000\n\nblock0:\n    v10 = vconst.i64x4 const1\n    v9 -> v10\n    v7 = f128const const0\n    v8 = splat.f128x2 v7  ; v7 = const0\n    v6 -> v8\n    v5 = f128const const0\n    v4 -> v5\n    v3 = vconst.i8x16 const0\n    v2 -> v3\n    v1 = vconst.i8x16 const0\n    v0 -> v1\n}\n";
     makes(&rt, rt.alloc(), &steps, text)
 }
 

@@ -1,5 +1,4 @@
 pub mod Texts
 mod LineByLine
-mod Partly
 mod Positions
 mod Pooling

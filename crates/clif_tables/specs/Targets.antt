@@ -1,19 +1,11 @@
--- The edges of jump tables and exception tables. Source: own, after the crate's documentation of both.
-use Rattle.std.specs.Prelude.{ℕ, ◌==◌, List, [], ◌∷◌, map, flat_map, if◌then◌else◌}
+-- The edges and items of exception tables. Source: own, after the crate's documentation of them.
+use Rattle.std.specs.Prelude.{ℕ, List, [], ◌∷◌, map, flat_map}
 use Rattle.clif_instructions.specs.declared.block_call.BlockCall.{BlockCall}
 use Rattle.clif_tables.specs.declared.exception_table.ExceptionItem.{ExceptionItem}
 use Rattle.clif_tables.specs.declared.exception_table.ExceptionItem.TheVariants as kept
 use Rattle.clif_tables.specs.declared.exception_table.ExceptionTableItem.{ExceptionTableItem}
 use Rattle.clif_tables.specs.declared.exception_table.ExceptionTableItem.TheVariants as given
 use Rattle.clif_tables.specs.declared.exception_table.ExceptionTableData.{ExceptionTableData}
-
--- an edge that goes to the second block, if it went to the first; what it passes stays
-abbrev pub redirected : ℕ → ℕ → BlockCall → BlockCall
-redirected from to edge = if edge.block == from then record edge { block = to } else edge
-
--- edges, of which each that went to the first block goes to the second
-abbrev pub with_target_changed : ℕ → ℕ → List BlockCall → List BlockCall
-with_target_changed from to edges = map (redirected from to) edges
 
 -- an exception table as it is kept: the signature of its calls, its edges, the normal one first, and its items, of which each
 -- tag and each default has the next edge

@@ -1,10 +1,10 @@
 //! Exception tables.
 ghost use Rattle.std.specs.Prelude.{◌≡◌, ◌++◌, ◌∷◌, [], slice_index_or, OnOk, OnErr, IfOk};
-ghost use Rattle.clif_instructions.specs.Edges.{with_argument_to};
-ghost use Rattle.clif_tables.specs.Targets.{with_target_changed, exception_shape, item_edges, kept_item};
+ghost use Rattle.clif_instructions.specs.Edges.{with_argument_to, with_target_changed};
+ghost use Rattle.clif_tables.specs.Targets.{exception_shape, item_edges, kept_item};
 
-use crate::edges::{append_to_edges, redirect_edges};
 use clif_instructions::block_call::BlockCall;
+use clif_instructions::edges::{append_to_edges, redirect_edges};
 use clif_types::{Block, BuildError, SigRef, Value};
 use std::alloc::Global;
 use std::marker::Model;

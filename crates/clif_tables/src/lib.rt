@@ -2,20 +2,18 @@
 //!
 //! A table is seen by contracts as the list of its entries, which are numbered from 0 on, and the tables
 //! together as a record of such lists, in `specs/Lists.antt`. What each call that makes an entry keeps is one
-//! record in `specs/Makes.antt`, and `specs/Targets.antt` has the words for edges.
+//! record in `specs/Makes.antt`, and `specs/Targets.antt` has the words for exception tables.
 #![tactic(auto)]
 
 pub mod constants;
-pub mod edges;
 pub mod exception_table;
-pub mod jump_table;
 pub mod primary_map;
 pub mod tables;
 pub mod write;
 
+pub use clif_instructions::jump_table::JumpTableData;
 pub use constants::ConstantData;
 pub use exception_table::{
     ExceptionItem, ExceptionTableData, ExceptionTableItem, ExceptionTargets,
 };
-pub use jump_table::JumpTableData;
 pub use tables::Tables;

@@ -3,14 +3,14 @@ ghost use Rattle.std.specs.Prelude.{◌≡◌, ◌<◌, ◌^◌, length, slice_g
 ghost use Rattle.std.specs.Borrow.{sem};
 ghost use Rattle.clif_tables.specs.Makes.{Makes, Pools};
 ghost use Rattle.clif_tables.specs.Lends.{lends_regions};
-ghost use Rattle.clif_tables.specs.Lists.{no_entries, with_stack_slot, with_dynamic_stack_slot, with_global_value, with_signature, with_function, with_constant, with_jump_table, with_exception_table, with_jump_argument, with_exception_argument, with_jump_target, with_exception_target};
+ghost use Rattle.clif_tables.specs.Lists.{no_entries, with_stack_slot, with_dynamic_stack_slot, with_global_value, with_signature, with_function, with_constant, with_jump_table, with_exception_table, with_exception_argument, with_exception_target, with_table_served, unserved};
 
 use crate::constants::{ConstantData, ConstantPool};
 use crate::exception_table::{ExceptionTableData, ExceptionTargets};
-use crate::jump_table::JumpTableData;
 use crate::primary_map::PrimaryMap;
+use clif_instructions::jump_table::JumpTableData;
 use clif_types::{
-    AliasRegionSet, Block, BuildError, Constant, DynamicStackSlot, DynamicStackSlotData,
+    AliasRegionSet, Block, BuildError, Constant, DynamicStackSlot, DynamicStackSlotData, EntityRef,
     ExceptionTable, ExtFuncData, FuncRef, GlobalValue, GlobalValueData, JumpTable, SigRef,
     Signature, StackSlot, StackSlotData, Value,
 };
@@ -30,7 +30,7 @@ pub struct Tables {
     pub(crate) signatures: PrimaryMap<SigRef, Signature>,
     pub(crate) functions: PrimaryMap<FuncRef, ExtFuncData>,
     pub(crate) constants: ConstantPool,
-    jump_tables: PrimaryMap<JumpTable, JumpTableData>,
+    jump_tables: PrimaryMap<JumpTable, Option<JumpTableData>>,
     exception_tables: PrimaryMap<ExceptionTable, ExceptionTargets>,
 }
 
@@ -140,7 +140,7 @@ impl Tables {
     pub fn create_jump_table(&mut self, table: JumpTableData) -> Result<JumpTable, BuildError>
         ensures { Makes (length self.old.jump_tables) self.old self.new (with_jump_table self.old table) result }
     {
-        self.jump_tables.push(table)
+        self.jump_tables.push(Some(table))
     }
 
     /// Makes an exception table.
@@ -163,25 +163,8 @@ impl Tables {
         &mut self.alias_regions
     }
 
-    /// Puts a value at the end of what each edge of a jump table passes that goes to `block`. The only error
-    /// is `Memory`, and the tables are then as they were.
-    pub fn append_jump_table_argument(
-        &mut self,
-        table: JumpTable,
-        block: Block,
-        value: Value,
-    ) -> Result<(), BuildError>
-        requires { table < length self.old.jump_tables }
-        ensures ok { OnOk result (self.new ≡ with_jump_argument self.old table block value) }
-        ensures err { OnErr result (self.new ≡ self.old) }
-        ensures only_memory { OnErr result (result ≡ Err BuildError.Memory) }
-    {
-        self.jump_tables
-            .entry_mut(table)
-            .append_argument(block, value)
-    }
-
-    /// The same of an exception table.
+    /// Puts a value at the end of what each edge of an exception table passes that goes to `block`. The only
+    /// error is `Memory`, and the tables are then as they were.
     pub fn append_exception_table_argument(
         &mut self,
         table: ExceptionTable,
@@ -198,15 +181,7 @@ impl Tables {
             .append_argument(block, value)
     }
 
-    /// Makes each edge of a jump table that goes to `from` go to `to`. What it passes stays.
-    pub fn change_jump_table_target(&mut self, table: JumpTable, from: Block, to: Block)
-        requires { table < length self.old.jump_tables }
-        ensures { self.new ≡ with_jump_target self.old table from to }
-    {
-        self.jump_tables.entry_mut(table).change_target(from, to);
-    }
-
-    /// The same of an exception table.
+    /// Makes each edge of an exception table that goes to `from` go to `to`. What it passes stays.
     pub fn change_exception_table_target(&mut self, table: ExceptionTable, from: Block, to: Block)
         requires { table < length self.old.exception_tables }
         ensures { self.new ≡ with_exception_target self.old table from to }
@@ -265,11 +240,23 @@ impl Tables {
         self.constants.get(constant)
     }
 
-    /// A jump table, if there is one of this number.
+    /// The edges of a jump table, if there is one of this number that serves no instruction so far.
     pub fn jump_table(&self, table: JumpTable) -> Option<&JumpTableData>
-        ensures { option_copied result ≡ slice_get self.now.jump_tables table }
+        ensures { option_copied result ≡ unserved (slice_get self.now.jump_tables table) }
     {
-        self.jump_tables.get(table)
+        self.jump_tables.get(table)?.as_ref()
+    }
+
+    /// Takes the edges of a jump table for the instruction that it serves from now on, if there is a table of this
+    /// number that serves none so far.
+    pub fn take_jump_table(&mut self, table: JumpTable) -> Option<JumpTableData>
+        ensures taken { result ≡ unserved (slice_get self.old.jump_tables table) }
+        ensures served { self.new ≡ with_table_served self.old table }
+    {
+        if table.index() >= self.jump_tables.len() {
+            return None;
+        }
+        self.jump_tables.entry_mut(table).take()
     }
 
     /// An exception table, if there is one of this number.

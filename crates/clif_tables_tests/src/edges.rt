@@ -2,8 +2,10 @@
 #![tactic(auto)]
 
 use clif_instructions::block_call::{BlockArg, BlockCall};
+use clif_instructions::instructions::InstructionData;
+use clif_instructions::jump_table::JumpTableData;
 use clif_tables::{
-    ExceptionItem, ExceptionTableData, ExceptionTableItem, ExceptionTargets, JumpTableData, Tables,
+    ExceptionItem, ExceptionTableData, ExceptionTableItem, ExceptionTargets, Tables,
 };
 use clif_types::{Block, BuildError, EntityRef, ExceptionTable, JumpTable, SigRef, Value};
 use std::alloc::Global;
@@ -72,45 +74,57 @@ fn jump_table(rt: &impl Abort, alloc: Global, tables: &mut Tables) -> Result<Jum
     Ok(tables.create_jump_table(JumpTableData::new(default, entries)?)?)
 }
 
-// Asserts the edges of a jump table, the default first.
-fn has_jump_edges(
-    rt: &impl Abort,
-    alloc: Global,
-    tables: &Tables,
-    expected: &str,
-) -> Result<(), Fail> {
-    let table = tables.jump_table(JumpTable::from_u32(0));
-    are_edges(
-        rt,
-        alloc,
-        table.expect(rt, "a table").all_branches(),
-        expected,
-    )
-}
-
 // Asserts the parts of the jump table above.
 fn has_jump_parts(rt: &impl Abort, alloc: Global, table: &JumpTableData) -> Result<(), Fail> {
     assert!(rt; table.default_block().block == block(rt, 3));
-    are_edges(rt, alloc, table.as_slice(), "block1;block3;block2;")
+    are_edges(rt, alloc, table.as_slice(), "block1;block3;block2;")?;
+    are_edges(
+        rt,
+        alloc,
+        table.all_branches(),
+        "block3 v1;block1;block3;block2;",
+    )
 }
 
-// A value is passed by both edges to block3, which then go to block5 and pass what they passed.
+// The instruction that the table serves: both edges to block3 pass a value, and then go to block5 and pass what they passed.
 fn changes_jump_table(rt: &impl Abort, alloc: Global, tables: &mut Tables) -> Result<(), Fail> {
     let number = jump_table(rt, alloc, tables)?;
     has_jump_parts(rt, alloc, tables.jump_table(number).expect(rt, "a table"))?;
-    has_jump_edges(rt, alloc, tables, "block3 v1;block1;block3;block2;")?;
-    assert!(rt; number.index() < tables.jump_table_count());
-    tables.append_jump_table_argument(number, block(rt, 3), value(rt, 9))?;
-    has_jump_edges(rt, alloc, tables, "block3 v1 v9;block1;block3 v9;block2;")?;
-    assert!(rt; number.index() < tables.jump_table_count());
-    tables.change_jump_table_target(number, block(rt, 3), block(rt, 5));
-    has_jump_edges(rt, alloc, tables, "block5 v1 v9;block1;block5 v9;block2;")
+    let table = tables.take_jump_table(number).expect(rt, "a table");
+    let arg = value(rt, 0);
+    let mut branch = InstructionData::BranchTable { arg, table };
+    branch.append_argument(block(rt, 3), value(rt, 9))?;
+    let edges = branch.branch_destination();
+    are_edges(rt, alloc, edges, "block3 v1 v9;block1;block3 v9;block2;")?;
+    let InstructionData::BranchTable { mut table, .. } = branch else {
+        panic!(rt; "no branch of a table");
+    };
+    table.change_target(block(rt, 3), block(rt, 5));
+    let edges = table.all_branches();
+    are_edges(rt, alloc, edges, "block5 v1 v9;block1;block5 v9;block2;")
+}
+
+// The edges of a table are there until they are taken, and it still counts.
+fn serves_once(rt: &impl Abort, alloc: Global, tables: &mut Tables) -> Result<(), Fail> {
+    let number = jump_table(rt, alloc, tables)?;
+    assert!(rt; tables.jump_table(number).is_some());
+    assert!(rt; tables.take_jump_table(number).is_some());
+    assert!(rt; tables.jump_table(number).is_none());
+    assert!(rt; tables.take_jump_table(number).is_none());
+    assert!(rt; tables.jump_table_count() == 1);
+    Ok(())
 }
 
 #[test]
 fn jump_tables(rt: HostRuntime) -> Result<(), Fail> {
     let mut tables = Tables::new(rt.alloc());
     changes_jump_table(&rt, rt.alloc(), &mut tables)
+}
+
+#[test]
+fn jump_tables_serve_one_instruction(rt: HostRuntime) -> Result<(), Fail> {
+    let mut tables = Tables::new(rt.alloc());
+    serves_once(&rt, rt.alloc(), &mut tables)
 }
 
 // The table `sig0, block3(ret0), [ tag1: block2(exn0), default: block4, context v5 ]`.

@@ -5,3 +5,4 @@ mod Giving
 mod Counting
 mod Headers
 mod Offsets
+mod FromLast

@@ -19,6 +19,8 @@ numbered_kind _ = None
 -- whether the call makes an instruction
 abbrev pub is_instruction : Call → Bool
 is_instruction (call.Plain instruction) = true
+is_instruction (call.F128const bytes) = true
+is_instruction (call.Vconst ty bytes) = true
 is_instruction (call.Jump edge) = true
 is_instruction (call.Brif condition first second) = true
 is_instruction (call.Return values) = true

@@ -2,7 +2,7 @@
 use Rattle.std.specs.Prelude.{◌≡◌, ℕ, ℤ, pos, ◌⊎◌, ◌++◌, List, [], ◌∷◌, Option, Some, None, codes}
 use Rattle.clif_types.specs.Texts.{int_cc_text}
 use Rattle.clif_opcodes.specs.Names.{binary_name, cond_trap_name, convert_name, float_const_name, stack_name, unary_name}
-use Rattle.clif_words.specs.Spelling.{AreFlags, IsDecimal, IsMagnitude, IsNumber, IsOffset, IsTrapCode, IsTypeWord}
+use Rattle.clif_words.specs.Spelling.{AreFlags, IsBytes, IsDecimal, IsMagnitude, IsNumber, IsOffset, IsTrapCode, IsTypeWord}
 use Rattle.clif_calls.specs.declared.call.Name.{Name}
 use Rattle.clif_calls.specs.declared.call.Edge.{Edge}
 use Rattle.clif_calls.specs.declared.call.Call.{Call}
@@ -107,7 +107,11 @@ IsCall names words (call.CreateSizedStackSlot size align_shift) = (a b : List �
 IsCall names words (call.DeclareVar ty) = (t : List ℕ) × (words ≡ codes "declare_var" ∷ t ∷ []) × IsTypeWord t ty
 IsCall names words (call.DefVar variable value) = (a b : List ℕ) × (words ≡ codes "def_var" ∷ a ∷ b ∷ []) × IsVariable names a variable × IsAnswer names b value
 IsCall names words (call.UseVar variable) = (a : List ℕ) × (words ≡ codes "use_var" ∷ a ∷ []) × IsVariable names a variable
+IsCall names words (call.TryDefVar variable value) = (a b : List ℕ) × (words ≡ codes "try_def_var" ∷ a ∷ b ∷ []) × IsVariable names a variable × IsAnswer names b value
+IsCall names words (call.TryUseVar variable) = (a : List ℕ) × (words ≡ codes "try_use_var" ∷ a ∷ []) × IsVariable names a variable
 IsCall names words (call.Plain instruction) = IsPlain names words (plan_of instruction)
+IsCall names words (call.F128const bytes) = (n : List ℕ) × (words ≡ codes "f128const" ∷ n ∷ []) × IsBytes n bytes.items
+IsCall names words (call.Vconst ty bytes) = (t n : List ℕ) × (words ≡ (codes "vconst." ++ t) ∷ n ∷ []) × IsTypeWord t ty × IsBytes n bytes.items
 IsCall names words (call.Jump edge) = (e : List (List ℕ)) × (words ≡ codes "jump" ∷ e) × IsLastEdge names e edge
 IsCall names words (call.Brif condition first second) = (a : List ℕ) × (e f : List (List ℕ)) × (words ≡ codes "brif" ∷ a ∷ (e ++ f)) × IsAnswer names a condition × IsEdge names e first × IsLastEdge names f second
 IsCall names words (call.Return values) = (v : List (List ℕ)) × (words ≡ codes "return" ∷ v) × AreLast names v values.items

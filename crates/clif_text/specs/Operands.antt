@@ -2,6 +2,7 @@
 use Rattle.std.specs.Prelude.{List, [], ◌++◌, ℕ, codes}
 use Rattle.std.specs.Fmt.{decimal}
 use Rattle.clif_types.specs.Texts.{type_text}
+use Rattle.clif_words.specs.Spelling.{bytes_text}
 use Rattle.clif_text.specs.Texts.{answer_text, plan_text, variable_text}
 use Rattle.clif_text.specs.declared.writer.Operands.{Operands}
 use Rattle.clif_text.specs.declared.writer.Operands.TheVariants as operands
@@ -16,4 +17,6 @@ operands_text (operands.«Type» ty) = codes " " ++ type_text ty
 operands_text (operands.Slot size align_shift) = codes " " ++ (decimal size ++ (codes " " ++ decimal align_shift))
 operands_text (operands.Definition variable x) = codes " " ++ (variable_text variable ++ (codes " " ++ answer_text x))
 operands_text (operands.Variable variable) = codes " " ++ variable_text variable
+operands_text (operands.Bytes bytes) = codes " " ++ bytes_text bytes.now
+operands_text (operands.TypedBytes ty bytes) = codes "." ++ (type_text ty ++ (codes " " ++ bytes_text bytes.now))
 operands_text (operands.Instruction plan) = plan_text plan

@@ -6,7 +6,7 @@ use Rattle.clif_types.specs.Texts.{type_text, call_conv_text, int_cc_text, mem_f
 use Rattle.clif_types.specs.Signature.{SignatureShape}
 use Rattle.clif_types.specs.declared.extname.UserFuncName.{UserFuncName}
 use Rattle.clif_types.specs.declared.target.TargetFrontendConfig.{TargetFrontendConfig}
-use Rattle.clif_words.specs.Spelling.{pointer_text}
+use Rattle.clif_words.specs.Spelling.{bytes_text, pointer_text}
 use Rattle.clif_calls.specs.declared.call.Name.{Name}
 use Rattle.clif_calls.specs.declared.call.Edge.{Edge}
 use Rattle.clif_calls.specs.declared.call.Call.{Call}
@@ -75,7 +75,11 @@ call_text (call.CreateSizedStackSlot size align_shift) = codes "create_sized_sta
 call_text (call.DeclareVar ty) = codes "declare_var " ++ type_text ty
 call_text (call.DefVar variable value) = codes "def_var " ++ (variable_text variable ++ (codes " " ++ answer_text value))
 call_text (call.UseVar variable) = codes "use_var " ++ variable_text variable
+call_text (call.TryDefVar variable value) = codes "try_def_var " ++ (variable_text variable ++ (codes " " ++ answer_text value))
+call_text (call.TryUseVar variable) = codes "try_use_var " ++ variable_text variable
 call_text (call.Plain instruction) = plan_text (plan_of instruction)
+call_text (call.F128const bytes) = codes "f128const " ++ bytes_text bytes.items
+call_text (call.Vconst ty bytes) = codes "vconst." ++ (type_text ty ++ (codes " " ++ bytes_text bytes.items))
 call_text (call.Jump edge) = codes "jump " ++ edge_text edge
 call_text (call.Brif condition first second) = codes "brif " ++ (answer_text condition ++ (codes " " ++ (edge_text first ++ (codes " " ++ edge_text second))))
 call_text (call.Return values) = codes "return" ++ answers_text values.items

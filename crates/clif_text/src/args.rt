@@ -6,6 +6,7 @@ use crate::scope::{Kind, Scope, is_name};
 use clif_calls::{Edge, Name};
 use clif_records::Variable;
 use clif_types::{EntityRef, IntCC, MemFlagsData, StackSlot, TrapCode, Type};
+use clif_words::bytes::bytes;
 use clif_words::cursor::Cursor;
 use clif_words::error::{Expected, Fault, LineError};
 use clif_words::number::{decimal, magnitude, number, offset};
@@ -26,7 +27,7 @@ impl<'w, 'a> Args<'w, 'a> {
     ghost use Rattle.std.specs.Prelude.{IfOk, OnOk};
     ghost use Rattle.clif_types.specs.Texts.{int_cc_text};
     ghost use Rattle.clif_words.specs.Cursor.{TakesFlags, texts, words_left};
-    ghost use Rattle.clif_words.specs.Spelling.{IsMagnitude, IsNumber, IsTrapCode, IsTypeWord};
+    ghost use Rattle.clif_words.specs.Spelling.{IsBytes, IsMagnitude, IsNumber, IsTrapCode, IsTypeWord};
     ghost use Rattle.clif_text.specs.Grammar.{AreAnswers, AreLast, IsEdge, IsLastEdge, IsLastOffset, IsNumbered, IsSlot, IsVariable};
     ghost use Rattle.clif_text.specs.Reading.{TakesAnswer, TakesAnswers, TakesWord, TakesWords, names_in, numbers_in};
 
@@ -160,6 +161,15 @@ impl<'w, 'a> Args<'w, 'a> {
     {
         let word = self.words.take(expected)?;
         magnitude(word).ok_or(LineError::wanted(expected))
+    }
+
+    /// The bytes of a constant.
+    pub(crate) fn bytes(&mut self, alloc: Global) -> Result<Vec<u8>, LineError<'a>>
+        ensures scope { self.new.scope ≡ self.old.scope }
+        ensures ok { IfOk result (λ bytes. TakesWord self.old self.new IsBytes bytes.items) }
+    {
+        let word = self.words.take(Expected::Bytes)?;
+        bytes(alloc, word)
     }
 
     /// The size of a stack slot.

@@ -9,9 +9,10 @@ ghost use Rattle.clif_text.specs.Scope.{names_of};
 use crate::args::Args;
 use crate::instructions::{
     binary_named, cond_trap_named, convert_named, float_const_named, read_binary_call,
-    read_cond_trap_call, read_convert_call, read_float_const_call, read_icmp_call,
-    read_iconcat_call, read_isplit_call, read_load_call, read_select_call, read_stack_call,
-    read_stack_store_call, read_store_call, read_unary_call, stack_named, unary_named,
+    read_cond_trap_call, read_convert_call, read_f128const_call, read_float_const_call,
+    read_icmp_call, read_iconcat_call, read_isplit_call, read_load_call, read_select_call,
+    read_stack_call, read_stack_store_call, read_store_call, read_unary_call, read_vconst_call,
+    stack_named, unary_named,
 };
 use crate::scope::Scope;
 use clif_calls::{Call, PlainInstruction};
@@ -20,11 +21,9 @@ use clif_words::types::type_named;
 use std::alloc::Global;
 
 // The calls of the format that aren't understood so far, without the type that may follow their name.
-const NOT_SUPPORTED: [&str; 33] = [
+const NOT_SUPPORTED: [&str; 29] = [
     "declare_var_needs_stack_map",
     "declare_value_needs_stack_map",
-    "try_use_var",
-    "try_def_var",
     "import_signature",
     "import_function",
     "create_dynamic_stack_slot",
@@ -47,8 +46,6 @@ const NOT_SUPPORTED: [&str; 33] = [
     "iadd_imm_s",
     "icmp_imm_s",
     "cursor",
-    "f128const",
-    "vconst",
     "call",
     "call_indirect",
     "br_table",
@@ -77,6 +74,13 @@ fn read_call<'a>(
         "use_var" => Ok(Call::UseVar {
             variable: args.variable()?,
         }),
+        "try_def_var" => Ok(Call::TryDefVar {
+            variable: args.variable()?,
+            value: args.value()?,
+        }),
+        "try_use_var" => Ok(Call::TryUseVar {
+            variable: args.variable()?,
+        }),
         "jump" => Ok(Call::Jump {
             destination: args.last_edge(alloc)?,
         }),
@@ -91,12 +95,16 @@ fn read_call<'a>(
         "trap" => Ok(Call::Trap {
             code: args.trap_code()?,
         }),
-        _ => read_instruction(head, args),
+        _ => read_instruction(alloc, head, args),
     }
 }
 
 // The same for an instruction of a format that has several.
-fn read_instruction<'a>(head: &'a str, args: &mut Args<'_, 'a>) -> Result<Call, LineError<'a>>
+fn read_instruction<'a>(
+    alloc: Global,
+    head: &'a str,
+    args: &mut Args<'_, 'a>,
+) -> Result<Call, LineError<'a>>
     ensures { IfOk result (ReadsCall args.old args.new head.now) }
 {
     if let Some(opcode) = unary_named(head) {
@@ -110,12 +118,13 @@ fn read_instruction<'a>(head: &'a str, args: &mut Args<'_, 'a>) -> Result<Call, 
     }
     match binary_named(head) {
         Some(opcode) => read_binary_call(head, opcode, args),
-        None => read_single_instruction(head, args),
+        None => read_single_instruction(alloc, head, args),
     }
 }
 
 // The same for the one instruction of its format.
 fn read_single_instruction<'a>(
+    alloc: Global,
     head: &'a str,
     args: &mut Args<'_, 'a>,
 ) -> Result<Call, LineError<'a>>
@@ -128,12 +137,17 @@ fn read_single_instruction<'a>(
         "select" => read_select_call(head, args),
         "store" => read_store_call(head, args),
         "stack_store" => read_stack_store_call(head, args),
-        _ => read_block_call(head, args),
+        "f128const" => read_f128const_call(alloc, head, args),
+        _ => read_block_call(alloc, head, args),
     }
 }
 
 // The same for a call that makes, marks or places blocks.
-fn read_block_call<'a>(head: &'a str, args: &mut Args<'_, 'a>) -> Result<Call, LineError<'a>>
+fn read_block_call<'a>(
+    alloc: Global,
+    head: &'a str,
+    args: &mut Args<'_, 'a>,
+) -> Result<Call, LineError<'a>>
     ensures { IfOk result (ReadsCall args.old args.new head.now) }
 {
     match head {
@@ -147,7 +161,7 @@ fn read_block_call<'a>(head: &'a str, args: &mut Args<'_, 'a>) -> Result<Call, L
         | "append_block_param"
         | "append_block_params_for_function_params"
         | "append_block_params_for_function_returns" => read_call_at_block(head, args),
-        _ => read_typed_call(head, args),
+        _ => read_typed_call(alloc, head, args),
     }
 }
 
@@ -179,7 +193,11 @@ fn read_call_at_block<'a>(head: &'a str, args: &mut Args<'_, 'a>) -> Result<Call
 }
 
 // The same for a call whose name has a type behind it, as `iconst.i32`.
-fn read_typed_call<'a>(head: &'a str, args: &mut Args<'_, 'a>) -> Result<Call, LineError<'a>>
+fn read_typed_call<'a>(
+    alloc: Global,
+    head: &'a str,
+    args: &mut Args<'_, 'a>,
+) -> Result<Call, LineError<'a>>
     ensures { IfOk result (ReadsCall args.old args.new head.now) }
 {
     let Some((name, suffix)) = name_and_type(head) else {
@@ -194,6 +212,7 @@ fn read_typed_call<'a>(head: &'a str, args: &mut Args<'_, 'a>) -> Result<Call, L
             Ok(Call::Plain(PlainInstruction::Iconst { ty, imm }))
         }
         "load" => read_load_call(head, suffix, args),
+        "vconst" => read_vconst_call(alloc, head, suffix, args),
         _ => {
             if let Some(opcode) = convert_named(name) {
                 return read_convert_call(head, opcode, suffix, args);
@@ -215,7 +234,7 @@ fn name_and_type(head: &str) -> Option<(&str, &str)>
 
 // No call is read that has this name, in front of the type that may follow.
 fn not_understood<'a>(head: &'a str, name: &'a str) -> LineError<'a> {
-    let wants_type = matches!(name, "iconst" | "load")
+    let wants_type = matches!(name, "iconst" | "load" | "vconst")
         || convert_named(name).is_some()
         || stack_named(name).is_some();
     if wants_type {
@@ -261,7 +280,8 @@ pub(crate) fn answers_of(call: &Call) -> Answers
         | Call::AppendBlockParam { .. }
         | Call::CreateSizedStackSlot { .. }
         | Call::DeclareVar { .. }
-        | Call::UseVar { .. } => (false, 1),
+        | Call::UseVar { .. }
+        | Call::TryUseVar { .. } => (false, 1),
         Call::AppendBlockParamsForFunctionParams { .. }
         | Call::AppendBlockParamsForFunctionReturns { .. } => (false, usize::MAX),
         Call::SwitchToBlock { .. }
@@ -270,7 +290,8 @@ pub(crate) fn answers_of(call: &Call) -> Answers
         | Call::InsertBlockAfter { .. }
         | Call::SetColdBlock { .. }
         | Call::EnsureInsertedBlock
-        | Call::DefVar { .. } => (false, 0),
+        | Call::DefVar { .. }
+        | Call::TryDefVar { .. } => (false, 0),
         Call::Plain(
             PlainInstruction::Store { .. }
             | PlainInstruction::StackStore { .. }
@@ -282,7 +303,7 @@ pub(crate) fn answers_of(call: &Call) -> Answers
         | Call::Return { .. }
         | Call::Trap { .. } => (true, 0),
         Call::Plain(PlainInstruction::Isplit { .. }) => (true, 2),
-        Call::Plain(_) => (true, 1),
+        Call::Plain(_) | Call::F128const { .. } | Call::Vconst { .. } => (true, 1),
     };
     Answers { instruction, names }
 }

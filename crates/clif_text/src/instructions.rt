@@ -10,6 +10,7 @@ use clif_opcodes::{
 };
 use clif_words::error::{Expected, LineError};
 use clif_words::types::type_named;
+use std::alloc::Global;
 
 /// The operation of this name, of one value: one row per instruction.
 pub(crate) fn unary_named(name: &str) -> Option<UnaryOpcode>
@@ -208,6 +209,36 @@ pub(crate) fn read_float_const_call<'a>(
         Some(constant) => Ok(Call::Plain(constant)),
         None => Err(LineError::wanted(expected)),
     }
+}
+
+/// The same for `f128const`.
+pub(crate) fn read_f128const_call<'a>(
+    alloc: Global,
+    head: &'a str,
+    args: &mut Args<'_, 'a>,
+) -> Result<Call, LineError<'a>>
+    requires { head.now ≡ codes "f128const" }
+    ensures { IfOk result (ReadsCall args.old args.new head.now) }
+{
+    let bytes = args.bytes(alloc)?;
+    Ok(Call::F128const { bytes })
+}
+
+/// The same for `vconst`, whose name is followed by its result type.
+pub(crate) fn read_vconst_call<'a>(
+    alloc: Global,
+    head: &'a str,
+    suffix: &'a str,
+    args: &mut Args<'_, 'a>,
+) -> Result<Call, LineError<'a>>
+    requires { head.now ≡ codes "vconst" ++ (codes "." ++ suffix.now) }
+    ensures { IfOk result (ReadsCall args.old args.new head.now) }
+{
+    let Some(ty) = type_named(suffix) else {
+        return Err(LineError::wanted(Expected::Type));
+    };
+    let bytes = args.bytes(alloc)?;
+    Ok(Call::Vconst { ty, bytes })
 }
 
 /// The same for `load`, whose name is followed by the type of what is loaded.

@@ -1,5 +1,6 @@
--- How numbers, types, widths of pointers, reasons for traps, offsets and flags are spelled. Source: own; docs/SCRIPTS.md describes the same format.
-use Rattle.std.specs.Prelude.{FitsSigned, ℤ, ◌+◌, ◌%◌, ◌^◌, ◌<◌, ◌≤◌, ◌==◌, not, filter, ◌≡◌, ℕ, ◌⊎◌, ◌++◌, Bool, List, [], ◌∷◌, None, codes, if◌then◌else◌}
+-- How numbers, bytes, types, widths of pointers, reasons for traps, offsets and flags are spelled. Source: own; docs/SCRIPTS.md describes the same format.
+use Rattle.std.specs.Prelude.{FitsSigned, ℤ, ◌+◌, ◌%◌, ◌/◌, ◌^◌, ◌<◌, ◌≤◌, ◌==◌, not, filter, ◌≡◌, ℕ, ◌⊎◌, ◌++◌, Bool, List, [], ◌∷◌, None, codes, flat_map, length, reverse, if◌then◌else◌}
+use Rattle.std.specs.Char.{digit_char}
 use Rattle.std.specs.Int.{cast_signed, w32, w64}
 use Rattle.std.specs.Str.Parse.{IsNumeral, digits_value, signed_digits_value, without_leading_sign}
 use Rattle.clif_types.specs.Types.{IsType}
@@ -29,6 +30,19 @@ IsMagnitude word number = ((digits : List ℕ) × (word ≡ codes "0x" ++ digits
 abbrev pub IsNumber : List ℕ → ℤ → Type 0
 IsNumber word number = ((bits : ℕ) × (bits < 2 ^ 64) × IsMagnitude word bits × (number ≡ cast_signed w64 bits))
     ⊎ ((digits : List ℕ) × (magnitude bits : ℕ) × (bits < 2 ^ 64) × (word ≡ codes "-" ++ digits) × IsMagnitude digits magnitude × (magnitude ≤ 2 ^ 63) × ((bits + magnitude) % 2 ^ 64 ≡ 0) × (number ≡ cast_signed w64 bits))
+
+-- a byte in two hexadecimal digits, the letters in lower case
+abbrev pub byte_text : ℕ → List ℕ
+byte_text byte = digit_char (byte / 16) ∷ digit_char (byte % 16) ∷ []
+
+-- `0x` and bytes from last to first, as a constant is printed
+abbrev pub bytes_text : List ℕ → List ℕ
+bytes_text bytes = codes "0x" ++ flat_map byte_text (reverse bytes)
+
+-- these bytes, as they are printed, of which there is one at least
+pub record IsBytes (word bytes : List ℕ) : Type 0 where
+  pub some : 0 < length bytes
+  pub text : word ≡ bytes_text bytes
 
 -- a type of the IR, as it is printed
 pub record IsTypeWord (word : List ℕ) (ty : «Type») : Type 0 where

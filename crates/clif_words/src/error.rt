@@ -38,6 +38,8 @@ pub enum Expected {
     F32Bits,
     /// The bits of an F64, as a number without a sign.
     F64Bits,
+    /// The bytes of a constant, in hexadecimal digits.
+    Bytes,
     /// A condition of a comparison.
     Condition,
     /// A reason for a trap.
@@ -83,6 +85,7 @@ impl fmt::Display for Expected {
             Expected::F16Bits => "the bits of an f16",
             Expected::F32Bits => "the bits of an f32",
             Expected::F64Bits => "the bits of an f64",
+            Expected::Bytes => "the bytes of a constant",
             Expected::Condition => "a condition",
             Expected::TrapCode => "a trap code",
             Expected::Offset => "an offset",

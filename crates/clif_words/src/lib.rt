@@ -4,6 +4,7 @@
 //! `clif_text` reads scripts with it.
 #![tactic(auto)]
 
+pub mod bytes;
 pub mod cursor;
 pub mod error;
 pub mod number;

@@ -100,6 +100,7 @@ fn expectations(rt: HostRuntime) -> Result<(), Fail> {
         (Expected::F16Bits, "the bits of an f16"),
         (Expected::F32Bits, "the bits of an f32"),
         (Expected::F64Bits, "the bits of an f64"),
+        (Expected::Bytes, "the bytes of a constant"),
         (Expected::Condition, "a condition"),
         (Expected::TrapCode, "a trap code"),
         (Expected::Offset, "an offset"),

@@ -1,13 +1,17 @@
-//! Numbers, types, conventions, widths of pointers, conditions and reasons for traps as words.
+//! Numbers, bytes, types, conventions, widths of pointers, conditions and reasons for traps as words.
 #![tactic(auto)]
 
 use clif_types::types::Type;
 use clif_types::{CallConv, IntCC, PointerWidth, TrapCode, types};
+use clif_words::bytes::bytes;
+use clif_words::error::{Expected, Fault, LineError};
 use clif_words::number::{decimal, magnitude, number, offset, short_decimal};
 use clif_words::types::{
     call_conv_named, condition_named, pointer_width_named, trap_code_named, type_named,
 };
+use std::alloc::Global;
 use std::process::Abort;
+use std::test::Fail;
 
 fn is_number(rt: &impl Abort, word: &str, expected: Option<i64>) {
     assert!(rt; number(word) == expected);
@@ -58,6 +62,48 @@ fn magnitudes(rt: HostRuntime) {
     for (word, expected) in rows.iter() {
         is_magnitude(&rt, word, *expected);
     }
+}
+
+/// Bytes from the last one to the first, two digits each.
+#[test]
+fn byte_words(rt: HostRuntime) -> Result<(), Fail> {
+    let rows: [(&str, &[u8]); 5] = [
+        ("0x00", &[0]),
+        ("0x7f", &[127]),
+        ("0x0102ff", &[255, 2, 1]),
+        ("0xc0ffee", &[0xee, 0xff, 0xc0]),
+        (
+            "0x000102030405060708090a0b0c0d0e0f",
+            &[15, 14, 13, 12, 11, 10, 9, 8, 7, 6, 5, 4, 3, 2, 1, 0],
+        ),
+    ];
+    for (word, expected) in rows.iter() {
+        let read = bytes(rt.alloc(), word)?;
+        assert!(rt; read.as_slice() == *expected);
+    }
+    Ok(())
+}
+
+// No bytes are read from this word.
+fn has_no_bytes(alloc: Global, word: &str) -> Result<(), Fail> {
+    match bytes(alloc, word) {
+        Ok(_) => Err("bytes were read")?,
+        Err(LineError::Fault(Fault::Expected(Expected::Bytes))) => Ok(()),
+        Err(LineError::Memory) => Err("no memory")?,
+        Err(LineError::Fault(_)) => Err("another fault")?,
+    }
+}
+
+/// A byte has two digits, letters in lower case, and the prefix is needed.
+#[test]
+fn no_bytes(rt: HostRuntime) -> Result<(), Fail> {
+    let words = [
+        "", "0", "00", "0x", "0x0", "0x123", "0X00", "0xFF", "0x0g", "0x0_0", "-0x00", "x00",
+    ];
+    for word in words.iter() {
+        has_no_bytes(rt.alloc(), word)?;
+    }
+    Ok(())
 }
 
 fn is_offset(rt: &impl Abort, word: &str, expected: Option<i32>) {

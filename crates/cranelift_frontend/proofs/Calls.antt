@@ -1,5 +1,5 @@
 -- What the answers of the builder's calls share.
-use Rattle.std.proofs.Common.{◌≡◌, ◌≢◌, ◌∷◌, ◌++◌, [], List, refl, sym, subst}
+use Rattle.std.proofs.Common.{◌≡◌, ◌≢◌, ◌∷◌, ◌++◌, [], List, refl, sym, subst, ap, ◌∙◌}
 use Rattle.std.specs.Prelude.{true, false, is_err, Result, Ok, Err, IfOk, OnOk, OnErr}
 use Rattle.clif_types.specs.declared.error.BuildError.{BuildError}
 use Rattle.clif_types.specs.declared.error.BuildError.TheVariants.{Failed, Memory}
@@ -94,3 +94,33 @@ refused old failed =
       left = λ left. tt;
       free = λ left. tt;
     }
+
+-- a call that failed as another one did, which answers otherwise
+same_error : {A B : Type 0} (e x : BuildError) → ◌≡◌ {A = Result A BuildError} (Err e) (Err x) → ◌≡◌ {A = Result B BuildError} (Err e) (Err x)
+same_error e x same = let is : e ≡ x = cc in cc
+
+failed : {A B : Type 0} (old new : FunctionBuilder) (e : BuildError) → IsCall {A = A} old new (Err e) → IsCall {A = B} old new (Err e)
+failed old new e call =
+    record {
+      loans = call.loans;
+      position = call.position;
+      failed = (λ same. call.failed.0 (same_error e Failed same), λ failed. same_error e Failed (call.failed.1 failed));
+      unchanged = call.unchanged;
+      fails = call.fails;
+      looks_once = call.looks_once;
+      types = tt;
+      fills = tt;
+      left = λ left. tt;
+      free = λ left. tt;
+    }
+
+pub failed_as : {A B : Type 0} (old new : FunctionBuilder) (other : Result A BuildError) (answer : Result B BuildError) (e x : BuildError)
+    → other ≡ Err e → answer ≡ Err x → x ≡ e → IsCall old new other → IsCall old new answer
+failed_as old new other answer e x was is same call =
+    subst (IsCall old new) (sym (is ∙ ap Err same)) (failed old new e (subst (IsCall old new) was call))
+
+-- an error that is told further is the one that was told
+pub error_as : {A B : Type 0} (other : Result A BuildError) (answer : Result B BuildError) (e x y : BuildError)
+    → other ≡ Err e → answer ≡ Err x → x ≡ e → answer ≡ Err y → other ≡ Err y
+error_as other answer e x y was is same told =
+    let first : x ≡ y = cc in was ∙ ap Err (sym same ∙ first)

@@ -1,7 +1,7 @@
 -- An entry is put into a table of the function: the agreement with the ledger is kept, and the builder stands for the calls.
 use Rattle.std.proofs.Common.{◌≡◌, ◌≢◌, ◌<◌, ℕ, List, [], ◌∷◌, ◌++◌, length, refl, sym, ◌∙◌, ap, subst, arith, Bool, false, inl, inr}
 use Rattle.std.proofs.lemmas.Grind.{common_steps}
-use Rattle.std.specs.Prelude.{◌≤◌, Option, true, is_err, Result, Ok, Err, IfOk, OnOk, OnErr}
+use Rattle.std.specs.Prelude.{◌≤◌, slice_get, Option, true, is_err, Result, Ok, Err, IfOk, OnOk, OnErr}
 use Rattle.clif_types.specs.declared.error.BuildError.{BuildError}
 use Rattle.clif_types.specs.declared.error.BuildError.TheVariants.{Failed}
 use Rattle.clif_types.specs.Signature.{SignatureShape}
@@ -14,6 +14,7 @@ use Rattle.clif_meaning.specs.Request.{AnsweredCall, MakeEntry}
 use Rattle.clif_meaning.specs.Ledger.{AnEntry, Ledger, ledger_with}
 use Rattle.clif_ssa.specs.Ssa.{NamesExist, SsaState, record_of}
 use Rattle.clif_ssa.specs.Structure.{Remembers, StayAlike}
+use Rattle.clif_ssa.proofs.Pooled.{KeepsConstants}
 use Rattle.clif_ssa.proofs.StructuredLaws.{blocks_structured}
 use Rattle.clif_simulation.proofs.Further.{carries_tables}
 use Rattle.cranelift_frontend.specs.declared.builder.FunctionBuilder.{FunctionBuilder}
@@ -23,7 +24,7 @@ use Rattle.cranelift_frontend.specs.Context.{ContextState, status_of}
 use Rattle.cranelift_frontend.specs.Calls.{answered}
 use Rattle.cranelift_frontend.specs.Entries.{MakesEntry}
 use Rattle.cranelift_frontend.specs.Growth.{Grows, TypesStay}
-use Rattle.cranelift_frontend.specs.Ledger.{LedgerAgrees, ledger_of}
+use Rattle.cranelift_frontend.specs.Ledger.{LedgerAgrees, ledger_of, without_constants}
 use Rattle.cranelift_frontend.specs.Order.{IsInOrder, IsKept}
 use Rattle.cranelift_frontend.specs.StandsFor.{StandsIn}
 use Rattle.cranelift_frontend.proofs.Calls as calls
@@ -35,9 +36,9 @@ use Rattle.cranelift_frontend.proofs.Named.{kept_by}
 use Rattle.cranelift_frontend.proofs.StandingCallers.{alone_after, kept_alone, same_callers}
 
 -- the agreement, with other tables
-tabled : (calls : List AnsweredCall) (ledger : Ledger) (f : Body) (c : ContextState) (p : Option ℕ) (tables : TableLists) → LedgerAgrees calls ledger f c p
-    → LedgerAgrees calls (record ledger { tables = tables }) (with_tables f tables) c p
-tabled calls ledger f c p tables agrees = record {
+pub tabled : (calls : List AnsweredCall) (ledger : Ledger) (f : Body) (c : ContextState) (p : Option ℕ) (tables : TableLists) → KeepsConstants f (with_tables f tables)
+    → LedgerAgrees calls ledger f c p → LedgerAgrees calls (record ledger { tables = without_constants tables }) (with_tables f tables) c p
+tabled calls ledger f c p tables keeps agrees = record {
   places = agrees.places;
   answers = λ place call answers at_call at_answers.
       let old = agrees.answers place call answers at_call at_answers in
@@ -50,7 +51,7 @@ tabled calls ledger f c p tables agrees = record {
   variables = agrees.variables;
   tables = refl;
   own = agrees.own;
-  structured = λ types are. blocks_structured f f.blocks f.layout tables types agrees.own c.ssa [] (λ x. refl) (λ x. refl) (agrees.structured types are);
+  structured = λ types are. blocks_structured f f.blocks f.layout tables keeps types agrees.own c.ssa [] (λ x. refl) (λ x. refl) (agrees.structured types are);
   callers_types = agrees.callers_types;
   callers_alone = λ d. elim (agrees.callers_alone d) [
     | inl alone ↦ inl alone
@@ -59,6 +60,22 @@ tabled calls ledger f c p tables agrees = record {
   branches = λ d i here. let old = agrees.branches d i here in record { inserted = old.inserted; filled = old.filled };
   fresh = agrees.fresh;
 }
+
+-- an entry is put into tables as it is into those without constants, which stay
+entry_aside : (t : TableLists) (entry : TableEntry) → with_entry (without_constants t) entry ≡ without_constants (with_entry t entry)
+entry_aside t (AStackSlot slot) = refl
+entry_aside t _ = refl
+
+count_aside : (t : TableLists) (entry : TableEntry) → count_for (without_constants t) entry ≡ count_for t entry
+count_aside t (AStackSlot slot) = refl
+count_aside t _ = refl
+
+constants_aside : (t : TableLists) (entry : TableEntry) → (with_entry t entry).constants ≡ t.constants
+constants_aside t (AStackSlot slot) = refl
+constants_aside t _ = refl
+
+entry_keeps : (f : Body) (entry : TableEntry) → KeepsConstants f (with_tables f (with_entry f.tables entry))
+entry_keeps f entry constant bytes here = ap (λ (constants : List (List ℕ)). slice_get constants constant) (constants_aside f.tables entry) ∙ here
 
 -- the call
 abbrev pub made : TableEntry → ℕ → AnsweredCall
@@ -76,9 +93,11 @@ entry_agrees calls f c p entry number agrees is =
     let new : Ledger = ledger_with ledger (MakeEntry entry) in
     let g : Body = with_more f entry in
     let is_tabled : LedgerAgrees calls between g c p =
-    subst (λ (tables : TableLists). LedgerAgrees calls between (with_tables f (with_entry tables entry)) c p) agrees.tables
-    (tabled calls ledger f c p (with_entry ledger.tables entry) agrees) in
-    let numbered : number ≡ count_for ledger.tables entry = is ∙ sym (ap (λ (tables : TableLists). count_for tables entry) agrees.tables) in
+    subst (λ (tables : TableLists). LedgerAgrees calls (record ledger { tables = tables }) g c p)
+    (sym (ap (λ (tables : TableLists). with_entry tables entry) agrees.tables ∙ entry_aside f.tables entry))
+    (tabled calls ledger f c p (with_entry f.tables entry) (entry_keeps f entry) agrees) in
+    let numbered : number ≡ count_for ledger.tables entry =
+    is ∙ sym (ap (λ (tables : TableLists). count_for tables entry) agrees.tables ∙ count_aside f.tables entry) in
     concluded calls (made entry number) g c p
     (agrees-kept calls (made entry number) between new g c c p p (AnEntry entry (count_for ledger.tables entry) ∷ []) is_tabled refl refl refl refl is_tabled.current is_tabled.variables
     (λ d. refl) (λ d. refl) (λ d. refl) is_tabled.structured
@@ -90,7 +109,7 @@ pub entry_stands : (declared : SignatureShape) (calls : List AnsweredCall) (f : 
 entry_stands declared calls f c p entry number stands ledger = record {
   signature = stands.signature;
   ledger = ledger;
-  carries = carries_tables calls f c.ssa stands.carries entry number (with_entry f.tables entry);
+  carries = carries_tables calls f c.ssa stands.carries entry number (with_entry f.tables entry) (constants_aside f.tables entry);
   begun = stands.begun;
   callers_alone = λ d.
       alone_after calls (made entry number) f (with_more f entry) c c stands.carries.own stands.carries.holds.parameters
@@ -103,10 +122,10 @@ entry_stands declared calls f c p entry number stands ledger = record {
 pub names_tabled : (f : Body) (s : SsaState) (tables : TableLists) → NamesExist f s → NamesExist (with_tables f tables) s
 names_tabled f s tables named = record { recorded = named.recorded; leading = named.leading; waiting = named.waiting }
 
-pub order_tabled : (f : Body) (c : ContextState) (tables : TableLists) → IsInOrder f c → IsInOrder (with_tables f tables) c
-order_tabled f c tables order = record {
+pub order_tabled : (f : Body) (c : ContextState) (tables : TableLists) → KeepsConstants f (with_tables f tables) → IsInOrder f c → IsInOrder (with_tables f tables) c
+order_tabled f c tables keeps order = record {
   own = order.own;
-  structured = λ types are. blocks_structured f f.blocks f.layout tables types order.own c.ssa [] (λ x. refl) (λ x. refl) (order.structured types are);
+  structured = λ types are. blocks_structured f f.blocks f.layout tables keeps types order.own c.ssa [] (λ x. refl) (λ x. refl) (order.structured types are);
   callers_alone = λ d. elim (order.callers_alone d) [
     | inl alone ↦ inl alone
     | inr old ↦ inr (record { inserted = old.inserted; begun = old.begun })
@@ -213,5 +232,5 @@ entry_kept entry answer f g c was now sound fails makes kept =
     names_made (Err e) _ is named = subst (λ (h : Body). NamesExist h c.ssa) (sym is) named
 
     order_made : (r : Result ℕ BuildError) → OnOk r (g ≡ with_more f entry) → IsInOrder f c → OnOk r (IsInOrder g c)
-    order_made (Ok n) is order = subst (λ (h : Body). IsInOrder h c) (sym is) (order_tabled f c (with_entry f.tables entry) order)
+    order_made (Ok n) is order = subst (λ (h : Body). IsInOrder h c) (sym is) (order_tabled f c (with_entry f.tables entry) (entry_keeps f entry) order)
     order_made (Err e) is order = tt

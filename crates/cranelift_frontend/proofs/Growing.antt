@@ -10,6 +10,7 @@ use Rattle.clif_instructions.specs.declared.inst_list.InsertAt.TheVariants.{Back
 use Rattle.clif_instructions.specs.declared.instructions.InstructionData.{InstructionData}
 use Rattle.std.specs.List.{range_with_len}
 use Rattle.clif_ir.specs.declared.function.InstNode.{InstNode}
+use Rattle.clif_tables.specs.Lists.{TableLists}
 use Rattle.clif_ir.specs.Body.{Body, inst_at}
 use Rattle.clif_ir.specs.Changes.{HasNoRoom, inserted_in, with_block, with_layout, with_inst, with_param, inst_node}
 use Rattle.clif_instructions.specs.Instruction.{is_terminator, result_types}
@@ -49,7 +50,7 @@ Grows-with_param f b ty = (grind (arith, common_steps), omega arith, grind (arit
 -- what the construction of SSA form makes of a function
 pub Grows-constructs : (f g : Body) → OnlyConstructs f g → Grows f g
 Grows-constructs f g only =
-    let slots : length g.tables.stack_slots ≡ length f.tables.stack_slots = ap (λ (h : Body). length h.tables.stack_slots) only.same in
+    let slots : length g.tables.stack_slots ≡ length f.tables.stack_slots = ap (λ (t : TableLists). length t.stack_slots) only.tables.same in
     (only.values, only.insts, omega (arith, only.block_count), ap (λ (h : Body). h.name) only.same, ap (λ (h : Body). h.signature) only.same, omega (arith, slots))
 
 -- a block that enters the layout changes no value and no instruction

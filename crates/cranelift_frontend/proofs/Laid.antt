@@ -68,7 +68,7 @@ laid-agrees calls ledger f c p b a layout agrees same = record {
   tables = agrees.tables;
   own = agrees.own;
   structured = λ types are.
-      blocks_structured f f.blocks (put_behind b a f.layout) f.tables types agrees.own c.ssa [] (λ x. refl) (λ x. refl) (agrees.structured types are);
+      blocks_structured f f.blocks (put_behind b a f.layout) f.tables (λ constant bytes here. here) types agrees.own c.ssa [] (λ x. refl) (λ x. refl) (agrees.structured types are);
   callers_types = agrees.callers_types;
   callers_alone = λ d. elim (agrees.callers_alone d) [
     | inl alone ↦ inl alone

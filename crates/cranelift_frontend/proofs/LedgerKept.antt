@@ -21,13 +21,14 @@ use Rattle.clif_instructions.specs.Members.{stands_in}
 use Rattle.clif_meaning.specs.Name.{Name, answer_of}
 use Rattle.clif_meaning.specs.Request.{AnsweredCall, script_of, number_of}
 use Rattle.clif_meaning.specs.Ledger.{Answered, ABlock, AVariable, AValue, AnInstruction, AnEntry, Ledger, ledger_with, empty_ledger, answer_at, value_answer_type, type_of, has_value}
-use Rattle.clif_ssa.specs.Zeros.{ZeroStep, zero_steps}
+use Rattle.clif_ssa.specs.Zeros.{ZeroStep, zero_steps, with_pooled, zero_size}
+use Rattle.clif_ssa.proofs.Pooled.{zeros_pooled}
 use Rattle.clif_records.specs.declared.tables.Pending.{Pending}
 use Rattle.clif_ssa.specs.Constructs.{MayPassMore, OnlyConstructs}
 use Rattle.clif_ssa.specs.LookUp.{branch_block}
 use Rattle.clif_ssa.specs.Ssa.{step_values, with_steps, with_zero, zero_value, zeroed, zeroed_in, completed, completing_blocks}
 use Rattle.clif_simulation.proofs.Places.{mapped_count, mapped_from, range_at, range_count}
-use Rattle.cranelift_frontend.specs.Ledger.{AnswerAgrees, HaveTypes, ResultsFollow, AnswersAgree, LedgerAgrees, block_name, value_type, ledger_of}
+use Rattle.cranelift_frontend.specs.Ledger.{AnswerAgrees, HaveTypes, ResultsFollow, AnswersAgree, LedgerAgrees, block_name, value_type, ledger_of, without_constants}
 use Rattle.cranelift_frontend.specs.Context.{ContextState}
 use Rattle.cranelift_frontend.proofs.LedgerLists.{fold-push, get-front, get-push, map-some, some-is, and-then-some, if-yes, numbered-more}
 
@@ -58,7 +59,7 @@ pub record Extends (f g : Body) : Type 0 where
   pub insts : (i : ℕ) (node : InstNode) → slice_get f.insts i ≡ Some node → KeepsInst g i node
   pub block_count : length g.blocks ≡ length f.blocks
   pub cold : (b : ℕ) → (block_at g b).is_cold ≡ (block_at f b).is_cold
-  pub tables : g.tables ≡ f.tables
+  pub tables : without_constants g.tables ≡ without_constants f.tables
 
 -- where one block is written anew, and keeps its mark
 pub same_cold : (nodes : List BlockNode) (b x : ℕ) (node : BlockNode) → node.is_cold ≡ (slice_index_or nodes b empty_block).is_cold
@@ -112,7 +113,7 @@ extends-constructs f g constructs =
           };
       block_count = constructs.block_count;
       cold = λ b. ap (λ (n : BlockNode). n.is_cold) (constructs.blocks b).node;
-      tables = ap (λ (h : Body). h.tables) constructs.same;
+      tables = ap without_constants constructs.tables.same;
     }
 
 -- it has also its layout, and no other parameters
@@ -128,7 +129,7 @@ Extends-same f g same =
       insts = λ i node is. keeps-node g i node (ap (λ (h : Body). slice_get h.insts i) same ∙ is);
       block_count = ap (λ (h : Body). length h.blocks) same;
       cold = λ b. ap (λ (h : Body). (block_at h b).is_cold) same;
-      tables = ap (λ (h : Body). h.tables) same;
+      tables = ap (λ (h : Body). without_constants h.tables) same;
     }
 
 pub Extends-then : (f g h : Body) → Extends f g → Extends g h → Extends f h
@@ -309,11 +310,27 @@ Continues-alias f v original =
       homes = λ w h is. home-set f.values v _ (resolved f original) w h is;
     }
 
+-- the constant of a zero
+Continues-pooled : (f : Body) (ty : «Type») → Continues f (with_pooled f ty)
+Continues-pooled f ty =
+    record {
+      extends = record {
+        values = λ v t is. is;
+        insts = λ i node is. keeps-node (with_pooled f ty) i node is;
+        block_count = refl;
+        cold = λ x. refl;
+        tables = ap without_constants (zeros_pooled f.tables (zero_size ty)).same;
+      };
+      layout = refl;
+      homes = λ v h is. is;
+    }
+
 -- a zero in a block of the layout
 pub Continues-zero : (f : Body) (b : ℕ) (ty : «Type») → stands_in b f.layout ≡ true → Continues f (with_zero f b ty)
 Continues-zero f b ty there =
     subst (λ (g : Body). Continues g (with_zero f b ty)) (inserted-twice f b there)
-    (Continues-steps (inserted_in f b) b (zero_steps ty))
+    (Continues-then (inserted_in f b) (with_pooled (inserted_in f b) ty) (with_zero f b ty) (Continues-pooled (inserted_in f b) ty)
+    (Continues-steps (with_pooled (inserted_in f b) ty) b (zero_steps ty)))
 
 pub Continues-zeroed : (f : Body) (b v : ℕ) → stands_in b f.layout ≡ true → Continues f (zeroed f b v)
 Continues-zeroed f b v there =

@@ -20,11 +20,13 @@ use Rattle.clif_opcodes.specs.declared.opcodes.CondTrapOpcode.{CondTrapOpcode}
 use Rattle.clif_opcodes.specs.declared.opcodes.FloatConstOpcode.{FloatConstOpcode}
 use Rattle.clif_opcodes.specs.declared.opcodes.FloatConstOpcode.TheVariants.{F16const, F32const, F64const}
 use Rattle.clif_opcodes.specs.declared.opcodes.ConvertOpcode.{ConvertOpcode}
+use Rattle.clif_opcodes.specs.declared.opcodes.PooledConstOpcode.{PooledConstOpcode}
+use Rattle.clif_opcodes.specs.declared.opcodes.PooledConstOpcode.TheVariants.{F128const, Vconst}
 use Rattle.clif_opcodes.specs.declared.opcodes.StackOpcode.{StackOpcode}
 use Rattle.clif_opcodes.specs.declared.opcodes.StackOpcode.TheVariants as stack
 use Rattle.clif_opcodes.specs.declared.opcodes.UnaryOpcode.{UnaryOpcode}
 use Rattle.clif_instructions.specs.declared.instructions.InstructionData.{InstructionData}
-use Rattle.clif_instructions.specs.declared.instructions.InstructionData.TheVariants.{UnaryImm, UnaryIeee, Unary, Binary, IntCompare, Concat, Convert, Ternary, Load, Store, StackLoad, StackStore, Jump, Brif, MultiAry, Trap, CondTrap}
+use Rattle.clif_instructions.specs.declared.instructions.InstructionData.TheVariants.{UnaryImm, UnaryIeee, UnaryConst, Unary, Binary, IntCompare, Concat, Split, Convert, Ternary, Load, Store, StackLoad, StackStore, Jump, Brif, MultiAry, Trap, CondTrap}
 use Rattle.clif_ir.specs.Body.{Body, inst_at, no_inst, no_value, value_at}
 use Rattle.clif_ir.specs.Changes.{inserted_in, with_inst, inst_node}
 use Rattle.clif_ir.specs.Consistent.{IsConsistent}
@@ -77,13 +79,13 @@ pub same_types : (calls : List AnsweredCall) (f : Body) (instruction : Instructi
     → program.result_types instruction.operation instruction.controlling ≡ result_types shape ty
 same_types calls f instruction shape ty has =
     ap (λ (o : Operation). program.result_types o instruction.controlling) has.operation
-    ∙ ap (λ (o : Opcode). map (result_type instruction.controlling) (row_of o).results) (same_opcode shape)
+    ∙ ap (λ (o : Opcode). map (result_type instruction.controlling) (row_of o).results) (same_opcode f.tables shape)
     ∙ ap (result_types shape) has.controlling ∙ sym has.typed
 
 pub same_end : (calls : List AnsweredCall) (f : Body) (instruction : Instruction Name Name) (shape : InstructionData) (ty : «Type») → HasShape calls f instruction shape ty
     → meaning.is_terminator instruction.operation ≡ is_terminator shape
 same_end calls f instruction shape ty has =
-    ap meaning.is_terminator has.operation ∙ ap (λ (o : Opcode). (row_of o).ends) (same_opcode shape)
+    ap meaning.is_terminator has.operation ∙ ap (λ (o : Opcode). (row_of o).ends) (same_opcode f.tables shape)
 
 -- THE PARTS OF A BUILDER ------------------------------------------------------------------------------------------
 
@@ -188,7 +190,7 @@ unary-shape calls f c p agrees opcode a x first =
 
 pub binary-shape : (calls : List AnsweredCall) (f : Body) (c : ContextState) (p : Option ℕ) → LedgerAgrees calls (ledger_of calls) f c p
     → (opcode : BinaryOpcode) (a b : Name) (x y : ℕ) → NamesValue calls a x → NamesValue calls b y
-    → HasShape calls f (plain (operation_of (Binary opcode (x ∷ y ∷ []))) (or_invalid (type_of (ledger_of calls) a)) (a ∷ b ∷ [])) (Binary opcode (x ∷ y ∷ [])) (value_at f x).ty
+    → HasShape calls f (plain (Compute (operation.Binary opcode)) (or_invalid (type_of (ledger_of calls) a)) (a ∷ b ∷ [])) (Binary opcode (x ∷ y ∷ [])) (value_at f x).ty
 binary-shape calls f c p agrees opcode a b x y first second =
     record {
       operation = refl;
@@ -241,6 +243,28 @@ pub concat-shape : (calls : List AnsweredCall) (f : Body) (c : ContextState) (p 
     → HasShape calls f (plain (Compute operation.Concat) (or_invalid (type_of (ledger_of calls) a)) (a ∷ b ∷ [])) (Concat (x ∷ y ∷ [])) (value_at f x).ty
 concat-shape calls f c p agrees a b x y first second =
     record { operation = refl; controlling = named-type calls f c p agrees a x first; typed = refl; operands_numbered = two-operands calls a b x y first second; edges = tt }
+
+pub split-shape : (calls : List AnsweredCall) (f : Body) (c : ContextState) (p : Option ℕ) → LedgerAgrees calls (ledger_of calls) f c p
+    → (a : Name) (x : ℕ) → NamesValue calls a x
+    → HasShape calls f (plain (Compute operation.Split) (or_invalid (type_of (ledger_of calls) a)) (a ∷ [])) (Split x) (value_at f x).ty
+split-shape calls f c p agrees a x names =
+    record { operation = refl; controlling = named-type calls f c p agrees a x names; typed = refl; operands_numbered = ap (λ (o : Option ℕ). o ∷ []) names.number; edges = tt }
+
+-- a constant that is there has its bytes in the instruction's operation
+pooled-operation : (f : Body) (opcode : PooledConstOpcode) (bytes : List ℕ) (constant : ℕ) → slice_get f.tables.constants constant ≡ Some bytes
+    → Compute (operation.PooledConst opcode bytes) ≡ operation_of f.tables (UnaryConst opcode constant)
+pooled-operation f opcode bytes constant found =
+    ap (λ (b : List ℕ). Compute (operation.PooledConst opcode b)) (sym (get_or_from_slice_get f.tables.constants constant bytes [] found))
+
+pub f128const-shape : (calls : List AnsweredCall) (f : Body) (bytes : List ℕ) (constant : ℕ) → slice_get f.tables.constants constant ≡ Some bytes
+    → HasShape calls f (plain (Compute (operation.PooledConst F128const bytes)) type.Invalid []) (UnaryConst F128const constant) type.Invalid
+f128const-shape calls f bytes constant found =
+    record { operation = pooled-operation f F128const bytes constant found; controlling = refl; typed = refl; operands_numbered = refl; edges = tt }
+
+pub vconst-shape : (calls : List AnsweredCall) (f : Body) (ty : «Type») (bytes : List ℕ) (constant : ℕ) → slice_get f.tables.constants constant ≡ Some bytes
+    → HasShape calls f (plain (Compute (operation.PooledConst Vconst bytes)) ty []) (UnaryConst Vconst constant) ty
+vconst-shape calls f ty bytes constant found =
+    record { operation = pooled-operation f Vconst bytes constant found; controlling = refl; typed = refl; operands_numbered = refl; edges = tt }
 
 pub load-shape : (calls : List AnsweredCall) (f : Body) (flags : MemFlagsShape) (ty : «Type») (a : Name) (x : ℕ) (offset : ℤ) → NamesValue calls a x
     → HasShape calls f (plain (operation.Load flags offset) ty (a ∷ [])) (Load flags x offset) ty

@@ -119,7 +119,7 @@ module _ (calls : List AnsweredCall) (f : Body) (c : ContextState) (p : Option �
     tables = agrees.tables;
     own = agrees.own;
     structured = λ types are.
-        blocks_structured f g.blocks f.layout f.tables types agrees.own c.ssa [] (cold_params f.blocks b) (cold_insts f.blocks b)
+        blocks_structured f g.blocks f.layout f.tables (λ constant bytes here. here) types agrees.own c.ssa [] (cold_params f.blocks b) (cold_insts f.blocks b)
         (agrees.structured types are);
     callers_types = λ k t there.
         let e = entry k t there in

@@ -10,7 +10,7 @@ use Rattle.clif_instructions.specs.declared.block_call.BlockCall.{BlockCall}
 use Rattle.clif_ir.specs.declared.function.InstNode.{InstNode}
 use Rattle.clif_instructions.specs.declared.inst_list.InsertAt.TheVariants.{Back}
 use Rattle.clif_instructions.specs.declared.instructions.InstructionData.{InstructionData}
-use Rattle.clif_instructions.specs.declared.instructions.InstructionData.TheVariants.{Jump, Brif}
+use Rattle.clif_instructions.specs.declared.instructions.InstructionData.TheVariants.{Jump, Brif, BranchTable}
 use Rattle.clif_ir.specs.Body.{Body, block_at, empty_body, inst_at, no_inst}
 use Rattle.clif_ir.specs.Changes.{inserted_in, inst_node, with_block, with_cold, with_inst, with_layout_after}
 use Rattle.clif_ir.specs.Consistent.{IsConsistent}
@@ -246,7 +246,7 @@ pub order-cold : (f : Body) (c : ContextState) (b : ℕ) → IsInOrder f c → I
 order-cold f c b order = record {
   own = order.own;
   structured = λ types are.
-      blocks_structured f (with_cold f b).blocks f.layout f.tables types order.own c.ssa [] (cold_params f.blocks b) (cold_insts f.blocks b) (order.structured types are);
+      blocks_structured f (with_cold f b).blocks f.layout f.tables (λ constant bytes here. here) types order.own c.ssa [] (cold_params f.blocks b) (cold_insts f.blocks b) (order.structured types are);
   callers_alone = λ d. elim (order.callers_alone d) [
     | inl alone ↦ inl (cold_params f.blocks b d ∙ alone)
     | inr was ↦ inr (record { inserted = was.inserted; begun = was.begun })
@@ -260,7 +260,7 @@ pub order-laid : (f : Body) (c : ContextState) (b a : ℕ) → IsInOrder f c →
 order-laid f c b a order = record {
   own = order.own;
   structured = λ types are.
-      blocks_structured f f.blocks (with_layout_after f b a).layout f.tables types order.own c.ssa [] (λ x. refl) (λ x. refl) (order.structured types are);
+      blocks_structured f f.blocks (with_layout_after f b a).layout f.tables (λ constant bytes here. here) types order.own c.ssa [] (λ x. refl) (λ x. refl) (order.structured types are);
   callers_alone = λ d. elim (order.callers_alone d) [
     | inl alone ↦ inl alone
     | inr old ↦ inr (record { inserted = still_stands b a d f.layout old.inserted; begun = old.begun })
@@ -397,6 +397,7 @@ module _ (f g : Body) (c d : ContextState) (block : ℕ) (shape : InstructionDat
 inner_plain : (shape : InstructionData) → is_terminator shape ≡ false → is_branch shape ≡ false
 inner_plain (Jump destination) goes_on = let no_way : ⊥ = cc in absurd no_way
 inner_plain (Brif arg blocks) goes_on = let no_way : ⊥ = cc in absurd no_way
+inner_plain (BranchTable arg table) goes_on = let no_way : ⊥ = cc in absurd no_way
 inner_plain _ goes_on = refl
 
 -- an instruction is appended

@@ -3,10 +3,12 @@ use Rattle.std.proofs.Common.{◌≡◌, [], refl, ◌⊎◌, inl, inr}
 use Rattle.std.specs.Prelude.{true, false}
 use Rattle.clif_types.specs.declared.types.«Type».{«Type»}
 use Rattle.clif_opcodes.specs.declared.opcodes.FloatConstOpcode.TheVariants.{F16const, F32const, F64const}
+use Rattle.clif_opcodes.specs.declared.opcodes.PooledConstOpcode.TheVariants.{F128const, Vconst}
 use Rattle.clif_opcodes.specs.declared.opcodes.StackOpcode.TheVariants as stack
 use Rattle.clif_instructions.specs.declared.instructions.InstructionData.{InstructionData}
-use Rattle.clif_instructions.specs.declared.instructions.InstructionData.TheVariants.{UnaryIeee, StackLoad, Jump, Brif, MultiAry, Trap}
+use Rattle.clif_instructions.specs.declared.instructions.InstructionData.TheVariants.{UnaryIeee, UnaryConst, StackLoad, Jump, Brif, BranchTable, MultiAry, Trap}
 use Rattle.clif_instructions.specs.Instruction.{destinations, is_branch, is_terminator, opcode_of, result_types}
+use Rattle.clif_tables.specs.Lists.{TableLists}
 use Rattle.clif_meaning.specs.Instruction.{operation_opcode}
 use Rattle.clif_meaning.specs.View.{operation_of}
 
@@ -24,16 +26,19 @@ pub record EndsBlock (shape : InstructionData) (ty : «Type») : Type 0 where
 pub sort_of : (shape : InstructionData) (ty : «Type») → StaysInBlock shape ⊎ EndsBlock shape ty
 sort_of (Jump destination) ty = inr (record { ends = refl; none = refl })
 sort_of (Brif arg blocks) ty = inr (record { ends = refl; none = refl })
+sort_of (BranchTable arg table) ty = inr (record { ends = refl; none = refl })
 sort_of (MultiAry args) ty = inr (record { ends = refl; none = refl })
 sort_of (Trap code) ty = inr (record { ends = refl; none = refl })
 sort_of (UnaryIeee F16const bits) ty = inl (record { no_edges = refl; no_branch = refl; goes_on = refl })
 sort_of (UnaryIeee F32const bits) ty = inl (record { no_edges = refl; no_branch = refl; goes_on = refl })
 sort_of (UnaryIeee F64const bits) ty = inl (record { no_edges = refl; no_branch = refl; goes_on = refl })
+sort_of (UnaryConst F128const constant) ty = inl (record { no_edges = refl; no_branch = refl; goes_on = refl })
+sort_of (UnaryConst Vconst constant) ty = inl (record { no_edges = refl; no_branch = refl; goes_on = refl })
 sort_of (StackLoad stack.StackAddr slot offset) ty = inl (record { no_edges = refl; no_branch = refl; goes_on = refl })
 sort_of (StackLoad stack.StackLoad slot offset) ty = inl (record { no_edges = refl; no_branch = refl; goes_on = refl })
 sort_of _ ty = inl (record { no_edges = refl; no_branch = refl; goes_on = refl })
 
 -- a shape and its operation have one opcode
-pub same_opcode : (shape : InstructionData) → operation_opcode (operation_of shape) ≡ opcode_of shape
-same_opcode (Jump destination) = refl
-same_opcode _ = refl
+pub same_opcode : (tables : TableLists) (shape : InstructionData) → operation_opcode (operation_of tables shape) ≡ opcode_of shape
+same_opcode tables (Jump destination) = refl
+same_opcode tables _ = refl

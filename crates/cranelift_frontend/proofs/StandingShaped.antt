@@ -94,13 +94,13 @@ module _ (declared : SignatureShape) (calls : List AnsweredCall) (f g : Body) (c
   unfilled : ledger.is_filled (ledger_of calls) here.0 ≡ false
   unfilled = current_unfilled declared calls f c p stands block here.0 here.1 open_block
 
-  branch : SameBranch calls shape instruction
+  branch : SameBranch calls f.tables shape instruction
   branch =
       let all = all_named calls instruction.operands (operands shape) has.operands_numbered in
       let edges = edges_named calls (name-number calls (ledger_of calls) f c p stands.ledger) instruction.edges (destinations shape) has.edges in
       record { operation = sym has.operation; arguments = all.0; edges = edges.0; earlier = all.1; edges_earlier = edges.1 }
 
-  plainly : destinations shape ≡ [] → SameInstruction calls shape instruction
+  plainly : destinations shape ≡ [] → SameInstruction calls f.tables shape instruction
   plainly none = record {
     operation = branch.operation;
     arguments = branch.arguments;

@@ -3,7 +3,6 @@ use Rattle.std.specs.Prelude.{◌≡◌, ◌≢◌, ◌<◌, ◌+◌, length, sl
 use Rattle.cranelift_frontend.specs.declared.error.FinalizeError.{FinalizeError}
 use Rattle.cranelift_frontend.specs.declared.error.FinalizeError.TheVariants.{Unsealed, Unfilled, Failed}
 use Rattle.clif_types.specs.declared.types.«Type».{«Type»}
-use Rattle.clif_meaning.specs.Acceptance.{is_variable_type}
 use Rattle.clif_ir.specs.Body.{Body}
 use Rattle.clif_ir.specs.Consistent.{EdgeExists}
 use Rattle.clif_instructions.specs.declared.block_call.BlockCall.{BlockCall}
@@ -53,10 +52,6 @@ is_free_at (Some block) f c = may_be_left (status_of c block) || is_unreachable 
 
 abbrev pub is_free : FunctionBuilder → Bool
 is_free b = is_free_at b.position b.func.now b.ctx.now
-
--- the types that a variable may have so far
-abbrev pub is_declarable : «Type» → Bool
-is_declarable ty = is_variable_type ty
 
 abbrev pub is_empty_status : BlockStatus → Bool
 is_empty_status Empty = true

@@ -40,7 +40,7 @@ pub record IsCall {A : Type 0} (old new : FunctionBuilder) (answer : Result A Bu
 
 -- Where the builder stood for a list of calls, and where names in it are as the call means them, the builder stands for
 -- the list with the call, by its answer. The ledger agrees even where the builder doesn't stand for the list.
-pub record IsTold {A : Type 0} (old new : FunctionBuilder) (answer : Result A BuildError)
+pub record IsTold {A E : Type 0} (old new : FunctionBuilder) (answer : Result A E)
     (names : List AnsweredCall → Type 0) (call : A → AnsweredCall) : Type 0 where
   pub ledger : (calls : List AnsweredCall)
       → AgreesWithLedger calls old → names calls → IfOk answer (λ a. AgreesWithLedger (calls ++ call a ∷ []) new)

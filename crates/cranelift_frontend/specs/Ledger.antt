@@ -9,6 +9,7 @@ use Rattle.clif_instructions.specs.declared.block_call.BlockCall.{BlockCall}
 use Rattle.clif_instructions.specs.Instruction.{destinations, operands, result_types}
 use Rattle.clif_meaning.specs.Instruction.{Argument, CallPayload, CallResult, Edge, Instruction, Known}
 use Rattle.clif_meaning.specs.View.{made_at, operation_of}
+use Rattle.clif_tables.specs.Lists.{TableLists}
 use Rattle.clif_ir.specs.declared.function.ValueNode.{ValueNode}
 use Rattle.clif_ir.specs.declared.function.InstNode.{InstNode}
 use Rattle.clif_ir.specs.Body.{Body, block_at}
@@ -75,7 +76,7 @@ NamesEdges calls _ _ = ⊥
 
 -- the instruction, with the numbers that answered the names in it, is of this shape and made at this type
 pub record HasShape (calls : List AnsweredCall) (f : Body) (instruction : Instruction Name Name) (shape : InstructionData) (ty : «Type») : Type 0 where
-  pub operation : instruction.operation ≡ operation_of shape
+  pub operation : instruction.operation ≡ operation_of f.tables shape
   pub controlling : instruction.controlling ≡ made_at f shape ty
   -- its results have the types that they have at that type: the two differ only where an operand tells the type, and the
   -- results' types follow from the one that is given
@@ -119,6 +120,10 @@ pub record AnswersAgree (ledger : Ledger) (f : Body) (place : ℕ) (answers : Li
 abbrev pub HaveTypes : Body → List ℕ → List «Type» → Type 0
 HaveTypes f values types = map (value_type f) values ≡ map Some types
 
+-- tables beside those of constants
+abbrev pub without_constants : TableLists → TableLists
+without_constants tables = record tables { constants = [] }
+
 -- a ledger of calls agrees with the parts of a builder: its function, its context and its current block
 pub record LedgerAgrees (calls : List AnsweredCall) (ledger : Ledger) (f : Body) (c : ContextState) (position : Option ℕ) : Type 0 where
   -- each call is in the ledger, with its answers
@@ -134,8 +139,8 @@ pub record LedgerAgrees (calls : List AnsweredCall) (ledger : Ledger) (f : Body)
   pub layout : map Some ledger.layout ≡ map (block_name ledger) f.layout
   -- the types of the variables, in order
   pub variables : map (λ variable. variable.ty) ledger.variables ≡ c.variables
-  -- stack slots, signatures, functions and so on
-  pub tables : ledger.tables ≡ f.tables
+  -- stack slots, signatures, functions and so on; the construction and instructions pool constants by themselves
+  pub tables : ledger.tables ≡ without_constants f.tables
   -- what the caller made, and beside it parameters, edges and records in order
   pub own : Own
   pub structured : IsStructured own f c

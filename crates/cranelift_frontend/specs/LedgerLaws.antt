@@ -7,6 +7,7 @@ use Rattle.clif_opcodes.specs.declared.opcodes.BinaryOpcode.{BinaryOpcode}
 use Rattle.clif_opcodes.specs.declared.opcodes.CondTrapOpcode.{CondTrapOpcode}
 use Rattle.clif_opcodes.specs.declared.opcodes.FloatConstOpcode.{FloatConstOpcode}
 use Rattle.clif_opcodes.specs.declared.opcodes.ConvertOpcode.{ConvertOpcode}
+use Rattle.clif_opcodes.specs.declared.opcodes.PooledConstOpcode.TheVariants.{F128const, Vconst}
 use Rattle.clif_opcodes.specs.declared.opcodes.StackOpcode.{StackOpcode}
 use Rattle.clif_opcodes.specs.declared.opcodes.UnaryOpcode.{UnaryOpcode}
 use Rattle.clif_types.specs.declared.types.«Type».TheVariants.{Invalid}
@@ -43,10 +44,17 @@ pub record AskForTheirShapes (calls : List AnsweredCall) (f : Body) : Type 0 whe
   pub select : (condition a b : Name) (c x y : ℕ) → NamesValue calls condition c → NamesValue calls a x → NamesValue calls b y
       → AsksForShape calls f (request.select (ledger_of calls) condition a b) (shape.ternary c x y) (value_at f x).ty
   pub float_const : (opcode : FloatConstOpcode) (bits : ℕ) → AsksForShape calls f (request.float_const opcode bits) (shape.unary_ieee opcode bits) Invalid
+  -- of a constant that has these bytes
+  pub f128const : (bytes : List ℕ) (constant : ℕ) → slice_get f.tables.constants constant ≡ Some bytes
+      → AsksForShape calls f (request.pooled_const F128const Invalid bytes) (shape.unary_const F128const constant) Invalid
+  pub vconst : (ty : «Type») (bytes : List ℕ) (constant : ℕ) → slice_get f.tables.constants constant ≡ Some bytes
+      → AsksForShape calls f (request.pooled_const Vconst ty bytes) (shape.unary_const Vconst constant) ty
   pub compare : (condition : IntCC) (a b : Name) (x y : ℕ) → NamesValue calls a x → NamesValue calls b y
       → AsksForShape calls f (request.compare (ledger_of calls) condition a b) (shape.int_compare condition x y) (value_at f x).ty
   pub concat : (a b : Name) (x y : ℕ) → NamesValue calls a x → NamesValue calls b y
       → AsksForShape calls f (request.concat (ledger_of calls) a b) (shape.concat x y) (value_at f x).ty
+  pub split : (a : Name) (x : ℕ) → NamesValue calls a x
+      → AsksForShape calls f (request.split (ledger_of calls) a) (shape.split x) (value_at f x).ty
   pub load : (flags : MemFlagsShape) (ty : «Type») (a : Name) (x : ℕ) (offset : ℤ) → NamesValue calls a x
       → AsksForShape calls f (request.load flags ty a offset) (shape.load flags x offset) ty
   pub store : (flags : MemFlagsShape) (a b : Name) (x y : ℕ) (offset : ℤ) → NamesValue calls a x → NamesValue calls b y

@@ -8,6 +8,7 @@ pub mod Growth
 pub mod StandsFor
 pub mod Built
 pub mod Calls
+pub mod Attempts
 pub mod Entries
 pub mod Laws
 pub mod LedgerLaws

@@ -5,8 +5,9 @@ ghost use Rattle.cranelift_frontend.specs.Growth.{Grows, HasRecordIn, RemembersI
 ghost use Rattle.cranelift_frontend.specs.Construction.{IsUse, IsSealing, IsSealingAll, SealsAtMost};
 ghost use Rattle.cranelift_frontend.specs.Calls.{IsCall, IsTold, answered};
 ghost use Rattle.cranelift_frontend.specs.Order.{IsUntouched};
-ghost use Rattle.cranelift_frontend.specs.Builder.{with_position, is_unreachable, is_free, is_declarable, HasCurrent, Uses, UsesIn};
-ghost use Rattle.clif_ssa.specs.Limits.{IsFull};
+ghost use Rattle.cranelift_frontend.specs.Builder.{with_position, is_unreachable, is_free, HasCurrent, Uses, UsesIn};
+ghost use Rattle.clif_types.specs.Types.{is_type};
+ghost use Rattle.clif_ssa.specs.Limits.{ConstructionIsFull};
 ghost use Rattle.clif_ssa.specs.Structure.{LooksOnce};
 ghost use Rattle.clif_ssa.specs.Constructs.{OnlyConstructs};
 ghost use Rattle.clif_records.specs.Tables.{is_yes, pending_of};
@@ -203,7 +204,7 @@ impl<'a> FunctionBuilder<'a> {
         ensures records { predecessors_of self.old.ctx.now.ssa block ≡ [] → SameRecords self.old.ctx.now.ssa self.new.ctx.now.ssa }
         ensures stay { RecordsStay self.old.ctx.now.ssa self.new.ctx.now.ssa }
         ensures variables { self.new.ctx.now.variables ≡ self.old.ctx.now.variables }
-        ensures full { result ≡ Err BuildError.Full → IsFull self.new.func.now }
+        ensures full { result ≡ Err BuildError.Full → ConstructionIsFull self.new.func.now }
         ensures constructs { OnlyConstructs self.old.func.now self.new.func.now }
         ensures told { (name : Name) → IsTold self.old self.new result
             (λ calls. NamesBlock calls name block)
@@ -234,7 +235,7 @@ impl<'a> FunctionBuilder<'a> {
         ensures is_sealing { OnOk result ((told : List ℕ) × IsSealingAll self.old.func.now self.old.ctx.now.ssa self.new.func.now self.new.ctx.now.ssa told × Begins self.old.ctx.now self.new.ctx.now told) }
         ensures stay { RecordsStay self.old.ctx.now.ssa self.new.ctx.now.ssa }
         ensures variables { self.new.ctx.now.variables ≡ self.old.ctx.now.variables }
-        ensures full { result ≡ Err BuildError.Full → IsFull self.new.func.now }
+        ensures full { result ≡ Err BuildError.Full → ConstructionIsFull self.new.func.now }
         ensures constructs { OnlyConstructs self.old.func.now self.new.func.now }
         ensures told { IsTold self.old self.new result
             (λ _. Unit {0})
@@ -259,9 +260,9 @@ impl<'a> FunctionBuilder<'a> {
     ///
     /// A variable is assigned by [`FunctionBuilder::def_var`] and read by [`FunctionBuilder::use_var`], in any
     /// block; the builder finds the values and block parameters that this takes in SSA form. A variable that is
-    /// read before it is assigned is zero. So far its type is an integer, F16, F32, F64 or a vector of these floats.
+    /// read before it is assigned is zero. Its type is any but `Invalid`.
     pub fn declare_var(&mut self, ty: Type) -> Result<Variable, BuildError>
-        requires { IsTrue (is_declarable ty) }
+        requires { IsTrue (is_type ty) }
         ensures call { IsCall self.old self.new result }
         ensures function { self.new.func.now ≡ self.old.func.now }
         ensures variables { OnOk result (self.new.ctx.now ≡ record self.old.ctx.now { variables = self.old.ctx.now.variables ++ ty ∷ [] }) }
@@ -346,7 +347,7 @@ impl<'a> FunctionBuilder<'a> {
         ensures is_use { (ty : «Type») → slice_get self.old.ctx.now.variables variable ≡ Some ty → IfSome self.old.position (λ block. IfOk result (λ value. (told : List ℕ) × IsUse (inserted_in self.old.func.now block) self.old.ctx.now.ssa self.new.func.now self.new.ctx.now.ssa variable ty block value told × Begins self.old.ctx.now self.new.ctx.now (block ∷ told))) }
         ensures status { (calls : List AnsweredCall) → AgreesWithLedger calls self.old → IfSome self.old.position (λ block. OnOk result (SetsStatus self.old.ctx.now self.new.ctx.now block (begun (status_of self.old.ctx.now block)))) }
         ensures variables { self.new.ctx.now.variables ≡ self.old.ctx.now.variables }
-        ensures full { result ≡ Err BuildError.Full → IsFull self.new.func.now }
+        ensures full { result ≡ Err BuildError.Full → ConstructionIsFull self.new.func.now }
         ensures constructs { IfSome self.old.position (λ block. result ≡ Err BuildError.Full →
             OnlyConstructs (inserted_in self.old.func.now block) self.new.func.now) }
         ensures told { IsTold self.old self.new result
@@ -414,7 +415,7 @@ fn use_variable(
     ensures exists { IfOk result (λ value. value < length func.new.values) }
     ensures looks_once { LooksOnce ctx.old.ssa → LooksOnce ctx.new.ssa }
     ensures variables { ctx.new.variables ≡ ctx.old.variables }
-    ensures full { result ≡ Err BuildError.Full → IsFull func.new }
+    ensures full { result ≡ Err BuildError.Full → ConstructionIsFull func.new }
     ensures constructs { result ≡ Err BuildError.Full →
         OnlyConstructs (inserted_in func.old block) func.new }
     ensures never_failed { result ≢ Err BuildError.Failed }

@@ -11,6 +11,8 @@ ghost use Rattle.clif_ssa.specs.Structure.{LooksOnce};
 ghost use Rattle.cranelift_frontend.specs.Builder.{HasCurrent, CanLead, CanLeadIn, AppendsIn};
 ghost use Rattle.cranelift_frontend.specs.Built.{Builds, BuildsPair, BuildsValue};
 ghost use Rattle.cranelift_frontend.specs.Construction.{IsDeclared};
+ghost use Rattle.cranelift_frontend.specs.Entries.{PoolsConstant};
+ghost use Rattle.std.proofs.lemmas.Option.{slice_get_within as pooled_below};
 
 use crate::builder::FunctionBuilder;
 use crate::context::{BlockStatus, FunctionBuilderContext};
@@ -18,7 +20,7 @@ use crate::frontend::begin_block;
 use clif_inst_builder::InstBuilderBase;
 use clif_instructions::inst_list::InsertAt;
 use clif_ir::{Function, InstructionData};
-use clif_types::{Block, BuildError, Inst, SourceLoc, Type, Value};
+use clif_types::{Block, BuildError, Constant, Inst, SourceLoc, Type, Value};
 use std::alloc::Global;
 
 /// What [`FunctionBuilder::ins`] lends: the builder itself, whose methods make instructions.
@@ -49,6 +51,8 @@ impl<'a> InstBuilderBase for FunctionBuilder<'a> {
 
     ghost type_of = { λ b value. (value_at b.func.now value).ty };
 
+    ghost pools = { PoolsConstant };
+
     ghost builds = { Builds };
 
     ghost builds_value = { BuildsValue };
@@ -71,12 +75,27 @@ impl<'a> InstBuilderBase for FunctionBuilder<'a> {
     ghost slots_stay = { λ old new shape ty value built slot here.
         lt_of_lt_of_le here built.grows.5 };
 
+    ghost pooled_exists = { λ old new bytes constant pooled.
+        pooled_below new.func.now.tables.constants constant bytes pooled.found };
+
+    ghost pooled_builds = { λ old new bytes constant pooled current. pooled.current current };
+
     fn value_type(&self, value: Value) -> Type {
         self.func.value_type(value)
     }
 
     fn allocator(&self) -> Global {
         self.ctx.allocator()
+    }
+
+    fn pool_constant(&mut self, bytes: &[u8]) -> Result<Constant, BuildError> {
+        if self.failed {
+            return Err(BuildError::Failed);
+        }
+        self.func.law_consistent();
+        let pooled = self.func.pool_constant(bytes);
+        self.failed = pooled.is_err();
+        pooled
     }
 
     fn build(&mut self, shape: InstructionData, ctrl_type: Type) -> Result<Inst, BuildError> {

@@ -1,6 +1,7 @@
 //! A proved port of cranelift-frontend 0.137.1.
 #![tactic(auto)]
 
+pub mod attempts;
 pub mod blocks;
 pub mod builder;
 pub mod context;
@@ -15,7 +16,7 @@ pub use builder::FunctionBuilder;
 pub use clif_inst_builder::{InstBuilder, InstBuilderBase};
 pub use clif_ir::{
     BinaryOpcode, BlockArg, BlockArgs, BlockCall, CondTrapOpcode, ConvertOpcode, FloatConstOpcode,
-    Function, InstructionData, UnaryOpcode, ValueDef, ValueList,
+    Function, InstructionData, JumpTableData, PooledConstOpcode, UnaryOpcode, ValueDef, ValueList,
 };
 pub use clif_ssa::Variable;
 pub use clif_types::{
@@ -27,7 +28,7 @@ pub use clif_types::{
     UserFuncName, UserStackMapEntry, Value, ValueLabel, types,
 };
 pub use context::FunctionBuilderContext;
-pub use error::FinalizeError;
+pub use error::{DefVariableError, FinalizeError, UseVariableError};
 pub use instructions::FuncInstBuilder;
 
 /// The version of the crate whose behaviour this one has.

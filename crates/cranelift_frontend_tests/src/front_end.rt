@@ -7,8 +7,8 @@ ghost use Rattle.cranelift_frontend.specs.Builder.{HasCurrent};
 use crate::generic::there_and_back;
 use clif_types::types::{I16, I32, I32X4, I64};
 use cranelift_frontend::{
-    BinaryOpcode, Block, BlockArg, ConvertOpcode, EntityRef, FunctionBuilder, InstBuilder,
-    InstBuilderBase, InstructionData, UnaryOpcode, Value, Variable,
+    BinaryOpcode, Block, BlockArg, ConvertOpcode, DefVariableError, EntityRef, FunctionBuilder,
+    InstBuilder, InstBuilderBase, InstructionData, UnaryOpcode, UseVariableError, Value, Variable,
 };
 use std::process::Abort;
 
@@ -186,6 +186,41 @@ pub fn read(rt: &impl Abort, builder: &mut FunctionBuilder<'_>, variable: Variab
 {
     asserts_current(rt, builder);
     builder.use_var(variable).expect(rt, "a value")
+}
+
+/// Tries to use a variable, which is refused where no value is wanted.
+pub fn try_use(
+    rt: &impl Abort,
+    builder: &mut FunctionBuilder<'_>,
+    variable: Variable,
+    wanted: Option<Value>,
+) {
+    asserts_current(rt, builder);
+    let answer = builder.try_use_var(variable).expect(rt, "an answer");
+    let error = UseVariableError::UsedBeforeDeclared(variable);
+    assert!(rt; answer == wanted.ok_or(error));
+}
+
+/// Tries to assign a value to a variable.
+pub fn try_define(
+    rt: &impl Abort,
+    builder: &mut FunctionBuilder<'_>,
+    variable: Variable,
+    value: Value,
+    wanted: Result<(), DefVariableError>,
+) {
+    asserts_current(rt, builder);
+    asserts_value(rt, builder, value);
+    let answer = builder.try_def_var(variable, value).expect(rt, "an answer");
+    assert!(rt; answer == wanted);
+}
+
+/// A constant of another type than that of the variables.
+pub fn narrow_constant(rt: &impl Abort, builder: &mut FunctionBuilder<'_>, imm: i64) -> Value
+    ensures { builder.new.ctx.now.variables ≡ builder.old.ctx.now.variables }
+{
+    asserts_current(rt, builder);
+    builder.ins().iconst(I16, imm).expect(rt, "a constant")
 }
 
 /// A constant.

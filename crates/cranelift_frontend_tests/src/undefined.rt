@@ -1,34 +1,18 @@
 //! Variables of several types that are read and never assigned: their zeros stand before the block's first instruction.
 #![tactic(auto)]
 
-ghost use Rattle.std.specs.Prelude.{◌≡◌, IsTrue};
-ghost use Rattle.cranelift_frontend.specs.Builder.{is_declarable};
-
 use crate::front_end;
 use crate::steps::{CONFIG, function};
-use clif_types::types::{F16, F32, F32X4, F64, F64X2, I8, I128};
-use cranelift_frontend::{
-    Block, EntityRef, FunctionBuilder, FunctionBuilderContext, LaneType, Type,
-};
+use clif_types::types::{F16, F32, F32X4, F64, F64X2, F128, I8, I8X16, I128};
+use cranelift_frontend::{Block, EntityRef, FunctionBuilder, FunctionBuilderContext, Type};
 use std::alloc::Global;
 use std::fmt::Write;
 use std::process::Abort;
 use std::test::Fail;
 
-// Whether a variable may have this type.
-fn is_declarable(ty: Type) -> bool
-    ensures { IsTrue result → IsTrue (is_declarable ty) }
-{
-    match ty {
-        Type::Lane(LaneType::F128) | Type::Invalid => false,
-        Type::Lane(_) => true,
-        Type::Vector(..) => ty == F32X4 || ty == F64X2,
-    }
-}
-
 // Reads a new variable of this type.
 fn read_new(rt: &impl Abort, builder: &mut FunctionBuilder<'_>, ty: Type) {
-    assert!(rt; is_declarable(ty));
+    assert!(rt; ty.is_valid());
     let variable = builder.declare_var(ty).expect(rt, "a variable");
     front_end::asserts_current(rt, builder);
     let value = builder.use_var(variable).expect(rt, "a value");
@@ -101,6 +85,27 @@ block0:
 fn before_the_seal(rt: HostRuntime) -> Result<(), Fail> {
     reads(&rt, rt.alloc(), &[I8, F32, F64, F16], &[], FLOATS)?;
     reads(&rt, rt.alloc(), &[I128, F32X4, F64X2], &[], IN_TWO_STEPS)
+}
+
+const POOLED: &str = "\
+function %undefined() -> i32 system_v {
+    const0 = 0x00000000000000000000000000000000
+
+block0:
+    v5 = f128const const0
+    v2 -> v5
+    v4 = vconst.i8x16 const0
+    v1 -> v4
+    v3 = vconst.i8x16 const0
+    v0 -> v3
+    return
+}
+";
+
+/// Zeros of constants: equal bytes are one constant.
+#[test]
+fn of_constants(rt: HostRuntime) -> Result<(), Fail> {
+    reads(&rt, rt.alloc(), &[I8X16, I8X16, F128], &[], POOLED)
 }
 
 const AT_ONCE: &str = "\

@@ -7,25 +7,24 @@ use Rattle.clif_meaning.specs.Ledger.{AVariable}
 use Rattle.cranelift_frontend.specs.Ledger.{ledger_of}
 use Rattle.cranelift_frontend.specs.Context.{ContextState}
 use Rattle.clif_replay.proofs.ReadyLaws.{read, ready-more}
-use Rattle.clif_replay.proofs.Conditions
 use Rattle.clif_replay.proofs.make.declare_var.Goals as goal
 
-pub returns-then-not-is_declarable : goal.returns-then-not-is_declarable
-returns-then-not-is_declarable c = made-misuse c.args.builder.now c.args.answers.now (λ declared calls ready. Conditions.declare-same c.args.ty ∙ sym c.is_declarable.ensures ∙ c.if-not-is_declarable.true)
+pub returns-then-not-is_valid : goal.returns-then-not-is_valid
+returns-then-not-is_valid c = made-misuse c.args.builder.now c.args.answers.now (λ declared calls ready. sym c.is_valid.ensures ∙ c.if-not-is_valid.true)
 
 pub returns-in_err-variable : goal.returns-in_err-variable
 returns-in_err-variable c =
     let done = c.declare_var.ensures in
     let p = err_from_is_err_and c.from_residual.result c.from_residual.ensures.1 in
     made-refused c.args.builder.now c.declare_var.new.self c.args.answers.now c.declare_var.result c.in_err-variable.field-0.0 p.0 c.from_residual.result c.in_err-variable.was p.1 p.2 done.call.loans c.requires.sound done.call.failed
-    (λ declared calls ready. Conditions.declare-same c.args.ty ∙ sym c.is_declarable.ensures ∙ c.if-not-is_declarable.false) done.full
+    (λ declared calls ready. sym c.is_valid.ensures ∙ c.if-not-is_valid.false) done.full
 
 pub returns : goal.returns
 returns c =
     let done = c.in_ok-variable.ensures in
     made-answer c.args.builder.now c.declare_var.new.self c.args.answers.now (answer.Variable c.in_ok-variable.variable) c.declare_var.ensures.call.loans done.grows.3
     (answered-sound _ c.declare_var.result _ c.declare_var.ensures.call.fails c.in_ok-variable.was) (ap (λ (x : ContextState). x.variables) done.variables)
-    (λ declared calls ready. Conditions.declare-same c.args.ty ∙ sym c.is_declarable.ensures ∙ c.if-not-is_declarable.false)
+    (λ declared calls ready. sym c.is_valid.ensures ∙ c.if-not-is_valid.false)
     (λ declared calls ready.
     let number : length (ledger_of calls).variables ≡ c.in_ok-variable.variable = (read calls c.args.builder.now c.args.answers.now ready).variable_count ∙ sym done.number in
     (c.in_ok-variable.variable ∷ [], ready-more calls _ c.args.builder.now c.declare_var.new.self _ (answer.Variable c.in_ok-variable.variable) ready (done.told.stands declared calls ready.stands tt) (ap (λ (n : ℕ). AVariable n ∷ []) number, refl)))

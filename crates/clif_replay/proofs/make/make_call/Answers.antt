@@ -1,11 +1,13 @@
-use Rattle.std.proofs.Common.{List, sym, subst}
-use Rattle.std.specs.Prelude.{map}
+use Rattle.std.proofs.Common.{ℕ, List, sym, subst}
+use Rattle.std.specs.Prelude.{false, map}
+use Rattle.clif_types.specs.declared.types.«Type».TheVariants.{Invalid}
+use Rattle.clif_opcodes.specs.declared.opcodes.PooledConstOpcode.TheVariants.{F128const, Vconst}
 use Rattle.clif_ssa.specs.Limits.{IsFull}
 use Rattle.clif_meaning.specs.Acceptance.{return_}
 use Rattle.clif_calls.specs.declared.call.Name.{Name}
 use Rattle.clif_calls.specs.declared.plan.Plan.{Plan}
 use Rattle.clif_calls.specs.declared.call.Call.{Call}
-use Rattle.clif_replay.specs.Makes.{Makes, MakesCall, MakesPlan}
+use Rattle.clif_replay.specs.Makes.{Makes, MakesCall, MakesConstant, MakesPlan}
 use Rattle.clif_replay.specs.Requests.{name_of}
 use Rattle.clif_replay.proofs.make.make_call.Goals as goal
 
@@ -51,11 +53,30 @@ returns-in-DefVar c = subst (λ (x : Call). MakesCall x c.args.builder.now c.def
 pub returns-in-UseVar : goal.returns-in-UseVar
 returns-in-UseVar c = subst (λ (x : Call). MakesCall x c.args.builder.now c.use_var.new.builder c.args.answers.now c.use_var.result) (sym c.in-UseVar.is) c.use_var.ensures
 
+pub returns-in-TryDefVar : goal.returns-in-TryDefVar
+returns-in-TryDefVar c = subst (λ (x : Call). MakesCall x c.args.builder.now c.try_def_var.new.builder c.args.answers.now c.try_def_var.result) (sym c.in-TryDefVar.is) c.try_def_var.ensures
+
+pub returns-in-TryUseVar : goal.returns-in-TryUseVar
+returns-in-TryUseVar c = subst (λ (x : Call). MakesCall x c.args.builder.now c.try_use_var.new.builder c.args.answers.now c.try_use_var.result) (sym c.in-TryUseVar.is) c.try_use_var.ensures
+
 pub returns-in-Plain : goal.returns-in-Plain
 returns-in-Plain c =
     let new = c.make_instruction.new.builder in
     subst (λ (x : Call). MakesCall x c.args.builder.now new c.args.answers.now c.make_instruction.result) (sym c.in-Plain.is)
     (subst (λ (p : Plan). MakesPlan p c.args.builder.now new c.args.answers.now c.make_instruction.result) c.plan.ensures c.make_instruction.ensures)
+
+pub returns-in-F128const : goal.returns-in-F128const
+returns-in-F128const c =
+    let new = c.make_constant.new.builder in
+    subst (λ (x : Call). MakesCall x c.args.builder.now new c.args.answers.now c.make_constant.result) (sym c.in-F128const.is)
+    (subst (λ (bytes : List ℕ). MakesConstant F128const Invalid bytes c.args.builder.now new c.args.answers.now c.make_constant.result) c.as_slice.ensures.value c.make_constant.ensures)
+
+pub returns-in-Vconst : goal.returns-in-Vconst
+returns-in-Vconst c =
+    let new = c.make_constant-in-Vconst.new.builder in
+    subst (λ (x : Call). MakesCall x c.args.builder.now new c.args.answers.now c.make_constant-in-Vconst.result) (sym c.in-Vconst.is)
+    (subst (λ (bytes : List ℕ). MakesConstant Vconst c.in-Vconst.ty bytes c.args.builder.now new c.args.answers.now c.make_constant-in-Vconst.result) c.as_slice-in-Vconst.ensures.value
+    c.make_constant-in-Vconst.ensures)
 
 pub returns-in-Jump : goal.returns-in-Jump
 returns-in-Jump c = subst (λ (x : Call). MakesCall x c.args.builder.now c.make_instruction-in-Jump.new.builder c.args.answers.now c.make_instruction-in-Jump.result) (sym c.in-Jump.is) c.make_instruction-in-Jump.ensures
@@ -67,7 +88,7 @@ pub returns-in-Return : goal.returns-in-Return
 returns-in-Return c =
     let new = c.make_instruction-in-Return.new.builder in
     subst (λ (x : Call). MakesCall x c.args.builder.now new c.args.answers.now c.make_instruction-in-Return.result) (sym c.in-Return.is)
-    (subst (λ (names : List Name). Makes (λ declared ledger. return_ (map name_of names)) (IsFull c.args.builder.now.func.now) c.args.builder.now.ctx.now.variables c.args.builder.now new c.args.answers.now c.make_instruction-in-Return.result)
+    (subst (λ (names : List Name). Makes (λ declared ledger. return_ (map name_of names)) false (IsFull c.args.builder.now.func.now) c.args.builder.now.ctx.now.variables c.args.builder.now new c.args.answers.now c.make_instruction-in-Return.result)
     c.as_slice-args.ensures.value c.make_instruction-in-Return.ensures)
 
 pub returns-in-Trap : goal.returns-in-Trap

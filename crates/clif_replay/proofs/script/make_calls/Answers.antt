@@ -9,11 +9,11 @@ use Rattle.std.specs.Prelude.{ℕ, Bool, true, length, Err, Result, Some}
 use Rattle.clif_replay.specs.declared.script.CallError.{CallError}
 use Rattle.clif_replay.specs.declared.script.CallError.TheVariants as error
 use Rattle.clif_replay.specs.declared.script.ReplayError.{ReplayError}
-use Rattle.clif_replay.specs.declared.script.ReplayError.TheVariants.{Full, Misuse}
+use Rattle.clif_replay.specs.declared.script.ReplayError.TheVariants.{Full, Misuse, Refused}
 use Rattle.std.proofs.lemmas.Option.{slice_get-get_or}
-use Rattle.clif_replay.proofs.Replays.{last-place, loans-then, made-all, made-memory, misuse-place, no-refusal-told}
+use Rattle.clif_replay.proofs.Replays.{last-place, loans-then, made-all, made-memory, misuse-place, refused-there}
 use Rattle.std.proofs.lemmas.Result.{err_from_is_err_and}
-use Rattle.clif_replay.proofs.Verdicts.{full-told, replayed-more, misuse-told}
+use Rattle.clif_replay.proofs.Verdicts.{full-told, misuse-told, refusal-at, refusal-told, replayed-more}
 use Rattle.clif_replay.proofs.script.make_calls.Goals as goal
 
 pub loop-place-preserved : goal.loop-place-preserved
@@ -50,9 +50,12 @@ returns-in-Err-clause-judged c = λ i told.
 same-full : (e : ReplayError) → ◌≡◌ {A = Result (Unit {0}) ReplayError} (Err e) (Err Full) → e ≡ Full
 same-full e h = cc
 
+same-refusal : (e : ReplayError) (k : ℕ) → ◌≡◌ {A = Result (Unit {0}) ReplayError} (Err e) (Err (Refused k)) → e ≡ Refused k
+same-refusal e k h = cc
+
 -- a call that finds a table full is allowed
-allowed-full : (e : CallError) → e ≡ error.Full → (allowed : Bool) → IsJudged allowed (Err e) → allowed ≡ true
-allowed-full e is allowed judged = subst (λ (told : CallError). IsJudged allowed (Err told)) is judged
+allowed-full : (e : CallError) → e ≡ error.Full → (allowed refused : Bool) → IsJudged allowed refused (Err e) → allowed ≡ true
+allowed-full e is allowed refused judged = subst (λ (told : CallError). IsJudged allowed refused (Err told)) is judged
 
 pub returns-in-Err-clause-table_full : goal.returns-in-Err-clause-table_full
 returns-in-Err-clause-table_full c = λ told.
@@ -73,7 +76,7 @@ returns-in-Err-clause-table_full c = λ told.
       position = builder.position;
       stands = invariant.made.1.stands;
       named = invariant.name;
-      allowed = allowed-full c.in-Err.error is_full _ judged;
+      allowed = allowed-full c.in-Err.error is_full _ _ judged;
       meets = c.in-Err.ensures.full (ap Err is_full);
     }
 
@@ -82,14 +85,14 @@ returns-in_err-push-in-Ok c =
     let p = err_from_is_err_and c.from_residual.result c.from_residual.ensures.1 in
     let made = made-memory c.args.calls.now c.args.builder.now c.make_call.new.builder c.from_residual.result (p.1 ∙ ap Err p.2)
     (loans-then c.args.builder.now c.loop-place.builder c.make_call.new.builder c.loop-place.invariant.loans c.in-Ok.ensures.loans) in
-    record { loans = made.loans; name = made.name; ready = made.ready; sound = made.sound; misuse = made.misuse; judged = made.judged; never_refused = made.never_refused; table_full = made.table_full }
+    record { loans = made.loans; name = made.name; ready = made.ready; sound = made.sound; misuse = made.misuse; judged = made.judged; tried = made.tried; refused = made.refused; table_full = made.table_full }
 
 pub returns-in_err-push : goal.returns-in_err-push
 returns-in_err-push c =
     let p = err_from_is_err_and c.from_residual-in_err-push.result c.from_residual-in_err-push.ensures.1 in
     let made = made-memory c.args.calls.now c.args.builder.now c.make_call.new.builder c.from_residual-in_err-push.result (p.1 ∙ ap Err p.2)
     (loans-then c.args.builder.now c.loop-place.builder c.make_call.new.builder c.loop-place.invariant.loans c.in-Ok.ensures.loans) in
-    record { loans = made.loans; name = made.name; ready = made.ready; sound = made.sound; misuse = made.misuse; judged = made.judged; never_refused = made.never_refused; table_full = made.table_full }
+    record { loans = made.loans; name = made.name; ready = made.ready; sound = made.sound; misuse = made.misuse; judged = made.judged; tried = made.tried; refused = made.refused; table_full = made.table_full }
 
 pub returns : goal.returns
 returns c =
@@ -97,7 +100,7 @@ returns c =
     let ended = last-place c.loop-place.place (length c.args.calls.now) c.loop-place.auto.place-end c.loop-place-test.false in
     let replayed = subst (λ (place : ℕ). IsReplayed c.args.builder.now.func.now.signature c.args.calls.now place invariant.made.0) ended invariant.made.2 in
     let made = made-all c.args.calls.now c.args.builder.now c.loop-place.builder invariant.made.0 invariant.loans invariant.name invariant.made.1.stands replayed invariant.sound in
-    record { loans = made.loans; name = made.name; ready = made.ready; sound = made.sound; misuse = made.misuse; judged = made.judged; never_refused = made.never_refused; table_full = made.table_full }
+    record { loans = made.loans; name = made.name; ready = made.ready; sound = made.sound; misuse = made.misuse; judged = made.judged; tried = made.tried; refused = made.refused; table_full = made.table_full }
 
 pub returns-in-Err-clause-loans : goal.returns-in-Err-clause-loans
 returns-in-Err-clause-loans c = loans-then c.args.builder.now c.loop-place.builder c.make_call.new.builder c.loop-place.invariant.loans c.in-Err.ensures.loans
@@ -114,5 +117,17 @@ returns-in-Err-clause-sound c = tt
 pub returns-in-Err-clause-misuse : goal.returns-in-Err-clause-misuse
 returns-in-Err-clause-misuse c = λ i told. subst (λ (k : ℕ). k < length c.args.calls.now) (sym (misuse-place c.in-Err.error c.loop-place.place i c.at.result c.at.ensures told)) c.loop-place-test.true
 
-pub returns-in-Err-clause-never_refused : goal.returns-in-Err-clause-never_refused
-returns-in-Err-clause-never_refused c = λ i. no-refusal-told c.in-Err.error c.loop-place.place i c.at.result c.at.ensures c.in-Err.ensures.never_refused
+pub returns-in-Err-clause-tried : goal.returns-in-Err-clause-tried
+returns-in-Err-clause-tried c = λ i told.
+    let call = c.index-calls-place.result in
+    let refusal = refusal-at c.in-Err.error c.loop-place.place i c.at.result c.at.ensures (same-refusal c.at.result i told) in
+    refused-there c.args.calls.now c.loop-place.place i call (slice_get-get_or c.args.calls.now c.loop-place.place call c.loop-place-test.true ∙ ap Some (sym c.index-calls-place.is))
+    (c.in-Err.ensures.refused (ap Err refusal.0)) refusal.1
+
+pub returns-in-Err-clause-refused : goal.returns-in-Err-clause-refused
+returns-in-Err-clause-refused c = λ i told.
+    let made = c.loop-place.invariant.made.0 in
+    let declared = c.args.builder.now.func.now.signature in
+    let ready = subst (λ (xs : List Answer). IsReady declared made c.loop-place.builder xs) (sym c.as_slice.ensures.value) c.loop-place.invariant.made.1 in
+    refusal-told declared c.args.calls.now c.loop-place.place i c.index-calls-place.result made c.in-Err.error c.at.result c.loop-place-test.true c.index-calls-place.is c.loop-place.invariant.made.2
+    (c.in-Err.ensures.judged declared made ready) c.at.ensures (same-refusal c.at.result i told)

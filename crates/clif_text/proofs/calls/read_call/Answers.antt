@@ -22,6 +22,18 @@ returns-in_ok-value-in-def_var c =
     let stands = subst (λ scope. IsAnswer (names_of scope.now) two.0 c.in_ok-value-in-def_var.field-0) c.in_ok-variable-in-def_var.ensures.scope two.2 in
     (one.0 ∷ two.0 ∷ [], one.1 ∙ ap (λ rest. one.0 ∷ rest) two.1, (one.0, two.0, ap (λ (head : List ℕ). head ∷ one.0 ∷ two.0 ∷ []) c.in-def_var.is, one.2, stands))
 
+pub returns-in_ok-variable-in-try_use_var : goal.returns-in_ok-variable-in-try_use_var
+returns-in_ok-variable-in-try_use_var c =
+    let one = c.in_ok-variable-in-try_use_var.ensures.ok in
+    (one.0 ∷ [], one.1, (one.0, ap (λ (head : List ℕ). head ∷ one.0 ∷ []) c.in-try_use_var.is, one.2))
+
+pub returns-in_ok-value-in-try_def_var : goal.returns-in_ok-value-in-try_def_var
+returns-in_ok-value-in-try_def_var c =
+    let one = c.in_ok-variable-in-try_def_var.ensures.ok in
+    let two = c.in_ok-value-in-try_def_var.ensures.ok in
+    let stands = subst (λ scope. IsAnswer (names_of scope.now) two.0 c.in_ok-value-in-try_def_var.field-0) c.in_ok-variable-in-try_def_var.ensures.scope two.2 in
+    (one.0 ∷ two.0 ∷ [], one.1 ∙ ap (λ rest. one.0 ∷ rest) two.1, (one.0, two.0, ap (λ (head : List ℕ). head ∷ one.0 ∷ two.0 ∷ []) c.in-try_def_var.is, one.2, stands))
+
 pub returns-in_ok-last_edge-in-brif : goal.returns-in_ok-last_edge-in-brif
 returns-in_ok-last_edge-in-brif c =
     let condition = c.in_ok-value-in-brif.ensures.ok in

@@ -1,6 +1,6 @@
 use Rattle.std.proofs.Common.{refl}
 use Rattle.clif_inst_builder.specs.Shapes.{edge_to}
-use Rattle.cranelift_frontend.proofs.LedgerShaped.{binary-shape, brif-shape, compare-shape, concat-shape, cond_trap-shape, convert-shape, float-shape, iconst-shape, jump-shape, load-shape, return-shape, select-shape, stack-shape, stack_store-shape, store-shape, trap-shape, unary-shape}
+use Rattle.cranelift_frontend.proofs.LedgerShaped.{binary-shape, brif-shape, compare-shape, concat-shape, cond_trap-shape, convert-shape, f128const-shape, float-shape, iconst-shape, jump-shape, load-shape, return-shape, select-shape, split-shape, stack-shape, stack_store-shape, store-shape, trap-shape, unary-shape, vconst-shape}
 use Rattle.cranelift_frontend.proofs.laws.requests_ask_for_their_shapes.Goals as goal
 
 pub returns : goal.returns
@@ -11,8 +11,11 @@ returns c = λ calls f d p agrees. record {
   convert = λ opcode ty a x names. (_, refl, convert-shape calls f opcode ty a x names);
   select = λ condition a b c x y tested first second. (_, refl, select-shape calls f d p agrees condition a b c x y tested first second);
   float_const = λ opcode bits. (_, refl, float-shape calls f opcode bits);
+  f128const = λ bytes constant found. (_, refl, f128const-shape calls f bytes constant found);
+  vconst = λ ty bytes constant found. (_, refl, vconst-shape calls f ty bytes constant found);
   compare = λ condition a b x y first second. (_, refl, compare-shape calls f d p agrees condition a b x y first second);
   concat = λ a b x y first second. (_, refl, concat-shape calls f d p agrees a b x y first second);
+  split = λ a x names. (_, refl, split-shape calls f d p agrees a x names);
   load = λ flags ty a x offset names. (_, refl, load-shape calls f flags ty a x offset names);
   store = λ flags a b x y offset first second. (_, refl, store-shape calls f d p agrees flags a b x y offset first second);
   stack = λ opcode ty slot offset. (_, refl, stack-shape calls f opcode ty slot offset);

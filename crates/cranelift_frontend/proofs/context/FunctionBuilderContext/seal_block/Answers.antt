@@ -34,3 +34,7 @@ pub returns-clause-stay : goal.returns-clause-stay
 returns-clause-stay c =
     subst (λ (v : ContextState). RecordsStay v.ssa c.begin_all.new.self.ssa) c.self.view_is
     (subst (RecordsStay c.self.inside.ssa) (sym c.begin_all.ensures.ssa) c.seal_block.ensures.stay)
+
+pub returns-in_err-side_effects-clause-stay : goal.returns-in_err-side_effects-clause-stay
+returns-in_err-side_effects-clause-stay c =
+    subst (λ (v : ContextState). RecordsStay v.ssa c.seal_block.new.self) c.self.view_is c.seal_block.ensures.stay

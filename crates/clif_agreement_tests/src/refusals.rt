@@ -1,0 +1,221 @@
+//! Runs that can't go on: what is told of a script that the theorem doesn't cover, and of a function that is wrong.
+#![tactic(auto)]
+
+use crate::support::{STEPS, built, script_of, zeros};
+use clif_interpreter::{End, Ending, RunError, World, function, script};
+use cranelift_frontend::FunctionBuilderContext;
+use std::alloc::Global;
+use std::process::Abort;
+use std::test::Fail;
+
+// What is told of a run, or that it ended.
+fn told(alloc: Global, run: Result<Ending, RunError>) -> Result<String, Fail> {
+    match run {
+        Ok(ending) => match ending.end {
+            End::OutOfSteps => Ok(format!(in alloc; "no end")?),
+            End::Stuck => Ok(format!(in alloc; "stuck")?),
+            End::Returned(_) | End::Trapped(_) => Ok(format!(in alloc; "ended")?),
+        },
+        Err(error) => Ok(format!(in alloc; "{error}")?),
+    }
+}
+
+// So it is told of the run of a script of these lines with one argument.
+fn script_tells(
+    rt: &impl Abort,
+    alloc: Global,
+    lines: &str,
+    arguments: &[u128],
+    expected: &str,
+) -> Result<(), Fail> {
+    let text = format!(in alloc; "function %refused (i8) -> i8 system_v\n{lines}\n")?;
+    let text = script_of(alloc, text.as_str())?;
+    let world = World {
+        arguments,
+        memory: &zeros(alloc)?,
+        pointer_width: text.config.pointer_width,
+        slots: 4096,
+    };
+    let run = script::run(alloc, text.calls.as_slice(), &text.signature, &world, STEPS);
+    assert!(rt; told(alloc, run)?.as_str() == expected);
+    Ok(())
+}
+
+// So it is told of the run of the function of these lines.
+fn function_tells(
+    rt: &impl Abort,
+    alloc: Global,
+    lines: &str,
+    arguments: &[u128],
+    expected: &str,
+) -> Result<(), Fail> {
+    let text = format!(in alloc; "function %refused (i8) -> i8 system_v\n{lines}\n")?;
+    let text = script_of(alloc, text.as_str())?;
+    let mut ctx = FunctionBuilderContext::new(alloc);
+    let func = built(alloc, &text, &mut ctx)?;
+    let world = World {
+        arguments,
+        memory: &zeros(alloc)?,
+        pointer_width: text.config.pointer_width,
+        slots: 4096,
+    };
+    let run = function::run(alloc, &func, &world, STEPS);
+    assert!(rt; told(alloc, run)?.as_str() == expected);
+    Ok(())
+}
+
+/// A block with the argument `n`, in calls 0 to 3.
+const HEAD: &str =
+    "b = create_block\nn = append_block_param b i8\nswitch_to_block b\nseal_block b\n";
+
+/// What is told of scripts that begin so, and of their functions. Lines are calls from 4 on.
+const WRONG: [(&str, &str, &str); 9] = [
+    (
+        "x = iconst.i16 1\ny = iadd n x\nreturn n",
+        "iadd isn't defined at such types at call 5",
+        "iadd isn't defined at such types at inst1",
+    ),
+    (
+        "x = iconst.i16 1\nreturn x",
+        "the returned values don't fit the signature at call 5",
+        "the returned values don't fit the signature at inst1",
+    ),
+    (
+        "return n n",
+        "the returned values don't fit the signature at call 4",
+        "the returned values don't fit the signature at inst0",
+    ),
+    (
+        "x = declare_var f64x4\nu = use_var x\nreturn n",
+        "a value of type f64x4 has more than 128 bits at call 5",
+        "a value of type f64x4 has more than 128 bits at inst1",
+    ),
+    (
+        "s = create_sized_stack_slot 33 0\nreturn n",
+        "the stack slots don't fit into memory",
+        "the stack slots don't fit into memory",
+    ),
+    (
+        "p = iconst.i64 4097\nx = load.i16 aligned p\nreturn n",
+        "the address isn't aligned, as the flag aligned claims at call 5",
+        "the address isn't aligned, as the flag aligned claims at inst1",
+    ),
+    (
+        "p = iconst.i64 0\nstore notrap n p\nreturn n",
+        "a byte isn't accessible, as the flag notrap claims at call 5",
+        "a byte isn't accessible, as the flag notrap claims at inst1",
+    ),
+    (
+        "c = create_block\njump c",
+        "a branch leads to a block without a terminator at call 5",
+        "stuck",
+    ),
+    (
+        "c = create_block\nm = append_block_param c i16\njump c n\nswitch_to_block c\nseal_block c\nreturn n",
+        "the arguments of an edge don't fit its target's parameters at call 6",
+        "the arguments of an edge don't fit its target's parameters at inst0",
+    ),
+];
+
+/// Wrong types, claims and targets, on both interpreters.
+#[test]
+fn wrong(rt: HostRuntime) -> Result<(), Fail> {
+    let alloc = rt.alloc();
+    for (lines, of_script, of_function) in WRONG.iter() {
+        let lines = format!(in alloc; "{HEAD}{lines}")?;
+        script_tells(&rt, alloc, lines.as_str(), &[7], of_script)?;
+        function_tells(&rt, alloc, lines.as_str(), &[7], of_function)?;
+    }
+    Ok(())
+}
+
+/// A value that is given on one arm alone, and named behind both.
+const ONE_ARM: &str = "\
+b = create_block
+c = create_block
+d = create_block
+n = append_block_param b i8
+switch_to_block b
+seal_block b
+brif n c d
+switch_to_block c
+seal_block c
+x = iconst.i8 5
+jump d
+switch_to_block d
+seal_block d
+return x
+";
+
+/// It is told on the run along the other arm.
+#[test]
+fn given_on_one_arm(rt: HostRuntime) -> Result<(), Fail> {
+    let alloc = rt.alloc();
+    script_tells(&rt, alloc, ONE_ARM, &[1], "ended")?;
+    function_tells(&rt, alloc, ONE_ARM, &[1], "ended")?;
+    let of_script = "$9.1 is used before it is given at call 13";
+    script_tells(&rt, alloc, ONE_ARM, &[0], of_script)?;
+    let of_function = "v1 is used before it is given at inst3";
+    function_tells(&rt, alloc, ONE_ARM, &[0], of_function)
+}
+
+/// Scripts that no builder takes, or that the theorem doesn't cover though their functions run.
+const SCRIPTS: [(&str, &str); 8] = [
+    ("return $9.9", "$9.9 leads to no value at call 4"),
+    ("return b", "$0.0 leads to no value at call 4"),
+    ("return $1.1", "$1.1 leads to no value at call 4"),
+    ("jump n", "a branch leads to no block at call 4"),
+    (
+        "u = use_var var0\nreturn u",
+        "var0 leads to no value at call 4",
+    ),
+    (
+        "x = declare_var i16\ndef_var x n\nreturn n",
+        "a value of another type is assigned to var0 at call 5",
+    ),
+    (
+        "c = create_block\nreturn n\nswitch_to_block c\njump b n",
+        "a branch leads to the entry block at call 7",
+    ),
+    ("ensure_inserted_block", "stuck"),
+];
+
+/// Names that lead nowhere, and other calls that no builder takes.
+#[test]
+fn scripts(rt: HostRuntime) -> Result<(), Fail> {
+    let alloc = rt.alloc();
+    for (lines, expected) in SCRIPTS.iter() {
+        let lines = format!(in alloc; "{HEAD}{lines}")?;
+        script_tells(&rt, alloc, lines.as_str(), &[7], expected)?;
+    }
+    let no_params = "b = create_block\nswitch_to_block b\nx = iconst.i8 1\nreturn x";
+    let expected = "the entry block's parameters aren't the signature's";
+    script_tells(&rt, alloc, no_params, &[7], expected)
+}
+
+/// Arguments that are too many, too few or too great.
+#[test]
+fn arguments(rt: HostRuntime) -> Result<(), Fail> {
+    let alloc = rt.alloc();
+    let lines = format!(in alloc; "{HEAD}return n")?;
+    let lines = lines.as_str();
+    let expected = "the arguments don't fit the entry block's parameters";
+    let rows: [&[u128]; 3] = [&[], &[1, 2], &[256]];
+    for arguments in rows {
+        script_tells(&rt, alloc, lines, arguments, expected)?;
+        function_tells(&rt, alloc, lines, arguments, expected)?;
+    }
+    script_tells(&rt, alloc, lines, &[255], "ended")?;
+    function_tells(&rt, alloc, lines, &[255], "ended")
+}
+
+/// A loop without an end.
+#[test]
+fn no_end(rt: HostRuntime) -> Result<(), Fail> {
+    let alloc = rt.alloc();
+    let lines = format!(in alloc;
+        "{HEAD}c = create_block\njump c\nswitch_to_block c\njump c\nseal_block c"
+    )?;
+    script_tells(&rt, alloc, lines.as_str(), &[7], "no end")?;
+    function_tells(&rt, alloc, lines.as_str(), &[7], "no end")
+}

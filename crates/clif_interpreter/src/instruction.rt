@@ -1,0 +1,171 @@
+//! The instructions of scripts, by their parts.
+use crate::arithmetic::bits_of_bytes;
+use crate::operation::Operation;
+use clif_calls::{Call, Edge, Name, Plan};
+use clif_opcodes::PooledConstOpcode;
+use clif_types::Type;
+use std::slice;
+
+/// An instruction of a script: what it does, the type that is given with it, and its operands.
+#[derive(Drop)]
+pub struct Instruction<'p> {
+    /// What it does.
+    pub operation: Operation,
+    /// The type that is given with it; the invalid one if none is.
+    pub given: Type,
+    /// Its operands.
+    pub operands: &'p [Name],
+}
+
+/// An instruction by its format: a row for each.
+pub fn instruction_of<'p>(plan: &'p Plan<'_>) -> Instruction<'p> {
+    let none: &'p [Name] = &[];
+    let (operation, given, operands): (Operation, Type, &'p [Name]) = match plan {
+        Plan::UnaryImm { ty, imm } => (Operation::Iconst(*imm), *ty, none),
+        Plan::UnaryIeee { opcode, bits } => {
+            (Operation::FloatConst(*opcode, *bits), Type::Invalid, none)
+        }
+        Plan::Unary { opcode, arg } => {
+            (
+                Operation::Unary(*opcode),
+                Type::Invalid,
+                slice::from_ref(arg),
+            )
+        }
+        Plan::Binary { opcode, args } => (Operation::Binary(*opcode), Type::Invalid, args),
+        Plan::Convert { opcode, ty, arg } => {
+            (Operation::Convert(*opcode), *ty, slice::from_ref(arg))
+        }
+        Plan::Concat { args } => (Operation::Concat, Type::Invalid, args),
+        Plan::Split { arg } => (Operation::Split, Type::Invalid, slice::from_ref(arg)),
+        Plan::IntCompare { cond, args } => (Operation::Compare(*cond), Type::Invalid, args),
+        Plan::Ternary { args } => (Operation::Select, Type::Invalid, args),
+        Plan::Load {
+            flags,
+            ty,
+            arg,
+            offset,
+        } => {
+            let (flags, offset) = (*flags, *offset);
+            (Operation::Load { flags, offset }, *ty, slice::from_ref(arg))
+        }
+        Plan::Store {
+            flags,
+            args,
+            offset,
+        } => {
+            let (flags, offset) = (*flags, *offset);
+            (Operation::Store { flags, offset }, Type::Invalid, args)
+        }
+        Plan::StackLoad {
+            opcode,
+            ty,
+            slot,
+            offset,
+        } => {
+            let (opcode, slot, offset) = (*opcode, *slot, *offset);
+            (
+                Operation::Stack {
+                    opcode,
+                    slot,
+                    offset,
+                },
+                *ty,
+                none,
+            )
+        }
+        Plan::StackStore { arg, slot, offset } => {
+            let (slot, offset) = (*slot, *offset);
+            (
+                Operation::StackStore { slot, offset },
+                Type::Invalid,
+                slice::from_ref(arg),
+            )
+        }
+        Plan::Trap { code } => (Operation::Trap(*code), Type::Invalid, none),
+        Plan::CondTrap { opcode, arg, code } => (
+            Operation::CondTrap(*opcode, *code),
+            Type::Invalid,
+            slice::from_ref(arg),
+        ),
+        Plan::Jump { .. } => (Operation::Jump, Type::Invalid, none),
+        Plan::Brif { condition, .. } => {
+            (Operation::Brif, Type::Invalid, slice::from_ref(condition))
+        }
+        Plan::MultiAry { args } => (Operation::Return, Type::Invalid, args),
+    };
+    Instruction {
+        operation,
+        given,
+        operands,
+    }
+}
+
+/// The instruction that a call makes, by its format.
+pub fn plan_of(call: &Call) -> Option<Plan<'_>> {
+    match call {
+        Call::Plain(instruction) => Some(instruction.plan()),
+        Call::Jump { destination } => Some(Plan::Jump { destination }),
+        Call::Brif {
+            condition,
+            block_then,
+            block_else,
+        } => {
+            let condition = *condition;
+            Some(Plan::Brif {
+                condition,
+                block_then,
+                block_else,
+            })
+        }
+        Call::Return { values } => {
+            let args = values.as_slice();
+            Some(Plan::MultiAry { args })
+        }
+        Call::Trap { code } => Some(Plan::Trap { code: *code }),
+        _ => None,
+    }
+}
+
+/// The pooled constant that a call makes, as an instruction.
+pub fn constant_of<'c>(call: &'c Call) -> Option<Instruction<'c>> {
+    let operands: &'c [Name] = &[];
+    let (opcode, given, bytes) = match call {
+        Call::F128const { bytes } => (PooledConstOpcode::F128const, Type::Invalid, bytes),
+        Call::Vconst { ty, bytes } => (PooledConstOpcode::Vconst, *ty, bytes),
+        _ => return None,
+    };
+    Some(Instruction {
+        operation: Operation::PooledConst(opcode, bits_of_bytes(bytes.as_slice())),
+        given,
+        operands,
+    })
+}
+
+/// How many results the instruction of a call has, if it makes one.
+pub fn result_count(call: &Call) -> usize {
+    let Some(plan) = plan_of(call) else {
+        return 0;
+    };
+    let operation = instruction_of(&plan).operation;
+    operation.opcode().typing().results.len()
+}
+
+/// How many edges an instruction has.
+pub fn edge_count(plan: &Plan<'_>) -> usize {
+    match plan {
+        Plan::Jump { .. } => 1,
+        Plan::Brif { .. } => 2,
+        _ => 0,
+    }
+}
+
+/// The edge of an instruction with this number.
+pub fn edge_of<'a>(plan: &Plan<'a>, number: usize) -> Option<&'a Edge> {
+    match (plan, number) {
+        (Plan::Jump { destination }, 0) => Some(destination),
+        (Plan::Brif { block_then, .. }, 0) => Some(block_then),
+        (Plan::Brif { block_else, .. }, 1) => Some(block_else),
+        _ => None,
+    }
+}

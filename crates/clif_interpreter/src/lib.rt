@@ -1,0 +1,27 @@
+//! Two plain interpreters: one of scripts, written from the script machine, and one of functions, written from the
+//! function machine. They share memory and the table of what instructions do, and no contract names them: that they
+//! run as the machines do is only tested.
+//!
+//! [`compare`] runs both side by side. A run never panics. It ends, with what it returned or a trap, or within a bound on its steps; or it tells why it
+//! can't go on (`RunError`). Values have at most 128 bits.
+#![tactic(auto)]
+
+pub mod arguments;
+pub mod arithmetic;
+pub mod comparison;
+pub mod error;
+pub mod function;
+pub mod instruction;
+pub mod memory;
+pub mod operation;
+mod program;
+pub mod run;
+pub mod script;
+pub mod shown;
+
+pub use arguments::{ArgumentError, arguments_of};
+pub use comparison::{Comparison, Verdict, compare};
+pub use error::{Cause, Operand, Place, RunError};
+pub use memory::Memory;
+pub use run::{End, Ending, World};
+pub use shown::Shown;

@@ -1,0 +1,193 @@
+//! Memory of a run: accessible bytes that lie one after another, and the stack slots in it.
+use crate::arithmetic::{constant, greatest};
+use crate::error::{Cause, Fault};
+use clif_types::{EntityRef, MemFlagsData, PointerWidth, StackSlot, TrapCode, Type, types};
+use std::alloc::{AllocError, Global};
+
+/// The accessible bytes, which lie one after another from an address on. No other byte is accessible.
+#[derive(Clone, PartialEq, Eq, Drop)]
+pub struct Memory {
+    start: u64,
+    bytes: Vec<u8>,
+}
+
+/// An access: of what type, where, and what is claimed of it.
+#[derive(Drop)]
+pub(crate) struct Access {
+    /// The type of what is accessed.
+    pub(crate) ty: Type,
+    /// The type of the address.
+    pub(crate) address_type: Type,
+    /// The address, to which the offset is added.
+    pub(crate) address: u128,
+    /// The distance from the address.
+    pub(crate) offset: i32,
+    /// What is claimed.
+    pub(crate) flags: MemFlagsData,
+}
+
+impl Access {
+    /// The address of a byte of what is accessed. Addresses count modulo their width.
+    pub(crate) fn byte_address(&self, byte: u32) -> u128 {
+        let offset = constant(self.address_type, i64::from(self.offset));
+        let sum = self.address.wrapping_add(offset);
+        sum.wrapping_add(u128::from(byte)) & greatest(self.address_type)
+    }
+
+    fn is_aligned(&self) -> bool {
+        self.byte_address(0) % u128::from(self.ty.bytes().max(1)) == 0
+    }
+}
+
+impl Memory {
+    /// Memory whose accessible bytes, so many from an address on, are zero.
+    pub fn zeros(alloc: Global, start: u64, size: usize) -> Result<Memory, AllocError> {
+        let mut bytes = Vec::new(alloc);
+        for _ in 0..size {
+            bytes.push(0)?;
+        }
+        Ok(Memory { start, bytes })
+    }
+
+    /// The address of the first accessible byte.
+    pub fn start(&self) -> u64 {
+        self.start
+    }
+
+    /// The accessible bytes.
+    pub fn bytes(&self) -> &[u8] {
+        self.bytes.as_slice()
+    }
+
+    // The address behind the last accessible byte, where addresses don't count modulo any width.
+    pub(crate) fn end(&self) -> u128 {
+        let size = self.bytes.len();
+        u128::from(self.start).wrapping_add(size as u128)
+    }
+
+    /// Puts a byte at a place among the accessible ones, if there are so many.
+    pub fn put(&mut self, place: usize, byte: u8) {
+        if let Some(held) = self.bytes.get_mut(place) {
+            *held = byte;
+        }
+    }
+
+    // Where a byte of what is accessed lies among the accessible ones, if it is one of them.
+    fn place(&self, access: &Access, byte: u32) -> Option<usize> {
+        let distance = access
+            .byte_address(byte)
+            .checked_sub(u128::from(self.start))?;
+        let place = usize::try_from(distance).ok()?;
+        if place < self.bytes.len() {
+            Some(place)
+        } else {
+            None
+        }
+    }
+
+    // A byte of what is accessed, or zero if it isn't accessible.
+    fn byte(&self, access: &Access, byte: u32) -> u8 {
+        let Some(place) = self.place(access, byte) else {
+            return 0;
+        };
+        self.bytes.get(place).copied().unwrap_or(0)
+    }
+
+    // What becomes of an access before it is made. What is claimed is asked first.
+    fn allows(&self, access: &Access) -> Result<(), Fault> {
+        if access.flags.aligned() && !access.is_aligned() {
+            return Err(Fault::NotAligned);
+        }
+        if (0..access.ty.bytes()).all(|byte| self.place(access, byte).is_some()) {
+            return Ok(());
+        }
+        if access.flags.notrap() {
+            Err(Fault::NotAccessible)
+        } else {
+            Err(Fault::Trapped(TrapCode::HeapOutOfBounds))
+        }
+    }
+
+    /// The bits that are there, of which at most 128 are kept. The lowest byte comes first.
+    pub(crate) fn load(&self, access: &Access) -> Result<u128, Fault> {
+        self.allows(access)?;
+        let mut bits = 0u128;
+        for byte in (0..access.ty.bytes()).rev() {
+            bits = bits.wrapping_shl(8) | u128::from(self.byte(access, byte));
+        }
+        Ok(bits)
+    }
+
+    /// Puts bits there.
+    pub(crate) fn store(&mut self, access: &Access, bits: u128) -> Result<(), Fault> {
+        self.allows(access)?;
+        let mut left = bits;
+        for byte in 0..access.ty.bytes() {
+            if let Some(place) = self.place(access, byte) {
+                self.put(place, (left % 256) as u8);
+            }
+            left = left / 256;
+        }
+        Ok(())
+    }
+}
+
+/// Where the stack slots lie: in order, each at the next address that its alignment allows.
+#[derive(Drop)]
+pub(crate) struct Slots {
+    pointer: Type,
+    places: Vec<u64>,
+    next: u64,
+}
+
+impl Slots {
+    /// No slot so far; the first one comes to this address, or behind it.
+    pub(crate) fn new(alloc: Global, pointer: PointerWidth, start: u64) -> Slots {
+        let pointer = match pointer {
+            PointerWidth::U16 => types::I16,
+            PointerWidth::U32 => types::I32,
+            PointerWidth::U64 => types::I64,
+        };
+        Slots {
+            pointer,
+            places: Vec::new(alloc),
+            next: start,
+        }
+    }
+
+    /// Places one more slot, of so many bytes, whose address is a multiple of 2 to the power of `shift`. It ends at most
+    /// at `limit`, where accessible memory ends.
+    pub(crate) fn add(&mut self, size: u32, shift: u8, limit: u128) -> Result<(), Cause> {
+        let Some((place, end)) = placed(self.next, size, shift) else {
+            return Err(Cause::NoPlace);
+        };
+        let above = greatest(self.pointer).saturating_add(1);
+        if u128::from(end) > above || u128::from(end) > limit {
+            return Err(Cause::NoPlace);
+        }
+        self.places.push(place)?;
+        self.next = end;
+        Ok(())
+    }
+
+    /// An access to a slot, which claims nothing. Its address counts modulo the width of pointers.
+    pub(crate) fn access(&self, ty: Type, slot: StackSlot, offset: i32) -> Result<Access, Fault> {
+        let Some(place) = self.places.get(slot.index()) else {
+            return Err(Fault::NoPlace);
+        };
+        Ok(Access {
+            ty,
+            address_type: self.pointer,
+            address: u128::from(*place),
+            offset,
+            flags: MemFlagsData::new(),
+        })
+    }
+}
+
+// Where a slot begins that lies at an address or behind it, and where it ends.
+fn placed(next: u64, size: u32, shift: u8) -> Option<(u64, u64)> {
+    let align = 1u64.checked_shl(u32::from(shift))?.max(1);
+    let place = next.checked_add(align - 1)? / align * align;
+    Some((place, place.checked_add(u64::from(size))?))
+}

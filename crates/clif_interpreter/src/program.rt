@@ -1,0 +1,196 @@
+//! The variable program of a script: for each block the calls that run in it, in order, and the caller's parameters.
+use crate::instruction::result_count;
+use clif_calls::{Call, Name};
+use clif_types::{AbiParam, Signature, Type};
+use std::alloc::{AllocError, Global};
+
+/// A block of a variable program.
+#[derive(Drop)]
+pub(crate) struct ProgramBlock {
+    /// The caller's parameters: their names and their types.
+    pub(crate) params: Vec<(Name, Type)>,
+    /// The places of the instructions, uses and assignments, in order.
+    pub(crate) items: Vec<usize>,
+    /// Whether the block has a terminator.
+    pub(crate) is_filled: bool,
+}
+
+/// A variable program, with the stack slots that the script asks for.
+#[derive(Drop)]
+pub(crate) struct Program {
+    alloc: Global,
+    current: Option<usize>,
+    // for each call the number of the block that it answered
+    numbers: Vec<Option<usize>>,
+    /// The blocks, in the order of the calls that made them.
+    pub(crate) blocks: Vec<ProgramBlock>,
+    /// The block that was current at the first call that put one into the layout.
+    pub(crate) entry: Option<usize>,
+    /// The types of the variables.
+    pub(crate) variables: Vec<Type>,
+    /// The size of each stack slot, and the shift of its alignment.
+    pub(crate) slots: Vec<(u32, u8)>,
+    /// For each call how many answers it has. What is no value is never given.
+    pub(crate) answers: Vec<usize>,
+}
+
+impl Program {
+    /// The variable program of these calls, for a function of this signature.
+    pub(crate) fn of(
+        alloc: Global,
+        calls: &[Call],
+        signature: &Signature,
+    ) -> Result<Program, AllocError> {
+        let mut program = Program {
+            alloc,
+            current: None,
+            numbers: Vec::new(alloc),
+            blocks: Vec::new(alloc),
+            entry: None,
+            variables: Vec::new(alloc),
+            slots: Vec::new(alloc),
+            answers: Vec::new(alloc),
+        };
+        for (place, call) in calls.iter().enumerate() {
+            program.add(place, call, signature)?;
+        }
+        Ok(program)
+    }
+
+    /// The number of the block that a name leads to.
+    pub(crate) fn number(&self, block: Name) -> Option<usize> {
+        if block.answer != 0 {
+            return None;
+        }
+        *self.numbers.get(block.place)?
+    }
+
+    /// The block with a number.
+    pub(crate) fn block(&self, number: usize) -> Option<&ProgramBlock> {
+        self.blocks.get(number)
+    }
+
+    /// The item of a block at an index.
+    pub(crate) fn item(&self, number: usize, index: usize) -> Option<usize> {
+        self.block(number)?.items.get(index).copied()
+    }
+
+    // Adds the call at this place.
+    fn add(&mut self, place: usize, call: &Call, signature: &Signature) -> Result<(), AllocError> {
+        let number = self.number_answered(call);
+        self.answers.push(answer_count(call, signature))?;
+        self.numbers.push(number)?;
+        match call {
+            Call::CreateBlock => self.add_block(),
+            Call::SwitchToBlock { block } => {
+                self.current = self.number(*block);
+                Ok(())
+            }
+            Call::AppendBlockParam { block, ty } => {
+                self.add_params(place, *block, &[AbiParam::new(*ty)])
+            }
+            Call::AppendBlockParamsForFunctionParams { block } => {
+                self.add_params(place, *block, signature.params.as_slice())
+            }
+            Call::AppendBlockParamsForFunctionReturns { block } => {
+                self.add_params(place, *block, signature.returns.as_slice())
+            }
+            Call::DeclareVar { ty } => Ok(self.variables.push(*ty)?),
+            Call::CreateSizedStackSlot { size, align_shift } => {
+                Ok(self.slots.push((*size, *align_shift))?)
+            }
+            Call::EnsureInsertedBlock => {
+                self.put_into_layout();
+                Ok(())
+            }
+            Call::DefVar { .. } | Call::TryDefVar { .. } => self.add_item(place, false),
+            Call::UseVar { .. }
+            | Call::TryUseVar { .. }
+            | Call::Plain(_)
+            | Call::F128const { .. }
+            | Call::Vconst { .. } => {
+                self.put_into_layout();
+                self.add_item(place, false)
+            }
+            Call::Jump { .. } | Call::Brif { .. } | Call::Return { .. } | Call::Trap { .. } => {
+                self.put_into_layout();
+                self.add_item(place, true)
+            }
+            Call::SealBlock { .. }
+            | Call::SealAllBlocks
+            | Call::InsertBlockAfter { .. }
+            | Call::SetColdBlock { .. } => Ok(()),
+        }
+    }
+
+    // The number of the block that a call answers.
+    fn number_answered(&self, call: &Call) -> Option<usize> {
+        match call {
+            Call::CreateBlock => Some(self.blocks.len()),
+            _ => None,
+        }
+    }
+
+    fn add_block(&mut self) -> Result<(), AllocError> {
+        let block = ProgramBlock {
+            params: Vec::new(self.alloc),
+            items: Vec::new(self.alloc),
+            is_filled: false,
+        };
+        self.blocks.push(block)?;
+        Ok(())
+    }
+
+    // The current block is the entry, if none is yet.
+    fn put_into_layout(&mut self) {
+        if self.entry.is_none() {
+            self.entry = self.current;
+        }
+    }
+
+    // Adds parameters of these types, which are the answers of the call at a place, in order.
+    fn add_params(
+        &mut self,
+        place: usize,
+        block: Name,
+        params: &[AbiParam],
+    ) -> Result<(), AllocError> {
+        let Some(number) = self.number(block) else {
+            return Ok(());
+        };
+        let Some(block) = self.blocks.get_mut(number) else {
+            return Ok(());
+        };
+        for (answer, param) in params.iter().enumerate() {
+            block
+                .params
+                .push((Name { place, answer }, param.value_type))?;
+        }
+        Ok(())
+    }
+
+    // Adds the call at a place to the current block, which it may fill.
+    fn add_item(&mut self, place: usize, fills: bool) -> Result<(), AllocError> {
+        let Some(number) = self.current else {
+            return Ok(());
+        };
+        let Some(block) = self.blocks.get_mut(number) else {
+            return Ok(());
+        };
+        block.items.push(place)?;
+        block.is_filled = fills;
+        Ok(())
+    }
+}
+
+// How many answers a call has: an instruction answers itself and then its results.
+fn answer_count(call: &Call, signature: &Signature) -> usize {
+    match call {
+        Call::AppendBlockParamsForFunctionParams { .. } => signature.params.len(),
+        Call::AppendBlockParamsForFunctionReturns { .. } => signature.returns.len(),
+        Call::Plain(_) => result_count(call).saturating_add(1),
+        Call::F128const { .. } | Call::Vconst { .. } => 2,
+        Call::AppendBlockParam { .. } | Call::UseVar { .. } | Call::TryUseVar { .. } => 1,
+        _ => 0,
+    }
+}

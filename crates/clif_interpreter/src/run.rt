@@ -1,0 +1,61 @@
+//! What a run is given, and how it ends.
+use crate::arithmetic::greatest;
+use crate::error::Cause;
+use crate::memory::{Memory, Slots};
+use crate::operation::{Store, Typed, kept};
+use clif_types::{PointerWidth, TrapCode, Type};
+use std::alloc::Global;
+
+/// What a run is given.
+#[derive(Clone, Copy)]
+pub struct World<'a> {
+    /// The bits of the arguments.
+    pub arguments: &'a [u128],
+    /// Memory as the run begins.
+    pub memory: &'a Memory,
+    /// The width of a pointer.
+    pub pointer_width: PointerWidth,
+    /// The accessible address from which on the stack slots lie, in order, each at the next address that its alignment
+    /// allows.
+    pub slots: u64,
+}
+
+impl World<'_> {
+    /// An argument for a parameter of a type.
+    pub(crate) fn argument(&self, ty: Type, bits: u128) -> Result<Typed, Cause> {
+        if bits > greatest(ty) {
+            return Err(Cause::Arguments);
+        }
+        kept(ty, bits)
+    }
+
+    /// Memory as the run begins, with no slot placed in it yet.
+    pub(crate) fn store(&self, alloc: Global) -> Result<Store, Cause> {
+        Ok(Store {
+            memory: self.memory.clone()?,
+            slots: Slots::new(alloc, self.pointer_width, self.slots),
+        })
+    }
+}
+
+/// How a run ended.
+#[derive(PartialEq, Eq, Drop)]
+pub enum End {
+    /// With these bits.
+    Returned(Vec<u128>),
+    /// With this trap.
+    Trapped(TrapCode),
+    /// There is nothing to run: no block is the entry, or it has no terminator.
+    Stuck,
+    /// It hasn't, within the steps that it may make.
+    OutOfSteps,
+}
+
+/// How a run ended, and what is in memory then.
+#[derive(PartialEq, Eq, Drop)]
+pub struct Ending {
+    /// How it ended.
+    pub end: End,
+    /// What is in memory then.
+    pub memory: Memory,
+}

@@ -1,0 +1,372 @@
+//! The interpreter of scripts, written from the script machine: it runs the variable program of a script. It has
+//! variables and names of answers, and no aliases and no parameters of variables.
+use crate::error::{Cause, Operand, Place, RunError};
+use crate::instruction::{Instruction, constant_of, edge_count, edge_of, instruction_of, plan_of};
+use crate::operation::{Operation, Outcome, Store, Typed, bits_of, carry_out, kept};
+use crate::program::{Program, ProgramBlock};
+use crate::run::{End, Ending, World};
+use clif_calls::{Call, Edge, Name, Plan};
+use clif_types::{AbiParam, EntityRef, Signature, Type};
+use std::alloc::{AllocError, Global};
+
+/// What comes behind an item.
+#[derive(Drop)]
+enum Next {
+    /// The next item of the block.
+    Item,
+    /// The first item of the block with this number.
+    Block(usize),
+    /// Nothing.
+    Ended(End),
+}
+
+/// A run of a script: what variables and names hold, and memory.
+#[derive(Drop)]
+struct State<'s, 'p> {
+    alloc: Global,
+    signature: &'s Signature,
+    program: &'p Program,
+    variables: Vec<Typed>,
+    // for each call its answers that were given
+    names: Vec<Vec<Option<Typed>>>,
+    store: Store,
+}
+
+impl State<'_, '_> {
+    // What a name holds.
+    fn value(&self, name: Name) -> Result<Typed, Cause> {
+        let Some(answers) = self.names.get(name.place) else {
+            return Err(Cause::Unknown(Operand::Name(name)));
+        };
+        match answers.get(name.answer) {
+            Some(Some(value)) => Ok(*value),
+            Some(None) => Err(Cause::NotGiven(Operand::Name(name))),
+            None => Err(Cause::Unknown(Operand::Name(name))),
+        }
+    }
+
+    fn values(&self, names: &[Name]) -> Result<Vec<Typed>, Cause> {
+        let mut values = Vec::new(self.alloc);
+        for name in names {
+            values.push(self.value(*name)?)?;
+        }
+        Ok(values)
+    }
+
+    fn give(&mut self, name: Name, value: Typed) -> Result<(), Cause> {
+        let value = kept(value.ty, value.bits)?;
+        let Some(answers) = self.names.get_mut(name.place) else {
+            return Err(Cause::Unknown(Operand::Name(name)));
+        };
+        let Some(held) = answers.get_mut(name.answer) else {
+            return Err(Cause::Unknown(Operand::Name(name)));
+        };
+        *held = Some(value);
+        Ok(())
+    }
+
+    // What a variable holds.
+    fn variable(&self, number: usize) -> Result<Typed, Cause> {
+        match self.variables.get(number) {
+            Some(held) => Ok(*held),
+            None => Err(Cause::Unknown(Operand::Variable(number))),
+        }
+    }
+
+    fn assign(&mut self, number: usize, value: Typed) -> Result<(), Cause> {
+        let Some(held) = self.variables.get_mut(number) else {
+            return Err(Cause::Unknown(Operand::Variable(number)));
+        };
+        if held.ty != value.ty {
+            return Err(Cause::Assigned(Operand::Variable(number)));
+        }
+        *held = value;
+        Ok(())
+    }
+
+    // Gives values to the parameters of a block, all at once.
+    fn enter(&mut self, number: usize, values: &[Typed]) -> Result<(), Cause> {
+        let program = self.program;
+        let Some(block) = program.block(number) else {
+            return Err(Cause::NoTarget);
+        };
+        if values.len() != block.params.len() {
+            return Err(Cause::Edge);
+        }
+        for (param, value) in block.params.iter().zip(values.iter()) {
+            let (name, ty) = *param;
+            if value.ty != ty {
+                return Err(Cause::Edge);
+            }
+            self.give(name, *value)?;
+        }
+        Ok(())
+    }
+
+    fn follow(&mut self, edge: Option<&Edge>) -> Result<Next, Cause> {
+        let Some(edge) = edge else {
+            return Err(Cause::NoTarget);
+        };
+        let Some(number) = self.program.number(edge.block) else {
+            return Err(Cause::NoTarget);
+        };
+        let values = self.values(edge.args.as_slice())?;
+        self.enter(number, values.as_slice())?;
+        Ok(Next::Block(number))
+    }
+
+    // Gives bits to the results of the instruction at a place, which are its answers from 1 on.
+    fn give_results(
+        &mut self,
+        place: usize,
+        operation: &Operation,
+        ty: Type,
+        bits: &[u128],
+    ) -> Result<(), Cause> {
+        let kinds = operation.opcode().typing().results;
+        if kinds.len() != bits.len() {
+            return Err(Cause::Results);
+        }
+        for (index, (kind, bits)) in kinds.iter().zip(bits.iter()).enumerate() {
+            let answer = index.saturating_add(1);
+            let ty = kind.at(ty);
+            self.give(Name { place, answer }, Typed { ty, bits: *bits })?;
+        }
+        Ok(())
+    }
+
+    // Makes an instruction of the call at a place; the plan has its edges.
+    fn instruct(
+        &mut self,
+        place: usize,
+        instruction: &Instruction<'_>,
+        plan: Option<&Plan<'_>>,
+    ) -> Result<Next, Cause> {
+        let operands = self.values(instruction.operands)?;
+        let operands = operands.as_slice();
+        let operation = &instruction.operation;
+        let given = instruction.given;
+        let signature = self.signature;
+        let returns = signature.returns.as_slice();
+        let alloc = self.alloc;
+        match carry_out(alloc, operation, given, operands, returns, &mut self.store)? {
+            (ty, Outcome::Gave(bits)) => {
+                self.give_results(place, operation, ty, bits.as_slice())?;
+                Ok(Next::Item)
+            }
+            (_, Outcome::Went(number)) => match plan {
+                Some(plan) => self.follow(edge_of(plan, number)),
+                None => Err(Cause::NoTarget),
+            },
+            (_, Outcome::Returned) => Ok(Next::Ended(End::Returned(bits_of(alloc, operands)?))),
+            (_, Outcome::Trapped(code)) => Ok(Next::Ended(End::Trapped(code))),
+        }
+    }
+
+    // Makes the pooled constant or the other instruction of a call, if it makes one.
+    fn call(&mut self, place: usize, call: &Call) -> Result<Next, Cause> {
+        if let Some(constant) = constant_of(call) {
+            return self.instruct(place, &constant, None);
+        }
+        match plan_of(call) {
+            Some(plan) => self.instruct(place, &instruction_of(&plan), Some(&plan)),
+            None => Ok(Next::Item),
+        }
+    }
+
+    // What the item at a place does.
+    fn step(&mut self, place: usize, call: &Call) -> Result<Next, Cause> {
+        match call {
+            Call::UseVar { variable } | Call::TryUseVar { variable } => {
+                let held = self.variable(variable.index())?;
+                self.give(Name { place, answer: 0 }, held)?;
+                Ok(Next::Item)
+            }
+            Call::DefVar { variable, value } | Call::TryDefVar { variable, value } => {
+                let value = self.value(*value)?;
+                self.assign(variable.index(), value)?;
+                Ok(Next::Item)
+            }
+            _ => self.call(place, call),
+        }
+    }
+
+    // Runs the items of a block, and of the blocks that control goes to.
+    fn steps(&mut self, calls: &[Call], entry: usize, bound: u64) -> Result<End, RunError> {
+        let mut block = entry;
+        let mut index = 0usize;
+        for _ in 0..bound {
+            let Some(place) = self.program.item(block, index) else {
+                return Ok(End::Stuck);
+            };
+            let Some(call) = calls.get(place) else {
+                return Ok(End::Stuck);
+            };
+            match self.step(place, call) {
+                Ok(Next::Item) => index = index.saturating_add(1),
+                Ok(Next::Block(number)) => {
+                    block = number;
+                    index = 0;
+                }
+                Ok(Next::Ended(end)) => return Ok(end),
+                Err(cause) => return Err(cause.at(Place::Call(place))),
+            }
+        }
+        Ok(End::OutOfSteps)
+    }
+
+    // Gives the arguments to the parameters of the entry block, which are those of the signature.
+    fn start(&mut self, entry: usize, world: &World<'_>) -> Result<(), Cause> {
+        let program = self.program;
+        let Some(block) = program.block(entry) else {
+            return Err(Cause::NoTarget);
+        };
+        let signature = self.signature;
+        if !has_params(block, signature.params.as_slice()) {
+            return Err(Cause::EntryParameters);
+        }
+        if block.params.len() != world.arguments.len() {
+            return Err(Cause::Arguments);
+        }
+        let mut values = Vec::new(self.alloc);
+        for (param, bits) in block.params.iter().zip(world.arguments.iter()) {
+            values.push(world.argument(param.1, *bits)?)?;
+        }
+        self.enter(entry, values.as_slice())
+    }
+}
+
+// Whether the caller's parameters of a block have these types, and are as many.
+fn has_params(block: &ProgramBlock, params: &[AbiParam]) -> bool {
+    if block.params.len() != params.len() {
+        return false;
+    }
+    for (named, param) in block.params.iter().zip(params.iter()) {
+        if named.1 != param.value_type {
+            return false;
+        }
+    }
+    true
+}
+
+// The variables, each zero.
+fn zeros(alloc: Global, program: &Program) -> Result<Vec<Typed>, AllocError> {
+    let mut variables = Vec::new(alloc);
+    for ty in program.variables.iter() {
+        variables.push(Typed { ty: *ty, bits: 0 })?;
+    }
+    Ok(variables)
+}
+
+// For each call its answers, none of which was given yet.
+fn no_answers(alloc: Global, program: &Program) -> Result<Vec<Vec<Option<Typed>>>, AllocError> {
+    let mut names = Vec::new(alloc);
+    for count in program.answers.iter() {
+        let mut answers = Vec::new(alloc);
+        for _ in 0..*count {
+            answers.push(None)?;
+        }
+        names.push(answers)?;
+    }
+    Ok(names)
+}
+
+// Why the theorem covers no branch along an edge, if it covers none: its target has a terminator and isn't the entry.
+fn bad_target(program: &Program, edge: &Edge) -> Option<Cause> {
+    let Some(number) = program.number(edge.block) else {
+        return Some(Cause::NoTarget);
+    };
+    if program.entry == Some(number) {
+        return Some(Cause::EntryTarget);
+    }
+    match program.block(number) {
+        Some(block) if block.is_filled => None,
+        Some(_) => Some(Cause::NotFilled),
+        None => Some(Cause::NoTarget),
+    }
+}
+
+// The same of the edges of a call.
+fn bad_branch(program: &Program, call: &Call) -> Option<Cause> {
+    let Some(plan) = plan_of(call) else {
+        return None;
+    };
+    for number in 0..edge_count(&plan) {
+        if let Some(edge) = edge_of(&plan, number) {
+            let bad = bad_target(program, edge);
+            if bad.is_some() {
+                return bad;
+            }
+        }
+    }
+    None
+}
+
+// Looks at each edge of a script, also at those that no run takes: the theorem asks it of all of them.
+fn check_targets(program: &Program, calls: &[Call]) -> Result<(), RunError> {
+    for (place, call) in calls.iter().enumerate() {
+        if let Some(cause) = bad_branch(program, call) {
+            return Err(cause.at(Place::Call(place)));
+        }
+    }
+    Ok(())
+}
+
+/// Runs a script's variable program in a world, for at most so many instructions, uses and assignments.
+///
+/// # Errors
+///
+/// Where a premise of the theorem doesn't hold of the run: a branch leads to the entry block or to a block without a
+/// terminator, a name has no value yet, types don't fit, or what a load or a store claims isn't true. And where memory
+/// is refused, a value has more than 128 bits, or a stack slot has no place.
+pub fn run(
+    alloc: Global,
+    calls: &[Call],
+    signature: &Signature,
+    world: &World<'_>,
+    bound: u64,
+) -> Result<Ending, RunError> {
+    let program = match Program::of(alloc, calls, signature) {
+        Ok(program) => program,
+        Err(_) => return Err(RunError::memory()),
+    };
+    check_targets(&program, calls)?;
+    let entry = program.entry;
+    let mut state = match begin(alloc, signature, &program, world) {
+        Ok(state) => state,
+        Err(cause) => return Err(cause.at(Place::Start)),
+    };
+    let mut end = End::Stuck;
+    if let Some(entry) = entry {
+        if let Err(cause) = state.start(entry, world) {
+            return Err(cause.at(Place::Start));
+        }
+        end = state.steps(calls, entry, bound)?;
+    }
+    let State { store, .. } = state;
+    Ok(Ending {
+        end,
+        memory: store.memory,
+    })
+}
+
+// A run before its first step.
+fn begin<'s, 'p>(
+    alloc: Global,
+    signature: &'s Signature,
+    program: &'p Program,
+    world: &World<'_>,
+) -> Result<State<'s, 'p>, Cause> {
+    let mut store = world.store(alloc)?;
+    for (size, shift) in program.slots.iter() {
+        store.add_slot(*size, *shift)?;
+    }
+    Ok(State {
+        alloc,
+        signature,
+        program,
+        variables: zeros(alloc, program)?,
+        names: no_answers(alloc, program)?,
+        store,
+    })
+}

@@ -1,0 +1,62 @@
+-- An instruction of a pooled constant, by numbers.
+use Rattle.std.proofs.Common.{◌≡◌, ◌≤◌, ℕ, List, [], refl, ap, sym, ◌∙◌, arith}
+use Rattle.std.specs.Prelude.{Option, Some, true, slice_get}
+use Rattle.std.proofs.lemmas.Bool.{and_from}
+use Rattle.std.proofs.lemmas.Option.{get_or_from_slice_get}
+use Rattle.clif_types.specs.declared.types.«Type».{«Type»}
+use Rattle.clif_types.specs.declared.types.«Type».TheVariants.{Invalid}
+use Rattle.clif_types.specs.Signature.{SignatureShape}
+use Rattle.clif_opcodes.specs.declared.opcodes.PooledConstOpcode.{PooledConstOpcode}
+use Rattle.clif_opcodes.specs.declared.opcodes.PooledConstOpcode.TheVariants.{F128const, Vconst}
+use Rattle.clif_instructions.specs.declared.instructions.InstructionData.TheVariants.{UnaryConst}
+use Rattle.clif_instructions.specs.Instruction.{result_count, result_types}
+use Rattle.clif_ir.specs.Body.{Body}
+use Rattle.clif_meaning.specs.Acceptance.{has_bytes, pooled_const}
+use Rattle.clif_meaning.specs.Instruction.{Compute, PooledConst}
+use Rattle.clif_meaning.specs.Request.{AnsweredCall}
+use Rattle.clif_meaning.specs.View.{made_at}
+use Rattle.cranelift_frontend.specs.declared.builder.FunctionBuilder.{FunctionBuilder}
+use Rattle.cranelift_frontend.specs.Ledger.{HasShape}
+use Rattle.cranelift_frontend.specs.StandsFor.{StandsFor}
+use Rattle.clif_replay.specs.Ready.{IsReady, is_open, is_open_at}
+use Rattle.clif_replay.specs.declared.script.Answer.{Answer}
+use Rattle.clif_replay.proofs.Conditions.{pooled-same}
+use Rattle.clif_replay.proofs.Making.{Judges}
+
+-- where its opcode tells the type, none is given
+made-at : (f : Body) (opcode : PooledConstOpcode) (constant : ℕ) (ty : «Type») → (opcode ≡ F128const → ty ≡ Invalid) → ty ≡ made_at f (UnaryConst opcode constant) ty
+made-at f F128const constant ty told = told refl
+made-at f Vconst constant ty told = refl
+
+-- the constant has its bytes
+pub constant-shape : (calls : List AnsweredCall) (f : Body) (opcode : PooledConstOpcode) (ty : «Type») (bytes : List ℕ) (constant : ℕ) → (opcode ≡ F128const → ty ≡ Invalid)
+    → slice_get f.tables.constants constant ≡ Some bytes
+    → HasShape calls f (record { operation = Compute (PooledConst opcode bytes); controlling = ty; operands = []; edges = [] }) (UnaryConst opcode constant) ty
+constant-shape calls f opcode ty bytes constant told found =
+    let controlling = made-at f opcode constant ty told in
+    record {
+      operation = ap (λ (b : List ℕ). Compute (PooledConst opcode b)) (sym (get_or_from_slice_get f.tables.constants constant bytes [] found));
+      controlling = controlling;
+      typed = ap (result_types (UnaryConst opcode constant)) controlling;
+      operands_numbered = refl;
+      edges = tt;
+    }
+
+pub constant-count : (opcode : PooledConstOpcode) (constant : ℕ) → result_count (UnaryConst opcode constant) ≤ 1
+constant-count F128const constant = omega arith
+constant-count Vconst constant = omega arith
+
+-- it may be made in an open block, with as many bytes as its type has
+pub constant-allowed : (b : FunctionBuilder) (answers : List Answer) (opcode : PooledConstOpcode) (ty : «Type») (bytes : List ℕ) → is_open b ≡ true → has_bytes opcode ty bytes ≡ true
+    → Judges (λ declared ledger. pooled_const opcode ty bytes) b answers true
+constant-allowed b answers opcode ty bytes opens fits declared calls ready =
+    pooled-same calls b answers ready opcode ty bytes ∙ and_from (is_open b) (has_bytes opcode ty bytes) opens fits
+
+-- a builder that pooled a constant stands for the same calls, and its block is open where it was
+pub pooled-ready : {declared : SignatureShape} (calls : List AnsweredCall) (old new : FunctionBuilder) (answers : List Answer) → StandsFor declared calls new
+    → IsReady declared calls old answers → IsReady declared calls new answers
+pooled-ready calls old new answers stands ready = record { reads = ready.reads; stands = stands; count = ready.count; answered = ready.answered }
+
+pub pooled-open : (old new : FunctionBuilder) → new.position ≡ old.position → new.ctx.now ≡ old.ctx.now → is_open old ≡ true → is_open new ≡ true
+pooled-open old new position context opens =
+    ap (λ (p : Option ℕ). is_open_at p new.ctx.now) position ∙ ap (is_open_at old.position) context ∙ opens

@@ -1,0 +1,570 @@
+//! Which condition of a call doesn't hold, by what the calls before it alone tell.
+use clif_calls::{Call, Edge, Name};
+use clif_interpreter::instruction::{edge_count, edge_of, instruction_of, plan_of};
+use clif_interpreter::operation::Operation;
+use clif_opcodes::{Control, Demand, Opcode, PooledConstOpcode};
+use clif_types::types::F128;
+use clif_types::{AbiParam, EntityRef, Signature, StackSlot, Type};
+use std::alloc::{AllocError, Global};
+use std::fmt;
+
+/// A condition that doesn't hold. Blocks have the numbers that the function's text gives them.
+#[derive(Clone, Copy)]
+pub enum Condition {
+    /// The name leads to no block.
+    NoBlock(Name),
+    /// The name leads to no value.
+    NoValue(Name),
+    /// The variable isn't declared.
+    NoVariable(usize),
+    /// The stack slot isn't there.
+    NoSlot(usize),
+    /// No block is current.
+    NoCurrent,
+    /// The block has a terminator.
+    Filled(usize),
+    /// The current block has no terminator yet, so it can't be left.
+    Unfilled(usize),
+    /// The block is sealed.
+    Sealed(usize),
+    /// Something was made in the block.
+    Begun(usize),
+    /// A branch leads to the block.
+    Reached(usize),
+    /// The block is in the layout.
+    Placed(usize),
+    /// The block isn't in the layout.
+    Unplaced(usize),
+    /// No variable can have this type.
+    VariableType(Type),
+    /// The value doesn't have the variable's type.
+    AssignedType(Type, Type),
+    /// The alignment of a stack slot is too great.
+    Alignment(u8),
+    /// A constant of so many bytes is wanted, and has so many.
+    Bytes(u32, usize),
+    /// The instruction can't be made at this type.
+    MadeAt(Opcode, Type),
+}
+
+impl fmt::Display for Condition {
+    fn fmt<W: fmt::Write>(&self, f: &mut fmt::Formatter<W>) -> fmt::Result {
+        match self {
+            Condition::NoBlock(name) => write_name(f, *name, "block"),
+            Condition::NoValue(name) => write_name(f, *name, "value"),
+            Condition::NoVariable(number) => write!(f, "var{number} isn't declared"),
+            Condition::NoSlot(number) => write!(f, "ss{number} isn't there"),
+            Condition::NoCurrent => f.write_str("no block is current"),
+            Condition::Filled(number) => write_block(f, *number, "is filled"),
+            Condition::Unfilled(number) => write_block(f, *number, "isn't filled yet"),
+            Condition::Sealed(number) => write_block(f, *number, "is sealed"),
+            Condition::Begun(number) => write_block(f, *number, "isn't empty"),
+            Condition::Reached(number) => write_block(f, *number, "has a predecessor"),
+            Condition::Placed(number) => write_block(f, *number, "is in the layout"),
+            Condition::Unplaced(number) => write_block(f, *number, "isn't in the layout"),
+            Condition::VariableType(ty) => write!(f, "no variable can have type {ty}"),
+            Condition::AssignedType(wanted, found) => {
+                write!(f, "the variable has type {wanted}, and the value {found}")
+            }
+            Condition::Alignment(shift) => write!(f, "the shift {shift} is above 31"),
+            Condition::Bytes(wanted, found) => {
+                write!(f, "the constant has {found} bytes, and its type {wanted}")
+            }
+            Condition::MadeAt(opcode, ty) => write!(f, "{opcode} can't be made at type {ty}"),
+        }
+    }
+}
+
+fn write_name<W: fmt::Write>(f: &mut fmt::Formatter<W>, name: Name, kind: &str) -> fmt::Result {
+    let place = name.place;
+    let answer = name.answer;
+    write!(f, "${place}.{answer} is no {kind}")
+}
+
+fn write_block<W: fmt::Write>(f: &mut fmt::Formatter<W>, number: usize, is: &str) -> fmt::Result {
+    write!(f, "block{number} {is}")
+}
+
+/// An answer of a call.
+#[derive(Clone, Copy)]
+enum Answer {
+    Block(usize),
+    Value(Type),
+    Other,
+}
+
+/// What is known of a block.
+#[derive(Clone, Copy)]
+struct BlockState {
+    is_begun: bool,
+    is_filled: bool,
+    is_sealed: bool,
+    is_placed: bool,
+    is_reached: bool,
+}
+
+/// What may come to be known of a block.
+#[derive(Clone, Copy)]
+enum Mark {
+    Begun,
+    Filled,
+    Sealed,
+    Placed,
+    Reached,
+}
+
+const NEW_BLOCK: BlockState = BlockState {
+    is_begun: false,
+    is_filled: false,
+    is_sealed: false,
+    is_placed: false,
+    is_reached: false,
+};
+
+/// What the calls so far tell.
+#[derive(Drop)]
+struct Ledger<'a> {
+    alloc: Global,
+    signature: &'a Signature,
+    answers: Vec<Vec<Answer>>,
+    blocks: Vec<BlockState>,
+    variables: Vec<Type>,
+    slots: usize,
+    current: Option<usize>,
+    entry: Option<usize>,
+}
+
+// TESTS: each answers the first condition that doesn't hold.
+
+impl Ledger<'_> {
+    fn answer(&self, name: Name) -> Answer {
+        match self.answers.get(name.place) {
+            Some(answers) => answers.get(name.answer).copied().unwrap_or(Answer::Other),
+            None => Answer::Other,
+        }
+    }
+
+    fn block(&self, name: Name) -> Result<usize, Condition> {
+        match self.answer(name) {
+            Answer::Block(number) => Ok(number),
+            Answer::Value(_) | Answer::Other => Err(Condition::NoBlock(name)),
+        }
+    }
+
+    fn value(&self, name: Name) -> Result<Type, Condition> {
+        match self.answer(name) {
+            Answer::Value(ty) => Ok(ty),
+            Answer::Block(_) | Answer::Other => Err(Condition::NoValue(name)),
+        }
+    }
+
+    fn variable(&self, number: usize) -> Result<Type, Condition> {
+        let declared = self.variables.get(number).copied();
+        declared.ok_or(Condition::NoVariable(number))
+    }
+
+    fn state(&self, number: usize) -> BlockState {
+        self.blocks.get(number).copied().unwrap_or(NEW_BLOCK)
+    }
+
+    // There is a current block without a terminator.
+    fn is_open(&self) -> Result<(), Condition> {
+        match self.current {
+            None => Err(Condition::NoCurrent),
+            Some(number) if self.state(number).is_filled => Err(Condition::Filled(number)),
+            Some(_) => Ok(()),
+        }
+    }
+
+    // The current block may be left: it is pristine, filled or unreachable.
+    fn can_leave(&self) -> Result<(), Condition> {
+        let Some(number) = self.current else {
+            return Ok(());
+        };
+        let state = self.state(number);
+        let is_entry = self.entry.is_none() || self.entry == Some(number);
+        let is_unreachable = !is_entry && state.is_sealed && !state.is_reached;
+        if !state.is_begun || state.is_filled || is_unreachable {
+            Ok(())
+        } else {
+            Err(Condition::Unfilled(number))
+        }
+    }
+
+    // Nothing was made in a block.
+    fn is_pristine(&self, name: Name) -> Result<usize, Condition> {
+        let number = self.block(name)?;
+        if self.state(number).is_begun {
+            return Err(Condition::Begun(number));
+        }
+        Ok(number)
+    }
+
+    fn can_insert(&self, block: Name, after: Name) -> Result<(), Condition> {
+        let (number, behind) = (self.block(block)?, self.block(after)?);
+        if self.state(number).is_placed {
+            return Err(Condition::Placed(number));
+        }
+        if !self.state(behind).is_placed {
+            return Err(Condition::Unplaced(behind));
+        }
+        Ok(())
+    }
+
+    fn can_define(&self, variable: usize, value: Name) -> Result<(), Condition> {
+        self.is_open()?;
+        let (wanted, found) = (self.variable(variable)?, self.value(value)?);
+        if wanted != found {
+            return Err(Condition::AssignedType(wanted, found));
+        }
+        Ok(())
+    }
+
+    fn can_lead(&self, edge: &Edge) -> Result<(), Condition> {
+        let number = self.block(edge.block)?;
+        if self.state(number).is_sealed {
+            return Err(Condition::Sealed(number));
+        }
+        for name in edge.args.iter() {
+            self.value(*name)?;
+        }
+        Ok(())
+    }
+
+    // The instruction of a call may be made.
+    fn can_make(&self, call: &Call) -> Result<(), Condition> {
+        let Some(plan) = plan_of(call) else {
+            return Ok(());
+        };
+        self.is_open()?;
+        let instruction = instruction_of(&plan);
+        for name in instruction.operands {
+            self.value(*name)?;
+        }
+        for number in 0..edge_count(&plan) {
+            if let Some(edge) = edge_of(&plan, number) {
+                self.can_lead(edge)?;
+            }
+        }
+        let ty = self.controlling(
+            &instruction.operation,
+            instruction.given,
+            instruction.operands,
+        );
+        can_operate(&instruction.operation, ty)?;
+        match slot_of(&instruction.operation) {
+            Some(slot) if slot >= self.slots => Err(Condition::NoSlot(slot)),
+            _ => Ok(()),
+        }
+    }
+
+    // The type that an instruction is made at.
+    fn controlling(&self, operation: &Operation, given: Type, operands: &[Name]) -> Type {
+        match operation.opcode().typing().control {
+            Control::Absent => Type::Invalid,
+            Control::Given => given,
+            Control::Operand(place) => match operands.get(place) {
+                Some(name) => self.value(*name).unwrap_or(Type::Invalid),
+                None => Type::Invalid,
+            },
+        }
+    }
+
+    // The conditions of a call: a row for each.
+    fn test(&self, call: &Call) -> Result<(), Condition> {
+        match call {
+            Call::CreateBlock | Call::SealAllBlocks => Ok(()),
+            Call::SwitchToBlock { block } => {
+                let number = self.block(*block)?;
+                if self.state(number).is_filled {
+                    return Err(Condition::Filled(number));
+                }
+                self.can_leave()
+            }
+            Call::SealBlock { block } => {
+                let number = self.block(*block)?;
+                if self.state(number).is_sealed {
+                    return Err(Condition::Sealed(number));
+                }
+                Ok(())
+            }
+            Call::InsertBlockAfter { block, after } => self.can_insert(*block, *after),
+            Call::SetColdBlock { block } => self.block(*block).map(|_| ()),
+            Call::EnsureInsertedBlock => self.is_open(),
+            Call::AppendBlockParam { block, .. }
+            | Call::AppendBlockParamsForFunctionReturns { block } => {
+                self.is_pristine(*block).map(|_| ())
+            }
+            Call::AppendBlockParamsForFunctionParams { block } => {
+                let number = self.is_pristine(*block)?;
+                if self.state(number).is_reached {
+                    return Err(Condition::Reached(number));
+                }
+                Ok(())
+            }
+            Call::CreateSizedStackSlot { align_shift, .. } => {
+                if *align_shift > 31 {
+                    return Err(Condition::Alignment(*align_shift));
+                }
+                Ok(())
+            }
+            Call::DeclareVar { ty } => can_declare(*ty),
+            Call::DefVar { variable, value } => self.can_define(variable.index(), *value),
+            Call::UseVar { variable } => {
+                self.is_open()?;
+                self.variable(variable.index()).map(|_| ())
+            }
+            // the variable of these isn't asked for: they are refused for it
+            Call::TryDefVar { value, .. } => {
+                self.is_open()?;
+                self.value(*value).map(|_| ())
+            }
+            Call::TryUseVar { .. } => self.is_open(),
+            Call::F128const { bytes } => {
+                self.is_open()?;
+                can_pool(
+                    PooledConstOpcode::F128const,
+                    Type::Invalid,
+                    bytes.as_slice(),
+                )
+            }
+            Call::Vconst { ty, bytes } => {
+                self.is_open()?;
+                can_pool(PooledConstOpcode::Vconst, *ty, bytes.as_slice())
+            }
+            _ => self.can_make(call),
+        }
+    }
+}
+
+// A variable has a type of the IR.
+fn can_declare(ty: Type) -> Result<(), Condition> {
+    if ty.is_valid() {
+        Ok(())
+    } else {
+        Err(Condition::VariableType(ty))
+    }
+}
+
+// A constant has as many bytes as its type, which is a vector's unless it is the F128's.
+fn can_pool(opcode: PooledConstOpcode, ty: Type, bytes: &[u8]) -> Result<(), Condition> {
+    let wanted = match opcode {
+        PooledConstOpcode::F128const => 16,
+        PooledConstOpcode::Vconst if Demand::AVector.is_met(ty) => ty.bytes(),
+        PooledConstOpcode::Vconst => {
+            return Err(Condition::MadeAt(Opcode::PooledConst(opcode), ty));
+        }
+    };
+    if bytes.len() == wanted as usize {
+        Ok(())
+    } else {
+        Err(Condition::Bytes(wanted, bytes.len()))
+    }
+}
+
+// What an instruction asks of the type that it is made at: a row for each format that asks anything.
+fn can_operate(operation: &Operation, ty: Type) -> Result<(), Condition> {
+    let demand = match operation {
+        Operation::Iconst(_) => Demand::AnInteger,
+        Operation::Convert(_) | Operation::Stack { .. } => operation.opcode().typing().demand,
+        Operation::Concat => Demand::ADoubled,
+        Operation::Split => Demand::AHalved,
+        Operation::Load { .. } => Demand::AType,
+        _ => Demand::Nothing,
+    };
+    if demand.is_met(ty) {
+        Ok(())
+    } else {
+        Err(Condition::MadeAt(operation.opcode(), ty))
+    }
+}
+
+// The number of the stack slot that an instruction names.
+fn slot_of(operation: &Operation) -> Option<usize> {
+    let slot: &StackSlot = match operation {
+        Operation::Stack { slot, .. } | Operation::StackStore { slot, .. } => slot,
+        _ => return None,
+    };
+    Some(slot.index())
+}
+
+// CHANGES: what each call that may be made changes.
+
+impl<'a> Ledger<'a> {
+    fn new(alloc: Global, signature: &'a Signature) -> Ledger<'a> {
+        Ledger {
+            alloc,
+            signature,
+            answers: Vec::new(alloc),
+            blocks: Vec::new(alloc),
+            variables: Vec::new(alloc),
+            slots: 0,
+            current: None,
+            entry: None,
+        }
+    }
+
+    fn mark(&mut self, number: usize, mark: Mark) {
+        let Some(state) = self.blocks.get_mut(number) else {
+            return;
+        };
+        match mark {
+            Mark::Begun => state.is_begun = true,
+            Mark::Filled => state.is_filled = true,
+            Mark::Sealed => state.is_sealed = true,
+            Mark::Placed => state.is_placed = true,
+            Mark::Reached => state.is_reached = true,
+        }
+    }
+
+    fn mark_named(&mut self, name: Name, mark: Mark) {
+        if let Ok(number) = self.block(name) {
+            self.mark(number, mark);
+        }
+    }
+
+    // Something is made in the current block, which puts it into the layout.
+    fn begin(&mut self) {
+        if let Some(number) = self.current {
+            self.mark(number, Mark::Begun);
+            self.mark(number, Mark::Placed);
+            if self.entry.is_none() {
+                self.entry = Some(number);
+            }
+        }
+    }
+
+    // Appends the answers of a call, which are values of these types.
+    fn push_values(&mut self, params: &[AbiParam]) -> Result<(), AllocError> {
+        let mut answers = Vec::new(self.alloc);
+        for param in params {
+            answers.push(Answer::Value(param.value_type))?;
+        }
+        self.answers.push(answers)?;
+        Ok(())
+    }
+
+    // Appends the one answer of a call.
+    fn push(&mut self, answer: Answer) -> Result<(), AllocError> {
+        let mut answers = Vec::new(self.alloc);
+        answers.push(answer)?;
+        self.answers.push(answers)?;
+        Ok(())
+    }
+
+    // A constant of a type is made, which answers itself and its result.
+    fn pool(&mut self, ty: Type) -> Result<(), AllocError> {
+        self.begin();
+        let mut answers = Vec::new(self.alloc);
+        answers.push(Answer::Other)?;
+        answers.push(Answer::Value(ty))?;
+        self.answers.push(answers)?;
+        Ok(())
+    }
+
+    // The instruction of a call is made, which answers itself and its results.
+    fn make(&mut self, call: &Call) -> Result<(), AllocError> {
+        let mut answers = Vec::new(self.alloc);
+        answers.push(Answer::Other)?;
+        if let Some(plan) = plan_of(call) {
+            self.begin();
+            let instruction = instruction_of(&plan);
+            let operation = &instruction.operation;
+            let ty = self.controlling(operation, instruction.given, instruction.operands);
+            let typing = operation.opcode().typing();
+            for kind in typing.results {
+                answers.push(Answer::Value(kind.at(ty)))?;
+            }
+            for number in 0..edge_count(&plan) {
+                if let Some(edge) = edge_of(&plan, number) {
+                    self.mark_named(edge.block, Mark::Reached);
+                }
+            }
+            if let Some(number) = self.current.filter(|_| typing.ends) {
+                self.mark(number, Mark::Filled);
+            }
+        }
+        self.answers.push(answers)?;
+        Ok(())
+    }
+
+    // A call is made: a row for each.
+    fn change(&mut self, call: &Call) -> Result<(), AllocError> {
+        let signature = self.signature;
+        match call {
+            Call::CreateBlock => {
+                let number = self.blocks.len();
+                self.blocks.push(NEW_BLOCK)?;
+                self.push(Answer::Block(number))
+            }
+            Call::DeclareVar { ty } => {
+                self.variables.push(*ty)?;
+                self.push(Answer::Other)
+            }
+            Call::CreateSizedStackSlot { .. } => {
+                self.slots = self.slots.saturating_add(1);
+                self.push(Answer::Other)
+            }
+            Call::UseVar { variable } | Call::TryUseVar { variable } => {
+                self.begin();
+                let ty = self.variable(variable.index()).unwrap_or(Type::Invalid);
+                self.push(Answer::Value(ty))
+            }
+            Call::AppendBlockParam { ty, .. } => self.push(Answer::Value(*ty)),
+            Call::F128const { .. } => self.pool(F128),
+            Call::Vconst { ty, .. } => self.pool(*ty),
+            Call::AppendBlockParamsForFunctionParams { .. } => {
+                self.push_values(signature.params.as_slice())
+            }
+            Call::AppendBlockParamsForFunctionReturns { .. } => {
+                self.push_values(signature.returns.as_slice())
+            }
+            Call::SwitchToBlock { .. }
+            | Call::SealBlock { .. }
+            | Call::SealAllBlocks
+            | Call::InsertBlockAfter { .. }
+            | Call::SetColdBlock { .. }
+            | Call::EnsureInsertedBlock
+            | Call::DefVar { .. }
+            | Call::TryDefVar { .. } => {
+                self.change_blocks(call);
+                self.push_values(&[])
+            }
+            _ => self.make(call),
+        }
+    }
+
+    // The same of a call that answers nothing.
+    fn change_blocks(&mut self, call: &Call) {
+        match call {
+            Call::SwitchToBlock { block } => self.current = self.block(*block).ok(),
+            Call::SealBlock { block } => self.mark_named(*block, Mark::Sealed),
+            Call::SealAllBlocks => {
+                for number in 0..self.blocks.len() {
+                    self.mark(number, Mark::Sealed);
+                }
+            }
+            Call::InsertBlockAfter { block, .. } => self.mark_named(*block, Mark::Placed),
+            Call::EnsureInsertedBlock => self.begin(),
+            _ => {}
+        }
+    }
+}
+
+/// The first condition of the call at a place that doesn't hold, if the calls before it were made, for a function of
+/// this signature. There is none if the call may be made.
+pub fn broken_condition(
+    alloc: Global,
+    calls: &[Call],
+    signature: &Signature,
+    place: usize,
+) -> Result<Option<Condition>, AllocError> {
+    let mut ledger = Ledger::new(alloc, signature);
+    for (at, call) in calls.iter().enumerate() {
+        if at == place {
+            return Ok(ledger.test(call).err());
+        }
+        ledger.change(call)?;
+    }
+    Ok(None)
+}

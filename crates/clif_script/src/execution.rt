@@ -1,0 +1,245 @@
+//! Runs of a script and of the function that is built of it, side by side: `execute` is `clif_build --run` over two
+//! writers.
+ghost use Rattle.std.specs.Prelude.{◌<◌, IfOk};
+
+use crate::command::Run;
+use crate::program::{tell_call, tell_no_text, tell_unbuilt, tell_unread};
+use clif_interpreter::{
+    ArgumentError, Cause, Comparison, Place, RunError, Shown, Verdict, arguments_of, compare,
+};
+use clif_replay::{ReplayError, replay};
+use clif_text::{ReadError, Script, read};
+use clif_types::AbiParam;
+use cranelift_frontend::FunctionBuilderContext;
+use std::alloc::{AllocError, Global};
+use std::{io, str};
+
+/// Builds the function of a script, for the bytes of a file, runs the script's variable program and the function with
+/// the same arguments and the same memory, and prints to `out` how each ends, as `script: returned 7` and
+/// `function: returned 7`. Answers the exit status.
+///
+/// The bytes from address 0x1000 up to 0xffff are accessible, and no others. Each is the low byte of its address at
+/// first. Stack slots lie from 0x8000 on, in order, each at the next address that its alignment allows.
+///
+/// | Status | When |
+/// |---|---|
+/// | 0 | both runs end with the same values or trap, and the same memory |
+/// | 1 | the function couldn't be built, and `err` has the reason, as [`crate::build`] tells it; or this can't be run: memory or a write was refused, a value has more than 128 bits, or the stack slots don't fit into memory |
+/// | 2 | the bytes are no script, or the words aren't the function's arguments, and `err` has the reason |
+/// | 3 | the runs differ, and `err` says so |
+/// | 4 | the theorem promises nothing of this run, and `err` has the reason, as `the promise doesn't cover this: $4.1 is used before it is given`, and then the line of the call |
+/// | 5 | a run hasn't ended within the bound on steps, and `err` says so |
+///
+/// Nothing is printed to `out` but with status 0, 3 and 5. Where a write fails, what was written before it stays
+/// written.
+pub fn execute<O: io::Write, E: io::Write>(
+    alloc: Global,
+    bytes: &[u8],
+    run: &Run<'_>,
+    out: &mut O,
+    err: &mut E,
+) -> u8
+    ensures { result < 6 }
+{
+    match execute_bytes(alloc, bytes, run, out, err) {
+        Ok(status) => status,
+        Err(_) => 1,
+    }
+}
+
+fn execute_bytes<O: io::Write, E: io::Write>(
+    alloc: Global,
+    bytes: &[u8],
+    run: &Run<'_>,
+    out: &mut O,
+    err: &mut E,
+) -> io::Result<u8>
+    ensures { IfOk result (λ status. status < 6) }
+{
+    match str::from_utf8(bytes) {
+        Ok(text) => execute_text(alloc, text, run, out, err),
+        Err(error) => tell_no_text(&bytes[..error.valid_up_to()], err),
+    }
+}
+
+fn execute_text<O: io::Write, E: io::Write>(
+    alloc: Global,
+    text: &str,
+    run: &Run<'_>,
+    out: &mut O,
+    err: &mut E,
+) -> io::Result<u8>
+    ensures { IfOk result (λ status. status < 6) }
+{
+    match read(alloc, text) {
+        Ok(script) => execute_script(alloc, text, &script, run, out, err),
+        Err(error) => tell_unread(error, err),
+    }
+}
+
+fn execute_script<O: io::Write, E: io::Write>(
+    alloc: Global,
+    text: &str,
+    script: &Script,
+    run: &Run<'_>,
+    out: &mut O,
+    err: &mut E,
+) -> io::Result<u8>
+    ensures { IfOk result (λ status. status < 6) }
+{
+    let params = script.signature.params.as_slice();
+    let arguments = match arguments_of(alloc, params, run.arguments) {
+        Ok(arguments) => arguments,
+        Err(error) => return tell_arguments(error, err),
+    };
+    match both_run(alloc, script, arguments.as_slice(), run.steps) {
+        Ok(runs) => tell_runs(
+            &runs,
+            script.signature.returns.as_slice(),
+            run.steps,
+            out,
+            err,
+        ),
+        Err(Unrun::Unbuilt(error)) => tell_unbuilt(
+            alloc,
+            error,
+            text,
+            script.lines.as_slice(),
+            err,
+        ),
+        Err(Unrun::Memory) => tell_unread(ReadError::Memory, err),
+        Err(Unrun::Cannot(error)) => tell_unrun(error, text, script.lines.as_slice(), err),
+    }
+}
+
+/// Why there are no two runs to compare.
+#[derive(Drop)]
+enum Unrun {
+    Memory,
+    Unbuilt(ReplayError),
+    Cannot(RunError),
+}
+
+impl From<AllocError> for Unrun {
+    fn from(_error: AllocError) -> Unrun {
+        Unrun::Memory
+    }
+}
+
+impl From<ReplayError> for Unrun {
+    fn from(error: ReplayError) -> Unrun {
+        Unrun::Unbuilt(error)
+    }
+}
+
+impl From<RunError> for Unrun {
+    fn from(error: RunError) -> Unrun {
+        Unrun::Cannot(error)
+    }
+}
+
+// Builds the function of a script and runs both.
+fn both_run(
+    alloc: Global,
+    script: &Script,
+    arguments: &[u128],
+    steps: u64,
+) -> Result<Comparison, Unrun> {
+    let mut ctx = FunctionBuilderContext::new(alloc);
+    let name = script.name.clone()?;
+    let signature = script.signature.clone()?;
+    let calls = script.calls.as_slice();
+    let config = script.config;
+    let func = replay(alloc, calls, name, signature, &mut ctx, config)?;
+    let (signature, width) = (&script.signature, config.pointer_width);
+    Ok(compare(alloc, calls, signature, &func, width, arguments, steps)?)
+}
+
+// Prints how both runs end, and tells whether they are equal.
+fn tell_runs<O: io::Write, E: io::Write>(
+    runs: &Comparison,
+    returns: &[AbiParam],
+    steps: u64,
+    out: &mut O,
+    err: &mut E,
+) -> io::Result<u8>
+    ensures { IfOk result (λ status. status < 6) }
+{
+    let end = &runs.script.end;
+    let shown = Shown {
+        end,
+        returns,
+        steps,
+    };
+    writeln!(out, "script: {shown}")?;
+    match &runs.function {
+        Ok(ending) => {
+            let end = &ending.end;
+            let shown = Shown {
+                end,
+                returns,
+                steps,
+            };
+            writeln!(out, "function: {shown}")?;
+        }
+        Err(error) => writeln!(out, "function: {error}")?,
+    }
+    tell_verdict(runs.verdict(), steps, err)
+}
+
+fn tell_verdict<E: io::Write>(verdict: Verdict, steps: u64, err: &mut E) -> io::Result<u8>
+    ensures { IfOk result (λ status. status < 6) }
+{
+    match verdict {
+        Verdict::Equal => Ok(0),
+        Verdict::Unknown => {
+            writeln!(err, "stopped after {steps} steps: --steps N allows more")?;
+            Ok(5)
+        }
+        Verdict::Differ => {
+            writeln!(err, "the runs differ")?;
+            Ok(3)
+        }
+        Verdict::DifferInMemory(address) => {
+            writeln!(err, "the runs differ in memory at address {address:#x}")?;
+            Ok(3)
+        }
+    }
+}
+
+// Tells why words aren't the arguments of the function.
+fn tell_arguments<E: io::Write>(error: ArgumentError<'_>, err: &mut E) -> io::Result<u8>
+    ensures { IfOk result (λ status. status < 6) }
+{
+    writeln!(err, "{error}")?;
+    match error {
+        ArgumentError::Memory => Ok(1),
+        ArgumentError::Count { .. } | ArgumentError::Number { .. } => Ok(2),
+    }
+}
+
+// Tells why the script can't be run, and the line of the call.
+fn tell_unrun<E: io::Write>(
+    error: RunError,
+    text: &str,
+    lines: &[usize],
+    err: &mut E,
+) -> io::Result<u8>
+    ensures { IfOk result (λ status. status < 6) }
+{
+    let cause = error.cause;
+    let status = if let Cause::Memory = cause {
+        writeln!(err, "{cause}")?;
+        1
+    } else if cause.is_limit() {
+        writeln!(err, "can't run this: {cause}")?;
+        1
+    } else {
+        writeln!(err, "the promise doesn't cover this: {cause}")?;
+        4
+    };
+    if let Place::Call(place) = error.place {
+        tell_call(place, text, lines, err)?;
+    }
+    Ok(status)
+}

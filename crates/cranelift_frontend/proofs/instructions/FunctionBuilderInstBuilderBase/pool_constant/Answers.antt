@@ -1,0 +1,19 @@
+use Rattle.std.proofs.Common.{refl}
+use Rattle.cranelift_frontend.proofs.Pooling.{constant_pooled, constant_refused, pool_kept}
+use Rattle.cranelift_frontend.proofs.instructions.FunctionBuilderInstBuilderBase.pool_constant.Goals as goal
+
+pub returns-then-self : goal.returns-then-self
+returns-then-self c = record { pooled = constant_refused c.args.bytes.now c.args.self.now c.if-self.true }
+
+pub returns : goal.returns
+returns c = record {
+  pooled =
+      constant_pooled c.args.bytes.now c.args.self.now _ c.pool_constant-pooled.result c.if-self.false (record { func = refl; ctx = refl }) refl refl
+      c.is_err-self.ensures.value c.law_consistent.ensures c.pool_constant-pooled.ensures;
+}
+
+pub invariant_of-self : goal.invariant_of-self
+invariant_of-self c = record {
+  named = pool_kept c.args.bytes.now c.pool_constant-pooled.result c.args.self.now.func.now _ c.args.self.now.ctx.now _ _ c.if-self.false c.is_err-self.ensures.value
+      c.pool_constant-pooled.ensures c.args.self.now.named;
+}
