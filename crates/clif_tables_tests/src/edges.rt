@@ -86,21 +86,23 @@ fn has_jump_parts(rt: &impl Abort, alloc: Global, table: &JumpTableData) -> Resu
     )
 }
 
-// The instruction that the table serves: both edges to block3 pass a value, and then go to block5 and pass what they passed.
+// The edges to block3 go to block5 and pass what they passed; and then each edge of the instruction that the table serves
+// passes a value to block5.
 fn changes_jump_table(rt: &impl Abort, alloc: Global, tables: &mut Tables) -> Result<(), Fail> {
     let number = jump_table(rt, alloc, tables)?;
     has_jump_parts(rt, alloc, tables.jump_table(number).expect(rt, "a table"))?;
-    let table = tables.take_jump_table(number).expect(rt, "a table");
+    let mut table = tables.take_jump_table(number).expect(rt, "a table");
+    table.change_target(block(rt, 3), block(rt, 5));
+    are_edges(
+        rt,
+        alloc,
+        table.all_branches(),
+        "block5 v1;block1;block5;block2;",
+    )?;
     let arg = value(rt, 0);
     let mut branch = InstructionData::BranchTable { arg, table };
-    branch.append_argument(block(rt, 3), value(rt, 9))?;
+    branch.append_argument(block(rt, 5), value(rt, 9))?;
     let edges = branch.branch_destination();
-    are_edges(rt, alloc, edges, "block3 v1 v9;block1;block3 v9;block2;")?;
-    let InstructionData::BranchTable { mut table, .. } = branch else {
-        panic!(rt; "no branch of a table");
-    };
-    table.change_target(block(rt, 3), block(rt, 5));
-    let edges = table.all_branches();
     are_edges(rt, alloc, edges, "block5 v1 v9;block1;block5 v9;block2;")
 }
 
